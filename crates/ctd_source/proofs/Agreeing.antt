@@ -101,9 +101,9 @@ module _ {R : Type 0} {G : Ghosts R} where
     gave = let P : R → Type 0 = λ r. Gave G first r given in subst P (sym m.source_is) f.gave;
     taken = m.taken ∙ f.taken;
     stands =
-      let Q : Seen → Type 0 = λ seen. StandsFor (known given seen (sight new).limit) (sight new) in
-      let L : ℕ → Type 0 = λ limit. StandsFor (known given (sight old).seen limit) (sight new) in
-      subst Q (sym m.seen) (subst L (sym m.limit) (m.stands _ f.stands));
+        let Q : Seen → Type 0 = λ seen. StandsFor (known given seen (sight new).limit) (sight new) in
+        let L : ℕ → Type 0 = λ limit. StandsFor (known given (sight old).seen limit) (sight new) in
+        subst Q (sym m.seen) (subst L (sym m.limit) (m.stands _ f.stands));
   }
 
   pub agreeing_stands : (first : R) (given : List ℕ) (c : Cursor R G) → Follows first given c → (d : TestData) → d.limit ≡ (sight c).limit → Agrees given (sight c).seen d → StandsFor d (sight c)

@@ -13,6 +13,5 @@ impl<'d, R: Source> Cursor<'d, R> {
         ensures reads { ReadingFollows R.Source }
         ensures moves { MovingFollows R.Source }
         ensures agreeing { StandsForAgreeing R.Source }
-    {
-    }
+    {}
 }
