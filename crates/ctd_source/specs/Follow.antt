@@ -1,11 +1,12 @@
 -- A caller that keeps account of the bytes given so far knows all data that a cursor stands for.
-use Rattle.std.specs.Prelude.{◌≡◌, ℕ, ◌≤◌, List, [], ◌++◌, length}
+use Rattle.std.specs.Prelude.{◌≡◌, ◌≢◌, ℕ, List, [], ◌++◌, length}
 use Rattle.ctd_source.specs.declared.cursor.Cursor.{Cursor}
 use Rattle.ctd_source.specs.declared.source.Source.{Ghosts}
+use Rattle.ctd_source.specs.declared.source.Seen.TheVariants.{Going}
 use Rattle.ctd_source.specs.TestData.{TestData}
 use Rattle.ctd_source.specs.Agreement.{Agrees, known}
 use Rattle.ctd_source.specs.Standing.{StandsFor, IsAtStart}
-use Rattle.ctd_source.specs.Sight.{sight, source, Gave, ReadsOn, MovesPast}
+use Rattle.ctd_source.specs.Sight.{sight, source, BorrowSame, Gave, ReadsOn, MovesPast}
 
 module _ {R : Type 0} {G : Ghosts R} where
   -- since it was at first, the source of a cursor gave these bytes; the cursor took them all, and stands for them
@@ -13,6 +14,15 @@ module _ {R : Type 0} {G : Ghosts R} where
     pub gave : Gave G first (source c) given
     pub taken : (sight c).taken ≡ length given
     pub stands : StandsFor (known given (sight c).seen (sight c).limit) (sight c)
+
+  -- a cursor went on: its source gave more, and P is so of all data under its limit that agree with all that was given and seen
+  pub record Goes (old new : Cursor R G) (P : TestData → Type 0) : Type 0 where
+    pub more : List ℕ
+    pub same_reference : BorrowSame old new
+    pub limit : (sight new).limit ≡ (sight old).limit
+    pub final : (sight old).seen ≢ Going → (more ≡ []) × ((sight new).seen ≡ (sight old).seen)
+    pub follows : (first : R) (given : List ℕ) → Follows first given old → Follows first (given ++ more) new
+    pub holds : (first : R) (given : List ℕ) → Follows first given old → (d : TestData) → d.limit ≡ (sight new).limit → Agrees (given ++ more) (sight new).seen d → P d
 
 -- a cursor at the start was given nothing
 abbrev pub StartFollows : {R : Type 0} (G : Ghosts R) → Type 0

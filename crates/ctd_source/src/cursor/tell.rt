@@ -9,17 +9,24 @@ use crate::spot::Spot;
 impl<'d, R: Source> Cursor<'d, R> {
     ghost use Rattle.ctd_source.specs.Sight.{sight, source as source_now};
 
-    /// The first of the bytes that are held, as many as stand in one piece.
+    /// The first of the bytes that are held, as many as lie in one piece and before the limit: these may be looked at
+    /// one after the other with no read. There are some, where any is held and the next one lies before the limit.
     pub fn held_run(&self) -> &[u8]
         ensures front { take (length result.now) (sight self.now).held ≡ result.now }
-        ensures within { length result.now ≤ length (sight self.now).held }
-        ensures some { 0 < length (sight self.now).held → 0 < length result.now }
+        ensures held { length result.now ≤ length (sight self.now).held }
+        ensures within { 0 < length result.now → (sight self.now).spot.offset + length result.now ≤ (sight self.now).limit }
+        ensures some { 0 < length (sight self.now).held → (sight self.now).spot.offset < (sight self.now).limit → 0 < length result.now }
     {
         let (front, back) = self.window.as_slices();
-        if front.is_empty() { back } else { front }
+        let run = if front.is_empty() { back } else { front };
+        let before_limit = self.limit.saturating_sub(self.spot.offset);
+        match usize::try_from(before_limit) {
+            Ok(most) if most < run.len() => &run[..most],
+            _ => run,
+        }
     }
 
-    /// How many bytes are held.
+    /// How many bytes are held: those that were taken and not yet passed.
     pub fn held(&self) -> usize
         ensures held { result ≡ length (sight self.now).held }
         ensures counted { (sight self.now).taken ≡ (sight self.now).spot.offset + result }
@@ -28,7 +35,7 @@ impl<'d, R: Source> Cursor<'d, R> {
         self.window.len()
     }
 
-    /// How many bytes were taken from the source.
+    /// How many bytes were taken from the source since the start.
     pub fn taken(&self) -> u64
         ensures taken { result ≡ (sight self.now).taken }
         ensures within { result ≤ (sight self.now).limit + 1 }
@@ -36,14 +43,14 @@ impl<'d, R: Source> Cursor<'d, R> {
         self.taken
     }
 
-    /// The spot of the next byte.
+    /// The spot of the next byte: line and column from 1, the column in bytes.
     pub fn spot(&self) -> Spot
         ensures { result ≡ (sight self.now).spot }
     {
         self.spot
     }
 
-    /// What is seen of the source's end.
+    /// What was seen of the source's end.
     pub fn seen(&self) -> Seen
         ensures seen { result ≡ (sight self.now).seen }
         ensures source { result ≡ R.seen (source_now self.now) }
