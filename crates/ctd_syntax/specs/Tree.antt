@@ -1,0 +1,126 @@
+-- The trees of programs, apart from where they lie in memory.
+use Rattle.std.specs.Prelude.{ℕ, ℤ, List, [], ◌∷◌, ◌++◌, ◌+◌, max, Option}
+use Rattle.ctd_syntax.specs.declared.text.Place.{Place}
+use Rattle.ctd_syntax.specs.declared.tree.Compare.{Compare}
+
+-- an expression, and a list of them
+mutual
+  pub data ExprTree : Type 0 where
+    numeral : (n : ℤ) → ExprTree
+    text : (bytes : List ℕ) → ExprTree
+    variable : (name : List ℕ) (indices : ExprList) → ExprTree
+    strlen : (e : ExprTree) → ExprTree
+    minus : (e : ExprTree) → ExprTree
+    sum : (a b : ExprTree) → ExprTree
+    difference : (a b : ExprTree) → ExprTree
+    times : (a b : ExprTree) → ExprTree
+    quotient : (a b : ExprTree) → ExprTree
+    remainder : (a b : ExprTree) → ExprTree
+    power : (a b : ExprTree) → ExprTree
+
+  -- expressions one after the other
+  pub data ExprList : Type 0 where
+    none : ExprList
+    some : (e : ExprTree) (rest : ExprList) → ExprList
+
+-- a variable: its name and its indices
+pub record VarTree : Type 0 where
+  pub name : List ℕ
+  pub indices : ExprList
+
+-- a test
+pub data TestTree : Type 0 where
+  or : (a b : TestTree) → TestTree
+  and : (a b : TestTree) → TestTree
+  not : (t : TestTree) → TestTree
+  compare : (by : Compare) (a b : ExprTree) → TestTree
+  matches : (e : ExprTree) → TestTree
+  at_end : TestTree
+  unique : (names : List (List ℕ)) → TestTree
+  in_array : (e : ExprTree) (name : List ℕ) → TestTree
+
+-- a command with its place, a separator or none, and a list of commands
+mutual
+  pub data CommandTree : Type 0 where
+    space : (place : Place) → CommandTree
+    newline : (place : Place) → CommandTree
+    eof : (place : Place) → CommandTree
+    int : (place : Place) (low high : ExprTree) (target : Option VarTree) → CommandTree
+    string : (place : Place) (e : ExprTree) → CommandTree
+    regex : (place : Place) (pattern : List ℕ) (at : Place) (target : Option VarTree) → CommandTree
+    assert : (place : Place) (t : TestTree) → CommandTree
+    set : (place : Place) (assignments : List (VarTree × ExprTree)) → CommandTree
+    unset : (place : Place) (names : List (List ℕ)) → CommandTree
+    rep : (place : Place) (count : ExprTree) (between : Separator) (body : CommandList) → CommandTree
+    repi : (place : Place) (counter : VarTree) (count : ExprTree) (between : Separator) (body : CommandList) → CommandTree
+    while : (place : Place) (t : TestTree) (between : Separator) (body : CommandList) → CommandTree
+    whilei : (place : Place) (counter : VarTree) (t : TestTree) (between : Separator) (body : CommandList) → CommandTree
+    choice : (place : Place) (t : TestTree) (then_do else_do : CommandList) → CommandTree
+
+  -- a separator or none
+  pub data Separator : Type 0 where
+    nothing : Separator
+    between : (c : CommandTree) → Separator
+
+  -- commands one after the other
+  pub data CommandList : Type 0 where
+    done : CommandList
+    then : (c : CommandTree) (rest : CommandList) → CommandList
+
+-- how many blocks are open at a command at most
+abbrev mutual
+  pub blocks : CommandTree → ℕ
+  blocks (rep place count sep body) = 1 + max (separator_blocks sep) (list_blocks body)
+  blocks (repi place v count sep body) = 1 + max (separator_blocks sep) (list_blocks body)
+  blocks (while place t sep body) = 1 + max (separator_blocks sep) (list_blocks body)
+  blocks (whilei place v t sep body) = 1 + max (separator_blocks sep) (list_blocks body)
+  blocks (choice place t a b) = 1 + max (list_blocks a) (list_blocks b)
+  blocks _ = 0
+
+  -- the same of a separator
+  pub separator_blocks : Separator → ℕ
+  separator_blocks nothing = 0
+  separator_blocks (between c) = blocks c
+
+  -- the greatest of a list
+  pub list_blocks : CommandList → ℕ
+  list_blocks done = 0
+  list_blocks (then c rest) = max (blocks c) (list_blocks rest)
+
+-- the place of a command's word
+abbrev pub place_of : CommandTree → Place
+place_of (space place) = place
+place_of (newline place) = place
+place_of (eof place) = place
+place_of (int place low high target) = place
+place_of (string place e) = place
+place_of (regex place pattern at target) = place
+place_of (assert place t) = place
+place_of (set place assignments) = place
+place_of (unset place names) = place
+place_of (rep place count sep body) = place
+place_of (repi place counter count sep body) = place
+place_of (while place t sep body) = place
+place_of (whilei place counter t sep body) = place
+place_of (choice place t a b) = place
+
+-- the patterns of a program with the places of their literals, in the order of the text
+abbrev mutual
+  pub patterns_of : CommandTree → List (List ℕ × Place)
+  patterns_of (regex place pattern at target) = (pattern, at) ∷ []
+  patterns_of (rep place count sep body) = separator_patterns sep ++ list_patterns body
+  patterns_of (repi place v count sep body) = separator_patterns sep ++ list_patterns body
+  patterns_of (while place t sep body) = separator_patterns sep ++ list_patterns body
+  patterns_of (whilei place v t sep body) = separator_patterns sep ++ list_patterns body
+  patterns_of (choice place t a b) = list_patterns a ++ list_patterns b
+  patterns_of _ = []
+
+  -- the same of a separator
+  pub separator_patterns : Separator → List (List ℕ × Place)
+  separator_patterns nothing = []
+  separator_patterns (between c) = patterns_of c
+
+  -- the same of a list
+  pub list_patterns : CommandList → List (List ℕ × Place)
+  list_patterns done = []
+  list_patterns (then c rest) = patterns_of c ++ list_patterns rest

@@ -1,0 +1,26 @@
+//! The words of the checktestdata language: its tokens, with the place of each, and the values of
+//! presets.
+#![tactic(auto)]
+
+pub mod fault;
+mod lex;
+pub mod limits;
+mod literal;
+pub mod preset;
+mod scan;
+#[cfg(test)]
+mod tests;
+pub mod text;
+pub mod token;
+pub mod tree;
+
+pub use fault::{LoadFault, LoadKind};
+pub use lex::{one_cut, tokens};
+pub use limits::PROGRAM_LIMIT;
+pub use preset::{Literal, Preset, PresetFault, Presets};
+pub use text::{Bytes, Name, Place};
+pub use token::{Mark, Token, TokenKind};
+pub use tree::{
+    Action, Assignment, Assignments, Command, Commands, Compare, Expr, Exprs, Names, Program, Test,
+    Var,
+};

@@ -1,0 +1,236 @@
+//! The trees of programs: one variant for each alternative of the grammar that is not a single part or parentheses
+//! (checktestdata language specification, grammar). Each list in a tree is a small type of its own.
+
+ghost use Rattle.std.specs.Prelude.{◌≡◌};
+ghost use Rattle.ctd_syntax.specs.View.{commands_of};
+
+use crate::text::{Bytes, Name, Place};
+use std::marker::Model;
+
+/// An expression.
+#[derive(Debug, Drop)]
+#[cycle(expr)]
+pub enum Expr {
+    /// A number as written.
+    Numeral(i128),
+    /// A string as it stands for.
+    Text(Bytes),
+    /// The value of a variable.
+    Var(Var),
+    /// `STRLEN(e)`: the length of a string in bytes.
+    Strlen(Box<Expr>),
+    /// `-e`
+    Minus(Box<Expr>),
+    /// `a + b`
+    Add(Box<Expr>, Box<Expr>),
+    /// `a - b`
+    Sub(Box<Expr>, Box<Expr>),
+    /// `a * b`
+    Mul(Box<Expr>, Box<Expr>),
+    /// `a / b`
+    Div(Box<Expr>, Box<Expr>),
+    /// `a % b`
+    Rem(Box<Expr>, Box<Expr>),
+    /// `a ^ b`
+    Pow(Box<Expr>, Box<Expr>),
+}
+
+/// A variable: a name with its indices, of which an unindexed variable has none.
+#[derive(Debug, Drop)]
+#[cycle(expr)]
+pub struct Var {
+    pub name: Name,
+    pub indices: Exprs,
+}
+
+/// A list of expressions.
+#[derive(Debug, Drop)]
+#[cycle(expr)]
+pub struct Exprs {
+    items: Vec<Expr>,
+}
+
+/// The six comparisons.
+#[derive(Clone, Copy, Debug, PartialEq, Eq)]
+pub enum Compare {
+    Less,
+    Greater,
+    AtMost,
+    AtLeast,
+    Equal,
+    Unequal,
+}
+
+/// A list of names.
+#[derive(Debug, Drop)]
+pub struct Names {
+    items: Vec<Name>,
+}
+
+/// A test.
+#[derive(Debug, Drop)]
+pub enum Test {
+    /// `a || b`
+    Or(Box<Test>, Box<Test>),
+    /// `a && b`
+    And(Box<Test>, Box<Test>),
+    /// `!t`
+    Not(Box<Test>),
+    /// `a < b` and the other five
+    Compare(Compare, Expr, Expr),
+    /// `MATCH(e)`: the next byte is one of the bytes of e.
+    Match(Expr),
+    /// `ISEOF`: the end of the data is reached.
+    IsEof,
+    /// `UNIQUE(a,b,..)`: the tuples of the values at the same indices are distinct.
+    Unique(Names),
+    /// `INARRAY(e,name)`: the value occurs among the values of the name.
+    InArray(Expr, Name),
+}
+
+/// A variable and the expression whose value it gets.
+#[derive(Debug, Drop)]
+pub struct Assignment {
+    pub target: Var,
+    pub value: Expr,
+}
+
+/// A list of assignments.
+#[derive(Debug, Drop)]
+pub struct Assignments {
+    items: Vec<Assignment>,
+}
+
+/// A command, with the place of its word.
+#[derive(Debug, Drop)]
+#[cycle(command)]
+pub struct Command {
+    pub place: Place,
+    pub action: Action,
+}
+
+/// What a command does. The separator of a loop and the target of a command may be absent.
+#[derive(Debug, Drop)]
+#[cycle(command)]
+pub enum Action {
+    /// `SPACE`
+    Space,
+    /// `NEWLINE`
+    Newline,
+    /// `EOF`
+    Eof,
+    /// `INT(min,max[,target])`
+    Int(Expr, Expr, Option<Var>),
+    /// `STRING(e)`
+    String(Expr),
+    /// `REGEX(pattern[,target])`, with the place of the pattern's literal.
+    Regex(Bytes, Place, Option<Var>),
+    /// `ASSERT(t)`
+    Assert(Test),
+    /// `SET(v = e, ..)`
+    Set(Assignments),
+    /// `UNSET(a, ..)`
+    Unset(Names),
+    /// `REP(count[,separator]) .. END`
+    Rep(Expr, Option<Box<Command>>, Commands),
+    /// `REPI(counter,count[,separator]) .. END`
+    RepI(Var, Expr, Option<Box<Command>>, Commands),
+    /// `WHILE(t[,separator]) .. END`
+    While(Test, Option<Box<Command>>, Commands),
+    /// `WHILEI(counter,t[,separator]) .. END`
+    WhileI(Var, Test, Option<Box<Command>>, Commands),
+    /// `IF(t) .. [ELSE ..] END`; with no ELSE the second list is empty.
+    If(Test, Commands, Commands),
+}
+
+/// A list of commands.
+#[derive(Debug, Drop)]
+#[cycle(command)]
+pub struct Commands {
+    items: Vec<Command>,
+}
+
+/// A program: a list of commands.
+#[derive(Debug, Drop)]
+pub struct Program {
+    commands: Commands,
+}
+
+impl Model for Program {
+    ghost use Rattle.std.specs.Prelude.{List};
+    ghost use Rattle.std.specs.Coded.{codes};
+    ghost use Rattle.ctd_syntax.specs.declared.tree.Command.{Command};
+    ghost use Rattle.ctd_syntax.specs.contracts.tree.Command as c;
+    ghost use Rattle.ctd_syntax.specs.View.{commands_of};
+
+    ghost Value = { List Command };
+
+    ghost coded = { Prim.hlevel (codes, c.the_row.coded) };
+
+    ghost view = { λ p. commands_of p.commands };
+}
+
+impl Exprs {
+    ghost use Rattle.ctd_syntax.specs.View.{exprs_of};
+
+    /// Lends the list.
+    pub fn as_slice(&self) -> &[Expr]
+        ensures { result.now ≡ exprs_of self.now }
+    {
+        self.items.as_slice()
+    }
+}
+
+impl Names {
+    ghost use Rattle.ctd_syntax.specs.View.{names_of};
+
+    /// Lends the list.
+    pub fn as_slice(&self) -> &[Name]
+        ensures { result.now ≡ names_of self.now }
+    {
+        self.items.as_slice()
+    }
+}
+
+impl Assignments {
+    ghost use Rattle.ctd_syntax.specs.View.{assignments_of};
+
+    /// Lends the list.
+    pub fn as_slice(&self) -> &[Assignment]
+        ensures { result.now ≡ assignments_of self.now }
+    {
+        self.items.as_slice()
+    }
+}
+
+impl Commands {
+    /// A list with these commands, which takes no memory.
+    pub(crate) fn from_vec(items: Vec<Command>) -> Commands
+        ensures { commands_of result ≡ items.items }
+    {
+        Commands { items }
+    }
+
+    /// Lends the list.
+    pub fn as_slice(&self) -> &[Command]
+        ensures { result.now ≡ commands_of self.now }
+    {
+        self.items.as_slice()
+    }
+}
+
+impl Program {
+    /// A program of these commands.
+    pub(crate) fn new(commands: Commands) -> Program
+        ensures { result ≡ commands_of commands }
+    {
+        Program { commands }
+    }
+
+    /// Lends the program's list of commands.
+    pub fn commands(&self) -> &[Command]
+        ensures { result.now ≡ self.now }
+    {
+        self.commands.as_slice()
+    }
+}
