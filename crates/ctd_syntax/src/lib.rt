@@ -3,6 +3,7 @@
 #![tactic(auto)]
 
 pub mod fault;
+pub mod keyword;
 mod lex;
 pub mod limits;
 mod literal;
@@ -15,6 +16,7 @@ pub mod token;
 pub mod tree;
 
 pub use fault::{LoadFault, LoadKind};
+pub use keyword::Keyword;
 pub use lex::{one_cut, tokens};
 pub use limits::PROGRAM_LIMIT;
 pub use preset::{Literal, Preset, PresetFault, Presets};
