@@ -1,0 +1,3 @@
+pub use Rattle.ctd_source.specs.SpotText
+pub use Rattle.ctd_syntax.specs.FaultText
+pub mod OutcomeText

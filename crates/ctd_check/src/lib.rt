@@ -1,0 +1,8 @@
+//! What a check of data against a program answers.
+#![tactic(auto)]
+
+mod outcome;
+
+pub use ctd_source::{Failed, FromRead, Seen, Source, Spot};
+pub use ctd_syntax::{Bytes, LoadFault, LoadKind, Place, Presets};
+pub use outcome::{Checked, Fault, Limits, Mode, Outcome, Reason, Site};
