@@ -1,3 +1,5 @@
-pub use Rattle.ctd_source.specs.SpotText
-pub use Rattle.ctd_syntax.specs.FaultText
+pub mod Effect
+pub mod Integer
 pub mod OutcomeText
+pub mod Run
+pub mod Seen

@@ -1,6 +1,7 @@
 //! What a check of data against a program answers.
 #![tactic(auto)]
 
+mod digits;
 mod outcome;
 
 pub use ctd_source::{Failed, FromRead, Seen, Source, Spot};

@@ -5,3 +5,4 @@ pub mod Lexing
 pub mod Lexeme
 pub mod Tree
 pub mod View
+pub mod FaultText

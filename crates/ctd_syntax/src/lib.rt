@@ -2,6 +2,7 @@
 //! presets.
 #![tactic(auto)]
 
+mod display;
 pub mod fault;
 pub mod keyword;
 mod lex;

@@ -1,0 +1,121 @@
+//! The digits of an integer as they pass: what a judgement needs is kept, and no digit.
+
+ghost use Rattle.std.specs.Prelude.{◌≡◌, ◌≤◌, ◌<◌, ◌+◌, ◌-◌, ◌*◌, ◌^◌, ◌++◌, if◌then◌else◌, ◌∷◌, [], ℕ, List, length, take, min, IfSome, IfNone, true};
+ghost use Rattle.std.specs.List.{prefix_len};
+ghost use Rattle.std.specs.Char.{is_ascii_digit};
+ghost use Rattle.ctd_check.specs.Integer.{judge, signed, in_interval};
+
+use crate::outcome::Reason;
+
+/// What was seen of a row of digits.
+#[derive(Clone, Copy, Debug)]
+pub(crate) struct Digits {
+    /// How many there are: none, one or more.
+    count: u8,
+    /// Whether the first of them is 0.
+    is_zero_first: bool,
+    /// Their number, where it does not pass `BEYOND`.
+    size: u128,
+}
+
+/// The size of the least value of 128 bits.
+const MIN_SIZE: u128 = 0x8000_0000_0000_0000_0000_0000_0000_0000;
+
+/// One more, which stands for all greater sizes: no bound reaches it.
+const BEYOND: u128 = 0x8000_0000_0000_0000_0000_0000_0000_0001;
+
+/// The size that a further digit makes.
+fn grown(size: u128, digit: u8) -> u128
+    requires { digit < 10 }
+    ensures { result ≡ min (size * 10 + digit) (2 ^ 127 + 1) }
+{
+    if size < 1 << 64 {
+        return size * 10 + digit as u128;
+    }
+    let grown = size.saturating_mul(10).saturating_add(digit as u128);
+    if grown < BEYOND { grown } else { BEYOND }
+}
+
+/// The value of a sign and a size, where 128 bits hold it.
+fn value_of(is_negative: bool, size: u128) -> Option<i128>
+    ensures some { IfSome result (λ v. (size < 2 ^ 127 + 1) × (v ≡ signed is_negative size)) }
+    ensures none { IfNone result (2 ^ 127 < size + (if is_negative then 0 else 1)) }
+{
+    if size < MIN_SIZE {
+        let value = size as i128;
+        Some(if is_negative { -value } else { value })
+    } else if is_negative && size == MIN_SIZE {
+        Some(i128::MIN)
+    } else {
+        None
+    }
+}
+
+/// The value of a sign and a size of any length, where it lies in the interval.
+fn within(least: i128, most: i128, is_negative: bool, size: u128) -> Option<i128>
+    ensures { (n : ℕ) → size ≡ min n (2 ^ 127 + 1) → result ≡ in_interval least most (signed is_negative n) }
+{
+    let value = value_of(is_negative, size)?;
+    if least <= value && value <= most {
+        Some(value)
+    } else {
+        None
+    }
+}
+
+impl Digits {
+    ghost use Rattle.ctd_check.specs.Seen.{AreSeen};
+
+    /// No digit.
+    pub(crate) fn none() -> Digits
+        ensures { AreSeen result [] }
+    {
+        Digits {
+            count: 0,
+            is_zero_first: false,
+            size: 0,
+        }
+    }
+
+    /// One more digit.
+    fn push(&mut self, digit: u8)
+        requires { is_ascii_digit digit ≡ true }
+        ensures { (digits : List ℕ) → AreSeen self.old digits → AreSeen self.new (digits ++ digit ∷ []) }
+    {
+        self.is_zero_first |= (self.count == 0) & (digit == b'0');
+        self.count = self.count.saturating_add(1).min(2);
+        self.size = grown(self.size, digit - b'0');
+    }
+
+    /// The digits that the bytes begin with; tells how many they are.
+    pub(crate) fn read(&mut self, bytes: &[u8]) -> usize
+        ensures count { result ≡ prefix_len is_ascii_digit bytes.now }
+        ensures seen { (digits : List ℕ) → AreSeen self.old digits → AreSeen self.new (digits ++ take result bytes.now) }
+    {
+        let mut count = 0;
+        for byte in bytes {
+            if !byte.is_ascii_digit() {
+                break;
+            }
+            self.push(*byte);
+            count += 1;
+        }
+        count
+    }
+
+    /// The judgement of a sign and these digits.
+    pub(crate) fn judge(&self, least: i128, most: i128, is_negative: bool) -> Result<i128, Reason>
+        ensures { (digits : List ℕ) → AreSeen self.now digits → result ≡ judge least most is_negative digits }
+    {
+        if self.count == 0 {
+            return Err(Reason::ExpectedInt);
+        }
+        if self.is_zero_first && is_negative {
+            return Err(Reason::MinusZero);
+        }
+        if self.is_zero_first && self.count > 1 {
+            return Err(Reason::LeadingZero);
+        }
+        within(least, most, is_negative, self.size).ok_or(Reason::OutOfRange)
+    }
+}
