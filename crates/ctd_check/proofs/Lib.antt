@@ -1,2 +1,5 @@
 pub mod Decimal
+pub mod DigitRuns
+pub mod Effects
+pub mod Integers
 pub mod SeenDigits

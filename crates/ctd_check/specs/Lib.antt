@@ -1,5 +1,7 @@
 pub mod Effect
 pub mod Integer
 pub mod OutcomeText
+pub mod Passing
 pub mod Run
 pub mod Seen
+pub mod Steps

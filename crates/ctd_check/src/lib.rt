@@ -1,8 +1,11 @@
 //! What a check of data against a program answers.
 #![tactic(auto)]
 
+mod byte;
 mod digits;
+mod integer;
 mod outcome;
+mod refusal;
 
 pub use ctd_source::{Failed, FromRead, Seen, Source, Spot};
 pub use ctd_syntax::{Bytes, LoadFault, LoadKind, Place, Presets};

@@ -1,11 +1,12 @@
 -- How what is known of the data goes on as a cursor goes on.
-use Rattle.std.proofs.Common.{◌≡◌, ◌≢◌, ℕ, ◌≤◌, List, [], ◌++◌, length, take, refl, ap, sym, ◌∙◌, subst, arith, append_assoc, length-append}
+use Rattle.std.proofs.Common.{◌≡◌, ◌≢◌, ℕ, ◌≤◌, List, [], ◌++◌, length, take, refl, ap, sym, ◌∙◌, subst, arith, append_assoc, length-append, Option, Result}
 use Rattle.std.proofs.lemmas.List.{append-nil, take-take, take_all, take-append-le}
 use Rattle.ctd_source.specs.declared.cursor.Cursor.{Cursor}
 use Rattle.ctd_source.specs.declared.source.Source.{Ghosts}
 use Rattle.ctd_source.specs.declared.source.Seen.{Seen}
 use Rattle.ctd_source.specs.declared.source.Seen.TheVariants.{Going, Ended, Broken}
-use Rattle.ctd_source.specs.TestData.{TestData}
+use Rattle.ctd_source.specs.declared.spot.LookFault.{LookFault}
+use Rattle.ctd_source.specs.TestData.{TestData, look, first_of, next_byte}
 use Rattle.ctd_source.specs.Agreement.{Agrees}
 use Rattle.ctd_source.specs.Standing.{Sight, StandsFor}
 use Rattle.ctd_source.specs.Sight.{sight, source, ReadsOn, MovesPast}
@@ -114,3 +115,9 @@ module _ {R : Type 0} {G : Ghosts R} where
         let earlier = agrees_before (sight b).seen (sight c).seen (given ++ f.more) s.more d s.final later in
         (f.holds first given account d (limit ∙ s.limit) earlier, s.holds first (given ++ f.more) (f.follows first given account) d limit later);
   }
+
+  -- that looks at its next byte
+  pub goes_looking : (a b : Cursor R G) (result : Result (Option ℕ) LookFault) → ReadsOn a b → ((d : TestData) → StandsFor d (sight b) → result ≡ first_of (look d (sight b).spot.offset 1))
+      → Goes a b (λ d. next_byte d (sight a).spot.offset ≡ result)
+  goes_looking a b result r answer =
+      goes_so (goes_reading a b r) (λ d stand _. ap (λ s. next_byte d s.offset) (sym r.spot) ∙ sym (answer d stand.after))

@@ -1,0 +1,39 @@
+-- What parts of the INT command pass.
+use Rattle.std.specs.Prelude.{◌≡◌, ◌≢◌, ℕ, ◌+◌, Bool, true, false, List, ◌∷◌, ◌++◌, length, Option, Some, None, Result, Ok, Err}
+use Rattle.std.specs.List.{list_all}
+use Rattle.std.specs.Char.{is_ascii_digit}
+use Rattle.ctd_source.specs.declared.spot.LookFault.{LookFault}
+use Rattle.ctd_source.specs.TestData.{TestData, next_byte, visible}
+use Rattle.ctd_check.specs.declared.digits.Digits.{Digits}
+use Rattle.ctd_check.specs.Integer.{is_minus}
+use Rattle.ctd_check.specs.Seen.{AreSeen}
+
+-- from offset p to q a minus is passed, or none where none is next, or a look has a fault
+abbrev pub PassesMinus : TestData → (p q : ℕ) → Result Bool LookFault → Type 0
+PassesMinus d p q (Ok true) = (q ≡ p + 1) × (visible d p ≡ 45 ∷ visible d q)
+PassesMinus d p q (Ok false) = (q ≡ p) × (is_minus (visible d p) ≡ false)
+PassesMinus d p q (Err fault) = (q ≡ p) × (next_byte d p ≡ Err fault)
+
+-- what is looked at is no digit
+abbrev pub IsPast : Result (Option ℕ) LookFault → Type 0
+IsPast (Ok (Some byte)) = is_ascii_digit byte ≡ false
+IsPast (Ok None) = Unit {0}
+IsPast (Err fault) = ⊥
+
+-- the digits end before a byte or at the end, or a look has a fault
+abbrev pub StopsAt : Result (Unit {0}) LookFault → Result (Option ℕ) LookFault → Type 0
+StopsAt (Ok _) next = IsPast next
+StopsAt (Err fault) next = next ≡ Err fault
+
+-- from offset p to q a row of digits is passed
+pub record PassesRow (old new : Digits) (d : TestData) (p q : ℕ) : Type 0 where
+  pub row : List ℕ
+  pub digits : list_all is_ascii_digit row ≡ true
+  pub offset : q ≡ p + length row
+  pub visible_is : visible d p ≡ row ++ visible d q
+  pub seen : (before : List ℕ) → AreSeen old before → AreSeen new (before ++ row)
+
+-- all of them, up to what is no digit or to a fault
+pub record PassesDigits (old new : Digits) (d : TestData) (p q : ℕ) (result : Result (Unit {0}) LookFault) : Type 0 where
+  pub row : PassesRow old new d p q
+  pub stop : StopsAt result (next_byte d q)
