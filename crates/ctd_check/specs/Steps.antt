@@ -7,6 +7,7 @@ use Rattle.ctd_syntax.specs.Tree
 use Rattle.ctd_syntax.specs.Tree.{ExprTree, CommandTree}
 use Rattle.ctd_syntax.specs.View.{command_tree}
 use Rattle.ctd_check.specs.declared.outcome.Site.{Site}
+use Rattle.ctd_check.specs.declared.outcome.Fault.TheVariants.{StepLimit}
 use Rattle.ctd_check.specs.declared.outcome.Outcome.{Outcome}
 use Rattle.ctd_check.specs.declared.outcome.Outcome.TheVariants as outcomes
 use Rattle.ctd_check.specs.declared.refusal.Refusal.{Refusal}
@@ -33,3 +34,7 @@ Follows d (Err outcome) left at rest whole = whole ≡ record { outcome = outcom
 -- the tasks of a slice of commands
 abbrev pub listed : List Command → List Task
 listed commands = map (λ c. start (command_tree c)) commands
+
+-- how a run ends that has no step left for a task
+abbrev pub at_limit : Spot → Site → Outcome
+at_limit spot place = outcomes.Stopped spot place StepLimit

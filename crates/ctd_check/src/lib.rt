@@ -6,6 +6,7 @@ mod digits;
 mod integer;
 mod outcome;
 mod refusal;
+mod run;
 
 pub use ctd_source::{Failed, FromRead, Seen, Source, Spot};
 pub use ctd_syntax::{Bytes, LoadFault, LoadKind, Place, Presets};
