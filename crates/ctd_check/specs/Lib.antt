@@ -1,7 +1,9 @@
+pub mod Checks
 pub mod Effect
 pub mod Integer
 pub mod OutcomeText
 pub mod Passing
+pub mod Plans
 pub mod Run
 pub mod Runnable
 pub mod Seen

@@ -1,5 +1,5 @@
 -- What the parts of an interpreter ensure.
-use Rattle.std.specs.Prelude.{◌≡◌, ℕ, ◌-◌, List, [], ◌∷◌, map, Result, Ok, Err, Option, None}
+use Rattle.std.specs.Prelude.{◌≡◌, ◌≤◌, ℕ, ◌-◌, List, [], ◌∷◌, map, Result, Ok, Err, Option, None}
 use Rattle.ctd_source.specs.declared.spot.Spot.{Spot}
 use Rattle.ctd_source.specs.TestData.{TestData}
 use Rattle.ctd_syntax.specs.declared.tree.Command.{Command}
@@ -25,6 +25,11 @@ abbrev pub effect_of : {A : Type 0} → Result A Refusal → ℕ → Effect
 effect_of (Ok _) bytes = done bytes
 effect_of (Err (Rejected reason)) bytes = refused reason bytes
 effect_of (Err (Stopped fault)) bytes = faulty fault bytes
+
+-- a command that answered this, and went from offset p to q, had this effect
+pub record Does {A : Type 0} (result : Result A Refusal) (p q : ℕ) (effect : Effect) : Type 0 where
+  pub forward : p ≤ q
+  pub same : effect_of result (q - p) ≡ effect
 
 -- with so many steps left and from this offset, the whole run is that of the rest; or it is over, with this outcome
 abbrev pub Follows : {A : Type 0} → TestData → Result A Outcome → (left at : ℕ) → List Task → Ended → Type 0

@@ -1,9 +1,9 @@
 //! The commands of one byte, and the end of the data.
-ghost use Rattle.std.specs.Prelude.{◌≡◌, ◌-◌, OnOk, None};
+ghost use Rattle.std.specs.Prelude.{◌≡◌, OnOk, None};
 ghost use Rattle.ctd_source.specs.Sight.{sight};
 ghost use Rattle.ctd_source.specs.Follow.{Goes};
 ghost use Rattle.ctd_check.specs.Effect.{one_byte, eof};
-ghost use Rattle.ctd_check.specs.Steps.{effect_of};
+ghost use Rattle.ctd_check.specs.Steps.{Does};
 
 use crate::outcome::Reason;
 use crate::refusal::Refusal;
@@ -17,7 +17,7 @@ pub(crate) fn one_byte<D: Source>(
 ) -> Result<(), Refusal>
     requires sound { (sight cursor.old).fault ≡ None }
     ensures sound { OnOk result ((sight cursor.new).fault ≡ None) }
-    ensures effect { Goes cursor.old cursor.new (λ d. effect_of result ((sight cursor.new).spot.offset - (sight cursor.old).spot.offset) ≡ one_byte wanted reason d (sight cursor.old).spot.offset) }
+    ensures effect { Goes cursor.old cursor.new (λ d. Does result (sight cursor.old).spot.offset (sight cursor.new).spot.offset (one_byte wanted reason d (sight cursor.old).spot.offset)) }
 {
     match cursor.look() {
         Ok(Some(byte)) => {
@@ -36,7 +36,7 @@ pub(crate) fn one_byte<D: Source>(
 pub(crate) fn end<D: Source>(cursor: &mut Cursor<'_, D>) -> Result<(), Refusal>
     requires sound { (sight cursor.old).fault ≡ None }
     ensures sound { OnOk result ((sight cursor.new).fault ≡ None) }
-    ensures effect { Goes cursor.old cursor.new (λ d. effect_of result ((sight cursor.new).spot.offset - (sight cursor.old).spot.offset) ≡ eof d (sight cursor.old).spot.offset) }
+    ensures effect { Goes cursor.old cursor.new (λ d. Does result (sight cursor.old).spot.offset (sight cursor.new).spot.offset (eof d (sight cursor.old).spot.offset)) }
 {
     match cursor.look() {
         Ok(None) => Ok(()),

@@ -1,10 +1,10 @@
 //! INT: an integer of any length, in an interval.
-ghost use Rattle.std.specs.Prelude.{◌≡◌, ◌-◌, OnOk, None};
+ghost use Rattle.std.specs.Prelude.{◌≡◌, OnOk, None};
 ghost use Rattle.ctd_source.specs.Sight.{sight};
 ghost use Rattle.ctd_source.specs.Follow.{Goes};
 ghost use Rattle.ctd_check.specs.Effect.{integer};
 ghost use Rattle.ctd_check.specs.Passing.{PassesMinus, PassesDigits};
-ghost use Rattle.ctd_check.specs.Steps.{effect_of};
+ghost use Rattle.ctd_check.specs.Steps.{Does};
 
 use crate::digits::Digits;
 use crate::refusal::Refusal;
@@ -58,7 +58,7 @@ pub(crate) fn integer<D: Source>(
 ) -> Result<(), Refusal>
     requires sound { (sight cursor.old).fault ≡ None }
     ensures sound { OnOk result ((sight cursor.new).fault ≡ None) }
-    ensures effect { Goes cursor.old cursor.new (λ d. effect_of result ((sight cursor.new).spot.offset - (sight cursor.old).spot.offset) ≡ integer least most d (sight cursor.old).spot.offset) }
+    ensures effect { Goes cursor.old cursor.new (λ d. Does result (sight cursor.old).spot.offset (sight cursor.new).spot.offset (integer least most d (sight cursor.old).spot.offset)) }
 {
     let is_negative = match pass_minus(cursor) {
         Ok(is_negative) => is_negative,

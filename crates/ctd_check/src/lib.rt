@@ -2,12 +2,16 @@
 #![tactic(auto)]
 
 mod byte;
+mod checking;
 mod digits;
 mod integer;
 mod outcome;
+mod plan;
 mod refusal;
 mod run;
 
+pub use checking::check;
 pub use ctd_source::{Failed, FromRead, Seen, Source, Spot};
 pub use ctd_syntax::{Bytes, LoadFault, LoadKind, Place, Presets};
 pub use outcome::{Checked, Fault, Limits, Mode, Outcome, Reason, Site};
+pub use plan::Plan;

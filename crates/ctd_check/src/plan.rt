@@ -1,0 +1,12 @@
+//! A program that was read, as it is run.
+ghost use Rattle.std.specs.Prelude.{List};
+ghost use Rattle.ctd_check.specs.Runnable.{AreRunnable};
+
+use ctd_syntax::Program;
+
+/// A program that was read, ready for any number of checks.
+#[derive(Debug, Drop)]
+pub struct Plan {
+    pub(crate) program: Program,
+    ghost runnable: { ∥ AreRunnable program ∥₁ },
+}
