@@ -1,3 +1,4 @@
+pub mod Checking
 pub mod Decimal
 pub mod DigitRuns
 pub mod Effects

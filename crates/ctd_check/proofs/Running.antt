@@ -1,5 +1,5 @@
 -- The run, one task after the other.
-use Rattle.std.proofs.Common.{◌≡◌, ◌<◌, ◌≤◌, ℕ, zero, suc, ◌+◌, ◌-◌, List, [], ◌∷◌, ◌++◌, length, drop, get_or, refl, ap, sym, ◌∙◌, subst, arith, Result, Ok, Err, ℤ}
+use Rattle.std.proofs.Common.{◌≡◌, ◌<◌, ◌≤◌, ℕ, zero, suc, ◌+◌, ◌-◌, Bool, true, false, List, [], ◌∷◌, ◌++◌, length, drop, get_or, refl, ap, sym, ◌∙◌, subst, arith, Result, Ok, Err, ℤ}
 use Rattle.std.proofs.lemmas.List.{at_drop_more, drop_all}
 use Rattle.ctd_source.specs.declared.spot.Spot.{Spot}
 use Rattle.ctd_source.specs.TestData.{TestData, spot_at}
@@ -7,7 +7,7 @@ use Rattle.ctd_syntax.specs.declared.tree.Expr.{Expr}
 use Rattle.ctd_syntax.specs.declared.tree.Expr.TheVariants.{Numeral, Text, Var', Strlen', Minus', Add', Sub', Mul', Div', Rem', Pow'}
 use Rattle.ctd_syntax.specs.Tree
 use Rattle.ctd_syntax.specs.Tree.{CommandTree, place_of}
-use Rattle.ctd_syntax.specs.View.{expr_tree, action_tree, command_tree}
+use Rattle.ctd_syntax.specs.View.{expr_tree, action_tree, command_tree, command_trees}
 use Rattle.ctd_syntax.specs.declared.text.Place.{Place}
 use Rattle.ctd_syntax.specs.declared.tree.Command.{Command}
 use Rattle.ctd_syntax.specs.declared.tree.Action.{Action}
@@ -15,11 +15,16 @@ use Rattle.ctd_syntax.specs.declared.tree.Action.TheVariants.{Space, Newline, Eo
 use Rattle.ctd_check.specs.declared.outcome.Site.{Site}
 use Rattle.ctd_check.specs.declared.outcome.Site.TheVariants.{At, Finish}
 use Rattle.ctd_check.specs.declared.outcome.Outcome.{Outcome}
+use Rattle.ctd_check.specs.declared.outcome.Outcome.TheVariants.{Accepted}
+use Rattle.ctd_check.specs.declared.outcome.Mode.TheVariants.{Exact}
+use Rattle.ctd_source.specs.declared.source.Seen.{Seen}
+use Rattle.ctd_syntax.specs.declared.preset.Preset.{Preset}
+use Rattle.std.proofs.lemmas.List.Folds.{list_all_at}
 use Rattle.ctd_check.specs.declared.refusal.Refusal.{Refusal}
 use Rattle.ctd_check.specs.declared.refusal.Refusal.TheVariants.{Rejected, Stopped}
 use Rattle.ctd_check.specs.Effect.{Effect, done, refused, faulty, effect, eof}
-use Rattle.ctd_check.specs.Run.{Task, start, finish, Ended, Progress, after, perform, resume, run, site_of}
-use Rattle.ctd_check.specs.Runnable.{IsBound}
+use Rattle.ctd_check.specs.Run.{Task, start, finish, Ended, Progress, after, perform, resume, run, site_of, tasks, Finds, meaning}
+use Rattle.ctd_check.specs.Runnable.{is_bound, is_runnable, are_runnable}
 use Rattle.ctd_check.specs.Steps.{listed, Does, effect_of, outcome_of, at_limit, Follows}
 
 -- what a command does it does under each name of the effect
@@ -27,31 +32,31 @@ pub does_as : {A : Type 0} {r : Result A Refusal} {p q : ℕ} {e f : Effect} →
 does_as d same = record { forward = d.forward; same = d.same ∙ same }
 
 -- no other expression is a bound
-pub no_bound : (e : Expr) → ((n : ℤ) → e ≡ Numeral n → ⊥) → ((p : _) (x : Expr) → e ≡ Minus' p x → ⊥) → IsBound (expr_tree e) → ⊥
+pub no_bound : (e : Expr) → ((n : ℤ) → e ≡ Numeral n → ⊥) → ((p : _) (x : Expr) → e ≡ Minus' p x → ⊥) → is_bound (expr_tree e) ≡ true → ⊥
 no_bound (Numeral n) f g h = f n refl
 no_bound (Minus' p x) f g h = g p x refl
-no_bound (Text t) f g h = h
-no_bound (Var' name shape row) f g h = h
-no_bound (Strlen' p x) f g h = h
-no_bound (Add' p a q b) f g h = h
-no_bound (Sub' p a q b) f g h = h
-no_bound (Mul' p a q b) f g h = h
-no_bound (Div' p a q b) f g h = h
-no_bound (Rem' p a q b) f g h = h
-no_bound (Pow' p a q b) f g h = h
+no_bound (Text t) f g h = cc
+no_bound (Var' name shape row) f g h = cc
+no_bound (Strlen' p x) f g h = cc
+no_bound (Add' p a q b) f g h = cc
+no_bound (Sub' p a q b) f g h = cc
+no_bound (Mul' p a q b) f g h = cc
+no_bound (Div' p a q b) f g h = cc
+no_bound (Rem' p a q b) f g h = cc
+no_bound (Pow' p a q b) f g h = cc
 
-pub no_minus_bound : (e : Expr) → ((n : ℤ) → e ≡ Numeral n → ⊥) → IsBound (Tree.minus (expr_tree e)) → ⊥
+pub no_minus_bound : (e : Expr) → ((n : ℤ) → e ≡ Numeral n → ⊥) → is_bound (Tree.minus (expr_tree e)) ≡ true → ⊥
 no_minus_bound (Numeral n) f h = f n refl
-no_minus_bound (Minus' p x) f h = h
-no_minus_bound (Text t) f h = h
-no_minus_bound (Var' name shape row) f h = h
-no_minus_bound (Strlen' p x) f h = h
-no_minus_bound (Add' p a q b) f h = h
-no_minus_bound (Sub' p a q b) f h = h
-no_minus_bound (Mul' p a q b) f h = h
-no_minus_bound (Div' p a q b) f h = h
-no_minus_bound (Rem' p a q b) f h = h
-no_minus_bound (Pow' p a q b) f h = h
+no_minus_bound (Minus' p x) f h = cc
+no_minus_bound (Text t) f h = cc
+no_minus_bound (Var' name shape row) f h = cc
+no_minus_bound (Strlen' p x) f h = cc
+no_minus_bound (Add' p a q b) f h = cc
+no_minus_bound (Sub' p a q b) f h = cc
+no_minus_bound (Mul' p a q b) f h = cc
+no_minus_bound (Div' p a q b) f h = cc
+no_minus_bound (Rem' p a q b) f h = cc
+no_minus_bound (Pow' p a q b) f h = cc
 
 -- a command has its own place
 pub place_is : (a : Action) (place : Place) → place_of (action_tree a place) ≡ place
@@ -140,3 +145,33 @@ listed_more commands i c rest within is =
 -- none are left
 pub listed_all : (commands : List Command) (i : ℕ) (rest : List Task) → length commands ≤ i → listed (drop i commands) ++ rest ≡ rest
 listed_all commands i rest past = ap (λ cs. listed cs ++ rest) (drop_all i commands past)
+
+all_by : (commands : List Command) (i : ℕ) (c : Command) (b : Bool) → is_runnable (command_tree c) ≡ b → i < length commands → c ≡ get_or commands i c → are_runnable commands ≡ true → is_runnable (command_tree c) ≡ true
+all_by commands i c true is within here all = is
+all_by commands i c false is within here all =
+    let none : are_runnable commands ≡ false = list_all_at (λ x. is_runnable (command_tree x)) commands i c within (sym (ap (λ x. is_runnable (command_tree x)) here) ∙ is) in
+    let e : true ≡ false = sym all ∙ none in cc
+
+-- each command of a runnable list is runnable
+pub runnable_at : (commands : List Command) (i : ℕ) (c : Command) → i < length commands → c ≡ get_or commands i c → are_runnable commands ≡ true → is_runnable (command_tree c) ≡ true
+runnable_at commands i c within here all = all_by commands i c (is_runnable (command_tree c)) refl within here all
+
+-- how a run ended by its answer
+abbrev pub outcome_by : Result (Unit {0}) Outcome → Outcome
+outcome_by (Ok x) = Accepted
+outcome_by (Err outcome) = outcome
+
+-- the tasks of a program are its commands
+pub tasks_listed : (commands : List Command) → tasks (command_trees commands) ≡ listed commands
+tasks_listed [] = refl
+tasks_listed (c ∷ cs) = ap (λ ts. start (command_tree c) ∷ ts) (tasks_listed cs)
+
+-- a run that ended has its meaning
+pub finds : (d : TestData) (r : Result (Unit {0}) Outcome) (outcome : Outcome) (program : List Command) (presets : List Preset) (limit steps left consumed taken : ℕ) (seen : Seen) → outcome ≡ outcome_by r → steps ≡ limit - left
+    → Follows d r left consumed [] (run d limit (listed program ++ finish ∷ []) 0) → Finds (record { outcome = outcome; steps = steps; consumed = consumed; taken = taken; seen = seen }) (meaning Exact (command_trees program) presets d limit)
+finds d (Ok x) outcome program presets limit steps left consumed taken seen by paid f =
+    let whole : run d limit (tasks (command_trees program) ++ finish ∷ []) 0 ≡ ended Accepted consumed left = ap (λ ts. run d limit (ts ++ finish ∷ []) 0) (tasks_listed program) ∙ f in
+    record { outcome = by ∙ sym (ap (λ e. e.outcome) whole); steps = paid ∙ sym (ap (λ e. limit - e.left) whole); consumed = sym (ap (λ e. e.consumed) whole) }
+finds d (Err o) outcome program presets limit steps left consumed taken seen by paid f =
+    let whole : run d limit (tasks (command_trees program) ++ finish ∷ []) 0 ≡ ended o consumed left = ap (λ ts. run d limit (ts ++ finish ∷ []) 0) (tasks_listed program) ∙ f in
+    record { outcome = by ∙ sym (ap (λ e. e.outcome) whole); steps = paid ∙ sym (ap (λ e. limit - e.left) whole); consumed = sym (ap (λ e. e.consumed) whole) }

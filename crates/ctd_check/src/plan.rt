@@ -1,6 +1,6 @@
 //! A program that was read, as it is run.
-ghost use Rattle.std.specs.Prelude.{List};
-ghost use Rattle.ctd_check.specs.Runnable.{AreRunnable};
+ghost use Rattle.std.specs.Prelude.{◌≡◌, true};
+ghost use Rattle.ctd_check.specs.Runnable.{are_runnable};
 
 use ctd_syntax::Program;
 
@@ -8,5 +8,5 @@ use ctd_syntax::Program;
 #[derive(Debug, Drop)]
 pub struct Plan {
     pub(crate) program: Program,
-    ghost runnable: { ∥ AreRunnable program ∥₁ },
+    ghost runnable: { are_runnable program ≡ true },
 }

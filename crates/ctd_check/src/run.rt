@@ -1,11 +1,11 @@
 //! The run of a program: its commands one after the other, each for one step, and then the end of the data.
-ghost use Rattle.std.specs.Prelude.{◌≡◌, ◌≤◌, ◌+◌, ◌∷◌, ◌++◌, [], List, OnOk, IfErr, None};
+ghost use Rattle.std.specs.Prelude.{true, ◌≡◌, ◌≤◌, ◌+◌, ◌∷◌, ◌++◌, [], List, OnOk, IfErr, None};
 ghost use Rattle.ctd_source.specs.Sight.{sight};
 ghost use Rattle.ctd_source.specs.Follow.{Goes};
 ghost use Rattle.ctd_syntax.specs.View.{expr_tree, command_tree};
 ghost use Rattle.ctd_check.specs.Effect.{bound, effect};
 ghost use Rattle.ctd_check.specs.Run.{Task, start, finish, run};
-ghost use Rattle.ctd_check.specs.Runnable.{IsBound, IsRunnable, AreRunnable};
+ghost use Rattle.ctd_check.specs.Runnable.{is_bound, is_runnable, are_runnable};
 ghost use Rattle.ctd_check.specs.Steps.{Follows, listed, Does, at_limit};
 
 use crate::byte::{end, one_byte};
@@ -37,7 +37,7 @@ fn pay(spot: Spot, place: Site, left: &mut u64) -> Result<(), Outcome>
 
 /// What a bound is worth.
 fn bound(e: &Expr) -> i128
-    requires { IsBound (expr_tree e.now) }
+    requires { is_bound (expr_tree e.now) ≡ true }
     ensures { result ≡ bound (expr_tree e.now) }
 {
     match e {
@@ -53,7 +53,7 @@ fn bound(e: &Expr) -> i128
 /// Does a command whose step is paid.
 fn perform<D: Source>(command: &Command, cursor: &mut Cursor<'_, D>) -> Result<(), Refusal>
     requires sound { (sight cursor.old).fault ≡ None }
-    requires runnable { IsRunnable (command_tree command.now) }
+    requires runnable { is_runnable (command_tree command.now) ≡ true }
     ensures sound { OnOk result ((sight cursor.new).fault ≡ None) }
     ensures effect { Goes cursor.old cursor.new (λ d. Does result (sight cursor.old).spot.offset (sight cursor.new).spot.offset (effect d (command_tree command.now) (sight cursor.old).spot.offset)) }
 {
@@ -77,7 +77,7 @@ fn begin<D: Source>(
     left: &mut u64,
 ) -> Result<(), Outcome>
     requires sound { (sight cursor.old).fault ≡ None }
-    requires runnable { IsRunnable (command_tree command.now) }
+    requires runnable { is_runnable (command_tree command.now) ≡ true }
     ensures sound { OnOk result ((sight cursor.new).fault ≡ None) }
     ensures spent { left.new ≤ left.old }
     ensures run { Goes cursor.old cursor.new (λ d. (rest : List Task) → Follows d result left.new (sight cursor.new).spot.offset rest
@@ -118,7 +118,7 @@ pub(crate) fn run_program<D: Source>(
     left: &mut u64,
 ) -> Result<(), Outcome>
     requires sound { (sight cursor.old).fault ≡ None }
-    requires runnable { AreRunnable commands.now }
+    requires runnable { are_runnable commands.now ≡ true }
     ensures spent { left.new ≤ left.old }
     ensures run { Goes cursor.old cursor.new (λ d. Follows d result left.new (sight cursor.new).spot.offset []
         (run d left.old (listed commands.now ++ finish ∷ []) (sight cursor.old).spot.offset)) }

@@ -1,5 +1,5 @@
 -- The loop that cuts a text.
-use Rattle.std.proofs.Common.{◌≡◌, ℕ, ◌+◌, ◌-◌, ◌<◌, ◌≤◌, List, [], ◌∷◌, ◌++◌, length, drop, get_or, Ok, Err, false, refl, sym, ap, ◌∙◌, subst, append_assoc, append-nil, length-drop, drop-drop, arith}
+use Rattle.std.proofs.Common.{◌≡◌, ℕ, ◌+◌, ◌<◌, ◌≤◌, List, [], ◌∷◌, ◌++◌, length, drop, get_or, Ok, false, sym, ap, ◌∙◌, subst, append_assoc, append-nil, length-drop, drop-drop, arith}
 use Rattle.std.proofs.lemmas.List.{drop_all, at_drop_more}
 use Rattle.ctd_syntax.specs.declared.text.Place.{Place}
 use Rattle.ctd_syntax.specs.declared.token.Token.{Token}

@@ -3,4 +3,5 @@ pub mod Literals
 pub mod OneCut
 pub mod Cutting
 pub mod TokenFaults
+pub mod Decided
 pub mod Trees

@@ -1,5 +1,5 @@
 -- A text is cut in one way and has one first fault, and it is not cut where it has one.
-use Rattle.std.proofs.Common.{◌≡◌, ℕ, ◌+◌, List, [], ◌∷◌, drop, Result, Ok, Err, false, refl, sym, ap, ◌∙◌, subst}
+use Rattle.std.proofs.Common.{◌≡◌, ℕ, ◌+◌, List, [], ◌∷◌, drop, Ok, false, refl, sym, ap, ◌∙◌, subst}
 use Rattle.ctd_syntax.specs.declared.token.Token.{Token}
 use Rattle.ctd_syntax.specs.declared.token.TokenKind.{TokenKind}
 use Rattle.ctd_syntax.specs.declared.fault.LoadKind.{LoadKind}

@@ -1,5 +1,5 @@
--- Which faults a token may have.
-use Rattle.std.proofs.Common.{◌≡◌, ℕ, ◌+◌, ◌<◌, ◌≤◌, ◌^◌, Bool, cond, nat_eq, nat_le, ◌||◌, List, [], ◌∷◌, length, take, drop, pos, Option, Some, None, Result, Ok, Err, true, false, refl, sym, subst}
+-- That a token has some bytes, and which faults it may have.
+use Rattle.std.proofs.Common.{◌≡◌, ℕ, ◌+◌, ◌<◌, ◌≤◌, ◌^◌, Bool, cond, nat_eq, nat_le, ◌||◌, List, [], ◌∷◌, length, take, drop, pos, Option, Some, None, Ok, Err, true, false, refl, sym, ap, subst, arith}
 use Rattle.std.specs.List.{prefix_len}
 use Rattle.ctd_syntax.specs.declared.limits.TheConstants.{PROGRAM_LIMIT}
 use Rattle.ctd_syntax.specs.declared.text.Place.{Place}
@@ -13,7 +13,7 @@ use Rattle.ctd_syntax.specs.declared.fault.LoadFault.{LoadFault}
 use Rattle.ctd_syntax.specs.declared.fault.TokenFault.{TokenFault}
 use Rattle.ctd_syntax.specs.declared.fault.TokenFault.TheVariants as scanning
 use Rattle.ctd_syntax.specs.Literal.{Closed, literal}
-use Rattle.ctd_syntax.specs.Cut.{is_upper, is_lower, is_digit, Judged, Found, wrong, at_first_byte, is_left_out_word, word_at, name_len, decimal, has_leading_zero, goes_on, numeral_at, mark_or, mark_at, single_mark, double_mark, closed_text, text_at, token_at, place_at, Faults}
+use Rattle.ctd_syntax.specs.Cut.{is_upper, is_lower, is_digit, Judged, Found, wrong, at_first_byte, is_left_out_word, word_at, name_len, decimal, has_leading_zero, goes_on, numeral_at, mark_or, mark_at, single_mark, double_mark, closed_text, text_at, token_at, place_at}
 use Rattle.ctd_syntax.specs.Scanning.{Scans, IsPlaced}
 use Rattle.ctd_syntax.specs.Lexing.{HasFault, IsLexFault}
 use Rattle.ctd_syntax.proofs.Cutting.{Cutting, fault}
@@ -27,59 +27,83 @@ IsTokenKind NumberTooLarge = Unit {0}
 IsTokenKind NotInProfile = Unit {0}
 IsTokenKind _ = ⊥
 
+-- a token has some bytes, and a fault is one of a token
 abbrev JudgedWell : Judged → Type 0
-JudgedWell (Ok t) = Unit {0}
+JudgedWell (Ok (t, n)) = 0 < n
 JudgedWell (Err kind) = IsTokenKind kind
 
 abbrev FoundWell : Found → Type 0
-FoundWell (Ok t) = Unit {0}
+FoundWell (Ok (t, n)) = 0 < n
 FoundWell (Err (kind, n)) = IsTokenKind kind
 
 judged_if : (t : Bool) (x y : Judged) → JudgedWell x → JudgedWell y → JudgedWell (cond t x y)
 judged_if true x y p q = p
 judged_if false x y p q = q
 
-found_if : (t : Bool) (x y : Found) → FoundWell x → FoundWell y → FoundWell (cond t x y)
-found_if true x y p q = p
+found_if : (t : Bool) (x y : Found) → (t ≡ true → FoundWell x) → FoundWell y → FoundWell (cond t x y)
+found_if true x y p q = p refl
 found_if false x y p q = q
 
+run_some : (p : ℕ → Bool) (b : ℕ) (bs : List ℕ) → p b ≡ true → 0 < prefix_len p (b ∷ bs)
+run_some p b bs is =
+    let more : prefix_len p (b ∷ bs) ≡ 1 + prefix_len p bs = ap (λ t. cond t (1 + prefix_len p bs) 0) is in
+    omega arith
+
+name_some : (b : ℕ) (bs : List ℕ) → is_lower b ≡ true → 0 < name_len (b ∷ bs)
+name_some b bs is = run_some (λ c. is_lower c || is_digit c) b bs (ap (λ t. t || is_digit b) is)
+
 first_well : (j : Judged) → JudgedWell j → FoundWell (at_first_byte j)
-first_well (Ok t) p = tt
+first_well (Ok t) p = p
 first_well (Err kind) p = p
 
-mark_well : (m : Option Mark) (n : ℕ) (other : Judged) → JudgedWell other → JudgedWell (mark_or m n other)
-mark_well None n other p = p
-mark_well (Some m) n other p = tt
+mark_well : (m : Option Mark) (n : ℕ) (other : Judged) → 0 < n → JudgedWell other → JudgedWell (mark_or m n other)
+mark_well None n other some p = p
+mark_well (Some m) n other some p = some
 
 marks_well : (a : ℕ) (bs : List ℕ) → JudgedWell (mark_at a bs)
-marks_well a [] = mark_well (single_mark a) 1 (Err BadByte) tt
-marks_well a (b ∷ bs) = mark_well (double_mark a b) 2 (mark_or (single_mark a) 1 (Err BadByte)) (mark_well (single_mark a) 1 (Err BadByte) tt)
+marks_well a [] = mark_well (single_mark a) 1 (Err BadByte) (omega arith) tt
+marks_well a (b ∷ bs) = mark_well (double_mark a b) 2 (mark_or (single_mark a) 1 (Err BadByte)) (omega arith) (mark_well (single_mark a) 1 (Err BadByte) (omega arith) tt)
 
 closed_well : (c : Closed) (o : Option ℕ) → FoundWell (closed_text c o)
-closed_well c None = tt
+closed_well c None = omega arith
 closed_well c (Some n) = tt
 
 text_well : (o : Option Closed) → FoundWell (text_at o)
 text_well None = tt
 text_well (Some c) = closed_well c c.bad_octal
 
-token_well : (bytes : List ℕ) → FoundWell (token_at bytes)
+word_well : (b : ℕ) (bs : List ℕ) → is_upper b ≡ true → JudgedWell (word_at (prefix_len is_upper (b ∷ bs)) (b ∷ bs))
+word_well b bs is =
+    let n : ℕ = prefix_len is_upper (b ∷ bs) in
+    judged_if (is_left_out_word (take n (b ∷ bs))) (Err NotInProfile) (Ok (tokens.Word, n)) tt (run_some is_upper b bs is)
+
+numeral_well : (b : ℕ) (bs : List ℕ) → is_digit b ≡ true → JudgedWell (numeral_at (prefix_len is_digit (b ∷ bs)) (b ∷ bs))
+numeral_well b bs is =
+    let n : ℕ = prefix_len is_digit (b ∷ bs) in
+    let digits : List ℕ = take n (b ∷ bs) in
+    let fits : Judged = Ok (tokens.Numeral (pos (decimal digits)), n) in
+    let judged : Judged = cond (nat_le (2 ^ 127) (decimal digits)) (Err NumberTooLarge) fits in
+    judged_if (has_leading_zero digits || goes_on (drop n (b ∷ bs))) (Err NotInProfile) judged tt (judged_if (nat_le (2 ^ 127) (decimal digits)) (Err NumberTooLarge) fits tt (run_some is_digit b bs is))
+
+pub token_well : (bytes : List ℕ) → FoundWell (token_at bytes)
 token_well [] = tt
 token_well (b ∷ bs) =
     let all : List ℕ = b ∷ bs in
-    let word : Judged = word_at (prefix_len is_upper all) all in
     let name : Found = Ok (tokens.Name, name_len all) in
+    let word : Judged = word_at (prefix_len is_upper all) all in
     let numeral : Judged = numeral_at (prefix_len is_digit all) all in
-    let number : List ℕ = take (prefix_len is_digit all) all in
     let text : Found = text_at (literal 0 bs) in
     let mark : Found = at_first_byte (mark_at b bs) in
-    let number_or : Judged = cond (nat_le (2 ^ 127) (decimal number)) (Err NumberTooLarge) (Ok (tokens.Numeral (pos (decimal number)), prefix_len is_digit all)) in
-    let word_is : JudgedWell word = judged_if (is_left_out_word (take (prefix_len is_upper all) all)) (Err NotInProfile) (Ok (tokens.Word, prefix_len is_upper all)) tt tt in
-    let numeral_is : JudgedWell numeral = judged_if (has_leading_zero number || goes_on (drop (prefix_len is_digit all) all)) (Err NotInProfile) number_or tt (judged_if (nat_le (2 ^ 127) (decimal number)) (Err NumberTooLarge) (Ok (tokens.Numeral (pos (decimal number)), prefix_len is_digit all)) tt tt) in
-    let text_or_mark : FoundWell (cond (nat_eq b 34) text mark) = found_if (nat_eq b 34) text mark (text_well (literal 0 bs)) (first_well (mark_at b bs) (marks_well b bs)) in
-    let from_numeral = found_if (is_digit b) (at_first_byte numeral) (cond (nat_eq b 34) text mark) (first_well numeral numeral_is) text_or_mark in
-    let from_name = found_if (is_lower b) name (cond (is_digit b) (at_first_byte numeral) (cond (nat_eq b 34) text mark)) tt from_numeral in
-    found_if (is_upper b) (at_first_byte word) (cond (is_lower b) name (cond (is_digit b) (at_first_byte numeral) (cond (nat_eq b 34) text mark))) (first_well word word_is) from_name
+    let by_quote : Found = cond (nat_eq b 34) text mark in
+    let by_digit : Found = cond (is_digit b) (at_first_byte numeral) by_quote in
+    let by_lower : Found = cond (is_lower b) name by_digit in
+    let from_quote : FoundWell by_quote = found_if (nat_eq b 34) text mark (λ _. text_well (literal 0 bs)) (first_well (mark_at b bs) (marks_well b bs)) in
+    let from_digit : FoundWell by_digit = found_if (is_digit b) (at_first_byte numeral) by_quote (λ is. first_well numeral (numeral_well b bs is)) from_quote in
+    let from_lower : FoundWell by_lower = found_if (is_lower b) name by_digit (λ is. name_some b bs is) from_digit in
+    found_if (is_upper b) (at_first_byte word) by_lower (λ is. first_well word (word_well b bs is)) from_lower
+
+pub token_some : (bytes : List ℕ) (t : TokenKind) (n : ℕ) → token_at bytes ≡ Ok (t, n) → 0 < n
+token_some bytes t n e = subst FoundWell e (token_well bytes)
 
 token_kind : (bytes : List ℕ) (kind : LoadKind) (n : ℕ) → token_at bytes ≡ wrong kind n → IsTokenKind kind
 token_kind bytes kind n e = subst FoundWell e (token_well bytes)

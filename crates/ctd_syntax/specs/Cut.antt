@@ -45,7 +45,7 @@ skip_gap in_comment [] = []
 skip_gap in_comment (b ∷ bs) =
     if in_comment || is_blank b || is_hash b then skip_gap (is_hash b || (in_comment && not (nat_eq b 10))) bs else b ∷ bs
 
--- the mark that one byte is
+-- the mark that one byte is: ( ) [ ] , = + - * / % ^ ! < >
 abbrev pub single_mark : ℕ → Option Mark
 single_mark b =
     if nat_eq b 40 then Some Open
@@ -65,7 +65,7 @@ single_mark b =
     else if nat_eq b 62 then Some Greater
     else None
 
--- the mark that two bytes are
+-- the mark that two bytes are: <= >= == != && ||
 abbrev pub double_mark : ℕ → ℕ → Option Mark
 double_mark a b =
     if nat_eq a 60 && nat_eq b 61 then Some AtMost

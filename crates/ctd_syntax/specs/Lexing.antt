@@ -1,5 +1,5 @@
 -- What cutting the text of a program gives.
-use Rattle.std.specs.Prelude.{◌≡◌, ◌<◌, ◌≤◌, ℕ, List, length, Option, Some, None}
+use Rattle.std.specs.Prelude.{◌≡◌, ◌<◌, ◌≤◌, ◌⊎◌, ℕ, List, length, Option, Some, None}
 use Rattle.ctd_syntax.specs.declared.limits.TheConstants.{PROGRAM_LIMIT}
 use Rattle.ctd_syntax.specs.declared.text.Place.{Place}
 use Rattle.ctd_syntax.specs.declared.token.Token.{Token}
@@ -7,17 +7,16 @@ use Rattle.ctd_syntax.specs.declared.fault.LoadKind.{LoadKind}
 use Rattle.ctd_syntax.specs.declared.fault.LoadKind.TheVariants.{ProgramTooLong, BadByte, UnfinishedString, BadOctal, NumberTooLarge, NotInProfile, TooDeep, Syntax, BadPattern, Read, Memory}
 use Rattle.ctd_syntax.specs.Cut.{Cuts, Faults, place_at}
 
--- the text is not too long, and is cut into these tokens
-pub record IsCut (program : List ℕ) (ts : List Token) : Type 0 where
-  pub short : length program ≤ PROGRAM_LIMIT
-  pub cut : Cuts program 0 program ts
-
 -- the text is not too long, and its first token with a fault has this one, at this place
 pub record HasFault (program : List ℕ) (kind : LoadKind) (place : Option Place) : Type 0 where
   pub short : length program ≤ PROGRAM_LIMIT
   pub offset : ℕ
   pub first : Faults 0 program kind offset
   pub place_is : place ≡ Some (place_at program offset)
+
+-- the text is cut into some tokens, or some token of it has the first fault
+abbrev pub IsDecided : List ℕ → Type 0
+IsDecided program = ((ts : List Token) × Cuts program 0 program ts) ⊎ ((kind : LoadKind) × (offset : ℕ) × Faults 0 program kind offset)
 
 -- a text has no tokens for this fault; want of memory is no fault of a text and has no place, and the other kinds are no faults of tokens
 abbrev pub IsLexFault : List ℕ → LoadKind → Option Place → Type 0

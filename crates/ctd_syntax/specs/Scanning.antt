@@ -1,5 +1,5 @@
 -- What scanning for one token answers.
-use Rattle.std.specs.Prelude.{◌≡◌, ◌≤◌, ◌+◌, ℕ, List, Option, Some, None, Result, Ok, Err}
+use Rattle.std.specs.Prelude.{◌≡◌, ◌≤◌, ◌+◌, ℕ, List, Some, None, Result, Ok, Err}
 use Rattle.ctd_syntax.specs.declared.token.TokenKind.{TokenKind}
 use Rattle.ctd_syntax.specs.declared.fault.TokenFault.{TokenFault}
 use Rattle.ctd_syntax.specs.declared.fault.TokenFault.TheVariants.{Wrong, Memory}

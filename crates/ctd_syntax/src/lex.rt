@@ -1,8 +1,8 @@
 //! From the text of a program to its tokens.
 
-ghost use Rattle.std.specs.Prelude.{ℕ, List, ◌≡◌, ◌≤◌, ◌<◌, ◌-◌, length, None, IfOk, IfErr, OnOk, IsErrAnd};
+ghost use Rattle.std.specs.Prelude.{ℕ, List, ◌≡◌, ◌≤◌, ◌<◌, ◌-◌, ◌+◌, ◌^◌, length, None, IfOk, IfErr, OnOk, IsErrAnd};
 ghost use Rattle.ctd_syntax.specs.Cut.{Cuts, Faults, place_at};
-ghost use Rattle.ctd_syntax.specs.Lexing.{IsLexFault};
+ghost use Rattle.ctd_syntax.specs.Lexing.{IsLexFault, IsDecided};
 ghost use Rattle.ctd_syntax.specs.Scanning.{FaultWithin, IsPlaced};
 ghost use Rattle.ctd_syntax.specs.declared.token.Token.{Token};
 ghost use Rattle.ctd_syntax.specs.declared.fault.LoadKind.{LoadKind};
@@ -11,7 +11,7 @@ use crate::fault::{LoadFault, LoadKind, TokenFault};
 use crate::limits::PROGRAM_LIMIT;
 use crate::scan::{gap_len, token_at};
 use crate::text::Place;
-use crate::token::Token;
+use crate::token::{Token, TokenKind};
 use std::alloc::Global;
 
 // The place of a later offset of the text, from the place of an earlier one.
@@ -35,6 +35,19 @@ fn advance(place: Place, text: &[u8], at: usize, to: usize) -> Place
     Place { line, column }
 }
 
+// The token of so many bytes at an offset, which has this place.
+fn spanned(kind: TokenKind, at: usize, len: usize, start: Place) -> Token
+    requires { at + len < 2 ^ 32 }
+    ensures { result ≡ record { kind = kind; first = at; after = at + len; place = start } }
+{
+    Token {
+        kind,
+        first: at as u32,
+        after: (at + len) as u32,
+        place: start,
+    }
+}
+
 // The fault of a token that begins at an offset of the text.
 fn placed(fault: TokenFault, place: Place, text: &[u8], at: usize) -> LoadFault
     requires short { length text.now ≤ PROGRAM_LIMIT }
@@ -55,12 +68,20 @@ fn placed(fault: TokenFault, place: Place, text: &[u8], at: usize) -> LoadFault
     }
 }
 
-/// The tokens of a program's text (checktestdata language specification, tokens).
+/// Cuts the text of a program into its tokens (checktestdata language specification, tokens).
+///
+/// Offsets count bytes from 0, lines and columns from 1. A text of blanks and comments alone has no
+/// tokens. The first token with a fault gives the answer BadByte, UnfinishedString, BadOctal,
+/// NumberTooLarge or NotInProfile, with the place of the fault. A text above `PROGRAM_LIMIT` bytes
+/// is ProgramTooLong, and a refused growth is Memory, both without a place.
 pub fn tokens(alloc: Global, text: &[u8]) -> Result<Vec<Token>, LoadFault>
     ensures short { OnOk result (length text.now ≤ PROGRAM_LIMIT) }
     ensures cut { IfOk result (λ ts. Cuts text.now 0 text.now ts.items) }
     ensures fault { IfErr result (λ f. IsLexFault text.now f.kind f.place) }
-    ensures too_long { PROGRAM_LIMIT < length text.now → IsErrAnd result (λ f. f ≡ record { kind = LoadKind.ProgramTooLong; place = None }) }
+
+    // Also where no memory is left.
+    ensures too_long { PROGRAM_LIMIT < length text.now →
+        IsErrAnd result (λ f. f ≡ record { kind = LoadKind.ProgramTooLong; place = None }) }
 {
     if text.len() > PROGRAM_LIMIT {
         return Err(LoadFault {
@@ -76,13 +97,8 @@ pub fn tokens(alloc: Global, text: &[u8]) -> Result<Vec<Token>, LoadFault>
             Ok(found) => found,
             Err(fault) => return Err(placed(fault, place, text, at)),
         };
+        tokens.push(spanned(kind, at, len, place))?;
         let after = at + len;
-        tokens.push(Token {
-            kind,
-            first: at as u32,
-            after: after as u32,
-            place,
-        })?;
         let next = after + gap_len(&text[after..]);
         place = advance(place, text, at, next);
         at = next;
@@ -90,9 +106,14 @@ pub fn tokens(alloc: Global, text: &[u8]) -> Result<Vec<Token>, LoadFault>
     Ok(tokens)
 }
 
-/// A text is cut in one way and has one first fault, and it is not cut where it has one.
+/// Laws of the language: each text is cut or has a first fault, and never both; it is cut in one way,
+/// and has one first fault.
 pub fn one_cut()
-    ensures same { (text : List ℕ) (a b : List Token) → Cuts text 0 text a → Cuts text 0 text b → a ≡ b }
-    ensures no_fault { (text : List ℕ) (offset : ℕ) (kind : LoadKind) (a : List Token) → Faults 0 text kind offset → Cuts text 0 text a → ⊥ }
-    ensures first_fault { (text : List ℕ) (p q : ℕ) (kind other : LoadKind) → Faults 0 text kind p → Faults 0 text other q → (kind ≡ other) × (p ≡ q) }
+    ensures decided { (text : List ℕ) → IsDecided text }
+    ensures same { (text : List ℕ) (a b : List Token) →
+        Cuts text 0 text a → Cuts text 0 text b → a ≡ b }
+    ensures no_fault { (text : List ℕ) (offset : ℕ) (kind : LoadKind) (a : List Token) →
+        Faults 0 text kind offset → Cuts text 0 text a → ⊥ }
+    ensures first_fault { (text : List ℕ) (p q : ℕ) (kind other : LoadKind) →
+        Faults 0 text kind p → Faults 0 text other q → (kind ≡ other) × (p ≡ q) }
 {}

@@ -1,5 +1,5 @@
-//! The words of the checktestdata language: its tokens, with the place of each, and the values of
-//! presets.
+//! The checktestdata language: its tokens, with the place of each, the trees of programs, and the values
+//! of presets.
 #![tactic(auto)]
 
 mod display;

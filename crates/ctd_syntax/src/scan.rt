@@ -90,7 +90,7 @@ fn decimal(digits: &[u8]) -> Option<u128>
 {
     let mut value: u128 = 0;
     for b in digits {
-        // Ten times less than 2^124 fits, and ten times more is too large.
+        // Below 2^124 there is room for one more digit; from there on a further one is too much.
         if value >= 1 << 124 {
             return None;
         }

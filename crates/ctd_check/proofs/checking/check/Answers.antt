@@ -1,18 +1,19 @@
-use Rattle.std.proofs.Common.{rules, ◌≡◌, ◌+◌, ◌≤◌, ◌^◌, IfOk, ℕ, ◌-◌, ◌*◌, ◌<◌, length, ◌/◌, ◌%◌, Bool, true, false, nat_eq, nat_lt, List, [], ◌∷◌, ◌++◌, slice_index_or, slice_set, bit_and, bit_or, Fits, w8, w32, w64, Bor, MutBor}
-use Rattle.ctd_source.specs.declared.source.Seen.TheVariants.{Going}
-use Rattle.ctd_check.specs.Plans.{plan_tree}
-use Rattle.ctd_check.specs.Run.{meaning}
-use Rattle.ctd_check.specs.Checks.{FindsMeaning, IsAhead}
+use Rattle.std.proofs.Common.{◌≡◌, ap, ◌∙◌, sym, refl, rules}
+use Rattle.ctd_source.specs.Sight.{source}
+use Rattle.ctd_check.proofs.Checking.{found}
+use Rattle.ctd_check.proofs.Running.{finds, outcome_by}
+use Rattle.ctd_check.proofs.checking.check.Goals.{in-Ok, in-Err}
 use Rattle.ctd_check.proofs.checking.check.Goals as goal
 
--- src/checking.rt:38:25
 pub run_program-requires-clause-runnable : goal.run_program-requires-clause-runnable
 run_program-requires-clause-runnable g c = ?
 
--- src/checking.rt:19:1
 pub returns-clause-meaning : goal.returns-clause-meaning
-returns-clause-meaning g c = ?
+returns-clause-meaning g c =
+    let e = c.in_ok-cursor.ensures in
+    let outcome : c.match-run_program.outcome ≡ outcome_by c.run_program.result = elim c.match-run_program.branch [ in-Ok w ↦ ? | in-Err w ↦ ? ] in
+    found c.args.testdata.now _ c.in_ok-cursor.cursor c.run_program.new.cursor c.args.limits _ _ _ e.source (search rules) e.begins e.stands c.run_program.ensures.run c.taken.ensures.taken c.seen.ensures.seen
+    (λ d f. ?)
 
--- src/checking.rt:19:1
 pub returns-clause-given : goal.returns-clause-given
 returns-clause-given g c = ?

@@ -1,4 +1,5 @@
 use Rattle.ctd_syntax.proofs.OneCut.{same_cut, no_cut, same_fault}
+use Rattle.ctd_syntax.proofs.Decided.{decided}
 use Rattle.ctd_syntax.proofs.lex.one_cut.Goals as goal
 
 pub returns-clause-same : goal.returns-clause-same
@@ -9,3 +10,6 @@ returns-clause-no_fault c text offset kind a f x = no_cut text 0 offset text a k
 
 pub returns-clause-first_fault : goal.returns-clause-first_fault
 returns-clause-first_fault c text p q kind other f g = same_fault 0 p q text kind other f g
+
+pub returns-clause-decided : goal.returns-clause-decided
+returns-clause-decided c text = decided text

@@ -1,4 +1,4 @@
-use Rattle.std.proofs.Common.{◌≡◌, ℕ, ◌+◌, ◌≤◌, List, drop, length, false, length-drop, Ok, Err, refl, sym, ap, ◌∙◌, subst, arith}
+use Rattle.std.proofs.Common.{◌≡◌, ℕ, ◌+◌, ◌≤◌, List, [], ◌∷◌, ◌++◌, drop, length, false, length-drop, Ok, Err, refl, sym, ap, ◌∙◌, subst, arith}
 use Rattle.std.proofs.lemmas.List.{take_rest}
 use Rattle.ctd_syntax.specs.declared.token.Token.{Token}
 use Rattle.ctd_syntax.specs.Cut.{token_at, skip_gap}
@@ -27,7 +27,8 @@ loop-at-preserved c =
     let le : n ≤ length (drop (at + len) text) = omega (arith, c.gap_len.ensures.within, ap length tail) in
     let skipped : drop n (drop (at + len) text) ≡ skip_gap false (drop (at + len) text) = ap (drop n) (sym tail) ∙ c.gap_len.ensures.skipped ∙ ap (skip_gap false) tail in
     let cut = more text c.loop-at.tokens.items t at len n c.loop-at.place c.advance-place-in-loop-at.result c.loop-at.invariant found refl refl refl within le skipped c.advance-place-in-loop-at.ensures.there in
-    subst (λ l. Cutting text l (at + len + n) c.advance-place-in-loop-at.result) (sym c.in_ok-push.ensures.items) cut
+    let made = subst (λ u. Cutting text (c.loop-at.tokens.items ++ u ∷ []) (at + len + n) c.advance-place-in-loop-at.result) (sym c.spanned.ensures) cut in
+    subst (λ l. Cutting text l (at + len + n) c.advance-place-in-loop-at.result) (sym c.in_ok-push.ensures.items) made
 
 pub returns-clause-cut : goal.returns-clause-cut
 returns-clause-cut c = finish c.args.text.now c.loop-at.tokens.items c.loop-at.at c.loop-at.place c.loop-at.invariant (omega (arith, c.loop-at-test.false))
