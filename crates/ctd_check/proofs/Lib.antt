@@ -1,4 +1,4 @@
-pub mod Checking
+pub mod Concluding
 pub mod Decimal
 pub mod DigitRuns
 pub mod Effects

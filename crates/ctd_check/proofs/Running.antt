@@ -16,6 +16,7 @@ use Rattle.ctd_check.specs.declared.outcome.Site.{Site}
 use Rattle.ctd_check.specs.declared.outcome.Site.TheVariants.{At, Finish}
 use Rattle.ctd_check.specs.declared.outcome.Outcome.{Outcome}
 use Rattle.ctd_check.specs.declared.outcome.Outcome.TheVariants.{Accepted}
+use Rattle.ctd_check.specs.declared.outcome.Mode.{Mode}
 use Rattle.ctd_check.specs.declared.outcome.Mode.TheVariants.{Exact}
 use Rattle.ctd_source.specs.declared.source.Seen.{Seen}
 use Rattle.ctd_syntax.specs.declared.preset.Preset.{Preset}
@@ -167,11 +168,11 @@ tasks_listed [] = refl
 tasks_listed (c ∷ cs) = ap (λ ts. start (command_tree c) ∷ ts) (tasks_listed cs)
 
 -- a run that ended has its meaning
-pub finds : (d : TestData) (r : Result (Unit {0}) Outcome) (outcome : Outcome) (program : List Command) (presets : List Preset) (limit steps left consumed taken : ℕ) (seen : Seen) → outcome ≡ outcome_by r → steps ≡ limit - left
-    → Follows d r left consumed [] (run d limit (listed program ++ finish ∷ []) 0) → Finds (record { outcome = outcome; steps = steps; consumed = consumed; taken = taken; seen = seen }) (meaning Exact (command_trees program) presets d limit)
-finds d (Ok x) outcome program presets limit steps left consumed taken seen by paid f =
-    let whole : run d limit (tasks (command_trees program) ++ finish ∷ []) 0 ≡ ended Accepted consumed left = ap (λ ts. run d limit (ts ++ finish ∷ []) 0) (tasks_listed program) ∙ f in
-    record { outcome = by ∙ sym (ap (λ e. e.outcome) whole); steps = paid ∙ sym (ap (λ e. limit - e.left) whole); consumed = sym (ap (λ e. e.consumed) whole) }
-finds d (Err o) outcome program presets limit steps left consumed taken seen by paid f =
-    let whole : run d limit (tasks (command_trees program) ++ finish ∷ []) 0 ≡ ended o consumed left = ap (λ ts. run d limit (ts ++ finish ∷ []) 0) (tasks_listed program) ∙ f in
-    record { outcome = by ∙ sym (ap (λ e. e.outcome) whole); steps = paid ∙ sym (ap (λ e. limit - e.left) whole); consumed = sym (ap (λ e. e.consumed) whole) }
+pub finds : (mode : Mode) (d : TestData) (r : Result (Unit {0}) Outcome) (outcome : Outcome) (program : List Command) (presets : List Preset) (limit steps left at consumed taken : ℕ) (seen : Seen) → outcome ≡ outcome_by r → steps ≡ limit - left → consumed ≡ at
+    → Follows d r left at [] (run d limit (listed program ++ finish ∷ []) 0) → Finds (record { outcome = outcome; steps = steps; consumed = consumed; taken = taken; seen = seen }) (meaning mode (command_trees program) presets d limit)
+finds Exact d (Ok x) outcome program presets limit steps left at consumed taken seen by paid there f =
+    let whole : run d limit (tasks (command_trees program) ++ finish ∷ []) 0 ≡ ended Accepted at left = ap (λ ts. run d limit (ts ++ finish ∷ []) 0) (tasks_listed program) ∙ f in
+    record { outcome = by ∙ sym (ap (λ e. e.outcome) whole); steps = paid ∙ sym (ap (λ e. limit - e.left) whole); consumed = there ∙ sym (ap (λ e. e.consumed) whole) }
+finds Exact d (Err o) outcome program presets limit steps left at consumed taken seen by paid there f =
+    let whole : run d limit (tasks (command_trees program) ++ finish ∷ []) 0 ≡ ended o at left = ap (λ ts. run d limit (ts ++ finish ∷ []) 0) (tasks_listed program) ∙ f in
+    record { outcome = by ∙ sym (ap (λ e. e.outcome) whole); steps = paid ∙ sym (ap (λ e. limit - e.left) whole); consumed = there ∙ sym (ap (λ e. e.consumed) whole) }
