@@ -8,3 +8,4 @@ pub mod Run
 pub mod Runnable
 pub mod Seen
 pub mod Steps
+pub mod Today

@@ -7,6 +7,7 @@ mod digits;
 mod integer;
 mod outcome;
 mod plan;
+mod reading;
 mod refusal;
 mod run;
 
