@@ -1,3 +1,4 @@
+pub mod Commands
 pub mod Concluding
 pub mod Decimal
 pub mod DigitRuns
@@ -5,3 +6,4 @@ pub mod Effects
 pub mod Integers
 pub mod Running
 pub mod SeenDigits
+pub mod Texts

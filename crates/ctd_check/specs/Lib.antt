@@ -1,6 +1,7 @@
 pub mod Checks
 pub mod Effect
 pub mod Integer
+pub mod Loading
 pub mod OutcomeText
 pub mod Passing
 pub mod Plans

@@ -1,5 +1,5 @@
 -- The programs that are read today: any number of SPACE, NEWLINE, EOF and INT with two bounds.
-use Rattle.std.specs.Prelude.{◌≡◌, ◌≤◌, ℕ, ℤ, Bool, true, false, if◌then◌else◌, List, [], ◌∷◌, map, Option, Some, None}
+use Rattle.std.specs.Prelude.{◌≡◌, ◌≤◌, ℕ, ℤ, pos, int_le, Bool, true, false, if◌then◌else◌, List, [], ◌∷◌, map, Option, Some, None}
 use Rattle.std.specs.Option.{option_and_then}
 use Rattle.ctd_syntax.specs.declared.limits.TheConstants.{PROGRAM_LIMIT}
 use Rattle.ctd_syntax.specs.declared.text.Place.{Place}
@@ -22,9 +22,9 @@ is_this marks.Comma (mark Comma) = true
 is_this marks.Minus (mark Minus) = true
 is_this _ _ = false
 
--- the number of a numeral
+-- the number of a numeral, which has no sign of its own
 abbrev pub number_of : Lexeme → Option ℤ
-number_of (numeral n) = Some n
+number_of (numeral n) = if int_le (pos 0) n then Some n else None
 number_of _ = None
 
 -- what follows this mark
