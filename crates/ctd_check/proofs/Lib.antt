@@ -4,6 +4,8 @@ pub mod Decimal
 pub mod DigitRuns
 pub mod Effects
 pub mod Integers
+pub mod Loads
+pub mod PulledText
 pub mod Running
 pub mod SeenDigits
 pub mod Texts

@@ -46,6 +46,11 @@ MayFail bytes failed f = TextMayFail (text_of bytes failed) f
 abbrev pub Loads : List ℕ → (failed : Bool) → CommandList → Type 0
 Loads bytes failed tree = IsLoaded (text_of bytes failed) tree
 
+-- the answer of loading a text that came whole; want of memory says nothing of it
+abbrev pub TextLoadsAs : {P : Type 0} → (P → CommandList) → Result P LoadFault → List ℕ → Type 0
+TextLoadsAs tree_of (Ok plan) program = IsProgram program (tree_of plan)
+TextLoadsAs tree_of (Err f) program = f.kind ≢ Memory → IsNoProgram program f
+
 -- the answer of loading what a reader gave; want of memory says nothing of the text
 abbrev pub LoadsAs : {P : Type 0} → (P → CommandList) → Result P LoadFault → List ℕ → (failed : Bool) → Type 0
 LoadsAs tree_of (Ok plan) bytes failed = Loads bytes failed (tree_of plan)

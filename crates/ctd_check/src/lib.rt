@@ -10,6 +10,7 @@ mod plan;
 mod reading;
 mod refusal;
 mod run;
+mod text;
 
 pub use checking::check;
 pub use ctd_source::{Failed, FromRead, Seen, Source, Spot};
