@@ -1,0 +1,3 @@
+pub mod TakenLemmas
+pub mod WrittenLemmas
+pub mod HeadlineLemmas

@@ -1,0 +1,6 @@
+//! The tool on readers and writers in memory, a module for each subject.
+
+mod clipped;
+mod failing_streams;
+mod reports;
+mod words;

@@ -1,0 +1,269 @@
+//! The texts of reports, with their streams and statuses.
+
+use crate::report::{ToolFault, report_usage, write_cannot_open, write_load_fault, write_outcome};
+use crate::setup::UsageFault;
+use crate::sink::ToWrite;
+use ctd_check::{Bytes, Fault, LoadFault, LoadKind, Outcome, Place, Reason, Site, Spot};
+use std::test::Fail;
+
+const SPOT: Spot = Spot {
+    line: 3,
+    column: 70001,
+    offset: 90000,
+};
+
+const PLACE: Place = Place {
+    line: 12,
+    column: 405,
+};
+
+#[test]
+fn accepted_data_are_ok(rt: HostRuntime) {
+    let alloc = rt.alloc();
+    let mut out = Vec::new(alloc);
+    let mut err = Vec::new(alloc);
+    let answer = write_outcome(
+        alloc,
+        &Outcome::Accepted,
+        false,
+        &mut ToWrite::new(&mut out),
+        &mut ToWrite::new(&mut err),
+    );
+    assert_eq!(rt; answer, Ok(0));
+    assert_eq!(rt; out.as_slice(), b"testdata ok!\n".as_slice());
+    assert!(rt; err.is_empty());
+}
+
+#[test]
+fn each_reason_has_its_number_and_text(rt: HostRuntime) -> Result<(), Fail> {
+    let alloc = rt.alloc();
+    for (number, reason, text) in [
+        (1, Reason::ExpectedSpace, "expected a space"),
+        (2, Reason::ExpectedNewline, "expected a newline"),
+        (3, Reason::ExpectedEof, "expected end of file"),
+        (4, Reason::ExpectedInt, "expected an integer"),
+        (5, Reason::LeadingZero, "integer with a leading zero"),
+        (6, Reason::MinusZero, "integer with minus zero"),
+        (7, Reason::OutOfRange, "value out of range"),
+        (8, Reason::StringMismatch, "string does not match"),
+        (
+            9,
+            Reason::RegexMismatch,
+            "regular expression does not match",
+        ),
+        (10, Reason::AssertFailed, "assertion failed"),
+    ] {
+        let outcome = Outcome::Rejected {
+            spot: SPOT,
+            place: Site::At(PLACE),
+            reason,
+        };
+        let want = format!(in alloc; "line 3 column 70001: {text} (program line 12 column 405)\n")?;
+        let mut out = Vec::new(alloc);
+        let mut err = Vec::new(alloc);
+        let answer = write_outcome(
+            alloc,
+            &outcome,
+            false,
+            &mut ToWrite::new(&mut out),
+            &mut ToWrite::new(&mut err),
+        );
+        assert_eq!(rt; answer, Ok(1), "{text}");
+        assert_eq!(rt; out.as_slice(), want.as_bytes(), "{text}");
+        assert!(rt; err.is_empty(), "{text}");
+        assert_eq!(rt; reason as u8, number, "{text}");
+    }
+    Ok(())
+}
+
+#[test]
+fn each_fault_has_its_number_and_text(rt: HostRuntime) -> Result<(), Fail> {
+    let alloc = rt.alloc();
+    for (number, fault, text) in [
+        (1, Fault::Undefined, "variable has no value"),
+        (2, Fault::WrongType, "wrong type"),
+        (3, Fault::Overflow, "number overflow"),
+        (4, Fault::DivisionByZero, "division by zero"),
+        (5, Fault::Exponent, "bad exponent"),
+        (6, Fault::Count, "bad count"),
+        (7, Fault::Shape, "arrays have different indices"),
+        (8, Fault::StepLimit, "step limit reached"),
+        (9, Fault::MatchTooLong, "match too long"),
+        (10, Fault::DataTooLong, "test data too long"),
+        (11, Fault::Read, "read failed"),
+    ] {
+        for (place, site) in [
+            (Site::Start, "program start"),
+            (Site::At(PLACE), "program line 12 column 405"),
+            (Site::Finish, "program end"),
+        ] {
+            let outcome = Outcome::Stopped {
+                spot: SPOT,
+                place,
+                fault,
+            };
+            let want = format!(in alloc; "checktestdata: line 3 column 70001: {text} ({site})\n")?;
+            let mut out = Vec::new(alloc);
+            let mut err = Vec::new(alloc);
+            let answer = write_outcome(
+                alloc,
+                &outcome,
+                true,
+                &mut ToWrite::new(&mut out),
+                &mut ToWrite::new(&mut err),
+            );
+            assert_eq!(rt; answer, Ok(2), "{text}");
+            assert_eq!(rt; err.as_slice(), want.as_bytes(), "{text}");
+            assert!(rt; out.is_empty(), "{text}");
+        }
+        assert_eq!(rt; fault as u8, number, "{text}");
+    }
+    Ok(())
+}
+
+#[test]
+fn each_fault_of_a_program_has_its_number_and_text(rt: HostRuntime) {
+    let alloc = rt.alloc();
+    for (number, kind, place, want) in [
+        (
+            1,
+            LoadKind::ProgramTooLong,
+            None,
+            "checktestdata: program too long\n",
+        ),
+        (
+            2,
+            LoadKind::BadByte,
+            Some(PLACE),
+            "checktestdata: program line 12 column 405: unexpected byte\n",
+        ),
+        (
+            3,
+            LoadKind::UnfinishedString,
+            Some(PLACE),
+            "checktestdata: program line 12 column 405: unfinished string\n",
+        ),
+        (
+            4,
+            LoadKind::BadOctal,
+            Some(PLACE),
+            "checktestdata: program line 12 column 405: octal escape above 255\n",
+        ),
+        (
+            5,
+            LoadKind::NumberTooLarge,
+            Some(PLACE),
+            "checktestdata: program line 12 column 405: number too large\n",
+        ),
+        (
+            6,
+            LoadKind::NotInProfile,
+            Some(PLACE),
+            "checktestdata: program line 12 column 405: not in this profile\n",
+        ),
+        (
+            7,
+            LoadKind::TooDeep,
+            Some(PLACE),
+            "checktestdata: program line 12 column 405: nested too deeply\n",
+        ),
+        (
+            8,
+            LoadKind::Syntax,
+            Some(PLACE),
+            "checktestdata: program line 12 column 405: syntax error\n",
+        ),
+        (
+            9,
+            LoadKind::BadPattern,
+            Some(PLACE),
+            "checktestdata: program line 12 column 405: bad pattern\n",
+        ),
+        (
+            10,
+            LoadKind::Read,
+            None,
+            "checktestdata: cannot read program\n",
+        ),
+    ] {
+        let mut out = Vec::new(alloc);
+        let mut err = Vec::new(alloc);
+        let answer = write_load_fault(
+            alloc,
+            &LoadFault { kind, place },
+            &mut ToWrite::new(&mut out),
+            &mut ToWrite::new(&mut err),
+        );
+        assert_eq!(rt; answer, Ok(2), "{want}");
+        assert_eq!(rt; err.as_slice(), want.as_bytes());
+        assert!(rt; out.is_empty(), "{want}");
+        assert_eq!(rt; kind as u8, number, "{want}");
+    }
+}
+
+#[test]
+fn want_of_memory_in_a_program_is_no_report(rt: HostRuntime) {
+    let alloc = rt.alloc();
+    let fault = LoadFault {
+        kind: LoadKind::Memory,
+        place: None,
+    };
+    let mut out = Vec::new(alloc);
+    let mut err = Vec::new(alloc);
+    let answer = write_load_fault(
+        alloc,
+        &fault,
+        &mut ToWrite::new(&mut out),
+        &mut ToWrite::new(&mut err),
+    );
+    assert_eq!(rt; answer, Err(ToolFault::Memory));
+    assert!(rt; out.is_empty());
+    assert!(rt; err.is_empty());
+    assert_eq!(rt; LoadKind::Memory as u8, 11);
+}
+
+#[test]
+fn each_fault_of_the_words_has_its_number_and_text(rt: HostRuntime) {
+    let alloc = rt.alloc();
+    for (number, fault, want) in [
+        (
+            1,
+            UsageFault::Words,
+            "checktestdata: bad arguments\nTry 'checktestdata --help'.\n",
+        ),
+        (7, UsageFault::Memory, "checktestdata: out of memory\n"),
+    ] {
+        let mut out = Vec::new(alloc);
+        let mut err = Vec::new(alloc);
+        let answer = report_usage(
+            &fault,
+            &mut ToWrite::new(&mut out),
+            &mut ToWrite::new(&mut err),
+        );
+        assert_eq!(rt; answer, Ok(2), "{want}");
+        assert_eq!(rt; err.as_slice(), want.as_bytes());
+        assert!(rt; out.is_empty(), "{want}");
+        assert_eq!(rt; fault as u8, number, "{want}");
+    }
+}
+
+#[test]
+fn a_file_that_is_not_opened_is_named(rt: HostRuntime) -> Result<(), Fail> {
+    let alloc = rt.alloc();
+    let name = Bytes::copy(alloc, b"no such.ctd")?;
+    let mut out = Vec::new(alloc);
+    let mut err = Vec::new(alloc);
+    let answer = write_cannot_open(
+        alloc,
+        &name,
+        &mut ToWrite::new(&mut out),
+        &mut ToWrite::new(&mut err),
+    );
+    assert_eq!(rt; answer, Ok(2));
+    assert_eq!(rt;
+        err.as_slice(),
+        b"checktestdata: cannot open no such.ctd\n".as_slice()
+    );
+    assert!(rt; out.is_empty());
+    Ok(())
+}
