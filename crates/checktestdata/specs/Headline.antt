@@ -2,7 +2,7 @@
 use Rattle.std.specs.Prelude.{◌≡◌, ◌⊎◌, ℕ, List}
 use Rattle.ctd_source.specs.declared.source.Source.{Ghosts}
 use Rattle.ctd_source.specs.TestData.{TestData}
-use Rattle.ctd_source.specs.Agreement.{Agrees, is_broken}
+use Rattle.ctd_source.specs.Agreement.{Agrees}
 use Rattle.ctd_source.specs.Sight.{Gave}
 use Rattle.ctd_syntax.specs.declared.fault.LoadFault.{LoadFault}
 use Rattle.ctd_syntax.specs.Tree.{CommandList}
@@ -24,7 +24,7 @@ pub record ReportsMeaning {P D : Type 0} {G : Ghosts P} {H : Ghosts D} (s : Setu
   pub tree : CommandList
   pub text : List ℕ
   pub gave_text : Gave G program.old program.new text
-  pub loads : Loads text (is_broken (G.seen program.new)) tree
+  pub loads : Loads text (G.seen program.new) tree
   pub bytes : List ℕ
   pub gave : Gave H testdata.old testdata.new bytes
   pub means : (d : TestData) → d.limit ≡ s.limits.bytes → Agrees bytes (H.seen testdata.new) d → report ≡ check_report s.quiet (meaning s.mode tree s.presets d s.limits.steps).outcome
@@ -34,7 +34,7 @@ pub record ReportsFault {P D : Type 0} {G : Ghosts P} {H : Ghosts D} (program : 
   pub fault : LoadFault
   pub text : List ℕ
   pub gave_text : Gave G program.old program.new text
-  pub fails : MayFail text (is_broken (G.seen program.new)) fault
+  pub fails : MayFail text (G.seen program.new) fault
   pub untouched : testdata.new ≡ testdata.old
   pub report_is : report ≡ load_report fault
 

@@ -3,4 +3,5 @@
 mod clipped;
 mod failing_streams;
 mod reports;
+mod runs;
 mod words;

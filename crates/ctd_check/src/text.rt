@@ -1,9 +1,8 @@
 //! The text of a program, as a source gives it.
 ghost use Rattle.std.specs.Prelude.{◌≡◌, ◌≢◌, ◌<◌, ◌≤◌, ◌+◌, true, false, length, take, drop, IfOk};
-ghost use Rattle.ctd_source.specs.Agreement.{is_broken};
 ghost use Rattle.ctd_source.specs.Pull.{seen_after, pulled, Gives};
 ghost use Rattle.ctd_source.specs.Sight.{Gave};
-ghost use Rattle.ctd_source.specs.declared.source.Seen.TheVariants.{Going};
+ghost use Rattle.ctd_source.specs.declared.source.Seen.TheVariants.{Going, Ended, Broken};
 
 use ctd_source::{Failed, Source};
 
@@ -33,7 +32,8 @@ pub(crate) fn fill<P: Source>(program: &mut P, room: &mut [u8]) -> Filled
     requires { P.seen program.old ≡ Going }
     ensures within { result.count ≤ length room.new }
     ensures gave { Gave P.Source program.old program.new (take result.count room.new) }
-    ensures failed { result.failed ≡ is_broken (P.seen program.new) }
+    ensures failed { result.failed ≡ true → P.seen program.new ≡ Broken }
+    ensures ended { result.failed ≡ false → result.count < length room.new → P.seen program.new ≡ Ended }
 {
     let mut count = 0;
     while count < room.len() {
