@@ -10,7 +10,7 @@ const LIMIT: u64 = 1 << 40;
 
 /// What is timed.
 #[derive(Clone, Copy, Debug, PartialEq, Eq)]
-pub enum Kind {
+pub(crate) enum Kind {
     /// A million times: a window, five bytes taken, a look and one more byte taken.
     Windows,
     /// Each line's digits passed by runs of held bytes, and the byte after them.
@@ -21,7 +21,7 @@ pub enum Kind {
 
 impl Kind {
     /// The kind of this name.
-    pub fn named(name: &str) -> Option<Kind> {
+    pub(crate) fn named(name: &str) -> Option<Kind> {
         match name {
             "windows" => Some(Kind::Windows),
             "lines" => Some(Kind::Lines),
@@ -95,7 +95,7 @@ fn runs<R: Source>(cursor: &mut Cursor<'_, R>) -> u64 {
 }
 
 /// Goes through what the reader gives, and tells a sum that no compiler can leave out.
-pub fn run<R: Read + Drop>(alloc: Global, kind: Kind, reader: R) -> Result<u64, AllocError> {
+pub(crate) fn run<R: Read + Drop>(alloc: Global, kind: Kind, reader: R) -> Result<u64, AllocError> {
     let mut source = FromRead::new(reader);
     let mut cursor = Cursor::start(alloc, &mut source, LIMIT)?;
     let sum = match kind {
