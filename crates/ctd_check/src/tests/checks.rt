@@ -110,11 +110,14 @@ fn data_that_never_end_stop_at_the_limit(rt: HostRuntime) -> Result<(), Fail> {
 #[test]
 fn data_of_the_limit_are_not_too_long(rt: HostRuntime) -> Result<(), Fail> {
     for (bytes, outcome) in [
-        (0, stopped(after(0), column(1), Fault::DataTooLong)),
+        (0u32, stopped(after(0), column(1), Fault::DataTooLong)),
         (1, stopped(after(0), column(1), Fault::DataTooLong)),
         (2, Outcome::Accepted),
     ] {
-        let limits = Limits { bytes, ..AMPLE };
+        let limits = Limits {
+            bytes: bytes as u64,
+            ..AMPLE
+        };
         let checked = check_with(rt.alloc(), LINE_OF_ONE, b"5\n".as_slice(), limits)?;
         assert_eq!(rt; checked.outcome, outcome, "{bytes} bytes");
     }

@@ -1,5 +1,7 @@
 //! Readers that fail, that never end and that give little at once.
 
+ghost use Rattle.std.specs.Prelude.{◌≤◌, ◌^◌};
+
 use crate::{
     Checked, Fault, FromRead, Limits, Mode, Outcome, Place, Plan, Presets, Reason, Site, Spot,
     check,
@@ -61,7 +63,9 @@ pub fn check_with<R: Read + Drop>(
     program: &str,
     data: R,
     limits: Limits,
-) -> std::result::Result<Checked, Fail> {
+) -> std::result::Result<Checked, Fail>
+    requires { limits.bytes ≤ 2 ^ 62 }
+{
     let plan = plan_of(alloc, program)?;
     let mut data = FromRead::new(data);
     let checked = check(
@@ -76,7 +80,8 @@ pub fn check_with<R: Read + Drop>(
 }
 
 /// The spot in the first line with so many bytes before it.
-pub fn after(offset: u64) -> Spot {
+pub fn after(offset: u32) -> Spot {
+    let offset = offset as u64;
     Spot {
         line: 1,
         column: offset + 1,
