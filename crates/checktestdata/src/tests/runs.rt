@@ -1,5 +1,7 @@
 //! Whole runs: the bytes on both streams and the status.
 
+ghost use Rattle.std.specs.Prelude.{◌≤◌, ◌^◌, IfOk};
+
 use crate::report::ToolFault;
 use crate::setup::Setup;
 use crate::sink::ToWrite;
@@ -23,21 +25,23 @@ impl Read for Failing {
     }
 }
 
-/// A reader that counts how often it is read, and has no byte.
+/// A reader that tells whether it is read, and has no byte.
 #[derive(Drop)]
-struct Counting<'c> {
-    reads: &'c mut u32,
+struct Watched<'w> {
+    is_read: &'w mut bool,
 }
 
-impl Read for Counting<'_> {
+impl Read for Watched<'_> {
     fn read(&mut self, _buf: &mut [u8]) -> Result<usize> {
-        *self.reads += 1;
+        *self.is_read = true;
         Ok(0)
     }
 }
 
 /// The settings of a run without options.
-fn plain(alloc: Global) -> std::result::Result<Setup, AllocError> {
+fn plain(alloc: Global) -> std::result::Result<Setup, AllocError>
+    ensures { IfOk result (λ setup. setup.limits.bytes ≤ 2 ^ 62) }
+{
     Ok(Setup {
         program: Bytes::copy(alloc, b"p.ctd")?,
         testdata: None,
@@ -65,7 +69,9 @@ fn run<P: Read + Drop, D: Read + Drop>(
     setup: &Setup,
     program: P,
     testdata: D,
-) -> Written {
+) -> Written
+    requires { setup.now.limits.bytes ≤ 2 ^ 62 }
+{
     let mut out = Vec::new(alloc);
     let mut err = Vec::new(alloc);
     let answer = run_tool(
@@ -161,21 +167,27 @@ fn a_run_without_a_verdict_goes_to_standard_error(
     rt: HostRuntime,
 ) -> std::result::Result<(), Fail> {
     let alloc = rt.alloc();
-    let ample = plain(alloc)?.limits;
-    for (limits, text) in [
+    for (steps, bytes, text) in [
         (
-            Limits { steps: 0, ..ample },
+            0,
+            100u32,
             "checktestdata: line 1 column 1: step limit reached (program line 1 column 1)\n",
         ),
         (
-            Limits { steps: 2, ..ample },
+            2,
+            100,
             "checktestdata: line 2 column 1: step limit reached (program end)\n",
         ),
         (
-            Limits { bytes: 1, ..ample },
+            100,
+            1,
             "checktestdata: line 1 column 1: test data too long (program line 1 column 1)\n",
         ),
     ] {
+        let limits = Limits {
+            steps,
+            bytes: bytes as u64,
+        };
         for quiet in [false, true] {
             let setup = Setup {
                 limits,
@@ -219,9 +231,11 @@ fn a_program_that_is_not_read_leaves_the_data_alone(
 ) -> std::result::Result<(), Fail> {
     let alloc = rt.alloc();
     let setup = plain(alloc)?;
-    let mut reads = 0;
+    let mut is_read = false;
     let syntax: &[u8] = b"checktestdata: program line 1 column 1: syntax error\n";
-    let data = Counting { reads: &mut reads };
+    let data = Watched {
+        is_read: &mut is_read,
+    };
     let written = run(alloc, &setup, b"SPACE(".as_slice(), data);
     assert_eq!(rt; written.answer, Ok(2));
     assert_eq!(rt; written.err.as_slice(), syntax);
@@ -229,13 +243,15 @@ fn a_program_that_is_not_read_leaves_the_data_alone(
     let cannot_read: &[u8] = b"checktestdata: cannot read program\n";
     let program = LINE_OF_ONE.as_bytes();
     for n in 0..=program.len() {
-        let data = Counting { reads: &mut reads };
+        let data = Watched {
+            is_read: &mut is_read,
+        };
         let written = run(alloc, &setup, program[..n].chain(Failing), data);
         assert_eq!(rt; written.answer, Ok(2), "after {n} bytes");
         assert_eq!(rt; written.err.as_slice(), cannot_read, "after {n} bytes");
         assert!(rt; written.out.is_empty(), "after {n} bytes");
     }
-    assert_eq!(rt; reads, 0);
+    assert!(rt; !is_read);
     Ok(())
 }
 
