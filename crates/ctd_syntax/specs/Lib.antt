@@ -4,5 +4,15 @@ pub mod FaultText
 pub mod Scanning
 pub mod Lexeme
 pub mod Lexing
+pub mod Presets
+pub mod PresetFront
 pub mod Tree
 pub mod View
+pub mod Grammar
+pub mod Nesting
+pub mod Reading
+pub mod Examples
+pub mod Front
+pub mod Levels
+pub mod Tests
+pub mod CommandWords

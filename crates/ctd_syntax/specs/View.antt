@@ -1,5 +1,6 @@
 -- The pure trees that the trees of the code stand for, apart from where these lie in memory.
 use Rattle.std.specs.Prelude.{ℕ, List, [], ◌∷◌, map, Option, Some, None}
+use Rattle.std.specs.Global.{Box}
 use Rattle.ctd_syntax.specs.Tree
 use Rattle.ctd_syntax.specs.Tree.{ExprTree, ExprList, VarTree, TestTree, CommandTree, CommandList, Separator}
 use Rattle.ctd_syntax.specs.declared.text.Place.{Place}
@@ -122,3 +123,8 @@ command_tree c = action_tree c.action c.place
 abbrev pub command_trees : List Command → CommandList
 command_trees [] = Tree.done
 command_trees (c ∷ cs) = Tree.then (command_tree c) (command_trees cs)
+
+-- the separator of a loop in its box, or none
+abbrev pub boxed_separator : Option (Box Command) → Separator
+boxed_separator None = Tree.nothing
+boxed_separator (Some boxed) = Tree.between (command_tree boxed.value)

@@ -33,7 +33,7 @@ impl Keyword {
     ghost use Rattle.ctd_syntax.specs.Lexeme.{keyword_of};
 
     /// The word that some bytes spell.
-    pub fn spelled(word: &[u8]) -> Keyword
+    pub(crate) fn spelled(word: &[u8]) -> Keyword
         ensures { result ≡ keyword_of word.now }
     {
         match word {

@@ -14,8 +14,8 @@ use crate::text::Place;
 use crate::token::{Token, TokenKind};
 use std::alloc::Global;
 
-// The place of a later offset of the text, from the place of an earlier one.
-fn advance(place: Place, text: &[u8], at: usize, to: usize) -> Place
+/// The place of a later offset of the text, from the place of an earlier one.
+pub(crate) fn advance(place: Place, text: &[u8], at: usize, to: usize) -> Place
     requires short { length text.now ≤ PROGRAM_LIMIT }
     requires here { place ≡ place_at text.now at }
     requires later { at ≤ to }

@@ -2,14 +2,24 @@
 //! of presets.
 #![tactic(auto)]
 
+mod command;
+mod condition;
 mod display;
+mod expression;
 pub mod fault;
+mod front;
+mod grammar;
 pub mod keyword;
 mod lex;
 pub mod limits;
 mod literal;
+mod names;
+mod nesting;
+mod piece;
 pub mod preset;
+mod preset_text;
 mod scan;
+mod target;
 #[cfg(test)]
 mod tests;
 pub mod text;
@@ -17,9 +27,10 @@ pub mod token;
 pub mod tree;
 
 pub use fault::{LoadFault, LoadKind};
+pub use grammar::parse;
 pub use keyword::Keyword;
 pub use lex::{one_cut, tokens};
-pub use limits::PROGRAM_LIMIT;
+pub use limits::{NESTING_LIMIT, PROGRAM_LIMIT};
 pub use preset::{Literal, Preset, PresetFault, Presets};
 pub use text::{Bytes, Name, Place};
 pub use token::{Mark, Token, TokenKind};

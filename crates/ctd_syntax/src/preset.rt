@@ -1,9 +1,12 @@
 //! The values that a caller gives to variables before a check begins.
 
-ghost use Rattle.std.specs.Prelude.{◌≡◌, []};
+ghost use Rattle.std.specs.Prelude.{◌≡◌, [], List, Err, IfOk};
+ghost use Rattle.ctd_syntax.specs.Presets.{ArePresets};
 
+use crate::fault::TokenFault;
+use crate::preset_text::presets;
 use crate::text::{Bytes, Name};
-use std::alloc::Global;
+use std::alloc::{AllocError, AllocFailed, Global};
 use std::marker::Model;
 
 /// A number or a string, as written.
@@ -44,6 +47,25 @@ impl Presets {
         Presets { items }
     }
 
+    /// The presets that a text spells, all of them and in its order: `name=value`, once or more, with
+    /// a comma between each two and no blanks.
+    ///
+    /// A name is a token of a program, and a value is a numeral, a numeral behind a minus, or a string
+    /// literal, to which the commas and escapes between its quotes belong (checktestdata language
+    /// specification, tokens). So a numeral has no leading zero and is at most 2^127 - 1. Any other
+    /// text, the empty one too, is BadPreset, and a refused growth is Memory. The time is linear in the
+    /// bytes of the text.
+    pub fn read(alloc: Global, text: &str) -> Result<Presets, PresetFault>
+        ensures read { IfOk result (ArePresets text.now) }
+        ensures only { IfOk result (λ ps.
+            (others : List Preset) → ArePresets text.now others → others ≡ ps) }
+        ensures refused { result ≡ Err PresetFault.BadPreset →
+            (ps : List Preset) → ArePresets text.now ps → ⊥ }
+    {
+        let items = presets(alloc, text.as_bytes())?;
+        Ok(Presets { items })
+    }
+
     /// The presets, all of them and in their order.
     pub fn pins(&self) -> &[Preset]
         ensures whole { result.now ≡ self.now }
@@ -59,4 +81,40 @@ pub enum PresetFault {
     BadPreset = 1,
     /// No memory was left.
     Memory = 2,
+}
+
+impl From<TokenFault> for PresetFault {
+    ghost use Rattle.std.specs.Prelude.{◌≡◌};
+    ghost use Rattle.ctd_syntax.specs.PresetFront.{fault_of};
+
+    ghost from_gives = { λ fault e. e ≡ fault_of fault };
+
+    fn from(fault: TokenFault) -> Self {
+        match fault {
+            TokenFault::Wrong { kind: _, behind: _ } => PresetFault::BadPreset,
+            TokenFault::Memory => PresetFault::Memory,
+        }
+    }
+}
+
+impl From<AllocError> for PresetFault {
+    ghost use Rattle.std.specs.Prelude.{◌≡◌};
+    ghost use Rattle.ctd_syntax.specs.declared.preset.PresetFault.TheVariants.{Memory};
+
+    ghost from_gives = { λ _ e. e ≡ Memory };
+
+    fn from(_error: AllocError) -> Self {
+        PresetFault::Memory
+    }
+}
+
+impl<T: Drop> From<AllocFailed<T>> for PresetFault {
+    ghost use Rattle.std.specs.Prelude.{◌≡◌};
+    ghost use Rattle.ctd_syntax.specs.declared.preset.PresetFault.TheVariants.{Memory};
+
+    ghost from_gives = { λ _ e. e ≡ Memory };
+
+    fn from(_error: AllocFailed<T>) -> Self {
+        PresetFault::Memory
+    }
 }

@@ -9,6 +9,8 @@ use std::alloc::Global;
 use std::fmt::Write;
 use std::test::Fail;
 
+mod presets;
+
 // What `tokens` answers for a text, written as the rows below write it: for each token its kind, its
 // span and its place, or the kind of the fault and its place.
 fn answer(alloc: Global, text: &[u8]) -> Result<String, Fail> {

@@ -173,6 +173,13 @@ impl Model for Program {
 impl Exprs {
     ghost use Rattle.ctd_syntax.specs.View.{exprs_of};
 
+    /// A list with these expressions, which takes no memory.
+    pub(crate) fn from_vec(items: Vec<Expr>) -> Exprs
+        ensures { exprs_of result ≡ items.items }
+    {
+        Exprs { items }
+    }
+
     /// Lends the list.
     pub fn as_slice(&self) -> &[Expr]
         ensures { result.now ≡ exprs_of self.now }
@@ -184,6 +191,13 @@ impl Exprs {
 impl Names {
     ghost use Rattle.ctd_syntax.specs.View.{names_of};
 
+    /// A list with these names, which takes no memory.
+    pub(crate) fn from_vec(items: Vec<Name>) -> Names
+        ensures { names_of result ≡ items.items }
+    {
+        Names { items }
+    }
+
     /// Lends the list.
     pub fn as_slice(&self) -> &[Name]
         ensures { result.now ≡ names_of self.now }
@@ -194,6 +208,13 @@ impl Names {
 
 impl Assignments {
     ghost use Rattle.ctd_syntax.specs.View.{assignments_of};
+
+    /// A list with these assignments, which takes no memory.
+    pub(crate) fn from_vec(items: Vec<Assignment>) -> Assignments
+        ensures { assignments_of result ≡ items.items }
+    {
+        Assignments { items }
+    }
 
     /// Lends the list.
     pub fn as_slice(&self) -> &[Assignment]

@@ -1,4 +1,4 @@
-use Rattle.std.proofs.Common.{◌≡◌, ℕ, List, ap, sym, arith, rules, length}
+use Rattle.std.proofs.Common.{◌≡◌, ap, sym, arith, rules}
 use Rattle.std.specs.Prelude.{codes}
 use Rattle.std.proofs.lemmas.Slice.Eq.{text_from_reads}
 use Rattle.ctd_syntax.specs.Lexeme.{keyword_of}

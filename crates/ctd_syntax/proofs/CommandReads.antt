@@ -1,0 +1,377 @@
+-- A command is told by its word, and a list of commands ends where no word of a command follows.
+use Rattle.std.proofs.Common.{◌≡◌, ◌⊎◌, inl, inr, ℕ, ◌<◌, List, [], ◌∷◌, ◌++◌, Bool, true, false, Option, refl, sym, ap, ◌∙◌, subst, append_assoc, append-nil, arith}
+use Rattle.ctd_syntax.specs.Lexeme
+use Rattle.ctd_syntax.specs.Lexeme.{Lexeme, mark, keyword}
+use Rattle.ctd_syntax.specs.Tree
+use Rattle.ctd_syntax.specs.Tree.{ExprTree, VarTree, TestTree, CommandTree, CommandList, Separator}
+use Rattle.ctd_syntax.specs.Grammar
+use Rattle.ctd_syntax.specs.Grammar.{IsExpr, IsTest, IsTarget, IsTargetEnd, IsCommand, IsCommands, IsRepeated, IsBranches}
+use Rattle.ctd_syntax.specs.Front.{Found, NotFound, Always, IsBefore, IsBeforeWord, IsAfter, IsBuilt, IsPair, Spelling, Following}
+use Rattle.ctd_syntax.specs.Levels.{ends}
+use Rattle.ctd_syntax.specs.Tests.{test_ends}
+use Rattle.ctd_syntax.specs.CommandWords.{Behind, CommandsEnd, IsBlock, IsBranchEnd, IsLoopEnd, IsPattern, begins_command, command_begins, is_command_word}
+use Rattle.ctd_syntax.specs.declared.text.Place.{Place}
+use Rattle.ctd_syntax.specs.declared.token.Mark.TheVariants.{Open, Close, Comma}
+use Rattle.ctd_syntax.specs.declared.keyword.Keyword.{Keyword}
+use Rattle.ctd_syntax.specs.declared.keyword.Keyword.TheVariants as words
+use Rattle.ctd_syntax.proofs.Fronts.{built, not_built, after_reads, after_none, not_after, pair_reads, first_none, second_none}
+
+-- a tree that is built of what stands behind an opening parenthesis
+pub opened_reads : {T U : Type 0} (f : T → U) (A : Spelling T) (E : Following) (tokens r after : List Lexeme) (a : T) → tokens ≡ mark Open ∷ r → Found A E r a after → Found (IsBuilt f (IsAfter Open A)) E tokens (f a) after
+opened_reads f A E tokens r after a e found = built f (IsAfter Open A) E tokens after a (after_reads A E Open tokens r after a e found)
+
+pub opened_none : {T U : Type 0} (f : T → U) (A : Spelling T) (E : Following) (tokens r : List Lexeme) → tokens ≡ mark Open ∷ r → NotFound A E r → NotFound (IsBuilt f (IsAfter Open A)) E tokens
+opened_none f A E tokens r e not = not_built f (IsAfter Open A) E tokens (after_none A E Open tokens r e not)
+
+pub not_opened : {T U : Type 0} (f : T → U) (A : Spelling T) (E : Following) (tokens : List Lexeme) → ((r : List Lexeme) → tokens ≡ mark Open ∷ r → ⊥) → NotFound (IsBuilt f (IsAfter Open A)) E tokens
+not_opened f A E tokens none = not_built f (IsAfter Open A) E tokens (not_after A E Open tokens none)
+
+-- an expression ends before the end of its command
+pub before_target_end : (vs us : List Lexeme) (target : Option VarTree) → IsTargetEnd vs target → Always us → ends 1 (vs ++ us)
+before_target_end vs us target Grammar.none h = omega arith
+before_target_end vs us target (Grammar.some i) h = omega arith
+
+-- an expression and a test end before the end of their loop
+pub before_loop_end : (vs us : List Lexeme) (x : Separator × CommandList) → IsLoopEnd vs x → Always us → ends 1 (vs ++ us)
+before_loop_end vs us x (inl (none, (ts, is, i))) h = subst (λ l. ends 1 (l ++ us)) (sym is) (omega arith)
+before_loop_end vs us x (inr (c, some, (ts, is, i))) h = subst (λ l. ends 1 (l ++ us)) (sym is) (omega arith)
+
+pub test_before_loop_end : (vs us : List Lexeme) (x : Separator × CommandList) → IsLoopEnd vs x → Always us → test_ends 1 (vs ++ us)
+test_before_loop_end vs us x (inl (none, (ts, is, i))) h = subst (λ l. test_ends 1 (l ++ us)) (sym is) (omega arith, omega arith)
+test_before_loop_end vs us x (inr (c, some, (ts, is, i))) h = subst (λ l. test_ends 1 (l ++ us)) (sym is) (omega arith, omega arith)
+
+-- commands end before ELSE and END
+pub before_branch_end : (vs us : List Lexeme) (b : CommandList) → IsBranchEnd vs b → Always us → CommandsEnd (vs ++ us)
+before_branch_end vs us b (inl (at, is, done)) h = subst (λ l. CommandsEnd (l ++ us)) (sym is) refl
+before_branch_end vs us b (inr (at, ts, is, i)) h = subst (λ l. CommandsEnd (l ++ us)) (sym is) refl
+
+-- whatever ends by itself
+pub whatever : {T : Type 0} (A : Spelling T) (vs us : List Lexeme) (b : T) → A vs b → Always us → Always (vs ++ us)
+whatever A vs us b i h = tt
+
+-- a string with its place
+pub pattern_found : (tokens rest : List Lexeme) (bytes : List ℕ) (at : Place) → tokens ≡ Lexeme.text bytes at ∷ rest → Found IsPattern Always tokens (bytes, at) rest
+pattern_found tokens rest bytes at e = record {
+  front = Lexeme.text bytes at ∷ [];
+  split = e;
+  spells = refl;
+  only = λ ts us u split h w. same_text (sym e ∙ split ∙ ap (λ l. l ++ us) w);
+}
+  where
+    same_text : {bytes : List ℕ} {at : Place} {rest us : List Lexeme} {u : List ℕ × Place} → Lexeme.text bytes at ∷ rest ≡ Lexeme.text u.0 u.1 ∷ us → (u ≡ (bytes, at)) × (us ≡ rest)
+    same_text {bytes} {at} {rest} {us} {u} e = let a : u.0 ≡ bytes = cc in let p : u.1 ≡ at = cc in let b : us ≡ rest = cc in (ap (λ x. (x, u.1)) a ∙ ap (λ x. (bytes, x)) p, b)
+
+pub pattern_none : (tokens : List Lexeme) → ((bytes : List ℕ) (at : Place) (ts : List Lexeme) → tokens ≡ Lexeme.text bytes at ∷ ts → ⊥) → NotFound IsPattern Always tokens
+pattern_none tokens none ts us u split h w = none u.0 u.1 us (split ∙ ap (λ l. l ++ us) w)
+
+-- the end of a loop as the grammar has it, and back
+loop_end_from : (ts : List Lexeme) (between : Separator) (body : CommandList) → IsRepeated ts between body → IsLoopEnd ts (between, body)
+loop_end_from ts b l (Grammar.unseparated {us} {body} at i) = inl (refl, (us ++ keyword words.End at ∷ [], refl, (us, at, refl, i)))
+loop_end_from ts b l (Grammar.separated {ts = vs} {us} {c} {body} at i j) = inr (c, refl, ((vs ++ mark Close ∷ us) ++ keyword words.End at ∷ [], refl, (vs ++ mark Close ∷ [], us ++ keyword words.End at ∷ [], append_assoc vs (mark Close ∷ us) (keyword words.End at ∷ []) ∙ sym (append_assoc vs (mark Close ∷ []) (us ++ keyword words.End at ∷ [])), (vs, refl, i), (us, at, refl, j))))
+
+loop_end_to : (ts : List Lexeme) (x : Separator × CommandList) → IsLoopEnd ts x → IsRepeated ts x.0 x.1
+loop_end_to ts x (inl (none, (vs, closing, (us, at, ended, i)))) =
+    subst (λ l. IsRepeated l x.0 x.1) (sym (closing ∙ ap (λ l. mark Close ∷ l) ended)) (subst (λ s. IsRepeated (mark Close ∷ us ++ keyword words.End at ∷ []) s x.1) (sym none) (Grammar.unseparated at i))
+loop_end_to ts x (inr (c, some, (vs, comma, (us, ws, split, (cs, closing, i), (bs, at, ended, j))))) =
+    let tokens : vs ≡ (cs ++ mark Close ∷ bs) ++ keyword words.End at ∷ [] =
+    split ∙ ap (λ l. l ++ ws) closing ∙ append_assoc cs (mark Close ∷ []) ws ∙ ap (λ l. cs ++ mark Close ∷ l) ended ∙ sym (append_assoc cs (mark Close ∷ bs) (keyword words.End at ∷ [])) in
+    subst (λ l. IsRepeated l x.0 x.1) (sym (comma ∙ ap (λ l. mark Comma ∷ l) tokens)) (subst (λ s. IsRepeated (mark Comma ∷ (cs ++ mark Close ∷ bs) ++ keyword words.End at ∷ []) s x.1) (sym some) (Grammar.separated at i j))
+
+-- the branches of an IF as the grammar has them, and back
+branches_from : (ts : List Lexeme) (a b : CommandList) → IsBranches ts a b → IsPair IsCommands IsBranchEnd ts (a, b)
+branches_from ts a b (Grammar.one_way {us} at i) = (us, keyword words.End at ∷ [], refl, i, inl (at, refl, refl))
+branches_from ts a b (Grammar.two_ways {us} {vs} at else_at i j) = (us, keyword words.Else else_at ∷ vs ++ keyword words.End at ∷ [], append_assoc us (keyword words.Else else_at ∷ vs) (keyword words.End at ∷ []), i, inr (else_at, vs ++ keyword words.End at ∷ [], refl, (vs, at, refl, j)))
+
+branches_to : (ts : List Lexeme) (x : CommandList × CommandList) → IsPair IsCommands IsBranchEnd ts x → IsBranches ts x.0 x.1
+branches_to ts x (us, vs, split, i, inl (at, ended, done)) =
+    subst (λ l. IsBranches l x.0 x.1) (sym (split ∙ ap (λ l. us ++ l) ended)) (subst (λ b. IsBranches (us ++ keyword words.End at ∷ []) x.0 b) (sym done) (Grammar.one_way at i))
+branches_to ts x (us, vs, split, i, inr (else_at, ws, parted, (bs, at, ended, j))) =
+    subst (λ l. IsBranches l x.0 x.1) (sym (split ∙ ap (λ l. us ++ l) (parted ∙ ap (λ l. keyword words.Else else_at ∷ l) ended) ∙ sym (append_assoc us (keyword words.Else else_at ∷ bs) (keyword words.End at ∷ [])))) (Grammar.two_ways at else_at i j)
+
+-- a command is its word and what stands behind it
+abbrev Worded : List Lexeme → CommandTree → Type 0
+Worded ts u = (k : Keyword) × (at : Place) × (vs : List Lexeme) × (ts ≡ keyword k at ∷ vs) × (is_command_word k ≡ true) × Behind k at vs u
+
+worded : (ts : List Lexeme) (u : CommandTree) → IsCommand ts u → Worded ts u
+worded ts u (Grammar.space {at}) = (words.Space, at, [], refl, refl, (refl, refl))
+worded ts u (Grammar.newline {at}) = (words.Newline, at, [], refl, refl, (refl, refl))
+worded ts u (Grammar.eof {at}) = (words.Eof, at, [], refl, refl, (refl, refl))
+worded ts u (Grammar.int {ts = ls} {us = hs} {vs} {low} {high} {target} {at} i j e) = (words.Int, at, mark Open ∷ (ls ++ mark Comma ∷ hs) ++ vs, refl, refl, ((low, (high, target)), refl, ((ls ++ mark Comma ∷ hs) ++ vs, refl, (ls ++ mark Comma ∷ [], hs ++ vs, append_assoc ls (mark Comma ∷ hs) vs ∙ sym (append_assoc ls (mark Comma ∷ []) (hs ++ vs)), (ls, refl, i), (hs, vs, refl, j, e)))))
+worded ts u (Grammar.string {ts = es} {e} {at} i) = (words.String, at, mark Open ∷ es ++ mark Close ∷ [], refl, refl, (e, refl, (es ++ mark Close ∷ [], refl, (es, refl, i))))
+worded ts u (Grammar.regex {vs} {pattern} {target} {at} {literal_at} e) = (words.Regex, at, mark Open ∷ Lexeme.text pattern literal_at ∷ vs, refl, refl, (((pattern, literal_at), target), refl, (Lexeme.text pattern literal_at ∷ vs, refl, (Lexeme.text pattern literal_at ∷ [], vs, refl, refl, e))))
+worded ts u (Grammar.assert {ts = es} {t} {at} i) = (words.Assert, at, mark Open ∷ es ++ mark Close ∷ [], refl, refl, (t, refl, (es ++ mark Close ∷ [], refl, (es, refl, i))))
+worded ts u (Grammar.set {ts = es} {assignments} {at} i) = (words.Set, at, mark Open ∷ es ++ mark Close ∷ [], refl, refl, (assignments, refl, (es ++ mark Close ∷ [], refl, (es, refl, i))))
+worded ts u (Grammar.unset {ts = es} {names} {at} i) = (words.Unset, at, mark Open ∷ es ++ mark Close ∷ [], refl, refl, (names, refl, (es ++ mark Close ∷ [], refl, (es, refl, i))))
+worded ts u (Grammar.rep {ts = es} {us} {count} {between = separator} {body} {at} i r) = (words.Rep, at, mark Open ∷ es ++ us, refl, refl, ((count, (separator, body)), refl, (es ++ us, refl, (es, us, refl, i, loop_end_from us separator body r))))
+worded ts u (Grammar.repi {ts = cs} {us = es} {vs} {counter} {count} {between = separator} {body} {at} i j r) = (words.RepI, at, mark Open ∷ (cs ++ mark Comma ∷ es) ++ vs, refl, refl, ((counter, (count, (separator, body))), refl, ((cs ++ mark Comma ∷ es) ++ vs, refl, (cs ++ mark Comma ∷ [], es ++ vs, append_assoc cs (mark Comma ∷ es) vs ∙ sym (append_assoc cs (mark Comma ∷ []) (es ++ vs)), (cs, refl, i), (es, vs, refl, j, loop_end_from vs separator body r)))))
+worded ts u (Grammar.while {ts = es} {us} {t} {between = separator} {body} {at} i r) = (words.While, at, mark Open ∷ es ++ us, refl, refl, ((t, (separator, body)), refl, (es ++ us, refl, (es, us, refl, i, loop_end_from us separator body r))))
+worded ts u (Grammar.whilei {ts = cs} {us = es} {vs} {counter} {t} {between = separator} {body} {at} i j r) = (words.WhileI, at, mark Open ∷ (cs ++ mark Comma ∷ es) ++ vs, refl, refl, ((counter, (t, (separator, body))), refl, ((cs ++ mark Comma ∷ es) ++ vs, refl, (cs ++ mark Comma ∷ [], es ++ vs, append_assoc cs (mark Comma ∷ es) vs ∙ sym (append_assoc cs (mark Comma ∷ []) (es ++ vs)), (cs, refl, i), (es, vs, refl, j, loop_end_from vs separator body r)))))
+worded ts u (Grammar.choice {ts = es} {us} {t} {then_do} {else_do} {at} i b) = (words.If, at, mark Open ∷ (es ++ mark Close ∷ us), refl, refl, ((t, (then_do, else_do)), refl, (es ++ mark Close ∷ us, refl, (es ++ mark Close ∷ [], us, sym (append_assoc es (mark Close ∷ []) us), (es, refl, i), branches_from us then_do else_do b))))
+
+-- what stands between the parentheses of a command with a comma
+paired : (ts us ws ls hs es : List Lexeme) → ts ≡ us ++ ws → us ≡ ls ++ mark Comma ∷ [] → ws ≡ hs ++ es → ts ≡ (ls ++ mark Comma ∷ hs) ++ es
+paired ts us ws ls hs es split comma ends_so = split ∙ ap (λ l. l ++ ws) comma ∙ append_assoc ls (mark Comma ∷ []) ws ∙ ap (λ l. ls ++ mark Comma ∷ l) ends_so ∙ sym (append_assoc ls (mark Comma ∷ hs) es)
+
+-- what stands behind its word makes a command
+command_of : (k : Keyword) (at : Place) (vs : List Lexeme) (u : CommandTree) → Behind k at vs u → IsCommand (keyword k at ∷ vs) u
+command_of words.Space at vs u (none, tree) = subst (λ l. IsCommand (keyword words.Space at ∷ l) u) (sym none) (subst (IsCommand _) (sym tree) Grammar.space)
+command_of words.Newline at vs u (none, tree) = subst (λ l. IsCommand (keyword words.Newline at ∷ l) u) (sym none) (subst (IsCommand _) (sym tree) Grammar.newline)
+command_of words.Eof at vs u (none, tree) = subst (λ l. IsCommand (keyword words.Eof at ∷ l) u) (sym none) (subst (IsCommand _) (sym tree) Grammar.eof)
+command_of words.Int at vs u (x, tree, (ts, opened, (us, ws, split, (ls, comma, i), (hs, es, ends_so, j, e)))) =
+    subst (λ l. IsCommand (keyword words.Int at ∷ l) u) (sym (opened ∙ ap (λ l. mark Open ∷ l) (paired ts us ws ls hs es split comma ends_so))) (subst (IsCommand _) (sym tree) (Grammar.int i j e))
+command_of words.String at vs u (x, tree, (ts, opened, (es, closing, i))) =
+    subst (λ l. IsCommand (keyword words.String at ∷ l) u) (sym (opened ∙ ap (λ l. mark Open ∷ l) closing)) (subst (IsCommand _) (sym tree) (Grammar.string i))
+command_of words.Regex at vs u (x, tree, (ts, opened, (us, ws, split, pattern, e))) =
+    subst (λ l. IsCommand (keyword words.Regex at ∷ l) u) (sym (opened ∙ ap (λ l. mark Open ∷ l) (split ∙ ap (λ l. l ++ ws) pattern))) (subst (IsCommand _) (sym tree) (Grammar.regex e))
+command_of words.Assert at vs u (x, tree, (ts, opened, (es, closing, i))) =
+    subst (λ l. IsCommand (keyword words.Assert at ∷ l) u) (sym (opened ∙ ap (λ l. mark Open ∷ l) closing)) (subst (IsCommand _) (sym tree) (Grammar.assert i))
+command_of words.Set at vs u (x, tree, (ts, opened, (es, closing, i))) =
+    subst (λ l. IsCommand (keyword words.Set at ∷ l) u) (sym (opened ∙ ap (λ l. mark Open ∷ l) closing)) (subst (IsCommand _) (sym tree) (Grammar.set i))
+command_of words.Unset at vs u (x, tree, (ts, opened, (es, closing, i))) =
+    subst (λ l. IsCommand (keyword words.Unset at ∷ l) u) (sym (opened ∙ ap (λ l. mark Open ∷ l) closing)) (subst (IsCommand _) (sym tree) (Grammar.unset i))
+command_of words.Rep at vs u (x, tree, (ts, opened, (us, ws, split, i, r))) =
+    subst (λ l. IsCommand (keyword words.Rep at ∷ l) u) (sym (opened ∙ ap (λ l. mark Open ∷ l) split)) (subst (IsCommand _) (sym tree) (Grammar.rep i (loop_end_to ws x.1 r)))
+command_of words.RepI at vs u (x, tree, (ts, opened, (us, ws, split, (cs, comma, i), (es, ls, ends_so, j, r)))) =
+    subst (λ l. IsCommand (keyword words.RepI at ∷ l) u) (sym (opened ∙ ap (λ l. mark Open ∷ l) (paired ts us ws cs es ls split comma ends_so))) (subst (IsCommand _) (sym tree) (Grammar.repi i j (loop_end_to ls x.1.1 r)))
+command_of words.While at vs u (x, tree, (ts, opened, (us, ws, split, i, r))) =
+    subst (λ l. IsCommand (keyword words.While at ∷ l) u) (sym (opened ∙ ap (λ l. mark Open ∷ l) split)) (subst (IsCommand _) (sym tree) (Grammar.while i (loop_end_to ws x.1 r)))
+command_of words.WhileI at vs u (x, tree, (ts, opened, (us, ws, split, (cs, comma, i), (es, ls, ends_so, j, r)))) =
+    subst (λ l. IsCommand (keyword words.WhileI at ∷ l) u) (sym (opened ∙ ap (λ l. mark Open ∷ l) (paired ts us ws cs es ls split comma ends_so))) (subst (IsCommand _) (sym tree) (Grammar.whilei i j (loop_end_to ls x.1.1 r)))
+command_of words.If at vs u (x, tree, (ts, opened, (us, ws, split, (es, closing, i), b))) =
+    subst (λ l. IsCommand (keyword words.If at ∷ l) u) (sym (opened ∙ ap (λ l. mark Open ∷ l) (split ∙ ap (λ l. l ++ ws) closing ∙ append_assoc es (mark Close ∷ []) ws))) (subst (IsCommand _) (sym tree) (Grammar.choice i (branches_to ws x.1 b)))
+command_of _ at vs u w = absurd w
+
+-- a command is behind a word at the front
+begins_worded : (tokens r ts us : List Lexeme) (k : Keyword) (at : Place) (u : CommandTree) → tokens ≡ keyword k at ∷ r → tokens ≡ ts ++ us → IsCommand ts u → (vs : List Lexeme) × (r ≡ vs ++ us) × Behind k at vs u
+begins_worded tokens r ts us k at u e split w =
+    let is = worded ts u w in
+    let whole : keyword k at ∷ r ≡ keyword is.0 is.1 ∷ (is.2 ++ us) = sym e ∙ split ∙ ap (λ l. l ++ us) is.3 in
+    let word : is.0 ≡ k = cc in
+    let place : is.1 ≡ at = cc in
+    let tail : r ≡ is.2 ++ us = cc in
+    (is.2, tail, subst (λ p. Behind k p is.2 u) place (subst (λ x. Behind x is.1 is.2 u) word is.5))
+
+pub command_reads : (tokens r : List Lexeme) (k : Keyword) (at : Place) → tokens ≡ keyword k at ∷ r → (u : CommandTree) (after : List Lexeme) → Found (Behind k at) Always r u after → Found IsCommand Always tokens u after
+command_reads tokens r k at e u after f = record {
+  front = keyword k at ∷ f.front;
+  split = e ∙ ap (λ l. keyword k at ∷ l) f.split;
+  spells = command_of k at f.front u f.spells;
+  only = λ ts us v split h w.
+      let i = begins_worded tokens r ts us k at v e split w in
+      f.only i.0 us v i.1 tt i.2;
+}
+
+pub command_none : (tokens r : List Lexeme) (k : Keyword) (at : Place) → tokens ≡ keyword k at ∷ r → NotFound (Behind k at) Always r → NotFound IsCommand Always tokens
+command_none tokens r k at e not ts us v split h w = let i = begins_worded tokens r ts us k at v e split w in not i.0 us v i.1 tt i.2
+
+pub no_word : (tokens : List Lexeme) → ((k : Keyword) (at : Place) (ts : List Lexeme) → tokens ≡ keyword k at ∷ ts → ⊥) → NotFound IsCommand Always tokens
+no_word tokens none ts us v split h w = let is = worded ts v w in none is.0 is.1 (is.2 ++ us) (split ∙ ap (λ l. l ++ us) is.3)
+
+-- no command stands behind another word
+pub no_such_command : (tokens : List Lexeme) (k : Keyword) (at : Place) → is_command_word k ≡ false → NotFound (Behind k at) Always tokens
+no_such_command tokens k at other ts us v split h w = no_command k at ts v other w
+  where
+    no_command : (k : Keyword) (at : Place) (ts : List Lexeme) (v : CommandTree) → is_command_word k ≡ false → Behind k at ts v → ⊥
+    no_command words.Space at ts v e w = cc
+    no_command words.Newline at ts v e w = cc
+    no_command words.Eof at ts v e w = cc
+    no_command words.Int at ts v e w = cc
+    no_command words.String at ts v e w = cc
+    no_command words.Regex at ts v e w = cc
+    no_command words.Assert at ts v e w = cc
+    no_command words.Set at ts v e w = cc
+    no_command words.Unset at ts v e w = cc
+    no_command words.Rep at ts v e w = cc
+    no_command words.RepI at ts v e w = cc
+    no_command words.While at ts v e w = cc
+    no_command words.WhileI at ts v e w = cc
+    no_command words.If at ts v e w = cc
+    no_command _ at ts v e w = w
+
+-- a word of a command begins one
+pub begins_at : (tokens r : List Lexeme) (k : Keyword) (at : Place) → tokens ≡ keyword k at ∷ r → is_command_word k ≡ true → command_begins tokens ≡ true
+begins_at tokens r k at e word = ap command_begins e ∙ word
+
+-- the commands of one list and then of another
+abbrev pub joined : CommandList → CommandList → CommandList
+joined Tree.done b = b
+joined (Tree.then c rest) b = Tree.then c (joined rest b)
+
+joined_done : (a : CommandList) → joined a Tree.done ≡ a
+joined_done Tree.done = refl
+joined_done (Tree.then c rest) = ap (Tree.then c) (joined_done rest)
+
+joined_again : (a b c : CommandList) → joined (joined a b) c ≡ joined a (joined b c)
+joined_again Tree.done b c = refl
+joined_again (Tree.then x rest) b c = ap (Tree.then x) (joined_again rest b c)
+
+-- one more command at the end
+extend : (ts us : List Lexeme) (xs : CommandList) (c : CommandTree) → IsCommands ts xs → IsCommand us c → IsCommands (ts ++ us) (joined xs (Tree.then c Tree.done))
+extend ts us xs c Grammar.done w = subst (λ l. IsCommands l (Tree.then c Tree.done)) (append-nil us) (Grammar.then w Grammar.done)
+extend ts us xs c (Grammar.then {ts = vs} {us = ws} {c = d} {rest} i r) w = subst (λ l. IsCommands l (Tree.then d (joined rest (Tree.then c Tree.done)))) (sym (append_assoc vs ws us)) (Grammar.then i (extend ws us rest c r w))
+
+-- what is read of a list of commands: each reading of all the tokens begins with it
+pub record PartCommands (tokens : List Lexeme) (xs : CommandList) (rest : List Lexeme) : Type 0 where
+  pub front : List Lexeme
+  pub split : tokens ≡ front ++ rest
+  pub spells : IsCommands front xs
+  pub only : (ts us : List Lexeme) (u : CommandList) → tokens ≡ ts ++ us → CommandsEnd us → IsCommands ts u → (vs : List Lexeme) × (w : CommandList) × (rest ≡ vs ++ us) × IsCommands vs w × (u ≡ joined xs w)
+
+pub commands_start : (tokens : List Lexeme) → PartCommands tokens Tree.done tokens
+commands_start tokens = record { front = []; split = refl; spells = Grammar.done; only = λ ts us u split h w. (ts, u, split, w, refl) }
+
+-- commands where one begins are that one and further ones
+first_of : (rest vs us : List Lexeme) (w : CommandList) → command_begins rest ≡ true → rest ≡ vs ++ us → CommandsEnd us → IsCommands vs w → (ts ws : List Lexeme) × (c : CommandTree) × (more : CommandList) × (rest ≡ ts ++ (ws ++ us)) × IsCommand ts c × IsCommands ws more × (w ≡ Tree.then c more)
+first_of rest vs us w begins split ended Grammar.done = absurd (let clash : true ≡ false = sym begins ∙ ap command_begins split ∙ ended in cc)
+first_of rest vs us w begins split ended (Grammar.then {ts} {us = ws} {c} {rest = more} i r) = (ts, ws, c, more, split ∙ append_assoc ts ws us, i, r, refl)
+
+pub commands_next : (tokens rest after : List Lexeme) (xs : CommandList) (c : CommandTree) → PartCommands tokens xs rest → command_begins rest ≡ true → Found IsCommand Always rest c after → PartCommands tokens (joined xs (Tree.then c Tree.done)) after
+commands_next tokens rest after xs c part begins f = record {
+  front = part.front ++ f.front;
+  split = part.split ∙ ap (λ l. part.front ++ l) f.split ∙ sym (append_assoc part.front f.front after);
+  spells = extend part.front f.front xs c part.spells f.spells;
+  only = λ ts us u split h w.
+      let p = part.only ts us u split h w in
+      let q = first_of rest p.0 us p.1 begins p.2 h p.3 in
+      let same = f.only q.0 (q.1 ++ us) q.2 q.4 tt q.5 in
+      (q.1, q.3, sym same.1, q.6, p.4 ∙ ap (joined xs) (q.7 ∙ ap (λ x. Tree.then x q.3) same.0) ∙ sym (joined_again xs (Tree.then c Tree.done) q.3));
+}
+
+pub commands_no_next : (tokens rest : List Lexeme) (xs : CommandList) → PartCommands tokens xs rest → command_begins rest ≡ true → NotFound IsCommand Always rest → NotFound IsCommands CommandsEnd tokens
+commands_no_next tokens rest xs part begins not ts us u split h w =
+    let p = part.only ts us u split h w in
+    let q = first_of rest p.0 us p.1 begins p.2 h p.3 in
+    not q.0 (q.1 ++ us) q.2 q.4 tt q.5
+
+-- a command begins with the word of one
+command_heads : (ts us : List Lexeme) (c : CommandTree) → IsCommand ts c → command_begins (ts ++ us) ≡ true
+command_heads ts us c w = let is = worded ts c w in ap (λ l. command_begins (l ++ us)) is.3 ∙ is.4
+
+-- where none begins there are none
+no_first : (rest vs us : List Lexeme) (w : CommandList) → command_begins rest ≡ false → rest ≡ vs ++ us → IsCommands vs w → (vs ≡ []) × (w ≡ Tree.done)
+no_first rest vs us w none split Grammar.done = (refl, refl)
+no_first rest vs us w none split (Grammar.then {ts} {us = ws} {c} i r) = absurd (let clash : false ≡ true = sym none ∙ ap command_begins (split ∙ append_assoc ts ws us) ∙ command_heads ts (ws ++ us) c i in cc)
+
+pub commands_end : (tokens rest : List Lexeme) (xs : CommandList) → PartCommands tokens xs rest → command_begins rest ≡ false → Found IsCommands CommandsEnd tokens xs rest
+commands_end tokens rest xs part none = record {
+  front = part.front;
+  split = part.split;
+  spells = part.spells;
+  only = λ ts us u split h w.
+      let p = part.only ts us u split h w in
+      let n = no_first rest p.0 us p.1 none p.2 p.3 in
+      (p.4 ∙ ap (joined xs) n.1 ∙ joined_done xs, sym (p.2 ∙ ap (λ l. l ++ us) n.0));
+}
+
+-- the end of a loop without a separator
+pub loop_end_plain : (tokens r after : List Lexeme) (body : CommandList) → tokens ≡ mark Close ∷ r → Found IsBlock Always r body after → Found IsLoopEnd Always tokens (Tree.nothing, body) after
+loop_end_plain tokens r after body e f = record {
+  front = mark Close ∷ f.front;
+  split = e ∙ ap (λ l. mark Close ∷ l) f.split;
+  spells = inl (refl, (f.front, refl, f.spells));
+  only = λ ts us u split h w. plain_only ts us u (sym e ∙ split) w;
+}
+  where
+    plain_only : (ts us : List Lexeme) (u : Separator × CommandList) → mark Close ∷ r ≡ ts ++ us → IsLoopEnd ts u → (u ≡ (Tree.nothing, body)) × (us ≡ after)
+    plain_only ts us u split (inl (none, (vs, is, i))) =
+        let whole : mark Close ∷ r ≡ mark Close ∷ (vs ++ us) = split ∙ ap (λ l. l ++ us) is in
+        let tail : r ≡ vs ++ us = cc in
+        let same = f.only vs us u.1 tail tt i in
+        (ap (λ x. (x, u.1)) none ∙ ap (λ x. (Tree.nothing, x)) same.0, same.1)
+    plain_only ts us u split (inr (c, some, (vs, is, i))) = absurd (let clash : mark Close ∷ r ≡ mark Comma ∷ (vs ++ us) = split ∙ ap (λ l. l ++ us) is in cc)
+
+pub loop_end_no_block : (tokens r : List Lexeme) → tokens ≡ mark Close ∷ r → NotFound IsBlock Always r → NotFound IsLoopEnd Always tokens
+loop_end_no_block tokens r e not ts us u split h w = plain_none ts us u (sym e ∙ split) w
+  where
+    plain_none : (ts us : List Lexeme) (u : Separator × CommandList) → mark Close ∷ r ≡ ts ++ us → IsLoopEnd ts u → ⊥
+    plain_none ts us u split (inl (none, (vs, is, i))) =
+        let whole : mark Close ∷ r ≡ mark Close ∷ (vs ++ us) = split ∙ ap (λ l. l ++ us) is in
+        let tail : r ≡ vs ++ us = cc in
+        not vs us u.1 tail tt i
+    plain_none ts us u split (inr (c, some, (vs, is, i))) = let clash : mark Close ∷ r ≡ mark Comma ∷ (vs ++ us) = split ∙ ap (λ l. l ++ us) is in cc
+
+-- a separator and a block
+abbrev pub IsSeparated : Spelling (CommandTree × CommandList)
+IsSeparated = IsPair (IsBefore Close IsCommand) IsBlock
+
+-- the end of a loop with one
+pub loop_end_separated : (tokens r after : List Lexeme) (c : CommandTree) (body : CommandList) → tokens ≡ mark Comma ∷ r → Found IsSeparated Always r (c, body) after → Found IsLoopEnd Always tokens (Tree.between c, body) after
+loop_end_separated tokens r after c body e f = record {
+  front = mark Comma ∷ f.front;
+  split = e ∙ ap (λ l. mark Comma ∷ l) f.split;
+  spells = inr (c, refl, (f.front, refl, f.spells));
+  only = λ ts us u split h w. separated_only ts us u (sym e ∙ split) w;
+}
+  where
+    separated_only : (ts us : List Lexeme) (u : Separator × CommandList) → mark Comma ∷ r ≡ ts ++ us → IsLoopEnd ts u → (u ≡ (Tree.between c, body)) × (us ≡ after)
+    separated_only ts us u split (inl (none, (vs, is, i))) = absurd (let clash : mark Comma ∷ r ≡ mark Close ∷ (vs ++ us) = split ∙ ap (λ l. l ++ us) is in cc)
+    separated_only ts us u split (inr (d, some, (vs, is, i))) =
+        let whole : mark Comma ∷ r ≡ mark Comma ∷ (vs ++ us) = split ∙ ap (λ l. l ++ us) is in
+        let tail : r ≡ vs ++ us = cc in
+        let same = f.only vs us (d, u.1) tail tt i in
+        (ap (λ x. (x, u.1)) some ∙ ap (λ x. (Tree.between x.0, x.1)) same.0, same.1)
+
+pub loop_end_no_separated : (tokens r : List Lexeme) → tokens ≡ mark Comma ∷ r → NotFound IsSeparated Always r → NotFound IsLoopEnd Always tokens
+loop_end_no_separated tokens r e not ts us u split h w = separated_none ts us u (sym e ∙ split) w
+  where
+    separated_none : (ts us : List Lexeme) (u : Separator × CommandList) → mark Comma ∷ r ≡ ts ++ us → IsLoopEnd ts u → ⊥
+    separated_none ts us u split (inl (none, (vs, is, i))) = let clash : mark Comma ∷ r ≡ mark Close ∷ (vs ++ us) = split ∙ ap (λ l. l ++ us) is in cc
+    separated_none ts us u split (inr (d, some, (vs, is, i))) =
+        let whole : mark Comma ∷ r ≡ mark Comma ∷ (vs ++ us) = split ∙ ap (λ l. l ++ us) is in
+        let tail : r ≡ vs ++ us = cc in
+        not vs us (d, u.1) tail tt i
+
+pub no_loop_end : (tokens : List Lexeme) → ((r : List Lexeme) → tokens ≡ mark Close ∷ r → ⊥) → ((r : List Lexeme) → tokens ≡ mark Comma ∷ r → ⊥) → NotFound IsLoopEnd Always tokens
+no_loop_end tokens no_close no_comma ts us u split h w = neither w
+  where
+    neither : IsLoopEnd ts u → ⊥
+    neither (inl (none, (vs, is, i))) = no_close (vs ++ us) (split ∙ ap (λ l. l ++ us) is)
+    neither (inr (d, some, (vs, is, i))) = no_comma (vs ++ us) (split ∙ ap (λ l. l ++ us) is)
+
+-- the end of an IF
+pub branch_ended : (tokens r : List Lexeme) (at : Place) → tokens ≡ keyword words.End at ∷ r → Found IsBranchEnd Always tokens Tree.done r
+branch_ended tokens r at e = record {
+  front = keyword words.End at ∷ [];
+  split = e;
+  spells = inl (at, refl, refl);
+  only = λ ts us u split h w. ended_only ts us u (sym e ∙ split) w;
+}
+  where
+    ended_only : (ts us : List Lexeme) (u : CommandList) → keyword words.End at ∷ r ≡ ts ++ us → IsBranchEnd ts u → (u ≡ Tree.done) × (us ≡ r)
+    ended_only ts us u split (inl (place, is, tree)) =
+        let whole : keyword words.End at ∷ r ≡ keyword words.End place ∷ us = split ∙ ap (λ l. l ++ us) is in
+        let tail : us ≡ r = cc in
+        (tree, tail)
+    ended_only ts us u split (inr (place, vs, is, i)) = absurd (let clash : keyword words.End at ∷ r ≡ keyword words.Else place ∷ (vs ++ us) = split ∙ ap (λ l. l ++ us) is in cc)
+
+pub branch_goes_on : (tokens r : List Lexeme) (at : Place) → tokens ≡ keyword words.Else at ∷ r → (body : CommandList) (after : List Lexeme) → Found IsBlock Always r body after → Found IsBranchEnd Always tokens body after
+branch_goes_on tokens r at e body after f = record {
+  front = keyword words.Else at ∷ f.front;
+  split = e ∙ ap (λ l. keyword words.Else at ∷ l) f.split;
+  spells = inr (at, f.front, refl, f.spells);
+  only = λ ts us u split h w. block_only ts us u (sym e ∙ split) w;
+}
+  where
+    block_only : (ts us : List Lexeme) (u : CommandList) → keyword words.Else at ∷ r ≡ ts ++ us → IsBranchEnd ts u → (u ≡ body) × (us ≡ after)
+    block_only ts us u split (inl (place, is, tree)) = absurd (let clash : keyword words.Else at ∷ r ≡ keyword words.End place ∷ us = split ∙ ap (λ l. l ++ us) is in cc)
+    block_only ts us u split (inr (place, vs, is, i)) =
+        let whole : keyword words.Else at ∷ r ≡ keyword words.Else place ∷ (vs ++ us) = split ∙ ap (λ l. l ++ us) is in
+        let tail : r ≡ vs ++ us = cc in
+        f.only vs us u tail tt i
+
+pub branch_no_block : (tokens r : List Lexeme) (at : Place) → tokens ≡ keyword words.Else at ∷ r → NotFound IsBlock Always r → NotFound IsBranchEnd Always tokens
+branch_no_block tokens r at e not ts us u split h w = block_none ts us u (sym e ∙ split) w
+  where
+    block_none : (ts us : List Lexeme) (u : CommandList) → keyword words.Else at ∷ r ≡ ts ++ us → IsBranchEnd ts u → ⊥
+    block_none ts us u split (inl (place, is, tree)) = let clash : keyword words.Else at ∷ r ≡ keyword words.End place ∷ us = split ∙ ap (λ l. l ++ us) is in cc
+    block_none ts us u split (inr (place, vs, is, i)) =
+        let whole : keyword words.Else at ∷ r ≡ keyword words.Else place ∷ (vs ++ us) = split ∙ ap (λ l. l ++ us) is in
+        let tail : r ≡ vs ++ us = cc in
+        not vs us u tail tt i
+
+pub no_branch_end : (tokens : List Lexeme) → ((at : Place) (r : List Lexeme) → tokens ≡ keyword words.End at ∷ r → ⊥) → ((at : Place) (r : List Lexeme) → tokens ≡ keyword words.Else at ∷ r → ⊥) → NotFound IsBranchEnd Always tokens
+no_branch_end tokens no_end no_else ts us u split h w = neither w
+  where
+    neither : IsBranchEnd ts u → ⊥
+    neither (inl (place, is, tree)) = no_end place us (split ∙ ap (λ l. l ++ us) is)
+    neither (inr (place, vs, is, i)) = no_else place (vs ++ us) (split ∙ ap (λ l. l ++ us) is)

@@ -1,0 +1,73 @@
+-- What reading the commands of a whole text says of the text.
+use Rattle.std.proofs.Common.{◌≡◌, ◌<◌, ◌≤◌, ℕ, List, [], ◌∷◌, ◌++◌, length, Option, Some, None, Bool, true, false, refl, sym, ap, ◌∙◌, subst, append-nil, arith, eqb-true}
+use Rattle.std.specs.Prelude.{map, IsSome, ◌==◌}
+use Rattle.ctd_syntax.specs.Lexeme.{Lexeme}
+use Rattle.ctd_syntax.specs.Tree.{CommandList, list_blocks}
+use Rattle.ctd_syntax.specs.Front.{Found, NotFound}
+use Rattle.ctd_syntax.specs.Grammar.{IsCommands}
+use Rattle.ctd_syntax.specs.CommandWords.{CommandsEnd}
+use Rattle.ctd_syntax.specs.Nesting.{start, too_deep}
+use Rattle.ctd_syntax.specs.Reading.{IsCut, IsNoProgram, IsFault, Parses, Reads, Spells, lexemes}
+use Rattle.ctd_syntax.specs.Lexing.{IsLexFault}
+use Rattle.ctd_syntax.specs.declared.text.Place.{Place}
+use Rattle.ctd_syntax.specs.declared.token.Token.{Token}
+use Rattle.ctd_syntax.specs.declared.fault.LoadKind.{LoadKind}
+use Rattle.ctd_syntax.specs.declared.fault.LoadKind.TheVariants.{ProgramTooLong, BadByte, UnfinishedString, BadOctal, NumberTooLarge, NotInProfile, TooDeep, Syntax, BadPattern, Read, Memory}
+use Rattle.ctd_syntax.proofs.OneCut.{same_cut}
+use Rattle.ctd_syntax.proofs.Blocks.{blocks_within}
+
+-- the commands that end with the text are the one program there
+pub parsed : (program : List ℕ) (ts : List Token) (tree : CommandList) (after : List Lexeme) → IsCut program ts → too_deep start (lexemes program ts) ≡ None → Found IsCommands CommandsEnd (lexemes program ts) tree after → after ≡ [] → Parses program tree
+parsed program ts tree after cut shallow f none =
+    let whole : f.front ≡ lexemes program ts = sym (f.split ∙ ap (λ l. f.front ++ l) none ∙ append-nil f.front) in
+    let spells : Spells program ts tree = subst (λ l. IsCommands l tree) whole f.spells in
+    record {
+      reads = record { tokens = ts; is_cut = cut; shallow = shallow; spells = spells };
+      only = λ other r.
+          let same : r.tokens ≡ ts = same_cut program 0 program r.tokens ts r.is_cut.cut cut.cut in
+          let again : Spells program ts other = subst (λ l. Spells program l other) same r.spells in
+          (f.only (lexemes program ts) [] other (sym (append-nil (lexemes program ts))) refl again).0;
+      blocks = blocks_within (lexemes program ts) tree spells shallow;
+    }
+
+-- where something is left, there is none
+pub left_over : (program : List ℕ) (ts : List Token) (tree : CommandList) (t : Lexeme) (after rest : List Lexeme) → Found IsCommands CommandsEnd (lexemes program ts) tree after → after ≡ t ∷ rest → (other : CommandList) → ¬ (Spells program ts other)
+left_over program ts tree t after rest f some other w =
+    let ended : [] ≡ after = (f.only (lexemes program ts) [] other (sym (append-nil (lexemes program ts))) refl w).1 in
+    let clash : [] ≡ t ∷ rest = ended ∙ some in
+    cc
+
+-- and where no commands are read
+pub unspelled : (program : List ℕ) (ts : List Token) → NotFound IsCommands CommandsEnd (lexemes program ts) → (other : CommandList) → ¬ (Spells program ts other)
+unspelled program ts not other w = not (lexemes program ts) [] other (sym (append-nil (lexemes program ts))) refl w
+
+-- a fault of a text's tokens is one of the text
+pub token_fault : (program : List ℕ) (kind : LoadKind) (place : Option Place) → IsLexFault program kind place → IsFault program kind place
+token_fault program ProgramTooLong place f = f
+token_fault program BadByte place f = f
+token_fault program UnfinishedString place f = f
+token_fault program BadOctal place f = f
+token_fault program NumberTooLarge place f = f
+token_fault program NotInProfile place f = f
+token_fault program TooDeep place f = absurd f
+token_fault program Syntax place f = absurd f
+token_fault program BadPattern place f = f
+token_fault program Read place f = f
+token_fault program Memory place f = f
+
+-- a text that spells no program has the fault Syntax, at some place
+pub no_program : (program : List ℕ) (ts : List Token) (kind : LoadKind) (place : Option Place) → IsCut program ts → too_deep start (lexemes program ts) ≡ None → ((tree : CommandList) → ¬ (Spells program ts tree)) → kind ≡ Syntax → IsSome place → IsFault program kind place
+no_program program ts kind place cut shallow none is some = subst (λ k. IsFault program k place) (sym is) (with_place place some)
+  where
+    with_place : (place : Option Place) → IsSome place → IsNoProgram program place
+    with_place None some = absurd (cc)
+    with_place (Some at) some = record { tokens = ts; is_cut = cut; shallow = shallow; none = none; some_place = at; place_is = refl }
+
+-- a list without elements, and one with some
+pub nothing : {X Y : Type 0} (f : X → Y) (xs : List X) → (length xs == 0) ≡ true → map f xs ≡ []
+nothing f [] e = refl
+nothing f (x ∷ xs) e = absurd (let same : length (x ∷ xs) ≡ 0 = eqb-true (length (x ∷ xs)) 0 e in omega (arith, same))
+
+pub something : {X Y : Type 0} (f : X → Y) (xs : List X) → (length xs == 0) ≡ false → (y : Y) × (ys : List Y) × (map f xs ≡ y ∷ ys)
+something f [] e = absurd (cc)
+something f (x ∷ xs) e = (f x, map f xs, refl)

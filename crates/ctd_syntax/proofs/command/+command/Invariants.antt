@@ -1,0 +1,60 @@
+use Rattle.std.proofs.Common.{◌≤◌, length, ◌+◌, ◌*◌}
+use Rattle.std.specs.Prelude.{map}
+use Rattle.ctd_syntax.specs.View.{command_trees}
+use Rattle.ctd_syntax.specs.Front.{piece}
+use Rattle.ctd_syntax.proofs.CommandReads.{PartCommands}
+use Rattle.ctd_syntax.proofs.command.+command.Given as goal
+
+abbrev pub decreases-command : goal.decreases-command
+decreases-command l = 8 * length l.pieces.now + 0
+
+abbrev pub decreases-rep : goal.decreases-rep
+decreases-rep l = 8 * length l.pieces.now + 2
+
+abbrev pub decreases-repi : goal.decreases-repi
+decreases-repi l = 8 * length l.pieces.now + 2
+
+abbrev pub decreases-repeat_while : goal.decreases-repeat_while
+decreases-repeat_while l = 8 * length l.pieces.now + 2
+
+abbrev pub decreases-whilei : goal.decreases-whilei
+decreases-whilei l = 8 * length l.pieces.now + 2
+
+abbrev pub decreases-choice : goal.decreases-choice
+decreases-choice l = 8 * length l.pieces.now + 2
+
+abbrev pub decreases-behind : goal.decreases-behind
+decreases-behind l = 8 * length l.pieces.now + 3
+
+abbrev pub decreases-separator_before : goal.decreases-separator_before
+decreases-separator_before l = 8 * length l.pieces.now + 2
+
+abbrev pub decreases-block : goal.decreases-block
+decreases-block l = 8 * length l.pieces.now + 5
+
+abbrev pub decreases-commands : goal.decreases-commands
+decreases-commands l = 8 * length l.pieces.now + 4
+
+abbrev pub decreases-branch_end : goal.decreases-branch_end
+decreases-branch_end l = 8 * length l.pieces.now + 2
+
+abbrev pub decreases-branches : goal.decreases-branches
+decreases-branches l = 8 * length l.pieces.now + 6
+
+abbrev pub decreases-loop_end : goal.decreases-loop_end
+decreases-loop_end l = 8 * length l.pieces.now + 2
+
+abbrev pub decreases-counted : goal.decreases-counted
+decreases-counted l = 8 * length l.pieces.now + 3
+
+abbrev pub decreases-tested : goal.decreases-tested
+decreases-tested l = 8 * length l.pieces.now + 3
+
+abbrev pub invariant-commands-loop-word : goal.invariant-commands-loop-word
+invariant-commands-loop-word l = record {
+  part : PartCommands (map piece l.fn.pieces) (command_trees l.items.items) (map piece l.rest);
+  shorter : length l.rest ≤ length l.fn.pieces;
+}
+
+abbrev pub decreases-commands-loop-word : goal.decreases-commands-loop-word
+decreases-commands-loop-word l = length l.rest

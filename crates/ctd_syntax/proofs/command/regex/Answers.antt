@@ -1,0 +1,14 @@
+use Rattle.std.specs.Prelude.{map}
+use Rattle.ctd_syntax.specs.Tree
+use Rattle.ctd_syntax.specs.Front.{Always, IsBefore, IsPair, piece}
+use Rattle.ctd_syntax.specs.Grammar.{IsExpr, IsTest, IsNames, IsAssignments, IsTargetEnd}
+use Rattle.ctd_syntax.specs.Levels.{ends}
+use Rattle.ctd_syntax.specs.CommandWords.{Behind, IsPattern}
+use Rattle.ctd_syntax.specs.declared.token.Mark.TheVariants.{Close, Comma}
+use Rattle.ctd_syntax.specs.declared.keyword.Keyword.TheVariants as words
+use Rattle.ctd_syntax.proofs.Fronts.{refused_exit, pair_reads, first_none, second_none}
+use Rattle.ctd_syntax.proofs.CommandReads.{opened_reads, opened_none, before_target_end, whatever, pattern_found}
+use Rattle.ctd_syntax.proofs.command.regex.Goals as goal
+
+pub returns-clause-tree : goal.returns-clause-tree
+returns-clause-tree c = rw (c.in_ok-pattern.ensures.equal, c.as_slice.ensures.whole) (opened_reads (λ x. Tree.regex c.args.place x.0.0 x.0.1 x.1) (IsPair IsPattern IsTargetEnd) Always (map piece c.args.pieces.now) (map piece c.in-Some.after.now) (map piece c.in_ok-target.rest.now) _ c.in-Some.ensures.found (pair_reads IsPattern IsTargetEnd Always Always (whatever IsTargetEnd) (map piece c.in-Some.after.now) (map piece c.in-Some-text_at.rest.now) (map piece c.in_ok-target.rest.now) _ _ (pattern_found (map piece c.in-Some.after.now) (map piece c.in-Some-text_at.rest.now) _ _ c.in-Some-text_at.ensures.found) c.in_ok-target.ensures.tree))

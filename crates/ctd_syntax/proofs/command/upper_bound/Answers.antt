@@ -1,0 +1,20 @@
+use Rattle.std.specs.Prelude.{map}
+use Rattle.ctd_syntax.specs.Tree
+use Rattle.ctd_syntax.specs.Front.{Always, IsBefore, IsPair, piece}
+use Rattle.ctd_syntax.specs.Grammar.{IsExpr, IsTest, IsNames, IsAssignments, IsTargetEnd}
+use Rattle.ctd_syntax.specs.Levels.{ends}
+use Rattle.ctd_syntax.specs.CommandWords.{Behind, IsPattern}
+use Rattle.ctd_syntax.specs.declared.token.Mark.TheVariants.{Close, Comma}
+use Rattle.ctd_syntax.specs.declared.keyword.Keyword.TheVariants as words
+use Rattle.ctd_syntax.proofs.Fronts.{refused_exit, pair_reads, first_none, second_none}
+use Rattle.ctd_syntax.proofs.CommandReads.{opened_reads, opened_none, before_target_end, whatever, pattern_found}
+use Rattle.ctd_syntax.proofs.command.upper_bound.Goals as goal
+
+pub returns-in_err-high-clause-tree : goal.returns-in_err-high-clause-tree
+returns-in_err-high-clause-tree c = refused_exit IsExpr (IsPair IsExpr IsTargetEnd) (ends 1) Always _ (map piece c.args.pieces.now) (map piece c.args.pieces.now) _ c.from_residual.result c.from_residual.ensures.1 (first_none IsExpr IsTargetEnd (ends 1) Always before_target_end (map piece c.args.pieces.now)) c.in_err-high.ensures.tree
+
+pub returns-in_err-target-clause-tree : goal.returns-in_err-target-clause-tree
+returns-in_err-target-clause-tree c = refused_exit IsTargetEnd (IsPair IsExpr IsTargetEnd) Always Always _ (map piece c.in_ok-high.rest.now) (map piece c.args.pieces.now) _ c.from_residual-in_err-target.result c.from_residual-in_err-target.ensures.1 (second_none IsExpr IsTargetEnd (ends 1) Always before_target_end (map piece c.args.pieces.now) (map piece c.in_ok-high.rest.now) _ c.in_ok-high.ensures.tree) c.in_err-target.ensures.tree
+
+pub returns-clause-tree : goal.returns-clause-tree
+returns-clause-tree c = pair_reads IsExpr IsTargetEnd (ends 1) Always before_target_end (map piece c.args.pieces.now) (map piece c.in_ok-high.rest.now) (map piece c.in_ok-target.rest.now) _ _ c.in_ok-high.ensures.tree c.in_ok-target.ensures.tree

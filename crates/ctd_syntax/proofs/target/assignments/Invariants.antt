@@ -1,0 +1,16 @@
+use Rattle.std.proofs.Common.{◌≤◌, length}
+use Rattle.std.specs.Prelude.{map}
+use Rattle.ctd_syntax.specs.Front.{piece, IsAssignment}
+use Rattle.ctd_syntax.specs.View.{assignment}
+use Rattle.ctd_syntax.specs.declared.token.Mark.TheVariants.{Close}
+use Rattle.ctd_syntax.proofs.Rows.{PartRow}
+use Rattle.ctd_syntax.proofs.target.assignments.Given as goal
+
+abbrev pub invariant-loop-after : goal.invariant-loop-after
+invariant-loop-after l = record {
+  partly : PartRow IsAssignment Close (map piece l.pieces) (map assignment l.items.items) (map piece l.rest);
+  shorter : length l.rest ≤ length l.pieces;
+}
+
+abbrev pub decreases-loop-after : goal.decreases-loop-after
+decreases-loop-after l = length l.rest

@@ -1,0 +1,82 @@
+-- Commands by their words; for the contracts of private functions alone.
+use Rattle.std.specs.Prelude.{◌≡◌, ◌⊎◌, ℕ, Bool, true, false, List, [], ◌∷◌, ◌++◌, Option}
+use Rattle.ctd_syntax.specs.declared.text.Place.{Place}
+use Rattle.ctd_syntax.specs.declared.token.Mark.TheVariants.{Open, Close, Comma}
+use Rattle.ctd_syntax.specs.declared.keyword.Keyword.{Keyword}
+use Rattle.ctd_syntax.specs.declared.keyword.Keyword.TheVariants as words
+use Rattle.ctd_syntax.specs.Lexeme
+use Rattle.ctd_syntax.specs.Lexeme.{Lexeme, keyword}
+use Rattle.ctd_syntax.specs.Tree
+use Rattle.ctd_syntax.specs.Tree.{ExprTree, VarTree, TestTree, CommandTree, CommandList, Separator}
+use Rattle.ctd_syntax.specs.Grammar.{IsExpr, IsNames, IsTest, IsTarget, IsTargetEnd, IsAssignments, IsCommand, IsCommands}
+use Rattle.ctd_syntax.specs.Front.{Spelling, Following, IsBefore, IsBeforeWord, IsAfter, IsBuilt, IsPair}
+
+-- whether a word begins a command
+abbrev pub is_command_word : Keyword → Bool
+is_command_word words.Space = true
+is_command_word words.Newline = true
+is_command_word words.Eof = true
+is_command_word words.Int = true
+is_command_word words.String = true
+is_command_word words.Regex = true
+is_command_word words.Assert = true
+is_command_word words.Set = true
+is_command_word words.Unset = true
+is_command_word words.Rep = true
+is_command_word words.RepI = true
+is_command_word words.While = true
+is_command_word words.WhileI = true
+is_command_word words.If = true
+is_command_word _ = false
+
+-- whether a token does
+abbrev pub begins_command : Lexeme → Bool
+begins_command (keyword k at) = is_command_word k
+begins_command _ = false
+
+-- whether the first of some tokens does
+abbrev pub command_begins : List Lexeme → Bool
+command_begins [] = false
+command_begins (t ∷ ts) = begins_command t
+
+-- a list of commands ends where no further one begins
+abbrev pub CommandsEnd : Following
+CommandsEnd ts = command_begins ts ≡ false
+
+-- a string with its place
+abbrev pub IsPattern : Spelling (List ℕ × Place)
+IsPattern ts x = ts ≡ Lexeme.text x.0 x.1 ∷ []
+
+-- the commands of a block, and its END
+abbrev pub IsBlock : Spelling CommandList
+IsBlock = IsBeforeWord words.End IsCommands
+
+-- how a loop ends: `)` and its block; or a comma, the separator, `)` and its block
+abbrev pub IsLoopEnd : Spelling (Separator × CommandList)
+IsLoopEnd ts x =
+    ((x.0 ≡ Tree.nothing) × IsAfter Close IsBlock ts x.1)
+    ⊎ ((c : CommandTree) × (x.0 ≡ Tree.between c) × IsAfter Comma (IsPair (IsBefore Close IsCommand) IsBlock) ts (c, x.1))
+
+-- how an IF ends, once its first commands are read: END; or ELSE and a block
+abbrev pub IsBranchEnd : Spelling CommandList
+IsBranchEnd ts b =
+    ((at : Place) × (ts ≡ keyword words.End at ∷ []) × (b ≡ Tree.done))
+    ⊎ ((at : Place) × (us : List Lexeme) × (ts ≡ keyword words.Else at ∷ us) × IsBlock us b)
+
+-- what stands behind the word of a command that has this place
+abbrev pub Behind : Keyword → Place → Spelling CommandTree
+Behind words.Space at ts u = (ts ≡ []) × (u ≡ Tree.space at)
+Behind words.Newline at ts u = (ts ≡ []) × (u ≡ Tree.newline at)
+Behind words.Eof at ts u = (ts ≡ []) × (u ≡ Tree.eof at)
+Behind words.Int at ts u = IsBuilt (λ x. Tree.int at x.0 x.1.0 x.1.1) (IsAfter Open (IsPair (IsBefore Comma IsExpr) (IsPair IsExpr IsTargetEnd))) ts u
+Behind words.String at ts u = IsBuilt (Tree.string at) (IsAfter Open (IsBefore Close IsExpr)) ts u
+Behind words.Regex at ts u = IsBuilt (λ x. Tree.regex at x.0.0 x.0.1 x.1) (IsAfter Open (IsPair IsPattern IsTargetEnd)) ts u
+Behind words.Assert at ts u = IsBuilt (Tree.assert at) (IsAfter Open (IsBefore Close IsTest)) ts u
+Behind words.Set at ts u = IsBuilt (Tree.set at) (IsAfter Open (IsBefore Close IsAssignments)) ts u
+Behind words.Unset at ts u = IsBuilt (Tree.unset at) (IsAfter Open (IsBefore Close IsNames)) ts u
+Behind words.Rep at ts u = IsBuilt (λ x. Tree.rep at x.0 x.1.0 x.1.1) (IsAfter Open (IsPair IsExpr IsLoopEnd)) ts u
+Behind words.RepI at ts u = IsBuilt (λ x. Tree.repi at x.0 x.1.0 x.1.1.0 x.1.1.1) (IsAfter Open (IsPair (IsBefore Comma IsTarget) (IsPair IsExpr IsLoopEnd))) ts u
+Behind words.While at ts u = IsBuilt (λ x. Tree.while at x.0 x.1.0 x.1.1) (IsAfter Open (IsPair IsTest IsLoopEnd)) ts u
+Behind words.WhileI at ts u = IsBuilt (λ x. Tree.whilei at x.0 x.1.0 x.1.1.0 x.1.1.1) (IsAfter Open (IsPair (IsBefore Comma IsTarget) (IsPair IsTest IsLoopEnd))) ts u
+Behind words.If at ts u = IsBuilt (λ x. Tree.choice at x.0 x.1.0 x.1.1) (IsAfter Open (IsPair (IsBefore Close IsTest) (IsPair IsCommands IsBranchEnd))) ts u
+Behind _ at ts u = ⊥

@@ -1,0 +1,97 @@
+-- What reading from the front of a list of tokens gives; for the contracts of private functions alone.
+use Rattle.std.specs.Prelude.{◌≡◌, ℕ, List, [], ◌∷◌, ◌++◌, Option, Some, None, Result, Ok, Err}
+use Rattle.ctd_syntax.specs.declared.piece.Piece.{Piece}
+use Rattle.ctd_syntax.specs.declared.piece.Piece.TheVariants as pieces
+use Rattle.ctd_syntax.specs.declared.front.Refusal.{Refusal}
+use Rattle.ctd_syntax.specs.declared.front.Refusal.TheVariants.{Syntax, Memory}
+use Rattle.ctd_syntax.specs.declared.keyword.Keyword.{Keyword}
+use Rattle.ctd_syntax.specs.declared.text.Place.{Place}
+use Rattle.ctd_syntax.specs.declared.token.Mark.{Mark}
+use Rattle.ctd_syntax.specs.declared.token.Mark.TheVariants.{Assign}
+use Rattle.ctd_syntax.specs.Tree.{ExprTree, VarTree}
+use Rattle.ctd_syntax.specs.Grammar.{IsExpr, IsTarget}
+use Rattle.ctd_syntax.specs.Lexeme.{Lexeme, mark}
+
+-- what the grammar sees of a piece
+abbrev pub piece : Piece → Lexeme
+piece (pieces.Keyword k place) = Lexeme.keyword k place
+piece (pieces.Name n) = Lexeme.name n.now
+piece (pieces.Numeral n) = Lexeme.numeral n
+piece (pieces.Text t place) = Lexeme.text t.now place
+piece (pieces.Mark m) = Lexeme.mark m
+
+-- which tokens spell which trees
+abbrev pub Spelling : Type 0 → Type 1
+Spelling T = List Lexeme → T → Type 0
+
+-- which tokens may follow
+abbrev pub Following : Type 1
+Following = List Lexeme → Type 0
+
+-- whatever follows
+abbrev pub Always : Following
+Always ts = Unit {0}
+
+-- t is the one tree at the front of the tokens, up to those after it
+pub record Found {T : Type 0} (Spells : Spelling T) (Ends : Following) (tokens : List Lexeme) (t : T) (after : List Lexeme) : Type 0 where
+  pub front : List Lexeme
+  pub split : tokens ≡ front ++ after
+  pub spells : Spells front t
+  pub only : (ts us : List Lexeme) (u : T) → tokens ≡ ts ++ us → Ends us → Spells ts u → (u ≡ t) × (us ≡ after)
+
+-- no tree is at the front of the tokens
+abbrev pub NotFound : {T : Type 0} → Spelling T → Following → List Lexeme → Type 0
+NotFound {T} Spells Ends tokens = (ts us : List Lexeme) (u : T) → tokens ≡ ts ++ us → Ends us → Spells ts u → ⊥
+
+-- a refusal other than for memory says that there is none
+abbrev pub Refused : {T : Type 0} → Spelling T → Following → Refusal → List Lexeme → Type 0
+Refused Spells Ends Memory tokens = Unit {0}
+Refused Spells Ends (Syntax left) tokens = NotFound Spells Ends tokens
+
+-- a tree that is read is the one there
+abbrev pub Reads : {X T : Type 0} → Spelling T → Following → (X → T × List Lexeme) → Result X Refusal → List Lexeme → Type 0
+Reads Spells Ends view (Ok x) tokens = Found Spells Ends tokens (view x).0 (view x).1
+Reads Spells Ends view (Err e) tokens = Refused Spells Ends e tokens
+
+-- an operator, and the tokens after it
+abbrev pub after_operator : {O : Type 0} → Option O → List Lexeme → Option (O × List Lexeme)
+after_operator None ts = None
+after_operator (Some op) ts = Some (op, ts)
+
+-- the operator at the front, and the tokens after it
+abbrev pub operator_at : {O : Type 0} → (Lexeme → Option O) → List Lexeme → Option (O × List Lexeme)
+operator_at op [] = None
+operator_at op (t ∷ ts) = after_operator (op t) ts
+
+-- the operator that the tokens start with, or none
+abbrev pub StartsWith : {O R : Type 0} → (Lexeme → Option O) → (R → List Lexeme) → Option (O × R) → List Lexeme → Type 0
+StartsWith op view None tokens = operator_at op tokens ≡ None
+StartsWith op view (Some x) tokens = operator_at op tokens ≡ Some (x.0, view x.1)
+
+-- a tree and a mark behind it
+abbrev pub IsBefore : {T : Type 0} → Mark → Spelling T → Spelling T
+IsBefore end_mark Spells vs a = (ts : List Lexeme) × (vs ≡ ts ++ mark end_mark ∷ []) × Spells ts a
+
+-- a mark and a tree behind it
+abbrev pub IsAfter : {T : Type 0} → Mark → Spelling T → Spelling T
+IsAfter first Spells vs a = (ts : List Lexeme) × (vs ≡ mark first ∷ ts) × Spells ts a
+
+-- one tree and then another
+abbrev pub IsPair : {T U : Type 0} → Spelling T → Spelling U → Spelling (T × U)
+IsPair A B ts x = (us : List Lexeme) × (vs : List Lexeme) × (ts ≡ us ++ vs) × A us x.0 × B vs x.1
+
+-- a tree that is built of others
+abbrev pub IsBuilt : {T U : Type 0} → (T → U) → Spelling T → Spelling U
+IsBuilt {T} f A ts u = (x : T) × (u ≡ f x) × A ts x
+
+-- a tree and a word behind it
+abbrev pub IsBeforeWord : {T : Type 0} → Keyword → Spelling T → Spelling T
+IsBeforeWord k A vs a = (ts : List Lexeme) × (at : Place) × (vs ≡ ts ++ Lexeme.keyword k at ∷ []) × A ts a
+
+-- one name
+abbrev pub IsName : Spelling (List ℕ)
+IsName ts n = ts ≡ Lexeme.name n ∷ []
+
+-- a variable, `=` and its value
+abbrev pub IsAssignment : Spelling (VarTree × ExprTree)
+IsAssignment = IsPair (IsBefore Assign IsTarget) IsExpr

@@ -1,0 +1,61 @@
+-- How deep the tokens of a program nest, counted before the grammar is asked.
+use Rattle.std.specs.Prelude.{ℕ, ◌+◌, List, [], ◌∷◌, length, sum, Option, Some, None, option_map, nat_lt, if◌then◌else◌}
+use Rattle.ctd_syntax.specs.declared.token.Mark.{Mark}
+use Rattle.ctd_syntax.specs.declared.token.Mark.TheVariants.{Open, Close, OpenIndex, CloseIndex, Comma, Assign}
+use Rattle.ctd_syntax.specs.declared.keyword.Keyword.{Keyword}
+use Rattle.ctd_syntax.specs.declared.keyword.Keyword.TheVariants.{Rep, RepI, While, WhileI, If, Else, End}
+use Rattle.ctd_syntax.specs.declared.nesting.Change.{Change}
+use Rattle.ctd_syntax.specs.declared.nesting.Change.TheVariants.{Opens, Closes, Restarts, Grows, Keeps}
+use Rattle.ctd_syntax.specs.declared.limits.TheConstants.{NESTING_LIMIT}
+use Rattle.ctd_syntax.specs.Lexeme.{Lexeme, mark, keyword}
+
+-- every mark but brackets, comma and `=` is an operator
+abbrev pub mark_change : Mark → Change
+mark_change Open = Opens
+mark_change OpenIndex = Opens
+mark_change Close = Closes
+mark_change CloseIndex = Closes
+mark_change Comma = Restarts
+mark_change Assign = Keeps
+mark_change _ = Grows
+
+-- loops and IF open, ELSE restarts, END closes
+abbrev pub word_change : Keyword → Change
+word_change Rep = Opens
+word_change RepI = Opens
+word_change While = Opens
+word_change WhileI = Opens
+word_change If = Opens
+word_change Else = Restarts
+word_change End = Closes
+word_change _ = Keeps
+
+-- names, numbers and strings change nothing
+abbrev pub change_of : Lexeme → Change
+change_of (mark m) = mark_change m
+change_of (keyword k place) = word_change k
+change_of _ = Keeps
+
+-- the innermost counter, and the others from the inside out
+abbrev pub step : Change → ℕ × List ℕ → ℕ × List ℕ
+step Opens (c, cs) = (0, c ∷ cs)
+step Closes (c, []) = (c, [])
+step Closes (c, d ∷ cs) = (d, cs)
+step Restarts (c, cs) = (0, cs)
+step Grows (c, cs) = (c + 1, cs)
+step Keeps (c, cs) = (c, cs)
+
+-- one counter, 0
+abbrev pub start : ℕ × List ℕ
+start = (0, [])
+
+-- the sum of the counters and their number less 1
+abbrev pub weight : ℕ × List ℕ → ℕ
+weight (c, cs) = c + sum cs + length cs
+
+-- how many tokens stand before the first after which the weight passes the limit
+abbrev pub too_deep : ℕ × List ℕ → List Lexeme → Option ℕ
+too_deep counters [] = None
+too_deep counters (t ∷ ts) =
+    if nat_lt NESTING_LIMIT (weight (step (change_of t) counters)) then Some 0
+    else option_map (λ n. n + 1) (too_deep (step (change_of t) counters) ts)

@@ -1,0 +1,31 @@
+-- Which texts spell which presets.
+use Rattle.std.specs.Prelude.{◌≡◌, ℕ, ℤ, List, [], ◌∷◌, ◌++◌, length, neg_ℤ, Ok}
+use Rattle.ctd_syntax.specs.declared.preset.Literal.{Literal}
+use Rattle.ctd_syntax.specs.declared.preset.Literal.TheVariants as literals
+use Rattle.ctd_syntax.specs.declared.preset.Preset.{Preset}
+use Rattle.ctd_syntax.specs.declared.token.TokenKind.{TokenKind}
+use Rattle.ctd_syntax.specs.declared.token.TokenKind.TheVariants as tokens
+use Rattle.ctd_syntax.specs.Cut.{token_at}
+
+-- the whole text is this token
+abbrev pub IsToken : List ℕ → TokenKind → Type 0
+IsToken text t = token_at text ≡ Ok (t, length text)
+
+-- a numeral, a minus and a numeral, or a string
+pub data IsLiteral : List ℕ → Literal → Type 0 where
+  number : {text : List ℕ} {n : ℤ} → IsToken text (tokens.Numeral n) → IsLiteral text (literals.Int n)
+  negative : {text : List ℕ} {n : ℤ} → IsToken text (tokens.Numeral n) → IsLiteral (45 ∷ text) (literals.Int (neg_ℤ n))
+  string : {text values : List ℕ} → IsToken text (tokens.Text values) → IsLiteral text (literals.Text values)
+
+-- name=value, without blanks
+pub data IsPreset : List ℕ → Preset → Type 0 where
+  preset : (name value : List ℕ) {v : Literal} → IsToken name tokens.Name → IsLiteral value v → IsPreset (name ++ 61 ∷ value) (record { name = name; value = v })
+
+-- one item or more, with a comma between each two
+pub data AreSeparated {T : Type 0} (Item : List ℕ → T → Type 0) : List ℕ → List T → Type 0 where
+  one : {text : List ℕ} {x : T} → Item text x → AreSeparated Item text (x ∷ [])
+  more : (text rest : List ℕ) {x : T} {xs : List T} → Item text x → AreSeparated Item rest xs → AreSeparated Item (text ++ 44 ∷ rest) (x ∷ xs)
+
+-- one preset or more
+abbrev pub ArePresets : List ℕ → List Preset → Type 0
+ArePresets text ps = AreSeparated IsPreset text ps

@@ -1,0 +1,75 @@
+-- What reading the text of a program gives.
+use Rattle.std.specs.Prelude.{◌≡◌, ◌<◌, ◌≤◌, ℕ, List, length, map, slice_get, option_map, Option, Some, None}
+use Rattle.ctd_syntax.specs.declared.text.Place.{Place}
+use Rattle.ctd_syntax.specs.declared.token.Token.{Token}
+use Rattle.ctd_syntax.specs.declared.fault.LoadKind.{LoadKind}
+use Rattle.ctd_syntax.specs.declared.fault.LoadKind.TheVariants.{ProgramTooLong, BadByte, UnfinishedString, BadOctal, NumberTooLarge, NotInProfile, TooDeep, Syntax, BadPattern, Read, Memory}
+use Rattle.ctd_syntax.specs.declared.limits.TheConstants.{NESTING_LIMIT, PROGRAM_LIMIT}
+use Rattle.ctd_syntax.specs.Lexing.{HasFault}
+use Rattle.ctd_syntax.specs.Lexeme.{Lexeme, lexeme_of}
+use Rattle.ctd_syntax.specs.Cut.{Cuts}
+use Rattle.ctd_syntax.specs.Nesting.{start, too_deep}
+use Rattle.ctd_syntax.specs.Grammar.{IsCommands}
+use Rattle.ctd_syntax.specs.Tree.{CommandList, list_blocks}
+
+-- the tokens of a program as the grammar sees them
+abbrev pub lexemes : List ℕ → List Token → List Lexeme
+lexemes program ts = map (lexeme_of program) ts
+
+-- the tokens spell this program
+abbrev pub Spells : List ℕ → List Token → CommandList → Type 0
+Spells program ts tree = IsCommands (lexemes program ts) tree
+
+-- the text is not too long, and is cut into these tokens
+pub record IsCut (program : List ℕ) (ts : List Token) : Type 0 where
+  pub short : length program ≤ PROGRAM_LIMIT
+  pub cut : Cuts program 0 program ts
+
+-- the text is cut, and its tokens do not nest too deeply and spell this program
+pub record Reads (program : List ℕ) (tree : CommandList) : Type 0 where
+  pub tokens : List Token
+  pub is_cut : IsCut program tokens
+  pub shallow : too_deep start (lexemes program tokens) ≡ None
+  pub spells : Spells program tokens tree
+
+-- the one program that a text spells; at most 200 blocks are open at any of its commands
+pub record Parses (program : List ℕ) (tree : CommandList) : Type 0 where
+  pub reads : Reads program tree
+  pub only : (other : CommandList) → Reads program other → other ≡ tree
+  pub blocks : list_blocks tree ≤ NESTING_LIMIT
+
+-- the weight passes its limit first after a token, which has the place
+pub record IsTooDeep (program : List ℕ) (place : Option Place) : Type 0 where
+  pub tokens : List Token
+  pub is_cut : IsCut program tokens
+  pub before : ℕ
+  pub deep : too_deep start (lexemes program tokens) ≡ Some before
+  pub place_is : place ≡ option_map (λ t. t.place) (slice_get tokens before)
+
+-- no fault stands before, and no program is spelled; which place is given is left open
+pub record IsNoProgram (program : List ℕ) (place : Option Place) : Type 0 where
+  pub tokens : List Token
+  pub is_cut : IsCut program tokens
+  pub shallow : too_deep start (lexemes program tokens) ≡ None
+  pub none : (tree : CommandList) → ¬ (Spells program tokens tree)
+  pub some_place : Place
+  pub place_is : place ≡ Some some_place
+
+-- a text is refused with this fault before its patterns are asked; want of memory is no fault of a text
+abbrev pub IsRefused : List ℕ → LoadKind → Option Place → Type 0
+IsRefused program ProgramTooLong place = (PROGRAM_LIMIT < length program) × (place ≡ None)
+IsRefused program BadByte place = HasFault program BadByte place
+IsRefused program UnfinishedString place = HasFault program UnfinishedString place
+IsRefused program BadOctal place = HasFault program BadOctal place
+IsRefused program NumberTooLarge place = HasFault program NumberTooLarge place
+IsRefused program NotInProfile place = HasFault program NotInProfile place
+IsRefused program TooDeep place = IsTooDeep program place
+IsRefused program Syntax place = IsNoProgram program place
+IsRefused program BadPattern place = ⊥
+IsRefused program Read place = ⊥
+IsRefused program Memory place = ⊥
+
+-- a text is answered by this fault, or by want of memory, which has no place
+abbrev pub IsFault : List ℕ → LoadKind → Option Place → Type 0
+IsFault program Memory place = place ≡ None
+IsFault program kind place = IsRefused program kind place

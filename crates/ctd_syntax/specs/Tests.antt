@@ -1,0 +1,96 @@
+-- How tests are told from expressions; for the contracts of private functions alone.
+use Rattle.std.specs.Prelude.{◌≡◌, ℕ, zero, suc, ◌<◌, Bool, true, false, if◌then◌else◌, List, [], ◌∷◌, ◌++◌, Option, Some, None}
+use Rattle.ctd_syntax.specs.declared.token.Mark.TheVariants as marks
+use Rattle.ctd_syntax.specs.declared.token.Mark.TheVariants.{Open, Close, Comma, Bang, AndAnd, OrOr}
+use Rattle.ctd_syntax.specs.declared.keyword.Keyword.{Keyword}
+use Rattle.ctd_syntax.specs.declared.keyword.Keyword.TheVariants.{Match, IsEof, Unique, InArray}
+use Rattle.ctd_syntax.specs.declared.tree.Compare.{Compare}
+use Rattle.ctd_syntax.specs.declared.tree.Compare.TheVariants as comparisons
+use Rattle.ctd_syntax.specs.declared.condition.Effect.{Effect}
+use Rattle.ctd_syntax.specs.declared.condition.Effect.TheVariants.{Tests, Opens, Closes, Keeps}
+use Rattle.ctd_syntax.specs.Lexeme.{Lexeme, mark, keyword}
+use Rattle.ctd_syntax.specs.Tree
+use Rattle.ctd_syntax.specs.Tree.{ExprTree, TestTree}
+use Rattle.ctd_syntax.specs.Grammar.{IsExpr, IsNames, mark_of}
+use Rattle.ctd_syntax.specs.Front.{Spelling, IsAfter, IsBefore, IsPair, IsName}
+use Rattle.ctd_syntax.specs.Levels.{binding}
+
+-- how tightly a token binds to the test before it
+abbrev pub test_binding : Lexeme → ℕ
+test_binding (mark OrOr) = 1
+test_binding (mark AndAnd) = 2
+test_binding _ = 0
+
+-- a test of level n ends before these tokens; they don't go on with an expression either
+abbrev pub test_ends : ℕ → List Lexeme → Type 0
+test_ends n [] = Unit {0}
+test_ends n (t ∷ ts) = (test_binding t < n) × (binding t < 1)
+
+-- the comparison that a mark is
+abbrev pub compare_operator : Lexeme → Option Compare
+compare_operator (mark marks.Less) = Some comparisons.Less
+compare_operator (mark marks.Greater) = Some comparisons.Greater
+compare_operator (mark marks.AtMost) = Some comparisons.AtMost
+compare_operator (mark marks.AtLeast) = Some comparisons.AtLeast
+compare_operator (mark marks.Equal) = Some comparisons.Equal
+compare_operator (mark marks.Unequal) = Some comparisons.Unequal
+compare_operator _ = None
+
+-- the words that tests begin with
+abbrev pub question : Lexeme → Option Keyword
+question (keyword Match at) = Some Match
+question (keyword IsEof at) = Some IsEof
+question (keyword Unique at) = Some Unique
+question (keyword InArray at) = Some InArray
+question _ = None
+
+-- what stands behind such a word
+abbrev pub Asked : Keyword → Spelling TestTree
+Asked Match ts u = (a : ExprTree) × (u ≡ Tree.matches a) × IsAfter Open (IsBefore Close IsExpr) ts a
+Asked IsEof ts u = (ts ≡ []) × (u ≡ Tree.at_end)
+Asked Unique ts u = (names : List (List ℕ)) × (u ≡ Tree.unique names) × IsAfter Open (IsBefore Close IsNames) ts names
+Asked InArray ts u = (x : ExprTree × List ℕ) × (u ≡ Tree.in_array x.0 x.1) × IsAfter Open (IsPair (IsBefore Comma IsExpr) (IsBefore Close IsName)) ts x
+Asked _ ts u = ⊥
+
+-- an expression and a comparison behind it
+abbrev pub IsLeft : Spelling (ExprTree × Compare)
+IsLeft vs x = (ts : List Lexeme) × (vs ≡ ts ++ mark (mark_of x.1) ∷ []) × IsExpr ts x.0
+
+-- two expressions and a comparison between them
+abbrev pub IsCompared : Spelling TestTree
+IsCompared ts u = (x : (ExprTree × Compare) × ExprTree) × (u ≡ Tree.compare x.0.1 x.0.0 x.1) × IsPair IsLeft IsExpr ts x
+
+-- what a token says of the parentheses that it stands in: that they hold a test, or that others open or close
+abbrev pub effect_of : Lexeme → Effect
+effect_of (mark Open) = Opens
+effect_of (mark Close) = Closes
+effect_of (mark Bang) = Tests
+effect_of (mark marks.Less) = Tests
+effect_of (mark marks.Greater) = Tests
+effect_of (mark marks.AtMost) = Tests
+effect_of (mark marks.AtLeast) = Tests
+effect_of (mark marks.Equal) = Tests
+effect_of (mark marks.Unequal) = Tests
+effect_of (keyword Match at) = Tests
+effect_of (keyword IsEof at) = Tests
+effect_of (keyword Unique at) = Tests
+effect_of (keyword InArray at) = Tests
+effect_of _ = Keeps
+
+-- whether it says that they hold a test
+abbrev pub is_test : Effect → Bool
+is_test Tests = true
+is_test _ = false
+
+-- how many parentheses are open within them, or nothing where they close
+abbrev pub depth_after : Effect → ℕ → Option ℕ
+depth_after Opens n = Some (suc n)
+depth_after Closes zero = None
+depth_after Closes (suc n) = Some n
+depth_after _ n = Some n
+
+-- whether a test stands before the parentheses close, of which so many are open within the outermost
+abbrev pub holds_test : Option ℕ → List Lexeme → Bool
+holds_test None ts = false
+holds_test (Some n) [] = false
+holds_test (Some n) (t ∷ ts) = if is_test (effect_of t) then true else holds_test (depth_after (effect_of t) n) ts

@@ -1,0 +1,302 @@
+//! From tokens to tests, by levels and loops (checktestdata language specification, grammar).
+
+ghost use Rattle.std.specs.Prelude.{◌≡◌, ◌≤◌, ◌<◌, [], ◌∷◌, List, true, false, length, map, IfOk, IfSome, IfNone, Some};
+ghost use Rattle.ctd_syntax.specs.Lexeme;
+ghost use Rattle.ctd_syntax.specs.Lexeme.{Lexeme};
+ghost use Rattle.ctd_syntax.specs.View.{expr_tree, test_tree};
+ghost use Rattle.ctd_syntax.specs.Grammar.{IsTest, IsBoth, IsNegated, IsPlain};
+ghost use Rattle.ctd_syntax.specs.Front.{Reads, Always, IsBefore, IsName, StartsWith, piece};
+ghost use Rattle.ctd_syntax.specs.Levels.{ends};
+ghost use Rattle.ctd_syntax.specs.Tests.{test_ends, compare_operator, question, Asked, IsLeft, IsCompared, effect_of, holds_test};
+
+use crate::expression::{expr, expr_before};
+use crate::front::{Refusal, after_mark, name_at};
+use crate::keyword::Keyword;
+use crate::names::names;
+use crate::piece::Piece;
+use crate::text::Name;
+use crate::token::Mark;
+use crate::tree::{Compare, Expr, Test};
+use std::alloc::Global;
+
+// What a token says of the parentheses that it stands in.
+#[derive(Clone, Copy, Debug, PartialEq, Eq)]
+enum Effect {
+    // They hold a test.
+    Tests,
+    // Others open.
+    Opens,
+    // The innermost close.
+    Closes,
+    // Nothing.
+    Keeps,
+}
+
+fn effect_of(token: &Piece<'_>) -> Effect
+    ensures { result ≡ effect_of (piece token.now) }
+{
+    match token {
+        Piece::Mark(mark) => match mark {
+            Mark::Open => Effect::Opens,
+            Mark::Close => Effect::Closes,
+            Mark::Bang
+            | Mark::Less
+            | Mark::Greater
+            | Mark::AtMost
+            | Mark::AtLeast
+            | Mark::Equal
+            | Mark::Unequal => Effect::Tests,
+            _ => Effect::Keeps,
+        },
+        Piece::Keyword(keyword, _) => match keyword {
+            Keyword::Match | Keyword::IsEof | Keyword::Unique | Keyword::InArray => Effect::Tests,
+            _ => Effect::Keeps,
+        },
+        _ => Effect::Keeps,
+    }
+}
+
+// Whether a test stands before the parenthesis that closes the one before these tokens.
+fn holds_test(pieces: &[Piece<'_>]) -> bool
+    ensures { result ≡ holds_test (Some 0) (map piece pieces.now) }
+{
+    let mut depth: usize = 0;
+    let mut n = 0;
+    while n < pieces.len() {
+        match effect_of(&pieces[n]) {
+            Effect::Tests => return true,
+            Effect::Opens => depth += 1,
+            Effect::Closes => {
+                if depth == 0 {
+                    return false;
+                }
+                depth -= 1;
+            }
+            Effect::Keeps => {}
+        }
+        n += 1;
+    }
+    false
+}
+
+// The comparison at the front, and what follows it.
+fn compare_at<'t>(pieces: &'t [Piece<'t>]) -> Option<(Compare, &'t [Piece<'t>])>
+    ensures operator { StartsWith compare_operator (λ rest. map piece rest.now) result (map piece pieces.now) }
+    ensures shorter { IfSome result (λ x. length x.1.now < length pieces.now) }
+{
+    let (first, after) = pieces.split_first()?;
+    match first {
+        Piece::Mark(Mark::Less) => Some((Compare::Less, after)),
+        Piece::Mark(Mark::Greater) => Some((Compare::Greater, after)),
+        Piece::Mark(Mark::AtMost) => Some((Compare::AtMost, after)),
+        Piece::Mark(Mark::AtLeast) => Some((Compare::AtLeast, after)),
+        Piece::Mark(Mark::Equal) => Some((Compare::Equal, after)),
+        Piece::Mark(Mark::Unequal) => Some((Compare::Unequal, after)),
+        _ => None,
+    }
+}
+
+// The word of a test at the front, and what follows it.
+fn question_at<'t>(pieces: &'t [Piece<'t>]) -> Option<(Keyword, &'t [Piece<'t>])>
+    ensures operator { StartsWith question (λ rest. map piece rest.now) result (map piece pieces.now) }
+    ensures shorter { IfSome result (λ x. length x.1.now < length pieces.now) }
+{
+    let (first, after) = pieces.split_first()?;
+    match first {
+        Piece::Keyword(Keyword::Match, _) => Some((Keyword::Match, after)),
+        Piece::Keyword(Keyword::IsEof, _) => Some((Keyword::IsEof, after)),
+        Piece::Keyword(Keyword::Unique, _) => Some((Keyword::Unique, after)),
+        Piece::Keyword(Keyword::InArray, _) => Some((Keyword::InArray, after)),
+        _ => None,
+    }
+}
+
+// What follows a parenthesis at the front that holds a test.
+fn group_at<'t>(pieces: &'t [Piece<'t>]) -> Option<&'t [Piece<'t>]>
+    ensures found { IfSome result (λ rest. map piece pieces.now ≡ Lexeme.mark Mark.Open ∷ map piece rest.now) }
+    ensures holds { IfSome result (λ rest. holds_test (Some 0) (map piece rest.now) ≡ true) }
+    ensures shorter { IfSome result (λ rest. length rest.now < length pieces.now) }
+    ensures none { IfNone result ((ts : List Lexeme) → map piece pieces.now ≡ Lexeme.mark Mark.Open ∷ ts → holds_test (Some 0) ts ≡ false) }
+{
+    let rest = after_mark(Mark::Open, pieces)?;
+    if holds_test(rest) { Some(rest) } else { None }
+}
+
+// An expression and the comparison behind it.
+fn left_side<'t>(
+    alloc: Global,
+    pieces: &'t [Piece<'t>],
+) -> Result<((Expr, Compare), &'t [Piece<'t>]), Refusal>
+    ensures tree { Reads IsLeft Always (λ x. ((expr_tree x.0.0, x.0.1), map piece x.1.now)) result (map piece pieces.now) }
+    ensures shorter { IfOk result (λ x. length x.1.now ≤ length pieces.now) }
+{
+    let (left, rest) = expr(alloc, pieces)?;
+    match compare_at(rest) {
+        Some((by, after)) => Ok(((left, by), after)),
+        None => Err(Refusal::Syntax(rest.len())),
+    }
+}
+
+// Two expressions with a comparison between them.
+fn comparison<'t>(
+    alloc: Global,
+    pieces: &'t [Piece<'t>],
+) -> Result<(Test, &'t [Piece<'t>]), Refusal>
+    ensures tree { Reads IsCompared (ends 1) (λ x. (test_tree x.0, map piece x.1.now)) result (map piece pieces.now) }
+    ensures shorter { IfOk result (λ x. length x.1.now ≤ length pieces.now) }
+{
+    let ((left, by), rest) = left_side(alloc, pieces)?;
+    let (right, rest) = expr(alloc, rest)?;
+    Ok((Test::Compare(by, left, right), rest))
+}
+
+// What stands behind MATCH.
+fn matches<'t>(alloc: Global, pieces: &'t [Piece<'t>]) -> Result<(Test, &'t [Piece<'t>]), Refusal>
+    ensures tree { Reads (Asked Keyword.Match) Always (λ x. (test_tree x.0, map piece x.1.now)) result (map piece pieces.now) }
+    ensures shorter { IfOk result (λ x. length x.1.now ≤ length pieces.now) }
+{
+    let Some(after) = after_mark(Mark::Open, pieces) else {
+        return Err(Refusal::Syntax(pieces.len()));
+    };
+    let (operand, rest) = expr_before(alloc, Mark::Close, after)?;
+    Ok((Test::Match(operand), rest))
+}
+
+// What stands behind UNIQUE.
+fn unique<'t>(alloc: Global, pieces: &'t [Piece<'t>]) -> Result<(Test, &'t [Piece<'t>]), Refusal>
+    ensures tree { Reads (Asked Keyword.Unique) Always (λ x. (test_tree x.0, map piece x.1.now)) result (map piece pieces.now) }
+    ensures shorter { IfOk result (λ x. length x.1.now ≤ length pieces.now) }
+{
+    let Some(after) = after_mark(Mark::Open, pieces) else {
+        return Err(Refusal::Syntax(pieces.len()));
+    };
+    let (list, rest) = names(alloc, after)?;
+    Ok((Test::Unique(list), rest))
+}
+
+// A name and the parenthesis behind it.
+fn last_name<'t>(alloc: Global, pieces: &'t [Piece<'t>]) -> Result<(Name, &'t [Piece<'t>]), Refusal>
+    ensures tree { Reads (IsBefore Mark.Close IsName) Always (λ x. (x.0, map piece x.1.now)) result (map piece pieces.now) }
+    ensures shorter { IfOk result (λ x. length x.1.now ≤ length pieces.now) }
+{
+    let Some((name, rest)) = name_at(pieces) else {
+        return Err(Refusal::Syntax(pieces.len()));
+    };
+    let Some(rest) = after_mark(Mark::Close, rest) else {
+        return Err(Refusal::Syntax(rest.len()));
+    };
+    Ok((Name::copy(alloc, name)?, rest))
+}
+
+// What stands behind INARRAY.
+fn in_array<'t>(alloc: Global, pieces: &'t [Piece<'t>]) -> Result<(Test, &'t [Piece<'t>]), Refusal>
+    ensures tree { Reads (Asked Keyword.InArray) Always (λ x. (test_tree x.0, map piece x.1.now)) result (map piece pieces.now) }
+    ensures shorter { IfOk result (λ x. length x.1.now ≤ length pieces.now) }
+{
+    let Some(after) = after_mark(Mark::Open, pieces) else {
+        return Err(Refusal::Syntax(pieces.len()));
+    };
+    let (operand, rest) = expr_before(alloc, Mark::Comma, after)?;
+    let (name, rest) = last_name(alloc, rest)?;
+    Ok((Test::InArray(operand, name), rest))
+}
+
+// What stands behind the word of a test.
+fn asked<'t>(
+    alloc: Global,
+    keyword: Keyword,
+    pieces: &'t [Piece<'t>],
+) -> Result<(Test, &'t [Piece<'t>]), Refusal>
+    ensures tree { Reads (Asked keyword) Always (λ x. (test_tree x.0, map piece x.1.now)) result (map piece pieces.now) }
+    ensures shorter { IfOk result (λ x. length x.1.now ≤ length pieces.now) }
+{
+    match keyword {
+        Keyword::Match => matches(alloc, pieces),
+        Keyword::IsEof => Ok((Test::IsEof, pieces)),
+        Keyword::Unique => unique(alloc, pieces),
+        Keyword::InArray => in_array(alloc, pieces),
+        _ => Err(Refusal::Syntax(pieces.len())),
+    }
+}
+
+/// The test at the front, and what follows it.
+#[cycle(test)]
+pub(crate) fn test<'t>(
+    alloc: Global,
+    pieces: &'t [Piece<'t>],
+) -> Result<(Test, &'t [Piece<'t>]), Refusal>
+    ensures tree { Reads IsTest (test_ends 1) (λ x. (test_tree x.0, map piece x.1.now)) result (map piece pieces.now) }
+    ensures shorter { IfOk result (λ x. length x.1.now ≤ length pieces.now) }
+{
+    let (mut left, mut rest) = both(alloc, pieces)?;
+    while let Some(after) = after_mark(Mark::OrOr, rest) {
+        let (right, after) = both(alloc, after)?;
+        let a = Box::new(alloc, left)?;
+        let b = Box::new(alloc, right)?;
+        left = Test::Or(a, b);
+        rest = after;
+    }
+    Ok((left, rest))
+}
+
+#[cycle(test)]
+fn both<'t>(alloc: Global, pieces: &'t [Piece<'t>]) -> Result<(Test, &'t [Piece<'t>]), Refusal>
+    ensures tree { Reads IsBoth (test_ends 2) (λ x. (test_tree x.0, map piece x.1.now)) result (map piece pieces.now) }
+    ensures shorter { IfOk result (λ x. length x.1.now ≤ length pieces.now) }
+{
+    let (mut left, mut rest) = negated(alloc, pieces)?;
+    while let Some(after) = after_mark(Mark::AndAnd, rest) {
+        let (right, after) = negated(alloc, after)?;
+        let a = Box::new(alloc, left)?;
+        let b = Box::new(alloc, right)?;
+        left = Test::And(a, b);
+        rest = after;
+    }
+    Ok((left, rest))
+}
+
+#[cycle(test)]
+fn negated<'t>(alloc: Global, pieces: &'t [Piece<'t>]) -> Result<(Test, &'t [Piece<'t>]), Refusal>
+    ensures tree { Reads IsNegated (ends 1) (λ x. (test_tree x.0, map piece x.1.now)) result (map piece pieces.now) }
+    ensures shorter { IfOk result (λ x. length x.1.now ≤ length pieces.now) }
+{
+    match after_mark(Mark::Bang, pieces) {
+        Some(after) => {
+            let (operand, rest) = negated(alloc, after)?;
+            Ok((Test::Not(Box::new(alloc, operand)?), rest))
+        }
+        None => plain(alloc, pieces),
+    }
+}
+
+#[cycle(test)]
+fn plain<'t>(alloc: Global, pieces: &'t [Piece<'t>]) -> Result<(Test, &'t [Piece<'t>]), Refusal>
+    ensures tree { Reads IsPlain (ends 1) (λ x. (test_tree x.0, map piece x.1.now)) result (map piece pieces.now) }
+    ensures shorter { IfOk result (λ x. length x.1.now ≤ length pieces.now) }
+{
+    if let Some((keyword, rest)) = question_at(pieces) {
+        return asked(alloc, keyword, rest);
+    }
+    if let Some(rest) = group_at(pieces) {
+        return test_before(alloc, Mark::Close, rest);
+    }
+    comparison(alloc, pieces)
+}
+
+/// The test at the front and a mark behind it, and what follows the mark.
+#[cycle(test)]
+pub(crate) fn test_before<'t>(
+    alloc: Global,
+    mark: Mark,
+    pieces: &'t [Piece<'t>],
+) -> Result<(Test, &'t [Piece<'t>]), Refusal>
+    requires ends { test_ends 1 (Lexeme.mark mark ∷ []) }
+    ensures tree { Reads (IsBefore mark IsTest) Always (λ x. (test_tree x.0, map piece x.1.now)) result (map piece pieces.now) }
+    ensures shorter { IfOk result (λ x. length x.1.now ≤ length pieces.now) }
+{
+    let (read, rest) = test(alloc, pieces)?;
+    match after_mark(mark, rest) {
+        Some(rest) => Ok((read, rest)),
+        None => Err(Refusal::Syntax(rest.len())),
+    }
+}

@@ -1,0 +1,40 @@
+//! From tokens to lists of names (checktestdata language specification, grammar).
+
+ghost use Rattle.std.specs.Prelude.{◌≤◌, length, map, IfOk};
+ghost use Rattle.ctd_syntax.specs.View.{names_of};
+ghost use Rattle.ctd_syntax.specs.Grammar.{IsNames};
+ghost use Rattle.ctd_syntax.specs.Front.{Reads, Always, IsBefore, piece};
+
+use crate::front::{Refusal, after_mark, name_at};
+use crate::piece::Piece;
+use crate::text::Name;
+use crate::token::Mark;
+use crate::tree::Names;
+use std::alloc::Global;
+
+/// The names at the front, with commas between them, and the parenthesis behind them, and what
+/// follows it.
+pub(crate) fn names<'t>(
+    alloc: Global,
+    pieces: &'t [Piece<'t>],
+) -> Result<(Names, &'t [Piece<'t>]), Refusal>
+    ensures tree { Reads (IsBefore Mark.Close IsNames) Always (λ x. (names_of x.0, map piece x.1.now)) result (map piece pieces.now) }
+    ensures shorter { IfOk result (λ x. length x.1.now ≤ length pieces.now) }
+{
+    let mut items = Vec::new(alloc);
+    let Some((first, mut rest)) = name_at(pieces) else {
+        return Err(Refusal::Syntax(pieces.len()));
+    };
+    items.push(Name::copy(alloc, first)?)?;
+    while let Some(after) = after_mark(Mark::Comma, rest) {
+        let Some((next, after)) = name_at(after) else {
+            return Err(Refusal::Syntax(after.len()));
+        };
+        items.push(Name::copy(alloc, next)?)?;
+        rest = after;
+    }
+    match after_mark(Mark::Close, rest) {
+        Some(rest) => Ok((Names::from_vec(items), rest)),
+        None => Err(Refusal::Syntax(rest.len())),
+    }
+}

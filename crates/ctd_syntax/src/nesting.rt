@@ -1,0 +1,91 @@
+//! How deep the tokens of a program nest.
+
+ghost use Rattle.std.specs.Prelude.{◌≡◌, map, IfOk};
+ghost use Rattle.ctd_syntax.specs.Front.{piece};
+ghost use Rattle.ctd_syntax.specs.Nesting.{change_of, start, too_deep};
+
+use crate::keyword::Keyword;
+use crate::limits::NESTING_LIMIT;
+use crate::piece::Piece;
+use crate::token::Mark;
+use std::alloc::{AllocError, Global};
+
+// What a token does to the counters.
+#[derive(Clone, Copy, Debug, PartialEq, Eq)]
+enum Change {
+    // A new innermost counter, 0.
+    Opens,
+    // The innermost counter goes, unless it is the only one.
+    Closes,
+    // The innermost counter becomes 0.
+    Restarts,
+    // The innermost counter grows by 1.
+    Grows,
+    // None does.
+    Keeps,
+}
+
+fn change_of(token: &Piece<'_>) -> Change
+    ensures { result ≡ change_of (piece token.now) }
+{
+    match token {
+        Piece::Mark(mark) => match mark {
+            Mark::Open | Mark::OpenIndex => Change::Opens,
+            Mark::Close | Mark::CloseIndex => Change::Closes,
+            Mark::Comma => Change::Restarts,
+            Mark::Assign => Change::Keeps,
+            _ => Change::Grows,
+        },
+        Piece::Keyword(keyword, _) => match keyword {
+            Keyword::Rep | Keyword::RepI | Keyword::While | Keyword::WhileI | Keyword::If => {
+                Change::Opens
+            }
+            Keyword::Else => Change::Restarts,
+            Keyword::End => Change::Closes,
+            _ => Change::Keeps,
+        },
+        _ => Change::Keeps,
+    }
+}
+
+/// How many tokens stand before the first after which the weight passes `NESTING_LIMIT`.
+pub(crate) fn first_too_deep(
+    alloc: Global,
+    pieces: &[Piece<'_>],
+) -> Result<Option<usize>, AllocError>
+    ensures { IfOk result (λ found. found ≡ too_deep start (map piece pieces.now)) }
+{
+    let mut outer: Vec<u32> = Vec::new(alloc);
+    let mut inner = 0u32;
+    let mut weight = 0u32;
+    let mut n = 0;
+    while n < pieces.len() {
+        match change_of(&pieces[n]) {
+            Change::Opens => {
+                outer.push(inner)?;
+                inner = 0;
+                weight += 1;
+            }
+            Change::Closes => {
+                if let Some(c) = outer.pop() {
+                    weight -= inner + 1;
+                    inner = c;
+                }
+            }
+            Change::Restarts => {
+                weight -= inner;
+                inner = 0;
+            }
+            Change::Grows => {
+                inner += 1;
+                weight += 1;
+            }
+            Change::Keeps => {}
+        }
+        if weight > NESTING_LIMIT {
+            return Ok(Some(n));
+        }
+        n += 1;
+    }
+    Ok(None)
+}

@@ -1,0 +1,86 @@
+//! From tokens to the variables that commands set (checktestdata language specification, grammar).
+
+ghost use Rattle.std.specs.Prelude.{◌≡◌, ◌≤◌, length, map, IfOk};
+ghost use Rattle.ctd_syntax.specs.Lexeme;
+ghost use Rattle.ctd_syntax.specs.View.{assignment, assignments_of, target, var_tree};
+ghost use Rattle.ctd_syntax.specs.Grammar.{IsTarget, IsTargetEnd, IsAssignments};
+ghost use Rattle.ctd_syntax.specs.Front.{Reads, Always, IsAssignment, IsBefore, piece};
+ghost use Rattle.ctd_syntax.specs.Levels.{binding, ends};
+
+use crate::expression::{expr, variable};
+use crate::front::{Refusal, after_mark};
+use crate::piece::Piece;
+use crate::token::Mark;
+use crate::tree::{Assignment, Assignments, Var};
+use std::alloc::Global;
+
+/// The variable at the front and a mark behind it, and what follows the mark.
+pub(crate) fn target_before<'t>(
+    alloc: Global,
+    mark: Mark,
+    pieces: &'t [Piece<'t>],
+) -> Result<(Var, &'t [Piece<'t>]), Refusal>
+    requires ends { binding (Lexeme.mark mark) ≡ 0 }
+    ensures tree { Reads (IsBefore mark IsTarget) Always (λ x. (var_tree x.0, map piece x.1.now)) result (map piece pieces.now) }
+    ensures shorter { IfOk result (λ x. length x.1.now ≤ length pieces.now) }
+{
+    let (read, rest) = variable(alloc, pieces)?;
+    match after_mark(mark, rest) {
+        Some(rest) => Ok((read, rest)),
+        None => Err(Refusal::Syntax(rest.len())),
+    }
+}
+
+/// A comma and a variable or nothing, and the parenthesis behind it, and what follows it.
+pub(crate) fn target_end<'t>(
+    alloc: Global,
+    pieces: &'t [Piece<'t>],
+) -> Result<(Option<Var>, &'t [Piece<'t>]), Refusal>
+    ensures tree { Reads IsTargetEnd Always (λ x. (target x.0, map piece x.1.now)) result (map piece pieces.now) }
+    ensures shorter { IfOk result (λ x. length x.1.now ≤ length pieces.now) }
+{
+    if let Some(rest) = after_mark(Mark::Close, pieces) {
+        return Ok((None, rest));
+    }
+    let Some(after) = after_mark(Mark::Comma, pieces) else {
+        return Err(Refusal::Syntax(pieces.len()));
+    };
+    let (read, rest) = target_before(alloc, Mark::Close, after)?;
+    Ok((Some(read), rest))
+}
+
+// A variable, `=` and its value.
+fn one_assignment<'t>(
+    alloc: Global,
+    pieces: &'t [Piece<'t>],
+) -> Result<(Assignment, &'t [Piece<'t>]), Refusal>
+    ensures tree { Reads IsAssignment (ends 1) (λ x. (assignment x.0, map piece x.1.now)) result (map piece pieces.now) }
+    ensures shorter { IfOk result (λ x. length x.1.now ≤ length pieces.now) }
+{
+    let (target, rest) = target_before(alloc, Mark::Assign, pieces)?;
+    let (value, rest) = expr(alloc, rest)?;
+    Ok((Assignment { target, value }, rest))
+}
+
+/// The assignments at the front, with commas between them, and the parenthesis behind them, and
+/// what follows it.
+pub(crate) fn assignments<'t>(
+    alloc: Global,
+    pieces: &'t [Piece<'t>],
+) -> Result<(Assignments, &'t [Piece<'t>]), Refusal>
+    ensures tree { Reads (IsBefore Mark.Close IsAssignments) Always (λ x. (map assignment (assignments_of x.0), map piece x.1.now)) result (map piece pieces.now) }
+    ensures shorter { IfOk result (λ x. length x.1.now ≤ length pieces.now) }
+{
+    let mut items = Vec::new(alloc);
+    let (first, mut rest) = one_assignment(alloc, pieces)?;
+    items.push(first)?;
+    while let Some(after) = after_mark(Mark::Comma, rest) {
+        let (next, after) = one_assignment(alloc, after)?;
+        items.push(next)?;
+        rest = after;
+    }
+    match after_mark(Mark::Close, rest) {
+        Some(rest) => Ok((Assignments::from_vec(items), rest)),
+        None => Err(Refusal::Syntax(rest.len())),
+    }
+}
