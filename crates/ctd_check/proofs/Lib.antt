@@ -1,4 +1,3 @@
-pub mod Commands
 pub mod Concluding
 pub mod Decimal
 pub mod DigitRuns
@@ -6,6 +5,6 @@ pub mod Effects
 pub mod Integers
 pub mod Loads
 pub mod PulledText
+pub mod Readiness
 pub mod Running
 pub mod SeenDigits
-pub mod Texts

@@ -9,4 +9,3 @@ pub mod Run
 pub mod Runnable
 pub mod Seen
 pub mod Steps
-pub mod Today

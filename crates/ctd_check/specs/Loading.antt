@@ -1,5 +1,5 @@
 -- What loading a program gives.
-use Rattle.std.specs.Prelude.{◌≡◌, ◌≢◌, ◌≤◌, ◌+◌, ℕ, nat_le, if◌then◌else◌, List, length, Option, Some, None, Result, Ok, Err}
+use Rattle.std.specs.Prelude.{◌≡◌, ◌≢◌, ◌≤◌, ◌⊎◌, ◌+◌, ℕ, nat_le, if◌then◌else◌, List, length, Option, Some, None, Result, Ok, Err}
 use Rattle.ctd_source.specs.declared.source.Source.{Ghosts}
 use Rattle.ctd_source.specs.declared.source.Seen.{Seen}
 use Rattle.ctd_source.specs.declared.source.Seen.TheVariants.{Going, Ended, Broken}
@@ -8,9 +8,10 @@ use Rattle.ctd_syntax.specs.declared.limits.TheConstants.{PROGRAM_LIMIT}
 use Rattle.ctd_syntax.specs.declared.text.Place.{Place}
 use Rattle.ctd_syntax.specs.declared.fault.LoadFault.{LoadFault}
 use Rattle.ctd_syntax.specs.declared.fault.LoadKind.{LoadKind}
-use Rattle.ctd_syntax.specs.declared.fault.LoadKind.TheVariants.{ProgramTooLong, Read, Syntax, Memory}
+use Rattle.ctd_syntax.specs.declared.fault.LoadKind.TheVariants.{NotInProfile, ProgramTooLong, Read, Memory}
 use Rattle.ctd_syntax.specs.Tree.{CommandList}
-use Rattle.ctd_check.specs.Today.{IsProgram}
+use Rattle.ctd_syntax.specs.Reading.{IsRefused, Parses}
+use Rattle.ctd_check.specs.Runnable.{first_unready}
 
 -- a reader that gave these bytes has them for its text once it ended; it has none where a read failed, and none yet while it goes on
 abbrev pub text_by : List ℕ → Seen → Option (Result (List ℕ) LoadKind)
@@ -22,26 +23,29 @@ text_by bytes Going = None
 abbrev pub text_of : List ℕ → Seen → Option (Result (List ℕ) LoadKind)
 text_of bytes seen = if nat_le (PROGRAM_LIMIT + 1) (length bytes) then Some (Err ProgramTooLong) else text_by bytes seen
 
--- the first place of a text
-abbrev pub first_place : Place
-first_place = record { line = 1; column = 1 }
+-- a program that is spelled has a command which cannot be run, and this is the first
+pub record IsNotReady (program : List ℕ) (f : LoadFault) : Type 0 where
+  pub kind : f.kind ≡ NotInProfile
+  pub tree : CommandList
+  pub parses : Parses program tree
+  pub at : Place
+  pub first : first_unready tree ≡ Some at
+  pub place : f.place ≡ Some at
 
--- a text that is no program of today has one fault
-pub record IsNoProgram (program : List ℕ) (f : LoadFault) : Type 0 where
-  pub kind : f.kind ≡ Syntax
-  pub place : f.place ≡ Some first_place
-  pub none : (tree : CommandList) → ¬ (IsProgram program tree)
+-- all commands of the one program that a text spells can be run
+abbrev pub IsReady : List ℕ → CommandList → Type 0
+IsReady program tree = Parses program tree × (first_unready tree ≡ None)
 
 -- what a reader whose text is this may be refused for
 abbrev pub TextMayFail : Option (Result (List ℕ) LoadKind) → LoadFault → Type 0
 TextMayFail None f = ⊥
-TextMayFail (Some (Ok program)) f = IsNoProgram program f
+TextMayFail (Some (Ok program)) f = IsRefused program f.kind f.place ⊎ IsNotReady program f
 TextMayFail (Some (Err kind)) f = (f.kind ≡ kind) × (f.place ≡ None)
 
 -- what it is read as
 abbrev pub IsLoaded : Option (Result (List ℕ) LoadKind) → CommandList → Type 0
 IsLoaded None tree = ⊥
-IsLoaded (Some (Ok program)) tree = IsProgram program tree
+IsLoaded (Some (Ok program)) tree = IsReady program tree
 IsLoaded (Some (Err kind)) tree = ⊥
 
 -- a reader that gave these bytes, and of whose end this was seen, may be refused with this fault
@@ -54,8 +58,8 @@ Loads bytes seen tree = IsLoaded (text_of bytes seen) tree
 
 -- the answer of loading a text that came whole; want of memory says nothing of it
 abbrev pub TextLoadsAs : {P : Type 0} → (P → CommandList) → Result P LoadFault → List ℕ → Type 0
-TextLoadsAs tree_of (Ok plan) program = IsProgram program (tree_of plan)
-TextLoadsAs tree_of (Err f) program = f.kind ≢ Memory → IsNoProgram program f
+TextLoadsAs tree_of (Ok plan) program = IsReady program (tree_of plan)
+TextLoadsAs tree_of (Err f) program = f.kind ≢ Memory → IsRefused program f.kind f.place ⊎ IsNotReady program f
 
 -- the answer of loading what a reader gave; want of memory says nothing of the text
 abbrev pub LoadsAs : {P : Type 0} → (P → CommandList) → Result P LoadFault → List ℕ → Seen → Type 0

@@ -5,4 +5,4 @@ use Rattle.ctd_check.specs.declared.plan.Plan.{Plan}
 
 -- the program of a plan
 abbrev pub plan_tree : Plan → CommandList
-plan_tree plan = command_trees plan.commands.items
+plan_tree plan = command_trees plan.program

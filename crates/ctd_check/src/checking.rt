@@ -35,7 +35,7 @@ pub fn check<D: Source>(
     let _pins = presets.pins();
     let mut cursor = Cursor::start(alloc, testdata, limits.bytes)?;
     let mut left = limits.steps;
-    let outcome = match run_program(plan.commands.as_slice(), &mut cursor, &mut left) {
+    let outcome = match run_program(plan.program.commands(), &mut cursor, &mut left) {
         Ok(()) => Outcome::Accepted,
         Err(outcome) => outcome,
     };

@@ -4,10 +4,10 @@
 mod byte;
 mod checking;
 mod digits;
+mod gate;
 mod integer;
 mod outcome;
 mod plan;
-mod reading;
 mod refusal;
 mod run;
 mod text;

@@ -4,17 +4,17 @@ ghost use Rattle.ctd_source.specs.declared.source.Seen.TheVariants.{Going};
 ghost use Rattle.ctd_syntax.specs.declared.limits.TheConstants.{PROGRAM_LIMIT};
 ghost use Rattle.ctd_check.specs.Runnable.{are_runnable};
 
-use crate::reading::read_text;
+use crate::gate::first_unready;
 use crate::text::fill;
 use ctd_source::Source;
-use ctd_syntax::{Command, LoadFault, LoadKind, PROGRAM_LIMIT, Place};
+use ctd_syntax::{LoadFault, LoadKind, PROGRAM_LIMIT, Program, parse};
 use std::alloc::{AllocError, Global};
 
 /// A program that was read, ready for any number of checks.
 #[derive(Debug, Drop)]
 pub struct Plan {
-    pub(crate) commands: Vec<Command>,
-    ghost runnable: { are_runnable commands.items ≡ true },
+    pub(crate) program: Program,
+    ghost runnable: { are_runnable program ≡ true },
 }
 
 /// Room for so many bytes.
@@ -33,11 +33,12 @@ impl Plan {
         requires { length text.now ≤ PROGRAM_LIMIT }
         ensures { TextLoadsAs plan_tree result text.now }
     {
-        match read_text(alloc, text)? {
-            Some(commands) => Ok(Plan { commands }),
-            None => Err(LoadFault {
-                kind: LoadKind::Syntax,
-                place: Some(Place { line: 1, column: 1 }),
+        let program = parse(alloc, text)?;
+        match first_unready(program.commands()) {
+            None => Ok(Plan { program }),
+            Some(place) => Err(LoadFault {
+                kind: LoadKind::NotInProfile,
+                place: Some(place),
             }),
         }
     }
@@ -45,8 +46,8 @@ impl Plan {
     /// Reads a program to its end: the commands that its text is.
     ///
     /// The source is read until it ends, until a read fails (`Read`), or until a byte more than a program may have came
-    /// (`ProgramTooLong`). A text that is no program of SPACE, NEWLINE, EOF and INT with two bounds is `Syntax`, at its
-    /// first place.
+    /// (`ProgramTooLong`). The text is then read as `ctd_syntax::parse` reads it. A program with a command that can't be run
+    /// yet is `NotInProfile`, at the first such command: those of today are SPACE, NEWLINE, EOF and INT with two bounds.
     pub fn load<P: Source>(alloc: Global, program: &mut P) -> Result<Plan, LoadFault>
         requires { P.seen program.old ≡ Going }
         ensures { LoadsFrom plan_tree P.Source program.old program.new result }

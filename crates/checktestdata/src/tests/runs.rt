@@ -232,7 +232,7 @@ fn a_program_that_is_not_read_leaves_the_data_alone(
     let alloc = rt.alloc();
     let setup = plain(alloc)?;
     let mut is_read = false;
-    let syntax: &[u8] = b"checktestdata: program line 1 column 1: syntax error\n";
+    let syntax: &[u8] = b"checktestdata: program line 1 column 6: syntax error\n";
     let data = Watched {
         is_read: &mut is_read,
     };

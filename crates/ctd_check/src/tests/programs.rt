@@ -15,31 +15,62 @@ fn every_text_of_the_four_commands_is_read(rt: HostRuntime) -> Result<(), Fail> 
         ("INT ( - 1 ,\n0 ) # a line\tof one\nEOF", 2),
     ] {
         let plan = plan_of(rt.alloc(), program)?;
-        assert_eq!(rt; plan.commands.len(), commands, "{program}");
+        assert_eq!(rt; plan.program.commands().len(), commands, "{program}");
     }
     Ok(())
 }
 
 #[test]
-fn every_other_text_is_a_fault_at_its_start(rt: HostRuntime) {
-    let fault = LoadFault {
-        kind: LoadKind::Syntax,
-        place: Some(Place { line: 1, column: 1 }),
-    };
-    for program in [
-        "SPACE(",
-        "INT",
-        "INT(1)",
-        "INT(1,10",
-        "INT(1,10) )",
-        "INT(01,10)",
-        "INT(1,--10)",
-        "INT(1,170141183460469231731687303715884105728)",
-        "SPACE\n\nspace",
-        "REP(2) SPACE END",
-        "\"",
-        "\x00",
+fn every_other_text_has_a_fault_at_its_place(rt: HostRuntime) {
+    for (program, kind, line, column) in [
+        ("SPACE(", LoadKind::Syntax, 1, 6),
+        ("INT", LoadKind::Syntax, 1, 4),
+        ("INT(1)", LoadKind::Syntax, 1, 6),
+        ("INT(1,10", LoadKind::Syntax, 1, 9),
+        ("INT(1,10) )", LoadKind::Syntax, 1, 11),
+        ("SPACE\n\nspace", LoadKind::Syntax, 3, 1),
+        ("INT(01,10)", LoadKind::NotInProfile, 1, 5),
+        (
+            "INT(1,170141183460469231731687303715884105728)",
+            LoadKind::NumberTooLarge,
+            1,
+            7,
+        ),
+        ("\"", LoadKind::UnfinishedString, 1, 1),
+        ("\"\\400\"", LoadKind::BadOctal, 1, 2),
+        ("\x00", LoadKind::BadByte, 1, 1),
     ] {
+        let fault = LoadFault {
+            kind,
+            place: Some(Place { line, column }),
+        };
+        let mut source = FromRead::new(program.as_bytes());
+        let refusal = Plan::load(rt.alloc(), &mut source).err();
+        assert_eq!(rt; refusal, Some(fault), "{program}");
+    }
+}
+
+#[test]
+fn a_command_that_cannot_be_run_is_refused_at_its_word(rt: HostRuntime) {
+    for (program, line, column) in [
+        ("INT(1,--10)", 1, 1),
+        ("SPACE INT(1,1+1)", 1, 7),
+        ("SPACE INT(1,10,n)", 1, 7),
+        ("SPACE\n ASSERT(1==1) STRING(\"a\")", 2, 2),
+        ("STRING(\"a\")", 1, 1),
+        ("REGEX(\"a\")", 1, 1),
+        ("SET(a=1)", 1, 1),
+        ("UNSET(a)", 1, 1),
+        ("NEWLINE REP(2,SPACE) SPACE END", 1, 9),
+        ("REPI(i,2) SPACE END", 1, 1),
+        ("WHILE(1==1) SPACE END", 1, 1),
+        ("WHILEI(i,1==1) SPACE END", 1, 1),
+        ("IF(1==1) SPACE END", 1, 1),
+    ] {
+        let fault = LoadFault {
+            kind: LoadKind::NotInProfile,
+            place: Some(Place { line, column }),
+        };
         let mut source = FromRead::new(program.as_bytes());
         let refusal = Plan::load(rt.alloc(), &mut source).err();
         assert_eq!(rt; refusal, Some(fault), "{program}");
@@ -56,7 +87,7 @@ fn a_program_is_whole_however_its_reads_are_cut(rt: HostRuntime) {
         });
         let plan = Plan::load(alloc, &mut source);
         assert_eq!(rt;
-            plan.map(|plan| plan.commands.len()).ok(),
+            plan.map(|plan| plan.program.commands().len()).ok(),
             Some(2),
             "{most} at once"
         );
