@@ -21,3 +21,4 @@ pub mod Targets
 pub mod CommandReads
 pub mod Blocks
 pub mod Parsing
+pub mod TestGroups

@@ -1,5 +1,5 @@
 -- How tests are told from expressions; for the contracts of private functions alone.
-use Rattle.std.specs.Prelude.{◌≡◌, ℕ, zero, suc, ◌<◌, Bool, true, false, if◌then◌else◌, List, [], ◌∷◌, ◌++◌, Option, Some, None}
+use Rattle.std.specs.Prelude.{◌≡◌, ℕ, zero, suc, ◌<◌, replicate, Bool, true, false, if◌then◌else◌, List, [], ◌∷◌, ◌++◌, Option, Some, None}
 use Rattle.ctd_syntax.specs.declared.token.Mark.TheVariants as marks
 use Rattle.ctd_syntax.specs.declared.token.Mark.TheVariants.{Open, Close, Comma, Bang, AndAnd, OrOr}
 use Rattle.ctd_syntax.specs.declared.keyword.Keyword.{Keyword}
@@ -94,3 +94,48 @@ abbrev pub holds_test : Option ℕ → List Lexeme → Bool
 holds_test None ts = false
 holds_test (Some n) [] = false
 holds_test (Some n) (t ∷ ts) = if is_test (effect_of t) then true else holds_test (depth_after (effect_of t) n) ts
+
+-- one more parenthesis is needed
+abbrev pub one_more : Option ℕ → Option ℕ
+one_more None = None
+one_more (Some n) = Some (suc n)
+
+-- what a token makes of that number, by what it is behind the token
+abbrev pub around_token : Effect → ℕ → (ℕ → Option ℕ) → Option ℕ
+around_token Tests d behind = Some 0
+around_token Opens d behind = behind (suc d)
+around_token Closes zero behind = one_more (behind 0)
+around_token Closes (suc d) behind = behind d
+around_token Keeps d behind = behind d
+
+-- how many parentheses must stand open before some tokens so that a test comes before they are closed, while so many more are open
+abbrev pub around : ℕ → List Lexeme → Option ℕ
+around d [] = None
+around d (t ∷ ts) = around_token (effect_of t) d (λ e. around e ts)
+
+-- whether n is enough
+abbrev pub is_within : ℕ → Option ℕ → Bool
+is_within n None = false
+is_within n (Some zero) = true
+is_within zero (Some (suc m)) = false
+is_within (suc n) (Some (suc m)) = is_within n (Some m)
+
+-- whether a parenthesis comes first
+abbrev pub opens : List Lexeme → Bool
+opens [] = false
+opens (mark Open ∷ ts) = true
+opens _ = false
+
+-- so many parentheses
+abbrev pub openings : ℕ → List Lexeme
+openings n = replicate n (mark Open)
+
+-- so many parentheses at the front hold a test, one within the other, and no further one within them does
+abbrev pub AreGroups : ℕ → List Lexeme → Type 0
+AreGroups zero ts = (r : List Lexeme) → ts ≡ mark Open ∷ r → holds_test (Some 0) r ≡ false
+AreGroups (suc n) ts = (r : List Lexeme) × (ts ≡ mark Open ∷ r) × (holds_test (Some 0) r ≡ true) × AreGroups n r
+
+-- what may be known of that
+abbrev pub AreKnown : Option ℕ → List Lexeme → Type 0
+AreKnown None ts = Unit {0}
+AreKnown (Some n) ts = AreGroups n ts

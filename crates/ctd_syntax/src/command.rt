@@ -101,7 +101,7 @@ fn assert<'t>(
     let Some(after) = after_mark(Mark::Open, pieces) else {
         return Err(Refusal::Syntax(pieces.len()));
     };
-    let (condition, rest) = test_before(alloc, Mark::Close, after)?;
+    let (condition, rest) = test_before(alloc, Mark::Close, None, after)?;
     let action = Action::Assert(condition);
     Ok((Command { place, action }, rest))
 }
@@ -166,7 +166,7 @@ fn tested<'t>(
     ensures tree { Reads (IsPair IsTest IsLoopEnd) Always (λ x. ((test_tree x.0.0, (boxed_separator x.0.1.0, command_list x.0.1.1)), map piece x.1.now)) result (map piece pieces.now) }
     ensures shorter { IfOk result (λ x. length x.1.now ≤ length pieces.now) }
 {
-    let (condition, rest) = test(alloc, pieces)?;
+    let (condition, rest) = test(alloc, None, pieces)?;
     let (end, rest) = loop_end(alloc, rest)?;
     Ok(((condition, end), rest))
 }
@@ -290,7 +290,7 @@ fn choice<'t>(
     let Some(after) = after_mark(Mark::Open, pieces) else {
         return Err(Refusal::Syntax(pieces.len()));
     };
-    let (condition, rest) = test_before(alloc, Mark::Close, after)?;
+    let (condition, rest) = test_before(alloc, Mark::Close, None, after)?;
     let ((then_do, else_do), rest) = branches(alloc, rest)?;
     let action = Action::If(condition, then_do, else_do);
     Ok((Command { place, action }, rest))

@@ -1,13 +1,13 @@
 //! From tokens to tests, by levels and loops (checktestdata language specification, grammar).
 
-ghost use Rattle.std.specs.Prelude.{◌≡◌, ◌≤◌, ◌<◌, [], ◌∷◌, List, true, false, length, map, IfOk, IfSome, IfNone, Some};
+ghost use Rattle.std.specs.Prelude.{◌≡◌, ◌≤◌, ◌<◌, ◌++◌, [], ◌∷◌, ℕ, List, true, false, length, map, drop, IfOk, IfSome, IfNone, Some};
 ghost use Rattle.ctd_syntax.specs.Lexeme;
 ghost use Rattle.ctd_syntax.specs.Lexeme.{Lexeme};
 ghost use Rattle.ctd_syntax.specs.View.{expr_tree, test_tree};
 ghost use Rattle.ctd_syntax.specs.Grammar.{IsTest, IsBoth, IsNegated, IsPlain};
 ghost use Rattle.ctd_syntax.specs.Front.{Reads, Always, IsBefore, IsName, StartsWith, piece};
 ghost use Rattle.ctd_syntax.specs.Levels.{ends};
-ghost use Rattle.ctd_syntax.specs.Tests.{test_ends, compare_operator, question, Asked, IsLeft, IsCompared, effect_of, holds_test};
+ghost use Rattle.ctd_syntax.specs.Tests.{test_ends, compare_operator, question, Asked, IsLeft, IsCompared, AreGroups, AreKnown, around, effect_of, holds_test, is_within, openings, opens};
 
 use crate::expression::{expr, expr_before};
 use crate::front::{Refusal, after_mark, name_at};
@@ -56,27 +56,59 @@ fn effect_of(token: &Piece<'_>) -> Effect
     }
 }
 
-// Whether a test stands before the parenthesis that closes the one before these tokens.
-fn holds_test(pieces: &[Piece<'_>]) -> bool
-    ensures { result ≡ holds_test (Some 0) (map piece pieces.now) }
+// How many parentheses stand at the front.
+fn opening_len(pieces: &[Piece<'_>]) -> usize
+    ensures within { result ≤ length pieces.now }
+    ensures opening { map piece pieces.now ≡ openings result ++ map piece (drop result pieces.now) }
+    ensures ended { opens (map piece (drop result pieces.now)) ≡ false }
 {
-    let mut depth: usize = 0;
     let mut n = 0;
     while n < pieces.len() {
+        if effect_of(&pieces[n]) != Effect::Opens {
+            return n;
+        }
+        n += 1;
+    }
+    n
+}
+
+// How many parentheses must stand open before these tokens so that a test comes before they are closed; none where that
+// many are not enough.
+fn around(limit: usize, pieces: &[Piece<'_>]) -> Option<usize>
+    ensures some { IfSome result (λ n. (n < limit) × (around 0 (map piece pieces.now) ≡ Some n)) }
+    ensures none { IfNone result ((n : ℕ) → n < limit → is_within n (around 0 (map piece pieces.now)) ≡ false) }
+{
+    let mut closed: usize = 0;
+    let mut depth: usize = 0;
+    let mut n = 0;
+    while closed < limit && n < pieces.len() {
         match effect_of(&pieces[n]) {
-            Effect::Tests => return true,
+            Effect::Tests => return Some(closed),
             Effect::Opens => depth += 1,
             Effect::Closes => {
                 if depth == 0 {
-                    return false;
+                    closed += 1;
+                } else {
+                    depth -= 1;
                 }
-                depth -= 1;
             }
             Effect::Keeps => {}
         }
         n += 1;
     }
-    false
+    None
+}
+
+// How many parentheses at the front hold a test, one within the other. One scan tells it of all of them: read anew for
+// each, long texts in many parentheses would take long.
+fn test_groups(pieces: &[Piece<'_>]) -> usize
+    ensures { AreGroups result (map piece pieces.now) }
+{
+    let openings = opening_len(pieces);
+    match around(openings, &pieces[openings..]) {
+        Some(closed) => openings - closed,
+        None => 0,
+    }
 }
 
 // The comparison at the front, and what follows it.
@@ -111,15 +143,25 @@ fn question_at<'t>(pieces: &'t [Piece<'t>]) -> Option<(Keyword, &'t [Piece<'t>])
     }
 }
 
-// What follows a parenthesis at the front that holds a test.
-fn group_at<'t>(pieces: &'t [Piece<'t>]) -> Option<&'t [Piece<'t>]>
-    ensures found { IfSome result (λ rest. map piece pieces.now ≡ Lexeme.mark Mark.Open ∷ map piece rest.now) }
-    ensures holds { IfSome result (λ rest. holds_test (Some 0) (map piece rest.now) ≡ true) }
-    ensures shorter { IfSome result (λ rest. length rest.now < length pieces.now) }
+// What follows a parenthesis at the front that holds a test, and how many further ones stand there and do. It may be known
+// how many do with the first.
+fn group_at<'t>(groups: Option<usize>, pieces: &'t [Piece<'t>]) -> Option<(usize, &'t [Piece<'t>])>
+    requires known { AreKnown groups (map piece pieces.now) }
+    ensures found { IfSome result (λ x. map piece pieces.now ≡ Lexeme.mark Mark.Open ∷ map piece x.1.now) }
+    ensures holds { IfSome result (λ x. holds_test (Some 0) (map piece x.1.now) ≡ true) }
+    ensures further { IfSome result (λ x. AreGroups x.0 (map piece x.1.now)) }
+    ensures shorter { IfSome result (λ x. length x.1.now < length pieces.now) }
     ensures none { IfNone result ((ts : List Lexeme) → map piece pieces.now ≡ Lexeme.mark Mark.Open ∷ ts → holds_test (Some 0) ts ≡ false) }
 {
+    let groups = match groups {
+        Some(groups) => groups,
+        None => test_groups(pieces),
+    };
+    if groups == 0 {
+        return None;
+    }
     let rest = after_mark(Mark::Open, pieces)?;
-    if holds_test(rest) { Some(rest) } else { None }
+    Some((groups - 1, rest))
 }
 
 // An expression and the comparison behind it.
@@ -219,18 +261,20 @@ fn asked<'t>(
     }
 }
 
-/// The test at the front, and what follows it.
+/// The test at the front, and what follows it. It may be known how many parentheses there hold a test.
 #[cycle(test)]
 pub(crate) fn test<'t>(
     alloc: Global,
+    groups: Option<usize>,
     pieces: &'t [Piece<'t>],
 ) -> Result<(Test, &'t [Piece<'t>]), Refusal>
+    requires known { AreKnown groups (map piece pieces.now) }
     ensures tree { Reads IsTest (test_ends 1) (λ x. (test_tree x.0, map piece x.1.now)) result (map piece pieces.now) }
     ensures shorter { IfOk result (λ x. length x.1.now ≤ length pieces.now) }
 {
-    let (mut left, mut rest) = both(alloc, pieces)?;
+    let (mut left, mut rest) = both(alloc, groups, pieces)?;
     while let Some(after) = after_mark(Mark::OrOr, rest) {
-        let (right, after) = both(alloc, after)?;
+        let (right, after) = both(alloc, None, after)?;
         let a = Box::new(alloc, left)?;
         let b = Box::new(alloc, right)?;
         left = Test::Or(a, b);
@@ -240,13 +284,18 @@ pub(crate) fn test<'t>(
 }
 
 #[cycle(test)]
-fn both<'t>(alloc: Global, pieces: &'t [Piece<'t>]) -> Result<(Test, &'t [Piece<'t>]), Refusal>
+fn both<'t>(
+    alloc: Global,
+    groups: Option<usize>,
+    pieces: &'t [Piece<'t>],
+) -> Result<(Test, &'t [Piece<'t>]), Refusal>
+    requires known { AreKnown groups (map piece pieces.now) }
     ensures tree { Reads IsBoth (test_ends 2) (λ x. (test_tree x.0, map piece x.1.now)) result (map piece pieces.now) }
     ensures shorter { IfOk result (λ x. length x.1.now ≤ length pieces.now) }
 {
-    let (mut left, mut rest) = negated(alloc, pieces)?;
+    let (mut left, mut rest) = negated(alloc, groups, pieces)?;
     while let Some(after) = after_mark(Mark::AndAnd, rest) {
-        let (right, after) = negated(alloc, after)?;
+        let (right, after) = negated(alloc, None, after)?;
         let a = Box::new(alloc, left)?;
         let b = Box::new(alloc, right)?;
         left = Test::And(a, b);
@@ -256,45 +305,58 @@ fn both<'t>(alloc: Global, pieces: &'t [Piece<'t>]) -> Result<(Test, &'t [Piece<
 }
 
 #[cycle(test)]
-fn negated<'t>(alloc: Global, pieces: &'t [Piece<'t>]) -> Result<(Test, &'t [Piece<'t>]), Refusal>
+fn negated<'t>(
+    alloc: Global,
+    groups: Option<usize>,
+    pieces: &'t [Piece<'t>],
+) -> Result<(Test, &'t [Piece<'t>]), Refusal>
+    requires known { AreKnown groups (map piece pieces.now) }
     ensures tree { Reads IsNegated (ends 1) (λ x. (test_tree x.0, map piece x.1.now)) result (map piece pieces.now) }
     ensures shorter { IfOk result (λ x. length x.1.now ≤ length pieces.now) }
 {
     match after_mark(Mark::Bang, pieces) {
         Some(after) => {
-            let (operand, rest) = negated(alloc, after)?;
+            let (operand, rest) = negated(alloc, None, after)?;
             Ok((Test::Not(Box::new(alloc, operand)?), rest))
         }
-        None => plain(alloc, pieces),
+        None => plain(alloc, groups, pieces),
     }
 }
 
 #[cycle(test)]
-fn plain<'t>(alloc: Global, pieces: &'t [Piece<'t>]) -> Result<(Test, &'t [Piece<'t>]), Refusal>
+fn plain<'t>(
+    alloc: Global,
+    groups: Option<usize>,
+    pieces: &'t [Piece<'t>],
+) -> Result<(Test, &'t [Piece<'t>]), Refusal>
+    requires known { AreKnown groups (map piece pieces.now) }
     ensures tree { Reads IsPlain (ends 1) (λ x. (test_tree x.0, map piece x.1.now)) result (map piece pieces.now) }
     ensures shorter { IfOk result (λ x. length x.1.now ≤ length pieces.now) }
 {
     if let Some((keyword, rest)) = question_at(pieces) {
         return asked(alloc, keyword, rest);
     }
-    if let Some(rest) = group_at(pieces) {
-        return test_before(alloc, Mark::Close, rest);
+    if let Some((further, rest)) = group_at(groups, pieces) {
+        return test_before(alloc, Mark::Close, Some(further), rest);
     }
     comparison(alloc, pieces)
 }
 
-/// The test at the front and a mark behind it, and what follows the mark.
+/// The test at the front and a mark behind it, and what follows the mark. It may be known how many parentheses there
+/// hold a test.
 #[cycle(test)]
 pub(crate) fn test_before<'t>(
     alloc: Global,
     mark: Mark,
+    groups: Option<usize>,
     pieces: &'t [Piece<'t>],
 ) -> Result<(Test, &'t [Piece<'t>]), Refusal>
     requires ends { test_ends 1 (Lexeme.mark mark ∷ []) }
+    requires known { AreKnown groups (map piece pieces.now) }
     ensures tree { Reads (IsBefore mark IsTest) Always (λ x. (test_tree x.0, map piece x.1.now)) result (map piece pieces.now) }
     ensures shorter { IfOk result (λ x. length x.1.now ≤ length pieces.now) }
 {
-    let (read, rest) = test(alloc, pieces)?;
+    let (read, rest) = test(alloc, groups, pieces)?;
     match after_mark(mark, rest) {
         Some(rest) => Ok((read, rest)),
         None => Err(Refusal::Syntax(rest.len())),

@@ -9,7 +9,13 @@ use std::alloc::Global;
 use std::fmt::Write;
 use std::test::Fail;
 
+mod answers;
+mod depths;
+mod grammar;
+mod megabytes;
 mod presets;
+mod refusals;
+mod tree_text;
 
 // What `tokens` answers for a text, written as the rows below write it: for each token its kind, its
 // span and its place, or the kind of the fault and its place.

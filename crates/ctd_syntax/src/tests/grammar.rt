@@ -1,0 +1,410 @@
+//! Texts of programs with the trees that they spell, worked out by hand from the grammar.
+
+use super::answers::answer;
+use std::alloc::Global;
+use std::process::Abort;
+use std::test::Fail;
+
+// What `parse` has to answer for each text between two others is the wanted one between two others.
+fn between(
+    rt: &impl Abort,
+    alloc: Global,
+    table: &[(&str, &str)],
+    around: (&str, &str),
+    wanted_around: (&str, &str),
+) -> Result<(), Fail> {
+    for (text, wanted) in table {
+        let program = joined(alloc, around, text)?;
+        let wanted = joined(alloc, wanted_around, wanted)?;
+        let found = answer(alloc, program.as_str().as_bytes())?;
+        assert_eq!(rt; found.as_str(), wanted.as_str(), "at {text:?}");
+    }
+    Ok(())
+}
+
+fn joined(alloc: Global, around: (&str, &str), inside: &str) -> Result<String, Fail> {
+    Ok(format!(in alloc; "{}{inside}{}", around.0, around.1)?)
+}
+
+fn expressions(rt: &impl Abort, alloc: Global, table: &[(&str, &str)]) -> Result<(), Fail> {
+    between(rt, alloc, table, ("STRING(", ")"), ("STRING@1:1(", ")"))
+}
+
+fn tests(rt: &impl Abort, alloc: Global, table: &[(&str, &str)]) -> Result<(), Fail> {
+    between(rt, alloc, table, ("ASSERT(", ")"), ("ASSERT@1:1(", ")"))
+}
+
+fn programs(rt: &impl Abort, alloc: Global, table: &[(&str, &str)]) -> Result<(), Fail> {
+    between(rt, alloc, table, ("", ""), ("", ""))
+}
+
+const OPERATORS: [(&str, &str); 27] = [
+    ("1+2", "(1+2)"),
+    ("1-2", "(1-2)"),
+    ("1*2", "(1*2)"),
+    ("1/2", "(1/2)"),
+    ("1%2", "(1%2)"),
+    ("1^2", "(1^2)"),
+    // From the left.
+    ("1-2-3", "((1-2)-3)"),
+    ("1-2+3", "((1-2)+3)"),
+    ("1+2-3+4", "(((1+2)-3)+4)"),
+    ("8/4/2", "((8/4)/2)"),
+    ("8/4*2", "((8/4)*2)"),
+    ("8%5%2", "((8%5)%2)"),
+    ("2*3%4/5", "(((2*3)%4)/5)"),
+    // Products before sums.
+    ("1+2*3", "(1+(2*3))"),
+    ("1*2+3", "((1*2)+3)"),
+    ("1-2/3", "(1-(2/3))"),
+    ("1%2-3", "((1%2)-3)"),
+    ("1+2*3-4/5%6", "((1+(2*3))-((4/5)%6))"),
+    // Parentheses leave nothing but the order.
+    ("1-(2-3)", "(1-(2-3))"),
+    ("(1-2)-3", "((1-2)-3)"),
+    ("(1+2)*3", "((1+2)*3)"),
+    ("8/(4/2)", "(8/(4/2))"),
+    ("1*(2+3)*4", "((1*(2+3))*4)"),
+    ("(1)-((2)-(3))", "(1-(2-3))"),
+    ("((7))", "7"),
+    ("(a)", "a"),
+    (" 1 # x\n -\t2 \r\n- 3 ", "((1-2)-3)"),
+];
+
+#[test]
+fn order_of_operators(rt: HostRuntime) -> Result<(), Fail> {
+    expressions(&rt, rt.alloc(), &OPERATORS)
+}
+
+const POWERS: [(&str, &str); 31] = [
+    ("2^3^2", "(2^(3^2))"),
+    ("2^3^2^1", "(2^(3^(2^1)))"),
+    ("(2^3)^2", "((2^3)^2)"),
+    ("2^(3^2)", "(2^(3^2))"),
+    ("2*3^2", "(2*(3^2))"),
+    ("2^3*4", "((2^3)*4)"),
+    ("2^3-4", "((2^3)-4)"),
+    ("2^(1+1)^2", "(2^((1+1)^2))"),
+    ("-2", "(-2)"),
+    ("--2", "(-(-2))"),
+    ("- - -a", "(-(-(-a)))"),
+    ("-2^2", "(-(2^2))"),
+    ("--2^2", "(-(-(2^2)))"),
+    ("(-2)^2", "((-2)^2)"),
+    ("-(2^2)", "(-(2^2))"),
+    ("2^-3", "(2^(-3))"),
+    ("2^--3", "(2^(-(-3)))"),
+    ("2^-3^2", "(2^(-(3^2)))"),
+    ("2^-3^-4^5", "(2^(-(3^(-(4^5)))))"),
+    ("2^(-3)^2", "(2^((-3)^2))"),
+    ("2^-3*4", "((2^(-3))*4)"),
+    ("2^-3-4", "((2^(-3))-4)"),
+    ("-2^-2", "(-(2^(-2)))"),
+    // Behind a minus stands no more than a power.
+    ("-a*b", "((-a)*b)"),
+    ("-a-b", "((-a)-b)"),
+    ("-(a-b)", "(-(a-b))"),
+    // The operand of a product may start with a minus.
+    ("a*-b", "(a*(-b))"),
+    ("a%-b^c*d", "((a%(-(b^c)))*d)"),
+    ("a--b", "(a-(-b))"),
+    ("a+-b*c", "(a+((-b)*c))"),
+    ("1--1--1", "((1-(-1))-(-1))"),
+];
+
+#[test]
+fn powers_and_minus(rt: HostRuntime) -> Result<(), Fail> {
+    expressions(&rt, rt.alloc(), &POWERS)
+}
+
+const VALUES: [(&str, &str); 29] = [
+    ("0", "0"),
+    (
+        "170141183460469231731687303715884105727",
+        "170141183460469231731687303715884105727",
+    ),
+    (
+        "-170141183460469231731687303715884105727-1",
+        "((-170141183460469231731687303715884105727)-1)",
+    ),
+    ("\"\"", "\"\""),
+    ("\"a b\"", "\"a b\""),
+    ("\"(\"", "\"(\""),
+    ("\"\\101\\x\"", "\"A\\x\""),
+    ("\"a\"+\"b\"", "(\"a\"+\"b\")"),
+    ("a", "a"),
+    ("a1b2", "a1b2"),
+    ("end", "end"),
+    ("a[1]", "a[1]"),
+    ("a [ 1 ]", "a[1]"),
+    ("a[\"k\"]", "a[\"k\"]"),
+    ("a[1,2]", "a[1,2]"),
+    ("a[1,\"x\",b]", "a[1,\"x\",b]"),
+    ("a[1-2-3,4]", "a[((1-2)-3),4]"),
+    ("a[-1]", "a[(-1)]"),
+    ("a[(1)]", "a[1]"),
+    ("a[b[c[1]]]", "a[b[c[1]]]"),
+    ("a[b[1],c[2,d[3]]]", "a[b[1],c[2,d[3]]]"),
+    ("s[s]", "s[s]"),
+    ("-a[1]^b[2]", "(-(a[1]^b[2]))"),
+    ("a[1]-b[2]-c", "((a[1]-b[2])-c)"),
+    ("STRLEN(s)", "STRLEN(s)"),
+    ("STRLEN((s))", "STRLEN(s)"),
+    ("-STRLEN(s)^2", "(-(STRLEN(s)^2))"),
+    ("STRLEN(a[i]+1)*2", "(STRLEN((a[i]+1))*2)"),
+    ("STRLEN(STRLEN(\"ab\"))", "STRLEN(STRLEN(\"ab\"))"),
+];
+
+#[test]
+fn numbers_strings_and_variables(rt: HostRuntime) -> Result<(), Fail> {
+    expressions(&rt, rt.alloc(), &VALUES)
+}
+
+const TESTS: [(&str, &str); 39] = [
+    ("1<2", "(1<2)"),
+    ("1>2", "(1>2)"),
+    ("1<=2", "(1<=2)"),
+    ("1>=2", "(1>=2)"),
+    ("1==2", "(1==2)"),
+    ("1!=2", "(1!=2)"),
+    ("1+2<3*4", "((1+2)<(3*4))"),
+    ("-a<-b", "((-a)<(-b))"),
+    ("a-1==2^3^4", "((a-1)==(2^(3^4)))"),
+    ("a[1]!=\"x\"", "(a[1]!=\"x\")"),
+    // From the left, and && before ||.
+    ("a==1||b==2||c==3", "(((a==1)||(b==2))||(c==3))"),
+    ("a==1&&b==2&&c==3", "(((a==1)&&(b==2))&&(c==3))"),
+    ("a==1||b==2&&c==3", "((a==1)||((b==2)&&(c==3)))"),
+    ("a==1&&b==2||c==3", "(((a==1)&&(b==2))||(c==3))"),
+    (
+        "ISEOF||ISEOF&&ISEOF||ISEOF",
+        "((ISEOF||(ISEOF&&ISEOF))||ISEOF)",
+    ),
+    ("(a==1||b==2)&&c==3", "(((a==1)||(b==2))&&(c==3))"),
+    ("a==1||(b==2||c==3)", "((a==1)||((b==2)||(c==3)))"),
+    ("a==1&&(b==2&&c==3)", "((a==1)&&((b==2)&&(c==3)))"),
+    ("a==1&&(b==2||c==3)", "((a==1)&&((b==2)||(c==3)))"),
+    // Behind a negation stands one test that is no && and no ||.
+    ("!1==2", "(!(1==2))"),
+    ("!1!=2", "(!(1!=2))"),
+    ("!-a==1", "(!((-a)==1))"),
+    ("!!ISEOF", "(!(!ISEOF))"),
+    ("! ! !1==2", "(!(!(!(1==2))))"),
+    ("!a==1&&b==2", "((!(a==1))&&(b==2))"),
+    ("!a==1||b==2", "((!(a==1))||(b==2))"),
+    ("a==1&&!b==2", "((a==1)&&(!(b==2)))"),
+    ("!(a==1&&b==2)", "(!((a==1)&&(b==2)))"),
+    ("!(a==1)&&b==2", "((!(a==1))&&(b==2))"),
+    ("!(!ISEOF||ISEOF)", "(!((!ISEOF)||ISEOF))"),
+    ("MATCH(\"ab\")", "MATCH(\"ab\")"),
+    ("MATCH((s)+1)", "MATCH((s+1))"),
+    ("ISEOF", "ISEOF"),
+    ("UNIQUE(a)", "UNIQUE(a)"),
+    ("UNIQUE(a,b,c)", "UNIQUE(a,b,c)"),
+    ("INARRAY(1,a)", "INARRAY(1,a)"),
+    ("INARRAY(b[1,2]-3,a)", "INARRAY((b[1,2]-3),a)"),
+    (
+        "UNIQUE(a,b)&&!INARRAY(1,a)",
+        "(UNIQUE(a,b)&&(!INARRAY(1,a)))",
+    ),
+    ("!MATCH(\"\\\\\")", "(!MATCH(\"\\\"))"),
+];
+
+#[test]
+fn tests_and_negations(rt: HostRuntime) -> Result<(), Fail> {
+    tests(&rt, rt.alloc(), &TESTS)
+}
+
+const PARENTHESES: [(&str, &str); 34] = [
+    ("(1==1)", "(1==1)"),
+    ("((1==1))", "(1==1)"),
+    ("(1)==1", "(1==1)"),
+    ("1==(1)", "(1==1)"),
+    ("((1))==((1))", "(1==1)"),
+    ("((1)==1)", "(1==1)"),
+    ("(((1)==(1)))", "(1==1)"),
+    ("((1)+2)*3==9", "(((1+2)*3)==9)"),
+    ("(((1)+2)*3==9)", "(((1+2)*3)==9)"),
+    ("(1+2)==(3)", "((1+2)==3)"),
+    ("(1)+(2)==3", "((1+2)==3)"),
+    ("(1)+(2)<(3)-(4)", "((1+2)<(3-4))"),
+    ("((1)+(2)==3)", "((1+2)==3)"),
+    ("(1)^2==1", "((1^2)==1)"),
+    ("(-1)^2==1", "(((-1)^2)==1)"),
+    ("-(1)==1", "((-1)==1)"),
+    ("-(-(1))==1", "((-(-1))==1)"),
+    ("(a)!=(b)", "(a!=b)"),
+    ("(a[(1)])==1", "(a[1]==1)"),
+    ("(STRLEN(s))==(0)", "(STRLEN(s)==0)"),
+    ("(STRLEN((s)))==0", "(STRLEN(s)==0)"),
+    ("(ISEOF)", "ISEOF"),
+    ("((ISEOF))", "ISEOF"),
+    ("!(ISEOF)", "(!ISEOF)"),
+    ("(!ISEOF)", "(!ISEOF)"),
+    ("((!(ISEOF)))", "(!ISEOF)"),
+    ("(!(1)==(1))", "(!(1==1))"),
+    ("(MATCH(\"a\"))", "MATCH(\"a\")"),
+    ("(UNIQUE(a,b))", "UNIQUE(a,b)"),
+    ("(INARRAY((1),a))", "INARRAY(1,a)"),
+    ("(1==1)&&(2==2)", "((1==1)&&(2==2))"),
+    ("((1==1)&&(2==2))||(3==3)", "(((1==1)&&(2==2))||(3==3))"),
+    ("((1)<(2))&&!((3)>(4))", "((1<2)&&(!(3>4)))"),
+    ("((ISEOF))&&((1)==(1))", "(ISEOF&&(1==1))"),
+];
+
+#[test]
+fn parentheses_of_tests(rt: HostRuntime) -> Result<(), Fail> {
+    tests(&rt, rt.alloc(), &PARENTHESES)
+}
+
+const COMMANDS: [(&str, &str); 39] = [
+    ("", ""),
+    ("# SPACE", ""),
+    ("SPACE", "SPACE@1:1"),
+    ("SPACE # x", "SPACE@1:1"),
+    ("NEWLINE", "NEWLINE@1:1"),
+    ("EOF", "EOF@1:1"),
+    ("INT(1,10)", "INT@1:1(1,10)"),
+    ("INT(1,10,n)", "INT@1:1(1,10,n)"),
+    ("INT(-1,2^3,a[i,\"x\"])", "INT@1:1((-1),(2^3),a[i,\"x\"])"),
+    ("INT((1),a[1,2])", "INT@1:1(1,a[1,2])"),
+    ("STRING(\"ab\")", "STRING@1:1(\"ab\")"),
+    ("STRING(a[1]-2-3)", "STRING@1:1(((a[1]-2)-3))"),
+    ("REGEX(\"[a-z]+\")", "REGEX@1:1(\"[a-z]+\"@1:7)"),
+    ("REGEX(\"x\",w)", "REGEX@1:1(\"x\"@1:7,w)"),
+    (
+        "REGEX (\"x\" , w[1-2,i])",
+        "REGEX@1:1(\"x\"@1:8,w[(1-2),i])",
+    ),
+    ("ASSERT(ISEOF)", "ASSERT@1:1(ISEOF)"),
+    ("SET(a=1)", "SET@1:1(a=1)"),
+    ("SET(a=1,b[2]=-a,c=\"x\")", "SET@1:1(a=1,b[2]=(-a),c=\"x\")"),
+    ("SET(x=-2^2,y=2^-3^2)", "SET@1:1(x=(-(2^2)),y=(2^(-(3^2))))"),
+    ("SET(a[1,2]=(3))", "SET@1:1(a[1,2]=3)"),
+    ("UNSET(a)", "UNSET@1:1(a)"),
+    ("UNSET(a,b,a)", "UNSET@1:1(a,b,a)"),
+    ("REP(2) END", "REP@1:1(2){}"),
+    ("REP(n-1-2) SPACE END", "REP@1:1(((n-1)-2)){SPACE@1:12}"),
+    ("REP(2,SPACE) END", "REP@1:1(2,SPACE@1:7){}"),
+    (
+        "REP(2,SPACE) INT(0,9) NEWLINE END",
+        "REP@1:1(2,SPACE@1:7){INT@1:14(0,9) NEWLINE@1:23}",
+    ),
+    ("REPI(i,3) SPACE END", "REPI@1:1(i,3){SPACE@1:11}"),
+    (
+        "REPI(a[1,2],n,INT(0,9,b)) END",
+        "REPI@1:1(a[1,2],n,INT@1:15(0,9,b)){}",
+    ),
+    ("WHILE(1<2) NEWLINE END", "WHILE@1:1((1<2)){NEWLINE@1:12}"),
+    (
+        "WHILE(!MATCH(\"\\n\"),SPACE) INT(0,9) END NEWLINE",
+        "WHILE@1:1((!MATCH(\"\n\")),SPACE@1:20){INT@1:27(0,9)} NEWLINE@1:40",
+    ),
+    (
+        "WHILE((1)==(1),SPACE) END",
+        "WHILE@1:1((1==1),SPACE@1:16){}",
+    ),
+    ("WHILEI(i,i<2) SPACE END", "WHILEI@1:1(i,(i<2)){SPACE@1:15}"),
+    (
+        "WHILEI(a[0],ISEOF,NEWLINE) EOF END",
+        "WHILEI@1:1(a[0],ISEOF,NEWLINE@1:19){EOF@1:28}",
+    ),
+    ("IF(ISEOF) END", "IF@1:1(ISEOF){}{}"),
+    ("IF(ISEOF) SPACE END", "IF@1:1(ISEOF){SPACE@1:11}{}"),
+    ("IF(ISEOF) ELSE END", "IF@1:1(ISEOF){}{}"),
+    ("IF(ISEOF) ELSE SPACE END", "IF@1:1(ISEOF){}{SPACE@1:16}"),
+    (
+        "IF((1==1)) SPACE ELSE NEWLINE EOF END EOF",
+        "IF@1:1((1==1)){SPACE@1:12}{NEWLINE@1:23 EOF@1:31} EOF@1:39",
+    ),
+    (
+        "IF(ISEOF) SPACE EOF ELSE NEWLINE END",
+        "IF@1:1(ISEOF){SPACE@1:11 EOF@1:17}{NEWLINE@1:26}",
+    ),
+];
+
+#[test]
+fn each_command(rt: HostRuntime) -> Result<(), Fail> {
+    programs(&rt, rt.alloc(), &COMMANDS)
+}
+
+const BLOCKS: [(&str, &str); 12] = [
+    (
+        "REP(1) REP(2) SPACE END NEWLINE END EOF",
+        "REP@1:1(1){REP@1:8(2){SPACE@1:15} NEWLINE@1:25} EOF@1:37",
+    ),
+    ("REP(1) END REP(2) END", "REP@1:1(1){} REP@1:12(2){}"),
+    // An ELSE is that of the innermost IF that is open.
+    (
+        "IF(ISEOF) IF(1<2) SPACE ELSE EOF END END",
+        "IF@1:1(ISEOF){IF@1:11((1<2)){SPACE@1:19}{EOF@1:30}}{}",
+    ),
+    (
+        "IF(ISEOF) IF(1<2) SPACE END ELSE EOF END",
+        "IF@1:1(ISEOF){IF@1:11((1<2)){SPACE@1:19}{}}{EOF@1:34}",
+    ),
+    (
+        "IF(ISEOF) ELSE IF(1<2) ELSE SPACE END END",
+        "IF@1:1(ISEOF){}{IF@1:16((1<2)){}{SPACE@1:29}}",
+    ),
+    (
+        "IF(ISEOF) REP(2) SPACE END ELSE EOF END",
+        "IF@1:1(ISEOF){REP@1:11(2){SPACE@1:18}}{EOF@1:33}",
+    ),
+    // A separator is any one command, a whole block too.
+    (
+        "REP(2,REP(2) SPACE END) NEWLINE END",
+        "REP@1:1(2,REP@1:7(2){SPACE@1:14}){NEWLINE@1:25}",
+    ),
+    (
+        "REPI(i,3,IF(i==1) SPACE ELSE NEWLINE END) INT(0,9) END",
+        "REPI@1:1(i,3,IF@1:10((i==1)){SPACE@1:19}{NEWLINE@1:30}){INT@1:43(0,9)}",
+    ),
+    (
+        "REP(1,REP(2,REP(3,SPACE) EOF END) END) NEWLINE END",
+        "REP@1:1(1,REP@1:7(2,REP@1:13(3,SPACE@1:19){EOF@1:26}){}){NEWLINE@1:40}",
+    ),
+    (
+        "WHILE(ISEOF,SET(a=1,b=2)) END",
+        "WHILE@1:1(ISEOF,SET@1:13(a=1,b=2)){}",
+    ),
+    (
+        "WHILEI(i,(1)<2,REGEX(\"a\",w)) END",
+        "WHILEI@1:1(i,(1<2),REGEX@1:16(\"a\"@1:22,w)){}",
+    ),
+    (
+        "REPI(i,2) WHILEI(j,1<2) WHILE(ISEOF) IF(ISEOF) END END END END",
+        "REPI@1:1(i,2){WHILEI@1:11(j,(1<2)){WHILE@1:25(ISEOF){IF@1:38(ISEOF){}{}}}}",
+    ),
+];
+
+#[test]
+fn nested_blocks(rt: HostRuntime) -> Result<(), Fail> {
+    programs(&rt, rt.alloc(), &BLOCKS)
+}
+
+const PLACES: [(&str, &str); 9] = [
+    ("SPACE NEWLINE EOF", "SPACE@1:1 NEWLINE@1:7 EOF@1:15"),
+    ("SPACE\nNEWLINE\n\nEOF", "SPACE@1:1 NEWLINE@2:1 EOF@4:1"),
+    ("\n\n  SPACE\r\n\tEOF", "SPACE@3:3 EOF@4:2"),
+    ("# SPACE\nSPACE#\nEOF", "SPACE@2:1 EOF@3:1"),
+    (
+        "REGEX\n(\n \"a\"\n,w)REGEX(#\"\n\"b\")",
+        "REGEX@1:1(\"a\"@3:2,w) REGEX@4:4(\"b\"@5:1)",
+    ),
+    ("STRING(\"\n\n\") SPACE", "STRING@1:1(\"\n\n\") SPACE@3:4"),
+    ("STRING(\"a\\\nb\")SPACE", "STRING@1:1(\"ab\") SPACE@2:4"),
+    (
+        "REP(1,\nSPACE)\n EOF\nEND EOF",
+        "REP@1:1(1,SPACE@2:1){EOF@3:2} EOF@4:5",
+    ),
+    (
+        "IF(ISEOF)\nSPACE\nELSE\n REGEX( \"x\")END",
+        "IF@1:1(ISEOF){SPACE@2:1}{REGEX@4:2(\"x\"@4:9)}",
+    ),
+];
+
+#[test]
+fn places_of_commands_and_patterns(rt: HostRuntime) -> Result<(), Fail> {
+    programs(&rt, rt.alloc(), &PLACES)
+}
