@@ -308,7 +308,10 @@ fn separator_before<'t>(
     let (between, rest) = command(alloc, pieces)?;
     match after_mark(Mark::Close, rest) {
         Some(rest) => Ok((between, rest)),
-        None => Err(Refusal::Syntax(rest.len())),
+        None => {
+            drop(between);
+            Err(Refusal::Syntax(rest.len()))
+        }
     }
 }
 

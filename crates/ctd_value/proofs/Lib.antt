@@ -1,0 +1,8 @@
+pub mod Powers
+pub mod Steps
+pub mod Distinct
+pub mod Lookups
+pub mod Listing
+pub mod Giving
+pub mod Maps
+pub mod Ordinary

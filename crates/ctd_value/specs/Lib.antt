@@ -1,0 +1,14 @@
+pub mod Order
+pub mod OrderLaws
+pub mod Fault
+pub mod Store
+pub mod Coding
+pub mod Showing
+pub mod Numbers
+pub mod Operators
+pub mod Val
+pub mod Lending
+pub mod Truth
+pub mod Testing
+pub mod Asking
+pub mod Examples

@@ -1,0 +1,22 @@
+//! What the checktestdata language computes with: values, the store of variables, expressions and tests.
+#![tactic(auto)]
+
+mod arithmetic;
+pub mod expression;
+pub mod fault;
+mod lent;
+mod order;
+mod plain_test;
+pub mod store;
+pub mod test;
+#[cfg(test)]
+mod tests;
+mod unique;
+pub mod value;
+mod variables;
+
+pub use expression::{count_of, eval, locate};
+pub use fault::{EvalFault, TestFault};
+pub use store::{EntryRef, Store};
+pub use test::holds;
+pub use value::{Key, Value, Values};

@@ -1,0 +1,149 @@
+//! The variables: what is pinned, and what is assigned.
+
+ghost use Rattle.std.specs.Prelude.{◌≡◌, IfOk, OnOk, OnErr, IsOk, IsTrue, IsPermutation, map};
+ghost use Rattle.std.specs.Option.{option_copied};
+ghost use Rattle.ctd_value.specs.Store.{initial, pinned_key, is_pinned, value_at, assign, unset, values_of, value_of};
+ghost use Rattle.ctd_value.specs.Truth.{value_in, has_indices};
+ghost use Rattle.ctd_value.specs.Showing.{entry};
+
+use crate::value::{Key, Value, Values};
+use crate::variables::Variables;
+use ctd_syntax::{Bytes, Literal, Name, Preset, Presets};
+use std::alloc::{AllocError, Global};
+use std::marker::Model;
+
+/// The variables with their values. A pinned variable keeps the value of its preset.
+#[derive(Debug, Drop)]
+pub struct Store {
+    pins: Variables,
+    assigned: Variables,
+}
+
+impl Model for Store {
+    ghost use Rattle.ctd_value.specs.Store.{History};
+    ghost use Rattle.ctd_value.specs.Coding.{coded_history};
+
+    ghost Value = { History };
+
+    ghost coded = { coded_history };
+
+    ghost view = { λ s. record { pins = s.pins; assigned = s.assigned } };
+}
+
+/// The indices of an entry of a name, and its value.
+#[derive(Clone, Copy, Debug)]
+pub struct EntryRef<'s> {
+    pub indices: &'s [Value],
+    pub value: &'s Value,
+}
+
+impl Store {
+    /// The presets pinned, the last of a name, and nothing assigned; or an error where no memory is left for them.
+    pub fn new(alloc: Global, presets: &Presets) -> Result<Store, AllocError>
+        ensures pins { IfOk result (λ store. store ≡ initial presets.now) }
+    {
+        let mut pins = Variables::new(alloc);
+        for preset in presets.pins() {
+            pins.insert(pinned_key(alloc, preset)?, value_of(alloc, &preset.value)?)?;
+        }
+        Ok(Store {
+            pins,
+            assigned: Variables::new(alloc),
+        })
+    }
+
+    /// The value of a key: its pin, or else what was assigned last. Takes no memory.
+    pub fn get(&self, key: &Key) -> Option<&Value>
+        ensures value { option_copied result ≡ value_at self.now key.now }
+    {
+        match self.pins.get(key) {
+            Some(value) => Some(value),
+            None => self.assigned.get(key),
+        }
+    }
+
+    /// The value of a name at some indices.
+    pub(crate) fn value_at(
+        &self,
+        alloc: Global,
+        name: &[u8],
+        indices: &[Value],
+    ) -> Result<Option<&Value>, AllocError>
+        ensures value { IfOk result (λ found. option_copied found ≡ value_in indices.now (values_of self.now name.now)) }
+    {
+        let key = Key::new(Bytes::copy(alloc, name)?, Values::copy(alloc, indices)?);
+        Ok(self.get(&key))
+    }
+
+    /// Whether a name has a value at some indices.
+    #[tactic(auto, using(crate::proofs::Lookups::has_is_some))]
+    pub(crate) fn has_indices(
+        &self,
+        alloc: Global,
+        name: &[u8],
+        indices: &[Value],
+    ) -> Result<bool, AllocError>
+        ensures value { IfOk result (λ b. b ≡ has_indices (values_of self.now name.now) indices.now) }
+    {
+        Ok(self.value_at(alloc, name, indices)?.is_some())
+    }
+
+    /// Gives a key a value. A pinned key stays as it is, and that takes no memory; after an error the variables are as they
+    /// were.
+    pub fn assign(&mut self, key: Key, value: Value) -> Result<(), AllocError>
+        ensures ok { OnOk result (self.new ≡ assign self.old key value) }
+        ensures pinned { IsTrue (is_pinned self.old key) → IsOk result }
+        ensures err { OnErr result (self.new ≡ self.old) }
+    {
+        if self.pins.get(&key).is_none() {
+            self.assigned.insert(key, value)?;
+        }
+        Ok(())
+    }
+
+    /// Removes all that was assigned to a name, at whatever indices; pins stay. Takes no memory.
+    pub fn unset(&mut self, name: &Name)
+        ensures value { self.new ≡ unset self.old name.now }
+    {
+        self.assigned.remove(name.as_slice());
+    }
+
+    /// Each key of a name that has a value, once and with its value, in no stated order; or an error where no memory is left
+    /// for the list.
+    pub fn entries(&self, alloc: Global, name: &Name) -> Result<Vec<EntryRef<'_>>, AllocError>
+        ensures each_once { IfOk result (λ list. IsPermutation (values_of self.now name.now) (map entry list.items)) }
+    {
+        self.entries_of(alloc, name.as_slice())
+    }
+
+    /// Each key of a name that has a value, once and with its value, in the order of the definition.
+    pub(crate) fn entries_of(
+        &self,
+        alloc: Global,
+        name: &[u8],
+    ) -> Result<Vec<EntryRef<'_>>, AllocError>
+        ensures value { IfOk result (λ list. map entry list.items ≡ values_of self.now name.now) }
+    {
+        let nothing = Variables::new(alloc);
+        let pinned = self.pins.add_entries(name, &nothing, Vec::new(alloc))?;
+        self.assigned.add_entries(name, &self.pins, pinned)
+    }
+}
+
+/// The key that a preset pins.
+fn pinned_key(alloc: Global, preset: &Preset) -> Result<Key, AllocError>
+    ensures key { IfOk result (λ key. key ≡ pinned_key preset.now) }
+{
+    let name = Bytes::copy(alloc, preset.name.as_slice())?;
+    Ok(Key::new(name, Values::none(alloc)))
+}
+
+/// The value that a literal is.
+fn value_of(alloc: Global, literal: &Literal) -> Result<Value, AllocError>
+    ensures value { IfOk result (λ value. value ≡ value_of literal.now) }
+{
+    match literal {
+        Literal::Int(n) => Ok(Value::Int(*n)),
+        Literal::Text(bytes) => Ok(Value::Text(Bytes::copy(alloc, bytes.as_slice())?)),
+    }
+}
