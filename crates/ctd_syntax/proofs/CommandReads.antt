@@ -1,20 +1,19 @@
 -- A command is told by its word, and a list of commands ends where no word of a command follows.
-use Rattle.std.proofs.Common.{◌≡◌, ◌⊎◌, inl, inr, ℕ, ◌<◌, List, [], ◌∷◌, ◌++◌, Bool, true, false, Option, refl, sym, ap, ◌∙◌, subst, append_assoc, append-nil, arith}
-use Rattle.ctd_syntax.specs.Lexeme
+use Rattle.std.proofs.Common.{◌≡◌, inl, inr, ℕ, List, [], ◌∷◌, ◌++◌, true, false, Option, refl, sym, ap, ◌∙◌, subst, append_assoc, append-nil, arith}
 use Rattle.ctd_syntax.specs.Lexeme.{Lexeme, mark, keyword}
 use Rattle.ctd_syntax.specs.Tree
 use Rattle.ctd_syntax.specs.Tree.{ExprTree, VarTree, TestTree, CommandTree, CommandList, Separator}
 use Rattle.ctd_syntax.specs.Grammar
 use Rattle.ctd_syntax.specs.Grammar.{IsExpr, IsTest, IsTarget, IsTargetEnd, IsCommand, IsCommands, IsRepeated, IsBranches}
-use Rattle.ctd_syntax.specs.Front.{Found, NotFound, Always, IsBefore, IsBeforeWord, IsAfter, IsBuilt, IsPair, Spelling, Following}
+use Rattle.ctd_syntax.specs.Front.{Found, NotFound, Always, IsBefore, IsAfter, IsBuilt, IsPair, Spelling, Following}
 use Rattle.ctd_syntax.specs.Levels.{ends}
 use Rattle.ctd_syntax.specs.Tests.{test_ends}
-use Rattle.ctd_syntax.specs.CommandWords.{Behind, CommandsEnd, IsBlock, IsBranchEnd, IsLoopEnd, IsPattern, begins_command, command_begins, is_command_word}
+use Rattle.ctd_syntax.specs.CommandWords.{Behind, CommandsEnd, IsBlock, IsBranchEnd, IsLoopEnd, IsPattern, command_begins, is_command_word}
 use Rattle.ctd_syntax.specs.declared.text.Place.{Place}
 use Rattle.ctd_syntax.specs.declared.token.Mark.TheVariants.{Open, Close, Comma}
 use Rattle.ctd_syntax.specs.declared.keyword.Keyword.{Keyword}
 use Rattle.ctd_syntax.specs.declared.keyword.Keyword.TheVariants as words
-use Rattle.ctd_syntax.proofs.Fronts.{built, not_built, after_reads, after_none, not_after, pair_reads, first_none, second_none}
+use Rattle.ctd_syntax.proofs.Fronts.{built, not_built, after_reads, after_none, not_after}
 
 -- a tree that is built of what stands behind an opening parenthesis
 pub opened_reads : {T U : Type 0} (f : T → U) (A : Spelling T) (E : Following) (tokens r after : List Lexeme) (a : T) → tokens ≡ mark Open ∷ r → Found A E r a after → Found (IsBuilt f (IsAfter Open A)) E tokens (f a) after

@@ -5,7 +5,7 @@ use Rattle.ctd_syntax.specs.Tree
 use Rattle.ctd_syntax.specs.Tree.{ExprTree, ExprList, TestTree}
 use Rattle.ctd_syntax.specs.Grammar
 use Rattle.ctd_syntax.specs.Grammar.{IsExpr, IsProduct, IsSigned, IsPower, IsAtom, IsVariable, IsNames, IsTest, IsNegated, IsPlain, mark_of}
-use Rattle.ctd_syntax.specs.Front.{Found, NotFound, Always, IsBefore, IsAfter, IsBuilt, IsPair, IsName, Spelling, Following, operator_at, after_operator}
+use Rattle.ctd_syntax.specs.Front.{Found, NotFound, Always, IsBefore, IsAfter, IsPair, IsName, Spelling, operator_at, after_operator}
 use Rattle.ctd_syntax.specs.Levels.{binding, ends}
 use Rattle.ctd_syntax.specs.Tests.{question, Asked, IsLeft, IsCompared, compare_operator, holds_test}
 use Rattle.ctd_syntax.specs.declared.token.Mark.TheVariants.{Open, Close, Comma, Plus, Minus, Times, Divide, Percent, Caret, Bang}
@@ -15,7 +15,7 @@ use Rattle.ctd_syntax.specs.declared.tree.Compare.TheVariants.{Less, Greater, At
 use Rattle.ctd_syntax.specs.declared.keyword.Keyword.{Keyword}
 use Rattle.ctd_syntax.specs.declared.keyword.Keyword.TheVariants.{Match, IsEof, Unique, InArray, Strlen}
 use Rattle.ctd_syntax.proofs.Chains.{operator_is}
-use Rattle.ctd_syntax.proofs.Fronts.{built, not_built, found_as, none_as, after_reads, after_none, not_after, pair_reads, first_none, second_none, before_reads, name_found}
+use Rattle.ctd_syntax.proofs.Fronts.{built, not_built, after_reads, after_none, not_after, pair_reads, first_none, second_none, before_reads, name_found}
 use Rattle.ctd_syntax.proofs.Groups.{expr_opening, test_tells}
 
 -- comparisons and their marks

@@ -1,13 +1,13 @@
 -- What reading the commands of a whole text says of the text.
-use Rattle.std.proofs.Common.{◌≡◌, ◌<◌, ◌≤◌, ℕ, List, [], ◌∷◌, ◌++◌, length, Option, Some, None, Bool, true, false, refl, sym, ap, ◌∙◌, subst, append-nil, arith, eqb-true}
+use Rattle.std.proofs.Common.{◌≡◌, ℕ, List, [], ◌∷◌, ◌++◌, length, Option, Some, None, true, false, refl, sym, ap, ◌∙◌, subst, append-nil, arith, eqb-true}
 use Rattle.std.specs.Prelude.{map, IsSome, ◌==◌}
 use Rattle.ctd_syntax.specs.Lexeme.{Lexeme}
-use Rattle.ctd_syntax.specs.Tree.{CommandList, list_blocks}
+use Rattle.ctd_syntax.specs.Tree.{CommandList}
 use Rattle.ctd_syntax.specs.Front.{Found, NotFound}
 use Rattle.ctd_syntax.specs.Grammar.{IsCommands}
 use Rattle.ctd_syntax.specs.CommandWords.{CommandsEnd}
 use Rattle.ctd_syntax.specs.Nesting.{start, too_deep}
-use Rattle.ctd_syntax.specs.Reading.{IsCut, IsNoProgram, IsFault, Parses, Reads, Spells, lexemes}
+use Rattle.ctd_syntax.specs.Reading.{IsCut, IsNoProgram, IsFault, Parses, Spells, lexemes}
 use Rattle.ctd_syntax.specs.Lexing.{IsLexFault}
 use Rattle.ctd_syntax.specs.declared.text.Place.{Place}
 use Rattle.ctd_syntax.specs.declared.token.Token.{Token}

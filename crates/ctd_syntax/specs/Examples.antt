@@ -1,12 +1,11 @@
 -- Small texts and what they are.
-use Rattle.std.specs.Prelude.{◌≡◌, ℕ, List, replicate, pos, Some, None, Err, refl, [], ◌∷◌, codes, true, flat_map, take, drop}
+use Rattle.std.specs.Prelude.{◌≡◌, ℕ, List, replicate, pos, Some, None, refl, [], ◌∷◌, codes, flat_map, take, drop}
 use Rattle.ctd_syntax.specs.declared.token.TokenKind.TheVariants as tokens
 use Rattle.ctd_syntax.specs.declared.token.Mark.TheVariants as marks
 use Rattle.ctd_syntax.specs.declared.token.Token.{Token}
 use Rattle.ctd_syntax.specs.declared.text.Place.{Place}
 use Rattle.std.proofs.Common.{lit≤}
 use Rattle.ctd_syntax.specs.declared.keyword.Keyword.TheVariants as words
-use Rattle.ctd_syntax.specs.declared.fault.LoadKind.TheVariants.{Read}
 use Rattle.ctd_syntax.specs.Tree
 use Rattle.ctd_syntax.specs.Lexeme.{Lexeme, mark, keyword}
 use Rattle.ctd_syntax.specs.Nesting.{start, too_deep}

@@ -1,4 +1,5 @@
 //! From tokens to commands (checktestdata language specification, grammar).
+//! A tree that is not wanted is given to `drop` outright: an implied drop is unfolded variant by variant in the proof.
 
 ghost use Rattle.std.specs.Prelude.{◌≡◌, ◌≤◌, ◌<◌, ◌∷◌, true, false, length, map, IfOk, IfSome, IfNone};
 ghost use Rattle.ctd_syntax.specs.Lexeme;
@@ -332,8 +333,8 @@ fn loop_end<'t>(
         return Err(Refusal::Syntax(pieces.len()));
     };
     let (between, rest) = separator_before(alloc, after)?;
-    let (body, rest) = block(alloc, rest)?;
     let between = Box::new(alloc, between)?;
+    let (body, rest) = block(alloc, rest)?;
     Ok(((Some(between), body), rest))
 }
 
@@ -427,6 +428,7 @@ pub(crate) fn commands<'t>(
     ensures shorter { IfOk result (λ x. length x.1.now ≤ length pieces.now) }
 {
     let mut items = Vec::new(alloc);
+    // All of them; the borrow checker refuses a loop whose variable begins as the argument itself.
     let (_none, mut rest) = pieces.split_at(0);
     while let Some((word, place, after)) = command_word(rest) {
         let (next, after) = behind(alloc, word, place, after)?;

@@ -1,4 +1,5 @@
 //! From tokens to tests, by levels and loops (checktestdata language specification, grammar).
+//! A tree that is not wanted is given to `drop` outright: an implied drop is unfolded variant by variant in the proof.
 
 ghost use Rattle.std.specs.Prelude.{◌≡◌, ◌≤◌, ◌<◌, ◌++◌, [], ◌∷◌, ℕ, List, true, false, length, map, drop, IfOk, IfSome, IfNone, Some};
 ghost use Rattle.ctd_syntax.specs.Lexeme;
@@ -274,8 +275,8 @@ pub(crate) fn test<'t>(
 {
     let (mut left, mut rest) = both(alloc, groups, pieces)?;
     while let Some(after) = after_mark(Mark::OrOr, rest) {
-        let (right, after) = both(alloc, None, after)?;
         let a = Box::new(alloc, left)?;
+        let (right, after) = both(alloc, None, after)?;
         let b = Box::new(alloc, right)?;
         left = Test::Or(a, b);
         rest = after;
@@ -295,8 +296,8 @@ fn both<'t>(
 {
     let (mut left, mut rest) = negated(alloc, groups, pieces)?;
     while let Some(after) = after_mark(Mark::AndAnd, rest) {
-        let (right, after) = negated(alloc, None, after)?;
         let a = Box::new(alloc, left)?;
+        let (right, after) = negated(alloc, None, after)?;
         let b = Box::new(alloc, right)?;
         left = Test::And(a, b);
         rest = after;
@@ -359,6 +360,9 @@ pub(crate) fn test_before<'t>(
     let (read, rest) = test(alloc, groups, pieces)?;
     match after_mark(mark, rest) {
         Some(rest) => Ok((read, rest)),
-        None => Err(Refusal::Syntax(rest.len())),
+        None => {
+            drop(read);
+            Err(Refusal::Syntax(rest.len()))
+        }
     }
 }

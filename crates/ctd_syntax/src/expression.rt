@@ -1,4 +1,5 @@
 //! From tokens to expressions, by levels and loops (checktestdata language specification, grammar).
+//! A tree that is not wanted is given to `drop` outright: an implied drop is unfolded variant by variant in the proof.
 
 ghost use Rattle.std.specs.Prelude.{◌≡◌, ◌≤◌, ◌<◌, length, map, IfOk, IfSome};
 ghost use Rattle.ctd_syntax.specs.View.{expr_tree, expr_list, exprs_of, var_tree};
@@ -151,7 +152,10 @@ fn closed<'t>(alloc: Global, pieces: &'t [Piece<'t>]) -> Result<(Expr, &'t [Piec
     let (inner, rest) = expr(alloc, pieces)?;
     match after_mark(Mark::Close, rest) {
         Some(rest) => Ok((inner, rest)),
-        None => Err(Refusal::Syntax(rest.len())),
+        None => {
+            drop(inner);
+            Err(Refusal::Syntax(rest.len()))
+        }
     }
 }
 
@@ -235,7 +239,10 @@ pub(crate) fn expr_before<'t>(
     let (read, rest) = expr(alloc, pieces)?;
     match after_mark(mark, rest) {
         Some(rest) => Ok((read, rest)),
-        None => Err(Refusal::Syntax(rest.len())),
+        None => {
+            drop(read);
+            Err(Refusal::Syntax(rest.len()))
+        }
     }
 }
 

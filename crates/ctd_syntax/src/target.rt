@@ -1,4 +1,5 @@
 //! From tokens to the variables that commands set (checktestdata language specification, grammar).
+//! A tree that is not wanted is given to `drop` outright: an implied drop is unfolded variant by variant in the proof.
 
 ghost use Rattle.std.specs.Prelude.{◌≡◌, ◌≤◌, length, map, IfOk};
 ghost use Rattle.ctd_syntax.specs.Lexeme;
@@ -27,7 +28,10 @@ pub(crate) fn target_before<'t>(
     let (read, rest) = variable(alloc, pieces)?;
     match after_mark(mark, rest) {
         Some(rest) => Ok((read, rest)),
-        None => Err(Refusal::Syntax(rest.len())),
+        None => {
+            drop(read);
+            Err(Refusal::Syntax(rest.len()))
+        }
     }
 }
 

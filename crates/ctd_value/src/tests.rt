@@ -1,5 +1,7 @@
 //! Worked rows on values, the store, expressions and tests, with answers worked out by hand from the language.
 
+ghost use Rattle.std.specs.Prelude.{◌≤◌, ◌^◌};
+
 mod conditions;
 mod expressions;
 mod memory;
@@ -8,9 +10,10 @@ mod unique;
 
 use crate::fault::{EvalFault, TestFault};
 use crate::store::Store;
+use crate::value::{Key, Value, Values};
 use crate::{eval, holds, locate};
 use ctd_source::{LookFault, Next, Plain};
-use ctd_syntax::{Action, Assignment, Name, Presets, Program, parse};
+use ctd_syntax::{Action, Assignment, Bytes, Name, Presets, Program, parse};
 use std::alloc::{AllocError, Global};
 use std::test::Fail;
 
@@ -89,20 +92,92 @@ fn truth_told(answer: Answer) -> Result<Answer, AllocError> {
     }
 }
 
+/// A store with some presets.
+fn store_of(alloc: Global, pinned: &str) -> Result<Store, Fail> {
+    let presets = presets(alloc, pinned)?;
+    Ok(Store::new(alloc, &presets)?)
+}
+
+/// What a program answers at some bytes, behind which a read may fail.
+fn answer_over(
+    alloc: Global,
+    text: &str,
+    bytes: &[u8],
+    broken: bool,
+    limit: u64,
+) -> Result<Answer, Fail>
+    requires { limit ≤ 2 ^ 62 }
+{
+    let program = parse(alloc, text.as_bytes())?;
+    let mut store = store_of(alloc, "")?;
+    let mut data = Plain::new(bytes, broken, limit);
+    Ok(truth_told(run(alloc, &program, &mut store, &mut data))?)
+}
+
 /// What a program answers over no data and with a reader that fails at once, so that each look would be told.
 fn answer(alloc: Global, pinned: &str, text: &str) -> Result<Answer, Fail> {
-    let presets = presets(alloc, pinned)?;
     let program = parse(alloc, text.as_bytes())?;
-    let mut store = Store::new(alloc, &presets)?;
+    let mut store = store_of(alloc, pinned)?;
     let mut data = Plain::new(b"", true, 10);
     Ok(truth_told(run(alloc, &program, &mut store, &mut data))?)
 }
 
+/// The first line of a text that answers otherwise than wanted. Each line is a program of its own, over no data.
+fn first_other<'t>(
+    alloc: Global,
+    pinned: &str,
+    programs: &'t str,
+    wanted: Answer,
+) -> Result<Option<&'t str>, Fail> {
+    for program in programs.lines() {
+        if answer(alloc, pinned, program)? != wanted {
+            return Ok(Some(program));
+        }
+    }
+    Ok(None)
+}
+
+/// What a program answers where a[0], a[1] and so on up to a count are their own indices, and i is the count.
+fn grown(alloc: Global, count: u32, text: &str) -> Result<Answer, Fail> {
+    let grow = parse(alloc, b"SET(a[i]=i,i=i+1)")?;
+    let program = parse(alloc, text.as_bytes())?;
+    let mut store = store_of(alloc, "")?;
+    let mut data = Plain::new(b"", true, 10);
+    let begin = parse(alloc, b"SET(i=0)")?;
+    let mut answer = run(alloc, &begin, &mut store, &mut data);
+    for _ in 0..count {
+        if answer == Ok(true) {
+            answer = run(alloc, &grow, &mut store, &mut data);
+        }
+    }
+    if answer == Ok(true) {
+        answer = run(alloc, &program, &mut store, &mut data);
+    }
+    Ok(truth_told(answer)?)
+}
+
+/// The indices of a key.
+fn indices_of(key: &Key) -> &[Value] {
+    key.indices().as_slice()
+}
+
+/// Some numbers as values.
+fn numbers(alloc: Global, numbers: &[i8]) -> Result<Vec<Value>, AllocError> {
+    let mut values = Vec::new(alloc);
+    for n in numbers {
+        values.push(Value::Int(i128::from(*n)))?;
+    }
+    Ok(values)
+}
+
+/// The key of a name and some numbers.
+fn key(alloc: Global, name: &[u8], indices: &[i8]) -> Result<Key, AllocError> {
+    let name = Bytes::copy(alloc, name)?;
+    Ok(Key::new(name, Values::from_vec(numbers(alloc, indices)?)))
+}
+
 /// Whether all that a program asserts holds, or its first fault.
 type Answer = Result<bool, TestFault>;
-
-/// Presets, a program, and what it answers.
-type Row = (&'static str, &'static str, Answer);
 
 const UNDEFINED: Answer = Err(TestFault::Eval(EvalFault::Undefined));
 
@@ -137,4 +212,12 @@ fn numbers_of_the_faults(rt: HostRuntime) {
         assert_eq!(rt; fault as u8, number);
         number += 1;
     }
+}
+
+#[test]
+fn the_first_line_that_answers_otherwise(rt: HostRuntime) -> Result<(), Fail> {
+    let programs = "ASSERT(1==1)\nASSERT(1==2)\nASSERT(2==3)";
+    let found = first_other(rt.alloc(), "", programs, Ok(true))?;
+    assert_eq!(rt; found, Some("ASSERT(1==2)"));
+    Ok(())
 }

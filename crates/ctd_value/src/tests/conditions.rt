@@ -1,111 +1,112 @@
 //! Tests: comparisons, short circuits, the next byte, and what is among the values of a name.
 
 use super::{
-    Answer, DATA_TOO_LONG, DIVISION_BY_ZERO, EXPONENT, OVERFLOW, READ, Row, UNDEFINED, WRONG_TYPE,
-    answer, run, truth_told,
+    Answer, DATA_TOO_LONG, DIVISION_BY_ZERO, READ, UNDEFINED, WRONG_TYPE, answer_over, first_other,
 };
-use crate::store::Store;
-use ctd_source::Plain;
-use ctd_syntax::{Presets, parse};
 use std::test::Fail;
 
-const COMPARISONS: [Row; 42] = [
-    ("", "ASSERT(1<2)", Ok(true)),
-    ("", "ASSERT(2<2)", Ok(false)),
-    ("", "ASSERT(3<2)", Ok(false)),
-    ("", "ASSERT(2>1)", Ok(true)),
-    ("", "ASSERT(2>2)", Ok(false)),
-    ("", "ASSERT(1>2)", Ok(false)),
-    ("", "ASSERT(2<=2)", Ok(true)),
-    ("", "ASSERT(3<=2)", Ok(false)),
-    ("", "ASSERT(2>=2)", Ok(true)),
-    ("", "ASSERT(1>=2)", Ok(false)),
-    ("", "ASSERT(2==2)", Ok(true)),
-    ("", "ASSERT(1==2)", Ok(false)),
-    ("", "ASSERT(1!=2)", Ok(true)),
-    ("", "ASSERT(2!=2)", Ok(false)),
-    ("", "ASSERT(-2<-1)", Ok(true)),
-    ("", "ASSERT(-10<9)", Ok(true)),
-    (
-        "",
-        "ASSERT(-2^2==-4 && 7/-2==-3 && -7%2==-1 && 2^3^2==512)",
-        Ok(true),
-    ),
-    (
-        "",
-        "ASSERT(0^0==1 && (-1)^18446744073709551615==-1 && (-2)^127<0)",
-        Ok(true),
-    ),
-    // A string goes byte by byte, as unsigned numbers, and a proper prefix is less.
-    ("", "ASSERT(\"a\"<\"ab\")", Ok(true)),
-    ("", "ASSERT(\"ab\"<\"a\")", Ok(false)),
-    ("", "ASSERT(\"\"<\"a\")", Ok(true)),
-    ("", "ASSERT(\"b\">\"ab\")", Ok(true)),
-    ("", "ASSERT(\"10\"<\"9\")", Ok(true)),
-    ("", "ASSERT(\"\\177\"<\"\\200\")", Ok(true)),
-    ("", "ASSERT(\"a\\0\"<=\"a\")", Ok(false)),
-    ("", "ASSERT(\"ab\">=\"ab\")", Ok(true)),
-    ("", "ASSERT(\"ab\"==\"ab\")", Ok(true)),
-    ("", "ASSERT(\"a\"==\"A\")", Ok(false)),
-    ("", "ASSERT(\"a\"!=\"ab\")", Ok(true)),
-    // An integer and a string do not compare.
-    ("", "ASSERT(1==\"1\")", WRONG_TYPE),
-    ("", "ASSERT(1!=\"1\")", WRONG_TYPE),
-    ("", "ASSERT(1<\"1\")", WRONG_TYPE),
-    ("", "ASSERT(1>\"1\")", WRONG_TYPE),
-    ("", "ASSERT(\"1\"<=1)", WRONG_TYPE),
-    ("", "ASSERT(\"1\">=1)", WRONG_TYPE),
-    ("", "ASSERT(\"x\"==1/0)", DIVISION_BY_ZERO),
-    ("", "ASSERT(x==1/0)", UNDEFINED),
-    ("", "ASSERT(2^127==0)", OVERFLOW),
-    ("", "ASSERT(1^18446744073709551616==1)", EXPONENT),
-    ("n=5", "SET(n=7) ASSERT(n==5)", Ok(true)),
-    ("n=5", "SET(n=7) ASSERT(n==7)", Ok(false)),
-    ("n=\"5\"", "ASSERT(n==5)", WRONG_TYPE),
-];
+/// Comparisons that hold.
+const TRUE: &str = r#"ASSERT(1<2)
+ASSERT(2>1)
+ASSERT(2<=2)
+ASSERT(2>=2)
+ASSERT(2==2)
+ASSERT(1!=2)
+ASSERT(-2<-1)
+ASSERT(-10<9)
+ASSERT("a"<"ab")
+ASSERT(""<"a")
+ASSERT("b">"ab")
+ASSERT("10"<"9")
+ASSERT("\177"<"\200")
+ASSERT("ab">="ab")
+ASSERT("ab"=="ab")
+ASSERT("a"!="ab")
+ASSERT(!1==2)
+ASSERT(-2^2==-4 && 7/-2==-3 && -7%2==-1 && 2^3^2==512)
+ASSERT(0^0==1 && (-1)^18446744073709551615==-1 && (-2)^127<0)"#;
+
+/// Comparisons that do not: each has its neighbours among those that hold.
+const FALSE: &str = r#"ASSERT(2<2)
+ASSERT(3<2)
+ASSERT(2>2)
+ASSERT(1>2)
+ASSERT(3<=2)
+ASSERT(1>=2)
+ASSERT(1==2)
+ASSERT(2!=2)
+ASSERT("ab"<"a")
+ASSERT("a\0"<="a")
+ASSERT("a"=="A")
+ASSERT(!!1==2)"#;
+
+/// An integer and a string do not compare.
+const OF_TWO_KINDS: &str = r#"ASSERT(1=="1")
+ASSERT(1!="1")
+ASSERT(1<"1")
+ASSERT(1>"1")
+ASSERT("1"<=1)
+ASSERT("1">=1)"#;
 
 #[test]
 fn comparisons(rt: HostRuntime) -> Result<(), Fail> {
-    for (pinned, text, wanted) in COMPARISONS {
-        let found = answer(rt.alloc(), pinned, text)?;
-        assert_eq!(rt; found, wanted, "at {pinned:?} {text:?}");
-    }
+    let found = first_other(rt.alloc(), "", TRUE, Ok(true))?;
+    assert_eq!(rt; found, None);
+    let found = first_other(rt.alloc(), "", FALSE, Ok(false))?;
+    assert_eq!(rt; found, None);
+    let found = first_other(rt.alloc(), "", OF_TWO_KINDS, WRONG_TYPE)?;
+    assert_eq!(rt; found, None);
     Ok(())
 }
 
-/// Each look at the data would stop these.
-const SHORT_CIRCUITS: [Row; 16] = [
-    ("", "ASSERT(1==1 || 1/0==1)", Ok(true)),
-    ("", "ASSERT(1/0==1 || 1==1)", DIVISION_BY_ZERO),
-    ("", "ASSERT(1==2 || 1/0==1)", DIVISION_BY_ZERO),
-    ("", "ASSERT(1==2 && 1/0==1)", Ok(false)),
-    ("", "ASSERT(1==1 && 1/0==1)", DIVISION_BY_ZERO),
-    ("", "ASSERT(1/0==1 && 1==2)", DIVISION_BY_ZERO),
-    ("", "ASSERT(1==2 && ISEOF)", Ok(false)),
-    ("", "ASSERT(1==1 || ISEOF)", Ok(true)),
-    ("", "ASSERT(1==2 && ISEOF || 1==1)", Ok(true)),
-    ("", "ASSERT(1==1 || 1==1 && ISEOF)", Ok(true)),
-    ("", "ASSERT(!(1==1) && ISEOF)", Ok(false)),
-    ("", "ASSERT(!1==2)", Ok(true)),
-    ("", "ASSERT(!!1==2)", Ok(false)),
-    ("", "ASSERT(!1/0==2)", DIVISION_BY_ZERO),
-    ("", "ASSERT(ISEOF || 1==1)", READ),
-    ("", "ASSERT(1==1 && ISEOF)", READ),
-];
+/// A pinned variable keeps its value, of its own kind.
+#[test]
+fn comparisons_with_presets(rt: HostRuntime) -> Result<(), Fail> {
+    let found = first_other(rt.alloc(), "n=5", "SET(n=7) ASSERT(n==5)", Ok(true))?;
+    assert_eq!(rt; found, None);
+    let found = first_other(rt.alloc(), "n=5", "SET(n=7) ASSERT(n==7)", Ok(false))?;
+    assert_eq!(rt; found, None);
+    let found = first_other(rt.alloc(), "n=\"5\"", "ASSERT(n==5)", WRONG_TYPE)?;
+    assert_eq!(rt; found, None);
+    Ok(())
+}
+
+/// Tests that come to no division by zero, no missing variable and no look, each of which would stop them.
+const CUT_SHORT: &str = "ASSERT(1==1 || 1/0==1)
+ASSERT(!(1==2 && 1/0==1))
+ASSERT(!(1==2 && ISEOF))
+ASSERT(1==1 || ISEOF)
+ASSERT(1==2 && ISEOF || 1==1)
+ASSERT(1==1 || 1==1 && ISEOF)
+ASSERT(!(!(1==1) && ISEOF))
+ASSERT(1==1 || x==1)";
+
+/// Tests that come to a division by zero.
+const NOT_CUT_SHORT: &str = r#"ASSERT(1/0==1 || 1==1)
+ASSERT(1==2 || 1/0==1)
+ASSERT(1==1 && 1/0==1)
+ASSERT(1/0==1 && 1==2)
+ASSERT(!1/0==2)
+ASSERT("x"==1/0)"#;
 
 #[test]
 fn short_circuits(rt: HostRuntime) -> Result<(), Fail> {
-    for (pinned, text, wanted) in SHORT_CIRCUITS {
-        let found = answer(rt.alloc(), pinned, text)?;
-        assert_eq!(rt; found, wanted, "at {pinned:?} {text:?}");
-    }
+    let found = first_other(rt.alloc(), "", CUT_SHORT, Ok(true))?;
+    assert_eq!(rt; found, None);
+    let found = first_other(rt.alloc(), "", NOT_CUT_SHORT, DIVISION_BY_ZERO)?;
+    assert_eq!(rt; found, None);
+    let found = first_other(rt.alloc(), "", "ASSERT(x==1/0)", UNDEFINED)?;
+    assert_eq!(rt; found, None);
+    let looks = "ASSERT(ISEOF || 1==1)\nASSERT(1==1 && ISEOF)";
+    let found = first_other(rt.alloc(), "", looks, READ)?;
+    assert_eq!(rt; found, None);
     Ok(())
 }
 
 /// A test, the bytes that it is asked at, whether a read fails behind them, the limit, and what it says.
 type Look = (&'static str, &'static [u8], bool, u8, Answer);
 
-const LOOKS: [Look; 19] = [
+const LOOKS: [Look; 12] = [
     ("ASSERT(MATCH(\"ab\"))", b"b", false, 10, Ok(true)),
     ("ASSERT(MATCH(\"ab\"))", b"ab", true, 10, Ok(true)),
     ("ASSERT(MATCH(\"ab\"))", b"c", false, 10, Ok(false)),
@@ -113,93 +114,72 @@ const LOOKS: [Look; 19] = [
     ("ASSERT(MATCH(\"ab\"))", b"", true, 10, READ),
     ("ASSERT(MATCH(\"ab\"))", b"b", false, 0, DATA_TOO_LONG),
     ("ASSERT(MATCH(\"\"))", b"a", false, 10, Ok(false)),
-    ("ASSERT(MATCH(\"\"))", b"", true, 10, READ),
     ("ASSERT(MATCH(\"\\377\"))", b"\xff", false, 10, Ok(true)),
-    (
-        "ASSERT(MATCH(\"a\") && MATCH(\"a\"))",
-        b"ab",
-        false,
-        10,
-        Ok(true),
-    ),
-    ("ASSERT(MATCH(\"a\") && !ISEOF)", b"a", false, 10, Ok(true)),
-    ("ASSERT(MATCH(\"a\") || ISEOF)", b"", false, 10, Ok(true)),
     ("ASSERT(ISEOF)", b"", false, 10, Ok(true)),
     ("ASSERT(ISEOF)", b"a", false, 10, Ok(false)),
     ("ASSERT(ISEOF)", b"", true, 10, READ),
     ("ASSERT(ISEOF)", b"a", true, 0, DATA_TOO_LONG),
-    // A string comes before the look.
-    ("ASSERT(MATCH(1))", b"", true, 10, WRONG_TYPE),
-    ("ASSERT(MATCH(x))", b"", true, 10, UNDEFINED),
-    ("ASSERT(MATCH(-\"a\"))", b"", true, 10, WRONG_TYPE),
 ];
 
 #[test]
 fn the_next_byte(rt: HostRuntime) -> Result<(), Fail> {
     for (text, bytes, broken, limit, wanted) in LOOKS {
-        let program = parse(rt.alloc(), text.as_bytes())?;
-        let mut store = Store::new(rt.alloc(), &Presets::none(rt.alloc()))?;
-        let mut data = Plain::new(bytes, broken, u64::from(limit));
-        let found = truth_told(run(rt.alloc(), &program, &mut store, &mut data))?;
+        let found = answer_over(rt.alloc(), text, bytes, broken, u64::from(limit))?;
         assert_eq!(rt; found, wanted, "at {text:?} {bytes:?}");
     }
     Ok(())
 }
 
-const MEMBERSHIPS: [Row; 14] = [
-    (
-        "",
-        "SET(a[1]=\"x\",a[\"k\"]=7) ASSERT(INARRAY(7,a) && !INARRAY(\"7\",a))",
-        Ok(true),
-    ),
-    (
-        "",
-        "SET(a[1]=\"x\",a[\"k\"]=7) ASSERT(INARRAY(\"x\",a) && !INARRAY(1,a))",
-        Ok(true),
-    ),
-    (
-        "",
-        "SET(a=1,a[2,3]=4) ASSERT(INARRAY(1,a) && INARRAY(4,a) && !INARRAY(2,a))",
-        Ok(true),
-    ),
-    (
-        "",
-        "SET(a[1]=2,a[1]=3) ASSERT(INARRAY(3,a) && !INARRAY(2,a))",
-        Ok(true),
-    ),
-    ("", "SET(ab=1) ASSERT(INARRAY(1,a))", Ok(false)),
-    ("", "ASSERT(INARRAY(1,a))", Ok(false)),
-    ("", "SET(b=2,a[1]=2) ASSERT(INARRAY(b,a))", Ok(true)),
-    ("", "ASSERT(INARRAY(b,a))", UNDEFINED),
-    ("", "ASSERT(INARRAY(1/0,a))", DIVISION_BY_ZERO),
-    (
-        "a=1",
-        "SET(a[1]=2) ASSERT(INARRAY(1,a) && INARRAY(2,a))",
-        Ok(true),
-    ),
-    ("a=1", "SET(a=2) ASSERT(INARRAY(2,a))", Ok(false)),
-    (
-        "a=1",
-        "SET(a[1]=2) UNSET(a) ASSERT(INARRAY(1,a) && !INARRAY(2,a))",
-        Ok(true),
-    ),
-    (
-        "",
-        "SET(a=1,a[1]=2,a[\"k\"]=3) UNSET(a) ASSERT(INARRAY(1,a) || INARRAY(2,a) || INARRAY(3,a))",
-        Ok(false),
-    ),
-    (
-        "",
-        "SET(a=1,ab=2,b[1]=3) UNSET(a) ASSERT(ab==2 && b[1]==3)",
-        Ok(true),
-    ),
-];
+/// A look moves nothing, so a second one sees the same byte.
+#[test]
+fn two_looks(rt: HostRuntime) -> Result<(), Fail> {
+    let text = "ASSERT(MATCH(\"a\") && MATCH(\"a\") && !ISEOF)";
+    let found = answer_over(rt.alloc(), text, b"ab", false, 10)?;
+    assert_eq!(rt; found, Ok(true));
+    let text = "ASSERT(MATCH(\"a\") || ISEOF)";
+    let found = answer_over(rt.alloc(), text, b"", false, 10)?;
+    assert_eq!(rt; found, Ok(true));
+    Ok(())
+}
+
+/// The string of MATCH comes before the look, which would fail.
+#[test]
+fn the_string_before_the_look(rt: HostRuntime) -> Result<(), Fail> {
+    let no_strings = "ASSERT(MATCH(1))\nASSERT(MATCH(-\"a\"))";
+    let found = first_other(rt.alloc(), "", no_strings, WRONG_TYPE)?;
+    assert_eq!(rt; found, None);
+    let found = first_other(rt.alloc(), "", "ASSERT(MATCH(x))", UNDEFINED)?;
+    assert_eq!(rt; found, None);
+    let found = first_other(rt.alloc(), "", "ASSERT(MATCH(\"\"))", READ)?;
+    assert_eq!(rt; found, None);
+    Ok(())
+}
+
+const AMONG: &str = r#"SET(a[1]="x",a["k"]=7) ASSERT(INARRAY(7,a) && !INARRAY("7",a))
+SET(a[1]="x",a["k"]=7) ASSERT(INARRAY("x",a) && !INARRAY(1,a))
+SET(a=1,a[2,3]=4) ASSERT(INARRAY(1,a) && INARRAY(4,a) && !INARRAY(2,a))
+SET(a[1]=2,a[1]=3) ASSERT(INARRAY(3,a) && !INARRAY(2,a))
+SET(ab=1) ASSERT(!INARRAY(1,a))
+ASSERT(!INARRAY(1,a))
+SET(b=2,a[1]=2) ASSERT(INARRAY(b,a))
+SET(a=1,a[1]=2,a["k"]=3) UNSET(a) ASSERT(!INARRAY(1,a) && !INARRAY(2,a) && !INARRAY(3,a))
+SET(a=1,ab=2,b[1]=3) UNSET(a) ASSERT(ab==2 && b[1]==3)"#;
+
+/// The preset is among the values of its name, and stays there.
+const AMONG_WITH_A_PRESET: &str = "SET(a[1]=2) ASSERT(INARRAY(1,a) && INARRAY(2,a))
+SET(a=2) ASSERT(!INARRAY(2,a))
+SET(a[1]=2) UNSET(a) ASSERT(INARRAY(1,a) && !INARRAY(2,a))";
 
 #[test]
 fn memberships(rt: HostRuntime) -> Result<(), Fail> {
-    for (pinned, text, wanted) in MEMBERSHIPS {
-        let found = answer(rt.alloc(), pinned, text)?;
-        assert_eq!(rt; found, wanted, "at {pinned:?} {text:?}");
-    }
+    let found = first_other(rt.alloc(), "", AMONG, Ok(true))?;
+    assert_eq!(rt; found, None);
+    let found = first_other(rt.alloc(), "a=1", AMONG_WITH_A_PRESET, Ok(true))?;
+    assert_eq!(rt; found, None);
+    let found = first_other(rt.alloc(), "", "ASSERT(INARRAY(b,a))", UNDEFINED)?;
+    assert_eq!(rt; found, None);
+    let by_zero = "ASSERT(INARRAY(1/0,a))";
+    let found = first_other(rt.alloc(), "", by_zero, DIVISION_BY_ZERO)?;
+    assert_eq!(rt; found, None);
     Ok(())
 }

@@ -1,130 +1,149 @@
 //! Calls of the store.
 
-use super::{first_name, presets};
-use crate::store::Store;
-use crate::value::{Key, Value, Values};
+use super::{first_name, key, store_of};
+use crate::store::{EntryRef, Store};
+use crate::value::Value;
 use ctd_syntax::{Bytes, parse};
-use std::alloc::{AllocError, Global};
+use std::alloc::Global;
 use std::test::Fail;
 
-/// The key of a name and some numbers.
-fn key(alloc: Global, name: &[u8], numbers: &[i128]) -> Result<Key, AllocError> {
-    let mut indices = Vec::new(alloc);
-    for n in numbers {
-        indices.push(Value::Int(*n))?;
+/// The number at a name and some indices; none where there is no value or a string.
+fn number_at(
+    alloc: Global,
+    store: &Store,
+    name: &[u8],
+    indices: &[i8],
+) -> Result<Option<i128>, Fail> {
+    let key = key(alloc, name, indices)?;
+    match store.get(&key) {
+        Some(Value::Int(n)) => Ok(Some(*n)),
+        _ => Ok(None),
     }
-    Ok(Key::new(Bytes::copy(alloc, name)?, Values::from_vec(indices)))
 }
 
-fn text(alloc: Global, bytes: &[u8]) -> Result<Value, AllocError> {
-    Ok(Value::Text(Bytes::copy(alloc, bytes)?))
+/// Assigns a number.
+fn assign(
+    alloc: Global,
+    store: &mut Store,
+    name: &[u8],
+    indices: &[i8],
+    n: i128,
+) -> Result<(), Fail> {
+    let key = key(alloc, name, indices)?;
+    Ok(store.assign(key, Value::Int(n))?)
+}
+
+/// Unsets the name that a text unsets.
+fn unset(alloc: Global, store: &mut Store, text: &str) -> Result<(), Fail> {
+    let program = parse(alloc, text.as_bytes())?;
+    store.unset(first_name(&program)?);
+    Ok(())
+}
+
+/// How many entries the name has that a text unsets.
+fn count_of_entries(alloc: Global, store: &Store, text: &str) -> Result<usize, Fail> {
+    let program = parse(alloc, text.as_bytes())?;
+    Ok(store.entries(alloc, first_name(&program)?)?.len())
 }
 
 #[test]
 fn the_last_preset_of_a_name(rt: HostRuntime) -> Result<(), Fail> {
-    let presets = presets(rt.alloc(), "s=\"a,b\",n=-3,n=4")?;
-    let store = Store::new(rt.alloc(), &presets)?;
-    let text = text(rt.alloc(), b"a,b")?;
-    assert_eq!(rt;
-        store.get(&key(rt.alloc(), b"n", &[])?),
-        Some(&Value::Int(4))
-    );
-    assert_eq!(rt; store.get(&key(rt.alloc(), b"s", &[])?), Some(&text));
-    assert_eq!(rt; store.get(&key(rt.alloc(), b"n", &[4])?), None);
-    assert_eq!(rt; store.get(&key(rt.alloc(), b"m", &[])?), None);
+    let store = store_of(rt.alloc(), "s=\"a,b\",n=-3,n=4")?;
+    assert_eq!(rt; number_at(rt.alloc(), &store, b"n", &[])?, Some(4));
+    assert_eq!(rt; number_at(rt.alloc(), &store, b"n", &[4])?, None);
+    assert_eq!(rt; number_at(rt.alloc(), &store, b"m", &[])?, None);
+    Ok(())
+}
+
+#[test]
+fn a_string_that_is_pinned(rt: HostRuntime) -> Result<(), Fail> {
+    let store = store_of(rt.alloc(), "s=\"a,b\"")?;
+    let text = Value::Text(Bytes::copy(rt.alloc(), b"a,b")?);
+    let key = key(rt.alloc(), b"s", &[])?;
+    assert_eq!(rt; store.get(&key), Some(&text));
     Ok(())
 }
 
 #[test]
 fn a_preset_stays(rt: HostRuntime) -> Result<(), Fail> {
-    let presets = presets(rt.alloc(), "n=5")?;
-    let mut store = Store::new(rt.alloc(), &presets)?;
-    let program = parse(rt.alloc(), b"UNSET(n)")?;
-    let n = first_name(&program)?;
-    let (pinned, indexed) = (key(rt.alloc(), b"n", &[])?, key(rt.alloc(), b"n", &[1])?);
-    store.assign(key(rt.alloc(), b"n", &[])?, Value::Int(9))?;
-    store.assign(key(rt.alloc(), b"n", &[1])?, Value::Int(6))?;
-    assert_eq!(rt; store.get(&pinned), Some(&Value::Int(5)));
-    assert_eq!(rt; store.get(&indexed), Some(&Value::Int(6)));
-    assert_eq!(rt; store.entries(rt.alloc(), n)?.len(), 2);
-    store.unset(n);
-    assert_eq!(rt; store.get(&pinned), Some(&Value::Int(5)));
-    assert_eq!(rt; store.get(&indexed), None);
-    let entries = store.entries(rt.alloc(), n)?;
-    assert_eq!(rt; entries.len(), 1);
-    assert!(rt; entries[0].indices.is_empty());
-    assert_eq!(rt; entries[0].value, &Value::Int(5));
+    let mut store = store_of(rt.alloc(), "n=5")?;
+    assign(rt.alloc(), &mut store, b"n", &[], 9)?;
+    assign(rt.alloc(), &mut store, b"n", &[1], 6)?;
+    assert_eq!(rt; number_at(rt.alloc(), &store, b"n", &[])?, Some(5));
+    assert_eq!(rt; number_at(rt.alloc(), &store, b"n", &[1])?, Some(6));
+    assert_eq!(rt; count_of_entries(rt.alloc(), &store, "UNSET(n)")?, 2);
+    unset(rt.alloc(), &mut store, "UNSET(n)")?;
+    assert_eq!(rt; number_at(rt.alloc(), &store, b"n", &[])?, Some(5));
+    assert_eq!(rt; number_at(rt.alloc(), &store, b"n", &[1])?, None);
+    assert_eq!(rt; count_of_entries(rt.alloc(), &store, "UNSET(n)")?, 1);
     Ok(())
+}
+
+/// Whether these entries are one, at one number as its index and with this value.
+fn is_one_entry(entries: &[EntryRef<'_>], index: i128, value: &Value) -> bool {
+    match entries {
+        [entry] => entry.indices == [Value::Int(index)].as_slice() && entry.value == value,
+        _ => false,
+    }
 }
 
 #[test]
 fn one_entry_and_none(rt: HostRuntime) -> Result<(), Fail> {
-    let mut store = Store::new(rt.alloc(), &presets(rt.alloc(), "n=5")?)?;
+    let mut store = store_of(rt.alloc(), "")?;
     let program = parse(rt.alloc(), b"UNSET(a)")?;
     let a = first_name(&program)?;
-    assert!(rt; store.entries(rt.alloc(), a)?.is_empty());
-    store.assign(key(rt.alloc(), b"a", &[1])?, text(rt.alloc(), b"x")?)?;
-    store.assign(key(rt.alloc(), b"ab", &[1])?, Value::Int(2))?;
-    let x = text(rt.alloc(), b"x")?;
-    let entries = store.entries(rt.alloc(), a)?;
-    assert_eq!(rt; entries.len(), 1);
-    assert_eq!(rt; entries[0].indices, [Value::Int(1)].as_slice());
-    assert_eq!(rt; entries[0].value, &x);
-    drop(entries);
+    let x = Value::Text(Bytes::copy(rt.alloc(), b"x")?);
+    store.assign(key(rt.alloc(), b"a", &[1])?, x.copy(rt.alloc())?)?;
+    assert!(rt; is_one_entry(&store.entries(rt.alloc(), a)?, 1, &x));
     store.unset(a);
-    assert_eq!(rt; store.get(&key(rt.alloc(), b"a", &[1])?), None);
-    assert_eq!(rt;
-        store.get(&key(rt.alloc(), b"ab", &[1])?),
-        Some(&Value::Int(2))
-    );
     assert!(rt; store.entries(rt.alloc(), a)?.is_empty());
+    assert_eq!(rt; store.get(&key(rt.alloc(), b"a", &[1])?), None);
     Ok(())
 }
 
+/// What is unset goes at every index, and what has another name stays, also where that begins with this one.
 #[test]
 fn every_index_is_unset(rt: HostRuntime) -> Result<(), Fail> {
-    let mut store = Store::new(rt.alloc(), &presets(rt.alloc(), "")?)?;
-    let program = parse(rt.alloc(), b"UNSET(a)")?;
-    let lists: [&[i128]; 4] = [&[], &[0], &[1, 2], &[-1]];
-    for numbers in lists {
-        store.assign(key(rt.alloc(), b"a", numbers)?, Value::Int(1))?;
-        store.assign(key(rt.alloc(), b"b", numbers)?, Value::Int(2))?;
+    let mut store = store_of(rt.alloc(), "")?;
+    let lists: [&[i8]; 4] = [&[], &[0], &[1, 2], &[-1]];
+    for indices in lists {
+        assign(rt.alloc(), &mut store, b"a", indices, 1)?;
+        assign(rt.alloc(), &mut store, b"ab", indices, 2)?;
     }
-    store.unset(first_name(&program)?);
-    for numbers in lists {
-        assert_eq!(rt; store.get(&key(rt.alloc(), b"a", numbers)?), None);
-        assert_eq!(rt;
-            store.get(&key(rt.alloc(), b"b", numbers)?),
-            Some(&Value::Int(2))
-        );
+    unset(rt.alloc(), &mut store, "UNSET(a)")?;
+    for indices in lists {
+        assert_eq!(rt; number_at(rt.alloc(), &store, b"a", indices)?, None);
+        assert_eq!(rt; number_at(rt.alloc(), &store, b"ab", indices)?, Some(2));
     }
     Ok(())
+}
+
+/// Assigns n at index n of a. Where that is refused, the store has to answer as before at every index so far; it is tried
+/// again then. Whether it did.
+fn is_kept(alloc: Global, store: &mut Store, n: i8) -> Result<bool, Fail> {
+    let new = key(alloc, b"a", &[n])?;
+    let refused = store.assign(new, Value::Int(i128::from(n))).is_err();
+    for m in 0..n {
+        if number_at(alloc, store, b"a", &[m])? != Some(i128::from(m)) {
+            return Ok(false);
+        }
+    }
+    if refused {
+        if number_at(alloc, store, b"a", &[n])?.is_some() {
+            return Ok(false);
+        }
+        assign(alloc, store, b"a", &[n], i128::from(n))?;
+    }
+    Ok(number_at(alloc, store, b"a", &[n])? == Some(i128::from(n)))
 }
 
 /// Under `rt try --test --fail-alloc N` an assignment is refused, and the store answers as before.
 #[test]
 fn refused_assignments(rt: HostRuntime) -> Result<(), Fail> {
-    let mut store = Store::new(rt.alloc(), &presets(rt.alloc(), "n=5")?)?;
-    let mut probes = Vec::new(rt.alloc());
-    for index in 0..20u8 {
-        let n = i128::from(index);
-        probes.push((n, key(rt.alloc(), b"a", &[n])?))?;
-        let new = key(rt.alloc(), b"a", &[n])?;
-        let refused = store.assign(new, Value::Int(n)).is_err();
-        for (m, probe) in &probes {
-            let value = Value::Int(*m);
-            let wanted = if refused && *m == n {
-                None
-            } else {
-                Some(&value)
-            };
-            assert_eq!(rt; store.get(probe), wanted, "at {n}, {m}");
-        }
-        if refused {
-            store.assign(key(rt.alloc(), b"a", &[n])?, Value::Int(n))?;
-        }
+    let mut store = store_of(rt.alloc(), "n=5")?;
+    for n in 0..20i8 {
+        assert!(rt; is_kept(rt.alloc(), &mut store, n)?, "at {n}");
     }
-    let pinned = key(rt.alloc(), b"n", &[])?;
-    assert_eq!(rt; store.get(&pinned), Some(&Value::Int(5)));
+    assert_eq!(rt; number_at(rt.alloc(), &store, b"n", &[])?, Some(5));
     Ok(())
 }

@@ -1,4 +1,4 @@
-use Rattle.std.proofs.Common.{refl, arith, sym, ap, ◌∙◌, subst}
+use Rattle.std.proofs.Common.{refl, arith, ap, ◌∙◌}
 use Rattle.std.specs.Prelude.{map}
 use Rattle.ctd_syntax.specs.Tree
 use Rattle.ctd_syntax.specs.Front.{Always, IsBefore, IsPair, piece}

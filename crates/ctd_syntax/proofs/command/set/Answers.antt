@@ -1,13 +1,12 @@
 use Rattle.std.specs.Prelude.{map}
 use Rattle.ctd_syntax.specs.Tree
-use Rattle.ctd_syntax.specs.Front.{Always, IsBefore, IsPair, piece}
-use Rattle.ctd_syntax.specs.Grammar.{IsExpr, IsTest, IsNames, IsAssignments, IsTargetEnd}
-use Rattle.ctd_syntax.specs.Levels.{ends}
-use Rattle.ctd_syntax.specs.CommandWords.{Behind, IsPattern}
-use Rattle.ctd_syntax.specs.declared.token.Mark.TheVariants.{Close, Comma}
+use Rattle.ctd_syntax.specs.Front.{Always, IsBefore, piece}
+use Rattle.ctd_syntax.specs.Grammar.{IsAssignments}
+use Rattle.ctd_syntax.specs.CommandWords.{Behind}
+use Rattle.ctd_syntax.specs.declared.token.Mark.TheVariants.{Close}
 use Rattle.ctd_syntax.specs.declared.keyword.Keyword.TheVariants as words
-use Rattle.ctd_syntax.proofs.Fronts.{refused_exit, pair_reads, first_none, second_none}
-use Rattle.ctd_syntax.proofs.CommandReads.{opened_reads, opened_none, before_target_end, whatever, pattern_found}
+use Rattle.ctd_syntax.proofs.Fronts.{refused_exit}
+use Rattle.ctd_syntax.proofs.CommandReads.{opened_reads, opened_none}
 use Rattle.ctd_syntax.proofs.command.set.Goals as goal
 
 pub returns-in_err-list-clause-tree : goal.returns-in_err-list-clause-tree

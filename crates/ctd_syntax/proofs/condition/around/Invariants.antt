@@ -2,7 +2,6 @@ use Rattle.std.proofs.Common.{◌≡◌, ◌≤◌, ◌+◌, ◌-◌, length, dr
 use Rattle.std.specs.Prelude.{map}
 use Rattle.ctd_syntax.specs.Front.{piece}
 use Rattle.ctd_syntax.specs.Tests.{around}
-use Rattle.ctd_syntax.proofs.TestGroups.{groups_some}
 use Rattle.ctd_syntax.proofs.condition.around.Given as goal
 
 abbrev pub invariant-loop-closed : goal.invariant-loop-closed

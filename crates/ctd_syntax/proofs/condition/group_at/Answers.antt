@@ -1,4 +1,4 @@
-use Rattle.std.proofs.Common.{◌≡◌, ◌≢◌, true, Some, sym, ap, ◌∙◌, subst}
+use Rattle.std.proofs.Common.{sym, subst}
 use Rattle.std.specs.Prelude.{map}
 use Rattle.ctd_syntax.specs.Front.{piece}
 use Rattle.ctd_syntax.specs.Tests.{AreGroups, AreKnown}

@@ -1,8 +1,7 @@
-use Rattle.std.proofs.Common.{◌≡◌, ◌-◌, length, take, drop, sym, ap, subst, arith, length-drop}
+use Rattle.std.proofs.Common.{◌≡◌, ◌-◌, length, take, drop, sym, arith, length-drop}
 use Rattle.std.specs.Prelude.{map}
 use Rattle.std.proofs.lemmas.List.{take_all}
 use Rattle.ctd_syntax.specs.Front.{piece}
-use Rattle.ctd_syntax.specs.Tests.{around, is_within}
 use Rattle.ctd_syntax.proofs.TestGroups.{groups_some, groups_none}
 use Rattle.ctd_syntax.proofs.condition.test_groups.Goals as goal
 

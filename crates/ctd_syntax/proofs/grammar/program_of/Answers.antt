@@ -1,4 +1,4 @@
-use Rattle.std.proofs.Common.{◌≡◌, sym, ap, ◌∙◌, subst}
+use Rattle.std.proofs.Common.{sym, ap, ◌∙◌, subst}
 use Rattle.std.specs.Prelude.{map}
 use Rattle.ctd_syntax.specs.Front.{Found, NotFound, Refused, piece}
 use Rattle.ctd_syntax.specs.Grammar.{IsCommands}
