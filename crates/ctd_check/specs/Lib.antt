@@ -4,7 +4,6 @@ pub mod Integer
 pub mod Loading
 pub mod OutcomeText
 pub mod Passing
-pub mod Plans
 pub mod Run
 pub mod Runnable
 pub mod Seen

@@ -1,7 +1,7 @@
 //! The check of data against a program.
 ghost use Rattle.std.specs.Prelude.{◌≡◌, ◌+◌, ◌≤◌, ◌^◌, IfOk};
 ghost use Rattle.ctd_source.specs.declared.source.Seen.TheVariants.{Going};
-ghost use Rattle.ctd_check.specs.Plans.{plan_tree};
+ghost use Rattle.ctd_syntax.specs.View.{command_trees};
 ghost use Rattle.ctd_check.specs.Run.{meaning};
 ghost use Rattle.ctd_check.specs.Checks.{FindsMeaning, IsAhead};
 
@@ -26,7 +26,7 @@ pub fn check<D: Source>(
 ) -> Result<Checked, AllocError>
     requires going { D.seen testdata.old ≡ Going }
     requires bytes { limits.bytes ≤ 2 ^ 62 }
-    ensures meaning { IfOk result (λ checked. FindsMeaning D.Source testdata.old testdata.new limits (λ d. meaning mode (plan_tree plan.now) presets.now d limits.steps) checked) }
+    ensures meaning { IfOk result (λ checked. FindsMeaning D.Source testdata.old testdata.new limits (λ d. meaning mode (command_trees plan.now) presets.now d limits.steps) checked) }
     ensures given { IfOk result (λ checked. D.given testdata.new ≡ D.given testdata.old + checked.taken) }
     ensures seen { IfOk result (λ checked. checked.seen ≡ D.seen testdata.new) }
     ensures ahead { IfOk result IsAhead }
@@ -35,7 +35,7 @@ pub fn check<D: Source>(
     let _pins = presets.pins();
     let mut cursor = Cursor::start(alloc, testdata, limits.bytes)?;
     let mut left = limits.steps;
-    let outcome = match run_program(plan.program.commands(), &mut cursor, &mut left) {
+    let outcome = match run_program(plan.commands(), &mut cursor, &mut left) {
         Ok(()) => Outcome::Accepted,
         Err(outcome) => outcome,
     };

@@ -7,14 +7,28 @@ ghost use Rattle.ctd_check.specs.Runnable.{are_runnable};
 use crate::gate::first_unready;
 use crate::text::fill;
 use ctd_source::Source;
-use ctd_syntax::{LoadFault, LoadKind, PROGRAM_LIMIT, Program, parse};
+use ctd_syntax::{Command, LoadFault, LoadKind, PROGRAM_LIMIT, Program, parse};
 use std::alloc::{AllocError, Global};
+use std::marker::Model;
 
-/// A program that was read, ready for any number of checks.
+/// A program that was read, ready for any number of checks, which contracts see as the list of its commands.
 #[derive(Debug, Drop)]
 pub struct Plan {
-    pub(crate) program: Program,
+    program: Program,
     ghost runnable: { are_runnable program ≡ true },
+}
+
+impl Model for Plan {
+    ghost use Rattle.std.specs.Prelude.{List};
+    ghost use Rattle.std.specs.Coded.{codes};
+    ghost use Rattle.ctd_syntax.specs.declared.tree.Command.{Command};
+    ghost use Rattle.ctd_syntax.specs.contracts.tree.Command as c;
+
+    ghost Value = { List Command };
+
+    ghost coded = { Prim.hlevel (codes, c.the_row.coded) };
+
+    ghost view = { λ p. p.program };
 }
 
 /// Room for so many bytes.
@@ -25,13 +39,21 @@ fn room_for(alloc: Global, count: usize) -> Result<Vec<u8>, AllocError>
 }
 
 impl Plan {
-    ghost use Rattle.ctd_check.specs.Plans.{plan_tree};
+    ghost use Rattle.ctd_syntax.specs.View.{command_trees};
     ghost use Rattle.ctd_check.specs.Loading.{LoadsFrom, TextLoadsAs};
+
+    /// The commands, each of which can be run.
+    pub(crate) fn commands(&self) -> &[Command]
+        ensures whole { result.now ≡ self.now }
+        ensures runnable { are_runnable result.now ≡ true }
+    {
+        self.program.commands()
+    }
 
     /// What a text is that came whole.
     fn read(alloc: Global, text: &[u8]) -> Result<Plan, LoadFault>
         requires { length text.now ≤ PROGRAM_LIMIT }
-        ensures { TextLoadsAs plan_tree result text.now }
+        ensures loads { TextLoadsAs command_trees result text.now }
     {
         let program = parse(alloc, text)?;
         match first_unready(program.commands()) {
@@ -50,7 +72,7 @@ impl Plan {
     /// yet is `NotInProfile`, at the first such command: those of today are SPACE, NEWLINE, EOF and INT with two bounds.
     pub fn load<P: Source>(alloc: Global, program: &mut P) -> Result<Plan, LoadFault>
         requires { P.seen program.old ≡ Going }
-        ensures { LoadsFrom plan_tree P.Source program.old program.new result }
+        ensures loads { LoadsFrom command_trees P.Source program.old program.new result }
     {
         let Ok(mut room) = room_for(alloc, PROGRAM_LIMIT + 1) else {
             return Err(LoadFault {
