@@ -9,7 +9,6 @@ use Rattle.ctd_syntax.proofs.Trees.{variable_tree}
 use Rattle.ctd_value.specs.declared.fault.EvalFault.{EvalFault}
 use Rattle.ctd_value.specs.declared.fault.EvalFault.TheVariants.{Undefined, WrongType, Overflow, DivisionByZero, Exponent, Count, Shape, Memory}
 use Rattle.ctd_value.specs.declared.lent.Lent.{Lent}
-use Rattle.ctd_value.specs.declared.value.Key.{Key}
 use Rattle.ctd_value.specs.declared.value.Value.{Value}
 use Rattle.ctd_value.specs.declared.value.Value.TheVariants as values
 use Rattle.ctd_value.specs.Fault.{ValueFault, ◌>>=◌, with_fault, eval_fault, Gives}
@@ -69,17 +68,14 @@ variable_fault f e x es h is all given =
     subst (λ m. Gives {X = Value} (Err f) m) (sym (variable_value e x h is ∙ ap (λ es. vals (expr_list es) h >>= λ is. value_or_undefined (value_at h (record { name = x.name; indices = is }))) (sym all)))
     (first_fault f (vals (expr_list es) h) _ given)
 
-pub same_key : (k : Key) (name : List ℕ) (is : List Value) → k.name ≡ name → k.indices ≡ is → record { name = name; indices = is } ≡ k
-same_key k name is n i = λ j. record { name = sym n j; indices = sym i j }
-
--- what is found at its key
-pub variable_found : (r : Result Lent EvalFault) (e : Expr) (x : v.Var) (es : List Expr) (is : List Value) (k : Key) (h : History) → e ≡ Var x → es ≡ exprs_of x.indices
-    → vals (expr_list es) h ≡ Ok is → k.name ≡ x.name → k.indices ≡ is → Lends r (value_or_undefined (value_at h k)) → Lends r (val (expr_tree e) h)
-variable_found r e x es is k h at all values n i given =
+-- what is found at its name and indices
+pub variable_found : (r : Result Lent EvalFault) (e : Expr) (x : v.Var) (es : List Expr) (is : List Value) (name : List ℕ) (indices : List Value) (h : History) → e ≡ Var x → es ≡ exprs_of x.indices
+    → vals (expr_list es) h ≡ Ok is → name ≡ x.name → indices ≡ is → Lends r (value_or_undefined (value_at h (record { name = name; indices = indices }))) → Lends r (val (expr_tree e) h)
+variable_found r e x es is name indices h at all values n i given =
     subst (λ m. Lends r m) (sym (variable_value e x h at
     ∙ ap (λ es. vals (expr_list es) h >>= λ is. value_or_undefined (value_at h (record { name = x.name; indices = is }))) (sym all)
     ∙ ap (λ m. m >>= λ is. value_or_undefined (value_at h (record { name = x.name; indices = is }))) values
-    ∙ ap (λ k. value_or_undefined (value_at h k)) (same_key k x.name is n i)))
+    ∙ (λ j. value_or_undefined (value_at h (record { name = sym n j; indices = sym i j })))))
     given
 
 -- the values of a list whose first ones are known

@@ -1,7 +1,6 @@
-//! Values, lists of them, and the keys of variables.
+//! Values, and the keys of variables.
 
-ghost use Rattle.std.specs.Prelude.{◌≡◌, IfOk, []};
-ghost use Rattle.ctd_value.specs.Order.{same_bytes};
+ghost use Rattle.std.specs.Prelude.{◌≡◌, IfOk};
 
 use ctd_syntax::Bytes;
 use std::alloc::{AllocError, Global};
@@ -26,71 +25,39 @@ impl Value {
     }
 }
 
-/// A list of values, which contracts see as the list of them.
-#[derive(Debug, Drop)]
-pub struct Values {
-    items: Vec<Value>,
-}
-
-impl Model for Values {
-    ghost use Rattle.std.specs.Prelude.{List};
-    ghost use Rattle.ctd_value.specs.declared.value.Value.{Value as Item};
-
-    ghost Value = { List Item };
-
-    ghost view = { λ v. v.items.items };
-}
-
-impl Values {
-    /// No values; takes no memory.
-    pub(crate) fn none(alloc: Global) -> Values
-        ensures empty { result ≡ [] }
-    {
-        Values {
-            items: Vec::new(alloc),
-        }
-    }
-
-    /// Copies of some values.
-    pub(crate) fn copy(alloc: Global, values: &[Value]) -> Result<Values, AllocError>
-        ensures equal { IfOk result (λ copied. copied ≡ values.now) }
-    {
-        let mut items = Vec::with_capacity(alloc, values.len())?;
-        for value in values {
-            items.push(value.copy(alloc)?)?;
-        }
-        Ok(Values { items })
-    }
-
-    /// A list of these values, which are not copied.
-    pub(crate) fn from_vec(items: Vec<Value>) -> Values
-        ensures equal { result ≡ items.items }
-    {
-        Values { items }
-    }
-
-    /// The values, all of them.
-    pub fn as_slice(&self) -> &[Value]
-        ensures whole { result.now ≡ self.now }
-    {
-        self.items.as_slice()
-    }
-}
-
 /// The name of a variable with its indices, of which an unindexed variable has none.
 #[derive(Debug, Drop)]
 pub struct Key {
-    name: Bytes,
-    indices: Values,
+    name: Vec<u8>,
+    indices: Vec<Value>,
+}
+
+impl Model for Key {
+    ghost use Rattle.ctd_value.specs.Store.{Key as Place};
+    ghost use Rattle.ctd_value.specs.Coding.{coded_key};
+
+    ghost Value = { Place };
+
+    ghost coded = { coded_key };
+
+    ghost view = { λ k. record { name = k.name.items; indices = k.indices.items } };
 }
 
 impl Key {
     /// The key of this name and these indices, which are not copied.
-    pub(crate) fn new(name: Bytes, indices: Values) -> Key
-        ensures name { result.name ≡ name }
-        ensures indices { result.indices ≡ indices }
+    pub(crate) fn new(name: Vec<u8>, indices: Vec<Value>) -> Key
+        ensures name { result.name ≡ name.items }
+        ensures indices { result.indices ≡ indices.items }
     {
         Key { name, indices }
+    }
+
+    /// The name and the indices, which are not copied.
+    pub(crate) fn into_parts(self) -> (Vec<u8>, Vec<Value>)
+        ensures name { result.0.items ≡ self.name }
+        ensures indices { result.1.items ≡ self.indices }
+    {
+        (self.name, self.indices)
     }
 
     /// The bytes of the name.
@@ -100,17 +67,10 @@ impl Key {
         self.name.as_slice()
     }
 
-    /// Whether it is a key of this name.
-    pub(crate) fn is_of(&self, name: &[u8]) -> bool
-        ensures same { result ≡ same_bytes self.now.name name.now }
-    {
-        self.name().cmp(name).is_eq()
-    }
-
-    /// The indices.
-    pub fn indices(&self) -> &Values
+    /// The values of the indices.
+    pub fn indices(&self) -> &[Value]
         ensures whole { result.now ≡ self.now.indices }
     {
-        &self.indices
+        self.indices.as_slice()
     }
 }

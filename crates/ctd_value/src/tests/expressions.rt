@@ -205,7 +205,7 @@ fn keys_of_variables(rt: HostRuntime) -> Result<(), Fail> {
                     indices.push(Value::Int(*n))?;
                 }
                 assert_eq!(rt; key.name(), b"a".as_slice(), "at {text:?}");
-                assert_eq!(rt; key.indices().as_slice(), indices.as_slice(), "at {text:?}");
+                assert_eq!(rt; key.indices(), indices.as_slice(), "at {text:?}");
             }
             Err(fault) => assert_eq!(rt; Some(fault), wanted.err(), "at {text:?}"),
         }
@@ -222,6 +222,6 @@ fn a_key_with_a_string(rt: HostRuntime) -> Result<(), Fail> {
     let text = Value::Text(Bytes::copy(rt.alloc(), b"k")?);
     assert_eq!(rt; key.name(), b"ab".as_slice());
     let indices = [text, Value::Int(1)];
-    assert_eq!(rt; key.indices().as_slice(), indices.as_slice());
+    assert_eq!(rt; key.indices(), indices.as_slice());
     Ok(())
 }

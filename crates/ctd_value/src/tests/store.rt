@@ -2,7 +2,7 @@
 
 use super::{first_name, presets};
 use crate::store::Store;
-use crate::value::{Key, Value, Values};
+use crate::value::{Key, Value};
 use ctd_syntax::{Bytes, parse};
 use std::alloc::{AllocError, Global};
 use std::test::Fail;
@@ -13,7 +13,7 @@ fn key(alloc: Global, name: &[u8], numbers: &[i128]) -> Result<Key, AllocError> 
     for n in numbers {
         indices.push(Value::Int(*n))?;
     }
-    Ok(Key::new(Bytes::copy(alloc, name)?, Values::from_vec(indices)))
+    Ok(Key::new(name.to_vec(alloc)?, indices))
 }
 
 fn text(alloc: Global, bytes: &[u8]) -> Result<Value, AllocError> {

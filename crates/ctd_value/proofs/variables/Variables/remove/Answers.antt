@@ -1,10 +1,10 @@
-use Rattle.std.proofs.Common.{ap, ◌∙◌, not, filter, rules}
-use Rattle.std.proofs.lemmas.Map.Made.{filter_same_pairs}
-use Rattle.ctd_value.specs.Order.{same_bytes}
+use Rattle.std.proofs.Common.{ap, ◌∙◌}
+use Rattle.std.specs.Map.{remove_entry}
+use Rattle.ctd_value.specs.Order.{bytes_cmp, same_bytes}
+use Rattle.ctd_value.proofs.Maps.{seen, removed}
 use Rattle.ctd_value.proofs.variables.Variables.remove.Goals as goal
 
 pub returns : goal.returns
 returns c = record {
-  value = filter_same_pairs _ (λ e. not (same_bytes e.0.name c.args.name.now)) _ (λ k v b w f' t. search rules) c.self.inside.map.entries c.retain.new.self.entries c.retain.ensures.filtered
-      ∙ ap (filter (λ e. not (same_bytes e.0.name c.args.name.now))) c.self.view_is;
+  value = ap (seen (λ k. k.items) bytes_cmp) c.remove.ensures.entries ∙ removed (λ k. k.items) bytes_cmp c.self.inside.arrays.entries c.args.name.now ∙ ap (remove_entry (same_bytes c.args.name.now)) c.self.view_is;
 }
