@@ -21,12 +21,9 @@ pub(crate) struct Array {
 
 impl Model for Array {
     ghost use Rattle.std.specs.Prelude.{map};
-    ghost use Rattle.ctd_value.specs.Store.{Array as Entries};
-    ghost use Rattle.ctd_value.specs.Coding.{coded_array};
+    ghost use Rattle.ctd_value.specs.Store.{Array};
 
-    ghost Value = { Entries };
-
-    ghost coded = { coded_array };
+    ghost Value = { Array };
 
     ghost view = { λ a. map (λ e. (e.0.items, e.1)) a.values.entries };
 }

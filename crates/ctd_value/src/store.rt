@@ -22,11 +22,8 @@ pub struct Store {
 
 impl Model for Store {
     ghost use Rattle.ctd_value.specs.Store.{History};
-    ghost use Rattle.ctd_value.specs.Coding.{coded_history};
 
     ghost Value = { History };
-
-    ghost coded = { coded_history };
 
     ghost view = { λ s. record { pins = s.pins; assigned = s.assigned } };
 }

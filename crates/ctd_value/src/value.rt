@@ -33,12 +33,9 @@ pub struct Key {
 }
 
 impl Model for Key {
-    ghost use Rattle.ctd_value.specs.Store.{Key as Place};
-    ghost use Rattle.ctd_value.specs.Coding.{coded_key};
+    ghost use Rattle.ctd_value.specs.Store.{Key};
 
-    ghost Value = { Place };
-
-    ghost coded = { coded_key };
+    ghost Value = { Key };
 
     ghost view = { λ k. record { name = k.name.items; indices = k.indices.items } };
 }

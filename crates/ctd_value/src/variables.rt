@@ -23,12 +23,9 @@ pub(crate) struct Variables {
 
 impl Model for Variables {
     ghost use Rattle.std.specs.Prelude.{map};
-    ghost use Rattle.ctd_value.specs.Store.{Variables as Entries};
-    ghost use Rattle.ctd_value.specs.Coding.{coded_variables};
+    ghost use Rattle.ctd_value.specs.Store.{Variables};
 
-    ghost Value = { Entries };
-
-    ghost coded = { coded_variables };
+    ghost Value = { Variables };
 
     ghost view = { λ v. map (λ e. (e.0.items, e.1)) v.arrays.entries };
 }
