@@ -69,7 +69,7 @@ value_at h key = option_or (value_in key h.pins) (value_in key h.assigned)
 abbrev pub assign : History → Key → Value → History
 assign h key value = if is_pinned h key then h else record { pins = h.pins; assigned = with_value key value h.assigned }
 
--- all that was assigned to the name is gone, at whatever indices; pins stay
+-- the name is gone from what was assigned, with all its index lists; pins stay
 abbrev pub unset : History → List ℕ → History
 unset h name = record { pins = h.pins; assigned = remove_entry (same_bytes name) h.assigned }
 
@@ -77,10 +77,10 @@ unset h name = record { pins = h.pins; assigned = remove_entry (same_bytes name)
 abbrev pub has_indices : Array → List Value → Bool
 has_indices array indices = is_some (find values_cmp indices array)
 
--- the entries of an array at which another has no value
+-- the entries of an array at whose index lists another has no value
 abbrev pub not_among : Array → Array → Array
 not_among others array = filter (λ e. not (has_indices others e.0)) array
 
--- each index list at which the name has a value, with that value: its pins, and what was assigned where no pin is
+-- each index list at which the name has a value, with that value: the pins, and what was assigned where none is
 abbrev pub values_of : History → List ℕ → Array
 values_of h name = array_of name h.pins ++ not_among (array_of name h.pins) (array_of name h.assigned)

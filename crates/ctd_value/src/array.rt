@@ -1,4 +1,4 @@
-//! Index lists with their values, in the order of the index lists.
+//! The array of a name: index lists with their values, in the order of the index lists.
 
 ghost use Rattle.std.specs.Prelude.{◌≡◌, [], ◌∷◌, ◌++◌, map, IfOk, OnOk, OnErr};
 ghost use Rattle.std.specs.Option.{option_copied, unwrap_or};
@@ -13,7 +13,7 @@ use std::alloc::AllocError;
 use std::collections::BTreeMap;
 use std::marker::Model;
 
-/// The values of a name at its index lists, each list once, which contracts see in the order of the index lists.
+/// Index lists with their values, each index list once, which contracts see as the list of them in order.
 #[derive(Debug, Drop)]
 pub(crate) struct Array {
     values: BTreeMap<Vec<Value>, Value>,
@@ -29,23 +29,24 @@ impl Model for Array {
 }
 
 impl Array {
-    /// The array with one value, or an error where no memory is left for it.
+    /// The array with this one value, or an error where no memory is left for it.
     pub(crate) fn of_one(indices: Vec<Value>, value: Value) -> Result<Array, AllocError>
         ensures entries { IfOk result (λ array. array ≡ (indices.items, value) ∷ []) }
     {
+        // A store keeps no allocator, so the indices tell where memory comes from.
         let mut values = BTreeMap::new(*indices.allocator());
         values.insert(indices, value)?;
         Ok(Array { values })
     }
 
-    /// The value at some indices. Takes no memory.
+    /// The value at an index list. Takes no memory.
     pub(crate) fn get(&self, indices: &[Value]) -> Option<&Value>
         ensures value { option_copied result ≡ find values_cmp indices.now self.now }
     {
         self.values.get(indices)
     }
 
-    /// Gives some indices a value; after an error all is as it was.
+    /// Gives an index list a value; after an error all is as it was.
     pub(crate) fn insert(&mut self, indices: Vec<Value>, value: Value) -> Result<(), AllocError>
         ensures ok { OnOk result (self.new ≡ put values_cmp indices.items value self.old) }
         ensures err { OnErr result (self.new ≡ self.old) }
@@ -54,7 +55,7 @@ impl Array {
         Ok(())
     }
 
-    /// Adds the entries to others, but for those at whose indices another array has a value.
+    /// Adds the entries to others, but for those at whose index lists the hidden array, if there is one, has a value.
     pub(crate) fn add_entries<'s>(
         &'s self,
         hidden: Option<&Array>,
@@ -72,7 +73,7 @@ impl Array {
     }
 }
 
-/// Whether an array, if there is one, has a value at some indices.
+/// Whether an array, if there is one, has a value at an index list.
 fn has_indices(array: Option<&Array>, indices: &[Value]) -> bool
     ensures value { result ≡ has_indices (unwrap_or (option_copied array.entry) []) indices.now }
 {

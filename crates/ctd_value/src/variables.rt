@@ -15,7 +15,7 @@ use std::alloc::{AllocError, Global};
 use std::collections::BTreeMap;
 use std::marker::Model;
 
-/// Names with their arrays, each name once, which contracts see in the order of the names.
+/// Names with their arrays, each name once, which contracts see as the list of them in order.
 #[derive(Debug, Drop)]
 pub(crate) struct Variables {
     arrays: BTreeMap<Vec<u8>, Array>,
@@ -40,14 +40,14 @@ impl Variables {
         }
     }
 
-    /// The array of a name; a name with no values has none. Takes no memory.
+    /// The array of a name, if it has one. Takes no memory.
     pub(crate) fn array(&self, name: &[u8]) -> Option<&Array>
         ensures value { option_copied result ≡ find bytes_cmp name.now self.now }
     {
         self.arrays.get(name)
     }
 
-    /// The value of a name at some indices. Takes no memory.
+    /// The value of a name at an index list. Takes no memory.
     pub(crate) fn get(&self, name: &[u8], indices: &[Value]) -> Option<&Value>
         ensures value { option_copied result ≡ find values_cmp indices.now (array_of name.now self.now) }
     {
@@ -90,7 +90,8 @@ impl Variables {
         drop(self.arrays.remove(name));
     }
 
-    /// Adds the entries of a name to others, but for those at whose indices another array has a value.
+    /// Adds the entries of a name to others, but for those at whose index lists the hidden array, if there is one, has a
+    /// value.
     pub(crate) fn add_entries<'s>(
         &'s self,
         name: &[u8],
