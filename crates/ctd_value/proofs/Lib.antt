@@ -2,7 +2,6 @@ pub mod Powers
 pub mod Steps
 pub mod Distinct
 pub mod Lookups
-pub mod Listing
 pub mod Giving
 pub mod Maps
 pub mod Ordinary

@@ -1,23 +1,44 @@
 -- What has been assigned and pinned, and what a variable stands for.
-use Rattle.std.specs.Prelude.{◌≡◌, ℕ, Bool, not, List, [], ◌++◌, map, filter, fold, is_some, Option, if◌then◌else◌}
-use Rattle.std.specs.Option.{option_or}
+use Rattle.std.specs.Prelude.{ℕ, Bool, not, List, [], ◌++◌, filter, fold, is_some, Option, if◌then◌else◌}
+use Rattle.std.specs.Option.{option_or, unwrap_or}
 use Rattle.std.specs.FinMap.{find, put}
+use Rattle.std.specs.Map.{remove_entry}
 use Rattle.ctd_syntax.specs.declared.preset.Literal.{Literal}
 use Rattle.ctd_syntax.specs.declared.preset.Literal.TheVariants as literals
 use Rattle.ctd_syntax.specs.declared.preset.Preset.{Preset}
 use Rattle.ctd_value.specs.declared.value.Value.{Value}
 use Rattle.ctd_value.specs.declared.value.Value.TheVariants as values
-use Rattle.ctd_value.specs.declared.value.Key.{Key}
-use Rattle.ctd_value.specs.Order.{key_cmp, same_bytes}
+use Rattle.ctd_value.specs.Order.{bytes_cmp, values_cmp, same_bytes}
 
--- keys with their values, in the order of the keys and each key once: a finite map by its entries
-abbrev pub Entries : Type 0
-Entries = List (Key × Value)
+-- a variable: a name, and the values of its indices
+pub record Key : Type 0 where
+  pub name : List ℕ
+  pub indices : List Value
+
+-- index lists with their values, in the order of the index lists and each once: a finite map by its entries
+abbrev pub Array : Type 0
+Array = List (List Value × Value)
+
+-- names with their arrays, in the order of the names and each once
+abbrev pub Variables : Type 0
+Variables = List (List ℕ × Array)
+
+-- the array of a name, with no entries where the name has none
+abbrev pub array_of : List ℕ → Variables → Array
+array_of name variables = unwrap_or (find bytes_cmp name variables) []
+
+-- the value at a key
+abbrev pub value_in : Key → Variables → Option Value
+value_in key variables = find values_cmp key.indices (array_of key.name variables)
+
+-- the same variables, with a value at a key
+abbrev pub with_value : Key → Value → Variables → Variables
+with_value key value variables = put bytes_cmp key.name (put values_cmp key.indices value (array_of key.name variables)) variables
 
 -- what is pinned and what is assigned
 pub record History : Type 0 where
-  pub pins : Entries
-  pub assigned : Entries
+  pub pins : Variables
+  pub assigned : Variables
 
 -- the value that a literal is
 abbrev pub value_of : Literal → Value
@@ -29,8 +50,8 @@ abbrev pub pinned_key : Preset → Key
 pinned_key p = record { name = p.name; indices = [] }
 
 -- one preset after the other, so that the last of a key counts
-abbrev pub pins_of : List Preset → Entries
-pins_of presets = fold (λ pins p. put key_cmp (pinned_key p) (value_of p.value) pins) [] presets
+abbrev pub pins_of : List Preset → Variables
+pins_of presets = fold (λ pins p. with_value (pinned_key p) (value_of p.value) pins) [] presets
 
 -- the presets pinned, and nothing assigned
 abbrev pub initial : List Preset → History
@@ -38,33 +59,28 @@ initial presets = record { pins = pins_of presets; assigned = [] }
 
 -- whether a preset pins the key
 abbrev pub is_pinned : History → Key → Bool
-is_pinned h key = is_some (find key_cmp key h.pins)
+is_pinned h key = is_some (value_in key h.pins)
 
 -- the pin of a key, or else what was assigned to it
 abbrev pub value_at : History → Key → Option Value
-value_at h key = option_or (find key_cmp key h.pins) (find key_cmp key h.assigned)
+value_at h key = option_or (value_in key h.pins) (value_in key h.assigned)
 
 -- a pinned key stays as it is, and any other gets the value
 abbrev pub assign : History → Key → Value → History
-assign h key value = if is_pinned h key then h else record { pins = h.pins; assigned = put key_cmp key value h.assigned }
+assign h key value = if is_pinned h key then h else record { pins = h.pins; assigned = with_value key value h.assigned }
 
--- all that was assigned to the name is gone, at whatever indices; pins stay
+-- the name is gone from what was assigned, with all its index lists; pins stay
 abbrev pub unset : History → List ℕ → History
-unset h name = record { pins = h.pins; assigned = filter (λ e. not (same_bytes e.0.name name)) h.assigned }
+unset h name = record { pins = h.pins; assigned = remove_entry (same_bytes name) h.assigned }
 
--- the entries of a name
-abbrev pub entries_of : List ℕ → Entries → Entries
-entries_of name entries = filter (λ e. same_bytes e.0.name name) entries
+-- whether an array has a value at an index list
+abbrev pub has_indices : Array → List Value → Bool
+has_indices array indices = is_some (find values_cmp indices array)
 
--- what was assigned and no pin hides
-abbrev pub visible_entries : History → Entries
-visible_entries h = filter (λ e. not (is_pinned h e.0)) h.assigned
+-- the entries of an array at whose index lists another has no value
+abbrev pub not_among : Array → Array → Array
+not_among others array = filter (λ e. not (has_indices others e.0)) array
 
--- each index list at which the name has a value, with that value
-abbrev pub values_of : History → List ℕ → List (List Value × Value)
-values_of h name = map (λ e. (e.0.indices, e.1)) (entries_of name (h.pins ++ visible_entries h))
-
--- two histories that no program can tell apart: the same keys are pinned, and every key has the same value
-pub record AreAlike (h k : History) : Type 0 where
-  pub pins : (key : Key) → is_pinned h key ≡ is_pinned k key
-  pub values : (key : Key) → value_at h key ≡ value_at k key
+-- each index list at which the name has a value, with that value: the pins, and what was assigned where none is
+abbrev pub values_of : History → List ℕ → Array
+values_of h name = array_of name h.pins ++ not_among (array_of name h.pins) (array_of name h.assigned)

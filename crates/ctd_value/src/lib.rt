@@ -19,4 +19,4 @@ pub use expression::{count_of, eval, locate};
 pub use fault::{EvalFault, TestFault};
 pub use store::{EntryRef, Store};
 pub use test::holds;
-pub use value::{Key, Value, Values};
+pub use value::{Key, Value};

@@ -2,11 +2,12 @@
 
 ghost use Rattle.std.specs.Prelude.{◌≡◌, IfOk, OnOk, OnErr, IsOk, IsTrue, IsPermutation, map};
 ghost use Rattle.std.specs.Option.{option_copied};
-ghost use Rattle.ctd_value.specs.Store.{initial, pinned_key, is_pinned, value_at, assign, unset, values_of, value_of};
-ghost use Rattle.ctd_value.specs.Truth.{value_in, has_indices};
+ghost use Rattle.std.specs.FinMap.{find};
+ghost use Rattle.ctd_value.specs.Order.{values_cmp};
+ghost use Rattle.ctd_value.specs.Store.{initial, pinned_key, is_pinned, value_at, assign, unset, values_of, value_of, has_indices};
 ghost use Rattle.ctd_value.specs.Showing.{entry};
 
-use crate::value::{Key, Value, Values};
+use crate::value::{Key, Value};
 use crate::variables::Variables;
 use ctd_syntax::{Bytes, Literal, Name, Preset, Presets};
 use std::alloc::{AllocError, Global};
@@ -21,11 +22,8 @@ pub struct Store {
 
 impl Model for Store {
     ghost use Rattle.ctd_value.specs.Store.{History};
-    ghost use Rattle.ctd_value.specs.Coding.{coded_history};
 
     ghost Value = { History };
-
-    ghost coded = { coded_history };
 
     ghost view = { λ s. record { pins = s.pins; assigned = s.assigned } };
 }
@@ -56,36 +54,25 @@ impl Store {
     pub fn get(&self, key: &Key) -> Option<&Value>
         ensures value { option_copied result ≡ value_at self.now key.now }
     {
-        match self.pins.get(key) {
+        self.value_at(key.name(), key.indices())
+    }
+
+    /// The value of a name at some indices: its pin, or else what was assigned last. Takes no memory.
+    pub(crate) fn value_at(&self, name: &[u8], indices: &[Value]) -> Option<&Value>
+        ensures value { option_copied result ≡ value_at self.now (record { name = name.now; indices = indices.now }) }
+        ensures listed { option_copied result ≡ find values_cmp indices.now (values_of self.now name.now) }
+    {
+        match self.pins.get(name, indices) {
             Some(value) => Some(value),
-            None => self.assigned.get(key),
+            None => self.assigned.get(name, indices),
         }
     }
 
-    /// The value of a name at some indices.
-    pub(crate) fn value_at(
-        &self,
-        alloc: Global,
-        name: &[u8],
-        indices: &[Value],
-    ) -> Result<Option<&Value>, AllocError>
-        ensures value { IfOk result (λ found. option_copied found ≡ value_in indices.now (values_of self.now name.now)) }
+    /// Whether a name has a value at some indices. Takes no memory.
+    pub(crate) fn has_indices(&self, name: &[u8], indices: &[Value]) -> bool
+        ensures value { result ≡ has_indices (values_of self.now name.now) indices.now }
     {
-        let key = Key::new(Bytes::copy(alloc, name)?, Values::copy(alloc, indices)?);
-        Ok(self.get(&key))
-    }
-
-    /// Whether a name has a value at some indices.
-    #[tactic(auto, using(crate::proofs::Lookups::has_is_some))]
-    pub(crate) fn has_indices(
-        &self,
-        alloc: Global,
-        name: &[u8],
-        indices: &[Value],
-    ) -> Result<bool, AllocError>
-        ensures value { IfOk result (λ b. b ≡ has_indices (values_of self.now name.now) indices.now) }
-    {
-        Ok(self.value_at(alloc, name, indices)?.is_some())
+        self.value_at(name, indices).is_some()
     }
 
     /// Gives a key a value. A pinned key stays as it is, and that takes no memory; after an error the variables are as they
@@ -95,7 +82,7 @@ impl Store {
         ensures pinned { IsTrue (is_pinned self.old key) → IsOk result }
         ensures err { OnErr result (self.new ≡ self.old) }
     {
-        if self.pins.get(&key).is_none() {
+        if self.pins.get(key.name(), key.indices()).is_none() {
             self.assigned.insert(key, value)?;
         }
         Ok(())
@@ -124,9 +111,9 @@ impl Store {
     ) -> Result<Vec<EntryRef<'_>>, AllocError>
         ensures value { IfOk result (λ list. map entry list.items ≡ values_of self.now name.now) }
     {
-        let nothing = Variables::new(alloc);
-        let pinned = self.pins.add_entries(name, &nothing, Vec::new(alloc))?;
-        self.assigned.add_entries(name, &self.pins, pinned)
+        let pinned = self.pins.add_entries(name, None, Vec::new(alloc))?;
+        self.assigned
+            .add_entries(name, self.pins.array(name), pinned)
     }
 }
 
@@ -134,8 +121,8 @@ impl Store {
 fn pinned_key(alloc: Global, preset: &Preset) -> Result<Key, AllocError>
     ensures key { IfOk result (λ key. key ≡ pinned_key preset.now) }
 {
-    let name = Bytes::copy(alloc, preset.name.as_slice())?;
-    Ok(Key::new(name, Values::none(alloc)))
+    let name = preset.name.as_slice().to_vec(alloc)?;
+    Ok(Key::new(name, Vec::new(alloc)))
 }
 
 /// The value that a literal is.

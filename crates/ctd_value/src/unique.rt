@@ -61,28 +61,23 @@ fn have_same_shape(
     requires { map entry entries.now ≡ values_of store.now first.now }
     ensures value { IfOk result (λ b. b ≡ have_same_shape (values_of store.now first.now) (values_of store.now name.now)) }
 {
-    if !is_within(alloc, entries, name.as_slice(), store)? {
+    if !is_within(entries, name.as_slice(), store) {
         return Ok(false);
     }
     let others = store.entries_of(alloc, name.as_slice())?;
-    is_within(alloc, &others, first.as_slice(), store)
+    Ok(is_within(&others, first.as_slice(), store))
 }
 
 /// Whether a name has a value at the indices of each entry.
-fn is_within(
-    alloc: Global,
-    entries: &[EntryRef<'_>],
-    name: &[u8],
-    store: &Store,
-) -> Result<bool, AllocError>
-    ensures value { IfOk result (λ b. b ≡ is_within (map entry entries.now) (values_of store.now name.now)) }
+fn is_within(entries: &[EntryRef<'_>], name: &[u8], store: &Store) -> bool
+    ensures value { result ≡ is_within (map entry entries.now) (values_of store.now name.now) }
 {
     for e in entries {
-        if !store.has_indices(alloc, name, e.indices)? {
-            return Ok(false);
+        if !store.has_indices(name, e.indices) {
+            return false;
         }
     }
-    Ok(true)
+    true
 }
 
 /// Whether no two tuples at the indices of the entries are equal.
@@ -115,7 +110,7 @@ fn tuple_at<'s>(
 {
     let mut tuple = Vec::with_capacity(alloc, names.len())?;
     for name in names {
-        if let Some(value) = store.value_at(alloc, name.as_slice(), indices)? {
+        if let Some(value) = store.value_at(name.as_slice(), indices) {
             tuple.push(value)?;
         }
     }

@@ -2,7 +2,7 @@
 
 use super::{
     DIVISION_BY_ZERO, EXPONENT, OVERFLOW, UNDEFINED, WRONG_TYPE, first_assignment, first_other,
-    indices_of, numbers, store_of, value_told,
+    numbers, store_of, value_told,
 };
 use crate::fault::EvalFault;
 use crate::value::{Key, Value};
@@ -199,7 +199,7 @@ fn keys_of_variables(rt: HostRuntime) -> Result<(), Fail> {
         let key = key_in(rt.alloc(), text)??;
         let indices = numbers(rt.alloc(), wanted)?;
         assert_eq!(rt; key.name(), b"a".as_slice(), "at {text:?}");
-        assert_eq!(rt; indices_of(&key), indices.as_slice(), "at {text:?}");
+        assert_eq!(rt; key.indices(), indices.as_slice(), "at {text:?}");
     }
     Ok(())
 }
@@ -225,6 +225,6 @@ fn a_key_with_a_string(rt: HostRuntime) -> Result<(), Fail> {
     let key = key_in(rt.alloc(), "SET(ab[\"k\",1]=0)")??;
     let text = Value::Text(Bytes::copy(rt.alloc(), b"k")?);
     assert_eq!(rt; key.name(), b"ab".as_slice());
-    assert_eq!(rt; indices_of(&key), [text, Value::Int(1)].as_slice());
+    assert_eq!(rt; key.indices(), [text, Value::Int(1)].as_slice());
     Ok(())
 }
