@@ -5,7 +5,7 @@
 
 - UNIQUE, assignments and reads over 200,000 entries of an array, each over the same with 20,000: n log n gives about 12.
 - powers with the exponent 2^64 - 1 over powers with the exponent 3.
-- sums of numerals over reads of a variable: a sum takes no memory, a read makes the key that it looks up.
+- sums of numerals over reads of an indexed variable: a sum takes no memory, a read makes its list of indices.
 Each time is the least of five, told by the program itself. Builds by `rt run`.
 """
 import pathlib, subprocess
