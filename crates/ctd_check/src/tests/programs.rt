@@ -15,7 +15,7 @@ fn every_text_of_the_four_commands_is_read(rt: HostRuntime) -> Result<(), Fail> 
         ("INT ( - 1 ,\n0 ) # a line\tof one\nEOF", 2),
     ] {
         let plan = plan_of(rt.alloc(), program)?;
-        assert_eq!(rt; plan.program.commands().len(), commands, "{program}");
+        assert_eq!(rt; plan.commands().len(), commands, "{program}");
     }
     Ok(())
 }
@@ -87,7 +87,7 @@ fn a_program_is_whole_however_its_reads_are_cut(rt: HostRuntime) {
         });
         let plan = Plan::load(alloc, &mut source);
         assert_eq!(rt;
-            plan.map(|plan| plan.program.commands().len()).ok(),
+            plan.map(|plan| plan.commands().len()).ok(),
             Some(2),
             "{most} at once"
         );
