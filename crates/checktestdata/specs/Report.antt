@@ -1,8 +1,8 @@
 -- What is written to the two streams, and the status.
 use Rattle.std.specs.Prelude.{ℕ, Bool, List, [], ◌≡◌, ◌⊎◌, ◌++◌, codes, if◌then◌else◌}
 use Rattle.ctd_source.specs.SpotText.{spot_text}
-use Rattle.ctd_syntax.specs.FaultText.{load_fault_text}
-use Rattle.ctd_syntax.specs.declared.fault.LoadFault.{LoadFault}
+use Rattle.ctd_token.specs.FaultText.{load_fault_text}
+use Rattle.ctd_token.specs.declared.fault.LoadFault.{LoadFault}
 use Rattle.ctd_check.specs.OutcomeText.{fault_text, reason_text, site_text}
 use Rattle.ctd_check.specs.declared.outcome.Outcome.{Outcome}
 use Rattle.ctd_check.specs.declared.outcome.Outcome.TheVariants.{Accepted, Rejected, Stopped}

@@ -2,7 +2,7 @@
 
 ghost use Rattle.std.specs.Prelude.{◌≡◌, ◌≢◌, ◌⊎◌, [], false, is_err, string_bytes, IfOk, OnOk, OnErr};
 ghost use Rattle.std.specs.Io.KnownBytes.{Appends};
-ghost use Rattle.ctd_syntax.specs.declared.fault.LoadKind.TheVariants.{Memory};
+ghost use Rattle.ctd_token.specs.declared.fault.LoadKind.TheVariants.{Memory};
 ghost use Rattle.checktestdata.specs.Report.{check_report, load_line, load_report, open_line, open_report, outcome_line, usage_report, usage_text};
 ghost use Rattle.checktestdata.specs.Written.{AppendsPart, Leaves, change};
 

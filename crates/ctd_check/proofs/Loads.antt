@@ -2,7 +2,7 @@
 use Rattle.std.proofs.Common.{[], refl, arith, None, Err}
 use Rattle.ctd_source.specs.declared.source.Source.{Ghosts}
 use Rattle.ctd_source.specs.ReadingOn.{gave_nothing}
-use Rattle.ctd_syntax.specs.declared.fault.LoadKind.TheVariants.{Memory}
+use Rattle.ctd_token.specs.declared.fault.LoadKind.TheVariants.{Memory}
 use Rattle.ctd_syntax.specs.Tree.{CommandList}
 use Rattle.ctd_check.specs.Loading.{LoadsFrom}
 

@@ -2,7 +2,7 @@
 use Rattle.std.proofs.Common.{◌≡◌, ◌<◌, ◌+◌, ℕ, List, [], ◌∷◌, length, drop, get_or, Bool, true, false, ◌&&◌, Option, Some, None, if◌then◌else◌, refl, sym, ap, ◌∙◌, subst}
 use Rattle.std.proofs.lemmas.List.{at_drop_more}
 use Rattle.ctd_syntax.specs.declared.tree.Command.{Command}
-use Rattle.ctd_syntax.specs.declared.text.Place.{Place}
+use Rattle.ctd_token.specs.declared.text.Place.{Place}
 use Rattle.ctd_syntax.specs.Tree.{CommandTree, place_of}
 use Rattle.ctd_syntax.specs.View.{command_tree, command_trees}
 use Rattle.ctd_check.specs.Runnable.{is_runnable, are_runnable, first_unready}

@@ -8,7 +8,7 @@ use Rattle.ctd_syntax.specs.declared.tree.Expr.TheVariants.{Numeral, Text, Var',
 use Rattle.ctd_syntax.specs.Tree
 use Rattle.ctd_syntax.specs.Tree.{CommandTree, place_of}
 use Rattle.ctd_syntax.specs.View.{expr_tree, action_tree, command_tree, command_trees}
-use Rattle.ctd_syntax.specs.declared.text.Place.{Place}
+use Rattle.ctd_token.specs.declared.text.Place.{Place}
 use Rattle.ctd_syntax.specs.declared.tree.Command.{Command}
 use Rattle.ctd_syntax.specs.declared.tree.Action.{Action}
 use Rattle.ctd_syntax.specs.declared.tree.Action.TheVariants.{Space, Newline, Eof, Int, String, Regex, Assert, Set, Unset, Rep', RepI', While', WhileI', If}

@@ -1,7 +1,7 @@
 //! A program that was read, as it is run.
 ghost use Rattle.std.specs.Prelude.{◌≡◌, ◌≤◌, true, None, length, IfOk};
 ghost use Rattle.ctd_source.specs.declared.source.Seen.TheVariants.{Going};
-ghost use Rattle.ctd_syntax.specs.declared.limits.TheConstants.{PROGRAM_LIMIT};
+ghost use Rattle.ctd_token.specs.declared.limits.TheConstants.{PROGRAM_LIMIT};
 ghost use Rattle.ctd_check.specs.Runnable.{are_runnable};
 
 use crate::gate::first_unready;

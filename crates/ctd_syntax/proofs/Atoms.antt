@@ -6,10 +6,10 @@ use Rattle.ctd_syntax.specs.Tree.{ExprTree, ExprList, VarTree}
 use Rattle.ctd_syntax.specs.Grammar.{IsExpr, IsSigned, unsigned, minus, IsPower, atom, power, IsExponent, positive, negative, IsAtom, numeral, text, variable, strlen, group, IsTarget, IsVariable, plain, indexed, IsExprs}
 use Rattle.ctd_syntax.specs.Front.{Found, NotFound, Always, IsBefore}
 use Rattle.ctd_syntax.specs.Levels.{ends}
-use Rattle.ctd_syntax.specs.declared.text.Place.{Place}
-use Rattle.ctd_syntax.specs.declared.token.Mark.{Mark}
+use Rattle.ctd_token.specs.declared.text.Place.{Place}
+use Rattle.ctd_token.specs.declared.token.Mark.{Mark}
 use Rattle.ctd_syntax.specs.declared.keyword.Keyword.{Keyword}
-use Rattle.ctd_syntax.specs.declared.token.Mark.TheVariants.{Open, Close, OpenIndex, CloseIndex, Minus, Caret}
+use Rattle.ctd_token.specs.declared.token.Mark.TheVariants.{Open, Close, OpenIndex, CloseIndex, Minus, Caret}
 use Rattle.ctd_syntax.specs.declared.keyword.Keyword.TheVariants.{Strlen}
 use Rattle.ctd_syntax.proofs.Levels.{ends_weaker}
 

@@ -6,10 +6,10 @@ use Rattle.ctd_syntax.specs.Tree.{ExprTree, ExprList, VarTree, TestTree, Command
 use Rattle.ctd_syntax.specs.Grammar
 use Rattle.ctd_syntax.specs.Grammar.{IsExpr, IsProduct, IsSigned, IsPower, IsExponent, IsAtom, IsVariable, IsExprs, IsNames, IsTest, IsBoth, IsNegated, IsPlain, IsTargetEnd, IsAssignments, IsCommand, IsRepeated, IsBranches, IsCommands, mark_of}
 use Rattle.ctd_syntax.specs.Nesting.{change_of, word_change, step, start, weight, too_deep}
-use Rattle.ctd_syntax.specs.declared.text.Place.{Place}
-use Rattle.ctd_syntax.specs.declared.limits.TheConstants.{NESTING_LIMIT}
+use Rattle.ctd_token.specs.declared.text.Place.{Place}
+use Rattle.ctd_token.specs.declared.limits.TheConstants.{NESTING_LIMIT}
 use Rattle.ctd_syntax.specs.declared.nesting.Change.TheVariants.{Opens, Closes, Keeps}
-use Rattle.ctd_syntax.specs.declared.token.Mark.TheVariants.{Open, Close, OpenIndex, CloseIndex, Comma, Assign, Plus, Minus, Times, Divide, Percent, Caret, Bang, OrOr, AndAnd}
+use Rattle.ctd_token.specs.declared.token.Mark.TheVariants.{Open, Close, OpenIndex, CloseIndex, Comma, Assign, Plus, Minus, Times, Divide, Percent, Caret, Bang, OrOr, AndAnd}
 use Rattle.ctd_syntax.specs.declared.tree.Compare.{Compare}
 use Rattle.ctd_syntax.specs.declared.tree.Compare.TheVariants.{Less, Greater, AtMost, AtLeast, Equal, Unequal}
 use Rattle.ctd_syntax.specs.declared.keyword.Keyword.{Keyword}

@@ -8,8 +8,8 @@ use Rattle.ctd_syntax.specs.Grammar.{IsExpr, IsProduct, IsSigned, IsPower, IsAto
 use Rattle.ctd_syntax.specs.Front.{Found, NotFound, Always, IsBefore, IsAfter, IsPair, IsName, Spelling, operator_at, after_operator}
 use Rattle.ctd_syntax.specs.Levels.{binding, ends}
 use Rattle.ctd_syntax.specs.Tests.{question, Asked, IsLeft, IsCompared, compare_operator, holds_test}
-use Rattle.ctd_syntax.specs.declared.token.Mark.TheVariants.{Open, Close, Comma, Plus, Minus, Times, Divide, Percent, Caret, Bang}
-use Rattle.ctd_syntax.specs.declared.token.Mark.TheVariants as marks
+use Rattle.ctd_token.specs.declared.token.Mark.TheVariants.{Open, Close, Comma, Plus, Minus, Times, Divide, Percent, Caret, Bang}
+use Rattle.ctd_token.specs.declared.token.Mark.TheVariants as marks
 use Rattle.ctd_syntax.specs.declared.tree.Compare.{Compare}
 use Rattle.ctd_syntax.specs.declared.tree.Compare.TheVariants.{Less, Greater, AtMost, AtLeast, Equal, Unequal}
 use Rattle.ctd_syntax.specs.declared.keyword.Keyword.{Keyword}

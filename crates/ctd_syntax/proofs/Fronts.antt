@@ -4,8 +4,8 @@ use Rattle.std.proofs.lemmas.Result.{err_from_is_err_and}
 use Rattle.ctd_syntax.specs.Lexeme.{Lexeme, mark, keyword}
 use Rattle.ctd_syntax.specs.Front.{Found, NotFound, Refused, Reads, Always, IsBefore, IsBeforeWord, IsAfter, IsBuilt, IsPair, IsName, Spelling, Following}
 use Rattle.ctd_syntax.specs.declared.keyword.Keyword.{Keyword}
-use Rattle.ctd_syntax.specs.declared.text.Place.{Place}
-use Rattle.ctd_syntax.specs.declared.token.Mark.{Mark}
+use Rattle.ctd_token.specs.declared.text.Place.{Place}
+use Rattle.ctd_token.specs.declared.token.Mark.{Mark}
 use Rattle.ctd_syntax.specs.declared.front.Refusal.{Refusal}
 use Rattle.ctd_syntax.specs.declared.front.Refusal.TheVariants.{Syntax, Memory}
 

@@ -1,9 +1,3 @@
-pub mod Numerals
-pub mod Literals
-pub mod OneCut
-pub mod Cutting
-pub mod TokenFaults
-pub mod Decided
 pub mod TokenFronts
 pub mod LiteralFronts
 pub mod PresetTexts

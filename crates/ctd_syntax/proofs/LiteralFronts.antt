@@ -3,13 +3,13 @@ use Rattle.std.proofs.Common.{◌≡◌, ℕ, zero, suc, ◌+◌, ◌-◌, ◌<�
 use Rattle.std.specs.Option.{option_map}
 use Rattle.std.specs.List.{prefix_len}
 use Rattle.std.proofs.lemmas.List.{take-append-le, take-take, length-take-le, take_all}
-use Rattle.ctd_syntax.specs.declared.token.TokenKind.TheVariants as tokens
-use Rattle.ctd_syntax.specs.declared.fault.LoadKind.TheVariants.{UnfinishedString, BadOctal}
-use Rattle.ctd_syntax.specs.Literal.{Piece, piece, is_octal, octal, octal_len, octal_escape, escape, after_backslash, piece_at, Closed, closed_here, one_later, with_piece, literal}
-use Rattle.ctd_syntax.specs.Cut.{wrong, closed_text, text_at, token_at}
+use Rattle.ctd_token.specs.declared.token.TokenKind.TheVariants as tokens
+use Rattle.ctd_token.specs.declared.fault.LoadKind.TheVariants.{UnfinishedString, BadOctal}
+use Rattle.ctd_token.specs.Literal.{Piece, piece, is_octal, octal, octal_len, octal_escape, escape, after_backslash, piece_at, Closed, closed_here, one_later, with_piece, literal}
+use Rattle.ctd_token.specs.Cut.{wrong, closed_text, text_at, token_at}
 use Rattle.ctd_syntax.specs.Presets.{IsToken}
 use Rattle.ctd_syntax.proofs.TokenFronts.{same_found, known_of, no_token}
-use Rattle.ctd_syntax.proofs.TokenFaults.{token_some}
+use Rattle.ctd_token.proofs.TokenFaults.{token_some}
 
 pub of_some : {A B : Type 0} (f : A → B) (o : Option A) (y : B) → option_map f o ≡ Some y → (x : A) × (o ≡ Some x) × (f x ≡ y)
 of_some f None y e = absurd (let g : None ≡ Some y = e in cc)

@@ -8,12 +8,12 @@ use Rattle.ctd_syntax.specs.Grammar.{IsCommands}
 use Rattle.ctd_syntax.specs.CommandWords.{CommandsEnd}
 use Rattle.ctd_syntax.specs.Nesting.{start, too_deep}
 use Rattle.ctd_syntax.specs.Reading.{IsCut, IsNoProgram, IsFault, Parses, Spells, lexemes}
-use Rattle.ctd_syntax.specs.Lexing.{IsLexFault}
-use Rattle.ctd_syntax.specs.declared.text.Place.{Place}
-use Rattle.ctd_syntax.specs.declared.token.Token.{Token}
-use Rattle.ctd_syntax.specs.declared.fault.LoadKind.{LoadKind}
-use Rattle.ctd_syntax.specs.declared.fault.LoadKind.TheVariants.{ProgramTooLong, BadByte, UnfinishedString, BadOctal, NumberTooLarge, NotInProfile, TooDeep, Syntax, BadPattern, Read, Memory}
-use Rattle.ctd_syntax.proofs.OneCut.{same_cut}
+use Rattle.ctd_token.specs.Lexing.{IsLexFault}
+use Rattle.ctd_token.specs.declared.text.Place.{Place}
+use Rattle.ctd_token.specs.declared.token.Token.{Token}
+use Rattle.ctd_token.specs.declared.fault.LoadKind.{LoadKind}
+use Rattle.ctd_token.specs.declared.fault.LoadKind.TheVariants.{ProgramTooLong, BadByte, UnfinishedString, BadOctal, NumberTooLarge, NotInProfile, TooDeep, Syntax, BadPattern, Read, Memory}
+use Rattle.ctd_token.proofs.OneCut.{same_cut}
 use Rattle.ctd_syntax.proofs.Blocks.{blocks_within}
 
 -- the commands that end with the text are the one program there

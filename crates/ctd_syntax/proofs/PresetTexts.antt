@@ -8,9 +8,9 @@ use Rattle.std.proofs.Math.Seq.{take-append_seam, drop-append_seam, take-append-
 use Rattle.ctd_syntax.specs.declared.preset.Literal.{Literal}
 use Rattle.ctd_syntax.specs.declared.preset.Literal.TheVariants as literals
 use Rattle.ctd_syntax.specs.declared.preset.Preset.{Preset}
-use Rattle.ctd_syntax.specs.declared.token.TokenKind.{TokenKind}
-use Rattle.ctd_syntax.specs.declared.token.TokenKind.TheVariants as tokens
-use Rattle.ctd_syntax.specs.Cut.{Found, is_digit, goes_on, token_at}
+use Rattle.ctd_token.specs.declared.token.TokenKind.{TokenKind}
+use Rattle.ctd_token.specs.declared.token.TokenKind.TheVariants as tokens
+use Rattle.ctd_token.specs.Cut.{Found, is_digit, goes_on, token_at}
 use Rattle.ctd_syntax.specs.Presets.{IsToken, IsLiteral, number, negative, string, IsPreset, preset}
 use Rattle.ctd_syntax.specs.PresetFront.{plain, negated, literal_at, valued, behind_name, named, preset_at}
 use Rattle.ctd_syntax.proofs.TokenFronts.{known_of, no_token, name_front, name_alone, numeral_front, numeral_alone}

@@ -10,8 +10,8 @@ use Rattle.ctd_syntax.specs.Front.{Found, NotFound, Spelling, Following, Always,
 use Rattle.ctd_syntax.specs.Levels.{ends}
 use Rattle.ctd_syntax.specs.View.{expr_tree, expr_list}
 use Rattle.ctd_syntax.specs.declared.tree.Expr.{Expr}
-use Rattle.ctd_syntax.specs.declared.token.Mark.{Mark}
-use Rattle.ctd_syntax.specs.declared.token.Mark.TheVariants.{Comma, Close, CloseIndex}
+use Rattle.ctd_token.specs.declared.token.Mark.{Mark}
+use Rattle.ctd_token.specs.declared.token.Mark.TheVariants.{Comma, Close, CloseIndex}
 use Rattle.ctd_syntax.proofs.Chains.{Chain, stop, step, Level, Partly, start, no_start, next, no_next, finish}
 use Rattle.ctd_syntax.proofs.Fronts.{before_reads, before_none, none_before, found_as, none_as}
 

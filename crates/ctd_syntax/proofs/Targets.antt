@@ -6,7 +6,7 @@ use Rattle.ctd_syntax.specs.Grammar
 use Rattle.ctd_syntax.specs.Grammar.{IsExpr, IsTarget, IsTargetEnd, IsAssignments}
 use Rattle.ctd_syntax.specs.Front.{Found, NotFound, Always, IsBefore, IsAfter, IsAssignment}
 use Rattle.ctd_syntax.specs.Levels.{ends}
-use Rattle.ctd_syntax.specs.declared.token.Mark.TheVariants.{Close, Comma, Assign}
+use Rattle.ctd_token.specs.declared.token.Mark.TheVariants.{Close, Comma, Assign}
 use Rattle.ctd_syntax.proofs.Fronts.{pair_reads, first_none, second_none}
 use Rattle.ctd_syntax.proofs.Rows.{Separated, alone, and, Listing, rows}
 

@@ -1,6 +1,6 @@
 -- How many of the parentheses at the front of some tokens hold a test.
 use Rattle.std.proofs.Common.{◌≡◌, ◌≢◌, ◌<◌, ◌≤◌, ℕ, zero, suc, ◌+◌, ◌-◌, List, [], ◌∷◌, ◌++◌, true, false, if◌then◌else◌, Option, Some, None, option_map, refl, sym, ap, ◌∙◌, subst, arith}
-use Rattle.ctd_syntax.specs.declared.token.Mark.TheVariants.{Open}
+use Rattle.ctd_token.specs.declared.token.Mark.TheVariants.{Open}
 use Rattle.ctd_syntax.specs.declared.condition.Effect.{Effect}
 use Rattle.ctd_syntax.specs.declared.condition.Effect.TheVariants.{Tests, Opens, Closes, Keeps}
 use Rattle.ctd_syntax.specs.Lexeme.{Lexeme, mark}

@@ -7,7 +7,7 @@ use Rattle.ctd_syntax.specs.Grammar.{IsTest, both, or, IsBoth, negated, and, IsN
 use Rattle.ctd_syntax.specs.Front.{operator_at}
 use Rattle.ctd_syntax.specs.Levels.{ends}
 use Rattle.ctd_syntax.specs.Tests.{test_ends}
-use Rattle.ctd_syntax.specs.declared.token.Mark.TheVariants.{OrOr, AndAnd}
+use Rattle.ctd_token.specs.declared.token.Mark.TheVariants.{OrOr, AndAnd}
 use Rattle.ctd_syntax.proofs.Chains.{Chain, stop, Level, longer}
 
 -- `||`

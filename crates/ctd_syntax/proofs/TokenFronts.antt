@@ -8,15 +8,15 @@ use Rattle.std.proofs.lemmas.Int.{ints}
 use Rattle.std.proofs.lemmas.List.Folds.{prefix_len-append, length-prefix_len}
 use Rattle.std.proofs.lemmas.List.Sums.{prefix_len-le-length, prefix_len_is, prefix_len_passes}
 use Rattle.std.proofs.Math.Seq.{take-append_seam, drop-append_seam}
-use Rattle.ctd_syntax.specs.declared.fault.LoadKind.TheVariants.{BadByte, NumberTooLarge, NotInProfile}
-use Rattle.ctd_syntax.specs.declared.token.Mark.{Mark}
-use Rattle.ctd_syntax.specs.declared.token.TokenKind.{TokenKind}
-use Rattle.ctd_syntax.specs.declared.token.TokenKind.TheVariants as tokens
-use Rattle.ctd_syntax.specs.Literal.{Closed, literal}
-use Rattle.ctd_syntax.specs.Cut.{is_upper, is_lower, is_digit, Judged, Found, wrong, at_first_byte, is_left_out_word, word_at, name_len, decimal, has_leading_zero, goes_on, numeral_at, mark_or, mark_at, single_mark, double_mark, closed_text, text_at, token_at}
+use Rattle.ctd_token.specs.declared.fault.LoadKind.TheVariants.{BadByte, NumberTooLarge, NotInProfile}
+use Rattle.ctd_token.specs.declared.token.Mark.{Mark}
+use Rattle.ctd_token.specs.declared.token.TokenKind.{TokenKind}
+use Rattle.ctd_token.specs.declared.token.TokenKind.TheVariants as tokens
+use Rattle.ctd_token.specs.Literal.{Closed, literal}
+use Rattle.ctd_token.specs.Cut.{is_upper, is_lower, is_digit, Judged, Found, wrong, at_first_byte, is_left_out_word, word_at, name_len, decimal, has_leading_zero, goes_on, numeral_at, mark_or, mark_at, single_mark, double_mark, closed_text, text_at, token_at}
 use Rattle.ctd_syntax.specs.Presets.{IsToken}
 use Rattle.ctd_syntax.specs.PresetFront.{negated}
-use Rattle.ctd_syntax.proofs.TokenFaults.{token_some}
+use Rattle.ctd_token.proofs.TokenFaults.{token_some}
 
 -- what a name, a numeral or a string at the front of b ∷ bs is
 abbrev Known : ℕ → List ℕ → Found → Type 0

@@ -1,7 +1,7 @@
 -- Commands by their words; for the contracts of private functions alone.
 use Rattle.std.specs.Prelude.{◌≡◌, ◌⊎◌, ℕ, Bool, true, false, List, [], ◌∷◌}
-use Rattle.ctd_syntax.specs.declared.text.Place.{Place}
-use Rattle.ctd_syntax.specs.declared.token.Mark.TheVariants.{Open, Close, Comma}
+use Rattle.ctd_token.specs.declared.text.Place.{Place}
+use Rattle.ctd_token.specs.declared.token.Mark.TheVariants.{Open, Close, Comma}
 use Rattle.ctd_syntax.specs.declared.keyword.Keyword.{Keyword}
 use Rattle.ctd_syntax.specs.declared.keyword.Keyword.TheVariants as words
 use Rattle.ctd_syntax.specs.Lexeme.{Lexeme, keyword}

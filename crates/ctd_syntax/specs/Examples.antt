@@ -1,9 +1,9 @@
 -- Small texts and what they are.
 use Rattle.std.specs.Prelude.{◌≡◌, ℕ, List, replicate, pos, Some, None, refl, [], ◌∷◌, codes, flat_map, take, drop}
-use Rattle.ctd_syntax.specs.declared.token.TokenKind.TheVariants as tokens
-use Rattle.ctd_syntax.specs.declared.token.Mark.TheVariants as marks
-use Rattle.ctd_syntax.specs.declared.token.Token.{Token}
-use Rattle.ctd_syntax.specs.declared.text.Place.{Place}
+use Rattle.ctd_token.specs.declared.token.TokenKind.TheVariants as tokens
+use Rattle.ctd_token.specs.declared.token.Mark.TheVariants as marks
+use Rattle.ctd_token.specs.declared.token.Token.{Token}
+use Rattle.ctd_token.specs.declared.text.Place.{Place}
 use Rattle.std.proofs.Common.{lit≤}
 use Rattle.ctd_syntax.specs.declared.keyword.Keyword.TheVariants as words
 use Rattle.ctd_syntax.specs.Tree
@@ -12,7 +12,7 @@ use Rattle.ctd_syntax.specs.Nesting.{start, too_deep}
 use Rattle.ctd_syntax.specs.Grammar.{IsExpr, IsProduct, IsSigned, IsPower, product, difference, signed, unsigned, minus, atom, power, positive, negative, numeral, space, newline, int, done, then}
 use Rattle.ctd_syntax.specs.Grammar as targets
 use Rattle.ctd_syntax.specs.Reading.{Reads, lexemes}
-use Rattle.ctd_syntax.specs.Cut.{Cuts, none, token}
+use Rattle.ctd_token.specs.Cut.{Cuts, none, token}
 
 -- `SPACE # x` is read as one command
 abbrev pub one_space : List Token

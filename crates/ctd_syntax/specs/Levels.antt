@@ -1,6 +1,6 @@
 -- How tightly operators bind; for the contracts of private functions alone.
 use Rattle.std.specs.Prelude.{ℕ, ◌<◌, List, [], ◌∷◌, Option, Some, None}
-use Rattle.ctd_syntax.specs.declared.token.Mark.TheVariants.{Plus, Minus, Times, Divide, Percent, Caret, OpenIndex}
+use Rattle.ctd_token.specs.declared.token.Mark.TheVariants.{Plus, Minus, Times, Divide, Percent, Caret, OpenIndex}
 use Rattle.ctd_syntax.specs.declared.expression.Operator.{Operator}
 use Rattle.ctd_syntax.specs.declared.expression.Operator.TheVariants.{Add, Sub, Mul, Div, Rem}
 use Rattle.ctd_syntax.specs.Lexeme.{Lexeme, mark}

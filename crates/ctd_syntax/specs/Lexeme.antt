@@ -1,13 +1,13 @@
 -- Tokens as the grammar sees them; words and strings keep their places.
 use Rattle.std.specs.Prelude.{ℕ, ℤ, List, take, drop, ◌-◌, codes, if◌then◌else◌}
 use Rattle.std.specs.Str.{bytes_eq}
-use Rattle.ctd_syntax.specs.declared.text.Place.{Place}
-use Rattle.ctd_syntax.specs.declared.token.Mark.{Mark}
+use Rattle.ctd_token.specs.declared.text.Place.{Place}
+use Rattle.ctd_token.specs.declared.token.Mark.{Mark}
 use Rattle.ctd_syntax.specs.declared.keyword.Keyword.{Keyword}
 use Rattle.ctd_syntax.specs.declared.keyword.Keyword.TheVariants as words
-use Rattle.ctd_syntax.specs.declared.token.Token.{Token}
-use Rattle.ctd_syntax.specs.declared.token.TokenKind.{TokenKind}
-use Rattle.ctd_syntax.specs.declared.token.TokenKind.TheVariants as tokens
+use Rattle.ctd_token.specs.declared.token.Token.{Token}
+use Rattle.ctd_token.specs.declared.token.TokenKind.{TokenKind}
+use Rattle.ctd_token.specs.declared.token.TokenKind.TheVariants as tokens
 
 -- a token: a word or a string with its place, a name, a number, or a mark
 pub data Lexeme : Type 0 where

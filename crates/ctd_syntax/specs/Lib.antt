@@ -1,9 +1,4 @@
-pub mod Literal
-pub mod Cut
-pub mod FaultText
-pub mod Scanning
 pub mod Lexeme
-pub mod Lexing
 pub mod Presets
 pub mod PresetFront
 pub mod Tree

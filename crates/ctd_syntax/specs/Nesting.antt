@@ -1,12 +1,12 @@
 -- How deep the tokens of a program nest, counted before the grammar is asked.
 use Rattle.std.specs.Prelude.{ℕ, ◌+◌, List, [], ◌∷◌, length, sum, Option, Some, None, option_map, nat_lt, if◌then◌else◌}
-use Rattle.ctd_syntax.specs.declared.token.Mark.{Mark}
-use Rattle.ctd_syntax.specs.declared.token.Mark.TheVariants.{Open, Close, OpenIndex, CloseIndex, Comma, Assign}
+use Rattle.ctd_token.specs.declared.token.Mark.{Mark}
+use Rattle.ctd_token.specs.declared.token.Mark.TheVariants.{Open, Close, OpenIndex, CloseIndex, Comma, Assign}
 use Rattle.ctd_syntax.specs.declared.keyword.Keyword.{Keyword}
 use Rattle.ctd_syntax.specs.declared.keyword.Keyword.TheVariants.{Rep, RepI, While, WhileI, If, Else, End}
 use Rattle.ctd_syntax.specs.declared.nesting.Change.{Change}
 use Rattle.ctd_syntax.specs.declared.nesting.Change.TheVariants.{Opens, Closes, Restarts, Grows, Keeps}
-use Rattle.ctd_syntax.specs.declared.limits.TheConstants.{NESTING_LIMIT}
+use Rattle.ctd_token.specs.declared.limits.TheConstants.{NESTING_LIMIT}
 use Rattle.ctd_syntax.specs.Lexeme.{Lexeme, mark, keyword}
 
 -- every mark but brackets, comma and `=` is an operator

@@ -5,10 +5,10 @@ use Rattle.ctd_syntax.specs.declared.preset.Literal.TheVariants as literals
 use Rattle.ctd_syntax.specs.declared.preset.Preset.{Preset}
 use Rattle.ctd_syntax.specs.declared.preset.PresetFault.{PresetFault}
 use Rattle.ctd_syntax.specs.declared.preset.PresetFault.TheVariants.{BadPreset, Memory}
-use Rattle.ctd_syntax.specs.declared.fault.TokenFault.{TokenFault}
-use Rattle.ctd_syntax.specs.declared.fault.TokenFault.TheVariants as scanning
-use Rattle.ctd_syntax.specs.declared.token.TokenKind.TheVariants as tokens
-use Rattle.ctd_syntax.specs.Cut.{Found, token_at}
+use Rattle.ctd_token.specs.declared.fault.TokenFault.{TokenFault}
+use Rattle.ctd_token.specs.declared.fault.TokenFault.TheVariants as scanning
+use Rattle.ctd_token.specs.declared.token.TokenKind.TheVariants as tokens
+use Rattle.ctd_token.specs.Cut.{Found, token_at}
 
 -- a fault of a token is one of the presets
 abbrev pub fault_of : TokenFault → PresetFault

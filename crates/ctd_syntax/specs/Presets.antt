@@ -3,9 +3,9 @@ use Rattle.std.specs.Prelude.{◌≡◌, ℕ, ℤ, List, [], ◌∷◌, ◌++◌
 use Rattle.ctd_syntax.specs.declared.preset.Literal.{Literal}
 use Rattle.ctd_syntax.specs.declared.preset.Literal.TheVariants as literals
 use Rattle.ctd_syntax.specs.declared.preset.Preset.{Preset}
-use Rattle.ctd_syntax.specs.declared.token.TokenKind.{TokenKind}
-use Rattle.ctd_syntax.specs.declared.token.TokenKind.TheVariants as tokens
-use Rattle.ctd_syntax.specs.Cut.{token_at}
+use Rattle.ctd_token.specs.declared.token.TokenKind.{TokenKind}
+use Rattle.ctd_token.specs.declared.token.TokenKind.TheVariants as tokens
+use Rattle.ctd_token.specs.Cut.{token_at}
 
 -- the whole text is this token
 abbrev pub IsToken : List ℕ → TokenKind → Type 0

@@ -1,13 +1,13 @@
 -- What reading the text of a program gives.
 use Rattle.std.specs.Prelude.{◌≡◌, ◌<◌, ◌≤◌, ℕ, List, length, map, slice_get, option_map, Option, Some, None}
-use Rattle.ctd_syntax.specs.declared.text.Place.{Place}
-use Rattle.ctd_syntax.specs.declared.token.Token.{Token}
-use Rattle.ctd_syntax.specs.declared.fault.LoadKind.{LoadKind}
-use Rattle.ctd_syntax.specs.declared.fault.LoadKind.TheVariants.{ProgramTooLong, BadByte, UnfinishedString, BadOctal, NumberTooLarge, NotInProfile, TooDeep, Syntax, BadPattern, Read, Memory}
-use Rattle.ctd_syntax.specs.declared.limits.TheConstants.{NESTING_LIMIT, PROGRAM_LIMIT}
-use Rattle.ctd_syntax.specs.Lexing.{HasFault}
+use Rattle.ctd_token.specs.declared.text.Place.{Place}
+use Rattle.ctd_token.specs.declared.token.Token.{Token}
+use Rattle.ctd_token.specs.declared.fault.LoadKind.{LoadKind}
+use Rattle.ctd_token.specs.declared.fault.LoadKind.TheVariants.{ProgramTooLong, BadByte, UnfinishedString, BadOctal, NumberTooLarge, NotInProfile, TooDeep, Syntax, BadPattern, Read, Memory}
+use Rattle.ctd_token.specs.declared.limits.TheConstants.{NESTING_LIMIT, PROGRAM_LIMIT}
+use Rattle.ctd_token.specs.Lexing.{HasFault}
 use Rattle.ctd_syntax.specs.Lexeme.{Lexeme, lexeme_of}
-use Rattle.ctd_syntax.specs.Cut.{Cuts}
+use Rattle.ctd_token.specs.Cut.{Cuts}
 use Rattle.ctd_syntax.specs.Nesting.{start, too_deep}
 use Rattle.ctd_syntax.specs.Grammar.{IsCommands}
 use Rattle.ctd_syntax.specs.Tree.{CommandList, list_blocks}

@@ -1,7 +1,7 @@
 -- How tests are told from expressions; for the contracts of private functions alone.
 use Rattle.std.specs.Prelude.{◌≡◌, ℕ, zero, suc, ◌<◌, replicate, Bool, true, false, if◌then◌else◌, List, [], ◌∷◌, ◌++◌, Option, Some, None}
-use Rattle.ctd_syntax.specs.declared.token.Mark.TheVariants as marks
-use Rattle.ctd_syntax.specs.declared.token.Mark.TheVariants.{Open, Close, Comma, Bang, AndAnd, OrOr}
+use Rattle.ctd_token.specs.declared.token.Mark.TheVariants as marks
+use Rattle.ctd_token.specs.declared.token.Mark.TheVariants.{Open, Close, Comma, Bang, AndAnd, OrOr}
 use Rattle.ctd_syntax.specs.declared.keyword.Keyword.{Keyword}
 use Rattle.ctd_syntax.specs.declared.keyword.Keyword.TheVariants.{Match, IsEof, Unique, InArray}
 use Rattle.ctd_syntax.specs.declared.tree.Compare.{Compare}

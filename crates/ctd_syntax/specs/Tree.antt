@@ -1,6 +1,6 @@
 -- The trees of programs, apart from where they lie in memory.
 use Rattle.std.specs.Prelude.{ℕ, ℤ, List, [], ◌∷◌, ◌++◌, ◌+◌, max, Option}
-use Rattle.ctd_syntax.specs.declared.text.Place.{Place}
+use Rattle.ctd_token.specs.declared.text.Place.{Place}
 use Rattle.ctd_syntax.specs.declared.tree.Compare.{Compare}
 
 -- an expression, and a list of them

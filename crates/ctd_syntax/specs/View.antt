@@ -3,7 +3,7 @@ use Rattle.std.specs.Prelude.{ℕ, List, [], ◌∷◌, map, Option, Some, None}
 use Rattle.std.specs.Global.{Box}
 use Rattle.ctd_syntax.specs.Tree
 use Rattle.ctd_syntax.specs.Tree.{ExprTree, ExprList, VarTree, TestTree, CommandTree, CommandList, Separator}
-use Rattle.ctd_syntax.specs.declared.text.Place.{Place}
+use Rattle.ctd_token.specs.declared.text.Place.{Place}
 use Rattle.ctd_syntax.specs.declared.tree.Expr.{Expr, Row_of-Expr, end_of-Expr, more_of-Expr}
 use Rattle.ctd_syntax.specs.declared.tree.Expr.TheVariants.{Numeral, Text, Var', Strlen', Minus', Add', Sub', Mul', Div', Rem', Pow'}
 use Rattle.ctd_syntax.specs.declared.tree.Var.{Var}

@@ -16,9 +16,8 @@ use crate::keyword::Keyword;
 use crate::names::names;
 use crate::piece::Piece;
 use crate::target::{assignments, target_before, target_end};
-use crate::text::{Bytes, Place};
-use crate::token::Mark;
 use crate::tree::{Action, Command, Commands, Expr, Test, Var};
+use ctd_token::{Bytes, Mark, Place};
 use std::alloc::Global;
 
 // The upper bound of INT and its target.

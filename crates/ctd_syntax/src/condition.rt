@@ -15,9 +15,8 @@ use crate::front::{Refusal, after_mark, name_at};
 use crate::keyword::Keyword;
 use crate::names::names;
 use crate::piece::Piece;
-use crate::text::Name;
-use crate::token::Mark;
 use crate::tree::{Compare, Expr, Test};
+use ctd_token::{Mark, Name};
 use std::alloc::Global;
 
 // What a token says of the parentheses that it stands in.

@@ -11,9 +11,8 @@ ghost use Rattle.ctd_syntax.specs.Lexeme;
 use crate::front::{Refusal, after_mark, name_at};
 use crate::keyword::Keyword;
 use crate::piece::Piece;
-use crate::text::{Bytes, Name};
-use crate::token::Mark;
 use crate::tree::{Expr, Exprs, Var};
+use ctd_token::{Bytes, Mark, Name};
 use std::alloc::{AllocError, Global};
 
 // The operators that join two expressions.

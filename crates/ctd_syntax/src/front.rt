@@ -7,8 +7,7 @@ ghost use Rattle.ctd_syntax.specs.Lexeme.{Lexeme};
 
 use crate::keyword::Keyword;
 use crate::piece::Piece;
-use crate::text::{Bytes, Place};
-use crate::token::Mark;
+use ctd_token::{Bytes, Mark, Place};
 use std::alloc::{AllocError, AllocFailed};
 
 /// Why there is no tree.

@@ -5,15 +5,11 @@ ghost use Rattle.ctd_syntax.specs.Reading.{IsCut, IsFault, Parses};
 ghost use Rattle.ctd_syntax.specs.View.{command_trees};
 
 use crate::command::commands;
-use crate::fault::{LoadFault, LoadKind};
 use crate::front::Refusal;
-use crate::lex::{advance, tokens};
-use crate::limits::PROGRAM_LIMIT;
 use crate::nesting::first_too_deep;
 use crate::piece::pieces;
-use crate::text::Place;
-use crate::token::Token;
 use crate::tree::Program;
+use ctd_token::{LoadFault, LoadKind, PROGRAM_LIMIT, Place, Token, advance, tokens};
 use std::alloc::Global;
 
 // The place of the first of so many last tokens; of none, the end of the text.

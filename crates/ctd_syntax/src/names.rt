@@ -7,9 +7,8 @@ ghost use Rattle.ctd_syntax.specs.Front.{Reads, Always, IsBefore, piece};
 
 use crate::front::{Refusal, after_mark, name_at};
 use crate::piece::Piece;
-use crate::text::Name;
-use crate::token::Mark;
 use crate::tree::Names;
+use ctd_token::{Mark, Name};
 use std::alloc::Global;
 
 /// The names at the front, with commas between them, and the parenthesis behind them, and what

@@ -5,9 +5,8 @@ ghost use Rattle.ctd_syntax.specs.Front.{piece};
 ghost use Rattle.ctd_syntax.specs.Nesting.{change_of, start, too_deep};
 
 use crate::keyword::Keyword;
-use crate::limits::NESTING_LIMIT;
 use crate::piece::Piece;
-use crate::token::Mark;
+use ctd_token::{Mark, NESTING_LIMIT};
 use std::alloc::{AllocError, Global};
 
 // What a token does to the counters.

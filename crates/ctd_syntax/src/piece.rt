@@ -6,8 +6,7 @@ ghost use Rattle.ctd_syntax.specs.Lexeme.{lexeme_of};
 ghost use Rattle.ctd_syntax.specs.Reading.{lexemes};
 
 use crate::keyword::Keyword;
-use crate::text::{Bytes, Place};
-use crate::token::{Mark, Token, TokenKind};
+use ctd_token::{Bytes, Mark, Place, Token, TokenKind};
 use std::alloc::{AllocFailed, Global};
 
 /// A token of a program, with what the grammar needs of it.

@@ -3,9 +3,8 @@
 ghost use Rattle.std.specs.Prelude.{◌≡◌, [], List, Err, IfOk};
 ghost use Rattle.ctd_syntax.specs.Presets.{ArePresets};
 
-use crate::fault::TokenFault;
 use crate::preset_text::presets;
-use crate::text::{Bytes, Name};
+use ctd_token::{Bytes, Name, TokenFault};
 use std::alloc::{AllocError, AllocFailed, Global};
 use std::marker::Model;
 

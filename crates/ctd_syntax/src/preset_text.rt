@@ -3,14 +3,12 @@
 
 ghost use Rattle.std.specs.Prelude.{◌≡◌, ◌+◌, ◌≤◌, ◌<◌, List, length, Err, IfOk};
 ghost use Rattle.ctd_syntax.specs.Presets.{ArePresets};
-ghost use Rattle.ctd_syntax.specs.Cut.{token_at};
+ghost use Rattle.ctd_token.specs.Cut.{token_at};
 ghost use Rattle.ctd_syntax.specs.PresetFront.{Answers, negated, literal_at, preset_at};
 ghost use Rattle.ctd_syntax.specs.declared.preset.Preset.{Preset};
 
 use crate::preset::{Literal, Preset, PresetFault};
-use crate::scan::token_at;
-use crate::text::Name;
-use crate::token::TokenKind;
+use ctd_token::{Name, TokenKind, token_at};
 use std::alloc::Global;
 
 // The number behind a minus and its length with the minus.

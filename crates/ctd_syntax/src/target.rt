@@ -11,8 +11,8 @@ ghost use Rattle.ctd_syntax.specs.Levels.{binding, ends};
 use crate::expression::{expr, variable};
 use crate::front::{Refusal, after_mark};
 use crate::piece::Piece;
-use crate::token::Mark;
 use crate::tree::{Assignment, Assignments, Var};
+use ctd_token::Mark;
 use std::alloc::Global;
 
 /// The variable at the front and a mark behind it, and what follows the mark.

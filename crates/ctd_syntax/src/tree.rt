@@ -4,7 +4,7 @@
 ghost use Rattle.std.specs.Prelude.{◌≡◌};
 ghost use Rattle.ctd_syntax.specs.View.{commands_of};
 
-use crate::text::{Bytes, Name, Place};
+use ctd_token::{Bytes, Name, Place};
 use std::marker::Model;
 
 /// An expression.

@@ -1,7 +1,7 @@
 //! What `parse` answers for a text, as text.
 
 use super::tree_text::write_program;
-use crate::fault::LoadFault;
+use ctd_token::LoadFault;
 use std::alloc::Global;
 use std::fmt::Write;
 use std::test::Fail;

@@ -1,7 +1,7 @@
 //! Texts of about a megabyte, which are read in the time that a test has.
 
 use super::answers::{built, size};
-use crate::limits::PROGRAM_LIMIT;
+use ctd_token::PROGRAM_LIMIT;
 use std::alloc::Global;
 use std::process::Abort;
 use std::test::Fail;

@@ -207,3 +207,14 @@ fn a_numeral_of_a_million_digits(rt: HostRuntime) -> Result<(), Fail> {
     }
     Ok(())
 }
+
+#[test]
+fn no_presets(rt: HostRuntime) {
+    assert!(rt; Presets::none(rt.alloc()).pins().is_empty());
+}
+
+#[test]
+fn numbers_of_the_faults(rt: HostRuntime) {
+    assert_eq!(rt; PresetFault::BadPreset as u8, 1);
+    assert_eq!(rt; PresetFault::Memory as u8, 2);
+}

@@ -1,7 +1,7 @@
 //! Trees as text, with a parenthesis wherever one part stands in another, `{..}` for blocks, and places behind `@`.
 
-use crate::text::{Name, Place};
 use crate::tree::{Action, Assignment, Command, Compare, Expr, Program, Test, Var};
+use ctd_token::{Name, Place};
 use std::fmt::Write;
 use std::test::Fail;
 

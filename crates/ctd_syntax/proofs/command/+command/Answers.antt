@@ -6,7 +6,7 @@ use Rattle.ctd_syntax.specs.Grammar.{IsExpr, IsTarget, IsTest, IsCommand, IsComm
 use Rattle.ctd_syntax.specs.Levels.{ends}
 use Rattle.ctd_syntax.specs.Tests.{test_ends}
 use Rattle.ctd_syntax.specs.CommandWords.{Behind, CommandsEnd, IsBlock, IsBranchEnd, IsLoopEnd}
-use Rattle.ctd_syntax.specs.declared.token.Mark.TheVariants.{Close, Comma}
+use Rattle.ctd_token.specs.declared.token.Mark.TheVariants.{Close, Comma}
 use Rattle.ctd_syntax.specs.declared.keyword.Keyword.TheVariants as words
 use Rattle.ctd_syntax.proofs.Fronts.{reads_as, refused_exit, before_reads, word_reads, pair_reads, first_none, second_none}
 use Rattle.ctd_syntax.proofs.CommandReads.{opened_reads, opened_none, before_loop_end, test_before_loop_end, before_branch_end, whatever, command_reads, command_none, commands_start, commands_next, commands_no_next, commands_end, begins_at, loop_end_plain, loop_end_no_block, loop_end_separated, loop_end_no_separated, branch_ended, branch_goes_on, branch_no_block}

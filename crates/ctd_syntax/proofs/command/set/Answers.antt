@@ -3,7 +3,7 @@ use Rattle.ctd_syntax.specs.Tree
 use Rattle.ctd_syntax.specs.Front.{Always, IsBefore, piece}
 use Rattle.ctd_syntax.specs.Grammar.{IsAssignments}
 use Rattle.ctd_syntax.specs.CommandWords.{Behind}
-use Rattle.ctd_syntax.specs.declared.token.Mark.TheVariants.{Close}
+use Rattle.ctd_token.specs.declared.token.Mark.TheVariants.{Close}
 use Rattle.ctd_syntax.specs.declared.keyword.Keyword.TheVariants as words
 use Rattle.ctd_syntax.proofs.Fronts.{refused_exit}
 use Rattle.ctd_syntax.proofs.CommandReads.{opened_reads, opened_none}

@@ -4,7 +4,7 @@ use Rattle.ctd_syntax.specs.Front.{Always, IsBefore, piece}
 use Rattle.ctd_syntax.specs.Grammar.{IsTest, IsBoth, IsNegated, IsPlain}
 use Rattle.ctd_syntax.specs.Levels.{ends}
 use Rattle.ctd_syntax.specs.Tests.{test_ends, Asked, IsCompared}
-use Rattle.ctd_syntax.specs.declared.token.Mark.TheVariants.{Close}
+use Rattle.ctd_token.specs.declared.token.Mark.TheVariants.{Close}
 use Rattle.ctd_syntax.proofs.Fronts.{reads_as, refused_exit, before_reads}
 use Rattle.ctd_syntax.proofs.Chains.{start, no_start, finish, next, no_next}
 use Rattle.ctd_syntax.proofs.TestLevels.{ors, ands, or_at, and_at, no_or, no_and}

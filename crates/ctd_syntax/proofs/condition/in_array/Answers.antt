@@ -2,7 +2,7 @@ use Rattle.std.specs.Prelude.{map}
 use Rattle.ctd_syntax.specs.Front.{Always, IsBefore, IsName, piece}
 use Rattle.ctd_syntax.specs.Grammar.{IsExpr}
 use Rattle.ctd_syntax.specs.Tests.{Asked}
-use Rattle.ctd_syntax.specs.declared.token.Mark.TheVariants.{Close, Comma}
+use Rattle.ctd_token.specs.declared.token.Mark.TheVariants.{Close, Comma}
 use Rattle.ctd_syntax.specs.declared.keyword.Keyword.TheVariants.{InArray}
 use Rattle.ctd_syntax.proofs.Fronts.{refused_exit}
 use Rattle.ctd_syntax.proofs.Conditions.{in_array_reads, in_array_no_expr, in_array_no_name}

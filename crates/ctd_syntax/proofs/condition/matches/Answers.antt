@@ -2,7 +2,7 @@ use Rattle.std.specs.Prelude.{map}
 use Rattle.ctd_syntax.specs.Front.{Always, IsBefore, piece}
 use Rattle.ctd_syntax.specs.Grammar.{IsExpr}
 use Rattle.ctd_syntax.specs.Tests.{Asked}
-use Rattle.ctd_syntax.specs.declared.token.Mark.TheVariants.{Close}
+use Rattle.ctd_token.specs.declared.token.Mark.TheVariants.{Close}
 use Rattle.ctd_syntax.specs.declared.keyword.Keyword.TheVariants.{Match}
 use Rattle.ctd_syntax.proofs.Fronts.{refused_exit}
 use Rattle.ctd_syntax.proofs.Conditions.{match_reads, match_none}

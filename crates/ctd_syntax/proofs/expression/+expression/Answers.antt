@@ -5,7 +5,7 @@ use Rattle.ctd_syntax.specs.View.{expr_tree, var_tree, expr_list, exprs_of}
 use Rattle.ctd_syntax.specs.Grammar.{IsExpr, IsExprs, IsProduct, IsSigned, IsPower, IsExponent, IsAtom, IsTarget}
 use Rattle.ctd_syntax.specs.Front.{Found, Always, IsBefore, piece}
 use Rattle.ctd_syntax.specs.Levels.{ends}
-use Rattle.ctd_syntax.specs.declared.token.Mark.TheVariants.{Open, Close, CloseIndex}
+use Rattle.ctd_token.specs.declared.token.Mark.TheVariants.{Open, Close, CloseIndex}
 use Rattle.ctd_syntax.proofs.Chains.{start, no_start, finish, next, no_next}
 use Rattle.ctd_syntax.proofs.Levels.{sums, products}
 use Rattle.ctd_syntax.proofs.Fronts.{reads_as, refused_exit, before_reads}

@@ -5,7 +5,7 @@ use Rattle.ctd_syntax.specs.Grammar.{IsExpr, IsProduct, IsSigned}
 use Rattle.ctd_syntax.specs.Front.{piece}
 use Rattle.ctd_syntax.specs.Levels.{ends, sum_operator, product_operator, join}
 use Rattle.ctd_syntax.proofs.Rows.{Separated, IsOne, Before, comma, append}
-use Rattle.ctd_syntax.specs.declared.token.Mark.TheVariants.{CloseIndex}
+use Rattle.ctd_token.specs.declared.token.Mark.TheVariants.{CloseIndex}
 use Rattle.ctd_syntax.proofs.Chains.{Partly}
 use Rattle.ctd_syntax.proofs.expression.+expression.Given as goal
 

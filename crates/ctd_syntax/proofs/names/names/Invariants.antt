@@ -1,7 +1,7 @@
 use Rattle.std.proofs.Common.{◌≤◌, length}
 use Rattle.std.specs.Prelude.{map}
 use Rattle.ctd_syntax.specs.Front.{piece, IsName}
-use Rattle.ctd_syntax.specs.declared.token.Mark.TheVariants.{Close}
+use Rattle.ctd_token.specs.declared.token.Mark.TheVariants.{Close}
 use Rattle.ctd_syntax.proofs.Rows.{PartRow}
 use Rattle.ctd_syntax.proofs.names.names.Given as goal
 

@@ -1,7 +1,7 @@
 use Rattle.std.proofs.Common.{◌≡◌, ◌≤◌, ◌+◌, ◌-◌, length, drop}
 use Rattle.std.specs.Prelude.{map, option_map, reverse}
 use Rattle.ctd_syntax.specs.Front.{piece}
-use Rattle.ctd_syntax.specs.declared.limits.TheConstants.{NESTING_LIMIT}
+use Rattle.ctd_token.specs.declared.limits.TheConstants.{NESTING_LIMIT}
 use Rattle.ctd_syntax.specs.Nesting.{start, weight, too_deep}
 use Rattle.ctd_syntax.proofs.nesting.first_too_deep.Given as goal
 

@@ -1,7 +1,7 @@
 use Rattle.std.proofs.Common.{◌≡◌, ℕ, ◌+◌, List, Ok, Some, ap, ◌∙◌, sym, subst}
-use Rattle.ctd_syntax.specs.declared.token.TokenKind.TheVariants as tokens
+use Rattle.ctd_token.specs.declared.token.TokenKind.TheVariants as tokens
 use Rattle.ctd_syntax.specs.declared.preset.Literal.TheVariants as literals
-use Rattle.ctd_syntax.specs.Cut.{token_at}
+use Rattle.ctd_token.specs.Cut.{token_at}
 use Rattle.ctd_syntax.specs.PresetFront.{Answers, negated}
 use Rattle.ctd_syntax.proofs.TokenFronts.{numeral_value, negative_fits, negative_is, not_negated}
 use Rattle.ctd_syntax.proofs.preset_text.negative_at.Goals.{in-Numeral, in_default}

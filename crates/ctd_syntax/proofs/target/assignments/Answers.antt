@@ -4,7 +4,7 @@ use Rattle.ctd_syntax.specs.Front.{Always, IsBefore, IsAssignment, piece}
 use Rattle.ctd_syntax.specs.Grammar.{IsAssignments}
 use Rattle.ctd_syntax.specs.Levels.{ends}
 use Rattle.ctd_syntax.specs.View.{assignment}
-use Rattle.ctd_syntax.specs.declared.token.Mark.TheVariants.{Close}
+use Rattle.ctd_token.specs.declared.token.Mark.TheVariants.{Close}
 use Rattle.ctd_syntax.proofs.Fronts.{refused_exit}
 use Rattle.std.proofs.lemmas.List.{map-append}
 use Rattle.ctd_syntax.proofs.Targets.{assignment_list}

@@ -2,7 +2,7 @@ use Rattle.std.specs.Prelude.{map}
 use Rattle.ctd_syntax.specs.Front.{Always, IsBefore, IsAssignment, piece}
 use Rattle.ctd_syntax.specs.Grammar.{IsExpr, IsTarget}
 use Rattle.ctd_syntax.specs.Levels.{ends}
-use Rattle.ctd_syntax.specs.declared.token.Mark.TheVariants.{Assign}
+use Rattle.ctd_token.specs.declared.token.Mark.TheVariants.{Assign}
 use Rattle.ctd_syntax.proofs.Fronts.{refused_exit}
 use Rattle.ctd_syntax.proofs.Targets.{assignment_reads, assignment_no_target, assignment_no_value}
 use Rattle.ctd_syntax.proofs.target.one_assignment.Goals as goal

@@ -1,7 +1,7 @@
 use Rattle.std.specs.Prelude.{map}
 use Rattle.ctd_syntax.specs.Front.{Always, IsBefore, piece}
 use Rattle.ctd_syntax.specs.Grammar.{IsTarget, IsTargetEnd}
-use Rattle.ctd_syntax.specs.declared.token.Mark.TheVariants.{Close}
+use Rattle.ctd_token.specs.declared.token.Mark.TheVariants.{Close}
 use Rattle.ctd_syntax.proofs.Fronts.{refused_exit}
 use Rattle.ctd_syntax.proofs.Targets.{end_closes, end_reads, end_none}
 use Rattle.ctd_syntax.proofs.target.target_end.Goals as goal

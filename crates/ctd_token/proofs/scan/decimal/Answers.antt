@@ -1,0 +1,9 @@
+use Rattle.std.proofs.Common.{arith}
+use Rattle.ctd_token.proofs.Numerals.{decimal_more_le}
+use Rattle.ctd_token.proofs.scan.decimal.Goals as goal
+
+pub returns-then-value : goal.returns-then-value
+returns-then-value c = omega (arith, c.if-value.true, c.loop-b.invariant.read, decimal_more_le c.args.digits.now c.loop-b.b-index c.loop-b-test.true)
+
+pub returns-then-value-2 : goal.returns-then-value-2
+returns-then-value-2 c = omega (arith, c.if-value-2.true, c.loop-b.invariant.read, decimal_more_le c.args.digits.now c.loop-b.b-index c.loop-b-test.true)

@@ -1,0 +1,177 @@
+-- How a text is cut into tokens.
+use Rattle.std.specs.Prelude.{◌≡◌, ℕ, ◌+◌, ◌-◌, ◌*◌, ◌||◌, ◌&&◌, not, Bool, false, nat_eq, nat_le, if◌then◌else◌, List, [], ◌∷◌, Option, Some, None, Result, Ok, Err, get_or, drop, take, length, count_by, fold, codes, pos, ◌^◌}
+use Rattle.std.specs.List.{prefix_len, after_last, list_any}
+use Rattle.std.specs.Str.{bytes_eq}
+use Rattle.ctd_token.specs.declared.text.Place.{Place}
+use Rattle.ctd_token.specs.declared.token.TokenKind.{TokenKind}
+use Rattle.ctd_token.specs.declared.token.TokenKind.TheVariants as tokens
+use Rattle.ctd_token.specs.declared.token.Token.{Token}
+use Rattle.ctd_token.specs.declared.fault.LoadKind.{LoadKind}
+use Rattle.ctd_token.specs.declared.fault.LoadKind.TheVariants.{BadByte, UnfinishedString, BadOctal, NumberTooLarge, NotInProfile}
+use Rattle.ctd_token.specs.declared.token.Mark.{Mark}
+use Rattle.ctd_token.specs.declared.token.Mark.TheVariants.{Open, Close, OpenIndex, CloseIndex, Comma, Assign, Plus, Minus, Times, Divide, Percent, Caret, Bang, Less, Greater, AtMost, AtLeast, Equal, Unequal, AndAnd, OrOr}
+use Rattle.ctd_token.specs.Literal.{Closed, literal}
+
+-- the place of an offset of a text: 1 plus the line feeds before it, and 1 plus the bytes since the last of them
+abbrev pub place_at : List ℕ → ℕ → Place
+place_at text p = record {
+  line = 1 + count_by (λ b. nat_eq b 10) (take p text);
+  column = 1 + length (after_last (λ b. nat_eq b 10) (take p text));
+}
+
+-- space, tab, carriage return and line feed
+abbrev pub is_blank : ℕ → Bool
+is_blank b = nat_eq b 32 || nat_eq b 9 || nat_eq b 13 || nat_eq b 10
+
+-- `A` to `Z`
+abbrev pub is_upper : ℕ → Bool
+is_upper b = nat_le 65 b && nat_le b 90
+
+-- `a` to `z`
+abbrev pub is_lower : ℕ → Bool
+is_lower b = nat_le 97 b && nat_le b 122
+
+-- `0` to `9`
+abbrev pub is_digit : ℕ → Bool
+is_digit b = nat_le 48 b && nat_le b 57
+
+-- whether a comment begins
+abbrev pub is_hash : ℕ → Bool
+is_hash b = nat_eq b 35
+
+-- the text after its blanks and comments; a comment runs from `#` up to the next line feed or the end
+abbrev pub skip_gap : (in_comment : Bool) → List ℕ → List ℕ
+skip_gap in_comment [] = []
+skip_gap in_comment (b ∷ bs) =
+    if in_comment || is_blank b || is_hash b then skip_gap (is_hash b || (in_comment && not (nat_eq b 10))) bs else b ∷ bs
+
+-- the mark that one byte is: ( ) [ ] , = + - * / % ^ ! < >
+abbrev pub single_mark : ℕ → Option Mark
+single_mark b =
+    if nat_eq b 40 then Some Open
+    else if nat_eq b 41 then Some Close
+    else if nat_eq b 91 then Some OpenIndex
+    else if nat_eq b 93 then Some CloseIndex
+    else if nat_eq b 44 then Some Comma
+    else if nat_eq b 61 then Some Assign
+    else if nat_eq b 43 then Some Plus
+    else if nat_eq b 45 then Some Minus
+    else if nat_eq b 42 then Some Times
+    else if nat_eq b 47 then Some Divide
+    else if nat_eq b 37 then Some Percent
+    else if nat_eq b 94 then Some Caret
+    else if nat_eq b 33 then Some Bang
+    else if nat_eq b 60 then Some Less
+    else if nat_eq b 62 then Some Greater
+    else None
+
+-- the mark that two bytes are: <= >= == != && ||
+abbrev pub double_mark : ℕ → ℕ → Option Mark
+double_mark a b =
+    if nat_eq a 60 && nat_eq b 61 then Some AtMost
+    else if nat_eq a 62 && nat_eq b 61 then Some AtLeast
+    else if nat_eq a 61 && nat_eq b 61 then Some Equal
+    else if nat_eq a 33 && nat_eq b 61 then Some Unequal
+    else if nat_eq a 38 && nat_eq b 38 then Some AndAnd
+    else if nat_eq a 124 && nat_eq b 124 then Some OrOr
+    else None
+
+-- a token and its length, or what is wrong with it
+abbrev pub Judged : Type 0
+Judged = Result (TokenKind × ℕ) LoadKind
+
+-- the words that the profile leaves out
+abbrev pub is_left_out_word : List ℕ → Bool
+is_left_out_word w = list_any (bytes_eq w) (codes "FLOAT" ∷ codes "FLOATP" ∷ codes "FIXED" ∷ codes "SCIENTIFIC" ∷ [])
+
+-- a word of n letters
+abbrev pub word_at : ℕ → List ℕ → Judged
+word_at n bytes = if is_left_out_word (take n bytes) then Err NotInProfile else Ok (tokens.Word, n)
+
+-- how many lower-case letters and digits come first
+abbrev pub name_len : List ℕ → ℕ
+name_len bytes = prefix_len (λ b. is_lower b || is_digit b) bytes
+
+-- the number that digits spell
+abbrev pub decimal : List ℕ → ℕ
+decimal digits = fold (λ n b. 10 * n + (b - 48)) 0 digits
+
+-- two or more digits, of which the first is `0`
+abbrev pub has_leading_zero : List ℕ → Bool
+has_leading_zero digits = nat_le 2 (length digits) && nat_eq (get_or digits 0 0) 48
+
+-- a fraction or an exponent begins: `.`, `e` or `E`
+abbrev pub goes_on : List ℕ → Bool
+goes_on [] = false
+goes_on (b ∷ bs) = nat_eq b 46 || nat_eq b 101 || nat_eq b 69
+
+-- a numeral of n digits
+abbrev pub numeral_at : ℕ → List ℕ → Judged
+numeral_at n bytes =
+    if has_leading_zero (take n bytes) || goes_on (drop n bytes) then Err NotInProfile
+    else if nat_le (2 ^ 127) (decimal (take n bytes)) then Err NumberTooLarge
+    else Ok (tokens.Numeral (pos (decimal (take n bytes))), n)
+
+-- a mark of n bytes, or else something else
+abbrev pub mark_or : Option Mark → ℕ → Judged → Judged
+mark_or None n other = other
+mark_or (Some m) n other = Ok (tokens.Mark m, n)
+
+-- a mark of two bytes, or else of one; any other byte begins no token
+abbrev pub mark_at : ℕ → List ℕ → Judged
+mark_at a [] = mark_or (single_mark a) 1 (Err BadByte)
+mark_at a (b ∷ bs) = mark_or (double_mark a b) 2 (mark_or (single_mark a) 1 (Err BadByte))
+
+-- what stands at the front of some bytes: a token and its length, or a fault and how far behind the first byte it is
+abbrev pub Found : Type 0
+Found = Result (TokenKind × ℕ) (LoadKind × ℕ)
+
+-- a fault so many bytes behind the first
+abbrev pub wrong : LoadKind → ℕ → Found
+wrong kind behind = Err (kind, behind)
+
+-- a fault is at the first byte, unless said otherwise
+abbrev pub at_first_byte : Judged → Found
+at_first_byte (Ok t) = Ok t
+at_first_byte (Err kind) = wrong kind 0
+
+-- a closed string: its first octal escape above 255 is a fault, at the backslash
+abbrev pub closed_text : Closed → Option ℕ → Found
+closed_text c None = Ok (tokens.Text c.values, 1 + c.length)
+closed_text c (Some n) = wrong BadOctal (1 + n)
+
+-- a string after its opening quote
+abbrev pub text_at : Option Closed → Found
+text_at None = wrong UnfinishedString 0
+text_at (Some c) = closed_text c c.bad_octal
+
+-- the longest token at the front of some bytes and its length, or the fault there
+abbrev pub token_at : List ℕ → Found
+token_at [] = wrong BadByte 0
+token_at (b ∷ bs) =
+    if is_upper b then at_first_byte (word_at (prefix_len is_upper (b ∷ bs)) (b ∷ bs))
+    else if is_lower b then Ok (tokens.Name, name_len (b ∷ bs))
+    else if is_digit b then at_first_byte (numeral_at (prefix_len is_digit (b ∷ bs)) (b ∷ bs))
+    else if nat_eq b 34 then text_at (literal 0 bs)
+    else at_first_byte (mark_at b bs)
+
+-- the offset of the next token, or of the end
+abbrev pub next_token : ℕ → List ℕ → ℕ
+next_token at bytes = at + (length bytes - length (skip_gap false bytes))
+
+-- the bytes of a text from an offset on are cut into these tokens, with blanks and comments around them
+pub data Cuts : (program : List ℕ) (at : ℕ) (bytes : List ℕ) (ts : List Token) → Type 0 where
+  none : {program bytes : List ℕ} {at : ℕ} → skip_gap false bytes ≡ [] → Cuts program at bytes []
+  token : {program bytes : List ℕ} {at n : ℕ} {t : Token} {ts : List Token} →
+      token_at (skip_gap false bytes) ≡ Ok (t.kind, n) →
+      t.first ≡ next_token at bytes → t.after ≡ t.first + n → t.place ≡ place_at program t.first →
+      Cuts program t.after (drop n (skip_gap false bytes)) ts →
+      Cuts program at bytes (t ∷ ts)
+
+-- the first token of these bytes that has a fault has this one, at this offset
+pub data Faults : (at : ℕ) (bytes : List ℕ) (kind : LoadKind) (offset : ℕ) → Type 0 where
+  here : {at b n : ℕ} {bytes bs : List ℕ} {kind : LoadKind} →
+      skip_gap false bytes ≡ b ∷ bs → token_at (b ∷ bs) ≡ wrong kind n → Faults at bytes kind (next_token at bytes + n)
+  later : {at n offset : ℕ} {bytes : List ℕ} {t : TokenKind} {kind : LoadKind} →
+      token_at (skip_gap false bytes) ≡ Ok (t, n) →
+      Faults (next_token at bytes + n) (drop n (skip_gap false bytes)) kind offset → Faults at bytes kind offset

@@ -1,0 +1,5 @@
+pub mod Literal
+pub mod Cut
+pub mod FaultText
+pub mod Scanning
+pub mod Lexing

@@ -1,0 +1,24 @@
+-- What scanning for one token answers.
+use Rattle.std.specs.Prelude.{◌≡◌, ◌≤◌, ◌+◌, ℕ, List, Some, None, Result, Ok, Err}
+use Rattle.ctd_token.specs.declared.token.TokenKind.{TokenKind}
+use Rattle.ctd_token.specs.declared.fault.TokenFault.{TokenFault}
+use Rattle.ctd_token.specs.declared.fault.TokenFault.TheVariants.{Wrong, Memory}
+use Rattle.ctd_token.specs.declared.fault.LoadFault.{LoadFault}
+use Rattle.ctd_token.specs.declared.fault.LoadKind.TheVariants as loading
+use Rattle.ctd_token.specs.Cut.{Found, wrong, place_at}
+
+-- the token or the fault that is found, unless no memory was left
+abbrev pub Scans : Result (TokenKind × ℕ) TokenFault → Found → Type 0
+Scans (Ok t) found = found ≡ Ok t
+Scans (Err (Wrong kind behind)) found = found ≡ wrong kind behind
+Scans (Err Memory) found = Unit {0}
+
+-- a fault is within so many bytes
+abbrev pub FaultWithin : TokenFault → ℕ → Type 0
+FaultWithin (Wrong kind behind) n = behind ≤ n
+FaultWithin Memory n = Unit {0}
+
+-- the fault of a token that begins at an offset of a program, with its own place
+abbrev pub IsPlaced : List ℕ → ℕ → TokenFault → LoadFault → Type 0
+IsPlaced program at (Wrong kind behind) fault = fault ≡ record { kind = kind; place = Some (place_at program (at + behind)) }
+IsPlaced program at Memory fault = fault ≡ record { kind = loading.Memory; place = None }

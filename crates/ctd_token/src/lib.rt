@@ -1,0 +1,20 @@
+//! The tokens of the checktestdata language, with the place of each, and the faults of programs.
+#![tactic(auto)]
+
+mod display;
+pub mod fault;
+mod lex;
+pub mod limits;
+mod literal;
+mod scan;
+#[cfg(test)]
+mod tests;
+pub mod text;
+pub mod token;
+
+pub use fault::{LoadFault, LoadKind, TokenFault};
+pub use lex::{advance, one_cut, tokens};
+pub use limits::{NESTING_LIMIT, PROGRAM_LIMIT};
+pub use scan::token_at;
+pub use text::{Bytes, Name, Place};
+pub use token::{Mark, Token, TokenKind};
