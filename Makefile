@@ -1,24 +1,20 @@
-# build: prove and compile the checker; test: prove and test everything; install: PREFIX and DESTDIR as usual.
+# build: prove and compile the checker (scripts/build.sh); test: rebuild every proof and test from scratch, then run the built program;
+# install: PREFIX and DESTDIR as usual.
 PREFIX ?= /usr/local
 DESTDIR ?=
 
-crate := crates/checktestdata
-program := $(crate)/out/checktestdata
+program := crates/checktestdata/out/checktestdata
 sources := HANDLES crates.txt $(shell find crates -name out -prune -o \( -name '*.rt' -o -name '*.antt' \) -print)
 
 .PHONY: build test install clean
 
 build: $(program)
 
-# rt has no command that builds a program and does not run it; with no words the checker only tells how to call it.
 $(program): $(sources)
-	rm -f $@
-	cd $(crate) && { rt run </dev/null >out.log 2>&1 || true; }
-	@test -x $@ || { cat $(crate)/out.log; exit 1; }
-	@rm -f $(crate)/out.log
+	@scripts/build.sh
 
 test:
-	rt ci
+	@tests/gate.sh
 
 install: build
 	install -d $(DESTDIR)$(PREFIX)/bin

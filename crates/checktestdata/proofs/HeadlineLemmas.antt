@@ -1,5 +1,5 @@
 -- A report of the tool is one of those that the files can give.
-use Rattle.std.proofs.Common.{◌≡◌, ◌⊎◌, ℕ, List, length, refl, arith, inl, inr}
+use Rattle.std.proofs.Common.{ℕ, List, length, refl, arith, inl, inr}
 use Rattle.std.proofs.lemmas.List.{take_all}
 use Rattle.ctd_source.specs.declared.source.Source.{Ghosts}
 use Rattle.ctd_source.specs.declared.source.Seen.{Seen}

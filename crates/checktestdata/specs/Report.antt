@@ -60,17 +60,40 @@ open_line name = codes "checktestdata: cannot open " ++ name ++ codes "\n"
 abbrev pub open_report : List ℕ → Report
 open_report name = on_err (open_line name)
 
--- what the words give in place of settings
+-- the text of the help
+abbrev pub help_text : List ℕ
+help_text = codes "Usage: checktestdata [OPTION]... PROGRAM [TESTDATA]\nCheck TESTDATA (or standard input) against PROGRAM.\n  -g, --generate                     not supported\n  -D, --define=<name>=<value>[,...]  preset variables\n  -q, --quiet                        write nothing to standard output\n  -w, --whitespace-ok                accept changes of whitespace\n      --max-steps=N                  stop after N steps\n      --help                         show this text\n      --version                      show the version\n"
+
+-- the text of the version
+abbrev pub version_text : List ℕ
+version_text = codes "checktestdata 1.0 (whole-number profile)\n"
+
+-- what is written for words that give no settings
 abbrev pub usage_text : UsageFault → List ℕ
 usage_text usage.Words = codes "checktestdata: bad arguments\nTry 'checktestdata --help'.\n"
+usage_text usage.BadSteps = codes "checktestdata: bad step limit\n"
+usage_text usage.BadPreset = codes "checktestdata: bad preset\n"
+usage_text usage.Generate = codes "checktestdata: generating test data is not supported\n"
+usage_text usage.Help = help_text
+usage_text usage.Version = version_text
 usage_text usage.Memory = codes "checktestdata: out of memory\n"
 
--- the report of the words
+-- the report of words that give no settings: what was asked for goes to standard output, and a fault to standard error
 abbrev pub usage_report : UsageFault → Report
-usage_report fault = on_err (usage_text fault)
+usage_report usage.Words = on_err (usage_text usage.Words)
+usage_report usage.BadSteps = on_err (usage_text usage.BadSteps)
+usage_report usage.BadPreset = on_err (usage_text usage.BadPreset)
+usage_report usage.Generate = on_err (usage_text usage.Generate)
+usage_report usage.Help = on_out (usage_text usage.Help) 0
+usage_report usage.Version = on_out (usage_text usage.Version) 0
+usage_report usage.Memory = on_err (usage_text usage.Memory)
 
 -- what may be reported of files, whatever they hold: a check, a program that is not read, or a file that can't be opened
 abbrev pub IsFileReport : Bool → Report → Type 0
 IsFileReport quiet report =
     ((outcome : Outcome) × (report ≡ check_report quiet outcome))
     ⊎ (((fault : LoadFault) × (report ≡ load_report fault)) ⊎ ((name : List ℕ) × (report ≡ open_report name)))
+
+-- what may be reported of a command line, whatever it is: of files, or of the words
+abbrev pub IsToolReport : Report → Type 0
+IsToolReport report = ((quiet : Bool) × IsFileReport quiet report) ⊎ ((fault : UsageFault) × (report ≡ usage_report fault))

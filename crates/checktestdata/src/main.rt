@@ -3,14 +3,21 @@
 //! and sinks; `main` gives them files and the standard streams.
 #![tactic(auto)]
 
+mod command_line;
 mod files;
+mod host;
+mod laws;
 mod report;
+mod run;
 mod setup;
 mod sink;
 mod tool;
 mod words;
 
+pub use files::{Files, Ran, Sources, check_files};
+pub use laws::refusals_have_one_kind;
 pub use report::{ToolFault, report_usage};
+pub use run::{Ended, run_words, usage_status};
 pub use setup::{Setup, UsageFault};
 pub use sink::{Sink, ToWrite};
 pub use tool::run_tool;
@@ -19,25 +26,11 @@ pub use words::settings;
 #[cfg(test)]
 mod tests;
 
-use files::{check_files, words_of};
-use report::NO_VERDICT;
+use host::answer;
 use std::process::ExitCode;
 
 fn main(rt: HostRuntime) -> ExitCode {
-    let alloc = rt.alloc();
     let mut out = ToWrite::new(rt.stdout());
     let mut err = ToWrite::new(rt.stderr());
-    let setup = words_of(&rt, alloc).and_then(|words| settings(alloc, words.as_slice()));
-    let answer = match setup {
-        Ok(setup) => check_files(&rt, alloc, &setup, &mut out, &mut err),
-        Err(fault) => report_usage(&fault, &mut out, &mut err),
-    };
-    let status = match answer {
-        Ok(status) => status,
-        Err(ToolFault::Memory) => {
-            report_usage(&UsageFault::Memory, &mut out, &mut err).unwrap_or(NO_VERDICT)
-        }
-        Err(ToolFault::Write) => NO_VERDICT,
-    };
-    ExitCode::from(status)
+    ExitCode::from(answer(&rt, &mut out, &mut err))
 }

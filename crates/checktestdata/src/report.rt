@@ -1,17 +1,17 @@
 //! What is written of a check, of a program that is not read and of the words, and the status.
 
-ghost use Rattle.std.specs.Prelude.{◌≡◌, ◌≢◌, ◌⊎◌, [], false, is_err, string_bytes, IfOk, OnOk, OnErr};
+ghost use Rattle.std.specs.Prelude.{◌≡◌, ◌≢◌, ◌⊎◌, [], false, is_err, true, string_bytes, IfOk, OnOk, OnErr};
 ghost use Rattle.std.specs.Io.KnownBytes.{Appends};
 ghost use Rattle.ctd_token.specs.declared.fault.LoadKind.TheVariants.{Memory};
-ghost use Rattle.checktestdata.specs.Report.{check_report, load_line, load_report, open_line, open_report, outcome_line, usage_report, usage_text};
-ghost use Rattle.checktestdata.specs.Written.{AppendsPart, Leaves, change};
+ghost use Rattle.checktestdata.specs.Report.{check_report, load_line, load_report, on_err, on_out, open_line, open_report, outcome_line, usage_report, usage_text};
+ghost use Rattle.checktestdata.specs.Written.{AppendsPart, FlushedAfter, Leaves, change};
 
 use crate::setup::UsageFault;
 use crate::sink::Sink;
 use ctd_check::{Bytes, Failed, LoadFault, LoadKind, Outcome};
 use std::alloc::{AllocError, Global};
 
-/// The status of data that match.
+/// The status of data that match, and of a help or a version that was asked for.
 const ACCEPTED: u8 = 0;
 
 /// The status of data that do not match.
@@ -53,6 +53,8 @@ impl From<Failed> for ToolFault {
 fn write_text<S: Sink>(sink: &mut S, text: &[u8]) -> Result<(), Failed>
     requires { S.has_failed sink.old ≡ false }
     ensures ok { OnOk result (Appends (S.taken sink.old) (S.taken sink.new) text.now) }
+    // a flush that succeeded came last, when the whole text was taken
+    ensures flushed { OnOk result (FlushedAfter S.Sink sink.old sink.new text.now) }
     ensures err { OnErr result (AppendsPart (S.taken sink.old) (S.taken sink.new) text.now) }
     ensures failed { S.has_failed sink.new ≡ is_err result }
 {
@@ -74,7 +76,7 @@ fn write_report<O: Sink, E: Sink>(
     requires one { (out_text.now ≡ []) ⊎ (err_text.now ≡ []) }
     requires out_works { O.has_failed out.old ≡ false }
     requires err_works { E.has_failed err.old ≡ false }
-    ensures written { Leaves (change O.taken O.has_failed out.old out.new) (change E.taken E.has_failed err.old err.new)
+    ensures written { Leaves (change O.Sink out.old out.new) (change E.Sink err.old err.new)
         (record { out = out_text.now; err = err_text.now; status = status }) result }
     ensures no_memory { result ≢ Err ToolFault.Memory }
 {
@@ -121,7 +123,7 @@ pub(crate) fn write_outcome<O: Sink, E: Sink>(
 ) -> Result<u8, ToolFault>
     requires out_works { O.has_failed out.old ≡ false }
     requires err_works { E.has_failed err.old ≡ false }
-    ensures written { Leaves (change O.taken O.has_failed out.old out.new) (change E.taken E.has_failed err.old err.new)
+    ensures written { Leaves (change O.Sink out.old out.new) (change E.Sink err.old err.new)
         (check_report quiet outcome.now) result }
 {
     let line = line_of(alloc, outcome)?;
@@ -142,7 +144,7 @@ pub(crate) fn write_load_fault<O: Sink, E: Sink>(
 ) -> Result<u8, ToolFault>
     requires out_works { O.has_failed out.old ≡ false }
     requires err_works { E.has_failed err.old ≡ false }
-    ensures written { Leaves (change O.taken O.has_failed out.old out.new) (change E.taken E.has_failed err.old err.new)
+    ensures written { Leaves (change O.Sink out.old out.new) (change E.Sink err.old err.new)
         (load_report fault.now) result }
     ensures memory { fault.now.kind ≡ Memory → result ≡ Err ToolFault.Memory }
 {
@@ -172,24 +174,61 @@ pub(crate) fn write_cannot_open<O: Sink, E: Sink>(
 ) -> Result<u8, ToolFault>
     requires out_works { O.has_failed out.old ≡ false }
     requires err_works { E.has_failed err.old ≡ false }
-    ensures written { Leaves (change O.taken O.has_failed out.old out.new) (change E.taken E.has_failed err.old err.new)
+    ensures written { Leaves (change O.Sink out.old out.new) (change E.Sink err.old err.new)
         (open_report name.now) result }
 {
     let line = open_line_of(alloc, name.as_slice())?;
     write_report(&[], line.as_slice(), NO_VERDICT, out, err)
 }
 
-/// The text for a fault of the words.
+/// The text of the help.
+const HELP: &str = "\
+Usage: checktestdata [OPTION]... PROGRAM [TESTDATA]
+Check TESTDATA (or standard input) against PROGRAM.
+  -g, --generate                     not supported
+  -D, --define=<name>=<value>[,...]  preset variables
+  -q, --quiet                        write nothing to standard output
+  -w, --whitespace-ok                accept changes of whitespace
+      --max-steps=N                  stop after N steps
+      --help                         show this text
+      --version                      show the version
+";
+
+/// The text of the version.
+const VERSION: &str = "checktestdata 1.0 (whole-number profile)\n";
+
+/// The text for words that give no settings.
 fn usage_text_of(fault: &UsageFault) -> &'static str
     ensures { result.now ≡ usage_text fault.now }
 {
     match fault {
         UsageFault::Words => "checktestdata: bad arguments\nTry 'checktestdata --help'.\n",
+        UsageFault::BadSteps => "checktestdata: bad step limit\n",
+        UsageFault::BadPreset => "checktestdata: bad preset\n",
+        UsageFault::Generate => "checktestdata: generating test data is not supported\n",
+        UsageFault::Help => HELP,
+        UsageFault::Version => VERSION,
         UsageFault::Memory => "checktestdata: out of memory\n",
     }
 }
 
-/// Writes what a fault of the words asks for, and answers the status. It takes no memory.
+/// Whether what the words ask for is no fault: the help or the version.
+fn is_wanted(fault: &UsageFault) -> bool
+    ensures wanted { result ≡ true → usage_report fault.now ≡ on_out (usage_text fault.now) 0 }
+    ensures fault { result ≡ false → usage_report fault.now ≡ on_err (usage_text fault.now) }
+{
+    match fault {
+        UsageFault::Help => true,
+        UsageFault::Version => true,
+        UsageFault::Words => false,
+        UsageFault::BadSteps => false,
+        UsageFault::BadPreset => false,
+        UsageFault::Generate => false,
+        UsageFault::Memory => false,
+    }
+}
+
+/// Writes what words that give no settings ask for, or their fault, and answers the status. It takes no memory.
 pub fn report_usage<O: Sink, E: Sink>(
     fault: &UsageFault,
     out: &mut O,
@@ -197,9 +236,14 @@ pub fn report_usage<O: Sink, E: Sink>(
 ) -> Result<u8, ToolFault>
     requires out_works { O.has_failed out.old ≡ false }
     requires err_works { E.has_failed err.old ≡ false }
-    ensures written { Leaves (change O.taken O.has_failed out.old out.new) (change E.taken E.has_failed err.old err.new)
+    ensures written { Leaves (change O.Sink out.old out.new) (change E.Sink err.old err.new)
         (usage_report fault.now) result }
     ensures no_memory { result ≢ Err ToolFault.Memory }
 {
-    write_report(&[], usage_text_of(fault).as_bytes(), NO_VERDICT, out, err)
+    let text = usage_text_of(fault).as_bytes();
+    if is_wanted(fault) {
+        write_report(text, &[], ACCEPTED, out, err)
+    } else {
+        write_report(&[], text, NO_VERDICT, out, err)
+    }
 }

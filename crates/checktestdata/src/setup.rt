@@ -24,6 +24,16 @@ pub struct Setup {
 pub enum UsageFault {
     /// The words are not those of a command line of this tool.
     Words = 1,
+    /// The limit on steps is no number of 64 bits.
+    BadSteps = 2,
+    /// The text of the presets spells none.
+    BadPreset = 3,
+    /// Data are to be generated, which this tool does not do.
+    Generate = 4,
+    /// The help is asked for.
+    Help = 5,
+    /// The version is asked for.
+    Version = 6,
     /// No memory was left for the words.
     Memory = 7,
 }

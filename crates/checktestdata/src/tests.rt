@@ -2,6 +2,7 @@
 
 mod clipped;
 mod failing_streams;
+mod processes;
 mod reports;
 mod runs;
 mod words;

@@ -29,7 +29,7 @@ pub fn run_tool<P: Source, D: Source, O: Sink, E: Sink>(
     requires bytes { setup.now.limits.bytes ≤ 2 ^ 62 }
     requires out_works { O.has_failed out.old ≡ false }
     requires err_works { E.has_failed err.old ≡ false }
-    ensures written { LeavesOneOf (change O.taken O.has_failed out.old out.new) (change E.taken E.has_failed err.old err.new)
+    ensures written { LeavesOneOf (change O.Sink out.old out.new) (change E.Sink err.old err.new)
         (IsReport setup.now (call P.Source program.old program.new) (call D.Source testdata.old testdata.new)) result }
 {
     let plan = match Plan::load(alloc, program) {

@@ -1,7 +1,6 @@
 -- An integer that was passed in parts.
-use Rattle.std.proofs.Common.{◌≡◌, ◌≢◌, ◌<◌, ◌≤◌, ℕ, zero, suc, ◌+◌, ◌-◌, ◌&&◌, Bool, true, false, nat_eq, List, [], ◌∷◌, ◌++◌, length, take, drop, get_or, refl, ap, sym, ◌∙◌, subst, arith, append_assoc, length-append, length-take, Option, Some, None, Result, Ok, Err, ℤ, cond, if◌then◌else◌}
-use Rattle.std.specs.Prelude.{slice_get}
-use Rattle.std.specs.List.{take_while, list_all, prefix_len}
+use Rattle.std.proofs.Common.{◌≡◌, ◌≢◌, ◌<◌, ◌≤◌, ℕ, zero, suc, ◌+◌, ◌&&◌, Bool, true, false, nat_eq, List, [], ◌∷◌, ◌++◌, length, take, drop, refl, ap, sym, ◌∙◌, subst, arith, append_assoc, length-append, length-take, Option, Some, None, Result, Ok, Err, ℤ, cond, if◌then◌else◌}
+use Rattle.std.specs.List.{take_while, list_all}
 use Rattle.std.specs.Char.{is_ascii_digit}
 use Rattle.std.proofs.lemmas.Bool.Decides.{nat_tests}
 use Rattle.std.proofs.lemmas.List.{append-nil}
@@ -13,14 +12,12 @@ use Rattle.ctd_source.specs.Standing.{Sight, StandsFor}
 use Rattle.ctd_source.proofs.Visible.{seen_byte, seen_end, seen_fault, seen_run}
 use Rattle.ctd_check.proofs.DigitRuns.{run_held}
 use Rattle.ctd_check.specs.declared.digits.Digits.{Digits}
-use Rattle.ctd_check.specs.declared.outcome.Reason.{Reason}
-use Rattle.ctd_check.specs.declared.refusal.Refusal.{Refusal}
-use Rattle.ctd_check.specs.declared.refusal.Refusal.TheVariants.{Rejected, Stopped}
 use Rattle.ctd_check.specs.Integer.{is_minus, sign_len, digits_of, prefix_len_of, judge}
 use Rattle.ctd_check.specs.Seen.{AreSeen}
 use Rattle.ctd_check.specs.Passing.{PassesMinus, PassesRow, PassesDigits, IsPast, StopsAt}
-use Rattle.ctd_check.specs.Effect.{Effect, done, refused, faulty, go_on, fault_of_look, judge_effect, integer}
-use Rattle.ctd_check.specs.Steps.{effect_of}
+use Rattle.ctd_value.specs.Fault.{with_fault}
+use Rattle.ctd_check.specs.State.{State, Effect, faulty, proceed, told, fault_of_look}
+use Rattle.ctd_check.specs.Effect.{judged, read_integer, integer}
 
 -- no digit comes first
 abbrev NoDigit : List ℕ → Type 0
@@ -125,45 +122,38 @@ passed old new d p m q false r minus f =
       end = let nothing : sign_len (visible d p) ≡ 0 = ap sign_size minus.1 in omega (arith, minus.0, f.row.offset, ap length digits, nothing);
     }
 
-next_effect : ℤ → ℤ → TestData → ℕ → Result (Option ℕ) LookFault → Effect
-next_effect least most d p next = let rest = visible d p in let n = prefix_len_of rest in go_on n next (λ _. judge_effect n (judge least most (is_minus rest) (digits_of rest)))
+-- an integer by where its prefix ends, what is seen there, its sign and its digits
+abbrev by_parts : ℤ → ℤ → TestData → State → ℕ → Result (Option ℕ) LookFault → Bool → List ℕ → Effect ℤ
+by_parts least most d s q next negative row = proceed (told (with_fault fault_of_look next) (record { offset = q; store = s.store; mode = s.mode })) (λ _ t. judged (judge least most negative row) d t)
 
-at_end : (least most : ℤ) (d : TestData) (p q : ℕ) (next : Result (Option ℕ) LookFault) → q ≡ p + prefix_len_of (visible d p) → next_byte d q ≡ next → integer least most d p ≡ next_effect least most d p next
-unfolding next_effect
-at_end least most d p q next end e = ap (next_effect least most d p) (ap (next_byte d) (sym end) ∙ e)
+integer_parts : (least most : ℤ) (d : TestData) (s : State) (q : ℕ) (negative : Bool) (row : List ℕ) → Passed d s.offset q negative row → integer least most d s ≡ by_parts least most d s q (next_byte d q) negative row
+integer_parts least most d s q negative row f =
+    let rest = visible d s.offset in
+    ap (λ k. by_parts least most d s k (next_byte d k) (is_minus rest) (digits_of rest)) (sym f.end)
+    ∙ ap (λ b. by_parts least most d s q (next_byte d q) b (digits_of rest)) f.minus
+    ∙ ap (λ r. by_parts least most d s q (next_byte d q) negative r) f.digits
 
 -- a look at the end of the digits had a fault
-pub integer_faulty : (least most : ℤ) (d : TestData) (p q n : ℕ) (negative : Bool) (row : List ℕ) (fault : LookFault) (refusal : Refusal) → Passed d p q negative row → n ≡ q - p → next_byte d q ≡ Err fault → refusal ≡ Stopped (fault_of_look fault)
-    → effect_of {A = Unit {0}} (Err refusal) n ≡ integer least most d p
-unfolding next_effect
-integer_faulty least most d p q n negative row fault refusal f len e is =
-    let same : n ≡ prefix_len_of (visible d p) = omega (arith, f.end) in
-    ap (λ r. effect_of {A = Unit {0}} (Err r) n) is ∙ ap (faulty (fault_of_look fault)) same ∙ sym (at_end least most d p q (Err fault) f.end e)
+pub integer_faulty : (least most : ℤ) (d : TestData) (s : State) (q : ℕ) (negative : Bool) (row : List ℕ) (fault : LookFault) → Passed d s.offset q negative row → next_byte d q ≡ Err fault → integer least most d s ≡ faulty (fault_of_look fault) q
+integer_faulty least most d s q negative row fault f e = integer_parts least most d s q negative row f ∙ ap (λ next. by_parts least most d s q next negative row) e
 
 -- nothing is visible where the look for the sign had a fault
-pub integer_unseen : (least most : ℤ) (d : TestData) (p q n : ℕ) (fault : LookFault) (refusal : Refusal) → PassesMinus d p q (Err fault) → n ≡ q - p → refusal ≡ Stopped (fault_of_look fault)
-    → effect_of {A = Unit {0}} (Err refusal) n ≡ integer least most d p
-unfolding next_effect
-integer_unseen least most d p q n fault refusal f len is =
-    let none : prefix_len_of (visible d p) ≡ 0 = ap prefix_len_of (seen_fault d p fault f.1) in
-    let end : p ≡ p + prefix_len_of (visible d p) = omega arith in
-    let same : n ≡ prefix_len_of (visible d p) = omega (arith, f.0) in
-    ap (λ r. effect_of {A = Unit {0}} (Err r) n) is ∙ ap (faulty (fault_of_look fault)) same ∙ sym (at_end least most d p p (Err fault) end f.1)
+pub integer_unseen : (least most : ℤ) (d : TestData) (s : State) (q : ℕ) (fault : LookFault) → PassesMinus d s.offset q (Err fault) → integer least most d s ≡ faulty (fault_of_look fault) q
+integer_unseen least most d s q fault f =
+    let there : s.offset + 0 ≡ q = omega (arith, f.0) in
+    ap (λ xs. read_integer least most xs d s) (seen_fault d s.offset fault f.1)
+    ∙ ap (λ k. by_parts least most d s k (next_byte d k) false []) there
+    ∙ ap (λ next. by_parts least most d s q next false []) (ap (next_byte d) f.0 ∙ f.1)
 
-judged_by : (next : Result (Option ℕ) LookFault) (least most : ℤ) (d : TestData) (p q n : ℕ) (negative : Bool) (row : List ℕ) → Passed d p q negative row → n ≡ q - p → next_byte d q ≡ next → IsPast next
-    → judge_effect n (judge least most negative row) ≡ integer least most d p
-unfolding next_effect
-judged_by (Ok x) least most d p q n negative row f len e past =
-    let same : n ≡ prefix_len_of (visible d p) = omega (arith, f.end) in
-    ap (λ k. judge_effect k (judge least most negative row)) same
-    ∙ ap (λ b. judge_effect (prefix_len_of (visible d p)) (judge least most b row)) (sym f.minus)
-    ∙ ap (λ r. judge_effect (prefix_len_of (visible d p)) (judge least most (is_minus (visible d p)) r)) (sym f.digits)
-    ∙ sym (at_end least most d p q (Ok x) f.end e)
-judged_by (Err fault) least most d p q n negative row f len e past = absurd past
+judged_by : (next : Result (Option ℕ) LookFault) (least most : ℤ) (d : TestData) (s : State) (q : ℕ) (negative : Bool) (row : List ℕ) → Passed d s.offset q negative row → next_byte d q ≡ next → IsPast next
+    → integer least most d s ≡ judged (judge least most negative row) d (record { offset = q; store = s.store; mode = s.mode })
+judged_by (Ok x) least most d s q negative row f e past = integer_parts least most d s q negative row f ∙ ap (λ next. by_parts least most d s q next negative row) e
+judged_by (Err fault) least most d s q negative row f e past = absurd past
 
--- a judgement is the effect
-pub integer_judged : (least most : ℤ) (d : TestData) (p q n : ℕ) (negative : Bool) (row : List ℕ) → Passed d p q negative row → n ≡ q - p → IsPast (next_byte d q) → judge_effect n (judge least most negative row) ≡ integer least most d p
-integer_judged least most d p q n negative row f len past = judged_by (next_byte d q) least most d p q n negative row f len refl past
+-- the judgement is that of what was passed
+pub integer_judged : (least most : ℤ) (d : TestData) (s : State) (q : ℕ) (negative : Bool) (row : List ℕ) → Passed d s.offset q negative row → IsPast (next_byte d q)
+    → integer least most d s ≡ judged (judge least most negative row) d (record { offset = q; store = s.store; mode = s.mode })
+integer_judged least most d s q negative row f past = judged_by (next_byte d q) least most d s q negative row f refl past
 
 -- a byte that is no digit, and the end, stop the digits
 pub past_digit : (byte : ℕ) (next : Result (Option ℕ) LookFault) → next ≡ Ok (Some byte) → is_ascii_digit byte ≡ false → IsPast next

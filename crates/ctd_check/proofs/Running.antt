@@ -1,63 +1,37 @@
--- The run, one task after the other.
-use Rattle.std.proofs.Common.{◌≡◌, ◌<◌, ◌≤◌, ℕ, zero, suc, ◌+◌, ◌-◌, Bool, true, false, List, [], ◌∷◌, ◌++◌, length, drop, get_or, refl, ap, sym, ◌∙◌, subst, arith, Result, Ok, Err, ℤ}
-use Rattle.std.proofs.lemmas.List.{at_drop_more, drop_all}
+-- Tasks one after the other.
+use Rattle.std.proofs.Common.{arith, ◌≡◌, ℕ, suc, ◌+◌, ◌-◌, List, [], ◌∷◌, ◌++◌, refl, ap, sym, ◌∙◌, subst, append_assoc, Result, Ok, Err, true, false}
+use Rattle.std.specs.Result.{IsErr, IsErrAnd}
+use Rattle.ctd_source.specs.declared.source.Source.{Ghosts}
 use Rattle.ctd_source.specs.declared.spot.Spot.{Spot}
 use Rattle.ctd_source.specs.TestData.{TestData, spot_at}
-use Rattle.ctd_syntax.specs.declared.tree.Expr.{Expr}
-use Rattle.ctd_syntax.specs.declared.tree.Expr.TheVariants.{Numeral, Text, Var', Strlen', Minus', Add', Sub', Mul', Div', Rem', Pow'}
-use Rattle.ctd_syntax.specs.Tree
-use Rattle.ctd_syntax.specs.Tree.{CommandTree, place_of}
-use Rattle.ctd_syntax.specs.View.{expr_tree, action_tree, command_tree, command_trees}
+use Rattle.ctd_source.proofs.Going.{goes_so, goes_both, goes_nowhere}
 use Rattle.ctd_token.specs.declared.text.Place.{Place}
-use Rattle.ctd_syntax.specs.declared.tree.Command.{Command}
 use Rattle.ctd_syntax.specs.declared.tree.Action.{Action}
 use Rattle.ctd_syntax.specs.declared.tree.Action.TheVariants.{Space, Newline, Eof, Int, String, Regex, Assert, Set, Unset, Rep', RepI', While', WhileI', If}
+use Rattle.ctd_syntax.specs.declared.tree.Command.{Command}
+use Rattle.ctd_syntax.specs.Tree.{place_of, CommandList}
+use Rattle.ctd_syntax.specs.View.{action_tree, command_tree}
+use Rattle.ctd_check.specs.declared.agenda.Agenda.{Agenda}
+use Rattle.ctd_check.specs.declared.machine.Run.{Run}
 use Rattle.ctd_check.specs.declared.outcome.Site.{Site}
-use Rattle.ctd_check.specs.declared.outcome.Site.TheVariants.{At, Finish}
-use Rattle.ctd_check.specs.declared.outcome.Outcome.{Outcome}
-use Rattle.ctd_check.specs.declared.outcome.Outcome.TheVariants.{Accepted}
+use Rattle.ctd_check.specs.declared.outcome.Site.TheVariants.{Start, At}
+use Rattle.ctd_check.specs.declared.failure.CommandFailure.{CommandFailure}
+use Rattle.ctd_check.specs.declared.failure.CommandFailure.TheVariants.{Rejected, Stopped, Memory}
+use Rattle.ctd_check.specs.declared.failure.Halt.{Halt}
+use Rattle.ctd_check.specs.declared.failure.Halt.TheVariants as halts
+use Rattle.ctd_check.specs.declared.outcome.Outcome.TheVariants as outcomes
+use Rattle.ctd_source.specs.Follow.{Goes}
+use Rattle.std.specs.Prelude.{⊤}
+use Rattle.ctd_check.specs.State.{State, Effect}
+use Rattle.ctd_check.specs.Blanks.{first_skip}
+use Rattle.ctd_check.specs.Loops.{Task, start, finish, tasks}
+use Rattle.ctd_check.specs.Run.{Ended, stopped, site_of, perform, resume, run, run_from, with_steps, meaning, Finds, at_start}
 use Rattle.ctd_check.specs.declared.outcome.Mode.{Mode}
-use Rattle.ctd_check.specs.declared.outcome.Mode.TheVariants.{Exact}
-use Rattle.ctd_source.specs.declared.source.Seen.{Seen}
+use Rattle.ctd_check.specs.declared.outcome.Checked.{Checked}
 use Rattle.ctd_syntax.specs.declared.preset.Preset.{Preset}
-use Rattle.std.proofs.lemmas.List.Folds.{list_all_at}
-use Rattle.ctd_check.specs.declared.refusal.Refusal.{Refusal}
-use Rattle.ctd_check.specs.declared.refusal.Refusal.TheVariants.{Rejected, Stopped}
-use Rattle.ctd_check.specs.Effect.{Effect, done, refused, faulty, effect, eof}
-use Rattle.ctd_check.specs.Run.{Task, start, finish, Ended, Progress, after, perform, resume, run, site_of, tasks, Finds, meaning}
-use Rattle.ctd_check.specs.Runnable.{is_bound, is_runnable, are_runnable}
-use Rattle.ctd_check.specs.Steps.{listed, Does, effect_of, outcome_of, at_limit, Follows}
-
--- what a command does it does under each name of the effect
-pub does_as : {A : Type 0} {r : Result A Refusal} {p q : ℕ} {e f : Effect} → Does r p q e → e ≡ f → Does r p q f
-does_as d same = record { forward = d.forward; same = d.same ∙ same }
-
--- no other expression is a bound
-pub no_bound : (e : Expr) → ((n : ℤ) → e ≡ Numeral n → ⊥) → ((p : _) (x : Expr) → e ≡ Minus' p x → ⊥) → is_bound (expr_tree e) ≡ true → ⊥
-no_bound (Numeral n) f g h = f n refl
-no_bound (Minus' p x) f g h = g p x refl
-no_bound (Text t) f g h = cc
-no_bound (Var' name shape row) f g h = cc
-no_bound (Strlen' p x) f g h = cc
-no_bound (Add' p a q b) f g h = cc
-no_bound (Sub' p a q b) f g h = cc
-no_bound (Mul' p a q b) f g h = cc
-no_bound (Div' p a q b) f g h = cc
-no_bound (Rem' p a q b) f g h = cc
-no_bound (Pow' p a q b) f g h = cc
-
-pub no_minus_bound : (e : Expr) → ((n : ℤ) → e ≡ Numeral n → ⊥) → is_bound (Tree.minus (expr_tree e)) ≡ true → ⊥
-no_minus_bound (Numeral n) f h = f n refl
-no_minus_bound (Minus' p x) f h = cc
-no_minus_bound (Text t) f h = cc
-no_minus_bound (Var' name shape row) f h = cc
-no_minus_bound (Strlen' p x) f h = cc
-no_minus_bound (Add' p a q b) f h = cc
-no_minus_bound (Sub' p a q b) f h = cc
-no_minus_bound (Mul' p a q b) f h = cc
-no_minus_bound (Div' p a q b) f h = cc
-no_minus_bound (Rem' p a q b) f h = cc
-no_minus_bound (Pow' p a q b) f h = cc
+use Rattle.ctd_check.specs.Failures.{halt_of, at_limit, Concludes}
+use Rattle.ctd_check.specs.Pending.{to_do}
+use Rattle.ctd_check.specs.Performs.{Does, Follows, state, Performs, Advances, Ends, EndsAs}
 
 -- a command has its own place
 pub place_is : (a : Action) (place : Place) → place_of (action_tree a place) ≡ place
@@ -66,7 +40,7 @@ place_is Newline place = refl
 place_is Eof place = refl
 place_is (Int low high target) place = refl
 place_is (String e) place = refl
-place_is (Regex pattern at target) place = refl
+place_is (Regex literal target) place = refl
 place_is (Assert t) place = refl
 place_is (Set assignments) place = refl
 place_is (Unset names) place = refl
@@ -79,100 +53,129 @@ place_is (If t a b) place = refl
 pub site_is : (c : Command) → At c.place ≡ site_of (start (command_tree c))
 site_is c = ap At (sym (place_is c.action c.place))
 
--- the effect of a task
-abbrev pub task_effect : TestData → Task → ℕ → Effect
-task_effect d (start c) p = effect d c p
-task_effect d finish p = eof d p
-
-performs : (d : TestData) (t : Task) (p : ℕ) → perform d t p ≡ after d (site_of t) p (task_effect d t p)
-performs d (start c) p = refl
-performs d finish p = refl
-
 one_left : (left left' : ℕ) → left ≡ left' + 1 → left ≡ suc left'
 one_left left left' e = omega arith
 
--- a task whose step is paid, by its effect
-paid : (d : TestData) (t : Task) (left left' p : ℕ) (rest : List Task) → left ≡ left' + 1
-    → run d left (t ∷ rest) p ≡ resume left' (after d (site_of t) p (task_effect d t p)) (λ more q. run d left' (more ++ rest) q)
-paid d t left left' p rest e =
-    ap (λ n. run d n (t ∷ rest) p) (one_left left left' e) ∙ ap (λ x. resume left' x (λ more q. run d left' (more ++ rest) q)) (performs d t p)
+-- a task whose step is paid
+paid : (d : TestData) (t : Task) (left left' : ℕ) (s : State) (rest : List Task) → left ≡ left' + 1
+    → run d left (t ∷ rest) s ≡ resume d (site_of t) s.offset left' (perform t d s) (λ more u. run d left' (more ++ rest) u)
+paid d t left left' s rest e = ap (λ n. run d n (t ∷ rest) s) (one_left left left' e)
 
--- a task that is done leaves the rest
-pub task_done : (d : TestData) (t : Task) (left left' p q : ℕ) (rest : List Task) → left ≡ left' + 1 → Does {A = Unit {0}} (Ok tt) p q (task_effect d t p) → run d left (t ∷ rest) p ≡ run d left' rest q
-task_done d t left left' p q rest e does =
-    let there : p + (q - p) ≡ q = omega (arith, does.forward) in
-    paid d t left left' p rest e
-    ∙ ap (λ x. resume left' (after d (site_of t) p x) (λ more k. run d left' (more ++ rest) k)) (sym does.same)
-    ∙ ap (run d left' rest) there
-
-refused_by : (d : TestData) (site : Site) (left' p q n : ℕ) (spot : Spot) (refusal : Refusal) (rest : List Task → ℕ → Ended) → p + n ≡ q → spot ≡ spot_at d.bytes p
-    → resume left' (after d site p (effect_of {A = Unit {0}} (Err refusal) n)) rest ≡ record { outcome = outcome_of spot site refusal; consumed = q; left = left' }
-refused_by d site left' p q n spot (Rejected reason) rest there is = λ i. record { outcome = outcome_of (sym is i) site (Rejected reason); consumed = there i; left = left' }
-refused_by d site left' p q n spot (Stopped fault) rest there is = λ i. record { outcome = outcome_of (sym is i) site (Stopped fault); consumed = there i; left = left' }
-
--- a task that is refused ends the run
-pub task_refused : (d : TestData) (t : Task) (left left' p q : ℕ) (spot : Spot) (refusal : Refusal) (rest : List Task) → left ≡ left' + 1 → spot ≡ spot_at d.bytes p
-    → Does {A = Unit {0}} (Err refusal) p q (task_effect d t p) → run d left (t ∷ rest) p ≡ record { outcome = outcome_of spot (site_of t) refusal; consumed = q; left = left' }
-task_refused d t left left' p q spot refusal rest e is does =
-    let there : p + (q - p) ≡ q = omega (arith, does.forward) in
-    paid d t left left' p rest e
-    ∙ ap (λ x. resume left' (after d (site_of t) p x) (λ more k. run d left' (more ++ rest) k)) (sym does.same)
-    ∙ refused_by d (site_of t) left' p q (q - p) spot refusal (λ more k. run d left' (more ++ rest) k) there is
-
--- a task with no step left ends the run
-pub task_unpaid : (d : TestData) (t : Task) (left left' p : ℕ) (spot : Spot) (outcome : Outcome) (rest : List Task) → left ≡ 0 → left' ≡ 0 → spot ≡ spot_at d.bytes p → outcome ≡ at_limit spot (site_of t)
-    → run d left (t ∷ rest) p ≡ record { outcome = outcome; consumed = p; left = left' }
-task_unpaid d t left left' p spot outcome rest none none' is same =
-    ap (λ n. run d n (t ∷ rest) p) none ∙ (λ i. record { outcome = (ap (λ s. at_limit s (site_of t)) (sym is) ∙ sym same) i; consumed = p; left = sym none' i })
-
--- an end by its parts
-abbrev pub ended : Outcome → ℕ → ℕ → Ended
-ended outcome consumed left = record { outcome = outcome; consumed = consumed; left = left }
-
--- ends that differ in the name of their outcome
-pub ended_as : (o o' : Outcome) (q n : ℕ) → o ≡ o' → ended o q n ≡ ended o' q n
-ended_as o o' q n same = ap (λ x. ended x q n) same
+failed_by : {A : Type 0} (d : TestData) (site : Site) (p left' : ℕ) (spot : Spot) (failure : CommandFailure) (now : State) (e : Effect A) (k : A → State → Ended) (after : List Task) → spot ≡ spot_at d.bytes p
+    → Does {A = A} (Err failure) now e → Follows {A = Unit {0}} d (Err (halt_of spot site failure)) left' after now (resume d site p left' e k)
+failed_by d site p left' spot (Rejected reason) now e k after is does =
+    ap (λ x. resume d site p left' x k) does ∙ ap (λ x. stopped (outcomes.Rejected x site reason) now.offset left') (sym is)
+failed_by d site p left' spot (Stopped fault) now e k after is does =
+    ap (λ x. resume d site p left' x k) does ∙ ap (λ x. stopped (outcomes.Stopped x site fault) now.offset left') (sym is)
+failed_by d site p left' spot Memory now e k after is does = tt
 
 -- what follows a run follows each name of it
-pub follows_as : {A : Type 0} (d : TestData) (r : Result A Outcome) (left at : ℕ) (rest : List Task) (whole other : Ended) → other ≡ whole → Follows d r left at rest whole → Follows d r left at rest other
-follows_as d (Ok x) left at rest whole other same f = same ∙ f
-follows_as d (Err outcome) left at rest whole other same f = same ∙ f
+pub follows_as : {A : Type 0} (d : TestData) (r : Result A Halt) (left : ℕ) (after : List Task) (s : State) (whole other : Ended) → other ≡ whole → Follows d r left after s whole → Follows d r left after s other
+follows_as d (Ok x) left after s whole other same f = same ∙ f
+follows_as d (Err (halts.Ended outcome)) left after s whole other same f = same ∙ f
+follows_as d (Err halts.Memory) left after s whole other same f = tt
 
--- the commands from an index on
-pub listed_more : (commands : List Command) (i : ℕ) (c : Command) (rest : List Task) → i < length commands → c ≡ get_or commands i c → listed (drop i commands) ++ rest ≡ start (command_tree c) ∷ (listed (drop (i + 1) commands) ++ rest)
-listed_more commands i c rest within is =
-    ap (λ cs. listed cs ++ rest) (at_drop_more (λ l. l) commands i c within) ∙ ap (λ x. start (command_tree x) ∷ (listed (drop (i + 1) commands) ++ rest)) (sym is)
+-- an end does not depend on what was still to be done
+pub halted : (d : TestData) (halt : Halt) (left : ℕ) (after other : List Task) (s : State) (whole there : Ended) → whole ≡ there → Follows {A = Unit {0}} d (Err halt) left after s there → Follows {A = Unit {0}} d (Err halt) left other s whole
+halted d (halts.Ended outcome) left after other s whole there same f = same ∙ f
+halted d halts.Memory left after other s whole there same f = tt
 
--- none are left
-pub listed_all : (commands : List Command) (i : ℕ) (rest : List Task) → length commands ≤ i → listed (drop i commands) ++ rest ≡ rest
-listed_all commands i rest past = ap (λ cs. listed cs ++ rest) (drop_all i commands past)
+module _ {R : Type 0} {G : Ghosts R} where
+  -- what a task means that is done: the rest of the run
+  done_goes : (old new : Run R G) (t : Task) (left left' : ℕ) (more rest all : List Task) → left ≡ left' + 1 → all ≡ more ++ rest → Performs old new (Ok more) (perform t)
+      → Goes old.cursor new.cursor (λ d. run d left (t ∷ rest) (state old) ≡ run d left' all (state new))
+  done_goes old new t left left' more rest all one is p =
+      goes_so p.goes (λ d _ e. paid d t left left' (state old) rest one ∙ ap (λ x. resume d (site_of t) old.cursor.spot.offset left' x (λ more u. run d left' (more ++ rest) u)) e ∙ ap (λ ts. run d left' ts (state new)) (sym is))
 
-all_by : (commands : List Command) (i : ℕ) (c : Command) (b : Bool) → is_runnable (command_tree c) ≡ b → i < length commands → c ≡ get_or commands i c → are_runnable commands ≡ true → is_runnable (command_tree c) ≡ true
-all_by commands i c true is within here all = is
-all_by commands i c false is within here all =
-    let none : are_runnable commands ≡ false = list_all_at (λ x. is_runnable (command_tree x)) commands i c within (sym (ap (λ x. is_runnable (command_tree x)) here) ∙ is) in
-    let e : true ≡ false = sym all ∙ none in cc
+  -- a task that is done leaves its tasks and the rest
+  pub task_done : (old new : Run R G) (t : Task) (left left' : ℕ) (more rest : List Task) (agenda : Agenda) → left ≡ left' + 1 → agenda.left ≡ left' → to_do agenda.frames.items ≡ more ++ rest → Performs old new (Ok more) (perform t)
+      → Advances {A = Unit {0}} old new left (t ∷ rest) agenda (Ok tt)
+  task_done old new t left left' more rest agenda one same is p = record { sound = p.sound; goes = done_goes old new t left agenda.left more rest (to_do agenda.frames.items) (one ∙ ap (λ n. n + 1) (sym same)) is p }
 
--- each command of a runnable list is runnable
-pub runnable_at : (commands : List Command) (i : ℕ) (c : Command) → i < length commands → c ≡ get_or commands i c → are_runnable commands ≡ true → is_runnable (command_tree c) ≡ true
-runnable_at commands i c within here all = all_by commands i c (is_runnable (command_tree c)) refl within here all
+  -- a task that is rejected ends the run
+  failed_goes : (old new : Run R G) (t : Task) (left left' : ℕ) (spot : Spot) (halt : Halt) (failure : CommandFailure) (rest after : List Task) → left ≡ left' + 1 → spot ≡ old.cursor.spot → halt ≡ halt_of spot (site_of t) failure → Performs {A = List Task} old new (Err failure) (perform t)
+      → Goes old.cursor new.cursor (λ d. Follows {A = Unit {0}} d (Err halt) left' after (state new) (run d left (t ∷ rest) (state old)))
+  failed_goes old new t left left' spot halt failure rest after one there is p =
+      goes_so p.goes (λ d stand e.
+      let P : Halt → Type 0 = λ h. Follows {A = Unit {0}} d (Err h) left' after (state new) (run d left (t ∷ rest) (state old)) in
+      subst P (sym is) (follows_as {A = Unit {0}} d (Err (halt_of spot (site_of t) failure)) left' after (state new) _ _ (paid d t left left' (state old) rest one)
+      (failed_by d (site_of t) old.cursor.spot.offset left' spot failure (state new) (perform t d (state old)) (λ more u. run d left' (more ++ rest) u) after (there ∙ stand.before.spot) e)))
 
--- how a run ended by its answer
-abbrev pub outcome_by : Result (Unit {0}) Outcome → Outcome
-outcome_by (Ok x) = Accepted
-outcome_by (Err outcome) = outcome
+  pub task_failed : (old new : Run R G) (t : Task) (left : ℕ) (spot : Spot) (halt : Halt) (failure : CommandFailure) (rest : List Task) (agenda : Agenda) → left ≡ agenda.left + 1 → spot ≡ old.cursor.spot → halt ≡ halt_of spot (site_of t) failure → Performs {A = List Task} old new (Err failure) (perform t)
+      → Advances {A = Unit {0}} old new left (t ∷ rest) agenda (Err halt)
+  task_failed old new t left spot halt failure rest agenda one there is p = record { sound = tt; goes = failed_goes old new t left agenda.left spot halt failure rest (to_do agenda.frames.items) one there is p }
 
--- the tasks of a program are its commands
-pub tasks_listed : (commands : List Command) → tasks (command_trees commands) ≡ listed commands
-tasks_listed [] = refl
-tasks_listed (c ∷ cs) = ap (λ ts. start (command_tree c) ∷ ts) (tasks_listed cs)
+  -- a task with no step left ends the run
+  unpaid_goes : (old : Run R G) (t : Task) (left left' : ℕ) (spot : Spot) (halt : Halt) (rest after : List Task) → left ≡ 0 → left' ≡ 0 → spot ≡ old.cursor.spot → halt ≡ halts.Ended (at_limit spot (site_of t))
+      → Goes old.cursor old.cursor (λ d. Follows {A = Unit {0}} d (Err halt) left' after (state old) (run d left (t ∷ rest) (state old)))
+  unpaid_goes old t left left' spot halt rest after none none' there is =
+      goes_so (goes_nowhere old.cursor) (λ d stand _.
+      let P : Halt → Type 0 = λ h. Follows {A = Unit {0}} d (Err h) left' after (state old) (run d left (t ∷ rest) (state old)) in
+      let at : spot ≡ spot_at d.bytes old.cursor.spot.offset = there ∙ stand.before.spot in
+      subst P (sym is) (ap (λ n. run d n (t ∷ rest) (state old)) none ∙ (λ i. stopped (at_limit (sym at i) (site_of t)) old.cursor.spot.offset (sym none' i))))
+
+  pub task_unpaid : (old : Run R G) (t : Task) (left : ℕ) (spot : Spot) (halt : Halt) (rest : List Task) (agenda : Agenda) (q : Result (Unit {0}) Halt) → IsErr q × IsErrAnd q (λ e. e ≡ halt) → left ≡ 0 → agenda.left ≡ 0 → spot ≡ old.cursor.spot → halt ≡ halts.Ended (at_limit spot (site_of t))
+      → Advances {A = Unit {0}} old old left (t ∷ rest) agenda q
+  task_unpaid old t left spot halt rest agenda (Ok x) q none none' there is = let e : true ≡ false = sym q.0 in cc
+  task_unpaid old t left spot halt rest agenda (Err e) q none none' there is = record { sound = tt; goes = unpaid_goes old t left agenda.left spot e rest (to_do agenda.frames.items) none none' there (q.1 ∙ is) }
+
+  -- the same at the end of the program
+  pub ends_done : (old new : Run R G) (t : Task) (left left' : ℕ) (before : List Task) → left ≡ left' + 1 → before ≡ t ∷ [] → Performs old new (Ok []) (perform t) → Ends {A = Unit {0}} old new left before left' (Ok tt)
+  ends_done old new t left left' before one is p = record { sound = p.sound; goes = goes_so (done_goes old new t left left' [] [] [] one refl p) (λ d _ e. ap (λ ts. run d left ts (state old)) is ∙ e) }
+
+  pub ends_failed : (old new : Run R G) (t : Task) (left left' : ℕ) (before : List Task) (spot : Spot) (halt : Halt) (failure : CommandFailure) → left ≡ left' + 1 → before ≡ t ∷ [] → spot ≡ old.cursor.spot → halt ≡ halt_of spot (site_of t) failure → Performs {A = List Task} old new (Err failure) (perform t)
+      → Ends {A = Unit {0}} old new left before left' (Err halt)
+  ends_failed old new t left left' before spot halt failure one is there same p = record { sound = tt; goes = goes_so (failed_goes old new t left left' spot halt failure [] [] one there same p) (λ d _ e. follows_as {A = Unit {0}} d (Err halt) left' [] (state new) _ _ (ap (λ ts. run d left ts (state old)) is) e) }
+
+  pub ends_unpaid : (old : Run R G) (t : Task) (left left' : ℕ) (before : List Task) (spot : Spot) (halt : Halt) (q : Result (Unit {0}) Halt) → IsErr q × IsErrAnd q (λ e. e ≡ halt) → left ≡ 0 → left' ≡ 0 → before ≡ t ∷ [] → spot ≡ old.cursor.spot → halt ≡ halts.Ended (at_limit spot (site_of t))
+      → Ends {A = Unit {0}} old old left before left' q
+  ends_unpaid old t left left' before spot halt (Ok x) q none none' is there same = let e : true ≡ false = sym q.0 in cc
+  ends_unpaid old t left left' before spot halt (Err e) q none none' is there same = record { sound = tt; goes = goes_so (unpaid_goes old t left left' spot e [] [] none none' there (q.1 ∙ same)) (λ d _ f. follows_as {A = Unit {0}} d (Err e) left' [] (state old) _ _ (ap (λ ts. run d left ts (state old)) is) f) }
+
+  -- a task that is done, and then the first of its tasks
+  pub task_then : (a b c : Run R G) (t : Task) (left left' : ℕ) (more rest all : List Task) (agenda : Agenda) (r : Result (Unit {0}) Halt) → left ≡ left' + 1 → all ≡ more ++ rest → Performs a b (Ok more) (perform t) → Advances b c left' all agenda r → Advances a c left (t ∷ rest) agenda r
+  task_then a b c t left left' more rest all agenda r one is p q = record {
+    sound = q.sound;
+    goes = goes_so (goes_both (done_goes a b t left left' more rest all one is p) q.goes) (λ d _ e. follows_as d r agenda.left (to_do agenda.frames.items) (state c) _ _ e.0 e.1);
+  }
+
+  -- what was done so far, and then the end
+  pub ends_early : (a b c : Run R G) (left left' now : ℕ) (before all split : List Task) (agenda : Agenda) (halt : Halt) (q : Result (Unit {0}) Halt) → IsErr q × IsErrAnd q (λ e. e ≡ halt) → Goes a.cursor b.cursor (λ d. run d left before (state a) ≡ run d left' all (state b))
+      → now ≡ left' → all ≡ split → Advances {A = Unit {0}} b c now split agenda (Err halt) → Ends {A = Unit {0}} a c left before agenda.left q
+  ends_early a b c left left' now before all split agenda halt (Ok x) q goes same is p = let e : true ≡ false = sym q.0 in cc
+  ends_early a b c left left' now before all split agenda halt (Err e) q goes same is p =
+      let P : Halt → Type 0 = λ h. Ends {A = Unit {0}} a c left before agenda.left (Err h) in
+      subst P (sym q.1) (record { sound = tt; goes = goes_so (goes_both goes p.goes) (λ d _ f. halted d halt agenda.left (to_do agenda.frames.items) [] (state c) _ _ (f.0 ∙ ap (λ ts. run d left' ts (state b)) is ∙ ap (λ n. run d n split (state b)) (sym same)) f.1) })
+
+  -- one step of the run and then more
+  pub goes_further : {A : Type 0} {a b c : Run R G} {left : ℕ} {before : List Task} {agenda : Agenda} {now : ℕ} {r : Result A Halt} → Advances {A = Unit {0}} a b left before agenda (Ok tt) → Ends b c agenda.left (to_do agenda.frames.items) now r → Ends a c left before now r
+  goes_further {a = a} {b = b} {c = c} {left = left} {before = before} {agenda = agenda} {now = now} {r = r} p q = record { sound = q.sound; goes = goes_so (goes_both p.goes q.goes) (λ d _ e. follows_as d r now [] (state c) _ _ e.0 e.1) }
+
+  -- what stands before the first command, and then the tasks
+  pub start_done : (a b c : Run R G) (n left' : ℕ) (ts : List Task) (r : Result (Unit {0}) Halt) → Performs {A = ⊤} a b (Ok tt) first_skip → Ends b c n ts left' r → EndsAs a c (λ d. run_from d n ts (state a)) left' r
+  start_done a b c n left' ts r p q = record {
+    sound = q.sound;
+    goes = goes_so (goes_both p.goes q.goes) (λ d _ e. follows_as d r left' [] (state c) _ _ (ap (λ x. resume d Start a.cursor.spot.offset n x (λ _ t. run d n ts t)) e.0) e.1);
+  }
+
+  pub start_failed : (a b : Run R G) (n : ℕ) (ts : List Task) (spot : Spot) (halt : Halt) (failure : CommandFailure) → spot ≡ a.cursor.spot → halt ≡ halt_of spot Start failure → Performs {A = ⊤} a b (Err failure) first_skip
+      → EndsAs {A = Unit {0}} a b (λ d. run_from d n ts (state a)) n (Err halt)
+  start_failed a b n ts spot halt failure there is p = record {
+    sound = tt;
+    goes = goes_so p.goes (λ d stand e.
+        let P : Halt → Type 0 = λ h. Follows {A = Unit {0}} d (Err h) n [] (state b) (run_from d n ts (state a)) in
+        subst P (sym is) (failed_by d Start a.cursor.spot.offset n spot failure (state b) (first_skip d (state a)) (λ _ t. run d n ts t) [] (there ∙ stand.before.spot) e));
+  }
+
+-- what a turn that goes on leaves
+pub turn_left : (separator body : List Task) (t u : Task) (rest all : List Task) → t ≡ u → all ≡ (body ++ t ∷ []) ++ rest → separator ++ all ≡ (separator ++ body ++ u ∷ []) ++ rest
+turn_left separator body t u rest all same is = ap (λ xs. separator ++ xs) (is ∙ ap (λ x. (body ++ x ∷ []) ++ rest) same) ∙ simp append_assoc refl
 
 -- a run that ended has its meaning
-pub finds : (mode : Mode) (d : TestData) (r : Result (Unit {0}) Outcome) (outcome : Outcome) (program : List Command) (presets : List Preset) (limit steps left at consumed taken : ℕ) (seen : Seen) → outcome ≡ outcome_by r → steps ≡ limit - left → consumed ≡ at
-    → Follows d r left at [] (run d limit (listed program ++ finish ∷ []) 0) → Finds (record { outcome = outcome; steps = steps; consumed = consumed; taken = taken; seen = seen }) (meaning mode (command_trees program) presets d limit)
-finds Exact d (Ok x) outcome program presets limit steps left at consumed taken seen by paid there f =
-    let whole : run d limit (tasks (command_trees program) ++ finish ∷ []) 0 ≡ ended Accepted at left = ap (λ ts. run d limit (ts ++ finish ∷ []) 0) (tasks_listed program) ∙ f in
-    record { outcome = by ∙ sym (ap (λ e. e.outcome) whole); steps = paid ∙ sym (ap (λ e. limit - e.left) whole); consumed = there ∙ sym (ap (λ e. e.consumed) whole) }
-finds Exact d (Err o) outcome program presets limit steps left at consumed taken seen by paid there f =
-    let whole : run d limit (tasks (command_trees program) ++ finish ∷ []) 0 ≡ ended o at left = ap (λ ts. run d limit (ts ++ finish ∷ []) 0) (tasks_listed program) ∙ f in
-    record { outcome = by ∙ sym (ap (λ e. e.outcome) whole); steps = paid ∙ sym (ap (λ e. limit - e.left) whole); consumed = there ∙ sym (ap (λ e. e.consumed) whole) }
+pub finds : (mode : Mode) (d : TestData) (r : Result (Unit {0}) Halt) (checked : Checked) (program : CommandList) (presets : List Preset) (limit left : ℕ) (s : State) → Concludes r checked.outcome → checked.steps ≡ limit - left → checked.consumed ≡ s.offset
+    → Follows d r left [] s (run_from d limit (tasks program ++ finish ∷ []) (at_start mode presets)) → Finds checked (meaning mode program presets d limit)
+finds mode d (Ok x) checked program presets limit left s by steps there f =
+    record { outcome = by ∙ sym (ap (λ e. (with_steps limit e).outcome) f); steps = steps ∙ sym (ap (λ e. (with_steps limit e).steps) f); consumed = there ∙ sym (ap (λ e. (with_steps limit e).consumed) f) }
+finds mode d (Err (halts.Ended o)) checked program presets limit left s by steps there f =
+    record { outcome = by ∙ sym (ap (λ e. (with_steps limit e).outcome) f); steps = steps ∙ sym (ap (λ e. (with_steps limit e).steps) f); consumed = there ∙ sym (ap (λ e. (with_steps limit e).consumed) f) }
+finds mode d (Err halts.Memory) checked program presets limit left s by steps there f = absurd by

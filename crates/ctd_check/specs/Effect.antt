@@ -1,31 +1,18 @@
--- What each simple command does at an offset of the data.
-use Rattle.std.specs.Prelude.{ℕ, ◌+◌, Bool, true, false, nat_eq, ℤ, pos, neg_ℤ, Option, Some, None, Result, Ok, Err, if◌then◌else◌}
-use Rattle.ctd_source.specs.declared.spot.LookFault.{LookFault}
-use Rattle.ctd_source.specs.declared.spot.LookFault.TheVariants as looks
-use Rattle.ctd_source.specs.TestData.{TestData, next_byte, visible}
-use Rattle.ctd_syntax.specs.Tree
-use Rattle.ctd_syntax.specs.Tree.{ExprTree, CommandTree}
+-- What each simple command does.
+use Rattle.std.specs.Prelude.{ℕ, Bool, true, false, nat_eq, ⊤, List, [], ◌∷◌, length, fold, ℤ, Option, Some, None, Result, Ok, Err, if◌then◌else◌}
+use Rattle.std.specs.List.{common_prefix_len}
+use Rattle.ctd_source.specs.TestData.{visible}
+use Rattle.ctd_syntax.specs.Tree.{ExprTree, VarTree, TestTree}
+use Rattle.ctd_value.specs.declared.value.Value.{Value}
+use Rattle.ctd_value.specs.declared.value.Value.TheVariants as values
+use Rattle.ctd_value.specs.Fault.{with_fault}
+use Rattle.ctd_value.specs.Store.{Key, assign, unset}
+use Rattle.ctd_value.specs.Val.{val, key, number_of, text_of}
+use Rattle.ctd_value.specs.Truth.{truth}
 use Rattle.ctd_check.specs.declared.outcome.Reason.{Reason}
-use Rattle.ctd_check.specs.declared.outcome.Reason.TheVariants.{ExpectedSpace, ExpectedNewline, ExpectedEof}
-use Rattle.ctd_check.specs.declared.outcome.Fault.{Fault}
-use Rattle.ctd_check.specs.declared.outcome.Fault.TheVariants.{DataTooLong, Read}
+use Rattle.ctd_check.specs.declared.outcome.Reason.TheVariants.{ExpectedEof, StringMismatch, AssertFailed}
 use Rattle.ctd_check.specs.Integer.{prefix_len_of, judge, is_minus, digits_of}
-
--- the fault of a look, as a fault of a check
-abbrev pub fault_of_look : LookFault → Fault
-fault_of_look looks.Read = Read
-fault_of_look looks.DataTooLong = DataTooLong
-
--- a command is done, refused or stopped, once it has passed some bytes
-pub data Effect : Type 0 where
-  done : (bytes : ℕ) → Effect
-  refused : (reason : Reason) (bytes : ℕ) → Effect
-  faulty : (fault : Fault) (bytes : ℕ) → Effect
-
--- once some bytes are passed: with what is seen go on, or stop with its fault
-abbrev pub go_on : {A : Type 0} → (bytes : ℕ) → Result A LookFault → (A → Effect) → Effect
-go_on bytes (Ok x) next = next x
-go_on bytes (Err fault) next = faulty (fault_of_look fault) bytes
+use Rattle.ctd_check.specs.State.{Act, done, ◌>>=◌, give, reject, pass, told, evaluate, next_seen, fault_of_truth}
 
 -- whether the next byte is this one
 abbrev pub is_byte : ℕ → Option ℕ → Bool
@@ -38,35 +25,102 @@ is_end None = true
 is_end (Some b) = false
 
 -- this byte, and else the reason
-abbrev pub one_byte : ℕ → Reason → TestData → ℕ → Effect
-one_byte c reason d p = go_on 0 (next_byte d p) (λ next. if is_byte c next then done 1 else refused reason 0)
+abbrev pub one_byte : ℕ → Reason → Act ⊤
+one_byte c reason = do
+  next ← next_seen
+  if is_byte c next then pass 1 else reject reason
 
 -- the end of the data
-abbrev pub eof : TestData → ℕ → Effect
-eof d p = go_on 0 (next_byte d p) (λ next. if is_end next then done 0 else refused ExpectedEof 0)
+abbrev pub eof : Act ⊤
+eof = do
+  next ← next_seen
+  if is_end next then give tt else reject ExpectedEof
 
--- an integer of n bytes is refused or done
-abbrev pub judge_effect : ℕ → Result ℤ Reason → Effect
-judge_effect n (Ok z) = done n
-judge_effect n (Err reason) = refused reason n
+-- a key has the value from now on
+abbrev pub assigned : Key → Value → Act ⊤
+assigned k value d s = done tt (record { offset = s.offset; store = assign s.store k value; mode = s.mode })
 
--- the longest prefix of the form of an integer, up to a byte that does not belong to it or the end
-abbrev pub integer : ℤ → ℤ → TestData → ℕ → Effect
-integer least most d p =
-    let rest = visible d p in
-    let n = prefix_len_of rest in
-    go_on n (next_byte d (p + n)) (λ _. judge_effect n (judge least most (is_minus rest) (digits_of rest)))
+-- the indices of a variable are evaluated, and it gets the value
+abbrev pub set_to : VarTree → Value → Act ⊤
+set_to v value = do
+  k ← evaluate (key v)
+  assigned k value
 
--- what a bound is worth: a numeral, or a minus before one
-abbrev pub bound : ExprTree → ℤ
-bound (Tree.numeral n) = n
-bound (Tree.minus (Tree.numeral n)) = neg_ℤ n
-bound _ = pos 0
+-- the same of a target, where there is one
+abbrev pub keep : Option VarTree → Value → Act ⊤
+keep None value = give tt
+keep (Some v) value = set_to v value
 
--- what a simple command does
-abbrev pub effect : TestData → CommandTree → ℕ → Effect
-effect d (Tree.space place) p = one_byte 32 ExpectedSpace d p
-effect d (Tree.newline place) p = one_byte 10 ExpectedNewline d p
-effect d (Tree.eof place) p = eof d p
-effect d (Tree.int place low high target) p = integer (bound low) (bound high) d p
-effect d _ p = done 0
+-- a judgement
+abbrev pub judged : Result ℤ Reason → Act ℤ
+judged (Ok z) = give z
+judged (Err reason) = reject reason
+
+-- bytes of the form of an integer are passed, up to a byte that does not belong to it or the end, and they are judged
+abbrev pub read_integer : ℤ → ℤ → List ℕ → Act ℤ
+read_integer least most rest = do
+  _ ← pass (prefix_len_of rest)
+  _ ← next_seen
+  judged (judge least most (is_minus rest) (digits_of rest))
+
+-- an integer in an interval
+abbrev pub integer : ℤ → ℤ → Act ℤ
+integer least most d s = read_integer least most (visible d s.offset) d s
+
+-- both bounds, then the integer, then its target
+abbrev pub int : ExprTree → ExprTree → Option VarTree → Act ⊤
+int low high target = do
+  least ← evaluate (number_of low)
+  most ← evaluate (number_of high)
+  z ← integer least most
+  keep target (values.Int z)
+
+-- the next byte is not the one that is wanted, or there is none
+abbrev pub differ : Act ⊤
+differ = do
+  _ ← next_seen
+  reject StringMismatch
+
+-- of these bytes as many are passed as agree with those that come; where these are not all, another byte comes next, or none
+abbrev pub compare : List ℕ → List ℕ → Act ⊤
+compare wanted rest =
+    let n = common_prefix_len nat_eq wanted rest in do
+      _ ← pass n
+      if nat_eq n (length wanted) then give tt else differ
+
+-- just these bytes
+abbrev pub match_bytes : List ℕ → Act ⊤
+match_bytes wanted d s = compare wanted (visible d s.offset) d s
+
+-- the value, which has to be a string, and then its bytes
+abbrev pub string : ExprTree → Act ⊤
+string e = do
+  wanted ← evaluate (text_of e)
+  match_bytes wanted
+
+-- a test's answer
+abbrev pub answer : TestTree → Act Bool
+answer t d s = told (with_fault fault_of_truth (truth t s.store d s.offset)) s
+
+-- a test that is false rejects the data
+abbrev pub assert : TestTree → Act ⊤
+assert t = do
+  b ← answer t
+  if b then give tt else reject AssertFailed
+
+-- a value, then the indices of the variable that gets it
+abbrev pub give_value : VarTree × ExprTree → Act ⊤
+give_value a = do
+  value ← evaluate (val a.1)
+  set_to a.0 value
+
+-- one assignment after the other
+abbrev pub set : List (VarTree × ExprTree) → Act ⊤
+set [] = give tt
+set (a ∷ rest) = do
+  _ ← give_value a
+  set rest
+
+-- each name loses all that was assigned to it
+abbrev pub unset_all : List (List ℕ) → Act ⊤
+unset_all names d s = done tt (record { offset = s.offset; store = fold unset s.store names; mode = s.mode })

@@ -1,10 +1,11 @@
--- What parts of the INT command pass.
-use Rattle.std.specs.Prelude.{◌≡◌, ◌≢◌, ℕ, ◌+◌, Bool, true, false, List, ◌∷◌, ◌++◌, length, Option, Some, None, Result, Ok, Err}
-use Rattle.std.specs.List.{list_all}
+-- What parts of INT and STRING pass, and what is skipped.
+use Rattle.std.specs.Prelude.{◌≡◌, ℕ, ◌+◌, Bool, true, false, nat_eq, List, ◌∷◌, ◌++◌, length, take, Option, Some, None, Result, Ok, Err, IsOk}
+use Rattle.std.specs.List.{list_all, prefix_len, common_prefix_len}
 use Rattle.std.specs.Char.{is_ascii_digit}
 use Rattle.ctd_source.specs.declared.spot.LookFault.{LookFault}
 use Rattle.ctd_source.specs.TestData.{TestData, next_byte, visible}
 use Rattle.ctd_check.specs.declared.digits.Digits.{Digits}
+use Rattle.ctd_check.specs.Blanks.{is_blank}
 use Rattle.ctd_check.specs.Integer.{is_minus}
 use Rattle.ctd_check.specs.Seen.{AreSeen}
 
@@ -37,3 +38,24 @@ pub record PassesRow (old new : Digits) (d : TestData) (p q : ℕ) : Type 0 wher
 pub record PassesDigits (old new : Digits) (d : TestData) (p q : ℕ) (result : Result (Unit {0}) LookFault) : Type 0 where
   pub row : PassesRow old new d p q
   pub stop : StopsAt result (next_byte d q)
+
+-- from offset p to q the first n of the wanted bytes are passed; where none are, the next byte is another one, or there is none
+pub record PassesFront (wanted : List ℕ) (d : TestData) (p q n : ℕ) : Type 0 where
+  pub offset : q ≡ p + n
+  pub visible_is : visible d p ≡ take n wanted ++ visible d q
+  pub seen : IsOk (next_byte d p)
+  pub differs : n ≡ 0 → common_prefix_len nat_eq wanted (visible d p) ≡ 0
+
+-- a run of them is passed, or a look has a fault
+abbrev pub PassesSome : List ℕ → TestData → (p q : ℕ) → Result ℕ LookFault → Type 0
+PassesSome wanted d p q (Ok n) = PassesFront wanted d p q n
+PassesSome wanted d p q (Err fault) = (q ≡ p) × (next_byte d p ≡ Err fault)
+
+-- from offset p to q all blanks are passed, up to another byte or the end, or to a fault
+abbrev pub PassesBlanks : TestData → (p q : ℕ) → Result (Unit {0}) LookFault → Type 0
+PassesBlanks d p q (Ok _) = (q ≡ p + prefix_len is_blank (visible d p)) × IsOk (next_byte d q)
+PassesBlanks d p q (Err fault) = (q ≡ p + prefix_len is_blank (visible d p)) × (next_byte d q ≡ Err fault)
+
+-- from offset p to q some of them are passed
+abbrev pub PassesSomeBlanks : TestData → (p q : ℕ) → Type 0
+PassesSomeBlanks d p q = p + prefix_len is_blank (visible d p) ≡ q + prefix_len is_blank (visible d q)

@@ -1,67 +1,74 @@
 -- The run of a program as a list of tasks, one step for each.
-use Rattle.std.specs.Prelude.{◌≡◌, ℕ, zero, suc, ◌+◌, ◌-◌, List, [], ◌∷◌, ◌++◌}
+use Rattle.std.specs.Prelude.{◌≡◌, ℕ, zero, suc, ◌-◌, ⊤, List, [], ◌∷◌, ◌++◌, Some, None}
 use Rattle.ctd_source.specs.TestData.{TestData, spot_at}
 use Rattle.ctd_syntax.specs.declared.preset.Preset.{Preset}
 use Rattle.ctd_syntax.specs.Tree
 use Rattle.ctd_syntax.specs.Tree.{CommandTree, CommandList, place_of}
+use Rattle.ctd_value.specs.Store.{initial}
 use Rattle.ctd_check.specs.declared.outcome.Mode.{Mode}
-use Rattle.ctd_check.specs.declared.outcome.Mode.TheVariants.{Exact}
 use Rattle.ctd_check.specs.declared.outcome.Site.{Site}
-use Rattle.ctd_check.specs.declared.outcome.Site.TheVariants.{At, Finish}
-use Rattle.ctd_check.specs.declared.outcome.Fault.{Fault}
+use Rattle.ctd_check.specs.declared.outcome.Site.TheVariants.{Start, At, Finish}
 use Rattle.ctd_check.specs.declared.outcome.Fault.TheVariants.{StepLimit}
 use Rattle.ctd_check.specs.declared.outcome.Checked.{Checked}
 use Rattle.ctd_check.specs.declared.outcome.Outcome.{Outcome}
 use Rattle.ctd_check.specs.declared.outcome.Outcome.TheVariants.{Accepted, Rejected, Stopped}
-use Rattle.ctd_check.specs.Effect.{Effect, done, refused, faulty, eof, effect}
-
--- what costs a step: a command that is to start, or the end of the program
-pub data Task : Type 0 where
-  start : (c : CommandTree) → Task
-  finish : Task
+use Rattle.ctd_check.specs.State.{State, Effect, done, rejected, faulty, Act, ◌>>=◌, give}
+use Rattle.ctd_check.specs.Effect.{int, string, assert, set, unset_all}
+use Rattle.ctd_check.specs.Blanks.{space, newline, end, first_skip}
+use Rattle.ctd_check.specs.Regex.{regex}
+use Rattle.ctd_check.specs.Loops.{Task, start, turn, finish, tasks, turned, counted, tested, choice}
 
 -- where in the program a task stands
 abbrev pub site_of : Task → Site
 site_of (start c) = At (place_of c)
+site_of (turn loop k) = At loop.place
 site_of finish = Finish
 
--- the commands of a list, in order
-abbrev pub tasks : CommandList → List Task
-tasks Tree.done = []
-tasks (Tree.then c rest) = start c ∷ tasks rest
+-- a simple command leaves no tasks
+abbrev pub simple : Act ⊤ → Act (List Task)
+simple m = do
+  _ ← m
+  give []
 
--- a task goes on with further tasks in front, at an offset, or it ends the run
-pub data Progress : Type 0 where
-  goes : (more : List Task) (p : ℕ) → Progress
-  ends : (outcome : Outcome) (consumed : ℕ) → Progress
+-- a command, and the tasks that it leaves to be done first
+abbrev pub act_of : CommandTree → Act (List Task)
+act_of (Tree.space place) = simple space
+act_of (Tree.newline place) = simple newline
+act_of (Tree.eof place) = simple end
+act_of (Tree.int place low high target) = simple (int low high target)
+act_of (Tree.string place e) = simple (string e)
+act_of (Tree.regex place literal target) = simple (regex literal.bytes target)
+act_of (Tree.assert place t) = simple (assert t)
+act_of (Tree.set place assignments) = simple (set assignments)
+act_of (Tree.unset place names) = simple (unset_all names)
+act_of (Tree.rep place e sep body) = counted place e None sep body
+act_of (Tree.repi place v e sep body) = counted place e (Some v) sep body
+act_of (Tree.while place t sep body) = tested place t None sep body
+act_of (Tree.whilei place v t sep body) = tested place t (Some v) sep body
+act_of (Tree.choice place t then_do else_do) = choice t then_do else_do
 
--- what an effect means for the run: spot and site are those of its beginning
-abbrev pub after : TestData → Site → ℕ → Effect → Progress
-after d site p (done bytes) = goes [] (p + bytes)
-after d site p (refused reason bytes) = ends (Rejected (spot_at d.bytes p) site reason) (p + bytes)
-after d site p (faulty fault bytes) = ends (Stopped (spot_at d.bytes p) site fault) (p + bytes)
+-- a task whose step is paid, and the tasks that it leaves to be done first
+abbrev pub perform : Task → Act (List Task)
+perform (start c) = act_of c
+perform (turn loop k) = turned loop k
+perform finish = simple end
 
--- a task whose step is paid
-abbrev pub perform : TestData → Task → ℕ → Progress
-perform d (start c) p = after d (At (place_of c)) p (effect d c p)
-perform d finish p = after d Finish p (eof d p)
+-- how a run ended, with the steps that are left: all tasks are done and a state is left, or it stopped early with an outcome, once so many bytes are consumed
+pub data Ended : Type 0 where
+  all_done : (after : State) (left : ℕ) → Ended
+  stopped : (outcome : Outcome) (consumed left : ℕ) → Ended
 
--- how a run ended, the bytes that it consumed, and the steps that are left
-pub record Ended : Type 0 where
-  pub outcome : Outcome
-  pub consumed : ℕ
-  pub left : ℕ
-
--- with n steps left, go on with the further tasks or end
-abbrev pub resume : ℕ → Progress → (List Task → ℕ → Ended) → Ended
-resume n (goes more p) rest = rest more p
-resume n (ends outcome consumed) rest = record { outcome = outcome; consumed = consumed; left = n }
+-- what was begun at an offset: the run goes on with what it left, or it ends
+abbrev pub resume : {A : Type 0} → TestData → Site → ℕ → ℕ → Effect A → (A → State → Ended) → Ended
+resume d site p n (done x after) rest = rest x after
+resume d site p n (rejected reason consumed) rest = stopped (Rejected (spot_at d.bytes p) site reason) consumed n
+resume d site p n (faulty fault consumed) rest = stopped (Stopped (spot_at d.bytes p) site fault) consumed n
 
 -- the tasks in order, with n steps left: each pays its step first
-abbrev pub run : TestData → ℕ → List Task → ℕ → Ended
-run d n [] p = record { outcome = Accepted; consumed = p; left = n }
-run d zero (task ∷ rest) p = record { outcome = Stopped (spot_at d.bytes p) (site_of task) StepLimit; consumed = p; left = 0 }
-run d (suc n) (task ∷ rest) p = resume n (perform d task p) (λ more q. run d n (more ++ rest) q)
+abbrev pub run : TestData → ℕ → List Task → State → Ended
+run d n [] s = all_done s n
+run d zero (task ∷ rest) s = stopped (Stopped (spot_at d.bytes s.offset) (site_of task) StepLimit) s.offset 0
+run d (suc n) (task ∷ rest) s = resume d (site_of task) s.offset n (perform task d s) (λ more t. run d n (more ++ rest) t)
 
 -- what a check answers: how it ended, the steps paid, and the bytes consumed
 pub record Meaning : Type 0 where
@@ -71,11 +78,20 @@ pub record Meaning : Type 0 where
 
 -- the steps paid are those that are not left
 abbrev pub with_steps : ℕ → Ended → Meaning
-with_steps steps e = record { outcome = e.outcome; steps = steps - e.left; consumed = e.consumed }
+with_steps steps (all_done after left) = record { outcome = Accepted; steps = steps - left; consumed = after.offset }
+with_steps steps (stopped outcome consumed left) = record { outcome = outcome; steps = steps - left; consumed = consumed }
 
--- what a program means for data: its commands and then the end of the data, from the first byte on. No command of today reads a preset
+-- the first byte, with the presets pinned
+abbrev pub at_start : Mode → List Preset → State
+at_start mode presets = record { offset = 0; store = initial presets; mode = mode }
+
+-- all that a program does: what stands before the first command, which costs no step, and then its tasks
+abbrev pub run_from : TestData → ℕ → List Task → State → Ended
+run_from d n ts s = resume d Start s.offset n (first_skip d s) (λ _ t. run d n ts t)
+
+-- what a program means for data: its commands and then the end of the data
 abbrev pub meaning : Mode → CommandList → List Preset → TestData → ℕ → Meaning
-meaning Exact program presets d steps = with_steps steps (run d steps (tasks program ++ finish ∷ []) 0)
+meaning mode program presets d steps = with_steps steps (run_from d steps (tasks program ++ finish ∷ []) (at_start mode presets))
 
 -- a check found this
 pub record Finds (checked : Checked) (m : Meaning) : Type 0 where

@@ -1,46 +1,91 @@
 //! The commands of one byte, and the end of the data.
-ghost use Rattle.std.specs.Prelude.{◌≡◌, OnOk, None};
-ghost use Rattle.ctd_source.specs.Sight.{sight};
-ghost use Rattle.ctd_source.specs.Follow.{Goes};
+ghost use Rattle.ctd_check.specs.Blanks.{space, newline, end, newline_between_blanks, end_behind_blanks};
 ghost use Rattle.ctd_check.specs.Effect.{one_byte, eof};
-ghost use Rattle.ctd_check.specs.Steps.{Does};
+ghost use Rattle.ctd_check.specs.Performs.{IsSound, Performs};
 
-use crate::outcome::Reason;
-use crate::refusal::Refusal;
-use ctd_source::{Cursor, Source};
+use crate::failure::CommandFailure;
+use crate::machine::Run;
+use crate::outcome::{Mode, Reason};
+use ctd_source::Source;
 
-/// Passes this byte, and else refuses the data for this reason.
-pub(crate) fn one_byte<D: Source>(
-    wanted: u8,
-    reason: Reason,
-    cursor: &mut Cursor<'_, D>,
-) -> Result<(), Refusal>
-    requires sound { (sight cursor.old).fault ≡ None }
-    ensures sound { OnOk result ((sight cursor.new).fault ≡ None) }
-    ensures effect { Goes cursor.old cursor.new (λ d. Does result (sight cursor.old).spot.offset (sight cursor.new).spot.offset (one_byte wanted reason d (sight cursor.old).spot.offset)) }
-{
-    match cursor.look() {
-        Ok(Some(byte)) => {
-            if byte != wanted {
-                return Err(Refusal::Rejected(reason));
-            }
-            cursor.take();
-            Ok(())
+impl<'d, D: Source> Run<'d, D> {
+    /// SPACE.
+    pub(crate) fn space(&mut self) -> Result<(), CommandFailure>
+        requires sound { IsSound self.old }
+        ensures performs { Performs self.old self.new result space }
+    {
+        match self.mode {
+            Mode::Exact => self.one_byte(b' ', Reason::ExpectedSpace),
+            Mode::BlanksOk => self.some_blanks(),
         }
-        Ok(None) => Err(Refusal::Rejected(reason)),
-        Err(fault) => Err(Refusal::from(fault)),
     }
-}
 
-/// Passes nothing, where the end of the data is reached.
-pub(crate) fn end<D: Source>(cursor: &mut Cursor<'_, D>) -> Result<(), Refusal>
-    requires sound { (sight cursor.old).fault ≡ None }
-    ensures sound { OnOk result ((sight cursor.new).fault ≡ None) }
-    ensures effect { Goes cursor.old cursor.new (λ d. Does result (sight cursor.old).spot.offset (sight cursor.new).spot.offset (eof d (sight cursor.old).spot.offset)) }
-{
-    match cursor.look() {
-        Ok(None) => Ok(()),
-        Ok(Some(_byte)) => Err(Refusal::Rejected(Reason::ExpectedEof)),
-        Err(fault) => Err(Refusal::from(fault)),
+    /// NEWLINE.
+    pub(crate) fn newline(&mut self) -> Result<(), CommandFailure>
+        requires sound { IsSound self.old }
+        ensures performs { Performs self.old self.new result newline }
+    {
+        match self.mode {
+            Mode::Exact => self.one_byte(b'\n', Reason::ExpectedNewline),
+            Mode::BlanksOk => self.newline_between_blanks(),
+        }
+    }
+
+    /// EOF, and the end of a program.
+    pub(crate) fn end(&mut self) -> Result<(), CommandFailure>
+        requires sound { IsSound self.old }
+        ensures performs { Performs self.old self.new result end }
+    {
+        match self.mode {
+            Mode::Exact => self.end_of_data(),
+            Mode::BlanksOk => self.end_behind_blanks(),
+        }
+    }
+
+    /// A line feed with the blanks around it.
+    fn newline_between_blanks(&mut self) -> Result<(), CommandFailure>
+        requires sound { IsSound self.old }
+        ensures performs { Performs self.old self.new result newline_between_blanks }
+    {
+        self.skip_blanks()?;
+        self.one_byte(b'\n', Reason::ExpectedNewline)?;
+        self.skip_blanks()
+    }
+
+    /// The end of the data behind blanks.
+    fn end_behind_blanks(&mut self) -> Result<(), CommandFailure>
+        requires sound { IsSound self.old }
+        ensures performs { Performs self.old self.new result end_behind_blanks }
+    {
+        self.skip_blanks()?;
+        self.end_of_data()
+    }
+
+    /// Passes this byte, and else rejects the data for this reason.
+    fn one_byte(&mut self, wanted: u8, reason: Reason) -> Result<(), CommandFailure>
+        requires sound { IsSound self.old }
+        ensures performs { Performs self.old self.new result (one_byte wanted reason) }
+    {
+        match self.next()? {
+            Some(byte) => {
+                if byte != wanted {
+                    return Err(CommandFailure::Rejected(reason));
+                }
+                self.pass_one();
+                Ok(())
+            }
+            None => Err(CommandFailure::Rejected(reason)),
+        }
+    }
+
+    /// Passes nothing, where the end of the data is reached.
+    fn end_of_data(&mut self) -> Result<(), CommandFailure>
+        requires sound { IsSound self.old }
+        ensures performs { Performs self.old self.new result eof }
+    {
+        match self.next()? {
+            None => Ok(()),
+            Some(_byte) => Err(CommandFailure::Rejected(Reason::ExpectedEof)),
+        }
     }
 }

@@ -1,18 +1,36 @@
 //! The check of data against a program.
-ghost use Rattle.std.specs.Prelude.{◌≡◌, ◌+◌, ◌≤◌, ◌^◌, IfOk};
+ghost use Rattle.std.specs.Prelude.{◌≡◌, ◌+◌, ◌≤◌, ◌^◌, Err, IfOk, OnErr};
 ghost use Rattle.ctd_source.specs.declared.source.Seen.TheVariants.{Going};
 ghost use Rattle.ctd_syntax.specs.View.{command_trees};
 ghost use Rattle.ctd_check.specs.Run.{meaning};
 ghost use Rattle.ctd_check.specs.Checks.{FindsMeaning, IsAhead};
+ghost use Rattle.ctd_check.specs.Failures.{Concludes};
 
+use crate::agenda::Agenda;
+use crate::failure::Halt;
+use crate::machine::Run;
 use crate::outcome::{Checked, Limits, Mode, Outcome};
 use crate::plan::Plan;
 use crate::run::run_program;
 use ctd_source::{Cursor, Source};
 use ctd_syntax::Presets;
+use ctd_value::Store;
 use std::alloc::{AllocError, Global};
 
-/// Checks what a source gives against the program of a plan, once and forward: the program's meaning on the whole data.
+/// The outcome of a run that came to its end; the error is for a run that ran out of memory, and for no other.
+fn outcome_of(ended: Result<(), Halt>) -> Result<Outcome, AllocError>
+    ensures outcome { IfOk result (λ outcome. Concludes ended outcome) }
+    ensures memory { OnErr result (ended ≡ Err Halt.Memory) }
+{
+    match ended {
+        Ok(()) => Ok(Outcome::Accepted),
+        Err(Halt::Ended(outcome)) => Ok(outcome),
+        Err(Halt::Memory) => Err(AllocError),
+    }
+}
+
+/// Checks what a source gives against the program of a plan, once and forward: the program's meaning on the whole data,
+/// with the presets pinned.
 ///
 /// The source is read only as far as the program needs, at most a window ahead of what is consumed. Every program, data
 /// and limits get an answer; the only error is want of memory.
@@ -30,22 +48,28 @@ pub fn check<D: Source>(
     ensures given { IfOk result (λ checked. D.given testdata.new ≡ D.given testdata.old + checked.taken) }
     ensures seen { IfOk result (λ checked. checked.seen ≡ D.seen testdata.new) }
     ensures ahead { IfOk result IsAhead }
+    ensures within { IfOk result (λ checked. checked.taken ≤ limits.bytes + 1) }
+    ensures bounded { IfOk result (λ checked. checked.steps ≤ limits.steps) }
 {
-    let Mode::Exact = mode;
-    let _pins = presets.pins();
-    let mut cursor = Cursor::start(alloc, testdata, limits.bytes)?;
-    let mut left = limits.steps;
-    let outcome = match run_program(plan.commands(), &mut cursor, &mut left) {
-        Ok(()) => Outcome::Accepted,
-        Err(outcome) => outcome,
+    let store = Store::new(alloc, presets)?;
+    let mut matchers = plan.matchers(alloc)?;
+    let cursor = Cursor::start(alloc, testdata, limits.bytes)?;
+    let mut run = Run {
+        alloc,
+        cursor,
+        store,
+        mode,
     };
+    let mut agenda = Agenda::new(plan.commands(), limits.steps);
+    let ended = run_program(&mut run, &mut agenda, &mut matchers);
+    let outcome = outcome_of(ended)?;
     let checked = Checked {
         outcome,
-        steps: limits.steps - left,
-        consumed: cursor.spot().offset,
-        taken: cursor.taken(),
-        seen: cursor.seen(),
+        steps: limits.steps - agenda.left(),
+        consumed: run.cursor.spot().offset,
+        taken: run.cursor.taken(),
+        seen: run.cursor.seen(),
     };
-    let _source = cursor.into_source();
+    let _source = run.into_source();
     Ok(checked)
 }

@@ -92,14 +92,16 @@ impl Digits {
         ensures count { result ≡ prefix_len is_ascii_digit bytes.now }
         ensures seen { (digits : List ℕ) → AreSeen self.old digits → AreSeen self.new (digits ++ take result bytes.now) }
     {
+        let mut seen = *self;
         let mut count = 0;
         for byte in bytes {
             if !byte.is_ascii_digit() {
                 break;
             }
-            self.push(*byte);
+            seen.push(*byte);
             count += 1;
         }
+        *self = seen;
         count
     }
 

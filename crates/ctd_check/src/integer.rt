@@ -2,13 +2,16 @@
 ghost use Rattle.std.specs.Prelude.{◌≡◌, OnOk, None};
 ghost use Rattle.ctd_source.specs.Sight.{sight};
 ghost use Rattle.ctd_source.specs.Follow.{Goes};
-ghost use Rattle.ctd_check.specs.Effect.{integer};
+ghost use Rattle.ctd_syntax.specs.View.{expr_tree, target};
+ghost use Rattle.ctd_check.specs.Effect.{int, integer};
 ghost use Rattle.ctd_check.specs.Passing.{PassesMinus, PassesDigits};
-ghost use Rattle.ctd_check.specs.Steps.{Does};
+ghost use Rattle.ctd_check.specs.Performs.{IsSound, Performs};
 
 use crate::digits::Digits;
-use crate::refusal::Refusal;
+use crate::failure::CommandFailure;
+use crate::machine::Run;
 use ctd_source::{Cursor, LookFault, Source};
+use ctd_syntax::{Expr, Var};
 
 /// Passes a minus, where one is next, and tells whether it was.
 fn pass_minus<D: Source>(cursor: &mut Cursor<'_, D>) -> Result<bool, LookFault>
@@ -50,26 +53,34 @@ fn pass_digits<D: Source>(digits: &mut Digits, cursor: &mut Cursor<'_, D>) -> Re
     }
 }
 
-/// Passes the longest prefix of the form of an integer and judges it.
-pub(crate) fn integer<D: Source>(
-    least: i128,
-    most: i128,
-    cursor: &mut Cursor<'_, D>,
-) -> Result<(), Refusal>
-    requires sound { (sight cursor.old).fault ≡ None }
-    ensures sound { OnOk result ((sight cursor.new).fault ≡ None) }
-    ensures effect { Goes cursor.old cursor.new (λ d. Does result (sight cursor.old).spot.offset (sight cursor.new).spot.offset (integer least most d (sight cursor.old).spot.offset)) }
-{
-    let is_negative = match pass_minus(cursor) {
-        Ok(is_negative) => is_negative,
-        Err(fault) => return Err(Refusal::from(fault)),
-    };
-    let mut digits = Digits::none();
-    if let Err(fault) = pass_digits(&mut digits, cursor) {
-        return Err(Refusal::from(fault));
+impl<'d, D: Source> Run<'d, D> {
+    /// INT: evaluates both bounds, then passes an integer between them and keeps it in its variable, if there is one.
+    pub(crate) fn int(
+        &mut self,
+        low: &Expr,
+        high: &Expr,
+        var: &Option<Var>,
+    ) -> Result<(), CommandFailure>
+        requires sound { IsSound self.old }
+        ensures performs { Performs self.old self.new result (int (expr_tree low.now) (expr_tree high.now) (target var.now)) }
+    {
+        let least = self.number(low)?;
+        let most = self.number(high)?;
+        let n = self.integer(least, most)?;
+        self.keep(var, n)
     }
-    match digits.judge(least, most, is_negative) {
-        Ok(_value) => Ok(()),
-        Err(reason) => Err(Refusal::Rejected(reason)),
+
+    /// Passes the longest prefix of the form of an integer and judges it.
+    fn integer(&mut self, least: i128, most: i128) -> Result<i128, CommandFailure>
+        requires sound { IsSound self.old }
+        ensures performs { Performs self.old self.new result (integer least most) }
+    {
+        let is_negative = pass_minus(&mut self.cursor)?;
+        let mut digits = Digits::none();
+        pass_digits(&mut digits, &mut self.cursor)?;
+        match digits.judge(least, most, is_negative) {
+            Ok(n) => Ok(n),
+            Err(reason) => Err(CommandFailure::Rejected(reason)),
+        }
     }
 }

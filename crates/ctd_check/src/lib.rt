@@ -1,15 +1,26 @@
 //! What a check of data against a program answers.
 #![tactic(auto)]
 
+mod agenda;
+mod assignment;
+mod blanks;
 mod byte;
 mod checking;
+mod command;
 mod digits;
-mod gate;
+mod evaluate;
+mod failure;
+mod frame;
 mod integer;
+pub mod laws;
+mod literals;
+mod loops;
+mod machine;
 mod outcome;
 mod plan;
-mod refusal;
+mod regex;
 mod run;
+mod string;
 mod text;
 
 pub use checking::check;

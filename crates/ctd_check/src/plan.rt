@@ -1,13 +1,19 @@
 //! A program that was read, as it is run.
-ghost use Rattle.std.specs.Prelude.{◌≡◌, ◌≤◌, true, None, length, IfOk};
+ghost use Rattle.std.specs.Prelude.{◌≡◌, ◌≢◌, ◌≤◌, None, Some, length, IfOk, IfErr};
 ghost use Rattle.ctd_source.specs.declared.source.Seen.TheVariants.{Going};
 ghost use Rattle.ctd_token.specs.declared.limits.TheConstants.{PROGRAM_LIMIT};
-ghost use Rattle.ctd_check.specs.Runnable.{are_runnable};
+ghost use Rattle.ctd_syntax.specs.Tree.{list_blocks};
+ghost use Rattle.ctd_syntax.specs.View.{command_trees};
+ghost use Rattle.ctd_syntax.specs.Numbering.{IsNumbered, literals};
+ghost use Rattle.ctd_check.specs.Known.{texts_of};
+ghost use Rattle.ctd_check.specs.Literals.{literals_at};
+ghost use Rattle.ctd_check.specs.Loading.{ArePatterns, IsBadPattern};
 
-use crate::gate::first_unready;
+use crate::literals::literals_of;
 use crate::text::fill;
+use ctd_pattern::{Matcher, Pattern, PatternFault};
 use ctd_source::Source;
-use ctd_syntax::{Command, LoadFault, LoadKind, PROGRAM_LIMIT, Program, parse};
+use ctd_syntax::{Command, LoadFault, LoadKind, PROGRAM_LIMIT, PatternLiteral, Program, parse};
 use std::alloc::{AllocError, Global};
 use std::marker::Model;
 
@@ -15,7 +21,11 @@ use std::marker::Model;
 #[derive(Debug, Drop)]
 pub struct Plan {
     program: Program,
-    ghost runnable: { are_runnable program ≡ true },
+    /// The patterns of its literals, in the order of the text, so that each stands at its literal's number.
+    patterns: Vec<Pattern>,
+    ghost shallow: { list_blocks (command_trees program) ≤ 200 },
+    ghost numbered: { IsNumbered (command_trees program) },
+    ghost built: { patterns.items ≡ texts_of (literals (command_trees program)) },
 }
 
 impl Model for Plan {
@@ -38,41 +48,102 @@ fn room_for(alloc: Global, count: usize) -> Result<Vec<u8>, AllocError>
     vec![in alloc; 0; count]
 }
 
+/// The fault of a literal of which no pattern was built.
+fn pattern_fault(literal: &PatternLiteral, fault: PatternFault) -> LoadFault
+    ensures bad { fault ≢ PatternFault.Memory → result ≡ record { kind = LoadKind.BadPattern; place = Some literal.now.place } }
+    ensures memory { fault ≡ PatternFault.Memory → result ≡ record { kind = LoadKind.Memory; place = None } }
+{
+    match fault {
+        PatternFault::NotText | PatternFault::NotPattern | PatternFault::TooLarge => LoadFault {
+            kind: LoadKind::BadPattern,
+            place: Some(literal.place),
+        },
+        PatternFault::Memory => LoadFault {
+            kind: LoadKind::Memory,
+            place: None,
+        },
+    }
+}
+
+/// Builds the patterns of literals, in order.
+fn build_all(alloc: Global, literals: &[&PatternLiteral]) -> Result<Vec<Pattern>, LoadFault>
+    ensures built { IfOk result (λ patterns. patterns.items ≡ texts_of (literals_at literals.now)) }
+    ensures are_patterns { IfOk result (λ _. ArePatterns (literals_at literals.now)) }
+    ensures bad { IfErr result (λ fault. fault.kind ≢ LoadKind.Memory → IsBadPattern (literals_at literals.now) fault) }
+    ensures memory { IfErr result (λ fault. fault.kind ≡ LoadKind.Memory → fault.place ≡ None) }
+{
+    let mut patterns = Vec::new(alloc);
+    for literal in literals {
+        match Pattern::read(alloc, literal.bytes.as_slice()) {
+            Ok(pattern) => patterns.push(pattern)?,
+            Err(fault) => return Err(pattern_fault(literal, fault)),
+        }
+    }
+    Ok(patterns)
+}
+
+/// Builds the patterns of commands, in the order of the text.
+fn patterns_in(alloc: Global, commands: &[Command]) -> Result<Vec<Pattern>, LoadFault>
+    ensures built { IfOk result (λ patterns. patterns.items ≡ texts_of (literals (command_trees commands.now))) }
+    ensures are_patterns { IfOk result (λ _. ArePatterns (literals (command_trees commands.now))) }
+    ensures bad { IfErr result (λ fault. fault.kind ≢ LoadKind.Memory → IsBadPattern (literals (command_trees commands.now)) fault) }
+    ensures memory { IfErr result (λ fault. fault.kind ≡ LoadKind.Memory → fault.place ≡ None) }
+{
+    let found = literals_of(alloc, commands)?;
+    build_all(alloc, found.as_slice())
+}
+
+/// What searches for each pattern, in order.
+fn matchers_of(alloc: Global, patterns: &[Pattern]) -> Result<Vec<Matcher<'_>>, AllocError>
+    ensures same { IfOk result (λ matchers. matchers.items ≡ patterns.now) }
+{
+    let mut matchers = Vec::new(alloc);
+    for pattern in patterns {
+        let matcher = pattern.matcher(alloc)?;
+        matchers.push(matcher)?;
+    }
+    Ok(matchers)
+}
+
 impl Plan {
-    ghost use Rattle.ctd_syntax.specs.View.{command_trees};
+    ghost use Rattle.ctd_check.specs.Known.{AreAmong};
     ghost use Rattle.ctd_check.specs.Loading.{LoadsFrom, TextLoadsAs};
 
-    /// The commands, each of which can be run.
+    /// The commands, with at most 200 blocks open at each.
     pub(crate) fn commands(&self) -> &[Command]
         ensures whole { result.now ≡ self.now }
-        ensures runnable { are_runnable result.now ≡ true }
+        ensures shallow { list_blocks (command_trees result.now) ≤ 200 }
     {
         self.program.commands()
+    }
+
+    /// What searches for each of its patterns, in their order, with tables that no earlier search has filled.
+    pub(crate) fn matchers(&self, alloc: Global) -> Result<Vec<Matcher<'_>>, AllocError>
+        ensures numbered { IfOk result (λ matchers. AreAmong matchers.items (literals (command_trees self.now))) }
+    {
+        matchers_of(alloc, self.patterns.as_slice())
     }
 
     /// What a text is that came whole.
     fn read(alloc: Global, text: &[u8]) -> Result<Plan, LoadFault>
         requires { length text.now ≤ PROGRAM_LIMIT }
         ensures loads { TextLoadsAs command_trees result text.now }
+        ensures memory { IfErr result (λ fault. fault.kind ≡ LoadKind.Memory → fault.place ≡ None) }
     {
         let program = parse(alloc, text)?;
-        match first_unready(program.commands()) {
-            None => Ok(Plan { program }),
-            Some(place) => Err(LoadFault {
-                kind: LoadKind::NotInProfile,
-                place: Some(place),
-            }),
-        }
+        let patterns = patterns_in(alloc, program.commands())?;
+        Ok(Plan { program, patterns })
     }
 
     /// Reads a program to its end: the commands that its text is.
     ///
     /// The source is read until it ends, until a read fails (`Read`), or until a byte more than a program may have came
-    /// (`ProgramTooLong`). The text is then read as `ctd_syntax::parse` reads it. A program with a command that can't be run
-    /// yet is `NotInProfile`, at the first such command: those of today are SPACE, NEWLINE, EOF and INT with two bounds.
+    /// (`ProgramTooLong`). The text is then read as `ctd_syntax::parse` reads it. A literal of REGEX that is not UTF-8, or of which
+    /// `regex` builds no pattern though it has the memory, is `BadPattern`, at its place; the first of them counts.
     pub fn load<P: Source>(alloc: Global, program: &mut P) -> Result<Plan, LoadFault>
         requires { P.seen program.old ≡ Going }
         ensures loads { LoadsFrom command_trees P.Source program.old program.new result }
+        ensures memory { IfErr result (λ fault. fault.kind ≡ LoadKind.Memory → fault.place ≡ None) }
     {
         let Ok(mut room) = room_for(alloc, PROGRAM_LIMIT + 1) else {
             return Err(LoadFault {

@@ -1,132 +1,179 @@
-//! The run of a program: its commands one after the other, each for one step, and then the end of the data.
-ghost use Rattle.std.specs.Prelude.{true, ◌≡◌, ◌≤◌, ◌+◌, ◌∷◌, ◌++◌, [], List, OnOk, IfErr, None};
-ghost use Rattle.ctd_source.specs.Sight.{sight};
-ghost use Rattle.ctd_source.specs.Follow.{Goes};
-ghost use Rattle.ctd_syntax.specs.View.{expr_tree, command_tree};
-ghost use Rattle.ctd_check.specs.Effect.{bound, effect};
-ghost use Rattle.ctd_check.specs.Run.{Task, start, finish, run};
-ghost use Rattle.ctd_check.specs.Runnable.{is_bound, is_runnable, are_runnable};
-ghost use Rattle.ctd_check.specs.Steps.{Follows, listed, Does, at_limit};
+//! The run of a program: its tasks one after the other, each for one step.
+ghost use Rattle.std.specs.Prelude.{◌≡◌, ◌≤◌, ◌<◌, ◌+◌, ◌*◌, ◌^◌, ◌∷◌, ◌++◌, [], length, OnOk, IfSome, Some};
+ghost use Rattle.ctd_syntax.specs.Tree.{blocks, list_blocks};
+ghost use Rattle.ctd_syntax.specs.View.{command_tree};
+ghost use Rattle.ctd_check.specs.Known.{AreKnown};
+ghost use Rattle.ctd_check.specs.Loops.{start, turn, separated};
+ghost use Rattle.ctd_check.specs.Pending.{to_do, frame_tasks, frame_blocks, lap_blocks, lap_turn, loop_in, separator_in, separator_tasks};
+ghost use Rattle.ctd_check.specs.Performs.{IsSound, Advances, Ends, EndsAs, state};
+ghost use Rattle.ctd_check.specs.Run.{run_from};
 
-use crate::byte::{end, one_byte};
-use crate::integer::integer;
-use crate::outcome::{Fault, Outcome, Reason, Site};
-use crate::refusal::Refusal;
-use ctd_source::{Cursor, Source, Spot};
-use ctd_syntax::{Action, Command, Expr};
-
-/// Pays a step, or tells how the run ends where none is left.
-fn pay(spot: Spot, place: Site, left: &mut u64) -> Result<(), Outcome>
-    ensures paid { OnOk result (left.old ≡ left.new + 1) }
-    ensures limit { IfErr result (λ outcome. outcome ≡ at_limit spot place) }
-    ensures none { IfErr result (λ _. (left.old ≡ 0) × (left.new ≡ 0)) }
-    ensures spent { left.new ≤ left.old }
-{
-    match left.checked_sub(1) {
-        Some(rest) => {
-            *left = rest;
-            Ok(())
-        }
-        None => Err(Outcome::Stopped {
-            spot,
-            place,
-            fault: Fault::StepLimit,
-        }),
-    }
-}
-
-/// What a bound is worth.
-fn bound(e: &Expr) -> i128
-    requires { is_bound (expr_tree e.now) ≡ true }
-    ensures { result ≡ bound (expr_tree e.now) }
-{
-    match e {
-        Expr::Numeral(n) => *n,
-        Expr::Minus(inner) => match &**inner {
-            Expr::Numeral(n) => -*n,
-            _ => unreachable!(),
-        },
-        _ => unreachable!(),
-    }
-}
-
-/// Does a command whose step is paid.
-fn perform<D: Source>(command: &Command, cursor: &mut Cursor<'_, D>) -> Result<(), Refusal>
-    requires sound { (sight cursor.old).fault ≡ None }
-    requires runnable { is_runnable (command_tree command.now) ≡ true }
-    ensures sound { OnOk result ((sight cursor.new).fault ≡ None) }
-    ensures effect { Goes cursor.old cursor.new (λ d. Does result (sight cursor.old).spot.offset (sight cursor.new).spot.offset (effect d (command_tree command.now) (sight cursor.old).spot.offset)) }
-{
-    match &command.action {
-        Action::Space => one_byte(b' ', Reason::ExpectedSpace, cursor),
-        Action::Newline => one_byte(b'\n', Reason::ExpectedNewline, cursor),
-        Action::Eof => end(cursor),
-        Action::Int(low, high, _target) => {
-            let least = bound(low);
-            let most = bound(high);
-            integer(least, most, cursor)
-        }
-        _ => unreachable!(),
-    }
-}
+use crate::agenda::Agenda;
+use crate::failure::Halt;
+use crate::frame::{Frame, Lap};
+use crate::machine::Run;
+use crate::outcome::Site;
+use ctd_pattern::Matcher;
+use ctd_source::Source;
+use ctd_syntax::Command;
 
 /// Starts a command.
-fn begin<D: Source>(
-    command: &Command,
-    cursor: &mut Cursor<'_, D>,
-    left: &mut u64,
-) -> Result<(), Outcome>
-    requires sound { (sight cursor.old).fault ≡ None }
-    requires runnable { is_runnable (command_tree command.now) ≡ true }
-    ensures sound { OnOk result ((sight cursor.new).fault ≡ None) }
-    ensures spent { left.new ≤ left.old }
-    ensures run { Goes cursor.old cursor.new (λ d. (rest : List Task) → Follows d result left.new (sight cursor.new).spot.offset rest
-        (run d left.old (start (command_tree command.now) ∷ rest) (sight cursor.old).spot.offset)) }
+fn begin<'p, D: Source>(
+    command: &'p Command,
+    run: &mut Run<'_, D>,
+    agenda: &mut Agenda<'p>,
+    matchers: &mut [Matcher<'_>],
+) -> Result<(), Halt>
+    requires sound { IsSound run.old }
+    requires room { length agenda.old.frames.items + blocks (command_tree command.now) ≤ 201 }
+    requires known { AreKnown matchers.old (start (command_tree command.now) ∷ to_do agenda.old.frames.items) }
+    ensures spent { agenda.new.left ≤ agenda.old.left }
+    ensures less { OnOk result (2 * agenda.new.left + length agenda.new.frames.items < 2 * agenda.old.left + length agenda.old.frames.items) }
+    ensures advances { Advances run.old run.new agenda.old.left (start (command_tree command.now) ∷ to_do agenda.old.frames.items) agenda.new result }
+    ensures known { OnOk result (AreKnown matchers.new (to_do agenda.new.frames.items)) }
+    ensures kept { matchers.new ≡ matchers.old }
 {
-    let spot = cursor.spot();
+    let spot = run.cursor.spot();
     let place = Site::At(command.place);
-    if let Err(outcome) = pay(spot, place, left) {
-        return Err(outcome);
+    agenda.pay(spot, place)?;
+    match run.start(command, matchers) {
+        Ok(frame) => {
+            agenda.leave(frame);
+            Ok(())
+        }
+        Err(failure) => Err(failure.halt(spot, place)),
     }
-    match perform(command, cursor) {
-        Ok(()) => Ok(()),
-        Err(refusal) => Err(refusal.outcome(spot, place)),
+}
+
+/// The separator before a turn, which the first turn lacks.
+fn separator_before<'p>(lap: Lap<'p>) -> Option<&'p Command>
+    ensures tasks { separated lap.entry.turn (separator_in lap.entry.between) ≡ separator_tasks result }
+    ensures blocks { IfSome result (λ c. blocks (command_tree c.now) ≤ lap_blocks (Some lap.entry)) }
+{
+    if lap.turn == 0 {
+        return None;
+    }
+    lap.between
+}
+
+/// A turn of a loop.
+fn begin_turn<'p, D: Source>(
+    lap: Lap<'p>,
+    run: &mut Run<'_, D>,
+    agenda: &mut Agenda<'p>,
+    matchers: &mut [Matcher<'_>],
+) -> Result<(), Halt>
+    requires sound { IsSound run.old }
+    requires room { length agenda.old.frames.items + 1 + lap_blocks (Some lap) ≤ 201 }
+    requires known { AreKnown matchers.old (turn (loop_in lap) lap.turn ∷ to_do agenda.old.frames.items) }
+    requires turn { lap.turn + agenda.old.left + 1 ≤ 2 ^ 64 }
+    ensures spent { agenda.new.left ≤ agenda.old.left }
+    ensures less { OnOk result (2 * agenda.new.left + length agenda.new.frames.items < 2 * agenda.old.left + length agenda.old.frames.items + 1) }
+    ensures advances { Advances run.old run.new agenda.old.left (turn (loop_in lap.entry) lap.entry.turn ∷ to_do agenda.old.frames.items) agenda.new result }
+    ensures known { OnOk result (AreKnown matchers.new (to_do agenda.new.frames.items)) }
+    ensures kept { matchers.new ≡ matchers.old }
+{
+    let spot = run.cursor.spot();
+    let site = Site::At(lap.place);
+    agenda.pay(spot, site)?;
+    match run.take_turn(lap) {
+        Ok(true) => {
+            let next = Lap {
+                turn: lap.turn + 1,
+                ..lap
+            };
+            agenda.push(Frame {
+                rest: lap.body,
+                lap: Some(next),
+            });
+            match separator_before(lap) {
+                Some(command) => begin(command, run, agenda, matchers),
+                None => Ok(()),
+            }
+        }
+        Ok(false) => Ok(()),
+        Err(failure) => Err(failure.halt(spot, site)),
+    }
+}
+
+/// Does the next thing of the topmost frame.
+fn advance<'p, D: Source>(
+    frame: Frame<'p>,
+    run: &mut Run<'_, D>,
+    agenda: &mut Agenda<'p>,
+    matchers: &mut [Matcher<'_>],
+) -> Result<(), Halt>
+    requires sound { IsSound run.old }
+    requires room { length agenda.old.frames.items + 1 + frame_blocks frame ≤ 201 }
+    requires known { AreKnown matchers.old (frame_tasks frame ++ to_do agenda.old.frames.items) }
+    requires turn { lap_turn frame.lap + agenda.old.left + 1 ≤ 2 ^ 64 }
+    ensures spent { agenda.new.left ≤ agenda.old.left }
+    ensures less { OnOk result (2 * agenda.new.left + length agenda.new.frames.items < 2 * agenda.old.left + length agenda.old.frames.items + 1) }
+    ensures advances { Advances run.old run.new agenda.old.left (frame_tasks frame.entry ++ to_do agenda.old.frames.items) agenda.new result }
+    ensures known { OnOk result (AreKnown matchers.new (to_do agenda.new.frames.items)) }
+    ensures kept { matchers.new ≡ matchers.old }
+{
+    match frame.rest.split_first() {
+        Some((command, rest)) => {
+            agenda.push(Frame {
+                rest,
+                lap: frame.lap,
+            });
+            begin(command, run, agenda, matchers)
+        }
+        None => match frame.lap {
+            Some(lap) => begin_turn(lap, run, agenda, matchers),
+            None => Ok(()),
+        },
     }
 }
 
 /// The end of the data, which stands at the end of every program.
-fn conclude<D: Source>(cursor: &mut Cursor<'_, D>, left: &mut u64) -> Result<(), Outcome>
-    requires sound { (sight cursor.old).fault ≡ None }
-    ensures spent { left.new ≤ left.old }
-    ensures run { Goes cursor.old cursor.new (λ d. Follows d result left.new (sight cursor.new).spot.offset []
-        (run d left.old (finish ∷ []) (sight cursor.old).spot.offset)) }
+fn conclude<D: Source>(run: &mut Run<'_, D>, agenda: &mut Agenda<'_>) -> Result<(), Halt>
+    requires sound { IsSound run.old }
+    requires done { agenda.old.frames.items ≡ [] }
+    ensures spent { agenda.new.left ≤ agenda.old.left }
+    ensures ends { Ends run.old run.new agenda.old.left (to_do agenda.old.frames.items) agenda.new.left result }
 {
-    let spot = cursor.spot();
-    if let Err(outcome) = pay(spot, Site::Finish, left) {
-        return Err(outcome);
-    }
-    match end(cursor) {
+    let spot = run.cursor.spot();
+    agenda.pay(spot, Site::Finish)?;
+    match run.end() {
         Ok(()) => Ok(()),
-        Err(refusal) => Err(refusal.outcome(spot, Site::Finish)),
+        Err(failure) => Err(failure.halt(spot, Site::Finish)),
     }
 }
 
-/// Runs a program from the next byte on, with so many steps left.
-pub(crate) fn run_program<D: Source>(
-    commands: &[Command],
-    cursor: &mut Cursor<'_, D>,
-    left: &mut u64,
-) -> Result<(), Outcome>
-    requires sound { (sight cursor.old).fault ≡ None }
-    requires runnable { are_runnable commands.now ≡ true }
-    ensures spent { left.new ≤ left.old }
-    ensures run { Goes cursor.old cursor.new (λ d. Follows d result left.new (sight cursor.new).spot.offset []
-        (run d left.old (listed commands.now ++ finish ∷ []) (sight cursor.old).spot.offset)) }
+/// Runs what is to be done, to its end.
+fn run_tasks<D: Source>(
+    run: &mut Run<'_, D>,
+    agenda: &mut Agenda<'_>,
+    matchers: &mut [Matcher<'_>],
+) -> Result<(), Halt>
+    requires sound { IsSound run.old }
+    requires known { AreKnown matchers.old (to_do agenda.old.frames.items) }
+    ensures spent { agenda.new.left ≤ agenda.old.left }
+    ensures ends { Ends run.old run.new agenda.old.left (to_do agenda.old.frames.items) agenda.new.left result }
 {
-    for command in commands {
-        if let Err(outcome) = begin(command, cursor, left) {
-            return Err(outcome);
-        }
+    while let Some(frame) = agenda.pop() {
+        advance(frame, run, agenda, matchers)?;
     }
-    conclude(cursor, left)
+    conclude(run, agenda)
+}
+
+/// Runs a whole program: what stands before its first command, and then its tasks.
+pub(crate) fn run_program<D: Source>(
+    run: &mut Run<'_, D>,
+    agenda: &mut Agenda<'_>,
+    matchers: &mut [Matcher<'_>],
+) -> Result<(), Halt>
+    requires sound { IsSound run.old }
+    requires known { AreKnown matchers.old (to_do agenda.old.frames.items) }
+    ensures spent { agenda.new.left ≤ agenda.old.left }
+    ensures ends { EndsAs run.old run.new (λ d. run_from d agenda.old.left (to_do agenda.old.frames.items) (state run.old)) agenda.new.left result }
+{
+    let spot = run.cursor.spot();
+    match run.first_skip() {
+        Ok(()) => run_tasks(run, agenda, matchers),
+        Err(failure) => Err(failure.halt(spot, Site::Start)),
+    }
 }

@@ -281,7 +281,7 @@ mutual
   command_holds ts u (Grammar.int {ts = ws} {us} {vs} {at} i j k) =
       no_blocks ts (called words.Int at ((ws ++ mark Comma ∷ us) ++ vs) refl (ends_over (ws ++ mark Comma ∷ us) vs (even_over ws us (mark Comma) (λ c cs. (0, refl)) (expr_even ws _ i) (expr_even us _ j)) (target_ends vs _ k)))
   command_holds ts u (Grammar.string {ts = us} {at} i) = no_blocks ts (asked words.String at us refl (expr_even us _ i))
-  command_holds ts u (Grammar.regex {vs} {pattern} {at} {literal_at} k) = no_blocks ts (called words.Regex at (Lexeme.text pattern literal_at ∷ vs) refl (ends_behind (Lexeme.text pattern literal_at) vs (λ c cs. (c, refl)) (target_ends vs _ k)))
+  command_holds ts u (Grammar.regex {vs} {literal} {at} k) = no_blocks ts (called (words.Regex literal.number) at (Lexeme.text literal.bytes literal.place ∷ vs) refl (ends_behind (Lexeme.text literal.bytes literal.place) vs (λ c cs. (c, refl)) (target_ends vs _ k)))
   command_holds ts u (Grammar.assert {ts = us} {at} i) = no_blocks ts (asked words.Assert at us refl (test_even us _ i))
   command_holds ts u (Grammar.set {ts = us} {at} i) = no_blocks ts (asked words.Set at us refl (assignments_even us _ i))
   command_holds ts u (Grammar.unset {ts = us} {at} i) = no_blocks ts (asked words.Unset at us refl (names_even us _ i))

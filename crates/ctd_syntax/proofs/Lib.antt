@@ -14,5 +14,6 @@ pub mod Conditions
 pub mod Targets
 pub mod CommandReads
 pub mod Blocks
+pub mod Numbers
 pub mod Parsing
 pub mod TestGroups

@@ -17,7 +17,7 @@ is_command_word words.Newline = true
 is_command_word words.Eof = true
 is_command_word words.Int = true
 is_command_word words.String = true
-is_command_word words.Regex = true
+is_command_word (words.Regex number) = true
 is_command_word words.Assert = true
 is_command_word words.Set = true
 is_command_word words.Unset = true
@@ -69,7 +69,7 @@ Behind words.Newline at ts u = (ts ≡ []) × (u ≡ Tree.newline at)
 Behind words.Eof at ts u = (ts ≡ []) × (u ≡ Tree.eof at)
 Behind words.Int at ts u = IsBuilt (λ x. Tree.int at x.0 x.1.0 x.1.1) (IsAfter Open (IsPair (IsBefore Comma IsExpr) (IsPair IsExpr IsTargetEnd))) ts u
 Behind words.String at ts u = IsBuilt (Tree.string at) (IsAfter Open (IsBefore Close IsExpr)) ts u
-Behind words.Regex at ts u = IsBuilt (λ x. Tree.regex at x.0.0 x.0.1 x.1) (IsAfter Open (IsPair IsPattern IsTargetEnd)) ts u
+Behind (words.Regex number) at ts u = IsBuilt (λ x. Tree.regex at (record { number = number; bytes = x.0.0; place = x.0.1 }) x.1) (IsAfter Open (IsPair IsPattern IsTargetEnd)) ts u
 Behind words.Assert at ts u = IsBuilt (Tree.assert at) (IsAfter Open (IsBefore Close IsTest)) ts u
 Behind words.Set at ts u = IsBuilt (Tree.set at) (IsAfter Open (IsBefore Close IsAssignments)) ts u
 Behind words.Unset at ts u = IsBuilt (Tree.unset at) (IsAfter Open (IsBefore Close IsNames)) ts u

@@ -6,6 +6,7 @@ use Rattle.ctd_token.specs.declared.token.Mark.TheVariants as marks
 use Rattle.ctd_token.specs.declared.token.Mark.TheVariants.{Open, Close, OpenIndex, CloseIndex, Comma, Assign, Plus, Minus, Times, Divide, Percent, Caret, Bang, AndAnd, OrOr}
 use Rattle.ctd_syntax.specs.declared.keyword.Keyword.TheVariants as words
 use Rattle.ctd_syntax.specs.declared.tree.Compare.{Compare}
+use Rattle.ctd_syntax.specs.declared.tree.PatternLiteral.{PatternLiteral}
 use Rattle.ctd_syntax.specs.declared.tree.Compare.TheVariants as comparisons
 use Rattle.ctd_syntax.specs.Lexeme.{Lexeme, mark, keyword}
 use Rattle.ctd_syntax.specs.Tree
@@ -119,7 +120,7 @@ mutual
     eof : {at : Place} → IsCommand (keyword words.Eof at ∷ []) (Tree.eof at)
     int : {ts us vs : List Lexeme} {low high : ExprTree} {target : Option VarTree} {at : Place} → IsExpr ts low → IsExpr us high → IsTargetEnd vs target → IsCommand (keyword words.Int at ∷ mark Open ∷ ts ++ mark Comma ∷ us ++ vs) (Tree.int at low high target)
     string : {ts : List Lexeme} {e : ExprTree} {at : Place} → IsExpr ts e → IsCommand (keyword words.String at ∷ mark Open ∷ ts ++ mark Close ∷ []) (Tree.string at e)
-    regex : {vs : List Lexeme} {pattern : List ℕ} {target : Option VarTree} {at literal_at : Place} → IsTargetEnd vs target → IsCommand (keyword words.Regex at ∷ mark Open ∷ Lexeme.text pattern literal_at ∷ vs) (Tree.regex at pattern literal_at target)
+    regex : {vs : List Lexeme} {literal : PatternLiteral} {target : Option VarTree} {at : Place} → IsTargetEnd vs target → IsCommand (keyword (words.Regex literal.number) at ∷ mark Open ∷ Lexeme.text literal.bytes literal.place ∷ vs) (Tree.regex at literal target)
     assert : {ts : List Lexeme} {t : TestTree} {at : Place} → IsTest ts t → IsCommand (keyword words.Assert at ∷ mark Open ∷ ts ++ mark Close ∷ []) (Tree.assert at t)
     set : {ts : List Lexeme} {assignments : List (VarTree × ExprTree)} {at : Place} → IsAssignments ts assignments → IsCommand (keyword words.Set at ∷ mark Open ∷ ts ++ mark Close ∷ []) (Tree.set at assignments)
     unset : {ts : List Lexeme} {names : List (List ℕ)} {at : Place} → IsNames ts names → IsCommand (keyword words.Unset at ∷ mark Open ∷ ts ++ mark Close ∷ []) (Tree.unset at names)

@@ -25,7 +25,7 @@ keyword_of w =
     else if bytes_eq w (codes "EOF") then words.Eof
     else if bytes_eq w (codes "INT") then words.Int
     else if bytes_eq w (codes "STRING") then words.String
-    else if bytes_eq w (codes "REGEX") then words.Regex
+    else if bytes_eq w (codes "REGEX") then words.Regex 0
     else if bytes_eq w (codes "ASSERT") then words.Assert
     else if bytes_eq w (codes "SET") then words.Set
     else if bytes_eq w (codes "UNSET") then words.Unset
@@ -58,3 +58,23 @@ lexeme_by (tokens.Mark m) span place = mark m
 -- what the grammar sees of a token of a program
 abbrev pub lexeme_of : List ℕ → Token → Lexeme
 lexeme_of program t = lexeme_by t.kind (span_of program t) t.place
+
+-- a word REGEX with this number, and any other word as it is
+abbrev pub numbered_word : ℕ → Keyword → Keyword
+numbered_word n (words.Regex before) = words.Regex n
+numbered_word n k = k
+
+-- the same of a token
+abbrev pub with_number : ℕ → Lexeme → Lexeme
+with_number n (keyword k place) = keyword (numbered_word n k) place
+with_number n t = t
+
+-- how many words REGEX a word is
+abbrev pub word_count : Keyword → ℕ
+word_count (words.Regex before) = 1
+word_count _ = 0
+
+-- how many a token is
+abbrev pub regex_count : Lexeme → ℕ
+regex_count (keyword k place) = word_count k
+regex_count _ = 0

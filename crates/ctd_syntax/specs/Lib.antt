@@ -5,6 +5,7 @@ pub mod Tree
 pub mod View
 pub mod Grammar
 pub mod Nesting
+pub mod Numbering
 pub mod Reading
 pub mod Examples
 pub mod Front

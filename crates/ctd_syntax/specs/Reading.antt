@@ -1,20 +1,25 @@
 -- What reading the text of a program gives.
-use Rattle.std.specs.Prelude.{◌≡◌, ◌<◌, ◌≤◌, ℕ, List, length, map, slice_get, option_map, Option, Some, None}
+use Rattle.std.specs.Prelude.{◌≡◌, ◌+◌, ◌<◌, ◌≤◌, ℕ, List, [], ◌∷◌, length, slice_get, option_map, Option, Some, None}
 use Rattle.ctd_token.specs.declared.text.Place.{Place}
 use Rattle.ctd_token.specs.declared.token.Token.{Token}
 use Rattle.ctd_token.specs.declared.fault.LoadKind.{LoadKind}
 use Rattle.ctd_token.specs.declared.fault.LoadKind.TheVariants.{ProgramTooLong, BadByte, UnfinishedString, BadOctal, NumberTooLarge, NotInProfile, TooDeep, Syntax, BadPattern, Read, Memory}
 use Rattle.ctd_token.specs.declared.limits.TheConstants.{NESTING_LIMIT, PROGRAM_LIMIT}
 use Rattle.ctd_token.specs.Lexing.{HasFault}
-use Rattle.ctd_syntax.specs.Lexeme.{Lexeme, lexeme_of}
+use Rattle.ctd_syntax.specs.Lexeme.{Lexeme, lexeme_of, with_number, regex_count}
 use Rattle.ctd_token.specs.Cut.{Cuts}
 use Rattle.ctd_syntax.specs.Nesting.{start, too_deep}
 use Rattle.ctd_syntax.specs.Grammar.{IsCommands}
 use Rattle.ctd_syntax.specs.Tree.{CommandList, list_blocks}
 
--- the tokens of a program as the grammar sees them
+-- the tokens of a program as the grammar sees them, where so many words REGEX stand before
+abbrev pub lexemes_from : List ℕ → ℕ → List Token → List Lexeme
+lexemes_from program n [] = []
+lexemes_from program n (t ∷ ts) = with_number n (lexeme_of program t) ∷ lexemes_from program (n + regex_count (lexeme_of program t)) ts
+
+-- all tokens of a program
 abbrev pub lexemes : List ℕ → List Token → List Lexeme
-lexemes program ts = map (lexeme_of program) ts
+lexemes program ts = lexemes_from program 0 ts
 
 -- the tokens spell this program
 abbrev pub Spells : List ℕ → List Token → CommandList → Type 0

@@ -1,7 +1,8 @@
 -- The trees of programs, apart from where they lie in memory.
-use Rattle.std.specs.Prelude.{ℕ, ℤ, List, [], ◌∷◌, ◌++◌, ◌+◌, max, Option}
+use Rattle.std.specs.Prelude.{ℕ, ℤ, List, ◌+◌, max, Option}
 use Rattle.ctd_token.specs.declared.text.Place.{Place}
 use Rattle.ctd_syntax.specs.declared.tree.Compare.{Compare}
+use Rattle.ctd_syntax.specs.declared.tree.PatternLiteral.{PatternLiteral}
 
 -- an expression, and a list of them
 mutual
@@ -47,7 +48,7 @@ mutual
     eof : (place : Place) → CommandTree
     int : (place : Place) (low high : ExprTree) (target : Option VarTree) → CommandTree
     string : (place : Place) (e : ExprTree) → CommandTree
-    regex : (place : Place) (pattern : List ℕ) (at : Place) (target : Option VarTree) → CommandTree
+    regex : (place : Place) (literal : PatternLiteral) (target : Option VarTree) → CommandTree
     assert : (place : Place) (t : TestTree) → CommandTree
     set : (place : Place) (assignments : List (VarTree × ExprTree)) → CommandTree
     unset : (place : Place) (names : List (List ℕ)) → CommandTree
@@ -94,7 +95,7 @@ place_of (newline place) = place
 place_of (eof place) = place
 place_of (int place low high target) = place
 place_of (string place e) = place
-place_of (regex place pattern at target) = place
+place_of (regex place literal target) = place
 place_of (assert place t) = place
 place_of (set place assignments) = place
 place_of (unset place names) = place
@@ -103,24 +104,3 @@ place_of (repi place counter count sep body) = place
 place_of (while place t sep body) = place
 place_of (whilei place counter t sep body) = place
 place_of (choice place t a b) = place
-
--- the patterns of a program with the places of their literals, in the order of the text
-abbrev mutual
-  pub patterns_of : CommandTree → List (List ℕ × Place)
-  patterns_of (regex place pattern at target) = (pattern, at) ∷ []
-  patterns_of (rep place count sep body) = separator_patterns sep ++ list_patterns body
-  patterns_of (repi place v count sep body) = separator_patterns sep ++ list_patterns body
-  patterns_of (while place t sep body) = separator_patterns sep ++ list_patterns body
-  patterns_of (whilei place v t sep body) = separator_patterns sep ++ list_patterns body
-  patterns_of (choice place t a b) = list_patterns a ++ list_patterns b
-  patterns_of _ = []
-
-  -- the same of a separator
-  pub separator_patterns : Separator → List (List ℕ × Place)
-  separator_patterns nothing = []
-  separator_patterns (between c) = patterns_of c
-
-  -- the same of a list
-  pub list_patterns : CommandList → List (List ℕ × Place)
-  list_patterns done = []
-  list_patterns (then c rest) = patterns_of c ++ list_patterns rest

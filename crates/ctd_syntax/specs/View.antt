@@ -91,7 +91,7 @@ abbrev mutual
   action_tree Eof place = Tree.eof place
   action_tree (Int low high var) place = Tree.int place (expr_tree low) (expr_tree high) (target var)
   action_tree (String e) place = Tree.string place (expr_tree e)
-  action_tree (Regex pattern at var) place = Tree.regex place pattern at (target var)
+  action_tree (Regex literal var) place = Tree.regex place literal (target var)
   action_tree (Assert t) place = Tree.assert place (test_tree t)
   action_tree (Set assignments) place = Tree.set place (map assignment (assignments_of assignments))
   action_tree (Unset names) place = Tree.unset place (names_of names)

@@ -16,7 +16,7 @@ use crate::keyword::Keyword;
 use crate::names::names;
 use crate::piece::Piece;
 use crate::target::{assignments, target_before, target_end};
-use crate::tree::{Action, Command, Commands, Expr, Test, Var};
+use crate::tree::{Action, Command, Commands, Expr, PatternLiteral, Test, Var};
 use ctd_token::{Bytes, Mark, Place};
 use std::alloc::Global;
 
@@ -68,13 +68,14 @@ fn string<'t>(
     Ok((Command { place, action }, rest))
 }
 
-// What stands behind REGEX.
+// What stands behind the REGEX of this number.
 fn regex<'t>(
     alloc: Global,
+    number: usize,
     place: Place,
     pieces: &'t [Piece<'t>],
 ) -> Result<(Command, &'t [Piece<'t>]), Refusal>
-    ensures tree { Reads (Behind Keyword.Regex place) Always (λ x. (command_tree x.0, map piece x.1.now)) result (map piece pieces.now) }
+    ensures tree { Reads (Behind (Keyword.Regex number) place) Always (λ x. (command_tree x.0, map piece x.1.now)) result (map piece pieces.now) }
     ensures shorter { IfOk result (λ x. length x.1.now ≤ length pieces.now) }
 {
     let Some(after) = after_mark(Mark::Open, pieces) else {
@@ -84,8 +85,13 @@ fn regex<'t>(
         return Err(Refusal::Syntax(after.len()));
     };
     let (target, rest) = target_end(alloc, rest)?;
-    let pattern = Bytes::copy(alloc, text.as_slice())?;
-    let action = Action::Regex(pattern, at, target);
+    let bytes = Bytes::copy(alloc, text.as_slice())?;
+    let literal = PatternLiteral {
+        number,
+        bytes,
+        place: at,
+    };
+    let action = Action::Regex(literal, target);
     Ok((Command { place, action }, rest))
 }
 
@@ -367,7 +373,7 @@ fn behind<'t>(
         Keyword::Eof => Action::Eof,
         Keyword::Int => return int(alloc, place, pieces),
         Keyword::String => return string(alloc, place, pieces),
-        Keyword::Regex => return regex(alloc, place, pieces),
+        Keyword::Regex(number) => return regex(alloc, number, place, pieces),
         Keyword::Assert => return assert(alloc, place, pieces),
         Keyword::Set => return set(alloc, place, pieces),
         Keyword::Unset => return unset(alloc, place, pieces),

@@ -1,6 +1,7 @@
 //! From the text of a program to its tree.
 
 ghost use Rattle.std.specs.Prelude.{ℕ, ◌≡◌, ◌≤◌, ◌<◌, List, None, length, IfOk, IfErr, IsErrAnd, IsSome};
+ghost use Rattle.ctd_syntax.specs.Numbering.{IsNumbered};
 ghost use Rattle.ctd_syntax.specs.Reading.{IsCut, IsFault, Parses};
 ghost use Rattle.ctd_syntax.specs.View.{command_trees};
 
@@ -38,6 +39,7 @@ fn no_program(text: &[u8], tokens: &[Token], left: usize) -> LoadFault
 fn program_of(alloc: Global, text: &[u8], tokens: &[Token]) -> Result<Program, LoadFault>
     requires { IsCut text.now tokens.now }
     ensures parses { IfOk result (λ program. Parses text.now (command_trees program)) }
+    ensures numbered { IfOk result (λ program. IsNumbered (command_trees program)) }
     ensures refused { IfErr result (λ f. IsFault text.now f.kind f.place) }
 {
     let pieces = pieces(alloc, text, tokens)?;
@@ -71,6 +73,7 @@ fn program_of(alloc: Global, text: &[u8], tokens: &[Token]) -> Result<Program, L
 /// Memory. All but ProgramTooLong and Memory have a place, with lines and columns from 1.
 pub fn parse(alloc: Global, text: &[u8]) -> Result<Program, LoadFault>
     ensures parses { IfOk result (λ program. Parses text.now (command_trees program)) }
+    ensures numbered { IfOk result (λ program. IsNumbered (command_trees program)) }
     ensures refused { IfErr result (λ f. IsFault text.now f.kind f.place) }
 
     // Also where no memory is left.

@@ -9,7 +9,8 @@ pub enum Keyword {
     Eof,
     Int,
     String,
-    Regex,
+    /// REGEX, with the number of these words before it; 0 until the words of a text are numbered.
+    Regex(usize),
     Assert,
     Set,
     Unset,
@@ -42,7 +43,7 @@ impl Keyword {
             b"EOF" => Keyword::Eof,
             b"INT" => Keyword::Int,
             b"STRING" => Keyword::String,
-            b"REGEX" => Keyword::Regex,
+            b"REGEX" => Keyword::Regex(0),
             b"ASSERT" => Keyword::Assert,
             b"SET" => Keyword::Set,
             b"UNSET" => Keyword::Unset,

@@ -20,12 +20,12 @@ pub mod tree;
 
 pub use ctd_token::{
     Bytes, LoadFault, LoadKind, Mark, NESTING_LIMIT, Name, PROGRAM_LIMIT, Place, Token, TokenKind,
-    one_cut, tokens,
+    tokens, tokens_are_longest, tokens_are_unique,
 };
 pub use grammar::parse;
 pub use keyword::Keyword;
 pub use preset::{Literal, Preset, PresetFault, Presets};
 pub use tree::{
-    Action, Assignment, Assignments, Command, Commands, Compare, Expr, Exprs, Names, Program, Test,
-    Var,
+    Action, Assignment, Assignments, Command, Commands, Compare, Expr, Exprs, Names,
+    PatternLiteral, Program, Test, Var,
 };

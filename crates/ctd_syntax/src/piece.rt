@@ -1,8 +1,8 @@
 //! Tokens as the grammar sees them.
 
-ghost use Rattle.std.specs.Prelude.{◌≡◌, ◌-◌, IfOk, drop, map, take};
+ghost use Rattle.std.specs.Prelude.{◌≡◌, ◌+◌, ◌-◌, ◌^◌, ◌<◌, ◌≤◌, IfOk, drop, map, take};
 ghost use Rattle.ctd_syntax.specs.Front.{piece};
-ghost use Rattle.ctd_syntax.specs.Lexeme.{lexeme_of};
+ghost use Rattle.ctd_syntax.specs.Lexeme.{lexeme_of, regex_count, with_number};
 ghost use Rattle.ctd_syntax.specs.Reading.{lexemes};
 
 use crate::keyword::Keyword;
@@ -43,6 +43,23 @@ fn piece_of<'t>(text: &'t [u8], token: &'t Token) -> Piece<'t>
     }
 }
 
+// Gives a word REGEX its number, and adds it to those before it.
+fn numbered<'t>(token: Piece<'t>, before: &mut usize) -> Piece<'t>
+    requires { before.old + 1 < 2 ^ 64 }
+    ensures same { piece result ≡ with_number before.old (piece token.entry) }
+    ensures counted { before.new ≡ before.old + regex_count (piece token.entry) }
+    ensures at_most_one { before.new ≤ before.old + 1 }
+{
+    match token {
+        Piece::Keyword(Keyword::Regex(_), place) => {
+            let number = *before;
+            *before += 1;
+            Piece::Keyword(Keyword::Regex(number), place)
+        }
+        other => other,
+    }
+}
+
 /// What the grammar sees of the tokens of a text, in order.
 pub(crate) fn pieces<'t>(
     alloc: Global,
@@ -52,8 +69,9 @@ pub(crate) fn pieces<'t>(
     ensures { IfOk result (λ ps. map piece ps.items ≡ lexemes text.now tokens.now) }
 {
     let mut pieces = Vec::new(alloc);
+    let mut before = 0;
     for token in tokens {
-        pieces.push(piece_of(text, token))?;
+        pieces.push(numbered(piece_of(text, token), &mut before))?;
     }
     Ok(pieces)
 }

@@ -1,6 +1,7 @@
 //! Texts of programs and of presets, with what they spell or their fault, worked out by hand from the language.
 
 mod answers;
+mod cut_programs;
 mod depths;
 mod grammar;
 mod megabytes;

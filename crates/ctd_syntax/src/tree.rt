@@ -101,6 +101,16 @@ pub struct Assignments {
     items: Vec<Assignment>,
 }
 
+/// The literal of a REGEX.
+#[derive(Debug, Drop)]
+pub struct PatternLiteral {
+    /// How many commands REGEX stand before its own in the text, so that the literals of a program are 0, 1, 2, ..
+    pub number: usize,
+    pub bytes: Bytes,
+    /// The place of its opening quote.
+    pub place: Place,
+}
+
 /// A command, with the place of its word.
 #[derive(Debug, Drop)]
 #[cycle(command)]
@@ -123,8 +133,8 @@ pub enum Action {
     Int(Expr, Expr, Option<Var>),
     /// `STRING(e)`
     String(Expr),
-    /// `REGEX(pattern[,target])`, with the place of the pattern's literal.
-    Regex(Bytes, Place, Option<Var>),
+    /// `REGEX(pattern[,target])`
+    Regex(PatternLiteral, Option<Var>),
     /// `ASSERT(t)`
     Assert(Test),
     /// `SET(v = e, ..)`

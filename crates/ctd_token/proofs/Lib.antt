@@ -4,3 +4,5 @@ pub mod OneCut
 pub mod Cutting
 pub mod TokenFaults
 pub mod Decided
+pub mod LiteralEnds
+pub mod Longest

@@ -2,7 +2,7 @@
 
 ghost use Rattle.std.specs.Prelude.{ℕ, List, ◌≡◌, ◌≤◌, ◌<◌, ◌-◌, ◌+◌, ◌^◌, length, None, IfOk, IfErr, OnOk, IsErrAnd};
 ghost use Rattle.ctd_token.specs.Cut.{Cuts, Faults, place_at};
-ghost use Rattle.ctd_token.specs.Lexing.{IsLexFault, IsDecided};
+ghost use Rattle.ctd_token.specs.Lexing.{IsLexFault};
 ghost use Rattle.ctd_token.specs.Scanning.{FaultWithin, IsPlaced};
 ghost use Rattle.ctd_token.specs.declared.token.Token.{Token};
 ghost use Rattle.ctd_token.specs.declared.fault.LoadKind.{LoadKind};
@@ -106,15 +106,3 @@ pub fn tokens(alloc: Global, text: &[u8]) -> Result<Vec<Token>, LoadFault>
     }
     Ok(tokens)
 }
-
-/// Laws of the language: each text is cut or has a first fault, and never both; it is cut in one way,
-/// and has one first fault.
-pub fn one_cut()
-    ensures decided { (text : List ℕ) → IsDecided text }
-    ensures same { (text : List ℕ) (a b : List Token) →
-        Cuts text 0 text a → Cuts text 0 text b → a ≡ b }
-    ensures no_fault { (text : List ℕ) (offset : ℕ) (kind : LoadKind) (a : List Token) →
-        Faults 0 text kind offset → Cuts text 0 text a → ⊥ }
-    ensures first_fault { (text : List ℕ) (p q : ℕ) (kind other : LoadKind) →
-        Faults 0 text kind p → Faults 0 text other q → (kind ≡ other) × (p ≡ q) }
-{}

@@ -3,6 +3,7 @@
 
 mod display;
 pub mod fault;
+mod laws;
 mod lex;
 pub mod limits;
 mod literal;
@@ -13,7 +14,8 @@ pub mod text;
 pub mod token;
 
 pub use fault::{LoadFault, LoadKind, TokenFault};
-pub use lex::{advance, one_cut, tokens};
+pub use laws::{tokens_are_longest, tokens_are_unique};
+pub use lex::{advance, tokens};
 pub use limits::{NESTING_LIMIT, PROGRAM_LIMIT};
 pub use scan::token_at;
 pub use text::{Bytes, Name, Place};

@@ -1,7 +1,12 @@
-pub mod Powers
-pub mod Steps
 pub mod Distinct
-pub mod Lookups
+pub mod Firsts
 pub mod Giving
+pub mod Laid
+pub mod Lookups
 pub mod Maps
+pub mod Merged
 pub mod Ordinary
+pub mod Powers
+pub mod Small
+pub mod Steps
+pub mod StoreLaws

@@ -1,13 +1,25 @@
 -- What the entries of a store show.
-use Rattle.std.specs.Prelude.{List, map}
+use Rattle.std.specs.Prelude.{List, map, filter, not}
 use Rattle.std.proofs.Common.{Bor}
 use Rattle.ctd_value.specs.declared.store.EntryRef.{EntryRef}
+use Rattle.ctd_value.specs.declared.store.Indices.{Indices}
+use Rattle.ctd_value.specs.declared.store.Indices.TheVariants as lists
 use Rattle.ctd_value.specs.declared.value.Value.{Value}
+use Rattle.ctd_value.specs.Store.{Array, has_indices}
+
+-- the index list of an entry
+abbrev pub indices_of : Indices → List Value
+indices_of (lists.One index) = index
+indices_of (lists.Listed indices) = indices.now
 
 -- the indices and the value of an entry that is lent
 abbrev pub entry : EntryRef → List Value × Value
-entry e = (e.indices.now, e.value.now)
+entry e = (indices_of e.indices, e.value.now)
 
 -- the values that a list of borrows lends
 abbrev pub values_seen : List (Bor Value) → List Value
 values_seen lent = map (λ v. v.now) lent
+
+-- the entries of an array at whose index lists another has no value
+abbrev pub not_among : Array → Array → Array
+not_among others array = filter (λ e. not (has_indices others e.0)) array

@@ -1,25 +1,44 @@
 -- What has been assigned and pinned, and what a variable stands for.
-use Rattle.std.specs.Prelude.{ℕ, Bool, not, List, [], ◌++◌, filter, fold, is_some, Option, if◌then◌else◌}
+use Rattle.std.specs.Prelude.{ℕ, suc, pos, nat_lt, Bool, not, List, [], ◌∷◌, ◌++◌, filter, fold, map, is_some, Option, if◌then◌else◌}
 use Rattle.std.specs.Option.{option_or, unwrap_or}
 use Rattle.std.specs.FinMap.{find, put}
-use Rattle.std.specs.Map.{remove_entry}
+use Rattle.std.specs.declared.cmp.Ordering.{Ordering}
+use Rattle.std.specs.declared.cmp.Ordering.TheVariants.{Greater}
+use Rattle.std.specs.Ordering.{ordering_then}
 use Rattle.ctd_syntax.specs.declared.preset.Literal.{Literal}
 use Rattle.ctd_syntax.specs.declared.preset.Literal.TheVariants as literals
 use Rattle.ctd_syntax.specs.declared.preset.Preset.{Preset}
 use Rattle.ctd_value.specs.declared.value.Value.{Value}
 use Rattle.ctd_value.specs.declared.value.Value.TheVariants as values
-use Rattle.ctd_value.specs.Order.{bytes_cmp, values_cmp, same_bytes}
+use Rattle.ctd_value.specs.Order.{bytes_cmp, values_cmp, same_bytes, same_values}
 
 -- a variable: a name, and the values of its indices
 pub record Key : Type 0 where
   pub name : List ℕ
   pub indices : List Value
 
--- index lists with their values, in the order of the index lists and each once: a finite map by its entries
+-- keys by their names and then by their indices, place by place
+abbrev pub key_cmp : Key → Key → Ordering
+key_cmp a b = ordering_then (bytes_cmp a.name b.name) (values_cmp a.indices b.indices)
+
+-- index lists with their values, in the order of the index lists; where one came twice, its first entry would count
 abbrev pub Array : Type 0
 Array = List (List Value × Value)
 
--- names with their arrays, in the order of the names and each once
+-- the index list that is one number
+abbrev pub place : ℕ → List Value
+place n = values.Int (pos n) ∷ []
+
+-- an array, with values at the numbers from n on laid over it
+abbrev pub laid : ℕ → List Value → Array → Array
+laid n [] array = array
+laid n (x ∷ xs) array = put values_cmp (place n) x (laid (suc n) xs array)
+
+-- how the index list of a number stands to an index list, where there are so many; any further is after each
+abbrev pub order_of_place : ℕ → ℕ → List Value → Ordering
+order_of_place n count indices = if nat_lt n count then values_cmp (place n) indices else Greater
+
+-- names with their arrays, in the order of the names; where one came twice, its first array would count
 abbrev pub Variables : Type 0
 Variables = List (List ℕ × Array)
 
@@ -71,16 +90,25 @@ assign h key value = if is_pinned h key then h else record { pins = h.pins; assi
 
 -- the name is gone from what was assigned, with all its index lists; pins stay
 abbrev pub unset : History → List ℕ → History
-unset h name = record { pins = h.pins; assigned = remove_entry (same_bytes name) h.assigned }
+unset h name = record { pins = h.pins; assigned = filter (λ e. not (same_bytes name e.0)) h.assigned }
 
 -- whether an array has a value at an index list
 abbrev pub has_indices : Array → List Value → Bool
 has_indices array indices = is_some (find values_cmp indices array)
 
--- the entries of an array at whose index lists another has no value
-abbrev pub not_among : Array → Array → Array
-not_among others array = filter (λ e. not (has_indices others e.0)) array
+-- the entries at other index lists
+abbrev pub without : List Value → Array → Array
+without indices array = filter (λ e. not (same_values indices e.0)) array
 
--- each index list at which the name has a value, with that value: the pins, and what was assigned where none is
+-- each index list once, with the value of its first entry
+abbrev pub first_of_each : Array → Array
+first_of_each [] = []
+first_of_each (e ∷ es) = e ∷ without e.0 (first_of_each es)
+
+-- each index list at which the name has a value, once and with that value: the pin, or else what was assigned
 abbrev pub values_of : History → List ℕ → Array
-values_of h name = array_of name h.pins ++ not_among (array_of name h.pins) (array_of name h.assigned)
+values_of h name = first_of_each (array_of name h.pins ++ array_of name h.assigned)
+
+-- the index lists of an array
+abbrev pub index_lists : Array → List (List Value)
+index_lists array = map (λ e. e.0) array

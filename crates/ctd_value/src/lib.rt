@@ -4,6 +4,7 @@
 mod arithmetic;
 pub mod expression;
 pub mod fault;
+pub mod laws;
 mod lent;
 mod order;
 mod plain_test;
@@ -17,6 +18,6 @@ mod variables;
 
 pub use expression::{count_of, eval, locate};
 pub use fault::{EvalFault, TestFault};
-pub use store::{EntryRef, Store};
+pub use store::{EntryRef, Indices, Store};
 pub use test::holds;
 pub use value::{Key, Value};

@@ -1,11 +1,11 @@
 //! The variables: what is pinned, and what is assigned.
 
-ghost use Rattle.std.specs.Prelude.{◌≡◌, IfOk, OnOk, OnErr, IsOk, IsTrue, IsPermutation, map};
+ghost use Rattle.std.specs.Prelude.{◌≡◌, ◌≢◌, IfOk, OnOk, OnErr, IsOk, IsTrue, IsPermutation, AllPairs, map};
 ghost use Rattle.std.specs.Option.{option_copied};
 ghost use Rattle.std.specs.FinMap.{find};
 ghost use Rattle.ctd_value.specs.Order.{values_cmp};
-ghost use Rattle.ctd_value.specs.Store.{initial, pinned_key, is_pinned, value_at, assign, unset, values_of, value_of, has_indices};
-ghost use Rattle.ctd_value.specs.Showing.{entry};
+ghost use Rattle.ctd_value.specs.Store.{initial, is_pinned, value_at, assign, unset, values_of, value_of, has_indices};
+ghost use Rattle.ctd_value.specs.Showing.{entry, indices_of};
 
 use crate::value::{Key, Value};
 use crate::variables::Variables;
@@ -28,10 +28,29 @@ impl Model for Store {
     ghost view = { λ s. record { pins = s.pins; assigned = s.assigned } };
 }
 
+/// The indices of an entry: a number that is stored nowhere, or a list where it stands.
+#[derive(Debug, Drop)]
+pub enum Indices<'s> {
+    One([Value; 1]),
+    Listed(&'s [Value]),
+}
+
+impl Indices<'_> {
+    /// The values of the indices.
+    pub fn as_slice(&self) -> &[Value]
+        ensures value { result.now ≡ indices_of self.now }
+    {
+        match self {
+            Indices::One(index) => index.as_slice(),
+            Indices::Listed(indices) => indices,
+        }
+    }
+}
+
 /// The indices of an entry of a name, and its value.
-#[derive(Clone, Copy, Debug)]
+#[derive(Debug, Drop)]
 pub struct EntryRef<'s> {
-    pub indices: &'s [Value],
+    pub indices: Indices<'s>,
     pub value: &'s Value,
 }
 
@@ -42,7 +61,8 @@ impl Store {
     {
         let mut pins = Variables::new(alloc);
         for preset in presets.pins() {
-            pins.insert(pinned_key(alloc, preset)?, value_of(alloc, &preset.value)?)?;
+            let value = value_of(alloc, &preset.value)?;
+            pins.insert(preset.name.as_slice(), Vec::new(alloc), value)?;
         }
         Ok(Store {
             pins,
@@ -82,8 +102,23 @@ impl Store {
         ensures pinned { IsTrue (is_pinned self.old key) → IsOk result }
         ensures err { OnErr result (self.new ≡ self.old) }
     {
-        if self.pins.get(key.name(), key.indices()).is_none() {
-            self.assigned.insert(key, value)?;
+        let (name, indices) = key.into_parts();
+        self.assign_at(&name, indices, value)
+    }
+
+    /// Gives a name a value at an index list, as `assign` does; takes no memory for a name that was assigned to before.
+    pub fn assign_at(
+        &mut self,
+        name: &[u8],
+        indices: Vec<Value>,
+        value: Value,
+    ) -> Result<(), AllocError>
+        ensures ok { OnOk result (self.new ≡ assign self.old (record { name = name.now; indices = indices.items }) value) }
+        ensures pinned { IsTrue (is_pinned self.old (record { name = name.now; indices = indices.items })) → IsOk result }
+        ensures err { OnErr result (self.new ≡ self.old) }
+    {
+        if self.pins.get(name, &indices).is_none() {
+            self.assigned.insert(name, indices, value)?;
         }
         Ok(())
     }
@@ -99,6 +134,7 @@ impl Store {
     /// for the list.
     pub fn entries(&self, alloc: Global, name: &Name) -> Result<Vec<EntryRef<'_>>, AllocError>
         ensures each_once { IfOk result (λ list. IsPermutation (values_of self.now name.now) (map entry list.items)) }
+        ensures distinct { IfOk result (λ list. AllPairs (λ a b. indices_of a.indices ≢ indices_of b.indices) list.items) }
     {
         self.entries_of(alloc, name.as_slice())
     }
@@ -115,14 +151,6 @@ impl Store {
         self.assigned
             .add_entries(name, self.pins.array(name), pinned)
     }
-}
-
-/// The key that a preset pins.
-fn pinned_key(alloc: Global, preset: &Preset) -> Result<Key, AllocError>
-    ensures key { IfOk result (λ key. key ≡ pinned_key preset.now) }
-{
-    let name = preset.name.as_slice().to_vec(alloc)?;
-    Ok(Key::new(name, Vec::new(alloc)))
 }
 
 /// The value that a literal is.

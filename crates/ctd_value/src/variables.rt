@@ -1,18 +1,20 @@
 //! Names with their arrays, in the order of the names, and arrays: index lists with their values, in their order.
 
-ghost use Rattle.std.specs.Prelude.{◌≡◌, [], ◌∷◌, ◌++◌, map, IfOk, OnOk, OnErr};
-ghost use Rattle.std.specs.Option.{option_copied, unwrap_or};
+ghost use Rattle.std.specs.Prelude.{◌≡◌, ◌≢◌, ℕ, suc, ◌<◌, ◌≤◌, length, take, drop, [], ◌∷◌, ◌++◌, map, filter, not, IfOk, OnOk, OnErr};
+ghost use Rattle.std.specs.List.{IsDistinct};
+ghost use Rattle.std.specs.Option.{option_copied, unwrap_or, IfSome, IfNone};
 ghost use Rattle.std.specs.FinMap.{find, put};
-ghost use Rattle.std.specs.Map.{remove_entry};
-ghost use Rattle.ctd_value.specs.Order.{bytes_cmp, values_cmp, same_bytes};
-ghost use Rattle.ctd_value.specs.Showing.{entry};
-ghost use Rattle.ctd_value.specs.Store.{array_of, with_value, has_indices, not_among};
+ghost use Rattle.ctd_value.specs.Order.{bytes_cmp, values_cmp, same_bytes, same_values};
+ghost use Rattle.ctd_value.specs.Showing.{entry, indices_of, not_among};
+ghost use Rattle.ctd_value.specs.Store.{array_of, with_value, has_indices, index_lists, place, order_of_place};
 
-use crate::store::EntryRef;
-use crate::value::{Key, Value};
+use crate::store::{EntryRef, Indices};
+use crate::value::Value;
 use std::alloc::{AllocError, Global};
+use std::cmp::Ordering;
 use std::collections::BTreeMap;
 use std::marker::Model;
+use std::mem::replace;
 
 /// Names with their arrays, each name once, which contracts see as the list of them in order.
 #[derive(Debug, Drop)]
@@ -56,13 +58,17 @@ impl Variables {
         }
     }
 
-    /// Gives a key a value; after an error all is as it was.
-    pub(crate) fn insert(&mut self, key: Key, value: Value) -> Result<(), AllocError>
-        ensures ok { OnOk result (self.new ≡ with_value key value self.old) }
+    /// Gives a name a value at an index list; after an error all is as it was. Takes no memory for a name that has an array.
+    pub(crate) fn insert(
+        &mut self,
+        name: &[u8],
+        indices: Vec<Value>,
+        value: Value,
+    ) -> Result<(), AllocError>
+        ensures ok { OnOk result (self.new ≡ with_value (record { name = name.now; indices = indices.items }) value self.old) }
         ensures err { OnErr result (self.new ≡ self.old) }
     {
-        let (name, indices) = key.into_parts();
-        match self.arrays.get_mut(&name) {
+        match self.arrays.get_mut(name) {
             Some(array) => array.insert(indices, value),
             None => self.insert_new(name, indices, value),
         }
@@ -71,20 +77,22 @@ impl Variables {
     /// Gives a name that has no array one with a single value; after an error all is as it was.
     fn insert_new(
         &mut self,
-        name: Vec<u8>,
+        name: &[u8],
         indices: Vec<Value>,
         value: Value,
     ) -> Result<(), AllocError>
-        ensures ok { OnOk result (self.new ≡ put bytes_cmp name.items ((indices.items, value) ∷ []) self.old) }
+        ensures ok { OnOk result (self.new ≡ put bytes_cmp name.now ((indices.items, value) ∷ []) self.old) }
         ensures err { OnErr result (self.new ≡ self.old) }
     {
+        // A store keeps no allocator, so the indices tell where memory comes from.
+        let name = name.to_vec(*indices.allocator())?;
         self.arrays.insert(name, Array::of_one(indices, value)?)?;
         Ok(())
     }
 
     /// Removes a name with its array. Takes no memory.
     pub(crate) fn remove(&mut self, name: &[u8])
-        ensures value { self.new ≡ remove_entry (same_bytes name.now) self.old }
+        ensures value { self.new ≡ filter (λ e. not (same_bytes name.now e.0)) self.old }
     {
         drop(self.arrays.remove(name));
     }
@@ -98,6 +106,7 @@ impl Variables {
         entries: Vec<EntryRef<'s>>,
     ) -> Result<Vec<EntryRef<'s>>, AllocError>
         ensures added { IfOk result (λ list. map entry list.items ≡ map entry entries.entry.items ++ not_among (unwrap_or (option_copied hidden.entry) []) (array_of name.now self.now)) }
+        ensures once { IfOk result (λ _. IsDistinct same_values (index_lists (array_of name.now self.now))) }
     {
         match self.array(name) {
             Some(array) => array.add_entries(hidden, entries),
@@ -109,16 +118,22 @@ impl Variables {
 /// Index lists with their values, each index list once, which contracts see as the list of them in order.
 #[derive(Debug, Drop)]
 pub(crate) struct Array {
-    values: BTreeMap<Vec<Value>, Value>,
+    // At 0 the value of the index list 0, and so on; what stands here hides what `rest` has there.
+    dense: Vec<Value>,
+    rest: BTreeMap<Vec<Value>, Value>,
 }
 
 impl Model for Array {
-    ghost use Rattle.std.specs.Prelude.{map};
-    ghost use Rattle.ctd_value.specs.Store.{Array};
+    ghost use Rattle.std.specs.Prelude.{T, map};
+    ghost use Rattle.std.specs.FinMap.{is_sorted};
+    ghost use Rattle.ctd_value.specs.Order.{values_cmp};
+    ghost use Rattle.ctd_value.specs.Store.{Array, laid};
 
     ghost Value = { Array };
 
-    ghost view = { λ a. map (λ e. (e.0.items, e.1)) a.values.entries };
+    ghost view = { λ a. laid 0 a.dense.items (map (λ e. (e.0.items, e.1)) a.rest.entries) };
+
+    ghost invariant = { λ a. T (is_sorted values_cmp (map (λ e. (e.0.items, e.1)) a.rest.entries)) };
 }
 
 impl Array {
@@ -127,16 +142,29 @@ impl Array {
         ensures entries { IfOk result (λ array. array ≡ (indices.items, value) ∷ []) }
     {
         // A store keeps no allocator, so the indices tell where memory comes from.
-        let mut values = BTreeMap::new(*indices.allocator());
-        values.insert(indices, value)?;
-        Ok(Array { values })
+        let mut array = Array::new(*indices.allocator());
+        array.insert(indices, value)?;
+        Ok(array)
+    }
+
+    /// The array with no values; takes no memory.
+    fn new(alloc: Global) -> Array
+        ensures empty { result ≡ [] }
+    {
+        Array {
+            dense: Vec::new(alloc),
+            rest: BTreeMap::new(alloc),
+        }
     }
 
     /// The value at an index list. Takes no memory.
     pub(crate) fn get(&self, indices: &[Value]) -> Option<&Value>
         ensures value { option_copied result ≡ find values_cmp indices.now self.now }
     {
-        self.values.get(indices)
+        match place_below(self.dense.len(), indices) {
+            Some(at) => Some(&self.dense[at]),
+            None => self.rest.get(indices),
+        }
     }
 
     /// Gives an index list a value; after an error all is as it was.
@@ -144,8 +172,16 @@ impl Array {
         ensures ok { OnOk result (self.new ≡ put values_cmp indices.items value self.old) }
         ensures err { OnErr result (self.new ≡ self.old) }
     {
-        self.values.insert(indices, value)?;
-        Ok(())
+        match place_below(self.dense.len() + 1, &indices) {
+            Some(at) => {
+                drop(indices);
+                write(&mut self.dense, at, value)
+            }
+            None => {
+                self.rest.insert(indices, value)?;
+                Ok(())
+            }
+        }
     }
 
     /// Adds the entries to others, but for those at whose index lists the hidden array, if there is one, has a value.
@@ -155,15 +191,89 @@ impl Array {
         mut entries: Vec<EntryRef<'s>>,
     ) -> Result<Vec<EntryRef<'s>>, AllocError>
         ensures added { IfOk result (λ list. map entry list.items ≡ map entry entries.entry.items ++ not_among (unwrap_or (option_copied hidden.entry) []) self.now) }
+        ensures once { IfOk result (λ _. IsDistinct same_values (index_lists self.now)) }
     {
-        for (indices, value) in &self.values {
+        let mut next = 0;
+        for (indices, value) in &self.rest {
             let indices = indices.as_slice();
-            if !has_indices(hidden, indices) {
-                entries.push(EntryRef { indices, value })?;
+            while order_of_place(next, self.dense.len(), indices).is_lt() {
+                entries = with_entry(hidden, at_place(next), &self.dense[next], entries)?;
+                next += 1;
             }
+            if order_of_place(next, self.dense.len(), indices).is_eq() {
+                entries = with_entry(hidden, Indices::Listed(indices), &self.dense[next], entries)?;
+                next += 1;
+            } else {
+                entries = with_entry(hidden, Indices::Listed(indices), value, entries)?;
+            }
+        }
+        while next < self.dense.len() {
+            entries = with_entry(hidden, at_place(next), &self.dense[next], entries)?;
+            next += 1;
         }
         Ok(entries)
     }
+}
+
+/// Gives a place of a list a value, where one past its end is a place too; after an error all is as it was.
+fn write(values: &mut Vec<Value>, at: usize, value: Value) -> Result<(), AllocError>
+    requires { at ≤ length values.old.items }
+    ensures ok { OnOk result (values.new.items ≡ take at values.old.items ++ value ∷ drop (suc at) values.old.items) }
+    ensures err { OnErr result (values.new.items ≡ values.old.items) }
+{
+    if at < values.len() {
+        drop(replace(&mut values[at], value));
+    } else {
+        values.push(value)?;
+    }
+    Ok(())
+}
+
+/// The number that an index list is, where it is one below the bound.
+fn place_below(bound: usize, indices: &[Value]) -> Option<usize>
+    ensures found { IfSome result (λ n. (n < bound) × (indices.now ≡ place n)) }
+    ensures none { IfNone result ((n : ℕ) → n < bound → indices.now ≢ place n) }
+{
+    match indices {
+        [Value::Int(n)] => match usize::try_from(*n) {
+            Ok(at) if at < bound => Some(at),
+            _ => None,
+        },
+        _ => None,
+    }
+}
+
+/// The index list of a place of the dense part.
+fn at_place<'s>(number: usize) -> Indices<'s>
+    ensures value { indices_of result ≡ place number }
+{
+    Indices::One([Value::Int(number as i128)])
+}
+
+/// How the index list of a place stands to an index list; past the last place it is after each.
+fn order_of_place(number: usize, count: usize, indices: &[Value]) -> Ordering
+    ensures value { result ≡ order_of_place number count indices.now }
+{
+    if number < count {
+        [Value::Int(number as i128)].as_slice().cmp(indices)
+    } else {
+        Ordering::Greater
+    }
+}
+
+/// The entries, with one more where the hidden array, if there is one, has no value at its index list.
+fn with_entry<'s>(
+    hidden: Option<&Array>,
+    indices: Indices<'s>,
+    value: &'s Value,
+    mut entries: Vec<EntryRef<'s>>,
+) -> Result<Vec<EntryRef<'s>>, AllocError>
+    ensures added { IfOk result (λ list. map entry list.items ≡ map entry entries.entry.items ++ not_among (unwrap_or (option_copied hidden.entry) []) ((indices_of indices.entry, value.now) ∷ [])) }
+{
+    if !has_indices(hidden, indices.as_slice()) {
+        entries.push(EntryRef { indices, value })?;
+    }
+    Ok(entries)
 }
 
 /// Whether an array, if there is one, has a value at an index list.

@@ -231,6 +231,13 @@ fn each_fault_of_the_words_has_its_number_and_text(rt: HostRuntime) {
             UsageFault::Words,
             "checktestdata: bad arguments\nTry 'checktestdata --help'.\n",
         ),
+        (2, UsageFault::BadSteps, "checktestdata: bad step limit\n"),
+        (3, UsageFault::BadPreset, "checktestdata: bad preset\n"),
+        (
+            4,
+            UsageFault::Generate,
+            "checktestdata: generating test data is not supported\n",
+        ),
         (7, UsageFault::Memory, "checktestdata: out of memory\n"),
     ] {
         let mut out = Vec::new(alloc);
@@ -244,6 +251,40 @@ fn each_fault_of_the_words_has_its_number_and_text(rt: HostRuntime) {
         assert_eq!(rt; err.as_slice(), want.as_bytes());
         assert!(rt; out.is_empty(), "{want}");
         assert_eq!(rt; fault as u8, number, "{want}");
+    }
+}
+
+#[test]
+fn the_help_and_the_version_are_no_faults(rt: HostRuntime) {
+    let alloc = rt.alloc();
+    let help = "Usage: checktestdata [OPTION]... PROGRAM [TESTDATA]\n\
+        Check TESTDATA (or standard input) against PROGRAM.\n  \
+        -g, --generate                     not supported\n  \
+        -D, --define=<name>=<value>[,...]  preset variables\n  \
+        -q, --quiet                        write nothing to standard output\n  \
+        -w, --whitespace-ok                accept changes of whitespace\n      \
+            --max-steps=N                  stop after N steps\n      \
+            --help                         show this text\n      \
+            --version                      show the version\n";
+    for (number, fault, want) in [
+        (5, UsageFault::Help, help),
+        (
+            6,
+            UsageFault::Version,
+            "checktestdata 1.0 (whole-number profile)\n",
+        ),
+    ] {
+        let mut out = Vec::new(alloc);
+        let mut err = Vec::new(alloc);
+        let answer = report_usage(
+            &fault,
+            &mut ToWrite::new(&mut out),
+            &mut ToWrite::new(&mut err),
+        );
+        assert_eq!(rt; answer, Ok(0));
+        assert_eq!(rt; out.as_slice(), want.as_bytes());
+        assert!(rt; err.is_empty());
+        assert_eq!(rt; fault as u8, number);
     }
 }
 

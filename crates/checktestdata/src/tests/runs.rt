@@ -128,6 +128,18 @@ fn a_verdict_goes_to_standard_output(rt: HostRuntime) -> std::result::Result<(),
             "line 1 column 1: expected end of file (program end)\n",
             1,
         ),
+        (
+            "WHILE(!MATCH(\"\\n\"),SPACE) INT(0,9) END NEWLINE",
+            "1 2 \n",
+            "line 1 column 5: expected an integer (program line 1 column 27)\n",
+            1,
+        ),
+        (
+            "REPI(i,3,SPACE) INT(0,9,a[i]) SPACE INT(0,9,b[i]) END ASSERT(UNIQUE(a,b))",
+            "1 2 1 3 1 4",
+            "testdata ok!\n",
+            0,
+        ),
     ] {
         let written = run(alloc, &setup, program.as_bytes(), data.as_bytes());
         assert_eq!(rt; written.answer, Ok(status), "{program} on {data}");

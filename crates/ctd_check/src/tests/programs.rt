@@ -6,13 +6,21 @@ use std::io::Read;
 use std::test::Fail;
 
 #[test]
-fn every_text_of_the_four_commands_is_read(rt: HostRuntime) -> Result<(), Fail> {
+fn every_text_of_the_language_is_read(rt: HostRuntime) -> Result<(), Fail> {
     for (program, commands) in [
         ("", 0),
         ("# INT(", 0),
         ("SPACE NEWLINE EOF", 3),
         ("INT(1,10)NEWLINE", 2),
         ("INT ( - 1 ,\n0 ) # a line\tof one\nEOF", 2),
+        (
+            "SET(a=1,b[a]=\"x\") UNSET(a,b) STRING(b[1]) ASSERT(ISEOF)",
+            4,
+        ),
+        (
+            "REPI(i,3,SPACE) WHILE(1==2) IF(1==1) ELSE EOF END END END",
+            1,
+        ),
     ] {
         let plan = plan_of(rt.alloc(), program)?;
         assert_eq!(rt; plan.commands().len(), commands, "{program}");
@@ -51,24 +59,31 @@ fn every_other_text_has_a_fault_at_its_place(rt: HostRuntime) {
 }
 
 #[test]
-fn a_command_that_cannot_be_run_is_refused_at_its_word(rt: HostRuntime) {
+fn a_bad_pattern_is_refused_at_the_first(rt: HostRuntime) {
     for (program, line, column) in [
-        ("INT(1,--10)", 1, 1),
-        ("SPACE INT(1,1+1)", 1, 7),
-        ("SPACE INT(1,10,n)", 1, 7),
-        ("SPACE\n ASSERT(1==1) STRING(\"a\")", 2, 2),
-        ("STRING(\"a\")", 1, 1),
-        ("REGEX(\"a\")", 1, 1),
-        ("SET(a=1)", 1, 1),
-        ("UNSET(a)", 1, 1),
-        ("NEWLINE REP(2,SPACE) SPACE END", 1, 9),
-        ("REPI(i,2) SPACE END", 1, 1),
-        ("WHILE(1==1) SPACE END", 1, 1),
-        ("WHILEI(i,1==1) SPACE END", 1, 1),
-        ("IF(1==1) SPACE END", 1, 1),
+        ("REGEX(\"(\")", 1, 7),
+        ("REGEX(\"\\377\")", 1, 7),
+        ("REGEX(\"a{1000}{1000}{1000}\")", 1, 7),
+        ("REGEX(\"a\") REGEX(\"(\")", 1, 18),
+        ("SPACE\n REGEX(\"(\",n) REGEX(\"*\")", 2, 8),
+        ("REP(2) SPACE REGEX(\"(\") END", 1, 20),
+        ("REP(2,REGEX(\"(\")) REGEX(\"*\") END", 1, 13),
+        ("REPI(i,2,REGEX(\"(\")) END", 1, 16),
+        ("REPI(i,2) REGEX(\"(\") END", 1, 17),
+        ("WHILE(1==1,REGEX(\"(\")) END", 1, 18),
+        ("WHILE(1==1) REGEX(\"(\") END", 1, 19),
+        ("WHILEI(i,1==1,REGEX(\"(\")) END", 1, 21),
+        ("WHILEI(i,1==1) REGEX(\"(\") END", 1, 22),
+        ("IF(1==1) REGEX(\"(\") ELSE REGEX(\"*\") END", 1, 16),
+        ("IF(1==1) SPACE ELSE REGEX(\"*\") END", 1, 27),
+        (
+            "IF(1==1) SPACE END REP(1,REP(1,REGEX(\"(\")) END) END",
+            1,
+            38,
+        ),
     ] {
         let fault = LoadFault {
-            kind: LoadKind::NotInProfile,
+            kind: LoadKind::BadPattern,
             place: Some(Place { line, column }),
         };
         let mut source = FromRead::new(program.as_bytes());

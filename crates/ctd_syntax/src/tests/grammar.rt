@@ -270,11 +270,11 @@ const COMMANDS: [(&str, &str); 39] = [
     ("INT((1),a[1,2])", "INT@1:1(1,a[1,2])"),
     ("STRING(\"ab\")", "STRING@1:1(\"ab\")"),
     ("STRING(a[1]-2-3)", "STRING@1:1(((a[1]-2)-3))"),
-    ("REGEX(\"[a-z]+\")", "REGEX@1:1(\"[a-z]+\"@1:7)"),
-    ("REGEX(\"x\",w)", "REGEX@1:1(\"x\"@1:7,w)"),
+    ("REGEX(\"[a-z]+\")", "REGEX@1:1(\"[a-z]+\"@1:7#0)"),
+    ("REGEX(\"x\",w)", "REGEX@1:1(\"x\"@1:7#0,w)"),
     (
         "REGEX (\"x\" , w[1-2,i])",
-        "REGEX@1:1(\"x\"@1:8,w[(1-2),i])",
+        "REGEX@1:1(\"x\"@1:8#0,w[(1-2),i])",
     ),
     ("ASSERT(ISEOF)", "ASSERT@1:1(ISEOF)"),
     ("SET(a=1)", "SET@1:1(a=1)"),
@@ -328,7 +328,7 @@ fn each_command(rt: HostRuntime) -> Result<(), Fail> {
     programs(&rt, rt.alloc(), &COMMANDS)
 }
 
-const BLOCKS: [(&str, &str); 12] = [
+const BLOCKS: [(&str, &str); 13] = [
     (
         "REP(1) REP(2) SPACE END NEWLINE END EOF",
         "REP@1:1(1){REP@1:8(2){SPACE@1:15} NEWLINE@1:25} EOF@1:37",
@@ -370,7 +370,11 @@ const BLOCKS: [(&str, &str); 12] = [
     ),
     (
         "WHILEI(i,(1)<2,REGEX(\"a\",w)) END",
-        "WHILEI@1:1(i,(1<2),REGEX@1:16(\"a\"@1:22,w)){}",
+        "WHILEI@1:1(i,(1<2),REGEX@1:16(\"a\"@1:22#0,w)){}",
+    ),
+    (
+        "REGEX(\"a\")REP(1,REGEX(\"b\"))REGEX(\"c\")END IF(ISEOF)REGEX(\"d\")ELSE REGEX(\"e\")END STRING(\"f\")REGEX(\"g\")",
+        "REGEX@1:1(\"a\"@1:7#0) REP@1:11(1,REGEX@1:17(\"b\"@1:23#1)){REGEX@1:28(\"c\"@1:34#2)} IF@1:42(ISEOF){REGEX@1:51(\"d\"@1:57#3)}{REGEX@1:66(\"e\"@1:72#4)} STRING@1:80(\"f\") REGEX@1:91(\"g\"@1:97#5)",
     ),
     (
         "REPI(i,2) WHILEI(j,1<2) WHILE(ISEOF) IF(ISEOF) END END END END",
@@ -390,7 +394,7 @@ const PLACES: [(&str, &str); 9] = [
     ("# SPACE\nSPACE#\nEOF", "SPACE@2:1 EOF@3:1"),
     (
         "REGEX\n(\n \"a\"\n,w)REGEX(#\"\n\"b\")",
-        "REGEX@1:1(\"a\"@3:2,w) REGEX@4:4(\"b\"@5:1)",
+        "REGEX@1:1(\"a\"@3:2#0,w) REGEX@4:4(\"b\"@5:1#1)",
     ),
     ("STRING(\"\n\n\") SPACE", "STRING@1:1(\"\n\n\") SPACE@3:4"),
     ("STRING(\"a\\\nb\")SPACE", "STRING@1:1(\"ab\") SPACE@2:4"),
@@ -400,7 +404,7 @@ const PLACES: [(&str, &str); 9] = [
     ),
     (
         "IF(ISEOF)\nSPACE\nELSE\n REGEX( \"x\")END",
-        "IF@1:1(ISEOF){SPACE@2:1}{REGEX@4:2(\"x\"@4:9)}",
+        "IF@1:1(ISEOF){SPACE@2:1}{REGEX@4:2(\"x\"@4:9#0)}",
     ),
 ];
 

@@ -247,7 +247,7 @@ fn word_of(action: &Action) -> &'static str {
         Action::Eof => "EOF",
         Action::Int(_, _, _) => "INT",
         Action::String(_) => "STRING",
-        Action::Regex(_, _, _) => "REGEX",
+        Action::Regex(_, _) => "REGEX",
         Action::Assert(_) => "ASSERT",
         Action::Set(_) => "SET",
         Action::Unset(_) => "UNSET",
@@ -295,9 +295,10 @@ fn write_action(out: &mut String, depth: u16, action: &Action) -> Result<(), Fai
             write_expr(out, DEPTH, text)?;
             write_target(out, &None)
         }
-        Action::Regex(pattern, at, target) => {
-            write_text(out, pattern.as_slice())?;
-            write_place(out, *at)?;
+        Action::Regex(literal, target) => {
+            write_text(out, literal.bytes.as_slice())?;
+            write_place(out, literal.place)?;
+            write!(out, "#{}", literal.number)?;
             write_target(out, target)
         }
         Action::Assert(condition) => {

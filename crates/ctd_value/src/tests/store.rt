@@ -82,7 +82,8 @@ fn a_preset_stays(rt: HostRuntime) -> Result<(), Fail> {
 /// Whether these entries are one, at one number as its index and with this value.
 fn is_one_entry(entries: &[EntryRef<'_>], index: i128, value: &Value) -> bool {
     match entries {
-        [entry] => entry.indices == [Value::Int(index)].as_slice() && entry.value == value,
+        [entry] => entry.indices.as_slice() == [Value::Int(index)].as_slice()
+            && entry.value == value,
         _ => false,
     }
 }
@@ -98,6 +99,32 @@ fn one_entry_and_none(rt: HostRuntime) -> Result<(), Fail> {
     store.unset(a);
     assert!(rt; store.entries(rt.alloc(), a)?.is_empty());
     assert_eq!(rt; store.get(&key(rt.alloc(), b"a", &[1])?), None);
+    Ok(())
+}
+
+/// How many of these entries have one number as their index.
+fn count_at(entries: &[EntryRef<'_>], index: i128) -> usize {
+    let sought = [Value::Int(index)];
+    entries
+        .iter()
+        .filter(|entry| entry.indices.as_slice() == sought.as_slice())
+        .count()
+}
+
+/// A key that is assigned again, or pinned and assigned, is among the entries once.
+#[test]
+fn each_key_once(rt: HostRuntime) -> Result<(), Fail> {
+    let mut store = store_of(rt.alloc(), "a=1")?;
+    for index in [3, 1, 2, 1, 3, 3] {
+        assign(rt.alloc(), &mut store, b"a", &[index], i128::from(index))?;
+    }
+    assign(rt.alloc(), &mut store, b"a", &[], 9)?;
+    let program = parse(rt.alloc(), b"UNSET(a)")?;
+    let entries = store.entries(rt.alloc(), first_name(&program)?)?;
+    assert_eq!(rt; entries.len(), 4);
+    for index in [1, 2, 3] {
+        assert_eq!(rt; count_at(&entries, index), 1, "at {index}");
+    }
     Ok(())
 }
 

@@ -1,30 +1,39 @@
-use Rattle.std.proofs.Common.{◌≡◌, ◌++◌, ◌∷◌, [], ap, ◌∙◌, sym, refl, rules}
+use Rattle.std.proofs.Common.{◌-◌, ◌++◌, ◌∷◌, [], ap, ◌∙◌, sym, rules}
+use Rattle.ctd_syntax.specs.View.{command_trees}
+use Rattle.ctd_value.specs.Store.{initial}
+use Rattle.ctd_check.specs.Loops.{tasks, finish}
+use Rattle.ctd_check.specs.Pending.{to_do}
+use Rattle.ctd_check.specs.Performs.{state}
+use Rattle.ctd_check.specs.Run.{run_from, at_start}
 use Rattle.ctd_check.proofs.Concluding.{found, given_count}
-use Rattle.ctd_check.proofs.Running.{finds, follows_as, outcome_by}
-use Rattle.ctd_check.specs.Run.{run, finish}
-use Rattle.ctd_check.specs.Runnable.{are_runnable}
-use Rattle.ctd_check.specs.Steps.{listed}
-use Rattle.ctd_check.proofs.checking.check.Goals.{in-Ok, in-Err}
+use Rattle.ctd_check.proofs.Knowing.{known_append, known_as, known_tasks}
+use Rattle.ctd_check.proofs.Running.{finds, follows_as}
 use Rattle.ctd_check.proofs.checking.check.Goals as goal
-
-pub run_program-requires-clause-runnable : goal.run_program-requires-clause-runnable
-run_program-requires-clause-runnable g c = c.commands.ensures.runnable
 
 pub returns-clause-meaning : goal.returns-clause-meaning
 returns-clause-meaning g c =
     let e = c.in_ok-cursor.ensures in
     let limit = c.args.limits.steps in
-    let program = c.args.plan.now in
-    let outcome : c.match-run_program.outcome ≡ outcome_by c.run_program.result = elim c.match-run_program.branch [
-      | in-Ok w ↦ w.outcome-is ∙ sym (ap outcome_by w.in-Ok.is)
-      | in-Err w ↦ w.outcome-is ∙ sym (ap outcome_by w.in-Err.is)
-    ] in
-    found c.args.testdata.now _ c.in_ok-cursor.cursor c.run_program.new.cursor c.args.limits _ _ _ e.source (search rules) e.begins e.stands c.run_program.ensures.run c.taken.ensures.taken c.seen.ensures.seen
-    (λ d f. finds c.args.mode d c.run_program.result _ program c.args.presets.now limit _ c.run_program.new.left c.run_program.new.cursor.spot.offset _ _ _ outcome refl (ap (λ s. s.offset) c.spot.ensures)
-    (follows_as d c.run_program.result _ _ [] _ _
-    (ap (λ p. run d limit (listed program ++ finish ∷ []) p) (sym (ap (λ s. s.offset) e.begins.spot)) ∙ ap (λ cs. run d limit (listed cs ++ finish ∷ []) c.in_ok-cursor.cursor.spot.offset) (sym c.commands.ensures.whole)) f))
+    let program = command_trees c.args.plan.now in
+    let presets = c.args.presets.now in
+    let first = c.new-agenda.result in
+    found c.args.testdata.now _ c.in_ok-cursor.cursor c.run_program-ended.new.run.cursor c.args.limits _ _ _ e.source (search rules) e.begins e.stands c.run_program-ended.ensures.ends.goes c.taken.ensures.taken c.seen.ensures.seen
+    (λ d f. finds c.args.mode d c.run_program-ended.result _ program presets limit c.run_program-ended.new.agenda.left (state c.run_program-ended.new.run) c.in_ok-outcome.ensures.outcome (ap (λ n. limit - n) c.left.ensures) (ap (λ s. s.offset) c.spot.ensures)
+    (follows_as d c.run_program-ended.result c.run_program-ended.new.agenda.left [] (state c.run_program-ended.new.run) _ _
+    (ap (λ n. run_from d n (tasks program ++ finish ∷ []) (at_start c.args.mode presets)) (sym c.new-agenda.ensures.left)
+    ∙ ap (λ cs. run_from d first.left (tasks (command_trees cs) ++ finish ∷ []) (at_start c.args.mode presets)) (sym c.commands.ensures.whole)
+    ∙ ap (λ ts. run_from d first.left ts (at_start c.args.mode presets)) (sym c.new-agenda.ensures.to_do)
+    ∙ ap (λ p. run_from d first.left (to_do first.frames.items) (record { offset = p; store = initial presets; mode = c.args.mode })) (sym (ap (λ s. s.offset) e.begins.spot))
+    ∙ ap (λ h. run_from d first.left (to_do first.frames.items) (record { offset = c.in_ok-cursor.cursor.spot.offset; store = h; mode = c.args.mode })) (sym c.in_ok-store.ensures.pins)) f))
 
 pub returns-clause-given : goal.returns-clause-given
 returns-clause-given g c =
     let e = c.in_ok-cursor.ensures in
-    given_count c.args.testdata.now _ c.in_ok-cursor.cursor c.run_program.new.cursor c.args.limits.bytes _ _ e.source (search rules) e.begins e.stands c.run_program.ensures.run c.taken.ensures.taken
+    given_count c.args.testdata.now _ c.in_ok-cursor.cursor c.run_program-ended.new.run.cursor c.args.limits.bytes _ _ e.source (search rules) e.begins e.stands c.run_program-ended.ensures.ends.goes c.taken.ensures.taken
+
+pub run_program-ended-requires-clause-known : goal.run_program-ended-requires-clause-known
+run_program-ended-requires-clause-known g c =
+    let ps = c.in_ok-matchers.matchers.items in
+    let program = command_trees c.args.plan.now in
+    known_as ps _ _ _ c.deref_mut.ensures.value (c.new-agenda.ensures.to_do ∙ ap (λ cs. tasks (command_trees cs) ++ finish ∷ []) c.commands.ensures.whole)
+    (known_append ps (tasks program) (finish ∷ []) (known_tasks ps program c.in_ok-matchers.ensures.numbered) (tt, tt))

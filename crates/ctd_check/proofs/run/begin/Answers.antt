@@ -1,25 +1,29 @@
-use Rattle.std.proofs.Common.{◌≡◌, ap, sym, ◌∙◌}
-use Rattle.ctd_source.proofs.Going.{goes_so, goes_nowhere}
+use Rattle.std.proofs.Common.{◌++◌, ap, ◌∙◌}
 use Rattle.ctd_syntax.specs.View.{command_tree}
-use Rattle.ctd_check.specs.Run.{start}
-use Rattle.ctd_check.specs.Steps.{at_limit, outcome_of}
-use Rattle.ctd_check.proofs.Running.{ended_as, site_is, task_done, task_refused, task_unpaid}
+use Rattle.ctd_check.specs.declared.failure.Halt.TheVariants.{Ended}
+use Rattle.ctd_check.specs.Loops.{start}
+use Rattle.ctd_check.specs.Pending.{to_do, left_tasks}
+use Rattle.ctd_check.specs.Failures.{at_limit, halt_of}
+use Rattle.ctd_check.proofs.Knowing.{known_append, known_as}
+use Rattle.ctd_check.proofs.Running.{site_is, task_done, task_failed, task_unpaid}
 use Rattle.ctd_check.proofs.run.begin.Goals as goal
 
-pub returns-in-Err-clause-run : goal.returns-in-Err-clause-run
-returns-in-Err-clause-run g c =
-    let command = c.args.command.now in
-    goes_so (goes_nowhere c.args.cursor.now)
-    (λ d stand _ rest. task_unpaid d (start (command_tree command)) _ _ c.args.cursor.now.spot.offset c.spot-spot.result _ rest c.in-Err.ensures.none.0 c.in-Err.ensures.none.1
-    (c.spot-spot.ensures ∙ stand.before.spot) (c.in-Err.ensures.limit ∙ ap (at_limit c.spot-spot.result) (site_is command)))
+pub returns-in_err-pay-clause-advances : goal.returns-in_err-pay-clause-advances
+returns-in_err-pay-clause-advances g c =
+    task_unpaid c.args.run.now (start (command_tree c.args.command.now)) _ c.spot-spot.result c.in_err-pay.field-0.0 _ c.pay.new.self _ c.from_residual.ensures c.in_err-pay.ensures.none.0 c.in_err-pay.ensures.none.1 c.spot-spot.ensures
+    (c.in_err-pay.ensures.limit ∙ ap (λ s. Ended (at_limit c.spot-spot.result s)) (site_is c.args.command.now))
 
-pub returns-in-Ok-clause-run : goal.returns-in-Ok-clause-run
-returns-in-Ok-clause-run g c =
-    goes_so c.in-Ok.ensures.effect (λ d _ e rest. task_done d (start (command_tree c.args.command.now)) _ _ c.args.cursor.now.spot.offset _ rest c.in_default.ensures.paid e)
+pub returns-in-Ok-clause-advances : goal.returns-in-Ok-clause-advances
+returns-in-Ok-clause-advances g c =
+    task_done c.args.run.now c.start.new.self (start (command_tree c.args.command.now)) _ c.pay.new.self.left (left_tasks c.in-Ok.frame) _ c.leave.new.self c.in_ok-pay.ensures.paid c.leave.ensures.left
+    (c.leave.ensures.to_do ∙ ap (λ f. left_tasks c.in-Ok.frame ++ to_do f.items) c.in_ok-pay.ensures.frames) c.in-Ok.ensures.performs
 
-pub returns-in-Err-perform-clause-run : goal.returns-in-Err-perform-clause-run
-returns-in-Err-perform-clause-run g c =
-    let command = c.args.command.now in
-    goes_so c.in-Err-perform.ensures.effect
-    (λ d stand e rest. task_refused d (start (command_tree command)) _ _ c.args.cursor.now.spot.offset _ c.spot-spot.result c.in-Err-perform.refusal rest c.in_default.ensures.paid (c.spot-spot.ensures ∙ stand.before.spot) e
-    ∙ ended_as _ _ _ _ (sym (c.outcome.ensures ∙ ap (λ s. outcome_of c.spot-spot.result s c.in-Err-perform.refusal) (site_is command))))
+pub returns-in-Err-clause-advances : goal.returns-in-Err-clause-advances
+returns-in-Err-clause-advances g c =
+    task_failed c.args.run.now c.start.new.self (start (command_tree c.args.command.now)) _ c.spot-spot.result c.halt.result c.in-Err.failure _ c.pay.new.self c.in_ok-pay.ensures.paid c.spot-spot.ensures
+    (c.halt.ensures ∙ ap (λ s. halt_of c.spot-spot.result s c.in-Err.failure) (site_is c.args.command.now)) c.in-Err.ensures.performs
+
+pub returns-in-Ok-clause-known : goal.returns-in-Ok-clause-known
+returns-in-Ok-clause-known g c =
+    known_as c.args.matchers.now _ _ _ c.start.ensures.kept (c.leave.ensures.to_do ∙ ap (λ f. left_tasks c.in-Ok.frame ++ to_do f.items) c.in_ok-pay.ensures.frames)
+    (known_append c.args.matchers.now (left_tasks c.in-Ok.frame) (to_do c.args.agenda.now.frames.items) c.in-Ok.ensures.known c.requires.known.1)

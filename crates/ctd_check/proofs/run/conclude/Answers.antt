@@ -1,23 +1,17 @@
-use Rattle.std.proofs.Common.{◌≡◌, [], ap, sym, ◌∙◌, arith}
-use Rattle.ctd_source.proofs.Going.{goes_so, goes_nowhere}
-use Rattle.ctd_check.specs.Run.{finish}
-use Rattle.ctd_check.specs.Steps.{outcome_of}
-use Rattle.ctd_check.proofs.Running.{ended_as, task_done, task_refused, task_unpaid}
+use Rattle.std.proofs.Common.{[], ap}
+use Rattle.ctd_check.specs.Loops.{finish}
+use Rattle.ctd_check.specs.Pending.{to_do}
+use Rattle.ctd_check.proofs.Acts.{performs_answering}
+use Rattle.ctd_check.proofs.Running.{ends_done, ends_failed, ends_unpaid}
 use Rattle.ctd_check.proofs.run.conclude.Goals as goal
 
-pub returns-in-Err : goal.returns-in-Err
-returns-in-Err g c = record {
-  spent = omega arith;
-  run = goes_so (goes_nowhere c.args.cursor.now)
-      (λ d stand _. task_unpaid d finish _ _ c.args.cursor.now.spot.offset c.spot-spot.result _ [] c.in-Err.ensures.none.0 c.in-Err.ensures.none.1 (c.spot-spot.ensures ∙ stand.before.spot) c.in-Err.ensures.limit);
-}
+pub returns-in_err-pay-clause-ends : goal.returns-in_err-pay-clause-ends
+returns-in_err-pay-clause-ends g c =
+    ends_unpaid c.args.run.now finish _ _ _ c.spot-spot.result c.in_err-pay.field-0.0 _ c.from_residual.ensures c.in_err-pay.ensures.none.0 c.in_err-pay.ensures.none.1 (ap to_do c.requires.done) c.spot-spot.ensures c.in_err-pay.ensures.limit
 
-pub returns-in-Ok : goal.returns-in-Ok
-returns-in-Ok g c = record { spent = omega arith; run = goes_so c.in-Ok.ensures.effect (λ d _ e. task_done d finish _ _ c.args.cursor.now.spot.offset _ [] c.in_default.ensures.paid e) }
+pub returns-in-Ok-clause-ends : goal.returns-in-Ok-clause-ends
+returns-in-Ok-clause-ends g c = ends_done c.args.run.now c.end.new.self finish _ _ _ c.in_ok-pay.ensures.paid (ap to_do c.requires.done) (performs_answering (λ _. []) c.in-Ok.ensures.performs)
 
-pub returns-in-Err-end : goal.returns-in-Err-end
-returns-in-Err-end g c = record {
-  spent = omega arith;
-  run = goes_so c.in-Err-end.ensures.effect
-      (λ d stand e. task_refused d finish _ _ c.args.cursor.now.spot.offset _ c.spot-spot.result c.in-Err-end.refusal [] c.in_default.ensures.paid (c.spot-spot.ensures ∙ stand.before.spot) e ∙ ended_as _ _ _ _ (sym c.outcome.ensures));
-}
+pub returns-in-Err-clause-ends : goal.returns-in-Err-clause-ends
+returns-in-Err-clause-ends g c =
+    ends_failed c.args.run.now c.end.new.self finish _ _ _ c.spot-spot.result c.halt.result c.in-Err.failure c.in_ok-pay.ensures.paid (ap to_do c.requires.done) c.spot-spot.ensures c.halt.ensures (performs_answering (λ _. []) c.in-Err.ensures.performs)

@@ -1,6 +1,6 @@
-use Rattle.std.proofs.Common.{◌≡◌, refl, ap, sym, ◌∙◌, arith, subst}
+use Rattle.std.proofs.Common.{◌∙◌, arith}
 use Rattle.ctd_source.specs.ReadingOn.{gave_nothing}
-use Rattle.ctd_check.proofs.PulledText.{going_after, pulled_more, pulled_nothing, pulled_last, pulled_end}
+use Rattle.ctd_check.proofs.PulledText.{going_after, pulled_more}
 use Rattle.ctd_check.proofs.text.fill.Goals as goal
 
 pub loop-count-init : goal.loop-count-init
@@ -12,5 +12,5 @@ loop-count-preserved g c =
     record {
       within = c.in-Ok.ensures.bound;
       going = c.in-Ok.ensures.seen ∙ going_after c.in-Ok.more c.in-Ok.more-test.1;
-      gave = pulled_more g.P.Source _ _ _ _ c.pull_behind.new.room c.loop-count.count c.in-Ok.more i.going c.in-Ok.ensures.front c.in-Ok.ensures.bound c.in-Ok.ensures.given c.in-Ok.ensures.bytes i.gave;
+      gave = pulled_more g.P.Source _ _ _ _ c.pull_behind.new.room c.loop-count.count c.in-Ok.more i.going c.in-Ok.ensures.front c.in-Ok.ensures.bound c.in-Ok.ensures.given c.in-Ok.ensures.bytes (c.in-Ok.ensures.end i.going) i.gave;
     }

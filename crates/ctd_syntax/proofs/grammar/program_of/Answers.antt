@@ -7,6 +7,7 @@ use Rattle.ctd_syntax.specs.Nesting.{start, too_deep}
 use Rattle.ctd_syntax.specs.Reading.{Parses}
 use Rattle.ctd_syntax.specs.View.{command_list, command_trees}
 use Rattle.ctd_syntax.proofs.Trees.{list_commands}
+use Rattle.ctd_syntax.proofs.Numbers.{reads_numbered}
 use Rattle.ctd_syntax.proofs.Parsing.{parsed, left_over, unspelled, no_program, nothing, something}
 use Rattle.ctd_syntax.proofs.grammar.program_of.Goals as goal
 
@@ -15,6 +16,9 @@ returns-then-is_empty-clause-parses c =
     let found = subst (λ l. Found IsCommands CommandsEnd l (command_list c.in-Ok.commands) (map piece c.in-Ok.rest.now)) (ap (map piece) c.as_slice-2.ensures.value ∙ c.in_ok-pieces.ensures) c.in-Ok.ensures.tree in
     subst (Parses c.args.text.now) (list_commands c.in-Ok.commands ∙ ap command_trees (sym c.new.ensures))
     (parsed c.args.text.now c.args.tokens.now (command_list c.in-Ok.commands) (map piece c.in-Ok.rest.now) c.requires (ap (too_deep start) (sym (ap (map piece) c.as_slice.ensures.value ∙ c.in_ok-pieces.ensures)) ∙ sym c.in_ok-before.ensures ∙ c.in_default.is) found (nothing piece c.in-Ok.rest.now (sym c.is_empty.ensures ∙ c.if-is_empty.true)))
+
+pub returns-then-is_empty-clause-numbered : goal.returns-then-is_empty-clause-numbered
+returns-then-is_empty-clause-numbered c = reads_numbered c.args.text.now _ (returns-then-is_empty-clause-parses c).reads
 
 pub returns-in-Ok-clause-refused : goal.returns-in-Ok-clause-refused
 returns-in-Ok-clause-refused c =

@@ -8,5 +8,5 @@ abbrev pub invariant-loop-byte : goal.invariant-loop-byte
 invariant-loop-byte l = record {
   count : l.count ≡ l.byte-index;
   front : prefix_len is_ascii_digit l.bytes ≡ l.byte-index + prefix_len is_ascii_digit (drop l.byte-index l.bytes);
-  seen : (digits : List ℕ) → AreSeen l.initial.self digits → AreSeen l.self (digits ++ take l.byte-index l.bytes);
+  seen : (digits : List ℕ) → AreSeen l.initial.self digits → AreSeen l.seen (digits ++ take l.byte-index l.bytes);
 }

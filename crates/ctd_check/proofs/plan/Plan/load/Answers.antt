@@ -2,5 +2,5 @@ use Rattle.ctd_syntax.specs.View.{command_trees}
 use Rattle.ctd_check.proofs.Loads.{wants_memory}
 use Rattle.ctd_check.proofs.plan.Plan.load.Goals as goal
 
-pub returns-in_default : goal.returns-in_default
-returns-in_default g c = record { loads = wants_memory command_trees g.P.Source c.args.program.now }
+pub returns-in_default-clause-loads : goal.returns-in_default-clause-loads
+returns-in_default-clause-loads g c = wants_memory command_trees g.P.Source c.args.program.now

@@ -1,0 +1,50 @@
+-- Laws of what a command line is answered.
+use Rattle.std.proofs.Common.{◌≡◌, ℕ, List, Option, Result, Ok, Err, inl, inr, refl, subst}
+use Rattle.std.specs.declared.alloc.Global.{Global}
+use Rattle.std.specs.declared.io.buffered.BufReader.{BufReader}
+use Rattle.ctd_source.specs.declared.from_read.FromRead.{FromRead}
+use Rattle.ctd_source.specs.declared.source.Source.{Ghosts}
+use Rattle.checktestdata.proofs.HeadlineLemmas.{IsReport-IsFileReport}
+use Rattle.checktestdata.specs.declared.files.Sources.{Sources}
+use Rattle.checktestdata.specs.declared.sink.Sink as sinks
+use Rattle.checktestdata.specs.declared.setup.Setup.{Setup}
+use Rattle.checktestdata.specs.declared.setup.UsageFault.TheVariants as usage
+use Rattle.checktestdata.specs.Files.{Visit, IsFilesReport}
+use Rattle.checktestdata.specs.declared.report.ToolFault.{ToolFault}
+use Rattle.checktestdata.specs.declared.report.ToolFault.TheVariants.{Memory, Write}
+use Rattle.checktestdata.specs.Answer.{Ends, IsAnswer}
+use Rattle.checktestdata.specs.Report.{Report, IsToolReport}
+use Rattle.checktestdata.specs.Written.{Change, LeavesOneOf}
+
+-- what ends in one of some reports ends in one of more
+pub Ends-weaker : {O E : Type 0} {S : sinks.Ghosts O} {T : sinks.Ghosts E} (out : Change S) (err : Change T) (IsReport IsMore : Report → Type 0) (status : ℕ)
+    → ((report : Report) → IsReport report → IsMore report) → Ends out err IsReport status → Ends out err IsMore status
+Ends-weaker out err IsReport IsMore status more h = (h.0, more h.0 h.1, h.2)
+
+-- what leaves one of some reports, with its status, ends so
+pub LeavesOneOf-Ends : {O E : Type 0} {S : sinks.Ghosts O} {T : sinks.Ghosts E} (out : Change S) (err : Change T) (IsReport : Report → Type 0) (status : ℕ)
+    → LeavesOneOf out err IsReport (Ok status) → Ends out err IsReport status
+LeavesOneOf-Ends out err IsReport status h = (h.0, h.1, inl h.2)
+
+-- where a stream failed, the status is 2
+pub BreaksOff-Ends : {O E : Type 0} {S : sinks.Ghosts O} {T : sinks.Ghosts E} (out : Change S) (err : Change T) (IsReport : Report → Type 0)
+    → LeavesOneOf out err IsReport (Err Write) → Ends out err IsReport 2
+BreaksOff-Ends out err IsReport h = (h.0, h.1, inr (h.2, refl))
+
+-- what a command line is answered of files is a report of files
+IsFilesReport-IsToolReport : {F R : Type 0} (remaining : R → Option (List ℕ)) (G : Ghosts (FromRead (BufReader R Global))) (s : Setup) (v : Visit F R) (sources : Option (Sources R)) (report : Report)
+    → IsFilesReport remaining G s v sources report → IsToolReport report
+IsFilesReport-IsToolReport remaining G s v sources report (inl run) = inl (s.quiet, IsReport-IsFileReport s _ _ report run.3.reports)
+IsFilesReport-IsToolReport remaining G s v sources report (inr refused) = inl (s.quiet, inr (inr (refused.0, refused.2)))
+
+-- what a command line is answered is a report of the tool
+pub IsAnswer-IsToolReport : {F R : Type 0} (remaining : R → Option (List ℕ)) (G : Ghosts (FromRead (BufReader R Global))) (words : List (List ℕ)) (v : Visit F R) (sources : Option (Sources R)) (report : Report)
+    → IsAnswer remaining G words v sources report → IsToolReport report
+IsAnswer-IsToolReport remaining G words v sources report (inl h) = IsFilesReport-IsToolReport remaining G h.0 v sources report h.2
+IsAnswer-IsToolReport remaining G words v sources report (inr (inl h)) = inr (h.0, h.3)
+IsAnswer-IsToolReport remaining G words v sources report (inr (inr h)) = inr (usage.Memory, h)
+
+-- for want of memory nothing was written
+pub Memory-untouched : {O E : Type 0} {S : sinks.Ghosts O} {T : sinks.Ghosts E} (out : Change S) (err : Change T) (IsReport : Report → Type 0) (answer : Result ℕ ToolFault)
+    → answer ≡ Err Memory → LeavesOneOf out err IsReport answer → (out.new ≡ out.old) × (err.new ≡ err.old)
+Memory-untouched out err IsReport answer is h = subst (LeavesOneOf out err IsReport) is h

@@ -1,0 +1,11 @@
+//! Laws of the command line, and no code: a contract is the statement of each.
+
+ghost use Rattle.std.specs.Prelude.{ℕ, List};
+ghost use Rattle.clap.specs.Words.{fault_of};
+ghost use Rattle.checktestdata.specs.CommandLine.{checker};
+ghost use Rattle.checktestdata.specs.Usage.{IsSingle};
+
+/// Whatever the words, clap has one kind of error for them at most, so a fault is the one that they have.
+pub fn refusals_have_one_kind()
+    ensures { (words : List (List ℕ)) → IsSingle (fault_of checker words) }
+{}

@@ -1,0 +1,77 @@
+-- What is to be done finds its patterns.
+use Rattle.std.proofs.Common.{◌≡◌, ◌<◌, ◌+◌, ℕ, zero, suc, arith, refl, ap, append_assoc, length-append, List, [], ◌∷◌, ◌++◌, length, get_or, Some, sym, ◌∙◌, subst}
+use Rattle.std.specs.Prelude.{slice_get}
+use Rattle.std.specs.List.{range_with_len}
+use Rattle.std.proofs.lemmas.Option.{slice_get_within, slice_get-get_or}
+use Rattle.ctd_syntax.specs.declared.tree.PatternLiteral.{PatternLiteral}
+use Rattle.ctd_syntax.specs.Numbering.{command_literals, separator_literals, literals, numbers_of}
+use Rattle.ctd_syntax.specs.Tree
+use Rattle.ctd_syntax.specs.Tree.{CommandList, Separator}
+use Rattle.ctd_check.specs.Known.{IsAmong, AreAmong, AreKnown, texts_of}
+use Rattle.ctd_check.specs.Loops.{Task, Loop, turn, tasks, separated}
+
+pub among_front : (ps : List (List ℕ)) (ls ms : List PatternLiteral) → AreAmong ps (ls ++ ms) → AreAmong ps ls
+among_front ps [] ms h = tt
+among_front ps (l ∷ ls) ms h = (h.0, among_front ps ls ms h.1)
+
+pub among_back : (ps : List (List ℕ)) (ls ms : List PatternLiteral) → AreAmong ps (ls ++ ms) → AreAmong ps ms
+among_back ps [] ms h = h
+among_back ps (l ∷ ls) ms h = among_back ps ls ms h.1
+
+pub known_append : (ps : List (List ℕ)) (ts us : List Task) → AreKnown ps ts → AreKnown ps us → AreKnown ps (ts ++ us)
+known_append ps [] us f g = g
+known_append ps (t ∷ ts) us f g = (f.0, known_append ps ts us f.1 g)
+
+-- the commands of a list
+pub known_tasks : (ps : List (List ℕ)) (cs : CommandList) → AreAmong ps (literals cs) → AreKnown ps (tasks cs)
+known_tasks ps Tree.done h = tt
+known_tasks ps (Tree.then c rest) h = (among_front ps (command_literals c) (literals rest) h, known_tasks ps rest (among_back ps (command_literals c) (literals rest) h))
+
+-- a separator
+pub known_separated : (ps : List (List ℕ)) (k : ℕ) (sep : Separator) → AreAmong ps (separator_literals sep) → AreKnown ps (separated k sep)
+known_separated ps zero sep h = tt
+known_separated ps (suc k) Tree.nothing h = tt
+known_separated ps (suc k) (Tree.between c) h = (h, tt)
+
+-- a turn that goes on: its body and the next turn, before the rest
+pub known_turn : (ps : List (List ℕ)) (loop : Loop) (k n : ℕ) (rest : List Task) → AreKnown ps (turn loop k ∷ rest) → AreKnown ps ((tasks loop.body ++ turn loop n ∷ []) ++ rest)
+known_turn ps loop k n rest h =
+    known_append ps (tasks loop.body ++ turn loop n ∷ []) rest
+    (known_append ps (tasks loop.body) (turn loop n ∷ []) (known_tasks ps loop.body (among_back ps (separator_literals loop.between) (literals loop.body) h.0)) (h.0, tt)) h.1
+
+-- the same tasks under another name
+pub known_as : (ps qs : List (List ℕ)) (ts us : List Task) → qs ≡ ps → us ≡ ts → AreKnown ps ts → AreKnown qs us
+known_as ps qs ts us same is h =
+    let P : List (List ℕ) → Type 0 = λ x. AreKnown x us in
+    let Q : List Task → Type 0 = λ x. AreKnown ps x in
+    subst P (sym same) (subst Q (sym is) h)
+
+-- what stands at a literal's number is its pattern
+pub at_number : (ps : List (List ℕ)) (l : PatternLiteral) (d : List ℕ) → IsAmong ps l → get_or ps l.number d ≡ l.bytes
+at_number ps l d among =
+    let within : l.number < length ps = slice_get_within ps l.number l.bytes among in
+    let both : Some (get_or ps l.number d) ≡ Some l.bytes = sym (slice_get-get_or ps l.number d within) ∙ among in
+    cc
+
+next_at : (before : List (List ℕ)) (x : List ℕ) (rest : List (List ℕ)) → slice_get (before ++ x ∷ rest) (length before) ≡ Some x
+next_at before x rest =
+    slice_get-get_or (before ++ x ∷ rest) (length before) x (omega (arith, length-append before (x ∷ rest))) ∙ ap Some (at_end before x rest)
+  where
+    at_end : (before : List (List ℕ)) (x : List ℕ) (rest : List (List ℕ)) → get_or (before ++ x ∷ rest) (length before) x ≡ x
+    at_end [] x rest = refl
+    at_end (b ∷ bs) x rest = at_end bs x rest
+
+numbered_behind : (before : List (List ℕ)) (ls : List PatternLiteral) → numbers_of ls ≡ range_with_len (length before) (length ls) → AreAmong (before ++ texts_of ls) ls
+numbered_behind before [] e = tt
+numbered_behind before (l ∷ ls) e =
+    let here : l.number ≡ length before = cc in
+    let rest : numbers_of ls ≡ range_with_len (length before + 1) (length ls) = cc in
+    let longer : length before + 1 ≡ length (before ++ l.bytes ∷ []) = omega (arith, length-append before (l.bytes ∷ [])) in
+    let P : List (List ℕ) → Type 0 = λ ps. AreAmong ps ls in (
+      ap (slice_get (before ++ l.bytes ∷ texts_of ls)) here ∙ next_at before l.bytes (texts_of ls),
+      subst P (append_assoc before (l.bytes ∷ []) (texts_of ls)) (numbered_behind (before ++ l.bytes ∷ []) ls (rest ∙ ap (λ n. range_with_len n (length ls)) longer)),
+    )
+
+-- literals that are numbered in order stand at their numbers
+pub numbered_among : (ps : List (List ℕ)) (ls : List PatternLiteral) → ps ≡ texts_of ls → numbers_of ls ≡ range_with_len 0 (length ls) → AreAmong ps ls
+numbered_among ps ls is e = let P : List (List ℕ) → Type 0 = λ x. AreAmong x ls in subst P (sym is) (numbered_behind [] ls e)

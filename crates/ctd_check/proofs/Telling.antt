@@ -1,0 +1,89 @@
+-- Faults of values and tests, as what they mean for a run.
+use Rattle.std.proofs.Common.{◌≡◌, Bool, refl, ap, ◌∙◌, subst, Result, Ok, Err, None}
+use Rattle.ctd_source.specs.declared.source.Source.{Ghosts}
+use Rattle.ctd_source.specs.declared.cursor.Cursor.{Cursor}
+use Rattle.ctd_source.specs.Standing.{StandsFor}
+use Rattle.ctd_source.specs.Sight.{sight, ReadsOn}
+use Rattle.ctd_source.specs.TestData.{TestData}
+use Rattle.ctd_source.proofs.Going.{goes_so, goes_reading}
+use Rattle.ctd_syntax.specs.Tree.{TestTree}
+use Rattle.ctd_value.specs.declared.fault.EvalFault.TheVariants as evals
+use Rattle.ctd_value.specs.declared.fault.TestFault.{TestFault}
+use Rattle.ctd_value.specs.declared.fault.TestFault.TheVariants as tests
+use Rattle.ctd_value.specs.Fault.{ValueFault, TruthFault, with_fault, test_fault, Answers, ◌>>=◌}
+use Rattle.ctd_value.specs.Fault as faults
+use Rattle.ctd_value.specs.Truth.{truth}
+use Rattle.ctd_check.specs.declared.machine.Run.{Run}
+use Rattle.ctd_check.specs.declared.outcome.Fault.{Fault}
+use Rattle.ctd_check.specs.declared.outcome.Fault.TheVariants.{Undefined, WrongType, Overflow, DivisionByZero, Exponent, Count, Shape, StepLimit}
+use Rattle.ctd_check.specs.State.{State, done, faulty, proceed, told, fault_of_value, fault_of_truth, fault_of_look}
+use Rattle.ctd_check.specs.Effect.{answer}
+use Rattle.ctd_check.specs.Failures.{test_failure}
+use Rattle.ctd_check.specs.Performs.{Does, state, Performs}
+use Rattle.ctd_check.proofs.Acts.{with_cursor}
+
+-- a value and then what is made of it
+pub told_both : {A B : Type 0} (r : Result A ValueFault) (f : A → Result B ValueFault) (s : State)
+    → proceed (told (with_fault fault_of_value r) s) (λ x t. told (with_fault fault_of_value (f x)) t) ≡ told (with_fault fault_of_value (r >>= f)) s
+told_both (Ok x) f s = refl
+told_both (Err e) f s = refl
+
+-- the fault of a test that had one, other than want of memory
+fault_in : TestFault → Fault
+fault_in (tests.Eval evals.Undefined) = Undefined
+fault_in (tests.Eval evals.WrongType) = WrongType
+fault_in (tests.Eval evals.Overflow) = Overflow
+fault_in (tests.Eval evals.DivisionByZero) = DivisionByZero
+fault_in (tests.Eval evals.Exponent) = Exponent
+fault_in (tests.Eval evals.Count) = Count
+fault_in (tests.Eval evals.Shape) = Shape
+fault_in (tests.Eval evals.Memory) = StepLimit
+fault_in (tests.Look fault) = fault_of_look fault
+
+same_fault : (r : Result Bool TruthFault) → with_fault fault_of_truth r ≡ with_fault fault_in (with_fault test_fault r)
+unfolding fault_in
+same_fault (Ok b) = refl
+same_fault (Err (faults.Value faults.Undefined)) = refl
+same_fault (Err (faults.Value faults.WrongType)) = refl
+same_fault (Err (faults.Value faults.Overflow)) = refl
+same_fault (Err (faults.Value faults.DivisionByZero)) = refl
+same_fault (Err (faults.Value faults.Exponent)) = refl
+same_fault (Err (faults.Value faults.Count)) = refl
+same_fault (Err (faults.Value faults.Shape)) = refl
+same_fault (Err (faults.Look fault)) = refl
+
+told_fault : (fault : TestFault) (meant : Result Bool TruthFault) (s : State) → with_fault test_fault meant ≡ Err fault → told (with_fault fault_of_truth meant) s ≡ faulty (fault_in fault) s.offset
+told_fault fault meant s is = ap (λ m. told m s) (same_fault meant ∙ ap (with_fault fault_in) is)
+
+does_fault : (fault : TestFault) (meant : Result Bool TruthFault) (s : State) → Answers {X = Bool} (Err fault) meant → Does {A = Bool} (Err (test_failure fault)) s (told (with_fault fault_of_truth meant) s)
+unfolding fault_in
+does_fault (tests.Eval evals.Undefined) meant s is = told_fault (tests.Eval evals.Undefined) meant s is
+does_fault (tests.Eval evals.WrongType) meant s is = told_fault (tests.Eval evals.WrongType) meant s is
+does_fault (tests.Eval evals.Overflow) meant s is = told_fault (tests.Eval evals.Overflow) meant s is
+does_fault (tests.Eval evals.DivisionByZero) meant s is = told_fault (tests.Eval evals.DivisionByZero) meant s is
+does_fault (tests.Eval evals.Exponent) meant s is = told_fault (tests.Eval evals.Exponent) meant s is
+does_fault (tests.Eval evals.Count) meant s is = told_fault (tests.Eval evals.Count) meant s is
+does_fault (tests.Eval evals.Shape) meant s is = told_fault (tests.Eval evals.Shape) meant s is
+does_fault (tests.Eval evals.Memory) meant s is = tt
+does_fault (tests.Look fault) meant s is = told_fault (tests.Look fault) meant s is
+
+module _ {R : Type 0} {G : Ghosts R} where
+  -- a test that was answered
+  pub answered : (a : Run R G) (now : Cursor R G) (t : TestTree) (b : Bool) → ReadsOn a.cursor now → now.fault ≡ None → ((d : TestData) → StandsFor d (sight now) → Answers (Ok b) (truth t a.store d now.spot.offset))
+      → Performs a (with_cursor a now) (Ok b) (answer t)
+  answered a now t b r sound is = record {
+    sound = sound;
+    goes = goes_so (goes_reading a.cursor now r) (λ d stand _.
+        let P : _ → Type 0 = λ s. told (with_fault fault_of_truth (truth t a.store d s.offset)) (record { offset = s.offset; store = a.store; mode = a.mode }) ≡ done b (state (with_cursor a now)) in
+        subst P r.spot (ap (λ m. told (with_fault fault_of_truth m) (state (with_cursor a now))) (is d stand.after)));
+  }
+
+  -- one that was not
+  pub unanswered : (a : Run R G) (now : Cursor R G) (t : TestTree) (fault : TestFault) → ReadsOn a.cursor now → ((d : TestData) → StandsFor d (sight now) → Answers {X = Bool} (Err fault) (truth t a.store d now.spot.offset))
+      → Performs {A = Bool} a (with_cursor a now) (Err (test_failure fault)) (answer t)
+  unanswered a now t fault r is = record {
+    sound = tt;
+    goes = goes_so (goes_reading a.cursor now r) (λ d stand _.
+        let P : _ → Type 0 = λ s. Does {A = Bool} (Err (test_failure fault)) (state (with_cursor a now)) (told (with_fault fault_of_truth (truth t a.store d s.offset)) (record { offset = s.offset; store = a.store; mode = a.mode })) in
+        subst P r.spot (does_fault fault (truth t a.store d now.spot.offset) (state (with_cursor a now)) (is d stand.after)));
+  }

@@ -1,0 +1,18 @@
+use Rattle.std.proofs.Common.{arith, ◌∷◌, [], ap, sym, ◌∙◌}
+use Rattle.ctd_syntax.specs.Tree.{list_blocks, separator_blocks}
+use Rattle.ctd_syntax.specs.View.{command_trees, boxed_separator}
+use Rattle.ctd_syntax.proofs.Trees.{list_commands}
+use Rattle.ctd_check.specs.Loops.{loop_of, turn}
+use Rattle.ctd_check.specs.Pending.{guard_in, counter_in}
+use Rattle.ctd_check.proofs.loops.loop_frame.Goals as goal
+
+pub returns-clause-tasks : goal.returns-clause-tasks
+returns-clause-tasks c =
+    let body = ap command_trees c.as_slice.ensures ∙ sym (list_commands c.args.body.now) in
+    ap (λ s. turn (loop_of c.args.place (guard_in c.args.guard) (counter_in c.args.counter) s (command_trees c.as_slice.result.now)) 0 ∷ []) c.unboxed-between.ensures.same
+    ∙ ap (λ b. turn (loop_of c.args.place (guard_in c.args.guard) (counter_in c.args.counter) (boxed_separator c.args.between.now) b) 0 ∷ []) body
+
+pub returns-clause-blocks : goal.returns-clause-blocks
+returns-clause-blocks c =
+    let body = ap command_trees c.as_slice.ensures ∙ sym (list_commands c.args.body.now) in
+    omega (arith, ap separator_blocks c.unboxed-between.ensures.same, ap list_blocks body)

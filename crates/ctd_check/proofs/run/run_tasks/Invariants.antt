@@ -1,0 +1,19 @@
+use Rattle.std.proofs.Common.{◌≡◌, ◌≤◌, ◌+◌, ◌*◌, length}
+use Rattle.ctd_source.specs.Follow.{Goes}
+use Rattle.ctd_check.specs.Run.{run}
+use Rattle.ctd_check.specs.Known.{AreKnown}
+use Rattle.ctd_check.specs.Pending.{to_do}
+use Rattle.ctd_check.specs.Performs.{IsSound, state}
+use Rattle.ctd_check.proofs.run.run_tasks.Given as goal
+
+-- what the frames have still to do is what is left of the whole
+abbrev pub invariant-loop-frame : goal.invariant-loop-frame
+invariant-loop-frame g l = record {
+  sound : IsSound l.run;
+  known : AreKnown l.matchers (to_do l.agenda.frames.items);
+  spent : l.agenda.left ≤ l.initial.agenda.left;
+  goes : Goes l.initial.run.cursor l.run.cursor (λ d. run d l.initial.agenda.left (to_do l.initial.agenda.frames.items) (state l.initial.run) ≡ run d l.agenda.left (to_do l.agenda.frames.items) (state l.run));
+}
+
+abbrev pub decreases-loop-frame : goal.decreases-loop-frame
+decreases-loop-frame g l = 2 * l.agenda.left + length l.agenda.frames.items

@@ -1,0 +1,37 @@
+-- What is to be done finds its patterns by their numbers.
+use Rattle.std.specs.Prelude.{◌≡◌, ℕ, List, [], ◌∷◌, ◌++◌, map, slice_get, Some, Option, Result, Ok, Err}
+use Rattle.ctd_syntax.specs.declared.tree.PatternLiteral.{PatternLiteral}
+use Rattle.ctd_syntax.specs.Numbering.{command_literals, separator_literals, literals}
+use Rattle.ctd_check.specs.declared.frame.Frame.{Frame}
+use Rattle.ctd_check.specs.declared.failure.CommandFailure.{CommandFailure}
+use Rattle.ctd_check.specs.Loops.{Task, start, turn, finish}
+use Rattle.ctd_check.specs.Pending.{left_tasks}
+
+-- the bytes of some literals
+abbrev pub texts_of : List PatternLiteral → List (List ℕ)
+texts_of ls = map (λ l. l.bytes) ls
+
+-- of these patterns, each seen as the bytes of its literal, that of a literal stands at its number
+abbrev pub IsAmong : List (List ℕ) → PatternLiteral → Type 0
+IsAmong patterns literal = slice_get patterns literal.number ≡ Some literal.bytes
+
+-- those of all these literals do
+abbrev pub AreAmong : List (List ℕ) → List PatternLiteral → Type 0
+AreAmong patterns [] = Unit {0}
+AreAmong patterns (l ∷ ls) = IsAmong patterns l × AreAmong patterns ls
+
+-- the literals of a task
+abbrev pub task_literals : Task → List PatternLiteral
+task_literals (start c) = command_literals c
+task_literals (turn loop k) = separator_literals loop.between ++ literals loop.body
+task_literals finish = []
+
+-- the patterns of all tasks are among these
+abbrev pub AreKnown : List (List ℕ) → List Task → Type 0
+AreKnown patterns [] = Unit {0}
+AreKnown patterns (t ∷ ts) = AreAmong patterns (task_literals t) × AreKnown patterns ts
+
+-- those of the frame that a command leaves, if it leaves one
+abbrev pub LeavesKnown : List (List ℕ) → Result (Option Frame) CommandFailure → Type 0
+LeavesKnown patterns (Ok frame) = AreKnown patterns (left_tasks frame)
+LeavesKnown patterns (Err e) = Unit {0}

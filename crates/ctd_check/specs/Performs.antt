@@ -1,0 +1,80 @@
+-- What the parts of an interpreter ensure.
+use Rattle.std.specs.Prelude.{◌≡◌, ℕ, Option, None, Result, Ok, Err, OnOk, List, []}
+use Rattle.ctd_source.specs.declared.source.Source.{Ghosts}
+use Rattle.ctd_source.specs.TestData.{TestData}
+use Rattle.ctd_source.specs.Follow.{Goes}
+use Rattle.ctd_check.specs.declared.agenda.Agenda.{Agenda}
+use Rattle.ctd_check.specs.declared.frame.Frame.{Frame}
+use Rattle.ctd_check.specs.Pending.{to_do, IsWithin}
+use Rattle.ctd_check.specs.declared.machine.Run.{Run}
+use Rattle.ctd_check.specs.declared.outcome.Fault.{Fault}
+use Rattle.ctd_check.specs.declared.failure.CommandFailure.{CommandFailure}
+use Rattle.ctd_check.specs.declared.failure.CommandFailure.TheVariants.{Rejected, Stopped, Memory}
+use Rattle.ctd_check.specs.declared.failure.Halt.{Halt}
+use Rattle.ctd_check.specs.declared.failure.Halt.TheVariants as halts
+use Rattle.ctd_check.specs.State.{State, Effect, Act, done, rejected, faulty}
+use Rattle.ctd_check.specs.Loops.{Task}
+use Rattle.ctd_check.specs.Run.{Ended, stopped, run}
+
+-- the same result, of what its answer stands for
+abbrev pub answering : {A B E : Type 0} → (A → B) → Result A E → Result B E
+answering f (Ok x) = Ok (f x)
+answering f (Err e) = Err e
+
+-- a call that answered this and left this state had this effect; want of memory says nothing of it
+abbrev pub Does : {A : Type 0} → Result A CommandFailure → State → Effect A → Type 0
+Does (Ok x) s e = e ≡ done x s
+Does (Err (Rejected reason)) s e = e ≡ rejected reason s.offset
+Does (Err (Stopped fault)) s e = e ≡ faulty fault s.offset
+Does (Err Memory) s e = Unit {0}
+
+-- a call that looks at no data and leaves all as it is did this, whatever the data and the state
+abbrev pub AlwaysDoes : {A : Type 0} → Result A CommandFailure → Act A → Type 0
+AlwaysDoes r act = (d : TestData) (s : State) → Does r s (act d s)
+
+-- a call that looks at no data answered this
+abbrev pub Tells : {A : Type 0} → Result A CommandFailure → Result A Fault → Type 0
+Tells (Ok x) meant = meant ≡ Ok x
+Tells (Err (Rejected reason)) meant = ⊥
+Tells (Err (Stopped fault)) meant = meant ≡ Err fault
+Tells (Err Memory) meant = Unit {0}
+
+-- a frame that is left has room within so many blocks
+abbrev pub NeedsRoom : Result (Option Frame) CommandFailure → ℕ → Type 0
+NeedsRoom (Ok frame) blocks = IsWithin frame blocks
+NeedsRoom (Err e) blocks = Unit {0}
+
+-- with so many steps left, these tasks and this state the whole run goes on; or it is over, with this outcome
+abbrev pub Follows : {A : Type 0} → TestData → Result A Halt → ℕ → List Task → State → Ended → Type 0
+Follows d (Ok x) left rest s whole = whole ≡ run d left rest s
+Follows d (Err (halts.Ended outcome)) left rest s whole = whole ≡ stopped outcome s.offset left
+Follows d (Err halts.Memory) left rest s whole = Unit {0}
+
+module _ {R : Type 0} {G : Ghosts R} where
+  -- where a run is
+  abbrev pub state : Run R G → State
+  state r = record { offset = r.cursor.spot.offset; store = r.store; mode = r.mode }
+
+  -- its cursor has no fault
+  abbrev pub IsSound : Run R G → Type 0
+  IsSound r = r.cursor.fault ≡ None
+
+  -- for all data that the cursor stands for at the end, the call did this, and answered accordingly
+  pub record Performs {A : Type 0} (old new : Run R G) (result : Result A CommandFailure) (act : Act A) : Type 0 where
+    pub sound : OnOk result (IsSound new)
+    pub goes : Goes old.cursor new.cursor (λ d. Does result (state new) (act d (state old)))
+
+  -- for all these data, what was to be done with so many steps left is what is still to be done, or the run is over
+  pub record Advances {A : Type 0} (old new : Run R G) (left : ℕ) (before : List Task) (agenda : Agenda) (result : Result A Halt) : Type 0 where
+    pub sound : OnOk result (IsSound new)
+    pub goes : Goes old.cursor new.cursor (λ d. Follows d result agenda.left (to_do agenda.frames.items) (state new) (run d left before (state old)))
+
+  -- for all these data, a whole run is over
+  pub record EndsAs {A : Type 0} (old new : Run R G) (whole : TestData → Ended) (left_now : ℕ) (result : Result A Halt) : Type 0 where
+    pub sound : OnOk result (IsSound new)
+    pub goes : Goes old.cursor new.cursor (λ d. Follows d result left_now [] (state new) (whole d))
+
+  -- for all these data, the run of what was to be done with so many steps left is over
+  pub record Ends {A : Type 0} (old new : Run R G) (left : ℕ) (before : List Task) (left_now : ℕ) (result : Result A Halt) : Type 0 where
+    pub sound : OnOk result (IsSound new)
+    pub goes : Goes old.cursor new.cursor (λ d. Follows d result left_now [] (state new) (run d left before (state old)))

@@ -1,0 +1,112 @@
+//! What a run has still to do: its frames, and the steps that are left.
+ghost use Rattle.std.specs.Prelude.{◌≡◌, ◌≤◌, ◌<◌, ◌+◌, ◌-◌, ◌*◌, ◌^◌, ◌++◌, ◌∷◌, [], length, OnOk, IfErr, IfNone, MatchOption};
+ghost use Rattle.ctd_syntax.specs.Tree.{list_blocks};
+ghost use Rattle.ctd_syntax.specs.View.{command_trees};
+ghost use Rattle.ctd_check.specs.declared.failure.Halt.TheVariants.{Ended};
+ghost use Rattle.ctd_check.specs.Loops.{tasks, finish};
+ghost use Rattle.ctd_check.specs.Pending.{Fits, fits_prop, to_do, frame_tasks, left_tasks, frame_blocks, lap_turn, IsWithin};
+ghost use Rattle.ctd_check.specs.Failures.{at_limit};
+
+use crate::failure::Halt;
+use crate::frame::Frame;
+use crate::outcome::{Fault, Outcome, Site};
+use arrayvec::ArrayVec;
+use ctd_source::Spot;
+use ctd_syntax::Command;
+
+/// The program's list, and 200 blocks in one another.
+const MOST_FRAMES: usize = 201;
+
+/// The frames of the blocks that are open, and the steps that are left.
+#[derive(Drop)]
+pub(crate) struct Agenda<'p> {
+    frames: ArrayVec<Frame<'p>, MOST_FRAMES>,
+    left: u64,
+    ghost fits: { Fits left frames.items } by { fits_prop left frames.items },
+}
+
+impl<'p> Agenda<'p> {
+    /// The commands of a program.
+    pub(crate) fn new(commands: &'p [Command], steps: u64) -> Agenda<'p>
+        requires { list_blocks (command_trees commands.now) ≤ 200 }
+        ensures left { result.left ≡ steps }
+        ensures len { length result.frames.items ≡ 1 }
+        ensures to_do { to_do result.frames.items ≡ tasks (command_trees commands.now) ++ finish ∷ [] }
+    {
+        let mut frames = ArrayVec::<Frame, MOST_FRAMES>::new();
+        let frame = Frame {
+            rest: commands,
+            lap: None,
+        };
+        frames.push(frame);
+        Agenda {
+            frames,
+            left: steps,
+        }
+    }
+
+    /// The steps that are left.
+    pub(crate) fn left(&self) -> u64
+        ensures { result ≡ self.now.left }
+    {
+        self.left
+    }
+
+    /// Pays a step, or tells how the run ends where none is left.
+    pub(crate) fn pay(&mut self, spot: Spot, place: Site) -> Result<(), Halt>
+        ensures frames { self.new.frames ≡ self.old.frames }
+        ensures bound { self.new.left + 1 ≤ 2 ^ 64 }
+        ensures spent { self.new.left ≤ self.old.left }
+        ensures paid { OnOk result (self.old.left ≡ self.new.left + 1) }
+        ensures limit { IfErr result (λ halt. halt ≡ Ended (at_limit spot place)) }
+        ensures none { IfErr result (λ _. (self.old.left ≡ 0) × (self.new.left ≡ 0)) }
+    {
+        match self.left.checked_sub(1) {
+            Some(rest) => {
+                self.left = rest;
+                Ok(())
+            }
+            None => Err(Halt::Ended(Outcome::Stopped {
+                spot,
+                place,
+                fault: Fault::StepLimit,
+            })),
+        }
+    }
+
+    /// Takes the topmost frame.
+    pub(crate) fn pop(&mut self) -> Option<Frame<'p>>
+        ensures left { self.new.left ≡ self.old.left }
+        ensures frames { MatchOption result (self.old.frames.items ≡ []) (λ frame. self.old.frames.items ≡ self.new.frames.items ++ frame ∷ []) }
+        ensures empty { IfNone result (self.new.frames.items ≡ []) }
+        ensures room { MatchOption result (Unit {0}) (λ frame. length self.new.frames.items + 1 + frame_blocks frame ≤ 201) }
+        ensures turn { MatchOption result (Unit {0}) (λ frame. lap_turn frame.lap + self.new.left + 1 ≤ 2 ^ 64) }
+    {
+        self.frames.pop()
+    }
+
+    /// Puts a frame on top.
+    pub(crate) fn push(&mut self, frame: Frame<'p>)
+        requires room { length self.old.frames.items + 1 + frame_blocks frame ≤ 201 }
+        requires turn { lap_turn frame.lap + self.old.left + 1 ≤ 2 ^ 64 }
+        ensures left { self.new.left ≡ self.old.left }
+        ensures len { length self.new.frames.items ≡ length self.old.frames.items + 1 }
+        ensures to_do { to_do self.new.frames.items ≡ frame_tasks frame.entry ++ to_do self.old.frames.items }
+    {
+        self.frames.push(frame);
+    }
+
+    /// Puts the frame on top that a command leaves, if it leaves one.
+    pub(crate) fn leave(&mut self, frame: Option<Frame<'p>>)
+        requires room { IsWithin frame (201 - length self.old.frames.items) }
+        requires bound { self.old.left + 1 ≤ 2 ^ 64 }
+        ensures left { self.new.left ≡ self.old.left }
+        ensures len { length self.new.frames.items ≤ length self.old.frames.items + 1 }
+        ensures to_do { to_do self.new.frames.items ≡ left_tasks frame.entry ++ to_do self.old.frames.items }
+    {
+        match frame {
+            Some(frame) => self.push(frame),
+            None => {}
+        }
+    }
+}

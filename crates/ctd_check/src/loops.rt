@@ -1,0 +1,135 @@
+//! IF and the loops: the frames that they leave to be done, and the turns of a loop.
+ghost use Rattle.std.specs.Prelude.{◌≡◌, ℕ, List, ◌+◌, ◌∷◌, ◌++◌, [], max, Some, pos};
+ghost use Rattle.ctd_syntax.specs.Numbering.{literals, separator_literals};
+ghost use Rattle.ctd_syntax.specs.Tree.{list_blocks, separator_blocks};
+ghost use Rattle.ctd_syntax.specs.View.{expr_tree, test_tree, command_list, boxed_separator};
+ghost use Rattle.ctd_check.specs.Known.{AreAmong, LeavesKnown};
+ghost use Rattle.ctd_check.specs.Loops.{tasks, loop_of, turn, take_turn, count_turn, goes_on, counted, choice};
+ghost use Rattle.ctd_check.specs.Pending.{frame_tasks, separator_in, frame_blocks, lap_turn, guard_in, counter_in, loop_in, left_tasks};
+ghost use Rattle.ctd_check.specs.Performs.{IsSound, Performs, NeedsRoom, answering};
+
+use crate::failure::CommandFailure;
+use crate::frame::{Frame, Guard, Lap};
+use crate::machine::Run;
+use ctd_source::Source;
+use ctd_syntax::{Command, Commands, Expr, Place, Test, Var};
+use ctd_value::Value;
+
+/// A separator, or none.
+fn unboxed(between: &Option<Box<Command>>) -> Option<&Command>
+    ensures same { separator_in result ≡ boxed_separator between.now }
+{
+    match between {
+        Some(command) => Some(&**command),
+        None => None,
+    }
+}
+
+/// The frame of a loop before its first turn.
+pub(crate) fn loop_frame<'p>(
+    place: Place,
+    guard: Guard<'p>,
+    counter: Option<&'p Var>,
+    between: &'p Option<Box<Command>>,
+    body: &'p Commands,
+) -> Frame<'p>
+    ensures tasks { frame_tasks result ≡ turn (loop_of place (guard_in guard.entry) (counter_in counter.entry) (boxed_separator between.now) (command_list body.now)) 0 ∷ [] }
+    ensures blocks { frame_blocks result ≡ max (separator_blocks (boxed_separator between.now)) (list_blocks (command_list body.now)) }
+    ensures turn { lap_turn result.lap ≡ 0 }
+{
+    let between = unboxed(between);
+    let lap = Lap {
+        place,
+        guard,
+        counter,
+        between,
+        body: body.as_slice(),
+        turn: 0,
+    };
+    Frame {
+        rest: &[],
+        lap: Some(lap),
+    }
+}
+
+/// The frame of a list.
+fn list_frame(commands: &Commands) -> Frame<'_>
+    ensures tasks { frame_tasks result ≡ tasks (command_list commands.now) ++ [] }
+    ensures blocks { frame_blocks result ≡ list_blocks (command_list commands.now) }
+    ensures turn { lap_turn result.lap ≡ 0 }
+{
+    Frame {
+        rest: commands.as_slice(),
+        lap: None,
+    }
+}
+
+impl<'d, D: Source> Run<'d, D> {
+    /// IF: one of two lists is left to be done.
+    pub(crate) fn choose<'p>(
+        &mut self,
+        t: &Test,
+        then_do: &'p Commands,
+        else_do: &'p Commands,
+    ) -> Result<Option<Frame<'p>>, CommandFailure>
+        requires sound { IsSound self.old }
+        ensures performs { Performs self.old self.new (answering left_tasks result) (choice (test_tree t.now) (command_list then_do.now) (command_list else_do.now)) }
+        ensures room { NeedsRoom result (1 + max (list_blocks (command_list then_do.now)) (list_blocks (command_list else_do.now))) }
+        ensures known { (patterns : List (List ℕ)) → AreAmong patterns (literals (command_list then_do.now) ++ literals (command_list else_do.now)) → LeavesKnown patterns result }
+    {
+        if self.answer(t)? {
+            return Ok(Some(list_frame(then_do)));
+        }
+        Ok(Some(list_frame(else_do)))
+    }
+
+    /// REP and REPI: the loop is left to be done.
+    pub(crate) fn repeat<'p>(
+        &mut self,
+        place: Place,
+        count: &Expr,
+        counter: Option<&'p Var>,
+        between: &'p Option<Box<Command>>,
+        body: &'p Commands,
+    ) -> Result<Option<Frame<'p>>, CommandFailure>
+        requires sound { IsSound self.old }
+        ensures performs { Performs self.old self.new (answering left_tasks result) (counted place (expr_tree count.now) (counter_in counter.entry) (boxed_separator between.now) (command_list body.now)) }
+        ensures room { NeedsRoom result (1 + max (separator_blocks (boxed_separator between.now)) (list_blocks (command_list body.now))) }
+        ensures known { (patterns : List (List ℕ)) → AreAmong patterns (separator_literals (boxed_separator between.now) ++ literals (command_list body.now)) → LeavesKnown patterns result }
+    {
+        let turns = self.count(count)?;
+        let frame = loop_frame(place, Guard::Times(turns), counter, between, body);
+        Ok(Some(frame))
+    }
+
+    /// Gives a counter, where there is one, the number of a turn.
+    fn count_turn(&mut self, counter: Option<&Var>, turn: u64) -> Result<(), CommandFailure>
+        requires sound { IsSound self.old }
+        ensures performs { Performs self.old self.new result (count_turn (counter_in counter.entry) turn) }
+    {
+        match counter {
+            Some(v) => self.set_to(v, Value::Int(i128::from(turn))),
+            None => Ok(()),
+        }
+    }
+
+    /// Whether a loop goes on with a turn.
+    fn goes_on(&mut self, guard: Guard<'_>, turn: u64) -> Result<bool, CommandFailure>
+        requires sound { IsSound self.old }
+        ensures performs { Performs self.old self.new result (goes_on (guard_in guard.entry) turn) }
+    {
+        match guard {
+            Guard::Times(turns) => Ok(turn < turns),
+            Guard::While(t) => self.answer(t),
+        }
+    }
+
+    /// First the counter of a turn, and then whether the loop goes on with it.
+    pub(crate) fn take_turn(&mut self, lap: Lap<'_>) -> Result<bool, CommandFailure>
+        requires sound { IsSound self.old }
+        ensures performs { Performs self.old self.new result (take_turn (loop_in lap.entry) lap.entry.turn) }
+    {
+        self.count_turn(lap.counter, lap.turn)?;
+        self.goes_on(lap.guard, lap.turn)
+    }
+}

@@ -1,0 +1,81 @@
+//! REGEX: a match of its pattern at the start of the window.
+ghost use Rattle.std.specs.Prelude.{◌≡◌, ◌≤◌, length, slice_get, Some, IfOk};
+ghost use Rattle.ctd_source.specs.Sight.{sight};
+ghost use Rattle.ctd_pattern.specs.Pattern.{length_at_start};
+ghost use Rattle.ctd_syntax.specs.View.{target};
+ghost use Rattle.ctd_check.specs.Known.{IsAmong};
+ghost use Rattle.ctd_check.specs.Regex.{matched, matched_len, regex, shorter_match};
+ghost use Rattle.ctd_check.specs.Performs.{IsSound, Performs, AlwaysDoes};
+
+use crate::failure::CommandFailure;
+use crate::machine::Run;
+use crate::outcome::{Fault, Reason};
+use ctd_pattern::Matcher;
+use ctd_source::{Source, WINDOW};
+use ctd_syntax::{Bytes, PatternLiteral, Var};
+use ctd_value::Value;
+
+/// The length of a match that the window goes on behind.
+fn shorter_match(length: Option<usize>) -> Result<usize, CommandFailure>
+    ensures does { AlwaysDoes result (shorter_match length) }
+    ensures same { IfOk result (λ n. length ≡ Some n) }
+{
+    match length {
+        Some(n) if n == WINDOW => Err(CommandFailure::Stopped(Fault::MatchTooLong)),
+        Some(n) => Ok(n),
+        None => Err(CommandFailure::Rejected(Reason::RegexMismatch)),
+    }
+}
+
+impl<'d, D: Source> Run<'d, D> {
+    /// REGEX: passes the match at the start of the window, and keeps it in its variable, if there is one.
+    pub(crate) fn regex(
+        &mut self,
+        literal: &PatternLiteral,
+        var: &Option<Var>,
+        matchers: &mut [Matcher<'_>],
+    ) -> Result<(), CommandFailure>
+        requires sound { IsSound self.old }
+        requires known { IsAmong matchers.old literal.now }
+        ensures performs { Performs self.old self.new result (regex literal.now.bytes (target var.now)) }
+        ensures kept { matchers.new ≡ matchers.old }
+    {
+        let matcher = &mut matchers[literal.number];
+        match var {
+            Some(v) => {
+                let bytes = self.matched_bytes(matcher)?;
+                self.pass_many(bytes.as_slice().len());
+                self.set_to(v, Value::Text(bytes))
+            }
+            None => {
+                let n = self.matched_len(matcher)?;
+                self.pass_many(n);
+                Ok(())
+            }
+        }
+    }
+
+    /// A copy of the bytes that a pattern matches at the start of the window.
+    fn matched_bytes(&mut self, matcher: &mut Matcher<'_>) -> Result<Bytes, CommandFailure>
+        requires sound { IsSound self.old }
+        ensures performs { Performs self.old self.new result (matched matcher.old) }
+        ensures held { IfOk result (λ bytes. length bytes ≤ length (sight self.new.cursor).held) }
+        ensures kept { matcher.new ≡ matcher.old }
+    {
+        let alloc = self.alloc;
+        let window = self.cursor.window()?;
+        let n = shorter_match(matcher.match_length(window))?;
+        Ok(Bytes::copy(alloc, &window[..n])?)
+    }
+
+    /// How many they are.
+    fn matched_len(&mut self, matcher: &mut Matcher<'_>) -> Result<usize, CommandFailure>
+        requires sound { IsSound self.old }
+        ensures performs { Performs self.old self.new result (matched_len matcher.old) }
+        ensures held { IfOk result (λ n. n ≤ length (sight self.new.cursor).held) }
+        ensures kept { matcher.new ≡ matcher.old }
+    {
+        let window = self.cursor.window()?;
+        shorter_match(matcher.match_length(window))
+    }
+}

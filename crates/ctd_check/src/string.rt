@@ -1,0 +1,88 @@
+//! STRING: the bytes of a string.
+ghost use Rattle.std.specs.Prelude.{◌≡◌, ◌≤◌, nat_eq, length, drop, None, OnOk, IfOk};
+ghost use Rattle.std.specs.List.{common_prefix_len};
+ghost use Rattle.ctd_source.specs.Sight.{sight};
+ghost use Rattle.ctd_source.specs.Follow.{Goes};
+ghost use Rattle.ctd_syntax.specs.View.{expr_tree};
+ghost use Rattle.ctd_check.specs.Effect.{string, match_bytes};
+ghost use Rattle.ctd_check.specs.Passing.{PassesSome};
+ghost use Rattle.ctd_check.specs.Performs.{IsSound, Performs};
+
+use crate::failure::CommandFailure;
+use crate::machine::Run;
+use crate::outcome::Reason;
+use ctd_source::{Cursor, LookFault, Source};
+use ctd_syntax::Expr;
+
+/// How many bytes at the front of two lists agree.
+fn common_len(wanted: &[u8], bytes: &[u8]) -> usize
+    ensures { result ≡ common_prefix_len nat_eq wanted.now bytes.now }
+{
+    let most = wanted.len().min(bytes.len());
+    let mut count = 0;
+    while count < most {
+        if wanted[count] != bytes[count] {
+            return count;
+        }
+        count += 1;
+    }
+    count
+}
+
+/// What is left of some bytes behind the first of them.
+fn behind(bytes: &[u8], count: usize) -> &[u8]
+    requires { count ≤ length bytes.now }
+    ensures { result.now ≡ drop count bytes.now }
+{
+    &bytes[count..]
+}
+
+/// Passes as many of the wanted bytes as come next and are held; tells how many.
+fn pass_front<D: Source>(wanted: &[u8], cursor: &mut Cursor<'_, D>) -> Result<usize, LookFault>
+    requires sound { (sight cursor.old).fault ≡ None }
+    ensures sound { OnOk result ((sight cursor.new).fault ≡ None) }
+    ensures within { IfOk result (λ n. n ≤ length wanted.now) }
+    ensures passes { Goes cursor.old cursor.new (λ d. PassesSome wanted.now d (sight cursor.old).spot.offset (sight cursor.new).spot.offset result) }
+{
+    match cursor.look() {
+        Ok(Some(_byte)) => {
+            let count = common_len(wanted, cursor.held_run());
+            cursor.take_many(count);
+            Ok(count)
+        }
+        Ok(None) => Ok(0),
+        Err(fault) => Err(fault),
+    }
+}
+
+impl<'d, D: Source> Run<'d, D> {
+    /// STRING: evaluates a string, then passes its bytes. A literal is compared where it stands.
+    pub(crate) fn string(&mut self, e: &Expr) -> Result<(), CommandFailure>
+        requires sound { IsSound self.old }
+        ensures performs { Performs self.old self.new result (string (expr_tree e.now)) }
+    {
+        match e {
+            Expr::Text(bytes) => self.match_bytes(bytes.as_slice()),
+            _ => {
+                let text = self.text(e)?;
+                self.match_bytes(text.as_slice())
+            }
+        }
+    }
+
+    /// Passes these bytes, a run of held bytes at a time.
+    fn match_bytes(&mut self, bytes: &[u8]) -> Result<(), CommandFailure>
+        requires sound { IsSound self.old }
+        ensures performs { Performs self.old self.new result (match_bytes bytes.now) }
+    {
+        let mut rest = bytes;
+        while !rest.is_empty() {
+            let count = pass_front(rest, &mut self.cursor)?;
+            if count == 0 {
+                return Err(CommandFailure::Rejected(Reason::StringMismatch));
+            }
+            rest = behind(rest, count);
+        }
+        Ok(())
+    }
+}

@@ -1,0 +1,10 @@
+//! The patterns of REGEX: built from the bytes of a literal, and matched at the start of a window of data.
+#![tactic(auto)]
+
+pub mod matcher;
+pub mod pattern;
+#[cfg(test)]
+mod tests;
+
+pub use matcher::Matcher;
+pub use pattern::{Pattern, PatternFault};

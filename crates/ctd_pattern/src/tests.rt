@@ -1,0 +1,169 @@
+//! Patterns with what they match at the start of a window, worked out by hand from the rules of `regex`.
+
+use crate::pattern::{Pattern, PatternFault};
+use std::alloc::Global;
+use std::test::Fail;
+
+// The length that a literal matches at the start of a window, or why it is no pattern.
+fn match_length(
+    alloc: Global,
+    literal: &[u8],
+    window: &[u8],
+) -> Result<Option<usize>, PatternFault> {
+    let pattern = Pattern::read(alloc, literal)?;
+    let Ok(mut matcher) = pattern.matcher(alloc) else {
+        return Err(PatternFault::Memory);
+    };
+    Ok(matcher.match_length(window))
+}
+
+type Row = (&'static [u8], &'static [u8], Option<usize>);
+
+// The window is the whole text: its start is the start of the text, its end the end.
+const EDGES: [Row; 20] = [
+    (b"^a", b"ab", Some(1)),
+    (b"^b", b"ab", None),
+    (b"(?m)^b", b"a\nb", None),
+    (b"a$", b"a", Some(1)),
+    (b"a$", b"ab", None),
+    (b"a$", b"a\n", None),
+    (b"(?m)a$", b"a\nb", Some(1)),
+    (b"\\Aa\\z", b"a", Some(1)),
+    (b"\\bab\\b", b"ab c", Some(2)),
+    (b"\\bab\\b", b"abc", None),
+    (b"\\bab\\b", b"ab", Some(2)),
+    (b"\\Ba", b"a", None),
+    (b"", b"", Some(0)),
+    (b"", b"x", Some(0)),
+    (b"a*", b"b", Some(0)),
+    (b"a*?", b"aa", Some(0)),
+    (b"^", b"x", Some(0)),
+    (b"$", b"", Some(0)),
+    (b"$", b"x", None),
+    (b"\\b", b" a", None),
+];
+
+// The first match counts, and of two alternatives the first that leads to a match.
+const CHOICES: [Row; 17] = [
+    (b"b", b"ab", None),
+    (b"b", b"", None),
+    (b"b|a", b"ab", Some(1)),
+    (b"a|ab", b"ab", Some(1)),
+    (b"ab|a", b"ab", Some(2)),
+    (b"(a|ab)c", b"abc", Some(3)),
+    (b"a*b|a", b"aac", Some(1)),
+    (b"a+", b"aaab", Some(3)),
+    (b"a+?", b"aaab", Some(1)),
+    (b"a{2}", b"aaa", Some(2)),
+    (b"a{2,}", b"aaa", Some(3)),
+    (b"a{2,3}?", b"aaa", Some(2)),
+    (b"(?i)abc", b"AbC", Some(3)),
+    (b"abc", b"AbC", None),
+    (b"\\d+", b"12a", Some(2)),
+    (b"(?x) a  b # both", b"ab", Some(2)),
+    (b"(?P<name>a)b", b"ab", Some(2)),
+];
+
+// Lines, and characters above the first 128.
+const BYTES: [Row; 19] = [
+    (b".", b"\n", None),
+    (b"(?s).", b"\n", Some(1)),
+    (b".*", b"ab\ncd", Some(2)),
+    (b"(?s).*", b"ab\ncd", Some(5)),
+    (b"[a-z\n]+", b"ab\ncd\n1", Some(6)),
+    (b"(?m)(^[0-9]+$\n?)+", b"1\n22\nx", Some(5)),
+    (b".", b"\xc3\xa9", Some(2)),
+    (b".", b"\xff", None),
+    (b"(?-u:.)", b"\xff", Some(1)),
+    (b"\xc3\xa9", b"\xc3\xa9", Some(2)),
+    (b"[\xc3\xa0-\xc3\xbc]+", b"\xc3\xa9\xc3\xa8e", Some(4)),
+    (b"\\xe9", b"\xc3\xa9", Some(2)),
+    (b"(?-u:\\xe9)", b"\xe9", Some(1)),
+    (b"(?-u:[\\x80-\\xff])+", b"\x80\xffa", Some(2)),
+    (b"(?-u:[^a])", b"\xc3\xa9", Some(1)),
+    (b"[^a]", b"\xc3\xa9", Some(2)),
+    (b"\\w", b"\xc3\xa9", Some(2)),
+    (b"(?-u:\\w)", b"\xc3\xa9", None),
+    (b"\x00", b"\x00", Some(1)),
+];
+
+#[test]
+fn lengths_at_the_start(rt: HostRuntime) -> Result<(), Fail> {
+    for rows in [&EDGES[..], &CHOICES[..], &BYTES[..]] {
+        for (literal, window, wanted) in rows {
+            let found = match_length(rt.alloc(), literal, window);
+            assert_eq!(rt; found, Ok(*wanted), "{literal:?} on {window:?}");
+        }
+    }
+    Ok(())
+}
+
+const FAULTS: [(&[u8], PatternFault); 14] = [
+    (b"\xff", PatternFault::NotText),
+    (b"a\xc3", PatternFault::NotText),
+    (b"(\xff", PatternFault::NotText),
+    (b"(", PatternFault::NotPattern),
+    (b"a)", PatternFault::NotPattern),
+    (b"*", PatternFault::NotPattern),
+    (b"[z-a]", PatternFault::NotPattern),
+    (b"a{2,1}", PatternFault::NotPattern),
+    (b"a{", PatternFault::NotPattern),
+    (b"(a)\\1", PatternFault::NotPattern),
+    (b"(?=a)", PatternFault::NotPattern),
+    (b"\\p{Nowhere}", PatternFault::NotPattern),
+    (b"(((a{1000}){1000}){1000}){1000}", PatternFault::TooLarge),
+    (b"\\w{5000}", PatternFault::TooLarge),
+];
+
+#[test]
+fn literals_without_a_pattern(rt: HostRuntime) -> Result<(), Fail> {
+    for (literal, wanted) in &FAULTS {
+        let found = match_length(rt.alloc(), literal, b"");
+        assert_eq!(rt; found, Err(*wanted), "{literal:?}");
+    }
+    Ok(())
+}
+
+// So many groups around one another, and the length that they match of one letter.
+const NESTINGS: [(usize, Result<Option<usize>, PatternFault>); 2] = [
+    (249, Ok(Some(1))),
+    (300, Err(PatternFault::NotPattern)),
+];
+
+#[test]
+fn groups_within_groups(rt: HostRuntime) -> Result<(), Fail> {
+    for (depth, wanted) in &NESTINGS {
+        let mut literal = vec![in rt.alloc(); b'('; *depth]?;
+        literal.push(b'a')?;
+        for _ in 0..*depth {
+            literal.push(b')')?;
+        }
+        let found = match_length(rt.alloc(), &literal, b"ab");
+        assert_eq!(rt; found, *wanted, "{depth}");
+    }
+    Ok(())
+}
+
+#[test]
+fn a_pattern_with_large_counts(rt: HostRuntime) -> Result<(), Fail> {
+    let window = vec![in rt.alloc(); b'a'; 65_536]?;
+    let found = match_length(rt.alloc(), b"(a{100}){100}", &window);
+    assert_eq!(rt; found, Ok(Some(10_000)));
+    Ok(())
+}
+
+// One pattern gives as many matchers as are wanted, and each of them any number of answers.
+#[test]
+fn matchers_side_by_side(rt: HostRuntime) -> Result<(), Fail> {
+    let Ok(pattern) = Pattern::read(rt.alloc(), b"[0-9]+") else {
+        return Err(Fail::new(format_args!("no pattern")));
+    };
+    let mut first = pattern.matcher(rt.alloc())?;
+    let mut second = pattern.matcher(rt.alloc())?;
+    assert_eq!(rt; first.match_length(b"12 3"), Some(2));
+    assert_eq!(rt; second.match_length(b"x1"), None);
+    assert_eq!(rt; first.match_length(b"12345"), Some(5));
+    assert_eq!(rt; first.match_length(b"x"), None);
+    assert_eq!(rt; second.match_length(b"7"), Some(1));
+    Ok(())
+}

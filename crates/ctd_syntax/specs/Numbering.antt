@@ -1,0 +1,42 @@
+-- The literals of REGEX in a program, and their numbers.
+use Rattle.std.specs.Prelude.{◌≡◌, ℕ, List, [], ◌∷◌, ◌++◌, length, map}
+use Rattle.std.specs.List.{range_with_len}
+use Rattle.ctd_syntax.specs.declared.tree.PatternLiteral.{PatternLiteral}
+use Rattle.ctd_syntax.specs.Tree
+use Rattle.ctd_syntax.specs.Tree.{CommandTree, CommandList, Separator}
+
+-- the literals of a command, those of its separator and of the commands within it too, in the order of the text
+abbrev mutual
+  pub command_literals : CommandTree → List PatternLiteral
+  command_literals (Tree.space place) = []
+  command_literals (Tree.newline place) = []
+  command_literals (Tree.eof place) = []
+  command_literals (Tree.int place low high target) = []
+  command_literals (Tree.string place e) = []
+  command_literals (Tree.regex place literal target) = literal ∷ []
+  command_literals (Tree.assert place t) = []
+  command_literals (Tree.set place assignments) = []
+  command_literals (Tree.unset place names) = []
+  command_literals (Tree.rep place count separator body) = separator_literals separator ++ literals body
+  command_literals (Tree.repi place counter count separator body) = separator_literals separator ++ literals body
+  command_literals (Tree.while place t separator body) = separator_literals separator ++ literals body
+  command_literals (Tree.whilei place counter t separator body) = separator_literals separator ++ literals body
+  command_literals (Tree.choice place t then_do else_do) = literals then_do ++ literals else_do
+
+  -- of a separator
+  pub separator_literals : Separator → List PatternLiteral
+  separator_literals Tree.nothing = []
+  separator_literals (Tree.between c) = command_literals c
+
+  -- of commands one after the other
+  pub literals : CommandList → List PatternLiteral
+  literals Tree.done = []
+  literals (Tree.then c rest) = command_literals c ++ literals rest
+
+-- the numbers of some literals
+abbrev pub numbers_of : List PatternLiteral → List ℕ
+numbers_of ls = map (λ l. l.number) ls
+
+-- the literals of a program are numbered 0, 1, 2, .. in the order of the text
+abbrev pub IsNumbered : CommandList → Type 0
+IsNumbered program = numbers_of (literals program) ≡ range_with_len 0 (length (literals program))

@@ -1,0 +1,127 @@
+-- The entries of a dense part laid over a finite map, one after the other.
+use Rattle.std.proofs.Common.{◌≡◌, ℕ, suc, ◌+◌, ◌<◌, ◌≤◌, Bool, true, false, cond, not, nat_lt, if◌then◌else◌, List, [], ◌∷◌, ◌++◌, length, drop, drop-cons, drop_of_length-le, get_or, refl, ap, sym, ◌∙◌, append_assoc, add-one, arith}
+use Rattle.std.proofs.lemmas.Bool.{ltb-true, ltb-false}
+use Rattle.std.specs.declared.cmp.Ordering.{Ordering}
+use Rattle.std.specs.declared.cmp.Ordering.TheVariants.{Less, Equal, Greater}
+use Rattle.std.specs.Ordering.{ordering_reverse, is_lt, is_eq}
+use Rattle.std.specs.FinMap.{put}
+use Rattle.std.specs.FinMap.Entries.{by_order}
+use Rattle.ctd_value.specs.declared.value.Value.{Value}
+use Rattle.ctd_value.specs.Order.{values_cmp}
+use Rattle.ctd_value.specs.OrderLaws.{values_total}
+use Rattle.ctd_value.specs.Showing.{not_among}
+use Rattle.ctd_value.specs.Store.{Array, place, laid, order_of_place, has_indices}
+
+pub rising : (m n : ℕ) → m < n → values_cmp (place m) (place n) ≡ Less
+rising m n below = grind arith
+
+abbrev HeadAfter : List Value → Array → Type 0
+HeadAfter k [] = Unit {0}
+HeadAfter k (e ∷ es) = values_cmp k e.0 ≡ Less
+
+head_put : (k j : List Value) (v : Value) (es : Array) → values_cmp k j ≡ Less → HeadAfter k es → HeadAfter k (put values_cmp j v es)
+head_put k j v [] less h = less
+head_put k j v (e ∷ es) less h = elim (values_cmp j e.0) as (λ o. HeadAfter k (by_order o ((j, v) ∷ e ∷ es) ((e.0, v) ∷ es) (e ∷ put values_cmp j v es))) [
+  | Less ↦ less
+  | Equal ↦ h
+  | Greater ↦ h
+]
+
+head_laid : (m n : ℕ) (xs : List Value) (es : Array) → m < n → HeadAfter (place m) es → HeadAfter (place m) (laid n xs es)
+head_laid m n [] es below h = h
+head_laid m n (x ∷ xs) es below h = head_put (place m) (place n) x (laid (suc n) xs es) (rising m n below) (head_laid m (suc n) xs es (omega (arith, below)) h)
+
+put_first : (k : List Value) (v : Value) (es : Array) → HeadAfter k es → put values_cmp k v es ≡ (k, v) ∷ es
+put_first k v [] h = refl
+put_first k v (e ∷ es) h = ap (λ o. by_order o ((k, v) ∷ e ∷ es) ((e.0, v) ∷ es) (e ∷ put values_cmp k v es)) h
+
+-- a place before the first entry
+pub laid_before : (n : ℕ) (x : Value) (xs : List Value) (es : Array) → HeadAfter (place n) es → laid n (x ∷ xs) es ≡ (place n, x) ∷ laid (suc n) xs es
+laid_before n x xs es h = put_first (place n) x (laid (suc n) xs es) (head_laid n (suc n) xs es (omega arith) h)
+
+greater_on : (m n : ℕ) (k : List Value) → m < n → values_cmp (place m) k ≡ Greater → values_cmp (place n) k ≡ Greater
+greater_on m n k below h =
+    values_total.antisymm (place n) k
+    ∙ ap ordering_reverse (values_total.trans k (place m) (place n) (values_total.antisymm k (place m) ∙ ap ordering_reverse h) (rising m n below))
+
+-- places after the first entry
+pub laid_after : (n : ℕ) (xs : List Value) (e : List Value × Value) (es : Array) → values_cmp (place n) e.0 ≡ Greater → laid n xs (e ∷ es) ≡ e ∷ laid n xs es
+laid_after n [] e es h = refl
+laid_after n (x ∷ xs) e es h =
+    ap (put values_cmp (place n) x) (laid_after (suc n) xs e es (greater_on n (suc n) e.0 (omega arith) h))
+    ∙ ap (λ o. by_order o ((place n, x) ∷ e ∷ laid (suc n) xs es) ((e.0, x) ∷ laid (suc n) xs es) (e ∷ put values_cmp (place n) x (laid (suc n) xs es))) h
+
+-- a place that the first entry has too
+pub laid_same : (n : ℕ) (x : Value) (xs : List Value) (e : List Value × Value) (es : Array) → values_cmp (place n) e.0 ≡ Equal → laid n (x ∷ xs) (e ∷ es) ≡ (e.0, x) ∷ laid (suc n) xs es
+laid_same n x xs e es h =
+    ap (put values_cmp (place n) x) (laid_after (suc n) xs e es (above h))
+    ∙ ap (λ o. by_order o ((place n, x) ∷ e ∷ laid (suc n) xs es) ((e.0, x) ∷ laid (suc n) xs es) (e ∷ put values_cmp (place n) x (laid (suc n) xs es))) h
+  where
+    above : values_cmp (place n) e.0 ≡ Equal → values_cmp (place (suc n)) e.0 ≡ Greater
+    above tied = values_total.antisymm (place (suc n)) e.0 ∙ ap ordering_reverse (sym (values_total.congr (place n) e.0 (place (suc n)) tied) ∙ rising n (suc n) (omega arith))
+
+one_more : (hidden : Array) (e : List Value × Value) (es : Array) → not_among hidden (e ∷ es) ≡ not_among hidden (e ∷ []) ++ not_among hidden es
+one_more hidden e es = elim (not (has_indices hidden e.0)) as (λ b. cond b (e ∷ not_among hidden es) (not_among hidden es) ≡ cond b (e ∷ []) [] ++ not_among hidden es) [ true ↦ refl | false ↦ refl ]
+
+-- one entry added
+pub added : (hidden sofar more now later total : Array) (e : List Value × Value) → sofar ++ not_among hidden now ≡ total → now ≡ e ∷ later → more ≡ sofar ++ not_among hidden (e ∷ []) → more ++ not_among hidden later ≡ total
+added hidden sofar more now later total e before is new =
+    ap (λ es. es ++ not_among hidden later) new
+    ∙ append_assoc sofar (not_among hidden (e ∷ [])) (not_among hidden later)
+    ∙ ap (λ es. sofar ++ es) (sym (one_more hidden e later))
+    ∙ ap (λ es. sofar ++ not_among hidden es) (sym is)
+    ∙ before
+
+-- the dense part from a place on
+pub from_place : (n : ℕ) (xs : List Value) (x : Value) (es : Array) → n < length xs → x ≡ get_or xs n x → laid n (drop n xs) es ≡ laid n (x ∷ drop (suc n) xs) es
+from_place n xs x es in_range is = ap (λ ys. laid n ys es) (drop-cons xs n x in_range ∙ ap (λ y. y ∷ drop (suc n) xs) (sym is))
+
+lower : (b : Bool) (o c : Ordering) → o ≡ (if b then c else Greater) → is_lt o ≡ true → (b ≡ true) × (c ≡ Less)
+lower true o Less e h = (refl, refl)
+lower true o Equal e h = cc
+lower true o Greater e h = cc
+lower false o c e h = cc
+
+alike : (b : Bool) (o c : Ordering) → o ≡ (if b then c else Greater) → is_eq o ≡ true → (b ≡ true) × (c ≡ Equal)
+alike true o Less e h = cc
+alike true o Equal e h = (refl, refl)
+alike true o Greater e h = cc
+alike false o c e h = cc
+
+further : (b : Bool) (o c : Ordering) → o ≡ (if b then c else Greater) → is_lt o ≡ false → is_eq o ≡ false → b ≡ true → c ≡ Greater
+further true o Less e l h is = cc
+further true o Equal e l h is = cc
+further true o Greater e l h is = refl
+further false o c e l h is = cc
+
+pub merged_before : (n count : ℕ) (xs : List Value) (x : Value) (e : List Value × Value) (es : Array) (o : Ordering) → count ≡ length xs → o ≡ order_of_place n count e.0 → is_lt o ≡ true → x ≡ get_or xs n x
+    → laid n (drop n xs) (e ∷ es) ≡ (place n, x) ∷ laid (n + 1) (drop (n + 1) xs) (e ∷ es)
+merged_before n count xs x e es o size is less item =
+    let h = lower (nat_lt n count) o (values_cmp (place n) e.0) is less in
+    let below : n < count = ltb-true n count h.0 in
+    from_place n xs x (e ∷ es) (omega (arith, below, size)) item
+    ∙ laid_before n x (drop (suc n) xs) (e ∷ es) h.1
+    ∙ ap (λ m. (place n, x) ∷ laid m (drop m xs) (e ∷ es)) (sym (add-one n))
+
+pub merged_same : (n count : ℕ) (xs : List Value) (x : Value) (e : List Value × Value) (es : Array) (o : Ordering) → count ≡ length xs → o ≡ order_of_place n count e.0 → is_eq o ≡ true → x ≡ get_or xs n x
+    → laid n (drop n xs) (e ∷ es) ≡ (e.0, x) ∷ laid (n + 1) (drop (n + 1) xs) es
+merged_same n count xs x e es o size is same item =
+    let h = alike (nat_lt n count) o (values_cmp (place n) e.0) is same in
+    let below : n < count = ltb-true n count h.0 in
+    from_place n xs x (e ∷ es) (omega (arith, below, size)) item
+    ∙ laid_same n x (drop (suc n) xs) e es h.1
+    ∙ ap (λ m. (e.0, x) ∷ laid m (drop m xs) es) (sym (add-one n))
+
+pub merged_after : (n count : ℕ) (xs : List Value) (e : List Value × Value) (es : Array) (o : Ordering) → count ≡ length xs → o ≡ order_of_place n count e.0 → is_lt o ≡ false → is_eq o ≡ false
+    → laid n (drop n xs) (e ∷ es) ≡ e ∷ laid n (drop n xs) es
+merged_after n count xs e es o size is not_less not_same =
+    elim (nat_lt n count) as (λ b. nat_lt n count ≡ b → laid n (drop n xs) (e ∷ es) ≡ e ∷ laid n (drop n xs) es) [
+      | true ↦ λ t. laid_after n (drop n xs) e es (further (nat_lt n count) o (values_cmp (place n) e.0) is not_less not_same t)
+      | false ↦ λ t.
+          let over : count ≤ n = ltb-false n count t in
+          let none : drop n xs ≡ [] = drop_of_length-le xs (omega (arith, over, size)) in
+          ap (λ ys. laid n ys (e ∷ es)) none ∙ ap (λ ys. e ∷ laid n ys es) (sym none)
+    ] refl
+
+pub merged_last : (n : ℕ) (xs : List Value) (x : Value) → n < length xs → x ≡ get_or xs n x → laid n (drop n xs) [] ≡ (place n, x) ∷ laid (n + 1) (drop (n + 1) xs) []
+merged_last n xs x below item = from_place n xs x [] below item ∙ laid_before n x (drop (suc n) xs) [] tt ∙ ap (λ m. (place n, x) ∷ laid m (drop m xs) []) (sym (add-one n))

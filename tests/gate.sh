@@ -1,0 +1,30 @@
+#!/usr/bin/env bash
+# Rebuilds every proof and test from scratch (rt ci), then runs the program that this built as a process.
+# The last line counts what passed and failed in both.
+set -u
+cd "$(dirname "${BASH_SOURCE[0]}")/.."
+log=$(mktemp)
+trap 'rm -f "$log"' EXIT
+passed=0
+failed=0
+
+# Runs a command and adds the counts of its last line; a command that ends badly and tells no failure counts as one.
+count() {
+    "$@" | tee "$log"
+    local status=${PIPESTATUS[0]} counts
+    read -r -a counts <<<"$(tail -n 1 "$log")"
+    if [[ "${counts[*]:-}" =~ ^[0-9]+\ passed,\ [0-9]+\ failed$ ]]; then
+        passed=$((passed + counts[0]))
+        failed=$((failed + counts[2]))
+        [ "$status" -eq 0 ] || [ "${counts[2]}" -gt 0 ] || failed=$((failed + 1))
+    else
+        failed=$((failed + 1))
+    fi
+}
+
+count rt ci
+if [ "$failed" -eq 0 ]; then
+    count tests/process.sh
+fi
+printf '%s passed, %s failed\n' "$passed" "$failed"
+[ "$failed" -eq 0 ]
