@@ -4,14 +4,14 @@ ghost use Rattle.ctd_value.specs.Fault.{with_fault};
 ghost use Rattle.ctd_value.specs.Val.{val, key, count, number, number_of, text, text_of};
 ghost use Rattle.ctd_check.specs.State.{evaluate, fault_of_value};
 ghost use Rattle.ctd_check.specs.Effect.{set_to, keep, answer};
-ghost use Rattle.ctd_check.specs.Performs.{IsSound, Performs, Tells};
+ghost use Rattle.ctd_check.specs.Performs.{IsSound, Performs, Tells, answering};
 
 use crate::failure::CommandFailure;
 use crate::machine::Run;
 use crate::outcome::Fault;
 use ctd_source::Source;
 use ctd_syntax::{Bytes, Expr, Test, Var};
-use ctd_value::{Key, Value, count_of, eval, holds, locate};
+use ctd_value::{Value, count_of, eval, holds, index_values};
 
 impl<'d, D: Source> Run<'d, D> {
     /// The value of an expression.
@@ -51,12 +51,12 @@ impl<'d, D: Source> Run<'d, D> {
         Ok(count_of(self.alloc, e, &self.store)?)
     }
 
-    /// The key of a variable.
-    fn key(&self, v: &Var) -> Result<Key, CommandFailure>
+    /// The values of the indices of a variable, which make its key.
+    fn indices(&self, v: &Var) -> Result<Vec<Value>, CommandFailure>
         requires sound { IsSound self.now }
-        ensures performs { Performs self.now self.now result (evaluate (key (var_tree v.now))) }
+        ensures performs { Performs self.now self.now (answering (λ indices. record { name = v.now.name; indices = indices.items }) result) (evaluate (key (var_tree v.now))) }
     {
-        Ok(locate(self.alloc, v, &self.store)?)
+        Ok(index_values(self.alloc, v, &self.store)?)
     }
 
     /// Gives a variable a value, once its indices are evaluated.
@@ -64,8 +64,8 @@ impl<'d, D: Source> Run<'d, D> {
         requires sound { IsSound self.old }
         ensures performs { Performs self.old self.new result (set_to (var_tree v.now) value) }
     {
-        let key = self.key(v)?;
-        self.store.assign(key, value)?;
+        let indices = self.indices(v)?;
+        self.store.assign_at(v.name.as_slice(), indices, value)?;
         Ok(())
     }
 

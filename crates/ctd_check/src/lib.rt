@@ -28,6 +28,3 @@ pub use ctd_source::{Failed, FromRead, Seen, Source, Spot};
 pub use ctd_syntax::{Bytes, LoadFault, LoadKind, Place, Presets};
 pub use outcome::{Checked, Fault, Limits, Mode, Outcome, Reason, Site};
 pub use plan::Plan;
-
-#[cfg(test)]
-mod tests;

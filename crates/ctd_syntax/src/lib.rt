@@ -14,8 +14,6 @@ mod piece;
 pub mod preset;
 mod preset_text;
 mod target;
-#[cfg(test)]
-mod tests;
 pub mod tree;
 
 pub use ctd_token::{

@@ -10,13 +10,11 @@ mod order;
 mod plain_test;
 pub mod store;
 pub mod test;
-#[cfg(test)]
-mod tests;
 mod unique;
 pub mod value;
 mod variables;
 
-pub use expression::{count_of, eval, locate};
+pub use expression::{count_of, eval, index_values, locate};
 pub use fault::{EvalFault, TestFault};
 pub use store::{EntryRef, Indices, Store};
 pub use test::holds;

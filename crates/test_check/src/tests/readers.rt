@@ -1,0 +1,109 @@
+//! Readers that fail, that never end and that give little at once.
+
+ghost use Rattle.std.specs.Prelude.{◌≤◌, ◌^◌};
+
+use ctd_check::{
+    Checked, Fault, FromRead, Limits, Mode, Outcome, Place, Plan, Presets, Reason, Site, Spot,
+    check,
+};
+use std::alloc::Global;
+use std::io::{Error, ErrorKind, Read, Result};
+use std::test::Fail;
+
+/// A reader that fails.
+#[derive(Drop)]
+pub struct Failing;
+
+impl Read for Failing {
+    fn read(&mut self, _buf: &mut [u8]) -> Result<usize> {
+        Err(Error::from(ErrorKind::Other))
+    }
+}
+
+/// A reader that gives ones and never ends.
+#[derive(Drop)]
+pub struct Endless;
+
+impl Read for Endless {
+    fn read(&mut self, buf: &mut [u8]) -> Result<usize> {
+        buf.fill(b'1');
+        Ok(buf.len())
+    }
+}
+
+/// A reader that gives at most `most` bytes at once.
+#[derive(Drop)]
+pub struct Cut<R> {
+    pub reader: R,
+    pub most: usize,
+}
+
+impl<R: Read> Read for Cut<R> {
+    fn read(&mut self, buf: &mut [u8]) -> Result<usize> {
+        let most = self.most.min(buf.len());
+        self.reader.read(&mut buf[..most])
+    }
+}
+
+/// Limits that no test reaches.
+pub const AMPLE: Limits = Limits {
+    steps: u64::MAX,
+    bytes: 1 << 62,
+};
+
+/// The plan of a text.
+pub fn plan_of(alloc: Global, program: &str) -> std::result::Result<Plan, Fail> {
+    let plan = Plan::load(alloc, &mut FromRead::new(program.as_bytes()));
+    Ok(plan.ok().ok_or("the program is refused")?)
+}
+
+/// What a check of a reader's data finds.
+pub fn check_with<R: Read + Drop>(
+    alloc: Global,
+    program: &str,
+    data: R,
+    limits: Limits,
+) -> std::result::Result<Checked, Fail>
+    requires { limits.bytes ≤ 2 ^ 62 }
+{
+    let plan = plan_of(alloc, program)?;
+    let mut data = FromRead::new(data);
+    let checked = check(
+        alloc,
+        &plan,
+        &Presets::none(alloc),
+        &mut data,
+        limits,
+        Mode::Exact,
+    )?;
+    Ok(checked)
+}
+
+/// The spot in the first line with so many bytes before it.
+pub fn after(offset: u32) -> Spot {
+    let offset = offset as u64;
+    Spot {
+        line: 1,
+        column: offset + 1,
+        offset,
+    }
+}
+
+/// The site of a command in the program's first line.
+pub fn column(column: u32) -> Site {
+    Site::At(Place { line: 1, column })
+}
+
+/// The verdict that the data do not match.
+pub fn rejected(spot: Spot, place: Site, reason: Reason) -> Outcome {
+    Outcome::Rejected {
+        spot,
+        place,
+        reason,
+    }
+}
+
+/// The end without a verdict.
+pub fn stopped(spot: Spot, place: Site, fault: Fault) -> Outcome {
+    Outcome::Stopped { spot, place, fault }
+}

@@ -1,0 +1,10 @@
+use Rattle.test_syntax.proofs.tests.tree_text.+expr_text.Given as goal
+
+abbrev pub decreases-write_pair : goal.decreases-write_pair
+decreases-write_pair l = l.depth
+
+abbrev pub decreases-write_var : goal.decreases-write_var
+decreases-write_var l = l.depth
+
+abbrev pub decreases-write_expr : goal.decreases-write_expr
+decreases-write_expr l = l.depth

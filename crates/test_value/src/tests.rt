@@ -1,0 +1,228 @@
+//! Worked rows on values, the store, expressions and tests, with answers worked out by hand from the language.
+
+ghost use Rattle.std.specs.Prelude.{◌≤◌, ◌^◌};
+
+mod conditions;
+mod expressions;
+mod memory;
+mod order;
+mod store;
+mod unique;
+
+use ctd_source::{LookFault, Next, Plain};
+use ctd_syntax::{Action, Assignment, Name, Presets, Program, parse};
+use ctd_value::{EvalFault, Key, Store, TestFault, Value, eval, holds, locate};
+use std::alloc::{AllocError, Global};
+use std::process::Abort;
+use std::test::Fail;
+
+/// Some presets; of the empty text, none.
+fn presets(alloc: Global, text: &str) -> Result<Presets, Fail> {
+    if text.is_empty() {
+        return Ok(Presets::none(alloc));
+    }
+    Ok(Presets::read(alloc, text)?)
+}
+
+/// The first assignment of a program that begins with SET.
+fn first_assignment(program: &Program) -> Result<&Assignment, Fail> {
+    if let [first, ..] = program.commands() {
+        if let Action::Set(assignments) = &first.action {
+            if let [assignment, ..] = assignments.as_slice() {
+                return Ok(assignment);
+            }
+        }
+    }
+    Err(Fail::new("no assignment"))
+}
+
+/// The first name of a program that begins with UNSET.
+fn first_name(program: &Program) -> Result<&Name, Fail> {
+    if let [first, ..] = program.commands() {
+        if let Action::Unset(names) = &first.action {
+            if let [name, ..] = names.as_slice() {
+                return Ok(name);
+            }
+        }
+    }
+    Err(Fail::new("no name"))
+}
+
+/// Runs the SET, UNSET and ASSERT of a program; no other commands stand in the rows. False where an assertion fails.
+fn run<N: Next>(alloc: Global, program: &Program, store: &mut Store, next: &mut N) -> Answer {
+    for command in program.commands() {
+        match &command.action {
+            Action::Set(assignments) => {
+                for a in assignments.as_slice() {
+                    let value = eval(alloc, &a.value, store)?;
+                    let key = locate(alloc, &a.target, store)?;
+                    store.assign(key, value)?;
+                }
+            }
+            Action::Unset(names) => {
+                for name in names.as_slice() {
+                    store.unset(name);
+                }
+            }
+            Action::Assert(t) => {
+                if !holds(alloc, t, store, next)? {
+                    return Ok(false);
+                }
+            }
+            _ => return Ok(false),
+        }
+    }
+    Ok(true)
+}
+
+/// An answer of an expression; want of memory is none.
+fn value_told<T: Drop>(answer: Result<T, EvalFault>) -> Result<Result<T, EvalFault>, AllocError> {
+    match answer {
+        Err(EvalFault::Memory) => Err(AllocError),
+        told => Ok(told),
+    }
+}
+
+/// An answer of a test; want of memory is none.
+fn truth_told(answer: Answer) -> Result<Answer, AllocError> {
+    match answer {
+        Err(TestFault::Eval(EvalFault::Memory)) => Err(AllocError),
+        told => Ok(told),
+    }
+}
+
+/// A store with some presets.
+fn store_of(alloc: Global, pinned: &str) -> Result<Store, Fail> {
+    let presets = presets(alloc, pinned)?;
+    Ok(Store::new(alloc, &presets)?)
+}
+
+/// What a program answers at some bytes, behind which a read may fail.
+fn answer_over(
+    alloc: Global,
+    text: &str,
+    bytes: &[u8],
+    broken: bool,
+    limit: u64,
+) -> Result<Answer, Fail>
+    requires { limit ≤ 2 ^ 62 }
+{
+    let program = parse(alloc, text.as_bytes())?;
+    let mut store = store_of(alloc, "")?;
+    let mut data = Plain::new(bytes, broken, limit);
+    Ok(truth_told(run(alloc, &program, &mut store, &mut data))?)
+}
+
+/// What a program answers over no data and with a reader that fails at once, so that each look would be told.
+fn answer(alloc: Global, pinned: &str, text: &str) -> Result<Answer, Fail> {
+    let program = parse(alloc, text.as_bytes())?;
+    let mut store = store_of(alloc, pinned)?;
+    let mut data = Plain::new(b"", true, 10);
+    Ok(truth_told(run(alloc, &program, &mut store, &mut data))?)
+}
+
+/// The first line of a text that answers otherwise than wanted. Each line is a program of its own, over no data.
+fn first_other<'t>(
+    alloc: Global,
+    pinned: &str,
+    programs: &'t str,
+    wanted: Answer,
+) -> Result<Option<&'t str>, Fail> {
+    for program in programs.lines() {
+        if answer(alloc, pinned, program)? != wanted {
+            return Ok(Some(program));
+        }
+    }
+    Ok(None)
+}
+
+/// Programs over no data: their presets, the programs, one a line, and what each of them answers.
+type Row = (&'static str, &'static str, Answer);
+
+/// Whether each program of a table answers as its row says.
+fn judged(rt: &impl Abort, alloc: Global, rows: &[Row]) -> Result<(), Fail> {
+    for (pinned, programs, wanted) in rows {
+        let found = first_other(alloc, pinned, programs, *wanted)?;
+        assert_eq!(rt; found, None);
+    }
+    Ok(())
+}
+
+/// What a program answers where a[0], a[1] and so on up to a count are their own indices, and i is the count.
+fn grown(alloc: Global, count: u32, text: &str) -> Result<Answer, Fail> {
+    let grow = parse(alloc, b"SET(a[i]=i,i=i+1)")?;
+    let program = parse(alloc, text.as_bytes())?;
+    let mut store = store_of(alloc, "")?;
+    let mut data = Plain::new(b"", true, 10);
+    let begin = parse(alloc, b"SET(i=0)")?;
+    let mut answer = run(alloc, &begin, &mut store, &mut data);
+    for _ in 0..count {
+        if answer == Ok(true) {
+            answer = run(alloc, &grow, &mut store, &mut data);
+        }
+    }
+    if answer == Ok(true) {
+        answer = run(alloc, &program, &mut store, &mut data);
+    }
+    Ok(truth_told(answer)?)
+}
+
+/// Some numbers as values.
+fn numbers(alloc: Global, numbers: &[i8]) -> Result<Vec<Value>, AllocError> {
+    let mut values = Vec::new(alloc);
+    for n in numbers {
+        values.push(Value::Int(i128::from(*n)))?;
+    }
+    Ok(values)
+}
+
+/// The key of a name and some numbers.
+fn key(alloc: Global, name: &[u8], indices: &[i8]) -> Result<Key, AllocError> {
+    Ok(Key::new(name.to_vec(alloc)?, numbers(alloc, indices)?))
+}
+
+/// Whether all that a program asserts holds, or its first fault.
+type Answer = Result<bool, TestFault>;
+
+const UNDEFINED: Answer = Err(TestFault::Eval(EvalFault::Undefined));
+
+const WRONG_TYPE: Answer = Err(TestFault::Eval(EvalFault::WrongType));
+
+const OVERFLOW: Answer = Err(TestFault::Eval(EvalFault::Overflow));
+
+const DIVISION_BY_ZERO: Answer = Err(TestFault::Eval(EvalFault::DivisionByZero));
+
+const EXPONENT: Answer = Err(TestFault::Eval(EvalFault::Exponent));
+
+const SHAPE: Answer = Err(TestFault::Eval(EvalFault::Shape));
+
+const READ: Answer = Err(TestFault::Look(LookFault::Read));
+
+const DATA_TOO_LONG: Answer = Err(TestFault::Look(LookFault::DataTooLong));
+
+#[test]
+fn numbers_of_the_faults(rt: HostRuntime) {
+    let faults = [
+        EvalFault::Undefined,
+        EvalFault::WrongType,
+        EvalFault::Overflow,
+        EvalFault::DivisionByZero,
+        EvalFault::Exponent,
+        EvalFault::Count,
+        EvalFault::Shape,
+        EvalFault::Memory,
+    ];
+    let mut number = 1;
+    for fault in faults {
+        assert_eq!(rt; fault as u8, number);
+        number += 1;
+    }
+}
+
+#[test]
+fn the_first_line_that_answers_otherwise(rt: HostRuntime) -> Result<(), Fail> {
+    let programs = "ASSERT(1==1)\nASSERT(1==2)\nASSERT(2==3)";
+    let found = first_other(rt.alloc(), "", programs, Ok(true))?;
+    assert_eq!(rt; found, Some("ASSERT(1==2)"));
+    Ok(())
+}

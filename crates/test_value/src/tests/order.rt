@@ -1,0 +1,69 @@
+//! The order of values and of keys.
+
+use super::numbers;
+use ctd_syntax::Bytes;
+use ctd_value::{Key, Value};
+use std::alloc::{AllocError, Global};
+use std::test::Fail;
+
+/// The key of a name and some numbers, behind which a string may stand.
+fn row(alloc: Global, name: &[u8], indices: &[i8], last: Option<&[u8]>) -> Result<Key, AllocError> {
+    let mut values = numbers(alloc, indices)?;
+    if let Some(bytes) = last {
+        values.push(Value::Text(Bytes::copy(alloc, bytes)?))?;
+    }
+    Ok(Key::new(name.to_vec(alloc)?, values))
+}
+
+/// Whether each is less than those after it, greater than those before it, and equal to itself alone.
+fn rises<T: Ord>(items: &[T]) -> bool {
+    for (i, a) in items.iter().enumerate() {
+        for (j, b) in items.iter().enumerate() {
+            if a.cmp(b) != i.cmp(&j)
+                || a.partial_cmp(b) != Some(i.cmp(&j))
+                || (a == b) != (i == j)
+            {
+                return false;
+            }
+        }
+    }
+    true
+}
+
+#[test]
+fn integers_come_before_strings(rt: HostRuntime) -> Result<(), Fail> {
+    let numbers = [i128::MIN, -1, 0, 9, 10, i128::MAX];
+    let texts: [&[u8]; 6] = [b"", b"10", b"9", b"99", b"\x7f", b"\x80"];
+    let mut values = Vec::new(rt.alloc());
+    for n in numbers {
+        values.push(Value::Int(n))?;
+    }
+    for bytes in texts {
+        values.push(Value::Text(Bytes::copy(rt.alloc(), bytes)?))?;
+    }
+    assert!(rt; rises(&values));
+    Ok(())
+}
+
+#[test]
+fn keys_go_by_name_and_then_by_index(rt: HostRuntime) -> Result<(), Fail> {
+    let rows: [(&[u8], &[i8], Option<&[u8]>); 11] = [
+        (b"a", &[], None),
+        (b"a", &[-3], None),
+        (b"a", &[2], None),
+        (b"a", &[2, 1], None),
+        (b"a", &[2], Some(b"")),
+        (b"a", &[10], None),
+        (b"a", &[10, -5], None),
+        (b"a", &[10], Some(b"b")),
+        (b"ab", &[], None),
+        (b"ab", &[-9], None),
+        (b"b", &[], None),
+    ];
+    let mut keys = Vec::new(rt.alloc());
+    for (name, indices, last) in rows {
+        keys.push(row(rt.alloc(), name, indices, last)?)?;
+    }
+    assert!(rt; rises(&keys));
+    Ok(())
+}

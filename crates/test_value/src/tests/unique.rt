@@ -1,0 +1,60 @@
+//! UNIQUE over small and large arrays.
+
+use super::{Row, SHAPE, grown, judged};
+use std::test::Fail;
+
+const DISTINCT: &str = r#"SET(a[0]=1,a[1]=1,a[2]=1,b[0]=2,b[1]=3,b[2]=4) ASSERT(UNIQUE(a,b))
+SET(a[1]=1,a[2]=1,b[1]=2,b[2]=3) ASSERT(UNIQUE(b))
+ASSERT(UNIQUE(a,b) && UNIQUE(a) && !INARRAY(1,a))
+SET(a[1]=1,a["1"]=2) ASSERT(UNIQUE(a) && a[1]==1)
+SET(a[1]=1,a[2]="1") ASSERT(UNIQUE(a))
+SET(a[1]="x",b[1]="yz",a[2]="xy",b[2]="z") ASSERT(UNIQUE(a,b))
+SET(a=1,b=1) ASSERT(UNIQUE(a,b) && UNIQUE(a,a,b))"#;
+
+const REPEATED: &str = "SET(a[0]=1,a[1]=1,a[2]=1,b[0]=2,b[1]=3,b[2]=2) ASSERT(UNIQUE(a,b))
+SET(a[1]=1,a[2]=1,b[1]=2,b[2]=3) ASSERT(UNIQUE(a,b)) ASSERT(UNIQUE(a))
+SET(a[1,2]=5,a[1]=5) ASSERT(UNIQUE(a))";
+
+const OF_DIFFERENT_INDICES: &str = r#"SET(a[0]=1,b[0]=2,a[9]=0) ASSERT(UNIQUE(a,b))
+SET(a[0]=1,b[0]=2,b[9]=0) ASSERT(UNIQUE(a,b))
+SET(a[1]=1,b["1"]=1) ASSERT(UNIQUE(a,b))
+SET(a[1]=1,b=1) ASSERT(UNIQUE(a,b))
+SET(a[1]=1) ASSERT(UNIQUE(b,a))
+SET(a[1]=1,b[1]=1,c[2]=1) ASSERT(UNIQUE(a,b,c))
+SET(a[1]=1,a[2]=1,b[1]=1) ASSERT(UNIQUE(a,b))"#;
+
+const SMALL_ARRAYS: [Row; 3] = [
+    ("", DISTINCT, Ok(true)),
+    ("", REPEATED, Ok(false)),
+    ("", OF_DIFFERENT_INDICES, SHAPE),
+];
+
+#[test]
+fn small_arrays(rt: HostRuntime) -> Result<(), Fail> {
+    judged(&rt, rt.alloc(), &SMALL_ARRAYS)
+}
+
+const ARRAYS_WITH_A_PRESET: [Row; 2] = [
+    (
+        "a=1",
+        "SET(a=2,a[1]=2) ASSERT(UNIQUE(a))\nSET(b=2) ASSERT(UNIQUE(a,b))",
+        Ok(true),
+    ),
+    ("a=1", "SET(a[1]=1) ASSERT(UNIQUE(a))", Ok(false)),
+];
+
+#[test]
+fn arrays_with_a_preset(rt: HostRuntime) -> Result<(), Fail> {
+    judged(&rt, rt.alloc(), &ARRAYS_WITH_A_PRESET)
+}
+
+#[test]
+fn a_large_array(rt: HostRuntime) -> Result<(), Fail> {
+    let distinct = "ASSERT(i==50000 && UNIQUE(a))";
+    let found = grown(rt.alloc(), 50000, distinct)?;
+    assert_eq!(rt; found, Ok(true));
+    let repeated = "SET(a[7]=8) ASSERT(UNIQUE(a))";
+    let found = grown(rt.alloc(), 50000, repeated)?;
+    assert_eq!(rt; found, Ok(false));
+    Ok(())
+}
