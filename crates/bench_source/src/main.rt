@@ -1,4 +1,4 @@
-//! Times the cursor over a file: `ctd_bench FILE KIND` prints microseconds. With no words it makes one small run of
+//! Times the cursor over a file: `bench_source FILE KIND` prints microseconds. With no words it makes one small run of
 //! each kind over bytes in memory, and prints nothing.
 #![tactic(auto)]
 

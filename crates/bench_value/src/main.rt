@@ -1,4 +1,4 @@
-//! Times values, variables and tests: `ctd_value_bench KIND COUNT` prints microseconds. With no words it makes one small
+//! Times values, variables and tests: `bench_value KIND COUNT` prints microseconds. With no words it makes one small
 //! run of each kind, and prints nothing.
 #![tactic(auto)]
 
