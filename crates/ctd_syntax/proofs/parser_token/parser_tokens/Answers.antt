@@ -4,7 +4,7 @@ use Rattle.std.proofs.lemmas.List.{map-append}
 use Rattle.ctd_token.specs.declared.token.Token.{Token}
 use Rattle.ctd_syntax.specs.Lexeme.{Lexeme, lexeme_of, with_number, regex_count}
 use Rattle.ctd_syntax.specs.Reading.{lexemes_from}
-use Rattle.ctd_syntax.proofs.piece.pieces.Goals as goal
+use Rattle.ctd_syntax.proofs.parser_token.parser_tokens.Goals as goal
 
 one_more : (program : List ℕ) (n i : ℕ) (ts : List Token) (d : Token) (found whole : List Lexeme) → i < length ts
     → found ++ lexemes_from program n (drop i ts) ≡ whole
@@ -16,7 +16,7 @@ one_more program n i ts d found whole lt so_far =
 
 pub loop-token-preserved : goal.loop-token-preserved
 loop-token-preserved c = record {
-  within = omega (arith, c.numbered.ensures.at_most_one, c.loop-token.invariant.within);
-  same = rw (c.in_ok-push.ensures.items, map-append, c.numbered.ensures.same, c.numbered.ensures.counted, c.piece_of.ensures, c.token-item.is)
+  within = omega (arith, c.give_number.ensures.at_most_one, c.loop-token.invariant.within);
+  same = rw (c.in_ok-push.ensures.items, map-append, c.give_number.ensures.same, c.give_number.ensures.counted, c.parser_token_of.ensures, c.token-item.is)
       (one_more c.args.text.now c.loop-token.before c.loop-token.token-index c.args.tokens.now _ _ _ c.loop-token-test.true c.loop-token.invariant.same);
 }

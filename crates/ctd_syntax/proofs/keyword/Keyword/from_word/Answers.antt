@@ -2,7 +2,7 @@ use Rattle.std.proofs.Common.{◌≡◌, ap, sym, arith, rules}
 use Rattle.std.specs.Prelude.{codes}
 use Rattle.std.proofs.lemmas.Slice.Eq.{text_from_reads}
 use Rattle.ctd_syntax.specs.Lexeme.{keyword_of}
-use Rattle.ctd_syntax.proofs.keyword.Keyword.spelled.Goals as goal
+use Rattle.ctd_syntax.proofs.keyword.Keyword.from_word.Goals as goal
 
 pub returns-in-SPACE : goal.returns-in-SPACE
 returns-in-SPACE c = let same : c.args.word.now ≡ codes "SPACE" = text_from_reads _ _ (omega arith) (search rules) in sym (ap keyword_of same)

@@ -1,7 +1,7 @@
 //! Tokens as the grammar sees them.
 
 ghost use Rattle.std.specs.Prelude.{◌≡◌, ◌+◌, ◌-◌, ◌^◌, ◌<◌, ◌≤◌, IfOk, drop, map, take};
-ghost use Rattle.ctd_syntax.specs.Front.{piece};
+ghost use Rattle.ctd_syntax.specs.Front.{lexeme};
 ghost use Rattle.ctd_syntax.specs.Lexeme.{lexeme_of, regex_count, with_number};
 ghost use Rattle.ctd_syntax.specs.Reading.{lexemes};
 
@@ -11,7 +11,7 @@ use std::alloc::{AllocFailed, Global};
 
 /// A token of a program, with what the grammar needs of it.
 #[derive(Clone, Copy)]
-pub(crate) enum Piece<'t> {
+pub(crate) enum ParserToken<'t> {
     Keyword(Keyword, Place),
     Name(&'t [u8]),
     Numeral(i128),
@@ -28,50 +28,54 @@ fn span(text: &[u8], first: usize, after: usize) -> &[u8]
     &text[start..end]
 }
 
-fn piece_of<'t>(text: &'t [u8], token: &'t Token) -> Piece<'t>
-    ensures { piece result ≡ lexeme_of text.now token.now }
+fn parser_token_of<'t>(text: &'t [u8], token: &'t Token) -> ParserToken<'t>
+    ensures { lexeme result ≡ lexeme_of text.now token.now }
 {
     match &token.kind {
         TokenKind::Word => {
             let word = span(text, token.first as usize, token.after as usize);
-            Piece::Keyword(Keyword::spelled(word), token.place)
+            ParserToken::Keyword(Keyword::from_word(word), token.place)
         }
-        TokenKind::Name => Piece::Name(span(text, token.first as usize, token.after as usize)),
-        TokenKind::Numeral(n) => Piece::Numeral(*n),
-        TokenKind::Text(bytes) => Piece::Text(bytes, token.place),
-        TokenKind::Mark(mark) => Piece::Mark(*mark),
+        TokenKind::Name => ParserToken::Name(span(
+            text,
+            token.first as usize,
+            token.after as usize,
+        )),
+        TokenKind::Numeral(n) => ParserToken::Numeral(*n),
+        TokenKind::Text(bytes) => ParserToken::Text(bytes, token.place),
+        TokenKind::Mark(mark) => ParserToken::Mark(*mark),
     }
 }
 
 // Gives a word REGEX its number, and adds it to those before it.
-fn numbered<'t>(token: Piece<'t>, before: &mut usize) -> Piece<'t>
+fn give_number<'t>(token: ParserToken<'t>, before: &mut usize) -> ParserToken<'t>
     requires { before.old + 1 < 2 ^ 64 }
-    ensures same { piece result ≡ with_number before.old (piece token.entry) }
-    ensures counted { before.new ≡ before.old + regex_count (piece token.entry) }
+    ensures same { lexeme result ≡ with_number before.old (lexeme token.entry) }
+    ensures counted { before.new ≡ before.old + regex_count (lexeme token.entry) }
     ensures at_most_one { before.new ≤ before.old + 1 }
 {
     match token {
-        Piece::Keyword(Keyword::Regex(_), place) => {
+        ParserToken::Keyword(Keyword::Regex(_), place) => {
             let number = *before;
             *before += 1;
-            Piece::Keyword(Keyword::Regex(number), place)
+            ParserToken::Keyword(Keyword::Regex(number), place)
         }
         other => other,
     }
 }
 
 /// What the grammar sees of the tokens of a text, in order.
-pub(crate) fn pieces<'t>(
+pub(crate) fn parser_tokens<'t>(
     alloc: Global,
     text: &'t [u8],
     tokens: &'t [Token],
-) -> Result<Vec<Piece<'t>>, AllocFailed<Piece<'t>>>
-    ensures { IfOk result (λ ps. map piece ps.items ≡ lexemes text.now tokens.now) }
+) -> Result<Vec<ParserToken<'t>>, AllocFailed<ParserToken<'t>>>
+    ensures { IfOk result (λ ps. map lexeme ps.items ≡ lexemes text.now tokens.now) }
 {
-    let mut pieces = Vec::new(alloc);
+    let mut parser_tokens = Vec::new(alloc);
     let mut before = 0;
     for token in tokens {
-        pieces.push(numbered(piece_of(text, token), &mut before))?;
+        parser_tokens.push(give_number(parser_token_of(text, token), &mut before))?;
     }
-    Ok(pieces)
+    Ok(parser_tokens)
 }
