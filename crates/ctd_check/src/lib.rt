@@ -12,7 +12,7 @@ mod evaluate;
 mod failure;
 mod frame;
 mod integer;
-pub mod laws;
+mod laws;
 mod literals;
 mod loops;
 mod machine;
@@ -26,6 +26,7 @@ mod text;
 pub use checking::check;
 pub use ctd_source::{Failed, FromRead, Seen, Source, Spot};
 pub use ctd_syntax::{Bytes, LoadFault, LoadKind, Place, Presets};
+pub use laws::lists_run_in_turn;
 pub use outcome::{Checked, Fault, Limits, Mode, Outcome, Reason, Site};
 pub use plan::Plan;
 

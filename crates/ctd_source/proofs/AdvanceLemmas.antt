@@ -8,9 +8,9 @@ use Rattle.ctd_source.specs.declared.source.Seen.TheVariants.{Going, Ended, Brok
 use Rattle.ctd_source.specs.declared.spot.LookFault.{LookFault}
 use Rattle.ctd_source.specs.TestData.{TestData, look, first_of, next_byte}
 use Rattle.ctd_source.specs.Agreement.{Agrees}
-use Rattle.ctd_source.specs.Standing.{Sight, StandsFor}
-use Rattle.ctd_source.specs.Sight.{sight, source, ReadsOn, MovesPast}
-use Rattle.ctd_source.specs.Follow.{Follows, Goes}
+use Rattle.ctd_source.specs.Consistency.{CursorState, IsConsistentWith}
+use Rattle.ctd_source.specs.CursorState.{state_of, source, ReadsOn, MovesPast}
+use Rattle.ctd_source.specs.Received.{HasReceived, AdvancesSuchThat}
 use Rattle.ctd_source.proofs.Agreeing.{reading_follows, moving_follows, agreeing_stands}
 
 -- data that begin with two lists begin with the first
@@ -39,44 +39,44 @@ agrees_before Going now given more d final a = going_before now given more d a
 agrees_before Ended now given more d final a = let f = final (λ e. cc) in same_end Ended now given more d f.0 f.1 a
 agrees_before Broken now given more d final a = let f = final (λ e. cc) in same_end Broken now given more d f.0 f.1 a
 
--- what a cursor stood for, and stands for
-pub record Stand (s t : Sight) (d : TestData) : Type 0 where
-  pub before : StandsFor d s
-  pub after : StandsFor d t
+-- data that a cursor is consistent with, before and after
+pub record IsConsistentThroughout (s t : CursorState) (d : TestData) : Type 0 where
+  pub before : IsConsistentWith d s
+  pub after : IsConsistentWith d t
 
 module _ {R : Type 0} {G : Ghosts R} where
-  -- it stands for data that agree, before and after
-  pub goes_standing : (a b : Cursor R G) (P : TestData → Type 0) → (f : Goes a b P) → (first : R) (given : List ℕ) → Follows first given a → (d : TestData) → d.limit ≡ (sight b).limit → Agrees (given ++ f.more) (sight b).seen d → Stand (sight a) (sight b) d
-  goes_standing a b P f first given account d limit agrees = record {
-    before = agreeing_stands first given a account d (limit ∙ f.limit) (agrees_before (sight a).seen (sight b).seen given f.more d f.final agrees);
+  -- data that agree are so
+  pub advances_standing : (a b : Cursor R G) (P : TestData → Type 0) → (f : AdvancesSuchThat a b P) → (first : R) (given : List ℕ) → HasReceived first given a → (d : TestData) → d.limit ≡ (state_of b).limit → Agrees (given ++ f.more) (state_of b).seen d → IsConsistentThroughout (state_of a) (state_of b) d
+  advances_standing a b P f first given account d limit agrees = record {
+    before = agreeing_stands first given a account d (limit ∙ f.limit) (agrees_before (state_of a).seen (state_of b).seen given f.more d f.final agrees);
     after = agreeing_stands first (given ++ f.more) b (f.follows first given account) d limit agrees;
   }
 
   -- and what is so of these data has its consequences
-  pub goes_so : {a b : Cursor R G} {P Q : TestData → Type 0} → (f : Goes a b P) → ((d : TestData) → Stand (sight a) (sight b) d → P d → Q d) → Goes a b Q
-  goes_so {a} {b} {P} {Q} f so = record {
+  pub advances_so : {a b : Cursor R G} {P Q : TestData → Type 0} → (f : AdvancesSuchThat a b P) → ((d : TestData) → IsConsistentThroughout (state_of a) (state_of b) d → P d → Q d) → AdvancesSuchThat a b Q
+  advances_so {a} {b} {P} {Q} f so = record {
     more = f.more;
     same_reference = f.same_reference;
     limit = f.limit;
     final = f.final;
     follows = f.follows;
-    holds = λ first given account d limit agrees. so d (goes_standing a b P f first given account d limit agrees) (f.holds first given account d limit agrees);
+    holds = λ first given account d limit agrees. so d (advances_standing a b P f first given account d limit agrees) (f.holds first given account d limit agrees);
   }
 
   -- a cursor that stays
-  pub goes_nowhere : (c : Cursor R G) → Goes c c (λ d. d.limit ≡ (sight c).limit)
-  goes_nowhere c = record {
+  pub advances_nowhere : (c : Cursor R G) → AdvancesSuchThat c c (λ d. d.limit ≡ (state_of c).limit)
+  advances_nowhere c = record {
     more = [];
     same_reference = refl;
     limit = refl;
     final = λ _. (refl, refl);
-    follows = λ first given account. let P : List ℕ → Type 0 = λ xs. Follows first xs c in subst P (sym (append-nil given)) account;
+    follows = λ first given account. let P : List ℕ → Type 0 = λ xs. HasReceived first xs c in subst P (sym (append-nil given)) account;
     holds = λ first given account d limit agrees. limit;
   }
 
   -- that reads on
-  pub goes_reading : (a b : Cursor R G) → ReadsOn a b → Goes a b (λ d. d.limit ≡ (sight b).limit)
-  goes_reading a b r = record {
+  pub advances_reading : (a b : Cursor R G) → ReadsOn a b → AdvancesSuchThat a b (λ d. d.limit ≡ (state_of b).limit)
+  advances_reading a b r = record {
     more = r.more;
     same_reference = r.same_reference;
     limit = r.limit;
@@ -86,19 +86,19 @@ module _ {R : Type 0} {G : Ghosts R} where
   }
 
   -- that moves on
-  pub goes_moving : (n : ℕ) (a b : Cursor R G) → MovesPast n a b → Goes a b (λ d. d.limit ≡ (sight b).limit)
-  goes_moving n a b m = record {
+  pub advances_moving : (n : ℕ) (a b : Cursor R G) → MovesPast n a b → AdvancesSuchThat a b (λ d. d.limit ≡ (state_of b).limit)
+  advances_moving n a b m = record {
     more = [];
     same_reference = m.same_reference;
     limit = m.limit;
     final = λ _. (refl, m.seen);
-    follows = λ first given account. let P : List ℕ → Type 0 = λ xs. Follows first xs b in subst P (sym (append-nil given)) (moving_follows first given n a b account m);
+    follows = λ first given account. let P : List ℕ → Type 0 = λ xs. HasReceived first xs b in subst P (sym (append-nil given)) (moving_follows first given n a b account m);
     holds = λ first given account d limit agrees. limit;
   }
 
   -- twice
-  pub goes_both : {a b c : Cursor R G} {P Q : TestData → Type 0} → Goes a b P → Goes b c Q → Goes a c (λ d. P d × Q d)
-  goes_both {a} {b} {c} {P} {Q} f s = record {
+  pub advances_both : {a b c : Cursor R G} {P Q : TestData → Type 0} → AdvancesSuchThat a b P → AdvancesSuchThat b c Q → AdvancesSuchThat a c (λ d. P d × Q d)
+  advances_both {a} {b} {c} {P} {Q} f s = record {
     more = f.more ++ s.more;
     same_reference = s.same_reference ∙ f.same_reference;
     limit = s.limit ∙ f.limit;
@@ -107,17 +107,17 @@ module _ {R : Type 0} {G : Ghosts R} where
         let g = s.final (λ going. stopped (sym e.1 ∙ going)) in
         (ap (λ xs. xs ++ s.more) e.0 ∙ g.0, g.1 ∙ e.1);
     follows = λ first given account.
-        let T : List ℕ → Type 0 = λ xs. Follows first xs c in
+        let T : List ℕ → Type 0 = λ xs. HasReceived first xs c in
         subst T (append_assoc given f.more s.more) (s.follows first (given ++ f.more) (f.follows first given account));
     holds = λ first given account d limit agrees.
-        let T : List ℕ → Type 0 = λ xs. Agrees xs (sight c).seen d in
+        let T : List ℕ → Type 0 = λ xs. Agrees xs (state_of c).seen d in
         let later = subst T (sym (append_assoc given f.more s.more)) agrees in
-        let earlier = agrees_before (sight b).seen (sight c).seen (given ++ f.more) s.more d s.final later in
+        let earlier = agrees_before (state_of b).seen (state_of c).seen (given ++ f.more) s.more d s.final later in
         (f.holds first given account d (limit ∙ s.limit) earlier, s.holds first (given ++ f.more) (f.follows first given account) d limit later);
   }
 
   -- that looks at its next byte
-  pub goes_looking : (a b : Cursor R G) (result : Result (Option ℕ) LookFault) → ReadsOn a b → ((d : TestData) → StandsFor d (sight b) → result ≡ first_of (look d (sight b).spot.offset 1))
-      → Goes a b (λ d. next_byte d (sight a).spot.offset ≡ result)
-  goes_looking a b result r answer =
-      goes_so (goes_reading a b r) (λ d stand _. ap (λ s. next_byte d s.offset) (sym r.spot) ∙ sym (answer d stand.after))
+  pub advances_looking : (a b : Cursor R G) (result : Result (Option ℕ) LookFault) → ReadsOn a b → ((d : TestData) → IsConsistentWith d (state_of b) → result ≡ first_of (look d (state_of b).spot.offset 1))
+      → AdvancesSuchThat a b (λ d. next_byte d (state_of a).spot.offset ≡ result)
+  advances_looking a b result r answer =
+      advances_so (advances_reading a b r) (λ d stand _. ap (λ s. next_byte d s.offset) (sym r.spot) ∙ sym (answer d stand.after))

@@ -1,5 +1,5 @@
 use Rattle.ctd_source.proofs.Agreeing.{start_follows, reading_follows, moving_follows, agreeing_stands}
-use Rattle.ctd_source.proofs.cursor.Cursor.follows_its_source.Goals as goal
+use Rattle.ctd_source.proofs.cursor.Cursor.received_is_sound.Goals as goal
 
 pub returns-clause-starts : goal.returns-clause-starts
 returns-clause-starts g c = start_follows
