@@ -16,9 +16,9 @@ TOP = pathlib.Path(__file__).resolve().parent.parent
 
 def build(top):
     """The benchmark program of a checkout; with no words it only rehearses."""
-    crate = top / "crates" / "ctd_bench"
+    crate = top / "crates" / "bench_source"
     subprocess.run(["rt", "run"], cwd=crate, stdin=subprocess.DEVNULL, stdout=subprocess.DEVNULL, check=True)
-    return crate / "out" / "ctd_bench"
+    return crate / "out" / "bench_source"
 
 
 def least(words, told):
@@ -50,9 +50,9 @@ def main():
         wide_top.mkdir()
         for name in ("HANDLES", "crates.txt"):
             shutil.copy(TOP / name, wide_top)
-        for name in ("ctd_source", "ctd_bench"):
+        for name in ("ctd_source", "bench_source"):
             shutil.copytree(TOP / "crates" / name, wide_top / "crates" / name)
-        lines = [line for line in (wide_top / "crates.txt").read_text().splitlines() if re.match(r"ctd_(source|bench):", line)]
+        lines = [line for line in (wide_top / "crates.txt").read_text().splitlines() if re.match(r"(ctd|bench)_source:", line)]
         (wide_top / "crates.txt").write_text("\n".join(lines) + "\n")
         limits = wide_top / "crates" / "ctd_source" / "src" / "limits.rt"
         limits.write_text(limits.read_text().replace("WINDOW: usize = 65_536", "WINDOW: usize = 1_048_576"))

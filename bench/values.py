@@ -11,12 +11,12 @@ Each time is the least of five, told by the program itself. Builds by `rt run`.
 import pathlib, subprocess
 
 TURNS = 5
-CRATE = pathlib.Path(__file__).resolve().parent.parent / "crates" / "ctd_value_bench"
+CRATE = pathlib.Path(__file__).resolve().parent.parent / "crates" / "bench_value"
 
 
 def least(kind, count):
     """The least time of some runs, in microseconds."""
-    words = [CRATE / "out" / "ctd_value_bench", kind, str(count)]
+    words = [CRATE / "out" / "bench_value", kind, str(count)]
     return min(int(subprocess.run(words, stdout=subprocess.PIPE, check=True).stdout) for _ in range(TURNS))
 
 

@@ -6,10 +6,10 @@ use Rattle.ctd_source.specs.declared.source.Source.{Ghosts}
 use Rattle.ctd_source.specs.declared.cursor.Cursor.{Cursor}
 use Rattle.ctd_source.specs.declared.spot.LookFault.{LookFault}
 use Rattle.ctd_source.specs.TestData.{TestData, look, first_of}
-use Rattle.ctd_source.specs.Standing.{StandsFor}
-use Rattle.ctd_source.specs.Sight.{sight, ReadsOn, MovesPast}
-use Rattle.ctd_source.specs.Follow.{Goes}
-use Rattle.ctd_source.proofs.Going.{goes_so, goes_both, goes_nowhere, goes_looking, goes_moving}
+use Rattle.ctd_source.specs.Consistency.{IsConsistentWith}
+use Rattle.ctd_source.specs.CursorState.{state_of, ReadsOn, MovesPast}
+use Rattle.ctd_source.specs.Received.{AdvancesSuchThat}
+use Rattle.ctd_source.proofs.AdvanceLemmas.{advances_so, advances_both, advances_nowhere, advances_looking, advances_moving}
 use Rattle.ctd_value.specs.Fault.{ValueFault, with_fault}
 use Rattle.ctd_value.specs.declared.value.Value.{Value}
 use Rattle.ctd_value.specs.Store.{History, Key, assign}
@@ -56,38 +56,38 @@ sound_answering P g (Err failure) p = tt
 module _ {R : Type 0} {G : Ghosts R} where
   -- an answer alone
   pub given : {A : Type 0} (a : Run R G) (x : A) → IsSound a → Performs a a (Ok x) (give x)
-  given a x sound = record { sound = sound; goes = goes_so (goes_nowhere a.cursor) (λ d _ _. refl) }
+  given a x sound = record { sound = sound; goes = advances_so (advances_nowhere a.cursor) (λ d _ _. refl) }
 
   -- a failure alone
   pub rejecting : {A : Type 0} (a : Run R G) (reason : Reason) → Performs {A = A} a a (Err (Rejected reason)) (reject reason)
-  rejecting a reason = record { sound = tt; goes = goes_so (goes_nowhere a.cursor) (λ d _ _. refl) }
+  rejecting a reason = record { sound = tt; goes = advances_so (advances_nowhere a.cursor) (λ d _ _. refl) }
 
   -- one thing and then the next
   pub and_then : {A B : Type 0} {a b c : Run R G} {x : A} {r : Result B CommandFailure} {m : Act A} (f : A → Act B) → Performs a b (Ok x) m → Performs b c r (f x) → Performs a c r (m >>= f)
   and_then {A = A} {B = B} {a = a} {b = b} {c = c} {x = x} {r = r} {m = m} f p q = record {
     sound = q.sound;
-    goes = goes_so (goes_both p.goes q.goes) (λ d _ e. let P : Effect A → Type 0 = λ eff. Does r (state c) (proceed eff (λ y t. f y d t)) in subst P (sym e.0) e.1);
+    goes = advances_so (advances_both p.goes q.goes) (λ d _ e. let P : Effect A → Type 0 = λ eff. Does r (state c) (proceed eff (λ y t. f y d t)) in subst P (sym e.0) e.1);
   }
 
   -- what does not go on
   pub early : {A B : Type 0} {a b : Run R G} {failure : CommandFailure} {m : Act A} (f : A → Act B) → Performs {A = A} a b (Err failure) m → Performs {A = B} a b (Err failure) (m >>= f)
   early {A = A} {B = B} {a = a} {b = b} {failure = failure} {m = m} f p = record {
     sound = tt;
-    goes = goes_so p.goes (λ d _ e. does_early failure (state b) (m d (state a)) (λ y t. f y d t) e);
+    goes = advances_so p.goes (λ d _ e. does_early failure (state b) (m d (state a)) (λ y t. f y d t) e);
   }
 
   -- the same under another name of the act
   pub performs_as : {A : Type 0} {a b : Run R G} {r : Result A CommandFailure} {m n : Act A} → ((d : TestData) (s : State) → m d s ≡ n d s) → Performs a b r m → Performs a b r n
   performs_as {A = A} {a = a} {b = b} {r = r} {m = m} {n = n} same p = record {
     sound = p.sound;
-    goes = goes_so p.goes (λ d _ e. let P : Effect A → Type 0 = λ x. Does r (state b) x in subst P (same d (state a)) e);
+    goes = advances_so p.goes (λ d _ e. let P : Effect A → Type 0 = λ x. Does r (state b) x in subst P (same d (state a)) e);
   }
 
   -- under its name at the state where it begins
   pub performs_at : {A : Type 0} {a b : Run R G} {r : Result A CommandFailure} {m n : Act A} → ((d : TestData) → m d (state a) ≡ n d (state a)) → Performs a b r m → Performs a b r n
   performs_at {A = A} {a = a} {b = b} {r = r} {m = m} {n = n} same p = record {
     sound = p.sound;
-    goes = goes_so p.goes (λ d _ e. let P : Effect A → Type 0 = λ x. Does r (state b) x in subst P (same d) e);
+    goes = advances_so p.goes (λ d _ e. let P : Effect A → Type 0 = λ x. Does r (state b) x in subst P (same d) e);
   }
 
   -- and of the result
@@ -95,14 +95,14 @@ module _ {R : Type 0} {G : Ghosts R} where
   answers_as {A = A} {a = a} {b = b} {r = r} {q = q} {m = m} same p = let P : Result A CommandFailure → Type 0 = λ x. Performs a b x m in subst P (sym same) p
 
   -- what was done so far, and then what is left of it
-  pub performs_after : {A : Type 0} {a b c : Run R G} {r : Result A CommandFailure} {m n : Act A} → Goes a.cursor b.cursor (λ d. m d (state a) ≡ n d (state b)) → Performs b c r n → Performs a c r m
+  pub performs_after : {A : Type 0} {a b c : Run R G} {r : Result A CommandFailure} {m n : Act A} → AdvancesSuchThat a.cursor b.cursor (λ d. m d (state a) ≡ n d (state b)) → Performs b c r n → Performs a c r m
   performs_after {A = A} {c = c} {r = r} before p = record {
     sound = p.sound;
-    goes = goes_so (goes_both before p.goes) (λ d _ e. let P : Effect A → Type 0 = λ x. Does r (state c) x in subst P (sym e.0) e.1);
+    goes = advances_so (advances_both before p.goes) (λ d _ e. let P : Effect A → Type 0 = λ x. Does r (state c) x in subst P (sym e.0) e.1);
   }
 
   -- what a fault of a look gives by `?`
-  pub stopped_by : {A : Type 0} {a b : Run R G} {m : Act A} (fault : LookFault) (q : Result A CommandFailure) → IsErr q × IsErrAnd q (λ e. e ≡ Stopped (fault_of_look fault)) → Goes a.cursor b.cursor (λ d. m d (state a) ≡ faulty (fault_of_look fault) b.cursor.spot.offset) → Performs a b q m
+  pub stopped_by : {A : Type 0} {a b : Run R G} {m : Act A} (fault : LookFault) (q : Result A CommandFailure) → IsErr q × IsErrAnd q (λ e. e ≡ Stopped (fault_of_look fault)) → AdvancesSuchThat a.cursor b.cursor (λ d. m d (state a) ≡ faulty (fault_of_look fault) b.cursor.spot.offset) → Performs a b q m
   stopped_by fault (Ok x) is goes = let e : true ≡ false = sym is.0 in cc
   stopped_by fault (Err e) is goes = answers_as (ap Err is.1) (record { sound = tt; goes = goes })
 
@@ -115,7 +115,7 @@ module _ {R : Type 0} {G : Ghosts R} where
   pub performs_answering : {A B : Type 0} {a b : Run R G} {r : Result A CommandFailure} {m : Act A} (g : A → B) → Performs a b r m → Performs a b (answering g r) (m >>= λ x. give (g x))
   performs_answering {A = A} {B = B} {a = a} {b = b} {r = r} {m = m} g p = record {
     sound = sound_answering (IsSound b) g r p.sound;
-    goes = goes_so p.goes (λ d _ e. does_answering g r (state b) (m d (state a)) e);
+    goes = advances_so p.goes (λ d _ e. does_answering g r (state b) (m d (state a)) e);
   }
 
   -- what `?` gives, where the answer stands for something
@@ -129,29 +129,29 @@ module _ {R : Type 0} {G : Ghosts R} where
 
   -- a value
   pub evaluated : {A : Type 0} (a : Run R G) (r : Result A CommandFailure) (f : History → Result A ValueFault) → IsSound a → Tells r (with_fault fault_of_value (f a.store)) → Performs a a r (evaluate f)
-  evaluated a r f sound is = record { sound = always r sound; goes = goes_so (goes_nowhere a.cursor) (λ d _ _. does_told r (with_fault fault_of_value (f a.store)) (state a) is) }
+  evaluated a r f sound is = record { sound = always r sound; goes = advances_so (advances_nowhere a.cursor) (λ d _ _. does_told r (with_fault fault_of_value (f a.store)) (state a) is) }
 
   -- the same run over another cursor
   abbrev pub with_cursor : Run R G → Cursor R G → Run R G
   with_cursor a now = record { alloc = a.alloc; cursor = now; store = a.store; mode = a.mode }
 
   -- the next byte
-  pub looked : (a : Run R G) (now : Cursor R G) (next : Option ℕ) → (r : ReadsOn a.cursor now) → now.fault ≡ None → ((d : TestData) → StandsFor d (sight now) → Ok next ≡ first_of (look d (sight now).spot.offset 1))
+  pub looked : (a : Run R G) (now : Cursor R G) (next : Option ℕ) → (r : ReadsOn a.cursor now) → now.fault ≡ None → ((d : TestData) → IsConsistentWith d (state_of now) → Ok next ≡ first_of (look d (state_of now).spot.offset 1))
       → Performs a (with_cursor a now) (Ok next) next_seen
   looked a now next r sound answer = record {
     sound = sound;
-    goes = goes_so (goes_looking a.cursor now (Ok next) r answer)
+    goes = advances_so (advances_looking a.cursor now (Ok next) r answer)
         (λ d _ e. ap (λ x. told (with_fault fault_of_look x) (state a)) e ∙ ap (λ x. done next (record { offset = x.offset; store = a.store; mode = a.mode })) (sym r.spot));
   }
 
   -- a fault in its place
-  pub looked_faulty : (a : Run R G) (now : Cursor R G) (fault : LookFault) (failure : CommandFailure) → (r : ReadsOn a.cursor now) → failure ≡ Stopped (fault_of_look fault) → ((d : TestData) → StandsFor d (sight now) → Err fault ≡ first_of (look d (sight now).spot.offset 1))
+  pub looked_faulty : (a : Run R G) (now : Cursor R G) (fault : LookFault) (failure : CommandFailure) → (r : ReadsOn a.cursor now) → failure ≡ Stopped (fault_of_look fault) → ((d : TestData) → IsConsistentWith d (state_of now) → Err fault ≡ first_of (look d (state_of now).spot.offset 1))
       → Performs a (with_cursor a now) (Err failure) next_seen
   looked_faulty a now fault failure r is answer =
       let b = with_cursor a now in
       answers_as (ap Err is) (record {
         sound = tt;
-        goes = goes_so (goes_looking a.cursor now (Err fault) r answer)
+        goes = advances_so (advances_looking a.cursor now (Err fault) r answer)
             (λ d _ e. ap (λ x. told (with_fault fault_of_look x) (state a)) e ∙ ap (λ x. faulty (fault_of_look fault) x.offset) (sym r.spot));
       })
 
@@ -159,12 +159,12 @@ module _ {R : Type 0} {G : Ghosts R} where
   pub passed : (n : ℕ) (a : Run R G) (now : Cursor R G) → IsSound a → MovesPast n a.cursor now → Performs a (with_cursor a now) (Ok tt) (pass n)
   passed n a now sound m = record {
     sound = m.fault ∙ sound;
-    goes = goes_so (goes_moving n a.cursor now m) (λ d _ _. ap (λ p. done tt (record { offset = p; store = a.store; mode = a.mode })) (sym m.offset));
+    goes = advances_so (advances_moving n a.cursor now m) (λ d _ _. ap (λ p. done tt (record { offset = p; store = a.store; mode = a.mode })) (sym m.offset));
   }
 
   -- a key gets a value
   pub assigning : (a : Run R G) (store : History) (k : Key) (value : Value) → IsSound a → store ≡ assign a.store k value → Performs a (record { alloc = a.alloc; cursor = a.cursor; store = store; mode = a.mode }) (Ok tt) (assigned k value)
   assigning a store k value sound is = record {
     sound = sound;
-    goes = goes_so (goes_nowhere a.cursor) (λ d _ _. ap (λ h. done tt (record { offset = a.cursor.spot.offset; store = h; mode = a.mode })) (sym is));
+    goes = advances_so (advances_nowhere a.cursor) (λ d _ _. ap (λ h. done tt (record { offset = a.cursor.spot.offset; store = h; mode = a.mode })) (sym is));
   }

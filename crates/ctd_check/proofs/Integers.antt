@@ -8,12 +8,12 @@ use Rattle.std.proofs.lemmas.List.Folds.{list_all-append}
 use Rattle.std.proofs.lemmas.List.Sums.{take_while-cons}
 use Rattle.ctd_source.specs.declared.spot.LookFault.{LookFault}
 use Rattle.ctd_source.specs.TestData.{TestData, next_byte, visible}
-use Rattle.ctd_source.specs.Standing.{Sight, StandsFor}
+use Rattle.ctd_source.specs.Consistency.{CursorState, IsConsistentWith}
 use Rattle.ctd_source.proofs.Visible.{seen_byte, seen_end, seen_fault, seen_run}
 use Rattle.ctd_check.proofs.DigitRuns.{run_held}
-use Rattle.ctd_check.specs.declared.digits.Digits.{Digits}
+use Rattle.ctd_check.specs.declared.digits.DigitSummary.{DigitSummary}
 use Rattle.ctd_check.specs.Integer.{is_minus, sign_len, digits_of, prefix_len_of, judge}
-use Rattle.ctd_check.specs.Seen.{AreSeen}
+use Rattle.ctd_check.specs.Summaries.{Summarizes}
 use Rattle.ctd_check.specs.Passing.{PassesMinus, PassesRow, PassesDigits, IsPast, StopsAt}
 use Rattle.ctd_value.specs.Fault.{with_fault}
 use Rattle.ctd_check.specs.State.{State, Effect, faulty, proceed, told, fault_of_look}
@@ -67,28 +67,28 @@ pub minus_end : (d : TestData) (p q : ℕ) → q ≡ p → next_byte d p ≡ Ok 
 minus_end d p q none e = (none, ap is_minus (seen_end d p e))
 
 -- no digit yet
-pub row_none : (s : Digits) (d : TestData) (p : ℕ) → PassesRow s s d p p
+pub row_none : (s : DigitSummary) (d : TestData) (p : ℕ) → PassesRow s s d p p
 row_none s d p = record {
   row = [];
   digits = refl;
   offset = omega arith;
   visible_is = refl;
-  seen = λ before seen. let P : List ℕ → Type 0 = λ xs. AreSeen s xs in subst P (sym (append-nil before)) seen;
+  seen = λ before seen. let P : List ℕ → Type 0 = λ xs. Summarizes s xs in subst P (sym (append-nil before)) seen;
 }
 
 -- a run of digits more
-pub row_more : (a b c : Digits) (d : TestData) (p q r : ℕ) (run : List ℕ) → PassesRow a b d p q → list_all is_ascii_digit run ≡ true → r ≡ q + length run → visible d q ≡ run ++ visible d r
-    → ((before : List ℕ) → AreSeen b before → AreSeen c (before ++ run)) → PassesRow a c d p r
+pub row_more : (a b c : DigitSummary) (d : TestData) (p q r : ℕ) (run : List ℕ) → PassesRow a b d p q → list_all is_ascii_digit run ≡ true → r ≡ q + length run → visible d q ≡ run ++ visible d r
+    → ((before : List ℕ) → Summarizes b before → Summarizes c (before ++ run)) → PassesRow a c d p r
 row_more a b c d p q r run f all offset is more = record {
   row = f.row ++ run;
   digits = list_all-append is_ascii_digit f.row run ∙ ap (λ x. x && list_all is_ascii_digit run) f.digits ∙ all;
   offset = omega (arith, f.offset, length-append f.row run);
   visible_is = f.visible_is ∙ ap (λ xs. f.row ++ xs) is ∙ sym (append_assoc f.row run (visible d r));
-  seen = λ before seen. let P : List ℕ → Type 0 = λ xs. AreSeen c xs in subst P (append_assoc before f.row run) (more (before ++ f.row) (f.seen before seen));
+  seen = λ before seen. let P : List ℕ → Type 0 = λ xs. Summarizes c xs in subst P (append_assoc before f.row run) (more (before ++ f.row) (f.seen before seen));
 }
 
 -- what was passed stays so where a look leaves the offset
-pub row_stays : (a b : Digits) (d : TestData) (p q r : ℕ) → r ≡ q → PassesRow a b d p q → PassesRow a b d p r
+pub row_stays : (a b : DigitSummary) (d : TestData) (p q r : ℕ) → r ≡ q → PassesRow a b d p q → PassesRow a b d p r
 row_stays a b d p q r same f = let P : ℕ → Type 0 = λ k. PassesRow a b d p k in subst P (sym same) f
 
 -- a sign and digits, and where they end
@@ -101,7 +101,7 @@ abbrev sign_size : Bool → ℕ
 sign_size negative = if negative then 1 else 0
 
 -- the parts are those of the integer at the front
-pub passed : (old new : Digits) (d : TestData) (p m q : ℕ) (negative : Bool) (r : Result (Unit {0}) LookFault) → PassesMinus d p m (Ok negative) → (f : PassesDigits old new d m q r) → Passed d p q negative f.row.row
+pub passed : (old new : DigitSummary) (d : TestData) (p m q : ℕ) (negative : Bool) (r : Result (Unit {0}) LookFault) → PassesMinus d p m (Ok negative) → (f : PassesDigits old new d m q r) → Passed d p q negative f.row.row
 passed old new d p m q true r minus f =
     let none = stop_none r d q f.stop in
     let is : visible d p ≡ 45 ∷ (f.row.row ++ visible d q) = minus.1 ∙ ap (λ xs. 45 ∷ xs) f.row.visible_is in
@@ -165,7 +165,7 @@ past_end next e = let P : Result (Option ℕ) LookFault → Type 0 = λ r. IsPas
 no_more : (p : ℕ) → p + 0 ≡ p
 no_more p = omega arith
 
-run_seen_by : (n : ℕ) (d : TestData) (s : Sight) (run : List ℕ) (q : ℕ) → StandsFor d s → s.taken ≡ s.spot.offset + length s.held → n ≤ length run → take (length run) s.held ≡ run → length run ≤ length s.held
+run_seen_by : (n : ℕ) (d : TestData) (s : CursorState) (run : List ℕ) (q : ℕ) → IsConsistentWith d s → s.taken ≡ s.spot.offset + length s.held → n ≤ length run → take (length run) s.held ≡ run → length run ≤ length s.held
     → (0 < length run → s.spot.offset + length run ≤ s.limit) → q ≡ s.spot.offset + n → visible d s.spot.offset ≡ take n run ++ visible d q
 run_seen_by zero d s run q h counted part front within limit offset = ap (visible d) (sym (offset ∙ no_more s.spot.offset))
 run_seen_by (suc m) d s run q h counted part front within limit offset =
@@ -175,7 +175,7 @@ run_seen_by (suc m) d s run q h counted part front within limit offset =
     seen_run d s (take (suc m) run) h counted (run_held run s.held (suc m) part front) (omega arith) (omega arith) ∙ ap (λ k. take (suc m) run ++ visible d k) same
 
 -- the front of a run that is held is seen
-pub run_seen : (d : TestData) (s : Sight) (run : List ℕ) (n q : ℕ) → StandsFor d s → s.taken ≡ s.spot.offset + length s.held → n ≤ length run → take (length run) s.held ≡ run → length run ≤ length s.held
+pub run_seen : (d : TestData) (s : CursorState) (run : List ℕ) (n q : ℕ) → IsConsistentWith d s → s.taken ≡ s.spot.offset + length s.held → n ≤ length run → take (length run) s.held ≡ run → length run ≤ length s.held
     → (0 < length run → s.spot.offset + length run ≤ s.limit) → q ≡ s.spot.offset + n → (q ≡ s.spot.offset + length (take n run)) × (visible d s.spot.offset ≡ take n run ++ visible d q)
 run_seen d s run n q h counted part front within limit offset =
     let len : length (take n run) ≡ n = omega (arith, length-take n run) in

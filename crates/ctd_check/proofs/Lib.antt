@@ -11,7 +11,7 @@ pub mod Lists
 pub mod Loads
 pub mod PulledText
 pub mod Running
-pub mod SeenDigits
+pub mod SummaryLemmas
 pub mod Skipping
 pub mod Stacks
 pub mod Strings

@@ -5,7 +5,7 @@ use Rattle.std.proofs.lemmas.List.{take-append-drop, drop-take, take-take, appen
 use Rattle.ctd_source.specs.declared.source.Source.{Ghosts}
 use Rattle.ctd_source.specs.declared.source.Seen.TheVariants.{Going, Ended, Broken}
 use Rattle.ctd_source.specs.Pull.{seen_after}
-use Rattle.ctd_source.specs.Sight.{Gave}
+use Rattle.ctd_source.specs.CursorState.{Gave}
 use Rattle.ctd_source.specs.ReadingOn.{gave_both, consumes_nothing, consumed_to_end}
 
 front_more : (room : List ℕ) (count more : ℕ) → take (count + more) room ≡ take count room ++ take more (drop count room)

@@ -4,7 +4,7 @@ use Rattle.std.specs.Result.{IsErr, IsErrAnd}
 use Rattle.ctd_source.specs.declared.source.Source.{Ghosts}
 use Rattle.ctd_source.specs.declared.spot.Spot.{Spot}
 use Rattle.ctd_source.specs.TestData.{TestData, spot_at}
-use Rattle.ctd_source.proofs.Going.{goes_so, goes_both, goes_nowhere}
+use Rattle.ctd_source.proofs.AdvanceLemmas.{advances_so, advances_both, advances_nowhere}
 use Rattle.ctd_token.specs.declared.text.Place.{Place}
 use Rattle.ctd_syntax.specs.declared.tree.Action.{Action}
 use Rattle.ctd_syntax.specs.declared.tree.Action.TheVariants.{Space, Newline, Eof, Int, String, Regex, Assert, Set, Unset, Rep', RepI', While', WhileI', If}
@@ -20,7 +20,7 @@ use Rattle.ctd_check.specs.declared.failure.CommandFailure.TheVariants.{Rejected
 use Rattle.ctd_check.specs.declared.failure.Halt.{Halt}
 use Rattle.ctd_check.specs.declared.failure.Halt.TheVariants as halts
 use Rattle.ctd_check.specs.declared.outcome.Outcome.TheVariants as outcomes
-use Rattle.ctd_source.specs.Follow.{Goes}
+use Rattle.ctd_source.specs.Received.{AdvancesSuchThat}
 use Rattle.std.specs.Prelude.{⊤}
 use Rattle.ctd_check.specs.State.{State, Effect}
 use Rattle.ctd_check.specs.Blanks.{first_skip}
@@ -31,7 +31,7 @@ use Rattle.ctd_check.specs.declared.outcome.Checked.{Checked}
 use Rattle.ctd_syntax.specs.declared.preset.Preset.{Preset}
 use Rattle.ctd_check.specs.Failures.{halt_of, at_limit, Concludes}
 use Rattle.ctd_check.specs.Pending.{to_do}
-use Rattle.ctd_check.specs.Performs.{Does, Follows, state, Performs, Advances, Ends, EndsAs}
+use Rattle.ctd_check.specs.Performs.{Does, ContinuesWith, state, Performs, Advances, Ends, EndsAs}
 
 -- a command has its own place
 pub place_is : (a : Action) (place : Place) → place_of (action_tree a place) ≡ place
@@ -62,7 +62,7 @@ paid : (d : TestData) (t : Task) (left left' : ℕ) (s : State) (rest : List Tas
 paid d t left left' s rest e = ap (λ n. run d n (t ∷ rest) s) (one_left left left' e)
 
 failed_by : {A : Type 0} (d : TestData) (site : Site) (p left' : ℕ) (spot : Spot) (failure : CommandFailure) (now : State) (e : Effect A) (k : A → State → Ended) (after : List Task) → spot ≡ spot_at d.bytes p
-    → Does {A = A} (Err failure) now e → Follows {A = Unit {0}} d (Err (halt_of spot site failure)) left' after now (resume d site p left' e k)
+    → Does {A = A} (Err failure) now e → ContinuesWith {A = Unit {0}} d (Err (halt_of spot site failure)) left' after now (resume d site p left' e k)
 failed_by d site p left' spot (Rejected reason) now e k after is does =
     ap (λ x. resume d site p left' x k) does ∙ ap (λ x. stopped (outcomes.Rejected x site reason) now.offset left') (sym is)
 failed_by d site p left' spot (Stopped fault) now e k after is does =
@@ -70,22 +70,22 @@ failed_by d site p left' spot (Stopped fault) now e k after is does =
 failed_by d site p left' spot Memory now e k after is does = tt
 
 -- what follows a run follows each name of it
-pub follows_as : {A : Type 0} (d : TestData) (r : Result A Halt) (left : ℕ) (after : List Task) (s : State) (whole other : Ended) → other ≡ whole → Follows d r left after s whole → Follows d r left after s other
+pub follows_as : {A : Type 0} (d : TestData) (r : Result A Halt) (left : ℕ) (after : List Task) (s : State) (whole other : Ended) → other ≡ whole → ContinuesWith d r left after s whole → ContinuesWith d r left after s other
 follows_as d (Ok x) left after s whole other same f = same ∙ f
 follows_as d (Err (halts.Ended outcome)) left after s whole other same f = same ∙ f
 follows_as d (Err halts.Memory) left after s whole other same f = tt
 
 -- an end does not depend on what was still to be done
-pub halted : (d : TestData) (halt : Halt) (left : ℕ) (after other : List Task) (s : State) (whole there : Ended) → whole ≡ there → Follows {A = Unit {0}} d (Err halt) left after s there → Follows {A = Unit {0}} d (Err halt) left other s whole
+pub halted : (d : TestData) (halt : Halt) (left : ℕ) (after other : List Task) (s : State) (whole there : Ended) → whole ≡ there → ContinuesWith {A = Unit {0}} d (Err halt) left after s there → ContinuesWith {A = Unit {0}} d (Err halt) left other s whole
 halted d (halts.Ended outcome) left after other s whole there same f = same ∙ f
 halted d halts.Memory left after other s whole there same f = tt
 
 module _ {R : Type 0} {G : Ghosts R} where
   -- what a task means that is done: the rest of the run
   done_goes : (old new : Run R G) (t : Task) (left left' : ℕ) (more rest all : List Task) → left ≡ left' + 1 → all ≡ more ++ rest → Performs old new (Ok more) (perform t)
-      → Goes old.cursor new.cursor (λ d. run d left (t ∷ rest) (state old) ≡ run d left' all (state new))
+      → AdvancesSuchThat old.cursor new.cursor (λ d. run d left (t ∷ rest) (state old) ≡ run d left' all (state new))
   done_goes old new t left left' more rest all one is p =
-      goes_so p.goes (λ d _ e. paid d t left left' (state old) rest one ∙ ap (λ x. resume d (site_of t) old.cursor.spot.offset left' x (λ more u. run d left' (more ++ rest) u)) e ∙ ap (λ ts. run d left' ts (state new)) (sym is))
+      advances_so p.goes (λ d _ e. paid d t left left' (state old) rest one ∙ ap (λ x. resume d (site_of t) old.cursor.spot.offset left' x (λ more u. run d left' (more ++ rest) u)) e ∙ ap (λ ts. run d left' ts (state new)) (sym is))
 
   -- a task that is done leaves its tasks and the rest
   pub task_done : (old new : Run R G) (t : Task) (left left' : ℕ) (more rest : List Task) (agenda : Agenda) → left ≡ left' + 1 → agenda.left ≡ left' → to_do agenda.frames.items ≡ more ++ rest → Performs old new (Ok more) (perform t)
@@ -94,10 +94,10 @@ module _ {R : Type 0} {G : Ghosts R} where
 
   -- a task that is rejected ends the run
   failed_goes : (old new : Run R G) (t : Task) (left left' : ℕ) (spot : Spot) (halt : Halt) (failure : CommandFailure) (rest after : List Task) → left ≡ left' + 1 → spot ≡ old.cursor.spot → halt ≡ halt_of spot (site_of t) failure → Performs {A = List Task} old new (Err failure) (perform t)
-      → Goes old.cursor new.cursor (λ d. Follows {A = Unit {0}} d (Err halt) left' after (state new) (run d left (t ∷ rest) (state old)))
+      → AdvancesSuchThat old.cursor new.cursor (λ d. ContinuesWith {A = Unit {0}} d (Err halt) left' after (state new) (run d left (t ∷ rest) (state old)))
   failed_goes old new t left left' spot halt failure rest after one there is p =
-      goes_so p.goes (λ d stand e.
-      let P : Halt → Type 0 = λ h. Follows {A = Unit {0}} d (Err h) left' after (state new) (run d left (t ∷ rest) (state old)) in
+      advances_so p.goes (λ d stand e.
+      let P : Halt → Type 0 = λ h. ContinuesWith {A = Unit {0}} d (Err h) left' after (state new) (run d left (t ∷ rest) (state old)) in
       subst P (sym is) (follows_as {A = Unit {0}} d (Err (halt_of spot (site_of t) failure)) left' after (state new) _ _ (paid d t left left' (state old) rest one)
       (failed_by d (site_of t) old.cursor.spot.offset left' spot failure (state new) (perform t d (state old)) (λ more u. run d left' (more ++ rest) u) after (there ∙ stand.before.spot) e)))
 
@@ -107,10 +107,10 @@ module _ {R : Type 0} {G : Ghosts R} where
 
   -- a task with no step left ends the run
   unpaid_goes : (old : Run R G) (t : Task) (left left' : ℕ) (spot : Spot) (halt : Halt) (rest after : List Task) → left ≡ 0 → left' ≡ 0 → spot ≡ old.cursor.spot → halt ≡ halts.Ended (at_limit spot (site_of t))
-      → Goes old.cursor old.cursor (λ d. Follows {A = Unit {0}} d (Err halt) left' after (state old) (run d left (t ∷ rest) (state old)))
+      → AdvancesSuchThat old.cursor old.cursor (λ d. ContinuesWith {A = Unit {0}} d (Err halt) left' after (state old) (run d left (t ∷ rest) (state old)))
   unpaid_goes old t left left' spot halt rest after none none' there is =
-      goes_so (goes_nowhere old.cursor) (λ d stand _.
-      let P : Halt → Type 0 = λ h. Follows {A = Unit {0}} d (Err h) left' after (state old) (run d left (t ∷ rest) (state old)) in
+      advances_so (advances_nowhere old.cursor) (λ d stand _.
+      let P : Halt → Type 0 = λ h. ContinuesWith {A = Unit {0}} d (Err h) left' after (state old) (run d left (t ∷ rest) (state old)) in
       let at : spot ≡ spot_at d.bytes old.cursor.spot.offset = there ∙ stand.before.spot in
       subst P (sym is) (ap (λ n. run d n (t ∷ rest) (state old)) none ∙ (λ i. stopped (at_limit (sym at i) (site_of t)) old.cursor.spot.offset (sym none' i))))
 
@@ -121,49 +121,49 @@ module _ {R : Type 0} {G : Ghosts R} where
 
   -- the same at the end of the program
   pub ends_done : (old new : Run R G) (t : Task) (left left' : ℕ) (before : List Task) → left ≡ left' + 1 → before ≡ t ∷ [] → Performs old new (Ok []) (perform t) → Ends {A = Unit {0}} old new left before left' (Ok tt)
-  ends_done old new t left left' before one is p = record { sound = p.sound; goes = goes_so (done_goes old new t left left' [] [] [] one refl p) (λ d _ e. ap (λ ts. run d left ts (state old)) is ∙ e) }
+  ends_done old new t left left' before one is p = record { sound = p.sound; goes = advances_so (done_goes old new t left left' [] [] [] one refl p) (λ d _ e. ap (λ ts. run d left ts (state old)) is ∙ e) }
 
   pub ends_failed : (old new : Run R G) (t : Task) (left left' : ℕ) (before : List Task) (spot : Spot) (halt : Halt) (failure : CommandFailure) → left ≡ left' + 1 → before ≡ t ∷ [] → spot ≡ old.cursor.spot → halt ≡ halt_of spot (site_of t) failure → Performs {A = List Task} old new (Err failure) (perform t)
       → Ends {A = Unit {0}} old new left before left' (Err halt)
-  ends_failed old new t left left' before spot halt failure one is there same p = record { sound = tt; goes = goes_so (failed_goes old new t left left' spot halt failure [] [] one there same p) (λ d _ e. follows_as {A = Unit {0}} d (Err halt) left' [] (state new) _ _ (ap (λ ts. run d left ts (state old)) is) e) }
+  ends_failed old new t left left' before spot halt failure one is there same p = record { sound = tt; goes = advances_so (failed_goes old new t left left' spot halt failure [] [] one there same p) (λ d _ e. follows_as {A = Unit {0}} d (Err halt) left' [] (state new) _ _ (ap (λ ts. run d left ts (state old)) is) e) }
 
   pub ends_unpaid : (old : Run R G) (t : Task) (left left' : ℕ) (before : List Task) (spot : Spot) (halt : Halt) (q : Result (Unit {0}) Halt) → IsErr q × IsErrAnd q (λ e. e ≡ halt) → left ≡ 0 → left' ≡ 0 → before ≡ t ∷ [] → spot ≡ old.cursor.spot → halt ≡ halts.Ended (at_limit spot (site_of t))
       → Ends {A = Unit {0}} old old left before left' q
   ends_unpaid old t left left' before spot halt (Ok x) q none none' is there same = let e : true ≡ false = sym q.0 in cc
-  ends_unpaid old t left left' before spot halt (Err e) q none none' is there same = record { sound = tt; goes = goes_so (unpaid_goes old t left left' spot e [] [] none none' there (q.1 ∙ same)) (λ d _ f. follows_as {A = Unit {0}} d (Err e) left' [] (state old) _ _ (ap (λ ts. run d left ts (state old)) is) f) }
+  ends_unpaid old t left left' before spot halt (Err e) q none none' is there same = record { sound = tt; goes = advances_so (unpaid_goes old t left left' spot e [] [] none none' there (q.1 ∙ same)) (λ d _ f. follows_as {A = Unit {0}} d (Err e) left' [] (state old) _ _ (ap (λ ts. run d left ts (state old)) is) f) }
 
   -- a task that is done, and then the first of its tasks
   pub task_then : (a b c : Run R G) (t : Task) (left left' : ℕ) (more rest all : List Task) (agenda : Agenda) (r : Result (Unit {0}) Halt) → left ≡ left' + 1 → all ≡ more ++ rest → Performs a b (Ok more) (perform t) → Advances b c left' all agenda r → Advances a c left (t ∷ rest) agenda r
   task_then a b c t left left' more rest all agenda r one is p q = record {
     sound = q.sound;
-    goes = goes_so (goes_both (done_goes a b t left left' more rest all one is p) q.goes) (λ d _ e. follows_as d r agenda.left (to_do agenda.frames.items) (state c) _ _ e.0 e.1);
+    goes = advances_so (advances_both (done_goes a b t left left' more rest all one is p) q.goes) (λ d _ e. follows_as d r agenda.left (to_do agenda.frames.items) (state c) _ _ e.0 e.1);
   }
 
   -- what was done so far, and then the end
-  pub ends_early : (a b c : Run R G) (left left' now : ℕ) (before all split : List Task) (agenda : Agenda) (halt : Halt) (q : Result (Unit {0}) Halt) → IsErr q × IsErrAnd q (λ e. e ≡ halt) → Goes a.cursor b.cursor (λ d. run d left before (state a) ≡ run d left' all (state b))
+  pub ends_early : (a b c : Run R G) (left left' now : ℕ) (before all split : List Task) (agenda : Agenda) (halt : Halt) (q : Result (Unit {0}) Halt) → IsErr q × IsErrAnd q (λ e. e ≡ halt) → AdvancesSuchThat a.cursor b.cursor (λ d. run d left before (state a) ≡ run d left' all (state b))
       → now ≡ left' → all ≡ split → Advances {A = Unit {0}} b c now split agenda (Err halt) → Ends {A = Unit {0}} a c left before agenda.left q
   ends_early a b c left left' now before all split agenda halt (Ok x) q goes same is p = let e : true ≡ false = sym q.0 in cc
   ends_early a b c left left' now before all split agenda halt (Err e) q goes same is p =
       let P : Halt → Type 0 = λ h. Ends {A = Unit {0}} a c left before agenda.left (Err h) in
-      subst P (sym q.1) (record { sound = tt; goes = goes_so (goes_both goes p.goes) (λ d _ f. halted d halt agenda.left (to_do agenda.frames.items) [] (state c) _ _ (f.0 ∙ ap (λ ts. run d left' ts (state b)) is ∙ ap (λ n. run d n split (state b)) (sym same)) f.1) })
+      subst P (sym q.1) (record { sound = tt; goes = advances_so (advances_both goes p.goes) (λ d _ f. halted d halt agenda.left (to_do agenda.frames.items) [] (state c) _ _ (f.0 ∙ ap (λ ts. run d left' ts (state b)) is ∙ ap (λ n. run d n split (state b)) (sym same)) f.1) })
 
   -- one step of the run and then more
   pub goes_further : {A : Type 0} {a b c : Run R G} {left : ℕ} {before : List Task} {agenda : Agenda} {now : ℕ} {r : Result A Halt} → Advances {A = Unit {0}} a b left before agenda (Ok tt) → Ends b c agenda.left (to_do agenda.frames.items) now r → Ends a c left before now r
-  goes_further {a = a} {b = b} {c = c} {left = left} {before = before} {agenda = agenda} {now = now} {r = r} p q = record { sound = q.sound; goes = goes_so (goes_both p.goes q.goes) (λ d _ e. follows_as d r now [] (state c) _ _ e.0 e.1) }
+  goes_further {a = a} {b = b} {c = c} {left = left} {before = before} {agenda = agenda} {now = now} {r = r} p q = record { sound = q.sound; goes = advances_so (advances_both p.goes q.goes) (λ d _ e. follows_as d r now [] (state c) _ _ e.0 e.1) }
 
   -- what stands before the first command, and then the tasks
   pub start_done : (a b c : Run R G) (n left' : ℕ) (ts : List Task) (r : Result (Unit {0}) Halt) → Performs {A = ⊤} a b (Ok tt) first_skip → Ends b c n ts left' r → EndsAs a c (λ d. run_from d n ts (state a)) left' r
   start_done a b c n left' ts r p q = record {
     sound = q.sound;
-    goes = goes_so (goes_both p.goes q.goes) (λ d _ e. follows_as d r left' [] (state c) _ _ (ap (λ x. resume d Start a.cursor.spot.offset n x (λ _ t. run d n ts t)) e.0) e.1);
+    goes = advances_so (advances_both p.goes q.goes) (λ d _ e. follows_as d r left' [] (state c) _ _ (ap (λ x. resume d Start a.cursor.spot.offset n x (λ _ t. run d n ts t)) e.0) e.1);
   }
 
   pub start_failed : (a b : Run R G) (n : ℕ) (ts : List Task) (spot : Spot) (halt : Halt) (failure : CommandFailure) → spot ≡ a.cursor.spot → halt ≡ halt_of spot Start failure → Performs {A = ⊤} a b (Err failure) first_skip
       → EndsAs {A = Unit {0}} a b (λ d. run_from d n ts (state a)) n (Err halt)
   start_failed a b n ts spot halt failure there is p = record {
     sound = tt;
-    goes = goes_so p.goes (λ d stand e.
-        let P : Halt → Type 0 = λ h. Follows {A = Unit {0}} d (Err h) n [] (state b) (run_from d n ts (state a)) in
+    goes = advances_so p.goes (λ d stand e.
+        let P : Halt → Type 0 = λ h. ContinuesWith {A = Unit {0}} d (Err h) n [] (state b) (run_from d n ts (state a)) in
         subst P (sym is) (failed_by d Start a.cursor.spot.offset n spot failure (state b) (first_skip d (state a)) (λ _ t. run d n ts t) [] (there ∙ stand.before.spot) e));
   }
 
@@ -173,7 +173,7 @@ turn_left separator body t u rest all same is = ap (λ xs. separator ++ xs) (is 
 
 -- a run that ended has its meaning
 pub finds : (mode : Mode) (d : TestData) (r : Result (Unit {0}) Halt) (checked : Checked) (program : CommandList) (presets : List Preset) (limit left : ℕ) (s : State) → Concludes r checked.outcome → checked.steps ≡ limit - left → checked.consumed ≡ s.offset
-    → Follows d r left [] s (run_from d limit (tasks program ++ finish ∷ []) (at_start mode presets)) → Finds checked (meaning mode program presets d limit)
+    → ContinuesWith d r left [] s (run_from d limit (tasks program ++ finish ∷ []) (at_start mode presets)) → Finds checked (meaning mode program presets d limit)
 finds mode d (Ok x) checked program presets limit left s by steps there f =
     record { outcome = by ∙ sym (ap (λ e. (with_steps limit e).outcome) f); steps = steps ∙ sym (ap (λ e. (with_steps limit e).steps) f); consumed = there ∙ sym (ap (λ e. (with_steps limit e).consumed) f) }
 finds mode d (Err (halts.Ended o)) checked program presets limit left s by steps there f =

@@ -2,10 +2,10 @@
 use Rattle.std.proofs.Common.{◌≡◌, Bool, refl, ap, ◌∙◌, subst, Result, Ok, Err, None}
 use Rattle.ctd_source.specs.declared.source.Source.{Ghosts}
 use Rattle.ctd_source.specs.declared.cursor.Cursor.{Cursor}
-use Rattle.ctd_source.specs.Standing.{StandsFor}
-use Rattle.ctd_source.specs.Sight.{sight, ReadsOn}
+use Rattle.ctd_source.specs.Consistency.{IsConsistentWith}
+use Rattle.ctd_source.specs.CursorState.{state_of, ReadsOn}
 use Rattle.ctd_source.specs.TestData.{TestData}
-use Rattle.ctd_source.proofs.Going.{goes_so, goes_reading}
+use Rattle.ctd_source.proofs.AdvanceLemmas.{advances_so, advances_reading}
 use Rattle.ctd_syntax.specs.Tree.{TestTree}
 use Rattle.ctd_value.specs.declared.fault.EvalFault.TheVariants as evals
 use Rattle.ctd_value.specs.declared.fault.TestFault.{TestFault}
@@ -69,21 +69,21 @@ does_fault (tests.Look fault) meant s is = told_fault (tests.Look fault) meant s
 
 module _ {R : Type 0} {G : Ghosts R} where
   -- a test that was answered
-  pub answered : (a : Run R G) (now : Cursor R G) (t : TestTree) (b : Bool) → ReadsOn a.cursor now → now.fault ≡ None → ((d : TestData) → StandsFor d (sight now) → Answers (Ok b) (truth t a.store d now.spot.offset))
+  pub answered : (a : Run R G) (now : Cursor R G) (t : TestTree) (b : Bool) → ReadsOn a.cursor now → now.fault ≡ None → ((d : TestData) → IsConsistentWith d (state_of now) → Answers (Ok b) (truth t a.store d now.spot.offset))
       → Performs a (with_cursor a now) (Ok b) (answer t)
   answered a now t b r sound is = record {
     sound = sound;
-    goes = goes_so (goes_reading a.cursor now r) (λ d stand _.
+    goes = advances_so (advances_reading a.cursor now r) (λ d stand _.
         let P : _ → Type 0 = λ s. told (with_fault fault_of_truth (truth t a.store d s.offset)) (record { offset = s.offset; store = a.store; mode = a.mode }) ≡ done b (state (with_cursor a now)) in
         subst P r.spot (ap (λ m. told (with_fault fault_of_truth m) (state (with_cursor a now))) (is d stand.after)));
   }
 
   -- one that was not
-  pub unanswered : (a : Run R G) (now : Cursor R G) (t : TestTree) (fault : TestFault) → ReadsOn a.cursor now → ((d : TestData) → StandsFor d (sight now) → Answers {X = Bool} (Err fault) (truth t a.store d now.spot.offset))
+  pub unanswered : (a : Run R G) (now : Cursor R G) (t : TestTree) (fault : TestFault) → ReadsOn a.cursor now → ((d : TestData) → IsConsistentWith d (state_of now) → Answers {X = Bool} (Err fault) (truth t a.store d now.spot.offset))
       → Performs {A = Bool} a (with_cursor a now) (Err (test_failure fault)) (answer t)
   unanswered a now t fault r is = record {
     sound = tt;
-    goes = goes_so (goes_reading a.cursor now r) (λ d stand _.
+    goes = advances_so (advances_reading a.cursor now r) (λ d stand _.
         let P : _ → Type 0 = λ s. Does {A = Bool} (Err (test_failure fault)) (state (with_cursor a now)) (told (with_fault fault_of_truth (truth t a.store d s.offset)) (record { offset = s.offset; store = a.store; mode = a.mode })) in
         subst P r.spot (does_fault fault (truth t a.store d now.spot.offset) (state (with_cursor a now)) (is d stand.after)));
   }

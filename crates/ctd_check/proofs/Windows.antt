@@ -6,10 +6,10 @@ use Rattle.ctd_source.specs.declared.limits.TheConstants.{WINDOW}
 use Rattle.ctd_source.specs.declared.source.Source.{Ghosts}
 use Rattle.ctd_source.specs.declared.cursor.Cursor.{Cursor}
 use Rattle.ctd_source.specs.declared.spot.LookFault.{LookFault}
-use Rattle.ctd_source.specs.Follow.{Goes}
-use Rattle.ctd_source.specs.Sight.{GivesWindow}
+use Rattle.ctd_source.specs.Received.{AdvancesSuchThat}
+use Rattle.ctd_source.specs.CursorState.{GivesWindow}
 use Rattle.ctd_source.specs.TestData.{TestData, look}
-use Rattle.ctd_source.proofs.Going.{goes_so, goes_nowhere, goes_reading}
+use Rattle.ctd_source.proofs.AdvanceLemmas.{advances_so, advances_nowhere, advances_reading}
 use Rattle.ctd_pattern.specs.Pattern.{length_at_start}
 use Rattle.ctd_value.specs.Fault.{with_fault}
 use Rattle.ctd_check.specs.declared.machine.Run.{Run}
@@ -46,12 +46,12 @@ counted_first literal d s = counted_by (matched literal d s) d
 module _ {R : Type 0} {G : Ghosts R} where
   -- what looks at no data
   pub doing : {A : Type 0} (a : Run R G) (r : Result A CommandFailure) (m : Act A) → IsSound a → AlwaysDoes r m → Performs a a r m
-  doing a r m sound does = record { sound = always r sound; goes = goes_so (goes_nowhere a.cursor) (λ d _ _. does d (state a)) }
+  doing a r m sound does = record { sound = always r sound; goes = advances_so (advances_nowhere a.cursor) (λ d _ _. does d (state a)) }
 
   -- want of memory says nothing of what was done
-  pub forgotten : {A : Type 0} {a b : Run R G} {P : TestData → Type 0} (q : Result A CommandFailure) (m : Act A) → IsErr q × IsErrAnd q (λ e. e ≡ Memory) → Goes a.cursor b.cursor P → Performs a b q m
+  pub forgotten : {A : Type 0} {a b : Run R G} {P : TestData → Type 0} (q : Result A CommandFailure) (m : Act A) → IsErr q × IsErrAnd q (λ e. e ≡ Memory) → AdvancesSuchThat a.cursor b.cursor P → Performs a b q m
   forgotten (Ok x) m is goes = let e : true ≡ false = sym is.0 in cc
-  forgotten (Err e) m is goes = answers_as (ap Err is.1) (record { sound = tt; goes = goes_so goes (λ d _ _. tt) })
+  forgotten (Err e) m is goes = answers_as (ap Err is.1) (record { sound = tt; goes = advances_so goes (λ d _ _. tt) })
 
   -- what a window gives under another name of its answer
   pub gives_as : (old new : Cursor R G) (r q : Result (Bor (List ℕ)) LookFault) → r ≡ q → GivesWindow old new r → GivesWindow old new q
@@ -61,32 +61,32 @@ module _ {R : Type 0} {G : Ghosts R} where
   pub windowed : (a : Run R G) (now : Cursor R G) (window : Bor (List ℕ)) → IsSound a → GivesWindow a.cursor now (Ok window) → Performs a (with_cursor a now) (Ok window.now) window_seen
   windowed a now window sound w = record {
     sound = w.fault;
-    goes = goes_so (goes_reading a.cursor now w.reads) (λ d stand _.
+    goes = advances_so (advances_reading a.cursor now w.reads) (λ d stand _.
         ap (λ x. told (with_fault fault_of_look x) (state a)) (ap (λ s. look d s.offset WINDOW) (sym w.reads.spot) ∙ sym (w.answer sound d stand.after))
         ∙ ap (λ s. done window.now (record { offset = s.offset; store = a.store; mode = a.mode })) (sym w.reads.spot));
   }
 
   -- a fault in its place
-  pub window_faulty : (a : Run R G) (now : Cursor R G) (fault : LookFault) → IsSound a → GivesWindow a.cursor now (Err fault) → Goes a.cursor now (λ d. window_seen d (state a) ≡ faulty (fault_of_look fault) now.spot.offset)
+  pub window_faulty : (a : Run R G) (now : Cursor R G) (fault : LookFault) → IsSound a → GivesWindow a.cursor now (Err fault) → AdvancesSuchThat a.cursor now (λ d. window_seen d (state a) ≡ faulty (fault_of_look fault) now.spot.offset)
   window_faulty a now fault sound w =
-      goes_so (goes_reading a.cursor now w.reads) (λ d stand _.
+      advances_so (advances_reading a.cursor now w.reads) (λ d stand _.
       ap (λ x. told (with_fault fault_of_look x) (state a)) (ap (λ s. look d s.offset WINDOW) (sym w.reads.spot) ∙ sym (w.answer sound d stand.after))
       ∙ ap (λ s. faulty (fault_of_look fault) s.offset) (sym w.reads.spot))
 
-  pub matched_faulty : (a : Run R G) (now : Cursor R G) (fault : LookFault) (literal : List ℕ) → IsSound a → GivesWindow a.cursor now (Err fault) → Goes a.cursor now (λ d. matched literal d (state a) ≡ faulty (fault_of_look fault) now.spot.offset)
+  pub matched_faulty : (a : Run R G) (now : Cursor R G) (fault : LookFault) (literal : List ℕ) → IsSound a → GivesWindow a.cursor now (Err fault) → AdvancesSuchThat a.cursor now (λ d. matched literal d (state a) ≡ faulty (fault_of_look fault) now.spot.offset)
   matched_faulty a now fault literal sound w =
-      goes_so (window_faulty a now fault sound w) (λ d _ e. ap (λ x. proceed {A = List ℕ} {B = List ℕ} x (λ window t. proceed (shorter_match (length_at_start literal window) d t) (λ n u. done (take n window) u))) e)
+      advances_so (window_faulty a now fault sound w) (λ d _ e. ap (λ x. proceed {A = List ℕ} {B = List ℕ} x (λ window t. proceed (shorter_match (length_at_start literal window) d t) (λ n u. done (take n window) u))) e)
 
-  pub measured_faulty : (a : Run R G) (now : Cursor R G) (fault : LookFault) (literal : List ℕ) → IsSound a → GivesWindow a.cursor now (Err fault) → Goes a.cursor now (λ d. matched_len literal d (state a) ≡ faulty (fault_of_look fault) now.spot.offset)
+  pub measured_faulty : (a : Run R G) (now : Cursor R G) (fault : LookFault) (literal : List ℕ) → IsSound a → GivesWindow a.cursor now (Err fault) → AdvancesSuchThat a.cursor now (λ d. matched_len literal d (state a) ≡ faulty (fault_of_look fault) now.spot.offset)
   measured_faulty a now fault literal sound w =
-      goes_so (matched_faulty a now fault literal sound w) (λ d _ e. ap (λ x. proceed {A = List ℕ} {B = ℕ} x (λ bytes t. done (length bytes) t)) e)
+      advances_so (matched_faulty a now fault literal sound w) (λ d _ e. ap (λ x. proceed {A = List ℕ} {B = ℕ} x (λ bytes t. done (length bytes) t)) e)
 
   -- how long a match is
   pub measured : (a : Run R G) (now : Cursor R G) (window : Bor (List ℕ)) (literal : List ℕ) (found : Option ℕ) (r : Result ℕ CommandFailure) → IsSound a → GivesWindow a.cursor now (Ok window) → found ≡ length_at_start literal window.now
       → AlwaysDoes r (shorter_match found) → IfOk r (λ n. found ≡ Some n) → IfSome found (λ k. k ≤ length window.now) → Performs a (with_cursor a now) r (matched_len literal)
   measured a now window literal found r sound w found_is does is within = record {
     sound = always r w.fault;
-    goes = goes_so (windowed a now window sound w).goes (λ d _ e.
+    goes = advances_so (windowed a now window sound w).goes (λ d _ e.
         let b = state (with_cursor a now) in
         let after : Effect (List ℕ) → Effect ℕ = λ x. proceed (proceed x (λ seen t. proceed (shorter_match (length_at_start literal seen) d t) (λ n u. done (take n seen) u))) (λ bytes t. done (length bytes) t) in
         let P : Effect ℕ → Type 0 = λ x. Does r b x in

@@ -14,5 +14,5 @@ pub mod Pending
 pub mod Performs
 pub mod Regex
 pub mod Run
-pub mod Seen
+pub mod Summaries
 pub mod State

@@ -4,10 +4,10 @@ use Rattle.std.specs.List.{list_all, prefix_len, common_prefix_len}
 use Rattle.std.specs.Char.{is_ascii_digit}
 use Rattle.ctd_source.specs.declared.spot.LookFault.{LookFault}
 use Rattle.ctd_source.specs.TestData.{TestData, next_byte, visible}
-use Rattle.ctd_check.specs.declared.digits.Digits.{Digits}
+use Rattle.ctd_check.specs.declared.digits.DigitSummary.{DigitSummary}
 use Rattle.ctd_check.specs.Blanks.{is_blank}
 use Rattle.ctd_check.specs.Integer.{is_minus}
-use Rattle.ctd_check.specs.Seen.{AreSeen}
+use Rattle.ctd_check.specs.Summaries.{Summarizes}
 
 -- from offset p to q a minus is passed, or none where none is next, or a look has a fault
 abbrev pub PassesMinus : TestData → (p q : ℕ) → Result Bool LookFault → Type 0
@@ -27,15 +27,15 @@ StopsAt (Ok _) next = IsPast next
 StopsAt (Err fault) next = next ≡ Err fault
 
 -- from offset p to q a row of digits is passed
-pub record PassesRow (old new : Digits) (d : TestData) (p q : ℕ) : Type 0 where
+pub record PassesRow (old new : DigitSummary) (d : TestData) (p q : ℕ) : Type 0 where
   pub row : List ℕ
   pub digits : list_all is_ascii_digit row ≡ true
   pub offset : q ≡ p + length row
   pub visible_is : visible d p ≡ row ++ visible d q
-  pub seen : (before : List ℕ) → AreSeen old before → AreSeen new (before ++ row)
+  pub seen : (before : List ℕ) → Summarizes old before → Summarizes new (before ++ row)
 
 -- all of them, up to what is no digit or to a fault
-pub record PassesDigits (old new : Digits) (d : TestData) (p q : ℕ) (result : Result (Unit {0}) LookFault) : Type 0 where
+pub record PassesDigits (old new : DigitSummary) (d : TestData) (p q : ℕ) (result : Result (Unit {0}) LookFault) : Type 0 where
   pub row : PassesRow old new d p q
   pub stop : StopsAt result (next_byte d q)
 

@@ -2,7 +2,7 @@
 use Rattle.std.specs.Prelude.{◌≡◌, ℕ, Option, None, Result, Ok, Err, OnOk, List, []}
 use Rattle.ctd_source.specs.declared.source.Source.{Ghosts}
 use Rattle.ctd_source.specs.TestData.{TestData}
-use Rattle.ctd_source.specs.Follow.{Goes}
+use Rattle.ctd_source.specs.Received.{AdvancesSuchThat}
 use Rattle.ctd_check.specs.declared.agenda.Agenda.{Agenda}
 use Rattle.ctd_check.specs.declared.frame.Frame.{Frame}
 use Rattle.ctd_check.specs.Pending.{to_do, IsWithin}
@@ -45,10 +45,10 @@ NeedsRoom (Ok frame) blocks = IsWithin frame blocks
 NeedsRoom (Err e) blocks = Unit {0}
 
 -- with so many steps left, these tasks and this state the whole run goes on; or it is over, with this outcome
-abbrev pub Follows : {A : Type 0} → TestData → Result A Halt → ℕ → List Task → State → Ended → Type 0
-Follows d (Ok x) left rest s whole = whole ≡ run d left rest s
-Follows d (Err (halts.Ended outcome)) left rest s whole = whole ≡ stopped outcome s.offset left
-Follows d (Err halts.Memory) left rest s whole = Unit {0}
+abbrev pub ContinuesWith : {A : Type 0} → TestData → Result A Halt → ℕ → List Task → State → Ended → Type 0
+ContinuesWith d (Ok x) left rest s whole = whole ≡ run d left rest s
+ContinuesWith d (Err (halts.Ended outcome)) left rest s whole = whole ≡ stopped outcome s.offset left
+ContinuesWith d (Err halts.Memory) left rest s whole = Unit {0}
 
 module _ {R : Type 0} {G : Ghosts R} where
   -- where a run is
@@ -59,22 +59,22 @@ module _ {R : Type 0} {G : Ghosts R} where
   abbrev pub IsSound : Run R G → Type 0
   IsSound r = r.cursor.fault ≡ None
 
-  -- for all data that the cursor stands for at the end, the call did this, and answered accordingly
+  -- for all data that the cursor is consistent with at the end, the call did this, and answered accordingly
   pub record Performs {A : Type 0} (old new : Run R G) (result : Result A CommandFailure) (act : Act A) : Type 0 where
     pub sound : OnOk result (IsSound new)
-    pub goes : Goes old.cursor new.cursor (λ d. Does result (state new) (act d (state old)))
+    pub goes : AdvancesSuchThat old.cursor new.cursor (λ d. Does result (state new) (act d (state old)))
 
   -- for all these data, what was to be done with so many steps left is what is still to be done, or the run is over
   pub record Advances {A : Type 0} (old new : Run R G) (left : ℕ) (before : List Task) (agenda : Agenda) (result : Result A Halt) : Type 0 where
     pub sound : OnOk result (IsSound new)
-    pub goes : Goes old.cursor new.cursor (λ d. Follows d result agenda.left (to_do agenda.frames.items) (state new) (run d left before (state old)))
+    pub goes : AdvancesSuchThat old.cursor new.cursor (λ d. ContinuesWith d result agenda.left (to_do agenda.frames.items) (state new) (run d left before (state old)))
 
   -- for all these data, a whole run is over
   pub record EndsAs {A : Type 0} (old new : Run R G) (whole : TestData → Ended) (left_now : ℕ) (result : Result A Halt) : Type 0 where
     pub sound : OnOk result (IsSound new)
-    pub goes : Goes old.cursor new.cursor (λ d. Follows d result left_now [] (state new) (whole d))
+    pub goes : AdvancesSuchThat old.cursor new.cursor (λ d. ContinuesWith d result left_now [] (state new) (whole d))
 
   -- for all these data, the run of what was to be done with so many steps left is over
   pub record Ends {A : Type 0} (old new : Run R G) (left : ℕ) (before : List Task) (left_now : ℕ) (result : Result A Halt) : Type 0 where
     pub sound : OnOk result (IsSound new)
-    pub goes : Goes old.cursor new.cursor (λ d. Follows d result left_now [] (state new) (run d left before (state old)))
+    pub goes : AdvancesSuchThat old.cursor new.cursor (λ d. ContinuesWith d result left_now [] (state new) (run d left before (state old)))

@@ -53,12 +53,12 @@ impl<'p> Agenda<'p> {
     }
 
     /// Pays a step, or tells how the run ends where none is left.
-    pub(crate) fn pay(&mut self, spot: Spot, place: Site) -> Result<(), Halt>
+    pub(crate) fn pay(&mut self, spot: Spot, site: Site) -> Result<(), Halt>
         ensures frames { self.new.frames ≡ self.old.frames }
         ensures bound { self.new.left + 1 ≤ 2 ^ 64 }
         ensures spent { self.new.left ≤ self.old.left }
         ensures paid { OnOk result (self.old.left ≡ self.new.left + 1) }
-        ensures limit { IfErr result (λ halt. halt ≡ Ended (at_limit spot place)) }
+        ensures limit { IfErr result (λ halt. halt ≡ Ended (at_limit spot site)) }
         ensures none { IfErr result (λ _. (self.old.left ≡ 0) × (self.new.left ≡ 0)) }
     {
         match self.left.checked_sub(1) {
@@ -68,7 +68,7 @@ impl<'p> Agenda<'p> {
             }
             None => Err(Halt::Ended(Outcome::Stopped {
                 spot,
-                place,
+                place: site,
                 fault: Fault::StepLimit,
             })),
         }

@@ -1,8 +1,8 @@
 //! Blanks, which whitespace mode skips.
 ghost use Rattle.std.specs.Prelude.{◌≡◌, nat_eq, OnOk, None};
 ghost use Rattle.std.specs.List.{prefix_len};
-ghost use Rattle.ctd_source.specs.Sight.{sight};
-ghost use Rattle.ctd_source.specs.Follow.{Goes};
+ghost use Rattle.ctd_source.specs.CursorState.{state_of};
+ghost use Rattle.ctd_source.specs.Received.{AdvancesSuchThat};
 ghost use Rattle.ctd_check.specs.Blanks.{is_blank, skip_blanks, some_blanks, first_skip};
 ghost use Rattle.ctd_check.specs.Passing.{PassesBlanks};
 ghost use Rattle.ctd_check.specs.Performs.{IsSound, Performs};
@@ -32,9 +32,9 @@ fn blank_len(bytes: &[u8]) -> usize
 
 /// Passes the blanks that come next, a run of held bytes at a time.
 fn pass_blanks<D: Source>(cursor: &mut Cursor<'_, D>) -> Result<(), LookFault>
-    requires sound { (sight cursor.old).fault ≡ None }
-    ensures sound { OnOk result ((sight cursor.new).fault ≡ None) }
-    ensures passes { Goes cursor.old cursor.new (λ d. PassesBlanks d (sight cursor.old).spot.offset (sight cursor.new).spot.offset result) }
+    requires sound { (state_of cursor.old).fault ≡ None }
+    ensures sound { OnOk result ((state_of cursor.new).fault ≡ None) }
+    ensures passes { AdvancesSuchThat cursor.old cursor.new (λ d. PassesBlanks d (state_of cursor.old).spot.offset (state_of cursor.new).spot.offset result) }
 {
     loop {
         match cursor.look() {

@@ -19,7 +19,7 @@ use ctd_source::Source;
 use ctd_syntax::{Action, Command, Test};
 
 /// A simple command leaves no frame.
-fn simple<'p>(answer: Result<(), CommandFailure>) -> Result<Option<Frame<'p>>, CommandFailure>
+fn no_frame<'p>(answer: Result<(), CommandFailure>) -> Result<Option<Frame<'p>>, CommandFailure>
     ensures tasks { answering left_tasks result ≡ answering (λ _. []) answer }
     ensures room { (n : ℕ) → NeedsRoom result n }
     ensures known { (patterns : List (List ℕ)) → LeavesKnown patterns result }
@@ -45,14 +45,14 @@ impl<'d, D: Source> Run<'d, D> {
         ensures kept { matchers.new ≡ matchers.old }
     {
         match &command.action {
-            Action::Space => simple(self.space()),
-            Action::Newline => simple(self.newline()),
-            Action::Eof => simple(self.end()),
-            Action::Int(low, high, var) => simple(self.int(low, high, var)),
-            Action::String(e) => simple(self.string(e)),
-            Action::Regex(literal, var) => simple(self.regex(literal, var, matchers)),
-            Action::Assert(t) => simple(self.assert(t)),
-            Action::Set(assignments) => simple(self.set(assignments.as_slice())),
+            Action::Space => no_frame(self.space()),
+            Action::Newline => no_frame(self.newline()),
+            Action::Eof => no_frame(self.end()),
+            Action::Int(low, high, var) => no_frame(self.int(low, high, var)),
+            Action::String(e) => no_frame(self.string(e)),
+            Action::Regex(literal, var) => no_frame(self.regex(literal, var, matchers)),
+            Action::Assert(t) => no_frame(self.assert(t)),
+            Action::Set(assignments) => no_frame(self.set(assignments.as_slice())),
             Action::Unset(names) => {
                 self.unset(names.as_slice());
                 Ok(None)

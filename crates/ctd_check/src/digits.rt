@@ -9,7 +9,7 @@ use crate::outcome::Reason;
 
 /// What was seen of a row of digits.
 #[derive(Clone, Copy, Debug)]
-pub(crate) struct Digits {
+pub(crate) struct DigitSummary {
     /// How many there are: none, one or more.
     count: u8,
     /// Whether the first of them is 0.
@@ -25,7 +25,7 @@ const MIN_SIZE: u128 = 0x8000_0000_0000_0000_0000_0000_0000_0000;
 const BEYOND: u128 = 0x8000_0000_0000_0000_0000_0000_0000_0001;
 
 /// The size that a further digit makes.
-fn grown(size: u128, digit: u8) -> u128
+fn append_digit(size: u128, digit: u8) -> u128
     requires { digit < 10 }
     ensures { result ≡ min (size * 10 + digit) (2 ^ 127 + 1) }
 {
@@ -52,7 +52,7 @@ fn value_of(is_negative: bool, size: u128) -> Option<i128>
 }
 
 /// The value of a sign and a size of any length, where it lies in the interval.
-fn within(least: i128, most: i128, is_negative: bool, size: u128) -> Option<i128>
+fn value_in_interval(least: i128, most: i128, is_negative: bool, size: u128) -> Option<i128>
     ensures { (n : ℕ) → size ≡ min n (2 ^ 127 + 1) → result ≡ in_interval least most (signed is_negative n) }
 {
     let value = value_of(is_negative, size)?;
@@ -63,14 +63,14 @@ fn within(least: i128, most: i128, is_negative: bool, size: u128) -> Option<i128
     }
 }
 
-impl Digits {
-    ghost use Rattle.ctd_check.specs.Seen.{AreSeen};
+impl DigitSummary {
+    ghost use Rattle.ctd_check.specs.Summaries.{Summarizes};
 
     /// No digit.
-    pub(crate) fn none() -> Digits
-        ensures { AreSeen result [] }
+    pub(crate) fn none() -> DigitSummary
+        ensures { Summarizes result [] }
     {
-        Digits {
+        DigitSummary {
             count: 0,
             is_zero_first: false,
             size: 0,
@@ -80,17 +80,17 @@ impl Digits {
     /// One more digit.
     fn push(&mut self, digit: u8)
         requires { is_ascii_digit digit ≡ true }
-        ensures { (digits : List ℕ) → AreSeen self.old digits → AreSeen self.new (digits ++ digit ∷ []) }
+        ensures { (digits : List ℕ) → Summarizes self.old digits → Summarizes self.new (digits ++ digit ∷ []) }
     {
         self.is_zero_first |= (self.count == 0) & (digit == b'0');
         self.count = self.count.saturating_add(1).min(2);
-        self.size = grown(self.size, digit - b'0');
+        self.size = append_digit(self.size, digit - b'0');
     }
 
     /// The digits that the bytes begin with; tells how many they are.
     pub(crate) fn read(&mut self, bytes: &[u8]) -> usize
         ensures count { result ≡ prefix_len is_ascii_digit bytes.now }
-        ensures seen { (digits : List ℕ) → AreSeen self.old digits → AreSeen self.new (digits ++ take result bytes.now) }
+        ensures seen { (digits : List ℕ) → Summarizes self.old digits → Summarizes self.new (digits ++ take result bytes.now) }
     {
         let mut seen = *self;
         let mut count = 0;
@@ -107,7 +107,7 @@ impl Digits {
 
     /// The judgement of a sign and these digits.
     pub(crate) fn judge(&self, least: i128, most: i128, is_negative: bool) -> Result<i128, Reason>
-        ensures { (digits : List ℕ) → AreSeen self.now digits → result ≡ judge least most is_negative digits }
+        ensures { (digits : List ℕ) → Summarizes self.now digits → result ≡ judge least most is_negative digits }
     {
         if self.count == 0 {
             return Err(Reason::ExpectedInt);
@@ -118,6 +118,6 @@ impl Digits {
         if self.is_zero_first && self.count > 1 {
             return Err(Reason::LeadingZero);
         }
-        within(least, most, is_negative, self.size).ok_or(Reason::OutOfRange)
+        value_in_interval(least, most, is_negative, self.size).ok_or(Reason::OutOfRange)
     }
 }

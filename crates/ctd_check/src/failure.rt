@@ -84,17 +84,21 @@ impl CommandFailure {
     ghost use Rattle.std.specs.Prelude.{◌≡◌};
     ghost use Rattle.ctd_check.specs.Failures.{halt_of};
 
-    /// How the run ends by it, where its command began at this spot and stands at this place.
-    pub(crate) fn halt(self, spot: Spot, place: Site) -> Halt
-        ensures { result ≡ halt_of spot place self }
+    /// How the run ends by it, where its command began at this spot and stands at this site.
+    pub(crate) fn halt(self, spot: Spot, site: Site) -> Halt
+        ensures { result ≡ halt_of spot site self }
     {
         match self {
             CommandFailure::Rejected(reason) => Halt::Ended(Outcome::Rejected {
                 spot,
-                place,
+                place: site,
                 reason,
             }),
-            CommandFailure::Stopped(fault) => Halt::Ended(Outcome::Stopped { spot, place, fault }),
+            CommandFailure::Stopped(fault) => Halt::Ended(Outcome::Stopped {
+                spot,
+                place: site,
+                fault,
+            }),
             CommandFailure::Memory => Halt::Memory,
         }
     }

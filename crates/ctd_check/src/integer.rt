@@ -1,13 +1,13 @@
 //! INT: an integer of any length, in an interval.
 ghost use Rattle.std.specs.Prelude.{◌≡◌, OnOk, None};
-ghost use Rattle.ctd_source.specs.Sight.{sight};
-ghost use Rattle.ctd_source.specs.Follow.{Goes};
+ghost use Rattle.ctd_source.specs.CursorState.{state_of};
+ghost use Rattle.ctd_source.specs.Received.{AdvancesSuchThat};
 ghost use Rattle.ctd_syntax.specs.View.{expr_tree, target};
 ghost use Rattle.ctd_check.specs.Effect.{int, integer};
 ghost use Rattle.ctd_check.specs.Passing.{PassesMinus, PassesDigits};
 ghost use Rattle.ctd_check.specs.Performs.{IsSound, Performs};
 
-use crate::digits::Digits;
+use crate::digits::DigitSummary;
 use crate::failure::CommandFailure;
 use crate::machine::Run;
 use ctd_source::{Cursor, LookFault, Source};
@@ -15,9 +15,9 @@ use ctd_syntax::{Expr, Var};
 
 /// Passes a minus, where one is next, and tells whether it was.
 fn pass_minus<D: Source>(cursor: &mut Cursor<'_, D>) -> Result<bool, LookFault>
-    requires sound { (sight cursor.old).fault ≡ None }
-    ensures sound { OnOk result ((sight cursor.new).fault ≡ None) }
-    ensures passes { Goes cursor.old cursor.new (λ d. PassesMinus d (sight cursor.old).spot.offset (sight cursor.new).spot.offset result) }
+    requires sound { (state_of cursor.old).fault ≡ None }
+    ensures sound { OnOk result ((state_of cursor.new).fault ≡ None) }
+    ensures passes { AdvancesSuchThat cursor.old cursor.new (λ d. PassesMinus d (state_of cursor.old).spot.offset (state_of cursor.new).spot.offset result) }
 {
     match cursor.look() {
         Ok(Some(byte)) => {
@@ -33,10 +33,13 @@ fn pass_minus<D: Source>(cursor: &mut Cursor<'_, D>) -> Result<bool, LookFault>
 }
 
 /// Passes the digits that come next, a run of held bytes at a time.
-fn pass_digits<D: Source>(digits: &mut Digits, cursor: &mut Cursor<'_, D>) -> Result<(), LookFault>
-    requires sound { (sight cursor.old).fault ≡ None }
-    ensures sound { OnOk result ((sight cursor.new).fault ≡ None) }
-    ensures passes { Goes cursor.old cursor.new (λ d. PassesDigits digits.old digits.new d (sight cursor.old).spot.offset (sight cursor.new).spot.offset result) }
+fn pass_digits<D: Source>(
+    digits: &mut DigitSummary,
+    cursor: &mut Cursor<'_, D>,
+) -> Result<(), LookFault>
+    requires sound { (state_of cursor.old).fault ≡ None }
+    ensures sound { OnOk result ((state_of cursor.new).fault ≡ None) }
+    ensures passes { AdvancesSuchThat cursor.old cursor.new (λ d. PassesDigits digits.old digits.new d (state_of cursor.old).spot.offset (state_of cursor.new).spot.offset result) }
 {
     loop {
         match cursor.look() {
@@ -76,7 +79,7 @@ impl<'d, D: Source> Run<'d, D> {
         ensures performs { Performs self.old self.new result (integer least most) }
     {
         let is_negative = pass_minus(&mut self.cursor)?;
-        let mut digits = Digits::none();
+        let mut digits = DigitSummary::none();
         pass_digits(&mut digits, &mut self.cursor)?;
         match digits.judge(least, most, is_negative) {
             Ok(n) => Ok(n),

@@ -16,7 +16,7 @@ use ctd_syntax::{Command, Commands, Expr, Place, Test, Var};
 use ctd_value::Value;
 
 /// A separator, or none.
-fn unboxed(between: &Option<Box<Command>>) -> Option<&Command>
+fn unbox(between: &Option<Box<Command>>) -> Option<&Command>
     ensures same { separator_in result ≡ boxed_separator between.now }
 {
     match between {
@@ -37,7 +37,7 @@ pub(crate) fn loop_frame<'p>(
     ensures blocks { frame_blocks result ≡ max (separator_blocks (boxed_separator between.now)) (list_blocks (command_list body.now)) }
     ensures turn { lap_turn result.lap ≡ 0 }
 {
-    let between = unboxed(between);
+    let between = unbox(between);
     let lap = Lap {
         place,
         guard,

@@ -1,6 +1,6 @@
 //! The state of a run: where the data are read, and the variables.
 ghost use Rattle.std.specs.Prelude.{◌≡◌, ◌<◌, ◌≤◌, length, Ok, Err, IfOk, IfSome};
-ghost use Rattle.ctd_source.specs.Sight.{sight, source as source_now, Borrows};
+ghost use Rattle.ctd_source.specs.CursorState.{state_of, source as source_now, Borrows};
 ghost use Rattle.ctd_check.specs.State.{next_seen, pass, reject};
 ghost use Rattle.ctd_check.specs.Performs.{IsSound, Performs};
 
@@ -24,7 +24,7 @@ impl<'d, D: Source> Run<'d, D> {
     pub(crate) fn next(&mut self) -> Result<Option<u8>, CommandFailure>
         requires sound { IsSound self.old }
         ensures performs { Performs self.old self.new result next_seen }
-        ensures held { IfOk result (λ next. IfSome next (λ _. 0 < length (sight self.new.cursor).held)) }
+        ensures held { IfOk result (λ next. IfSome next (λ _. 0 < length (state_of self.new.cursor).held)) }
     {
         match self.cursor.look() {
             Ok(next) => Ok(next),
@@ -35,7 +35,7 @@ impl<'d, D: Source> Run<'d, D> {
     /// Passes a byte that is held.
     pub(crate) fn pass_one(&mut self)
         requires sound { IsSound self.old }
-        requires held { 0 < length (sight self.old.cursor).held }
+        requires held { 0 < length (state_of self.old.cursor).held }
         ensures performs { Performs self.old self.new (Ok tt) (pass 1) }
     {
         self.cursor.take();
@@ -44,7 +44,7 @@ impl<'d, D: Source> Run<'d, D> {
     /// Passes so many bytes that are held.
     pub(crate) fn pass_many(&mut self, n: usize)
         requires sound { IsSound self.old }
-        requires held { n ≤ length (sight self.old.cursor).held }
+        requires held { n ≤ length (state_of self.old.cursor).held }
         ensures performs { Performs self.old self.new (Ok tt) (pass n) }
     {
         self.cursor.take_many(n);

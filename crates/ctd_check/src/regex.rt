@@ -1,6 +1,6 @@
 //! REGEX: a match of its pattern at the start of the window.
 ghost use Rattle.std.specs.Prelude.{◌≡◌, ◌≤◌, length, slice_get, Some, IfOk};
-ghost use Rattle.ctd_source.specs.Sight.{sight};
+ghost use Rattle.ctd_source.specs.CursorState.{state_of};
 ghost use Rattle.ctd_pattern.specs.Pattern.{length_at_start};
 ghost use Rattle.ctd_syntax.specs.View.{target};
 ghost use Rattle.ctd_check.specs.Known.{IsAmong};
@@ -59,7 +59,7 @@ impl<'d, D: Source> Run<'d, D> {
     fn matched_bytes(&mut self, matcher: &mut Matcher<'_>) -> Result<Bytes, CommandFailure>
         requires sound { IsSound self.old }
         ensures performs { Performs self.old self.new result (matched matcher.old) }
-        ensures held { IfOk result (λ bytes. length bytes ≤ length (sight self.new.cursor).held) }
+        ensures held { IfOk result (λ bytes. length bytes ≤ length (state_of self.new.cursor).held) }
         ensures kept { matcher.new ≡ matcher.old }
     {
         let alloc = self.alloc;
@@ -72,7 +72,7 @@ impl<'d, D: Source> Run<'d, D> {
     fn matched_len(&mut self, matcher: &mut Matcher<'_>) -> Result<usize, CommandFailure>
         requires sound { IsSound self.old }
         ensures performs { Performs self.old self.new result (matched_len matcher.old) }
-        ensures held { IfOk result (λ n. n ≤ length (sight self.new.cursor).held) }
+        ensures held { IfOk result (λ n. n ≤ length (state_of self.new.cursor).held) }
         ensures kept { matcher.new ≡ matcher.old }
     {
         let window = self.cursor.window()?;

@@ -1,8 +1,8 @@
 //! STRING: the bytes of a string.
 ghost use Rattle.std.specs.Prelude.{◌≡◌, ◌≤◌, nat_eq, length, drop, None, OnOk, IfOk};
 ghost use Rattle.std.specs.List.{common_prefix_len};
-ghost use Rattle.ctd_source.specs.Sight.{sight};
-ghost use Rattle.ctd_source.specs.Follow.{Goes};
+ghost use Rattle.ctd_source.specs.CursorState.{state_of};
+ghost use Rattle.ctd_source.specs.Received.{AdvancesSuchThat};
 ghost use Rattle.ctd_syntax.specs.View.{expr_tree};
 ghost use Rattle.ctd_check.specs.Effect.{string, match_bytes};
 ghost use Rattle.ctd_check.specs.Passing.{PassesSome};
@@ -30,7 +30,7 @@ fn common_len(wanted: &[u8], bytes: &[u8]) -> usize
 }
 
 /// What is left of some bytes behind the first of them.
-fn behind(bytes: &[u8], count: usize) -> &[u8]
+fn rest_after(bytes: &[u8], count: usize) -> &[u8]
     requires { count ≤ length bytes.now }
     ensures { result.now ≡ drop count bytes.now }
 {
@@ -39,10 +39,10 @@ fn behind(bytes: &[u8], count: usize) -> &[u8]
 
 /// Passes as many of the wanted bytes as come next and are held; tells how many.
 fn pass_front<D: Source>(wanted: &[u8], cursor: &mut Cursor<'_, D>) -> Result<usize, LookFault>
-    requires sound { (sight cursor.old).fault ≡ None }
-    ensures sound { OnOk result ((sight cursor.new).fault ≡ None) }
+    requires sound { (state_of cursor.old).fault ≡ None }
+    ensures sound { OnOk result ((state_of cursor.new).fault ≡ None) }
     ensures within { IfOk result (λ n. n ≤ length wanted.now) }
-    ensures passes { Goes cursor.old cursor.new (λ d. PassesSome wanted.now d (sight cursor.old).spot.offset (sight cursor.new).spot.offset result) }
+    ensures passes { AdvancesSuchThat cursor.old cursor.new (λ d. PassesSome wanted.now d (state_of cursor.old).spot.offset (state_of cursor.new).spot.offset result) }
 {
     match cursor.look() {
         Ok(Some(_byte)) => {
@@ -81,7 +81,7 @@ impl<'d, D: Source> Run<'d, D> {
             if count == 0 {
                 return Err(CommandFailure::Rejected(Reason::StringMismatch));
             }
-            rest = behind(rest, count);
+            rest = rest_after(rest, count);
         }
         Ok(())
     }

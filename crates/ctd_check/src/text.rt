@@ -2,7 +2,7 @@
 ghost use Rattle.std.specs.Prelude.{◌≡◌, ◌≢◌, ◌<◌, ◌≤◌, ◌+◌, true, false, length, take, drop, IfOk};
 ghost use Rattle.std.specs.Io.KnownBytes.{IsAtEnd};
 ghost use Rattle.ctd_source.specs.Pull.{seen_after, pulled, Gives};
-ghost use Rattle.ctd_source.specs.Sight.{Gave};
+ghost use Rattle.ctd_source.specs.CursorState.{Gave};
 ghost use Rattle.ctd_source.specs.declared.source.Seen.TheVariants.{Going, Ended, Broken};
 
 use ctd_source::{Failed, Source};

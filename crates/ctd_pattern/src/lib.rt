@@ -1,8 +1,8 @@
 //! The patterns of REGEX: built from the bytes of a literal, and matched at the start of a window of data.
 #![tactic(auto)]
 
-pub mod matcher;
-pub mod pattern;
+mod matcher;
+mod pattern;
 #[cfg(test)]
 mod tests;
 

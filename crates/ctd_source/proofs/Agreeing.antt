@@ -1,4 +1,4 @@
--- A cursor that stands for the bytes given so far stands for all data that agree with them.
+-- A cursor that is consistent with the bytes given so far is consistent with all data that agree with them.
 use Rattle.std.proofs.Common.{◌≡◌, ℕ, ◌+◌, ◌≤◌, min, List, [], ◌++◌, length, take, drop, true, false, refl, ap, sym, ◌∙◌, arith, length-append, length-take, append_assoc, subst}
 use Rattle.std.proofs.lemmas.List.{take_all, take-append-le, take-take, drop-append-le}
 use Rattle.ctd_source.specs.declared.cursor.Cursor.{Cursor}
@@ -7,9 +7,9 @@ use Rattle.ctd_source.specs.declared.source.Seen.{Seen}
 use Rattle.ctd_source.specs.declared.source.Seen.TheVariants.{Going, Ended, Broken}
 use Rattle.ctd_source.specs.TestData.{TestData, spot_at}
 use Rattle.ctd_source.specs.Agreement.{Agrees, is_broken, known}
-use Rattle.ctd_source.specs.Standing.{Sight, StandsFor, IsAtStart}
-use Rattle.ctd_source.specs.Sight.{sight, source, Gave, ReadsOn, MovesPast}
-use Rattle.ctd_source.specs.Follow.{Follows}
+use Rattle.ctd_source.specs.Consistency.{CursorState, IsConsistentWith, IsAtStart}
+use Rattle.ctd_source.specs.CursorState.{state_of, source, Gave, ReadsOn, MovesPast}
+use Rattle.ctd_source.specs.Received.{HasReceived}
 use Rattle.ctd_source.specs.ReadingOn.{gave_nothing, gave_both}
 
 -- a spot depends on the bytes before it alone
@@ -34,12 +34,12 @@ whole_broken Ended given d a is = cc
 whole_broken Broken given d a is = (ap length a.0, a.1)
 
 -- no offset behind the bytes that were taken
-behind : (s : Sight) (p : ℕ) → s.spot.offset + length s.held ≡ s.taken → s.spot.offset ≤ s.taken
+behind : (s : CursorState) (p : ℕ) → s.spot.offset + length s.held ≡ s.taken → s.spot.offset ≤ s.taken
 behind s p counted = omega arith
 
--- what stands for the bytes given stands for data that agree with them
-pub stands_for_agreeing : (s : Sight) (given : List ℕ) (d : TestData) → s.taken ≡ length given → s.spot.offset ≤ s.taken → StandsFor (known given s.seen s.limit) s → d.limit ≡ s.limit → Agrees given s.seen d → StandsFor d s
-stands_for_agreeing s given d taken within h limit agrees =
+-- what is consistent with the bytes given is consistent with data that agree with them
+pub agreeing_is_consistent : (s : CursorState) (given : List ℕ) (d : TestData) → s.taken ≡ length given → s.spot.offset ≤ s.taken → IsConsistentWith (known given s.seen s.limit) s → d.limit ≡ s.limit → Agrees given s.seen d → IsConsistentWith d s
+agreeing_is_consistent s given d taken within h limit agrees =
     let p = s.spot.offset in
     let front : take (length given) d.bytes ≡ given = begins s.seen given d agrees in
     let len : length given ≤ length d.bytes = omega (arith, ap length front, length-take (length given) d.bytes) in
@@ -62,10 +62,10 @@ ended_known seen is = ap is_broken is
 broken_known : (seen : Seen) → seen ≡ Broken → is_broken seen ≡ true
 broken_known seen is = ap is_broken is
 
--- what stands for the bytes given stands for more of them, once it holds more
-pub stands_for_more : (s t : Sight) (given more : List ℕ) → s.taken ≡ length given → s.spot.offset ≤ s.taken → StandsFor (known given s.seen s.limit) s
-    → t.held ≡ s.held ++ more → t.taken ≡ s.taken + length more → t.spot ≡ s.spot → t.limit ≡ s.limit → StandsFor (known (given ++ more) t.seen t.limit) t
-stands_for_more s t given more taken within h held longer spot limit =
+-- what is consistent with the bytes given is consistent with more of them, once it holds more
+pub more_is_consistent : (s t : CursorState) (given more : List ℕ) → s.taken ≡ length given → s.spot.offset ≤ s.taken → IsConsistentWith (known given s.seen s.limit) s
+    → t.held ≡ s.held ++ more → t.taken ≡ s.taken + length more → t.spot ≡ s.spot → t.limit ≡ s.limit → IsConsistentWith (known (given ++ more) t.seen t.limit) t
+more_is_consistent s t given more taken within h held longer spot limit =
     let p = s.spot.offset in
     let offset : t.spot.offset ≡ p = ap (λ x. x.offset) spot in
     let len = length-append given more in
@@ -82,29 +82,29 @@ stands_for_more s t given more taken within h held longer spot limit =
     }
 
 module _ {R : Type 0} {G : Ghosts R} where
-  pub start_follows : (c : Cursor R G) (limit : ℕ) → IsAtStart limit (sight c) → ((d : TestData) → d.limit ≡ limit → StandsFor d (sight c)) → Follows (source c) [] c
+  pub start_follows : (c : Cursor R G) (limit : ℕ) → IsAtStart limit (state_of c) → ((d : TestData) → d.limit ≡ limit → IsConsistentWith d (state_of c)) → HasReceived (source c) [] c
   start_follows c limit begins stands = record {
     gave = gave_nothing (source c);
     taken = begins.taken;
-    stands = stands (known [] (sight c).seen (sight c).limit) begins.limit_is;
+    stands = stands (known [] (state_of c).seen (state_of c).limit) begins.limit_is;
   }
 
-  pub reading_follows : (first : R) (given : List ℕ) (old new : Cursor R G) → Follows first given old → (r : ReadsOn old new) → Follows first (given ++ r.more) new
+  pub reading_follows : (first : R) (given : List ℕ) (old new : Cursor R G) → HasReceived first given old → (r : ReadsOn old new) → HasReceived first (given ++ r.more) new
   reading_follows first given old new f r = record {
     gave = gave_both (G.seen (source old)) first (source old) (source new) given r.more refl f.gave r.gave;
     taken = omega (arith, r.taken, f.taken, length-append given r.more);
-    stands = stands_for_more (sight old) (sight new) given r.more f.taken (omega (arith, old.counted)) f.stands r.held r.taken r.spot r.limit;
+    stands = more_is_consistent (state_of old) (state_of new) given r.more f.taken (omega (arith, old.counted)) f.stands r.held r.taken r.spot r.limit;
   }
 
-  pub moving_follows : (first : R) (given : List ℕ) (n : ℕ) (old new : Cursor R G) → Follows first given old → MovesPast n old new → Follows first given new
+  pub moving_follows : (first : R) (given : List ℕ) (n : ℕ) (old new : Cursor R G) → HasReceived first given old → MovesPast n old new → HasReceived first given new
   moving_follows first given n old new f m = record {
     gave = let P : R → Type 0 = λ r. Gave G first r given in subst P (sym m.source_is) f.gave;
     taken = m.taken ∙ f.taken;
     stands =
-        let Q : Seen → Type 0 = λ seen. StandsFor (known given seen (sight new).limit) (sight new) in
-        let L : ℕ → Type 0 = λ limit. StandsFor (known given (sight old).seen limit) (sight new) in
+        let Q : Seen → Type 0 = λ seen. IsConsistentWith (known given seen (state_of new).limit) (state_of new) in
+        let L : ℕ → Type 0 = λ limit. IsConsistentWith (known given (state_of old).seen limit) (state_of new) in
         subst Q (sym m.seen) (subst L (sym m.limit) (m.stands _ f.stands));
   }
 
-  pub agreeing_stands : (first : R) (given : List ℕ) (c : Cursor R G) → Follows first given c → (d : TestData) → d.limit ≡ (sight c).limit → Agrees given (sight c).seen d → StandsFor d (sight c)
-  agreeing_stands first given c f d limit agrees = stands_for_agreeing (sight c) given d f.taken (omega (arith, c.counted)) f.stands limit agrees
+  pub agreeing_stands : (first : R) (given : List ℕ) (c : Cursor R G) → HasReceived first given c → (d : TestData) → d.limit ≡ (state_of c).limit → Agrees given (state_of c).seen d → IsConsistentWith d (state_of c)
+  agreeing_stands first given c f d limit agrees = agreeing_is_consistent (state_of c) given d f.taken (omega (arith, c.counted)) f.stands limit agrees

@@ -8,7 +8,7 @@ use Rattle.ctd_syntax.specs.Grammar.{IsExpr, IsTest, IsTarget, IsTargetEnd, IsCo
 use Rattle.ctd_syntax.specs.Front.{Found, NotFound, Always, IsBefore, IsAfter, IsBuilt, IsPair, Spelling, Following}
 use Rattle.ctd_syntax.specs.Levels.{ends}
 use Rattle.ctd_syntax.specs.Tests.{test_ends}
-use Rattle.ctd_syntax.specs.CommandWords.{Behind, CommandsEnd, IsBlock, IsBranchEnd, IsLoopEnd, IsPattern, command_begins, is_command_word}
+use Rattle.ctd_syntax.specs.CommandWords.{IsCommandRest, CommandsEnd, IsBlock, IsBranchEnd, IsLoopEnd, IsPattern, command_begins, is_command_word}
 use Rattle.ctd_token.specs.declared.text.Place.{Place}
 use Rattle.ctd_token.specs.declared.token.Mark.TheVariants.{Open, Close, Comma}
 use Rattle.ctd_syntax.specs.declared.keyword.Keyword.{Keyword}
@@ -89,7 +89,7 @@ branches_to ts x (us, vs, split, i, inr (else_at, ws, parted, (bs, at, ended, j)
 
 -- a command is its word and what stands behind it
 abbrev Worded : List Lexeme → CommandTree → Type 0
-Worded ts u = (k : Keyword) × (at : Place) × (vs : List Lexeme) × (ts ≡ keyword k at ∷ vs) × (is_command_word k ≡ true) × Behind k at vs u
+Worded ts u = (k : Keyword) × (at : Place) × (vs : List Lexeme) × (ts ≡ keyword k at ∷ vs) × (is_command_word k ≡ true) × IsCommandRest k at vs u
 
 worded : (ts : List Lexeme) (u : CommandTree) → IsCommand ts u → Worded ts u
 worded ts u (Grammar.space {at}) = (words.Space, at, [], refl, refl, (refl, refl))
@@ -112,7 +112,7 @@ paired : (ts us ws ls hs es : List Lexeme) → ts ≡ us ++ ws → us ≡ ls ++ 
 paired ts us ws ls hs es split comma ends_so = split ∙ ap (λ l. l ++ ws) comma ∙ append_assoc ls (mark Comma ∷ []) ws ∙ ap (λ l. ls ++ mark Comma ∷ l) ends_so ∙ sym (append_assoc ls (mark Comma ∷ hs) es)
 
 -- what stands behind its word makes a command
-command_of : (k : Keyword) (at : Place) (vs : List Lexeme) (u : CommandTree) → Behind k at vs u → IsCommand (keyword k at ∷ vs) u
+command_of : (k : Keyword) (at : Place) (vs : List Lexeme) (u : CommandTree) → IsCommandRest k at vs u → IsCommand (keyword k at ∷ vs) u
 command_of words.Space at vs u (none, tree) = subst (λ l. IsCommand (keyword words.Space at ∷ l) u) (sym none) (subst (IsCommand _) (sym tree) Grammar.space)
 command_of words.Newline at vs u (none, tree) = subst (λ l. IsCommand (keyword words.Newline at ∷ l) u) (sym none) (subst (IsCommand _) (sym tree) Grammar.newline)
 command_of words.Eof at vs u (none, tree) = subst (λ l. IsCommand (keyword words.Eof at ∷ l) u) (sym none) (subst (IsCommand _) (sym tree) Grammar.eof)
@@ -141,16 +141,16 @@ command_of words.If at vs u (x, tree, (ts, opened, (us, ws, split, (es, closing,
 command_of _ at vs u w = absurd w
 
 -- a command is behind a word at the front
-begins_worded : (tokens r ts us : List Lexeme) (k : Keyword) (at : Place) (u : CommandTree) → tokens ≡ keyword k at ∷ r → tokens ≡ ts ++ us → IsCommand ts u → (vs : List Lexeme) × (r ≡ vs ++ us) × Behind k at vs u
+begins_worded : (tokens r ts us : List Lexeme) (k : Keyword) (at : Place) (u : CommandTree) → tokens ≡ keyword k at ∷ r → tokens ≡ ts ++ us → IsCommand ts u → (vs : List Lexeme) × (r ≡ vs ++ us) × IsCommandRest k at vs u
 begins_worded tokens r ts us k at u e split w =
     let is = worded ts u w in
     let whole : keyword k at ∷ r ≡ keyword is.0 is.1 ∷ (is.2 ++ us) = sym e ∙ split ∙ ap (λ l. l ++ us) is.3 in
     let word : is.0 ≡ k = cc in
     let place : is.1 ≡ at = cc in
     let tail : r ≡ is.2 ++ us = cc in
-    (is.2, tail, subst (λ p. Behind k p is.2 u) place (subst (λ x. Behind x is.1 is.2 u) word is.5))
+    (is.2, tail, subst (λ p. IsCommandRest k p is.2 u) place (subst (λ x. IsCommandRest x is.1 is.2 u) word is.5))
 
-pub command_reads : (tokens r : List Lexeme) (k : Keyword) (at : Place) → tokens ≡ keyword k at ∷ r → (u : CommandTree) (after : List Lexeme) → Found (Behind k at) Always r u after → Found IsCommand Always tokens u after
+pub command_reads : (tokens r : List Lexeme) (k : Keyword) (at : Place) → tokens ≡ keyword k at ∷ r → (u : CommandTree) (after : List Lexeme) → Found (IsCommandRest k at) Always r u after → Found IsCommand Always tokens u after
 command_reads tokens r k at e u after f = record {
   front = keyword k at ∷ f.front;
   split = e ∙ ap (λ l. keyword k at ∷ l) f.split;
@@ -160,17 +160,17 @@ command_reads tokens r k at e u after f = record {
       f.only i.0 us v i.1 tt i.2;
 }
 
-pub command_none : (tokens r : List Lexeme) (k : Keyword) (at : Place) → tokens ≡ keyword k at ∷ r → NotFound (Behind k at) Always r → NotFound IsCommand Always tokens
+pub command_none : (tokens r : List Lexeme) (k : Keyword) (at : Place) → tokens ≡ keyword k at ∷ r → NotFound (IsCommandRest k at) Always r → NotFound IsCommand Always tokens
 command_none tokens r k at e not ts us v split h w = let i = begins_worded tokens r ts us k at v e split w in not i.0 us v i.1 tt i.2
 
 pub no_word : (tokens : List Lexeme) → ((k : Keyword) (at : Place) (ts : List Lexeme) → tokens ≡ keyword k at ∷ ts → ⊥) → NotFound IsCommand Always tokens
 no_word tokens none ts us v split h w = let is = worded ts v w in none is.0 is.1 (is.2 ++ us) (split ∙ ap (λ l. l ++ us) is.3)
 
 -- no command stands behind another word
-pub no_such_command : (tokens : List Lexeme) (k : Keyword) (at : Place) → is_command_word k ≡ false → NotFound (Behind k at) Always tokens
+pub no_such_command : (tokens : List Lexeme) (k : Keyword) (at : Place) → is_command_word k ≡ false → NotFound (IsCommandRest k at) Always tokens
 no_such_command tokens k at other ts us v split h w = no_command k at ts v other w
   where
-    no_command : (k : Keyword) (at : Place) (ts : List Lexeme) (v : CommandTree) → is_command_word k ≡ false → Behind k at ts v → ⊥
+    no_command : (k : Keyword) (at : Place) (ts : List Lexeme) (v : CommandTree) → is_command_word k ≡ false → IsCommandRest k at ts v → ⊥
     no_command words.Space at ts v e w = cc
     no_command words.Newline at ts v e w = cc
     no_command words.Eof at ts v e w = cc

@@ -7,7 +7,7 @@ use Rattle.ctd_syntax.specs.Grammar
 use Rattle.ctd_syntax.specs.Grammar.{IsExpr, IsProduct, IsSigned, IsPower, IsAtom, IsVariable, IsNames, IsTest, IsNegated, IsPlain, mark_of}
 use Rattle.ctd_syntax.specs.Front.{Found, NotFound, Always, IsBefore, IsAfter, IsPair, IsName, Spelling, operator_at, after_operator}
 use Rattle.ctd_syntax.specs.Levels.{binding, ends}
-use Rattle.ctd_syntax.specs.Tests.{question, Asked, IsLeft, IsCompared, compare_operator, holds_test}
+use Rattle.ctd_syntax.specs.Tests.{question, IsTestCall, IsLeft, IsCompared, compare_operator, holds_test}
 use Rattle.ctd_token.specs.declared.token.Mark.TheVariants.{Open, Close, Comma, Plus, Minus, Times, Divide, Percent, Caret, Bang}
 use Rattle.ctd_token.specs.declared.token.Mark.TheVariants as marks
 use Rattle.ctd_syntax.specs.declared.tree.Compare.{Compare}
@@ -89,23 +89,23 @@ pub compared_no_right : (tokens rest : List Lexeme) (x : ExprTree × Compare) �
 compared_no_right tokens rest x f not = not_built (λ x. Tree.compare x.0.1 x.0.0 x.1) (IsPair IsLeft IsExpr) (ends 1) tokens (second_none IsLeft IsExpr Always (ends 1) (λ vs us b i h. tt) tokens rest x f not)
 
 -- behind MATCH
-pub match_reads : (tokens r after : List Lexeme) (a : ExprTree) → tokens ≡ mark Open ∷ r → Found (IsBefore Close IsExpr) Always r a after → Found (Asked Match) Always tokens (Tree.matches a) after
+pub match_reads : (tokens r after : List Lexeme) (a : ExprTree) → tokens ≡ mark Open ∷ r → Found (IsBefore Close IsExpr) Always r a after → Found (IsTestCall Match) Always tokens (Tree.matches a) after
 match_reads tokens r after a e f = built Tree.matches (IsAfter Open (IsBefore Close IsExpr)) Always tokens after a (after_reads (IsBefore Close IsExpr) Always Open tokens r after a e f)
 
-pub match_none : (tokens r : List Lexeme) → tokens ≡ mark Open ∷ r → NotFound (IsBefore Close IsExpr) Always r → NotFound (Asked Match) Always tokens
+pub match_none : (tokens r : List Lexeme) → tokens ≡ mark Open ∷ r → NotFound (IsBefore Close IsExpr) Always r → NotFound (IsTestCall Match) Always tokens
 match_none tokens r e not = not_built Tree.matches (IsAfter Open (IsBefore Close IsExpr)) Always tokens (after_none (IsBefore Close IsExpr) Always Open tokens r e not)
 
-pub not_match : (tokens : List Lexeme) → ((r : List Lexeme) → tokens ≡ mark Open ∷ r → ⊥) → NotFound (Asked Match) Always tokens
+pub not_match : (tokens : List Lexeme) → ((r : List Lexeme) → tokens ≡ mark Open ∷ r → ⊥) → NotFound (IsTestCall Match) Always tokens
 not_match tokens none = not_built Tree.matches (IsAfter Open (IsBefore Close IsExpr)) Always tokens (not_after (IsBefore Close IsExpr) Always Open tokens none)
 
 -- behind UNIQUE
-pub unique_reads : (tokens r after : List Lexeme) (a : List (List ℕ)) → tokens ≡ mark Open ∷ r → Found (IsBefore Close IsNames) Always r a after → Found (Asked Unique) Always tokens (Tree.unique a) after
+pub unique_reads : (tokens r after : List Lexeme) (a : List (List ℕ)) → tokens ≡ mark Open ∷ r → Found (IsBefore Close IsNames) Always r a after → Found (IsTestCall Unique) Always tokens (Tree.unique a) after
 unique_reads tokens r after a e f = built Tree.unique (IsAfter Open (IsBefore Close IsNames)) Always tokens after a (after_reads (IsBefore Close IsNames) Always Open tokens r after a e f)
 
-pub unique_none : (tokens r : List Lexeme) → tokens ≡ mark Open ∷ r → NotFound (IsBefore Close IsNames) Always r → NotFound (Asked Unique) Always tokens
+pub unique_none : (tokens r : List Lexeme) → tokens ≡ mark Open ∷ r → NotFound (IsBefore Close IsNames) Always r → NotFound (IsTestCall Unique) Always tokens
 unique_none tokens r e not = not_built Tree.unique (IsAfter Open (IsBefore Close IsNames)) Always tokens (after_none (IsBefore Close IsNames) Always Open tokens r e not)
 
-pub not_unique : (tokens : List Lexeme) → ((r : List Lexeme) → tokens ≡ mark Open ∷ r → ⊥) → NotFound (Asked Unique) Always tokens
+pub not_unique : (tokens : List Lexeme) → ((r : List Lexeme) → tokens ≡ mark Open ∷ r → ⊥) → NotFound (IsTestCall Unique) Always tokens
 not_unique tokens none = not_built Tree.unique (IsAfter Open (IsBefore Close IsNames)) Always tokens (not_after (IsBefore Close IsNames) Always Open tokens none)
 
 -- behind INARRAY
@@ -115,20 +115,20 @@ Sought = IsPair (IsBefore Comma IsExpr) (IsBefore Close IsName)
 of_sought : (vs us : List Lexeme) (b : List ℕ) → IsBefore Close IsName vs b → Always us → Always (vs ++ us)
 of_sought vs us b i h = tt
 
-pub in_array_reads : (tokens r rest after : List Lexeme) (a : ExprTree) (n : List ℕ) → tokens ≡ mark Open ∷ r → Found (IsBefore Comma IsExpr) Always r a rest → Found (IsBefore Close IsName) Always rest n after → Found (Asked InArray) Always tokens (Tree.in_array a n) after
+pub in_array_reads : (tokens r rest after : List Lexeme) (a : ExprTree) (n : List ℕ) → tokens ≡ mark Open ∷ r → Found (IsBefore Comma IsExpr) Always r a rest → Found (IsBefore Close IsName) Always rest n after → Found (IsTestCall InArray) Always tokens (Tree.in_array a n) after
 in_array_reads tokens r rest after a n e f g = built (λ x. Tree.in_array x.0 x.1) (IsAfter Open Sought) Always tokens after (a, n) (after_reads Sought Always Open tokens r after (a, n) e (pair_reads (IsBefore Comma IsExpr) (IsBefore Close IsName) Always Always of_sought r rest after a n f g))
 
-pub in_array_no_expr : (tokens r : List Lexeme) → tokens ≡ mark Open ∷ r → NotFound (IsBefore Comma IsExpr) Always r → NotFound (Asked InArray) Always tokens
+pub in_array_no_expr : (tokens r : List Lexeme) → tokens ≡ mark Open ∷ r → NotFound (IsBefore Comma IsExpr) Always r → NotFound (IsTestCall InArray) Always tokens
 in_array_no_expr tokens r e not = not_built (λ x. Tree.in_array x.0 x.1) (IsAfter Open Sought) Always tokens (after_none Sought Always Open tokens r e (first_none (IsBefore Comma IsExpr) (IsBefore Close IsName) Always Always of_sought r not))
 
-pub in_array_no_name : (tokens r rest : List Lexeme) (a : ExprTree) → tokens ≡ mark Open ∷ r → Found (IsBefore Comma IsExpr) Always r a rest → NotFound (IsBefore Close IsName) Always rest → NotFound (Asked InArray) Always tokens
+pub in_array_no_name : (tokens r rest : List Lexeme) (a : ExprTree) → tokens ≡ mark Open ∷ r → Found (IsBefore Comma IsExpr) Always r a rest → NotFound (IsBefore Close IsName) Always rest → NotFound (IsTestCall InArray) Always tokens
 in_array_no_name tokens r rest a e f not = not_built (λ x. Tree.in_array x.0 x.1) (IsAfter Open Sought) Always tokens (after_none Sought Always Open tokens r e (second_none (IsBefore Comma IsExpr) (IsBefore Close IsName) Always Always of_sought r rest a f not))
 
-pub not_in_array : (tokens : List Lexeme) → ((r : List Lexeme) → tokens ≡ mark Open ∷ r → ⊥) → NotFound (Asked InArray) Always tokens
+pub not_in_array : (tokens : List Lexeme) → ((r : List Lexeme) → tokens ≡ mark Open ∷ r → ⊥) → NotFound (IsTestCall InArray) Always tokens
 not_in_array tokens none = not_built (λ x. Tree.in_array x.0 x.1) (IsAfter Open Sought) Always tokens (not_after Sought Always Open tokens none)
 
 -- ISEOF stands alone
-pub eof_reads : (tokens : List Lexeme) → Found (Asked IsEof) Always tokens Tree.at_end tokens
+pub eof_reads : (tokens : List Lexeme) → Found (IsTestCall IsEof) Always tokens Tree.at_end tokens
 eof_reads tokens = record { front = []; split = refl; spells = (refl, refl); only = λ ts us u split h w. (w.1, sym (split ∙ ap (λ l. l ++ us) w.0)) }
 
 -- a name and the parenthesis behind it
@@ -192,7 +192,7 @@ expr_heading t ts us a (Grammar.difference {ts = vs} {us = ws} i j) r e = expr_h
 -- the three kinds of tests without operators
 data PlainAs : List Lexeme → TestTree → Type 0 where
   compared : {ts : List Lexeme} {u : TestTree} → IsCompared ts u → PlainAs ts u
-  asked : {ts : List Lexeme} {u : TestTree} (t : Lexeme) (k : Keyword) (vs : List Lexeme) → ts ≡ t ∷ vs → question t ≡ Some k → Asked k vs u → PlainAs ts u
+  asked : {ts : List Lexeme} {u : TestTree} (t : Lexeme) (k : Keyword) (vs : List Lexeme) → ts ≡ t ∷ vs → question t ≡ Some k → IsTestCall k vs u → PlainAs ts u
   grouped : {ts : List Lexeme} {u : TestTree} (vs : List Lexeme) → ts ≡ mark Open ∷ vs → IsBefore Close IsTest vs u → PlainAs ts u
 
 plain_as : (ts : List Lexeme) (u : TestTree) → IsPlain ts u → PlainAs ts u
@@ -211,23 +211,23 @@ compared_plain ts u (x, tree, (us, vs, split, (ws, marked, i), j)) =
 grouped_plain : (ts vs : List Lexeme) (u : TestTree) → ts ≡ mark Open ∷ vs → IsBefore Close IsTest vs u → IsPlain ts u
 grouped_plain ts vs u e (ws, closing, i) = subst (λ l. IsPlain l u) (sym (e ∙ ap (λ l. mark Open ∷ l) closing)) (Grammar.group i)
 
-asked_plain : (t : Lexeme) (k : Keyword) (vs : List Lexeme) (u : TestTree) → question t ≡ Some k → Asked k vs u → IsPlain (t ∷ vs) u
+asked_plain : (t : Lexeme) (k : Keyword) (vs : List Lexeme) (u : TestTree) → question t ≡ Some k → IsTestCall k vs u → IsPlain (t ∷ vs) u
 asked_plain (keyword Match at) k vs u e w =
-    let is : Asked Match vs u = subst (λ x. Asked x vs u) (sym (same_some e)) w in
+    let is : IsTestCall Match vs u = subst (λ x. IsTestCall x vs u) (sym (same_some e)) w in
     let tokens : vs ≡ mark Open ∷ (is.2.2.0 ++ mark Close ∷ []) = is.2.1 ∙ ap (λ l. mark Open ∷ l) is.2.2.1 in
     subst (λ l. IsPlain (keyword Match at ∷ l) u) (sym tokens) (subst (IsPlain _) (sym is.1) (Grammar.matches is.2.2.2))
 asked_plain (keyword IsEof at) k vs u e w =
-    let is : Asked IsEof vs u = subst (λ x. Asked x vs u) (sym (same_some e)) w in
+    let is : IsTestCall IsEof vs u = subst (λ x. IsTestCall x vs u) (sym (same_some e)) w in
     subst (λ l. IsPlain (keyword IsEof at ∷ l) u) (sym is.0) (subst (IsPlain _) (sym is.1) Grammar.at_end)
 asked_plain (keyword Unique at) k vs u e w =
-    let is : Asked Unique vs u = subst (λ x. Asked x vs u) (sym (same_some e)) w in
+    let is : IsTestCall Unique vs u = subst (λ x. IsTestCall x vs u) (sym (same_some e)) w in
     let tokens : vs ≡ mark Open ∷ (is.2.2.0 ++ mark Close ∷ []) = is.2.1 ∙ ap (λ l. mark Open ∷ l) is.2.2.1 in
     subst (λ l. IsPlain (keyword Unique at ∷ l) u) (sym tokens) (subst (IsPlain _) (sym is.1) (Grammar.unique is.2.2.2))
 asked_plain (keyword InArray at) k vs u e w =
-    let is : Asked InArray vs u = subst (λ x. Asked x vs u) (sym (same_some e)) w in
+    let is : IsTestCall InArray vs u = subst (λ x. IsTestCall x vs u) (sym (same_some e)) w in
     sought_plain at vs u is
   where
-    sought_plain : (at : _) (vs : List Lexeme) (u : TestTree) → Asked InArray vs u → IsPlain (keyword InArray at ∷ vs) u
+    sought_plain : (at : _) (vs : List Lexeme) (u : TestTree) → IsTestCall InArray vs u → IsPlain (keyword InArray at ∷ vs) u
     sought_plain at vs u (x, tree, (ts, opened, (us, ws, split, (es, comma, i), (ns, closing, n)))) =
         let tokens : vs ≡ mark Open ∷ (es ++ mark Comma ∷ Lexeme.name x.1 ∷ mark Close ∷ []) =
         opened ∙ ap (λ l. mark Open ∷ l) (split ∙ ap (λ l. l ++ ws) comma ∙ append_assoc es (mark Comma ∷ []) ws ∙ ap (λ l. es ++ mark Comma ∷ l) (closing ∙ ap (λ l. l ++ mark Close ∷ []) n)) in
@@ -238,7 +238,7 @@ same_tail : {t s : Lexeme} {r vs : List Lexeme} → t ∷ r ≡ s ∷ vs → (s 
 same_tail {t} {s} {r} {vs} e = let a : s ≡ t = cc in let b : vs ≡ r = cc in (a, b)
 
 -- what a test is that begins with such a word
-begins_asked : (tokens r ts us : List Lexeme) (t : Lexeme) (k : Keyword) (u : TestTree) → tokens ≡ t ∷ r → question t ≡ Some k → tokens ≡ ts ++ us → PlainAs ts u → (vs : List Lexeme) × (r ≡ vs ++ us) × Asked k vs u
+begins_asked : (tokens r ts us : List Lexeme) (t : Lexeme) (k : Keyword) (u : TestTree) → tokens ≡ t ∷ r → question t ≡ Some k → tokens ≡ ts ++ us → PlainAs ts u → (vs : List Lexeme) × (r ≡ vs ++ us) × IsTestCall k vs u
 begins_asked tokens r ts us t k u e q split (compared (x, tree, (vs, ws, parts, (ls, marked, i), j))) =
     let whole : t ∷ r ≡ ls ++ mark (mark_of x.0.1) ∷ (ws ++ us) = sym e ∙ split ∙ ap (λ l. l ++ us) (parts ∙ ap (λ l. l ++ ws) marked ∙ append_assoc ls (mark (mark_of x.0.1) ∷ []) ws) ∙ append_assoc ls (mark (mark_of x.0.1) ∷ ws) us in
     let n : begins_expr t ≡ true = expr_heading t ls (mark (mark_of x.0.1) ∷ (ws ++ us)) x.0.0 i r whole in
@@ -247,13 +247,13 @@ begins_asked tokens r ts us t k u e q split (compared (x, tree, (vs, ws, parts, 
 begins_asked tokens r ts us t k u e q split (asked s l vs front is w) =
     let same = same_tail (sym e ∙ split ∙ ap (λ l. l ++ us) front) in
     let word : l ≡ k = same_some (sym is ∙ ap question same.0 ∙ q) in
-    (vs, sym same.1, subst (λ x. Asked x vs u) word w)
+    (vs, sym same.1, subst (λ x. IsTestCall x vs u) word w)
 begins_asked tokens r ts us t k u e q split (grouped vs front w) =
     let same = same_tail (sym e ∙ split ∙ ap (λ l. l ++ us) front) in
     let n : question t ≡ None = subst (λ x. question x ≡ None) same.0 refl in
     absurd (cc)
 
-pub asked_reads : (tokens r : List Lexeme) (k : Keyword) → operator_at question tokens ≡ Some (k, r) → (u : TestTree) (after : List Lexeme) → Found (Asked k) Always r u after → Found IsPlain (ends 1) tokens u after
+pub asked_reads : (tokens r : List Lexeme) (k : Keyword) → operator_at question tokens ≡ Some (k, r) → (u : TestTree) (after : List Lexeme) → Found (IsTestCall k) Always r u after → Found IsPlain (ends 1) tokens u after
 asked_reads tokens r k e u after f =
     let is = operator_is question tokens r k e in
     record {
@@ -265,7 +265,7 @@ asked_reads tokens r k e u after f =
           f.only i.0 us v i.1 tt i.2;
     }
 
-pub asked_none : (tokens r : List Lexeme) (k : Keyword) → operator_at question tokens ≡ Some (k, r) → NotFound (Asked k) Always r → NotFound IsPlain (ends 1) tokens
+pub asked_none : (tokens r : List Lexeme) (k : Keyword) → operator_at question tokens ≡ Some (k, r) → NotFound (IsTestCall k) Always r → NotFound IsPlain (ends 1) tokens
 asked_none tokens r k e not ts us v split h w =
     let is = operator_is question tokens r k e in
     let i = begins_asked tokens r ts us is.0 k v is.1 is.2 split (plain_as ts v w) in

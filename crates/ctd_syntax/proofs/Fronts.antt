@@ -2,29 +2,29 @@
 use Rattle.std.proofs.Common.{◌≡◌, ℕ, List, [], ◌∷◌, ◌++◌, Result, Ok, Err, refl, sym, ap, ◌∙◌, subst, append_assoc, IsErrAnd}
 use Rattle.std.proofs.lemmas.Result.{err_from_is_err_and}
 use Rattle.ctd_syntax.specs.Lexeme.{Lexeme, mark, keyword}
-use Rattle.ctd_syntax.specs.Front.{Found, NotFound, Refused, Reads, Always, IsBefore, IsBeforeWord, IsAfter, IsBuilt, IsPair, IsName, Spelling, Following}
+use Rattle.ctd_syntax.specs.Front.{Found, NotFound, Refused, FindsTree, Always, IsBefore, IsBeforeWord, IsAfter, IsBuilt, IsPair, IsName, Spelling, Following}
 use Rattle.ctd_syntax.specs.declared.keyword.Keyword.{Keyword}
 use Rattle.ctd_token.specs.declared.text.Place.{Place}
 use Rattle.ctd_token.specs.declared.token.Mark.{Mark}
-use Rattle.ctd_syntax.specs.declared.front.Refusal.{Refusal}
-use Rattle.ctd_syntax.specs.declared.front.Refusal.TheVariants.{Syntax, Memory}
+use Rattle.ctd_syntax.specs.declared.front.ParseError.{ParseError}
+use Rattle.ctd_syntax.specs.declared.front.ParseError.TheVariants.{Syntax, Memory}
 
 -- a refusal of one sort is one of another
-pub refused_as : {T U : Type 0} (A : List Lexeme → T → Type 0) (B : List Lexeme → U → Type 0) (E F : List Lexeme → Type 0) (s tokens : List Lexeme) (e : Refusal) → (NotFound A E s → NotFound B F tokens) → Refused A E e s → Refused B F e tokens
+pub refused_as : {T U : Type 0} (A : List Lexeme → T → Type 0) (B : List Lexeme → U → Type 0) (E F : List Lexeme → Type 0) (s tokens : List Lexeme) (e : ParseError) → (NotFound A E s → NotFound B F tokens) → Refused A E e s → Refused B F e tokens
 refused_as A B E F s tokens Memory no_tree r = tt
 refused_as A B E F s tokens (Syntax left) no_tree r = no_tree r
 
 -- a reading of one sort is one of another
-pub reads_as : {X T : Type 0} (A B : List Lexeme → T → Type 0) (E F : List Lexeme → Type 0) (view : X → T × List Lexeme) (s tokens : List Lexeme) (read : Result X Refusal) → ((t : T) (after : List Lexeme) → Found A E s t after → Found B F tokens t after) → (NotFound A E s → NotFound B F tokens) → Reads A E view read s → Reads B F view read tokens
+pub reads_as : {X T : Type 0} (A B : List Lexeme → T → Type 0) (E F : List Lexeme → Type 0) (view : X → T × List Lexeme) (s tokens : List Lexeme) (read : Result X ParseError) → ((t : T) (after : List Lexeme) → Found A E s t after → Found B F tokens t after) → (NotFound A E s → NotFound B F tokens) → FindsTree A E view read s → FindsTree B F view read tokens
 reads_as A B E F view s tokens (Ok x) found no_tree p = found (view x).0 (view x).1 p
 reads_as A B E F view s tokens (Err e) found no_tree p = refused_as A B E F s tokens e no_tree p
 
 -- the exit by a refusal
-pub refused_exit : {X T U : Type 0} (A : List Lexeme → T → Type 0) (B : List Lexeme → U → Type 0) (E F : List Lexeme → Type 0) (view : X → U × List Lexeme) (s tokens : List Lexeme) (e : Refusal) (read : Result X Refusal) → IsErrAnd read (λ y. y ≡ e) → (NotFound A E s → NotFound B F tokens) → Refused A E e s → Reads B F view read tokens
+pub refused_exit : {X T U : Type 0} (A : List Lexeme → T → Type 0) (B : List Lexeme → U → Type 0) (E F : List Lexeme → Type 0) (view : X → U × List Lexeme) (s tokens : List Lexeme) (e : ParseError) (read : Result X ParseError) → IsErrAnd read (λ y. y ≡ e) → (NotFound A E s → NotFound B F tokens) → Refused A E e s → FindsTree B F view read tokens
 refused_exit A B E F view s tokens e read is no_tree r =
     let p = err_from_is_err_and read is in
     let same : read ≡ Err e = p.1 ∙ ap Err p.2 in
-    subst (λ x. Reads B F view x tokens) (sym same) (refused_as A B E F s tokens e no_tree r)
+    subst (λ x. FindsTree B F view x tokens) (sym same) (refused_as A B E F s tokens e no_tree r)
 
 -- a tree and the mark behind it
 pub before_reads : {T : Type 0} (Spells : Spelling T) (Ends : Following) (end_mark : Mark) → ((us : List Lexeme) → Ends (mark end_mark ∷ us)) → (tokens rest r : List Lexeme) (a : T) → Found Spells Ends tokens a rest → rest ≡ mark end_mark ∷ r → Found (IsBefore end_mark Spells) Always tokens a r

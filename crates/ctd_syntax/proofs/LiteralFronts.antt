@@ -5,7 +5,7 @@ use Rattle.std.specs.List.{prefix_len}
 use Rattle.std.proofs.lemmas.List.{take-append-le, take-take, length-take-le, take_all}
 use Rattle.ctd_token.specs.declared.token.TokenKind.TheVariants as tokens
 use Rattle.ctd_token.specs.declared.fault.LoadKind.TheVariants.{UnfinishedString, BadOctal}
-use Rattle.ctd_token.specs.Literal.{Piece, piece, is_octal, octal, octal_len, octal_escape, escape, after_backslash, piece_at, Closed, closed_here, one_later, with_piece, literal}
+use Rattle.ctd_token.specs.Literal.{LiteralPart, literal_part, is_octal, octal, octal_len, octal_escape, escape, after_backslash, part_at, Closed, closed_here, one_later, with_part, literal}
 use Rattle.ctd_token.specs.Cut.{wrong, closed_text, text_at, token_at}
 use Rattle.ctd_syntax.specs.Presets.{IsToken}
 use Rattle.ctd_syntax.proofs.TokenFronts.{same_found, known_of, no_token}
@@ -31,10 +31,10 @@ closed_within (suc s) (b ∷ bs) c e =
     let ih = closed_within s bs w.0 w.1 in
     (omega (arith, long, ih.0), omega (arith, long, ih.1))
 closed_within zero (b ∷ bs) c e =
-    let p : Piece = piece_at b bs in
+    let p : LiteralPart = part_at b bs in
     let ih : (d : Closed) → literal (p.length - 1) bs ≡ Some d → d.length ≤ length bs = λ d is. (closed_within (p.length - 1) bs d is).1 in
-    within_if (nat_eq b 34) 0 (length (b ∷ bs)) (option_map (with_piece p) (literal (p.length - 1) bs)) c e (omega arith) (λ f.
-    let w = of_some (with_piece p) (literal (p.length - 1) bs) c f in
+    within_if (nat_eq b 34) 0 (length (b ∷ bs)) (option_map (with_part p) (literal (p.length - 1) bs)) c e (omega arith) (λ f.
+    let w = of_some (with_part p) (literal (p.length - 1) bs) c f in
     let long : 1 + w.0.length ≡ c.length = ap (λ d. d.length) w.2 in
     (omega (arith, long), omega (arith, long, ih w.0 w.1)))
 
@@ -54,9 +54,9 @@ octal_front n xs rest lt le =
     let k : ℕ = octal_len xs in
     let same : octal_len (take n xs ++ rest) ≡ k = run_front is_octal 3 n xs rest lt le in
     let digits : take k (take n xs ++ rest) ≡ take k xs = take-append-le k (take n xs) rest (omega (arith, lt, length-take-le n xs le)) ∙ take-take k n xs (omega (arith, lt)) in
-    ap (λ i. piece (octal (take i (take n xs ++ rest)) ∷ []) (1 + i)) same ∙ ap (λ l. piece (octal l ∷ []) (1 + k)) digits
+    ap (λ i. literal_part (octal (take i (take n xs ++ rest)) ∷ []) (1 + i)) same ∙ ap (λ l. literal_part (octal l ∷ []) (1 + k)) digits
 
-escape_if : (t : Bool) (n : ℕ) (p q r : Piece) → (cond t p r).length - 1 < n → (p.length - 1 < n → q ≡ p) → cond t q r ≡ cond t p r
+escape_if : (t : Bool) (n : ℕ) (p q r : LiteralPart) → (cond t p r).length - 1 < n → (p.length - 1 < n → q ≡ p) → cond t q r ≡ cond t p r
 escape_if true n p q r lt same = same lt
 escape_if false n p q r lt same = refl
 
@@ -65,8 +65,8 @@ backslash_front n [] rest lt le = absurd (omega (arith, lt, le))
 backslash_front zero (c ∷ cs) rest lt le = absurd (omega (arith, lt))
 backslash_front (suc n) (c ∷ cs) rest lt le = escape_if (is_octal c) (suc n) (octal_escape (c ∷ cs)) (octal_escape (c ∷ (take n cs ++ rest))) (escape c) lt (λ less. octal_front (suc n) (c ∷ cs) rest (omega (arith, less)) le)
 
-piece_front : (b n : ℕ) (bs rest : List ℕ) → (piece_at b bs).length - 1 < n → n ≤ length bs → piece_at b (take n bs ++ rest) ≡ piece_at b bs
-piece_front b n bs rest lt le = escape_if (nat_eq b 92) n (after_backslash bs) (after_backslash (take n bs ++ rest)) (piece (b ∷ []) 1) lt (λ less. backslash_front n bs rest less le)
+part_front : (b n : ℕ) (bs rest : List ℕ) → (part_at b bs).length - 1 < n → n ≤ length bs → part_at b (take n bs ++ rest) ≡ part_at b bs
+part_front b n bs rest lt le = escape_if (nat_eq b 92) n (after_backslash bs) (after_backslash (take n bs ++ rest)) (literal_part (b ∷ []) 1) lt (λ less. backslash_front n bs rest less le)
 
 closed_if : (quote : Bool) (o other : Option Closed) (c : Closed) → cond quote (Some closed_here) o ≡ Some c → (o ≡ Some c → other ≡ Some c) → cond quote (Some closed_here) other ≡ Some c
 closed_if true o other c e same = e
@@ -80,17 +80,17 @@ literal_front (suc s) (suc n) (b ∷ bs) rest c e is =
     let long : 1 + w.0.length ≡ c.length = ap (λ d. d.length) w.2 in
     ap (option_map one_later) (literal_front s n bs rest w.0 w.1 (omega (arith, is, long))) ∙ ap Some w.2
 literal_front zero (suc n) (b ∷ bs) rest c e is =
-    let p : Piece = piece_at b bs in
+    let p : LiteralPart = part_at b bs in
     let front : List ℕ = take n bs ++ rest in
-    let q : Piece = piece_at b front in
+    let q : LiteralPart = part_at b front in
     let ih : (d : Closed) → literal (p.length - 1) bs ≡ Some d → n ≡ d.length → literal (p.length - 1) front ≡ Some d = λ d f g. literal_front (p.length - 1) n bs rest d f g in
-    closed_if (nat_eq b 34) (option_map (with_piece p) (literal (p.length - 1) bs)) (option_map (with_piece q) (literal (q.length - 1) front)) c e (λ f.
-    let w = of_some (with_piece p) (literal (p.length - 1) bs) c f in
+    closed_if (nat_eq b 34) (option_map (with_part p) (literal (p.length - 1) bs)) (option_map (with_part q) (literal (q.length - 1) front)) c e (λ f.
+    let w = of_some (with_part p) (literal (p.length - 1) bs) c f in
     let long : 1 + w.0.length ≡ c.length = ap (λ d. d.length) w.2 in
     let same : n ≡ w.0.length = omega (arith, is, long) in
     let within = closed_within (p.length - 1) bs w.0 w.1 in
-    let as_was : q ≡ p = piece_front b n bs rest (omega (arith, same, within.0)) (omega (arith, same, within.1)) in
-    ap (λ r. option_map (with_piece r) (literal (r.length - 1) front)) as_was ∙ ap (option_map (with_piece p)) (ih w.0 w.1 same) ∙ ap Some w.2)
+    let as_was : q ≡ p = part_front b n bs rest (omega (arith, same, within.0)) (omega (arith, same, within.1)) in
+    ap (λ r. option_map (with_part r) (literal (r.length - 1) front)) as_was ∙ ap (option_map (with_part p)) (ih w.0 w.1 same) ∙ ap Some w.2)
 
 clean_text : (c : Closed) (bad : Option ℕ) (values : List ℕ) (n : ℕ) → closed_text c bad ≡ Ok (tokens.Text values, n) → n ≡ 1 + c.length
 clean_text c None values n e = (same_found (tokens.Text values) (tokens.Text c.values) n (1 + c.length) (closed_text c None) e refl).1

@@ -13,7 +13,7 @@ use Rattle.ctd_token.specs.declared.text.Place.{Place}
 use Rattle.ctd_token.specs.declared.token.Token.{Token}
 use Rattle.ctd_token.specs.declared.fault.LoadKind.{LoadKind}
 use Rattle.ctd_token.specs.declared.fault.LoadKind.TheVariants.{ProgramTooLong, BadByte, UnfinishedString, BadOctal, NumberTooLarge, NotInProfile, TooDeep, Syntax, BadPattern, Read, Memory}
-use Rattle.ctd_token.proofs.OneCut.{same_cut}
+use Rattle.ctd_token.proofs.UniqueTokens.{same_cut}
 use Rattle.ctd_syntax.proofs.Blocks.{blocks_within}
 
 -- the commands that end with the text are the one program there

@@ -9,10 +9,10 @@ use Rattle.ctd_syntax.specs.PresetFront.{preset_at}
 use Rattle.ctd_syntax.proofs.PresetTexts.{same_some, preset_first, preset_spells}
 
 -- the text is one preset, or presets stand behind a comma after its first
-abbrev Follows : List ℕ → ℕ → Type 0
-Follows bytes n = (length bytes ≡ n) ⊎ ((n < length bytes) × (get_or bytes n 0 ≡ 44) × ((qs : List Preset) × ArePresets (drop (n + 1) bytes) qs))
+abbrev EndsOrContinues : List ℕ → ℕ → Type 0
+EndsOrContinues bytes n = (length bytes ≡ n) ⊎ ((n < length bytes) × (get_or bytes n 0 ≡ 44) × ((qs : List Preset) × ArePresets (drop (n + 1) bytes) qs))
 
-first : (bytes : List ℕ) (qs : List Preset) → ArePresets bytes qs → (p : Preset) × (n : ℕ) × (preset_at bytes ≡ Some (p, n)) × Follows bytes n
+first : (bytes : List ℕ) (qs : List Preset) → ArePresets bytes qs → (p : Preset) × (n : ℕ) × (preset_at bytes ≡ Some (p, n)) × EndsOrContinues bytes n
 first bytes qs (one {x = p} spells) = (p, length bytes, ap preset_at (sym (append-nil bytes)) ∙ preset_first bytes [] p spells tt, inl refl)
 first bytes qs (more text rest {x = p} {xs} spells others) =
     let behind = drop-append-add text (44 ∷ rest) 1 in

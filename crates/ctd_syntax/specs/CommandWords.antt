@@ -63,19 +63,19 @@ IsBranchEnd ts b =
     ⊎ ((at : Place) × (us : List Lexeme) × (ts ≡ keyword words.Else at ∷ us) × IsBlock us b)
 
 -- what stands behind the word of a command that has this place
-abbrev pub Behind : Keyword → Place → Spelling CommandTree
-Behind words.Space at ts u = (ts ≡ []) × (u ≡ Tree.space at)
-Behind words.Newline at ts u = (ts ≡ []) × (u ≡ Tree.newline at)
-Behind words.Eof at ts u = (ts ≡ []) × (u ≡ Tree.eof at)
-Behind words.Int at ts u = IsBuilt (λ x. Tree.int at x.0 x.1.0 x.1.1) (IsAfter Open (IsPair (IsBefore Comma IsExpr) (IsPair IsExpr IsTargetEnd))) ts u
-Behind words.String at ts u = IsBuilt (Tree.string at) (IsAfter Open (IsBefore Close IsExpr)) ts u
-Behind (words.Regex number) at ts u = IsBuilt (λ x. Tree.regex at (record { number = number; bytes = x.0.0; place = x.0.1 }) x.1) (IsAfter Open (IsPair IsPattern IsTargetEnd)) ts u
-Behind words.Assert at ts u = IsBuilt (Tree.assert at) (IsAfter Open (IsBefore Close IsTest)) ts u
-Behind words.Set at ts u = IsBuilt (Tree.set at) (IsAfter Open (IsBefore Close IsAssignments)) ts u
-Behind words.Unset at ts u = IsBuilt (Tree.unset at) (IsAfter Open (IsBefore Close IsNames)) ts u
-Behind words.Rep at ts u = IsBuilt (λ x. Tree.rep at x.0 x.1.0 x.1.1) (IsAfter Open (IsPair IsExpr IsLoopEnd)) ts u
-Behind words.RepI at ts u = IsBuilt (λ x. Tree.repi at x.0 x.1.0 x.1.1.0 x.1.1.1) (IsAfter Open (IsPair (IsBefore Comma IsTarget) (IsPair IsExpr IsLoopEnd))) ts u
-Behind words.While at ts u = IsBuilt (λ x. Tree.while at x.0 x.1.0 x.1.1) (IsAfter Open (IsPair IsTest IsLoopEnd)) ts u
-Behind words.WhileI at ts u = IsBuilt (λ x. Tree.whilei at x.0 x.1.0 x.1.1.0 x.1.1.1) (IsAfter Open (IsPair (IsBefore Comma IsTarget) (IsPair IsTest IsLoopEnd))) ts u
-Behind words.If at ts u = IsBuilt (λ x. Tree.choice at x.0 x.1.0 x.1.1) (IsAfter Open (IsPair (IsBefore Close IsTest) (IsPair IsCommands IsBranchEnd))) ts u
-Behind _ at ts u = ⊥
+abbrev pub IsCommandRest : Keyword → Place → Spelling CommandTree
+IsCommandRest words.Space at ts u = (ts ≡ []) × (u ≡ Tree.space at)
+IsCommandRest words.Newline at ts u = (ts ≡ []) × (u ≡ Tree.newline at)
+IsCommandRest words.Eof at ts u = (ts ≡ []) × (u ≡ Tree.eof at)
+IsCommandRest words.Int at ts u = IsBuilt (λ x. Tree.int at x.0 x.1.0 x.1.1) (IsAfter Open (IsPair (IsBefore Comma IsExpr) (IsPair IsExpr IsTargetEnd))) ts u
+IsCommandRest words.String at ts u = IsBuilt (Tree.string at) (IsAfter Open (IsBefore Close IsExpr)) ts u
+IsCommandRest (words.Regex number) at ts u = IsBuilt (λ x. Tree.regex at (record { number = number; bytes = x.0.0; place = x.0.1 }) x.1) (IsAfter Open (IsPair IsPattern IsTargetEnd)) ts u
+IsCommandRest words.Assert at ts u = IsBuilt (Tree.assert at) (IsAfter Open (IsBefore Close IsTest)) ts u
+IsCommandRest words.Set at ts u = IsBuilt (Tree.set at) (IsAfter Open (IsBefore Close IsAssignments)) ts u
+IsCommandRest words.Unset at ts u = IsBuilt (Tree.unset at) (IsAfter Open (IsBefore Close IsNames)) ts u
+IsCommandRest words.Rep at ts u = IsBuilt (λ x. Tree.rep at x.0 x.1.0 x.1.1) (IsAfter Open (IsPair IsExpr IsLoopEnd)) ts u
+IsCommandRest words.RepI at ts u = IsBuilt (λ x. Tree.repi at x.0 x.1.0 x.1.1.0 x.1.1.1) (IsAfter Open (IsPair (IsBefore Comma IsTarget) (IsPair IsExpr IsLoopEnd))) ts u
+IsCommandRest words.While at ts u = IsBuilt (λ x. Tree.while at x.0 x.1.0 x.1.1) (IsAfter Open (IsPair IsTest IsLoopEnd)) ts u
+IsCommandRest words.WhileI at ts u = IsBuilt (λ x. Tree.whilei at x.0 x.1.0 x.1.1.0 x.1.1.1) (IsAfter Open (IsPair (IsBefore Comma IsTarget) (IsPair IsTest IsLoopEnd))) ts u
+IsCommandRest words.If at ts u = IsBuilt (λ x. Tree.choice at x.0 x.1.0 x.1.1) (IsAfter Open (IsPair (IsBefore Close IsTest) (IsPair IsCommands IsBranchEnd))) ts u
+IsCommandRest _ at ts u = ⊥

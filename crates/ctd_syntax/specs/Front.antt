@@ -1,9 +1,9 @@
 -- What reading from the front of a list of tokens gives; for the contracts of private functions alone.
 use Rattle.std.specs.Prelude.{◌≡◌, ℕ, List, [], ◌∷◌, ◌++◌, Option, Some, None, Result, Ok, Err}
-use Rattle.ctd_syntax.specs.declared.piece.Piece.{Piece}
-use Rattle.ctd_syntax.specs.declared.piece.Piece.TheVariants as pieces
-use Rattle.ctd_syntax.specs.declared.front.Refusal.{Refusal}
-use Rattle.ctd_syntax.specs.declared.front.Refusal.TheVariants.{Syntax, Memory}
+use Rattle.ctd_syntax.specs.declared.parser_token.ParserToken.{ParserToken}
+use Rattle.ctd_syntax.specs.declared.parser_token.ParserToken.TheVariants as parser_tokens
+use Rattle.ctd_syntax.specs.declared.front.ParseError.{ParseError}
+use Rattle.ctd_syntax.specs.declared.front.ParseError.TheVariants.{Syntax, Memory}
 use Rattle.ctd_syntax.specs.declared.keyword.Keyword.{Keyword}
 use Rattle.ctd_token.specs.declared.text.Place.{Place}
 use Rattle.ctd_token.specs.declared.token.Mark.{Mark}
@@ -12,13 +12,13 @@ use Rattle.ctd_syntax.specs.Tree.{ExprTree, VarTree}
 use Rattle.ctd_syntax.specs.Grammar.{IsExpr, IsTarget}
 use Rattle.ctd_syntax.specs.Lexeme.{Lexeme, mark}
 
--- what the grammar sees of a piece
-abbrev pub piece : Piece → Lexeme
-piece (pieces.Keyword k place) = Lexeme.keyword k place
-piece (pieces.Name n) = Lexeme.name n.now
-piece (pieces.Numeral n) = Lexeme.numeral n
-piece (pieces.Text t place) = Lexeme.text t.now place
-piece (pieces.Mark m) = Lexeme.mark m
+-- what the grammar sees of a token of the parser
+abbrev pub lexeme : ParserToken → Lexeme
+lexeme (parser_tokens.Keyword k place) = Lexeme.keyword k place
+lexeme (parser_tokens.Name n) = Lexeme.name n.now
+lexeme (parser_tokens.Numeral n) = Lexeme.numeral n
+lexeme (parser_tokens.Text t place) = Lexeme.text t.now place
+lexeme (parser_tokens.Mark m) = Lexeme.mark m
 
 -- which tokens spell which trees
 abbrev pub Spelling : Type 0 → Type 1
@@ -43,15 +43,15 @@ pub record Found {T : Type 0} (Spells : Spelling T) (Ends : Following) (tokens :
 abbrev pub NotFound : {T : Type 0} → Spelling T → Following → List Lexeme → Type 0
 NotFound {T} Spells Ends tokens = (ts us : List Lexeme) (u : T) → tokens ≡ ts ++ us → Ends us → Spells ts u → ⊥
 
--- a refusal other than for memory says that there is none
-abbrev pub Refused : {T : Type 0} → Spelling T → Following → Refusal → List Lexeme → Type 0
+-- an error other than for memory says that there is none
+abbrev pub Refused : {T : Type 0} → Spelling T → Following → ParseError → List Lexeme → Type 0
 Refused Spells Ends Memory tokens = Unit {0}
 Refused Spells Ends (Syntax left) tokens = NotFound Spells Ends tokens
 
 -- a tree that is read is the one there
-abbrev pub Reads : {X T : Type 0} → Spelling T → Following → (X → T × List Lexeme) → Result X Refusal → List Lexeme → Type 0
-Reads Spells Ends view (Ok x) tokens = Found Spells Ends tokens (view x).0 (view x).1
-Reads Spells Ends view (Err e) tokens = Refused Spells Ends e tokens
+abbrev pub FindsTree : {X T : Type 0} → Spelling T → Following → (X → T × List Lexeme) → Result X ParseError → List Lexeme → Type 0
+FindsTree Spells Ends view (Ok x) tokens = Found Spells Ends tokens (view x).0 (view x).1
+FindsTree Spells Ends view (Err e) tokens = Refused Spells Ends e tokens
 
 -- an operator, and the tokens after it
 abbrev pub after_operator : {O : Type 0} → Option O → List Lexeme → Option (O × List Lexeme)

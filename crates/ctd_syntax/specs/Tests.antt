@@ -6,8 +6,8 @@ use Rattle.ctd_syntax.specs.declared.keyword.Keyword.{Keyword}
 use Rattle.ctd_syntax.specs.declared.keyword.Keyword.TheVariants.{Match, IsEof, Unique, InArray}
 use Rattle.ctd_syntax.specs.declared.tree.Compare.{Compare}
 use Rattle.ctd_syntax.specs.declared.tree.Compare.TheVariants as comparisons
-use Rattle.ctd_syntax.specs.declared.condition.Effect.{Effect}
-use Rattle.ctd_syntax.specs.declared.condition.Effect.TheVariants.{Tests, Opens, Closes, Keeps}
+use Rattle.ctd_syntax.specs.declared.condition.TokenRole.{TokenRole}
+use Rattle.ctd_syntax.specs.declared.condition.TokenRole.TheVariants.{Tests, Opens, Closes, Keeps}
 use Rattle.ctd_syntax.specs.Lexeme.{Lexeme, mark, keyword}
 use Rattle.ctd_syntax.specs.Tree
 use Rattle.ctd_syntax.specs.Tree.{ExprTree, TestTree}
@@ -45,12 +45,12 @@ question (keyword InArray at) = Some InArray
 question _ = None
 
 -- what stands behind such a word
-abbrev pub Asked : Keyword → Spelling TestTree
-Asked Match ts u = (a : ExprTree) × (u ≡ Tree.matches a) × IsAfter Open (IsBefore Close IsExpr) ts a
-Asked IsEof ts u = (ts ≡ []) × (u ≡ Tree.at_end)
-Asked Unique ts u = (names : List (List ℕ)) × (u ≡ Tree.unique names) × IsAfter Open (IsBefore Close IsNames) ts names
-Asked InArray ts u = (x : ExprTree × List ℕ) × (u ≡ Tree.in_array x.0 x.1) × IsAfter Open (IsPair (IsBefore Comma IsExpr) (IsBefore Close IsName)) ts x
-Asked _ ts u = ⊥
+abbrev pub IsTestCall : Keyword → Spelling TestTree
+IsTestCall Match ts u = (a : ExprTree) × (u ≡ Tree.matches a) × IsAfter Open (IsBefore Close IsExpr) ts a
+IsTestCall IsEof ts u = (ts ≡ []) × (u ≡ Tree.at_end)
+IsTestCall Unique ts u = (names : List (List ℕ)) × (u ≡ Tree.unique names) × IsAfter Open (IsBefore Close IsNames) ts names
+IsTestCall InArray ts u = (x : ExprTree × List ℕ) × (u ≡ Tree.in_array x.0 x.1) × IsAfter Open (IsPair (IsBefore Comma IsExpr) (IsBefore Close IsName)) ts x
+IsTestCall _ ts u = ⊥
 
 -- an expression and a comparison behind it
 abbrev pub IsLeft : Spelling (ExprTree × Compare)
@@ -61,29 +61,29 @@ abbrev pub IsCompared : Spelling TestTree
 IsCompared ts u = (x : (ExprTree × Compare) × ExprTree) × (u ≡ Tree.compare x.0.1 x.0.0 x.1) × IsPair IsLeft IsExpr ts x
 
 -- what a token says of the parentheses that it stands in: that they hold a test, or that others open or close
-abbrev pub effect_of : Lexeme → Effect
-effect_of (mark Open) = Opens
-effect_of (mark Close) = Closes
-effect_of (mark Bang) = Tests
-effect_of (mark marks.Less) = Tests
-effect_of (mark marks.Greater) = Tests
-effect_of (mark marks.AtMost) = Tests
-effect_of (mark marks.AtLeast) = Tests
-effect_of (mark marks.Equal) = Tests
-effect_of (mark marks.Unequal) = Tests
-effect_of (keyword Match at) = Tests
-effect_of (keyword IsEof at) = Tests
-effect_of (keyword Unique at) = Tests
-effect_of (keyword InArray at) = Tests
-effect_of _ = Keeps
+abbrev pub role_of : Lexeme → TokenRole
+role_of (mark Open) = Opens
+role_of (mark Close) = Closes
+role_of (mark Bang) = Tests
+role_of (mark marks.Less) = Tests
+role_of (mark marks.Greater) = Tests
+role_of (mark marks.AtMost) = Tests
+role_of (mark marks.AtLeast) = Tests
+role_of (mark marks.Equal) = Tests
+role_of (mark marks.Unequal) = Tests
+role_of (keyword Match at) = Tests
+role_of (keyword IsEof at) = Tests
+role_of (keyword Unique at) = Tests
+role_of (keyword InArray at) = Tests
+role_of _ = Keeps
 
 -- whether it says that they hold a test
-abbrev pub is_test : Effect → Bool
+abbrev pub is_test : TokenRole → Bool
 is_test Tests = true
 is_test _ = false
 
 -- how many parentheses are open within them, or nothing where they close
-abbrev pub depth_after : Effect → ℕ → Option ℕ
+abbrev pub depth_after : TokenRole → ℕ → Option ℕ
 depth_after Opens n = Some (suc n)
 depth_after Closes zero = None
 depth_after Closes (suc n) = Some n
@@ -93,7 +93,7 @@ depth_after _ n = Some n
 abbrev pub holds_test : Option ℕ → List Lexeme → Bool
 holds_test None ts = false
 holds_test (Some n) [] = false
-holds_test (Some n) (t ∷ ts) = if is_test (effect_of t) then true else holds_test (depth_after (effect_of t) n) ts
+holds_test (Some n) (t ∷ ts) = if is_test (role_of t) then true else holds_test (depth_after (role_of t) n) ts
 
 -- one more parenthesis is needed
 abbrev pub one_more : Option ℕ → Option ℕ
@@ -101,17 +101,17 @@ one_more None = None
 one_more (Some n) = Some (suc n)
 
 -- what a token makes of that number, by what it is behind the token
-abbrev pub around_token : Effect → ℕ → (ℕ → Option ℕ) → Option ℕ
-around_token Tests d behind = Some 0
-around_token Opens d behind = behind (suc d)
-around_token Closes zero behind = one_more (behind 0)
-around_token Closes (suc d) behind = behind d
-around_token Keeps d behind = behind d
+abbrev pub closes_before_test_at : TokenRole → ℕ → (ℕ → Option ℕ) → Option ℕ
+closes_before_test_at Tests d behind = Some 0
+closes_before_test_at Opens d behind = behind (suc d)
+closes_before_test_at Closes zero behind = one_more (behind 0)
+closes_before_test_at Closes (suc d) behind = behind d
+closes_before_test_at Keeps d behind = behind d
 
 -- how many parentheses must stand open before some tokens so that a test comes before they are closed, while so many more are open
-abbrev pub around : ℕ → List Lexeme → Option ℕ
-around d [] = None
-around d (t ∷ ts) = around_token (effect_of t) d (λ e. around e ts)
+abbrev pub closes_before_test : ℕ → List Lexeme → Option ℕ
+closes_before_test d [] = None
+closes_before_test d (t ∷ ts) = closes_before_test_at (role_of t) d (λ e. closes_before_test e ts)
 
 -- whether n is enough
 abbrev pub is_within : ℕ → Option ℕ → Bool

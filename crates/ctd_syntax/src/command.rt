@@ -5,16 +5,16 @@ ghost use Rattle.std.specs.Prelude.{◌≡◌, ◌≤◌, ◌<◌, ◌∷◌, tr
 ghost use Rattle.ctd_syntax.specs.Lexeme;
 ghost use Rattle.ctd_syntax.specs.View.{boxed_separator, command_list, command_tree, expr_tree, target, test_tree};
 ghost use Rattle.ctd_syntax.specs.Grammar.{IsExpr, IsTest, IsTargetEnd, IsCommand, IsCommands};
-ghost use Rattle.ctd_syntax.specs.Front.{Reads, Always, IsBefore, IsPair, piece};
+ghost use Rattle.ctd_syntax.specs.Front.{FindsTree, Always, IsBefore, IsPair, lexeme};
 ghost use Rattle.ctd_syntax.specs.Levels.{ends};
-ghost use Rattle.ctd_syntax.specs.CommandWords.{Behind, CommandsEnd, IsBlock, IsBranchEnd, IsLoopEnd, command_begins, is_command_word};
+ghost use Rattle.ctd_syntax.specs.CommandWords.{IsCommandRest, CommandsEnd, IsBlock, IsBranchEnd, IsLoopEnd, command_begins, is_command_word};
 
 use crate::condition::{test, test_before};
 use crate::expression::{expr, expr_before};
-use crate::front::{Refusal, after_mark, after_word, text_at, word_at};
+use crate::front::{ParseError, after_mark, after_word, text_at, word_at};
 use crate::keyword::Keyword;
 use crate::names::names;
-use crate::piece::Piece;
+use crate::parser_token::ParserToken;
 use crate::target::{assignments, target_before, target_end};
 use crate::tree::{Action, Command, Commands, Expr, PatternLiteral, Test, Var};
 use ctd_token::{Bytes, Mark, Place};
@@ -23,12 +23,12 @@ use std::alloc::Global;
 // The upper bound of INT and its target.
 fn upper_bound<'t>(
     alloc: Global,
-    pieces: &'t [Piece<'t>],
-) -> Result<((Expr, Option<Var>), &'t [Piece<'t>]), Refusal>
-    ensures tree { Reads (IsPair IsExpr IsTargetEnd) Always (λ x. ((expr_tree x.0.0, target x.0.1), map piece x.1.now)) result (map piece pieces.now) }
-    ensures shorter { IfOk result (λ x. length x.1.now ≤ length pieces.now) }
+    tokens: &'t [ParserToken<'t>],
+) -> Result<((Expr, Option<Var>), &'t [ParserToken<'t>]), ParseError>
+    ensures tree { FindsTree (IsPair IsExpr IsTargetEnd) Always (λ x. ((expr_tree x.0.0, target x.0.1), map lexeme x.1.now)) result (map lexeme tokens.now) }
+    ensures shorter { IfOk result (λ x. length x.1.now ≤ length tokens.now) }
 {
-    let (high, rest) = expr(alloc, pieces)?;
+    let (high, rest) = expr(alloc, tokens)?;
     let (target, rest) = target_end(alloc, rest)?;
     Ok(((high, target), rest))
 }
@@ -37,13 +37,13 @@ fn upper_bound<'t>(
 fn int<'t>(
     alloc: Global,
     place: Place,
-    pieces: &'t [Piece<'t>],
-) -> Result<(Command, &'t [Piece<'t>]), Refusal>
-    ensures tree { Reads (Behind Keyword.Int place) Always (λ x. (command_tree x.0, map piece x.1.now)) result (map piece pieces.now) }
-    ensures shorter { IfOk result (λ x. length x.1.now ≤ length pieces.now) }
+    tokens: &'t [ParserToken<'t>],
+) -> Result<(Command, &'t [ParserToken<'t>]), ParseError>
+    ensures tree { FindsTree (IsCommandRest Keyword.Int place) Always (λ x. (command_tree x.0, map lexeme x.1.now)) result (map lexeme tokens.now) }
+    ensures shorter { IfOk result (λ x. length x.1.now ≤ length tokens.now) }
 {
-    let Some(after) = after_mark(Mark::Open, pieces) else {
-        return Err(Refusal::Syntax(pieces.len()));
+    let Some(after) = after_mark(Mark::Open, tokens) else {
+        return Err(ParseError::Syntax(tokens.len()));
     };
     let (low, rest) = expr_before(alloc, Mark::Comma, after)?;
     let ((high, target), rest) = upper_bound(alloc, rest)?;
@@ -55,13 +55,13 @@ fn int<'t>(
 fn string<'t>(
     alloc: Global,
     place: Place,
-    pieces: &'t [Piece<'t>],
-) -> Result<(Command, &'t [Piece<'t>]), Refusal>
-    ensures tree { Reads (Behind Keyword.String place) Always (λ x. (command_tree x.0, map piece x.1.now)) result (map piece pieces.now) }
-    ensures shorter { IfOk result (λ x. length x.1.now ≤ length pieces.now) }
+    tokens: &'t [ParserToken<'t>],
+) -> Result<(Command, &'t [ParserToken<'t>]), ParseError>
+    ensures tree { FindsTree (IsCommandRest Keyword.String place) Always (λ x. (command_tree x.0, map lexeme x.1.now)) result (map lexeme tokens.now) }
+    ensures shorter { IfOk result (λ x. length x.1.now ≤ length tokens.now) }
 {
-    let Some(after) = after_mark(Mark::Open, pieces) else {
-        return Err(Refusal::Syntax(pieces.len()));
+    let Some(after) = after_mark(Mark::Open, tokens) else {
+        return Err(ParseError::Syntax(tokens.len()));
     };
     let (text, rest) = expr_before(alloc, Mark::Close, after)?;
     let action = Action::String(text);
@@ -73,16 +73,16 @@ fn regex<'t>(
     alloc: Global,
     number: usize,
     place: Place,
-    pieces: &'t [Piece<'t>],
-) -> Result<(Command, &'t [Piece<'t>]), Refusal>
-    ensures tree { Reads (Behind (Keyword.Regex number) place) Always (λ x. (command_tree x.0, map piece x.1.now)) result (map piece pieces.now) }
-    ensures shorter { IfOk result (λ x. length x.1.now ≤ length pieces.now) }
+    tokens: &'t [ParserToken<'t>],
+) -> Result<(Command, &'t [ParserToken<'t>]), ParseError>
+    ensures tree { FindsTree (IsCommandRest (Keyword.Regex number) place) Always (λ x. (command_tree x.0, map lexeme x.1.now)) result (map lexeme tokens.now) }
+    ensures shorter { IfOk result (λ x. length x.1.now ≤ length tokens.now) }
 {
-    let Some(after) = after_mark(Mark::Open, pieces) else {
-        return Err(Refusal::Syntax(pieces.len()));
+    let Some(after) = after_mark(Mark::Open, tokens) else {
+        return Err(ParseError::Syntax(tokens.len()));
     };
     let Some((text, at, rest)) = text_at(after) else {
-        return Err(Refusal::Syntax(after.len()));
+        return Err(ParseError::Syntax(after.len()));
     };
     let (target, rest) = target_end(alloc, rest)?;
     let bytes = Bytes::copy(alloc, text.as_slice())?;
@@ -99,13 +99,13 @@ fn regex<'t>(
 fn assert<'t>(
     alloc: Global,
     place: Place,
-    pieces: &'t [Piece<'t>],
-) -> Result<(Command, &'t [Piece<'t>]), Refusal>
-    ensures tree { Reads (Behind Keyword.Assert place) Always (λ x. (command_tree x.0, map piece x.1.now)) result (map piece pieces.now) }
-    ensures shorter { IfOk result (λ x. length x.1.now ≤ length pieces.now) }
+    tokens: &'t [ParserToken<'t>],
+) -> Result<(Command, &'t [ParserToken<'t>]), ParseError>
+    ensures tree { FindsTree (IsCommandRest Keyword.Assert place) Always (λ x. (command_tree x.0, map lexeme x.1.now)) result (map lexeme tokens.now) }
+    ensures shorter { IfOk result (λ x. length x.1.now ≤ length tokens.now) }
 {
-    let Some(after) = after_mark(Mark::Open, pieces) else {
-        return Err(Refusal::Syntax(pieces.len()));
+    let Some(after) = after_mark(Mark::Open, tokens) else {
+        return Err(ParseError::Syntax(tokens.len()));
     };
     let (condition, rest) = test_before(alloc, Mark::Close, None, after)?;
     let action = Action::Assert(condition);
@@ -116,13 +116,13 @@ fn assert<'t>(
 fn set<'t>(
     alloc: Global,
     place: Place,
-    pieces: &'t [Piece<'t>],
-) -> Result<(Command, &'t [Piece<'t>]), Refusal>
-    ensures tree { Reads (Behind Keyword.Set place) Always (λ x. (command_tree x.0, map piece x.1.now)) result (map piece pieces.now) }
-    ensures shorter { IfOk result (λ x. length x.1.now ≤ length pieces.now) }
+    tokens: &'t [ParserToken<'t>],
+) -> Result<(Command, &'t [ParserToken<'t>]), ParseError>
+    ensures tree { FindsTree (IsCommandRest Keyword.Set place) Always (λ x. (command_tree x.0, map lexeme x.1.now)) result (map lexeme tokens.now) }
+    ensures shorter { IfOk result (λ x. length x.1.now ≤ length tokens.now) }
 {
-    let Some(after) = after_mark(Mark::Open, pieces) else {
-        return Err(Refusal::Syntax(pieces.len()));
+    let Some(after) = after_mark(Mark::Open, tokens) else {
+        return Err(ParseError::Syntax(tokens.len()));
     };
     let (list, rest) = assignments(alloc, after)?;
     let action = Action::Set(list);
@@ -133,13 +133,13 @@ fn set<'t>(
 fn unset<'t>(
     alloc: Global,
     place: Place,
-    pieces: &'t [Piece<'t>],
-) -> Result<(Command, &'t [Piece<'t>]), Refusal>
-    ensures tree { Reads (Behind Keyword.Unset place) Always (λ x. (command_tree x.0, map piece x.1.now)) result (map piece pieces.now) }
-    ensures shorter { IfOk result (λ x. length x.1.now ≤ length pieces.now) }
+    tokens: &'t [ParserToken<'t>],
+) -> Result<(Command, &'t [ParserToken<'t>]), ParseError>
+    ensures tree { FindsTree (IsCommandRest Keyword.Unset place) Always (λ x. (command_tree x.0, map lexeme x.1.now)) result (map lexeme tokens.now) }
+    ensures shorter { IfOk result (λ x. length x.1.now ≤ length tokens.now) }
 {
-    let Some(after) = after_mark(Mark::Open, pieces) else {
-        return Err(Refusal::Syntax(pieces.len()));
+    let Some(after) = after_mark(Mark::Open, tokens) else {
+        return Err(ParseError::Syntax(tokens.len()));
     };
     let (list, rest) = names(alloc, after)?;
     let action = Action::Unset(list);
@@ -151,28 +151,28 @@ type LoopEnd = (Option<Box<Command>>, Commands);
 
 // The count of a loop, and how it goes on.
 #[cycle(command)]
-fn counted<'t>(
+fn rep_tail<'t>(
     alloc: Global,
-    pieces: &'t [Piece<'t>],
-) -> Result<((Expr, LoopEnd), &'t [Piece<'t>]), Refusal>
-    ensures tree { Reads (IsPair IsExpr IsLoopEnd) Always (λ x. ((expr_tree x.0.0, (boxed_separator x.0.1.0, command_list x.0.1.1)), map piece x.1.now)) result (map piece pieces.now) }
-    ensures shorter { IfOk result (λ x. length x.1.now ≤ length pieces.now) }
+    tokens: &'t [ParserToken<'t>],
+) -> Result<((Expr, LoopEnd), &'t [ParserToken<'t>]), ParseError>
+    ensures tree { FindsTree (IsPair IsExpr IsLoopEnd) Always (λ x. ((expr_tree x.0.0, (boxed_separator x.0.1.0, command_list x.0.1.1)), map lexeme x.1.now)) result (map lexeme tokens.now) }
+    ensures shorter { IfOk result (λ x. length x.1.now ≤ length tokens.now) }
 {
-    let (count, rest) = expr(alloc, pieces)?;
+    let (count, rest) = expr(alloc, tokens)?;
     let (end, rest) = loop_end(alloc, rest)?;
     Ok(((count, end), rest))
 }
 
 // The test of a loop, and how it goes on.
 #[cycle(command)]
-fn tested<'t>(
+fn while_tail<'t>(
     alloc: Global,
-    pieces: &'t [Piece<'t>],
-) -> Result<((Test, LoopEnd), &'t [Piece<'t>]), Refusal>
-    ensures tree { Reads (IsPair IsTest IsLoopEnd) Always (λ x. ((test_tree x.0.0, (boxed_separator x.0.1.0, command_list x.0.1.1)), map piece x.1.now)) result (map piece pieces.now) }
-    ensures shorter { IfOk result (λ x. length x.1.now ≤ length pieces.now) }
+    tokens: &'t [ParserToken<'t>],
+) -> Result<((Test, LoopEnd), &'t [ParserToken<'t>]), ParseError>
+    ensures tree { FindsTree (IsPair IsTest IsLoopEnd) Always (λ x. ((test_tree x.0.0, (boxed_separator x.0.1.0, command_list x.0.1.1)), map lexeme x.1.now)) result (map lexeme tokens.now) }
+    ensures shorter { IfOk result (λ x. length x.1.now ≤ length tokens.now) }
 {
-    let (condition, rest) = test(alloc, None, pieces)?;
+    let (condition, rest) = test(alloc, None, tokens)?;
     let (end, rest) = loop_end(alloc, rest)?;
     Ok(((condition, end), rest))
 }
@@ -182,15 +182,15 @@ fn tested<'t>(
 fn rep<'t>(
     alloc: Global,
     place: Place,
-    pieces: &'t [Piece<'t>],
-) -> Result<(Command, &'t [Piece<'t>]), Refusal>
-    ensures tree { Reads (Behind Keyword.Rep place) Always (λ x. (command_tree x.0, map piece x.1.now)) result (map piece pieces.now) }
-    ensures shorter { IfOk result (λ x. length x.1.now ≤ length pieces.now) }
+    tokens: &'t [ParserToken<'t>],
+) -> Result<(Command, &'t [ParserToken<'t>]), ParseError>
+    ensures tree { FindsTree (IsCommandRest Keyword.Rep place) Always (λ x. (command_tree x.0, map lexeme x.1.now)) result (map lexeme tokens.now) }
+    ensures shorter { IfOk result (λ x. length x.1.now ≤ length tokens.now) }
 {
-    let Some(after) = after_mark(Mark::Open, pieces) else {
-        return Err(Refusal::Syntax(pieces.len()));
+    let Some(after) = after_mark(Mark::Open, tokens) else {
+        return Err(ParseError::Syntax(tokens.len()));
     };
-    let ((count, (between, body)), rest) = counted(alloc, after)?;
+    let ((count, (between, body)), rest) = rep_tail(alloc, after)?;
     let action = Action::Rep(count, between, body);
     Ok((Command { place, action }, rest))
 }
@@ -200,34 +200,34 @@ fn rep<'t>(
 fn repi<'t>(
     alloc: Global,
     place: Place,
-    pieces: &'t [Piece<'t>],
-) -> Result<(Command, &'t [Piece<'t>]), Refusal>
-    ensures tree { Reads (Behind Keyword.RepI place) Always (λ x. (command_tree x.0, map piece x.1.now)) result (map piece pieces.now) }
-    ensures shorter { IfOk result (λ x. length x.1.now ≤ length pieces.now) }
+    tokens: &'t [ParserToken<'t>],
+) -> Result<(Command, &'t [ParserToken<'t>]), ParseError>
+    ensures tree { FindsTree (IsCommandRest Keyword.RepI place) Always (λ x. (command_tree x.0, map lexeme x.1.now)) result (map lexeme tokens.now) }
+    ensures shorter { IfOk result (λ x. length x.1.now ≤ length tokens.now) }
 {
-    let Some(after) = after_mark(Mark::Open, pieces) else {
-        return Err(Refusal::Syntax(pieces.len()));
+    let Some(after) = after_mark(Mark::Open, tokens) else {
+        return Err(ParseError::Syntax(tokens.len()));
     };
     let (counter, rest) = target_before(alloc, Mark::Comma, after)?;
-    let ((count, (between, body)), rest) = counted(alloc, rest)?;
+    let ((count, (between, body)), rest) = rep_tail(alloc, rest)?;
     let action = Action::RepI(counter, count, between, body);
     Ok((Command { place, action }, rest))
 }
 
 // What stands behind WHILE.
 #[cycle(command)]
-fn repeat_while<'t>(
+fn while_command<'t>(
     alloc: Global,
     place: Place,
-    pieces: &'t [Piece<'t>],
-) -> Result<(Command, &'t [Piece<'t>]), Refusal>
-    ensures tree { Reads (Behind Keyword.While place) Always (λ x. (command_tree x.0, map piece x.1.now)) result (map piece pieces.now) }
-    ensures shorter { IfOk result (λ x. length x.1.now ≤ length pieces.now) }
+    tokens: &'t [ParserToken<'t>],
+) -> Result<(Command, &'t [ParserToken<'t>]), ParseError>
+    ensures tree { FindsTree (IsCommandRest Keyword.While place) Always (λ x. (command_tree x.0, map lexeme x.1.now)) result (map lexeme tokens.now) }
+    ensures shorter { IfOk result (λ x. length x.1.now ≤ length tokens.now) }
 {
-    let Some(after) = after_mark(Mark::Open, pieces) else {
-        return Err(Refusal::Syntax(pieces.len()));
+    let Some(after) = after_mark(Mark::Open, tokens) else {
+        return Err(ParseError::Syntax(tokens.len()));
     };
-    let ((condition, (between, body)), rest) = tested(alloc, after)?;
+    let ((condition, (between, body)), rest) = while_tail(alloc, after)?;
     let action = Action::While(condition, between, body);
     Ok((Command { place, action }, rest))
 }
@@ -237,16 +237,16 @@ fn repeat_while<'t>(
 fn whilei<'t>(
     alloc: Global,
     place: Place,
-    pieces: &'t [Piece<'t>],
-) -> Result<(Command, &'t [Piece<'t>]), Refusal>
-    ensures tree { Reads (Behind Keyword.WhileI place) Always (λ x. (command_tree x.0, map piece x.1.now)) result (map piece pieces.now) }
-    ensures shorter { IfOk result (λ x. length x.1.now ≤ length pieces.now) }
+    tokens: &'t [ParserToken<'t>],
+) -> Result<(Command, &'t [ParserToken<'t>]), ParseError>
+    ensures tree { FindsTree (IsCommandRest Keyword.WhileI place) Always (λ x. (command_tree x.0, map lexeme x.1.now)) result (map lexeme tokens.now) }
+    ensures shorter { IfOk result (λ x. length x.1.now ≤ length tokens.now) }
 {
-    let Some(after) = after_mark(Mark::Open, pieces) else {
-        return Err(Refusal::Syntax(pieces.len()));
+    let Some(after) = after_mark(Mark::Open, tokens) else {
+        return Err(ParseError::Syntax(tokens.len()));
     };
     let (counter, rest) = target_before(alloc, Mark::Comma, after)?;
-    let ((condition, (between, body)), rest) = tested(alloc, rest)?;
+    let ((condition, (between, body)), rest) = while_tail(alloc, rest)?;
     let action = Action::WhileI(counter, condition, between, body);
     Ok((Command { place, action }, rest))
 }
@@ -255,12 +255,12 @@ fn whilei<'t>(
 #[cycle(command)]
 fn branches<'t>(
     alloc: Global,
-    pieces: &'t [Piece<'t>],
-) -> Result<((Commands, Commands), &'t [Piece<'t>]), Refusal>
-    ensures tree { Reads (IsPair IsCommands IsBranchEnd) Always (λ x. ((command_list x.0.0, command_list x.0.1), map piece x.1.now)) result (map piece pieces.now) }
-    ensures shorter { IfOk result (λ x. length x.1.now ≤ length pieces.now) }
+    tokens: &'t [ParserToken<'t>],
+) -> Result<((Commands, Commands), &'t [ParserToken<'t>]), ParseError>
+    ensures tree { FindsTree (IsPair IsCommands IsBranchEnd) Always (λ x. ((command_list x.0.0, command_list x.0.1), map lexeme x.1.now)) result (map lexeme tokens.now) }
+    ensures shorter { IfOk result (λ x. length x.1.now ≤ length tokens.now) }
 {
-    let (then_do, rest) = commands(alloc, pieces)?;
+    let (then_do, rest) = commands(alloc, tokens)?;
     let (else_do, rest) = branch_end(alloc, rest)?;
     Ok(((then_do, else_do), rest))
 }
@@ -269,32 +269,32 @@ fn branches<'t>(
 #[cycle(command)]
 fn branch_end<'t>(
     alloc: Global,
-    pieces: &'t [Piece<'t>],
-) -> Result<(Commands, &'t [Piece<'t>]), Refusal>
-    ensures tree { Reads IsBranchEnd Always (λ x. (command_list x.0, map piece x.1.now)) result (map piece pieces.now) }
-    ensures shorter { IfOk result (λ x. length x.1.now ≤ length pieces.now) }
+    tokens: &'t [ParserToken<'t>],
+) -> Result<(Commands, &'t [ParserToken<'t>]), ParseError>
+    ensures tree { FindsTree IsBranchEnd Always (λ x. (command_list x.0, map lexeme x.1.now)) result (map lexeme tokens.now) }
+    ensures shorter { IfOk result (λ x. length x.1.now ≤ length tokens.now) }
 {
-    if let Some(rest) = after_word(Keyword::End, pieces) {
+    if let Some(rest) = after_word(Keyword::End, tokens) {
         return Ok((Commands::from_vec(Vec::new(alloc)), rest));
     }
-    match after_word(Keyword::Else, pieces) {
+    match after_word(Keyword::Else, tokens) {
         Some(after) => block(alloc, after),
-        None => Err(Refusal::Syntax(pieces.len())),
+        None => Err(ParseError::Syntax(tokens.len())),
     }
 }
 
 // What stands behind IF.
 #[cycle(command)]
-fn choice<'t>(
+fn if_command<'t>(
     alloc: Global,
     place: Place,
-    pieces: &'t [Piece<'t>],
-) -> Result<(Command, &'t [Piece<'t>]), Refusal>
-    ensures tree { Reads (Behind Keyword.If place) Always (λ x. (command_tree x.0, map piece x.1.now)) result (map piece pieces.now) }
-    ensures shorter { IfOk result (λ x. length x.1.now ≤ length pieces.now) }
+    tokens: &'t [ParserToken<'t>],
+) -> Result<(Command, &'t [ParserToken<'t>]), ParseError>
+    ensures tree { FindsTree (IsCommandRest Keyword.If place) Always (λ x. (command_tree x.0, map lexeme x.1.now)) result (map lexeme tokens.now) }
+    ensures shorter { IfOk result (λ x. length x.1.now ≤ length tokens.now) }
 {
-    let Some(after) = after_mark(Mark::Open, pieces) else {
-        return Err(Refusal::Syntax(pieces.len()));
+    let Some(after) = after_mark(Mark::Open, tokens) else {
+        return Err(ParseError::Syntax(tokens.len()));
     };
     let (condition, rest) = test_before(alloc, Mark::Close, None, after)?;
     let ((then_do, else_do), rest) = branches(alloc, rest)?;
@@ -306,17 +306,17 @@ fn choice<'t>(
 #[cycle(command)]
 fn separator_before<'t>(
     alloc: Global,
-    pieces: &'t [Piece<'t>],
-) -> Result<(Command, &'t [Piece<'t>]), Refusal>
-    ensures tree { Reads (IsBefore Mark.Close IsCommand) Always (λ x. (command_tree x.0, map piece x.1.now)) result (map piece pieces.now) }
-    ensures shorter { IfOk result (λ x. length x.1.now ≤ length pieces.now) }
+    tokens: &'t [ParserToken<'t>],
+) -> Result<(Command, &'t [ParserToken<'t>]), ParseError>
+    ensures tree { FindsTree (IsBefore Mark.Close IsCommand) Always (λ x. (command_tree x.0, map lexeme x.1.now)) result (map lexeme tokens.now) }
+    ensures shorter { IfOk result (λ x. length x.1.now ≤ length tokens.now) }
 {
-    let (between, rest) = command(alloc, pieces)?;
+    let (between, rest) = command(alloc, tokens)?;
     match after_mark(Mark::Close, rest) {
         Some(rest) => Ok((between, rest)),
         None => {
             drop(between);
-            Err(Refusal::Syntax(rest.len()))
+            Err(ParseError::Syntax(rest.len()))
         }
     }
 }
@@ -325,17 +325,17 @@ fn separator_before<'t>(
 #[cycle(command)]
 fn loop_end<'t>(
     alloc: Global,
-    pieces: &'t [Piece<'t>],
-) -> Result<(LoopEnd, &'t [Piece<'t>]), Refusal>
-    ensures tree { Reads IsLoopEnd Always (λ x. ((boxed_separator x.0.0, command_list x.0.1), map piece x.1.now)) result (map piece pieces.now) }
-    ensures shorter { IfOk result (λ x. length x.1.now ≤ length pieces.now) }
+    tokens: &'t [ParserToken<'t>],
+) -> Result<(LoopEnd, &'t [ParserToken<'t>]), ParseError>
+    ensures tree { FindsTree IsLoopEnd Always (λ x. ((boxed_separator x.0.0, command_list x.0.1), map lexeme x.1.now)) result (map lexeme tokens.now) }
+    ensures shorter { IfOk result (λ x. length x.1.now ≤ length tokens.now) }
 {
-    if let Some(rest) = after_mark(Mark::Close, pieces) {
+    if let Some(rest) = after_mark(Mark::Close, tokens) {
         let (body, rest) = block(alloc, rest)?;
         return Ok(((None, body), rest));
     }
-    let Some(after) = after_mark(Mark::Comma, pieces) else {
-        return Err(Refusal::Syntax(pieces.len()));
+    let Some(after) = after_mark(Mark::Comma, tokens) else {
+        return Err(ParseError::Syntax(tokens.len()));
     };
     let (between, rest) = separator_before(alloc, after)?;
     let between = Box::new(alloc, between)?;
@@ -345,56 +345,61 @@ fn loop_end<'t>(
 
 // Commands and the END behind them.
 #[cycle(command)]
-fn block<'t>(alloc: Global, pieces: &'t [Piece<'t>]) -> Result<(Commands, &'t [Piece<'t>]), Refusal>
-    ensures tree { Reads IsBlock Always (λ x. (command_list x.0, map piece x.1.now)) result (map piece pieces.now) }
-    ensures shorter { IfOk result (λ x. length x.1.now ≤ length pieces.now) }
+fn block<'t>(
+    alloc: Global,
+    tokens: &'t [ParserToken<'t>],
+) -> Result<(Commands, &'t [ParserToken<'t>]), ParseError>
+    ensures tree { FindsTree IsBlock Always (λ x. (command_list x.0, map lexeme x.1.now)) result (map lexeme tokens.now) }
+    ensures shorter { IfOk result (λ x. length x.1.now ≤ length tokens.now) }
 {
-    let (body, rest) = commands(alloc, pieces)?;
+    let (body, rest) = commands(alloc, tokens)?;
     match after_word(Keyword::End, rest) {
         Some(rest) => Ok((body, rest)),
-        None => Err(Refusal::Syntax(rest.len())),
+        None => Err(ParseError::Syntax(rest.len())),
     }
 }
 
 // What stands behind the word of a command that has this place.
 #[cycle(command)]
-fn behind<'t>(
+fn command_rest<'t>(
     alloc: Global,
     word: Keyword,
     place: Place,
-    pieces: &'t [Piece<'t>],
-) -> Result<(Command, &'t [Piece<'t>]), Refusal>
-    ensures tree { Reads (Behind word place) Always (λ x. (command_tree x.0, map piece x.1.now)) result (map piece pieces.now) }
-    ensures shorter { IfOk result (λ x. length x.1.now ≤ length pieces.now) }
+    tokens: &'t [ParserToken<'t>],
+) -> Result<(Command, &'t [ParserToken<'t>]), ParseError>
+    ensures tree { FindsTree (IsCommandRest word place) Always (λ x. (command_tree x.0, map lexeme x.1.now)) result (map lexeme tokens.now) }
+    ensures shorter { IfOk result (λ x. length x.1.now ≤ length tokens.now) }
 {
     let action = match word {
         Keyword::Space => Action::Space,
         Keyword::Newline => Action::Newline,
         Keyword::Eof => Action::Eof,
-        Keyword::Int => return int(alloc, place, pieces),
-        Keyword::String => return string(alloc, place, pieces),
-        Keyword::Regex(number) => return regex(alloc, number, place, pieces),
-        Keyword::Assert => return assert(alloc, place, pieces),
-        Keyword::Set => return set(alloc, place, pieces),
-        Keyword::Unset => return unset(alloc, place, pieces),
-        Keyword::Rep => return rep(alloc, place, pieces),
-        Keyword::RepI => return repi(alloc, place, pieces),
-        Keyword::While => return repeat_while(alloc, place, pieces),
-        Keyword::WhileI => return whilei(alloc, place, pieces),
-        Keyword::If => return choice(alloc, place, pieces),
-        _ => return Err(Refusal::Syntax(pieces.len())),
+        Keyword::Int => return int(alloc, place, tokens),
+        Keyword::String => return string(alloc, place, tokens),
+        Keyword::Regex(number) => return regex(alloc, number, place, tokens),
+        Keyword::Assert => return assert(alloc, place, tokens),
+        Keyword::Set => return set(alloc, place, tokens),
+        Keyword::Unset => return unset(alloc, place, tokens),
+        Keyword::Rep => return rep(alloc, place, tokens),
+        Keyword::RepI => return repi(alloc, place, tokens),
+        Keyword::While => return while_command(alloc, place, tokens),
+        Keyword::WhileI => return whilei(alloc, place, tokens),
+        Keyword::If => return if_command(alloc, place, tokens),
+        _ => return Err(ParseError::Syntax(tokens.len())),
     };
-    Ok((Command { place, action }, pieces))
+    Ok((Command { place, action }, tokens))
 }
 
 // The word of a command at the front with its place, and what follows it.
-fn command_word<'t>(pieces: &'t [Piece<'t>]) -> Option<(Keyword, Place, &'t [Piece<'t>])>
-    ensures found { IfSome result (λ x. map piece pieces.now ≡ Lexeme.keyword x.0 x.1 ∷ map piece x.2.now) }
+fn command_word<'t>(
+    tokens: &'t [ParserToken<'t>],
+) -> Option<(Keyword, Place, &'t [ParserToken<'t>])>
+    ensures found { IfSome result (λ x. map lexeme tokens.now ≡ Lexeme.keyword x.0 x.1 ∷ map lexeme x.2.now) }
     ensures word { IfSome result (λ x. is_command_word x.0 ≡ true) }
-    ensures shorter { IfSome result (λ x. length x.2.now < length pieces.now) }
-    ensures none { IfNone result (command_begins (map piece pieces.now) ≡ false) }
+    ensures shorter { IfSome result (λ x. length x.2.now < length tokens.now) }
+    ensures none { IfNone result (command_begins (map lexeme tokens.now) ≡ false) }
 {
-    let (word, place, after) = word_at(pieces)?;
+    let (word, place, after) = word_at(tokens)?;
     match word {
         Keyword::Else
         | Keyword::End
@@ -412,14 +417,14 @@ fn command_word<'t>(pieces: &'t [Piece<'t>]) -> Option<(Keyword, Place, &'t [Pie
 #[cycle(command)]
 fn command<'t>(
     alloc: Global,
-    pieces: &'t [Piece<'t>],
-) -> Result<(Command, &'t [Piece<'t>]), Refusal>
-    ensures tree { Reads IsCommand Always (λ x. (command_tree x.0, map piece x.1.now)) result (map piece pieces.now) }
-    ensures shorter { IfOk result (λ x. length x.1.now < length pieces.now) }
+    tokens: &'t [ParserToken<'t>],
+) -> Result<(Command, &'t [ParserToken<'t>]), ParseError>
+    ensures tree { FindsTree IsCommand Always (λ x. (command_tree x.0, map lexeme x.1.now)) result (map lexeme tokens.now) }
+    ensures shorter { IfOk result (λ x. length x.1.now < length tokens.now) }
 {
-    match command_word(pieces) {
-        Some((word, place, rest)) => behind(alloc, word, place, rest),
-        None => Err(Refusal::Syntax(pieces.len())),
+    match command_word(tokens) {
+        Some((word, place, rest)) => command_rest(alloc, word, place, rest),
+        None => Err(ParseError::Syntax(tokens.len())),
     }
 }
 
@@ -427,16 +432,16 @@ fn command<'t>(
 #[cycle(command)]
 pub(crate) fn commands<'t>(
     alloc: Global,
-    pieces: &'t [Piece<'t>],
-) -> Result<(Commands, &'t [Piece<'t>]), Refusal>
-    ensures tree { Reads IsCommands CommandsEnd (λ x. (command_list x.0, map piece x.1.now)) result (map piece pieces.now) }
-    ensures shorter { IfOk result (λ x. length x.1.now ≤ length pieces.now) }
+    tokens: &'t [ParserToken<'t>],
+) -> Result<(Commands, &'t [ParserToken<'t>]), ParseError>
+    ensures tree { FindsTree IsCommands CommandsEnd (λ x. (command_list x.0, map lexeme x.1.now)) result (map lexeme tokens.now) }
+    ensures shorter { IfOk result (λ x. length x.1.now ≤ length tokens.now) }
 {
     let mut items = Vec::new(alloc);
     // All of them; the borrow checker refuses a loop whose variable begins as the argument itself.
-    let (_none, mut rest) = pieces.split_at(0);
+    let (_none, mut rest) = tokens.split_at(0);
     while let Some((word, place, after)) = command_word(rest) {
-        let (next, after) = behind(alloc, word, place, after)?;
+        let (next, after) = command_rest(alloc, word, place, after)?;
         items.push(next)?;
         rest = after;
     }

@@ -4,13 +4,13 @@
 ghost use Rattle.std.specs.Prelude.{◌≡◌, ◌≤◌, ◌<◌, length, map, IfOk, IfSome};
 ghost use Rattle.ctd_syntax.specs.View.{expr_tree, expr_list, exprs_of, var_tree};
 ghost use Rattle.ctd_syntax.specs.Grammar.{IsExpr, IsProduct, IsSigned, IsPower, IsExponent, IsAtom, IsExprs, IsTarget};
-ghost use Rattle.ctd_syntax.specs.Front.{Reads, Always, IsBefore, StartsWith, piece};
+ghost use Rattle.ctd_syntax.specs.Front.{FindsTree, Always, IsBefore, StartsWith, lexeme};
 ghost use Rattle.ctd_syntax.specs.Levels.{binding, ends, sum_operator, product_operator, join};
 ghost use Rattle.ctd_syntax.specs.Lexeme;
 
-use crate::front::{Refusal, after_mark, name_at};
+use crate::front::{ParseError, after_mark, name_at};
 use crate::keyword::Keyword;
-use crate::piece::Piece;
+use crate::parser_token::ParserToken;
 use crate::tree::{Expr, Exprs, Var};
 use ctd_token::{Bytes, Mark, Name};
 use std::alloc::{AllocError, Global};
@@ -40,28 +40,28 @@ fn join(alloc: Global, operator: Operator, left: Expr, right: Expr) -> Result<Ex
 }
 
 // The operator of a sum at the front, and what follows it.
-fn sum_operator<'t>(pieces: &'t [Piece<'t>]) -> Option<(Operator, &'t [Piece<'t>])>
-    ensures operator { StartsWith sum_operator (λ rest. map piece rest.now) result (map piece pieces.now) }
-    ensures shorter { IfSome result (λ x. length x.1.now < length pieces.now) }
+fn sum_operator<'t>(tokens: &'t [ParserToken<'t>]) -> Option<(Operator, &'t [ParserToken<'t>])>
+    ensures operator { StartsWith sum_operator (λ rest. map lexeme rest.now) result (map lexeme tokens.now) }
+    ensures shorter { IfSome result (λ x. length x.1.now < length tokens.now) }
 {
-    let (first, after) = pieces.split_first()?;
+    let (first, after) = tokens.split_first()?;
     match first {
-        Piece::Mark(Mark::Plus) => Some((Operator::Add, after)),
-        Piece::Mark(Mark::Minus) => Some((Operator::Sub, after)),
+        ParserToken::Mark(Mark::Plus) => Some((Operator::Add, after)),
+        ParserToken::Mark(Mark::Minus) => Some((Operator::Sub, after)),
         _ => None,
     }
 }
 
 // The operator of a product at the front, and what follows it.
-fn product_operator<'t>(pieces: &'t [Piece<'t>]) -> Option<(Operator, &'t [Piece<'t>])>
-    ensures operator { StartsWith product_operator (λ rest. map piece rest.now) result (map piece pieces.now) }
-    ensures shorter { IfSome result (λ x. length x.1.now < length pieces.now) }
+fn product_operator<'t>(tokens: &'t [ParserToken<'t>]) -> Option<(Operator, &'t [ParserToken<'t>])>
+    ensures operator { StartsWith product_operator (λ rest. map lexeme rest.now) result (map lexeme tokens.now) }
+    ensures shorter { IfSome result (λ x. length x.1.now < length tokens.now) }
 {
-    let (first, after) = pieces.split_first()?;
+    let (first, after) = tokens.split_first()?;
     match first {
-        Piece::Mark(Mark::Times) => Some((Operator::Mul, after)),
-        Piece::Mark(Mark::Divide) => Some((Operator::Div, after)),
-        Piece::Mark(Mark::Percent) => Some((Operator::Rem, after)),
+        ParserToken::Mark(Mark::Times) => Some((Operator::Mul, after)),
+        ParserToken::Mark(Mark::Divide) => Some((Operator::Div, after)),
+        ParserToken::Mark(Mark::Percent) => Some((Operator::Rem, after)),
         _ => None,
     }
 }
@@ -70,12 +70,12 @@ fn product_operator<'t>(pieces: &'t [Piece<'t>]) -> Option<(Operator, &'t [Piece
 #[cycle(expression)]
 pub(crate) fn expr<'t>(
     alloc: Global,
-    pieces: &'t [Piece<'t>],
-) -> Result<(Expr, &'t [Piece<'t>]), Refusal>
-    ensures tree { Reads IsExpr (ends 1) (λ x. (expr_tree x.0, map piece x.1.now)) result (map piece pieces.now) }
-    ensures shorter { IfOk result (λ x. length x.1.now ≤ length pieces.now) }
+    tokens: &'t [ParserToken<'t>],
+) -> Result<(Expr, &'t [ParserToken<'t>]), ParseError>
+    ensures tree { FindsTree IsExpr (ends 1) (λ x. (expr_tree x.0, map lexeme x.1.now)) result (map lexeme tokens.now) }
+    ensures shorter { IfOk result (λ x. length x.1.now ≤ length tokens.now) }
 {
-    let (mut left, mut rest) = product(alloc, pieces)?;
+    let (mut left, mut rest) = product(alloc, tokens)?;
     while let Some((operator, after)) = sum_operator(rest) {
         let (right, after) = product(alloc, after)?;
         left = join(alloc, operator, left, right)?;
@@ -85,11 +85,14 @@ pub(crate) fn expr<'t>(
 }
 
 #[cycle(expression)]
-fn product<'t>(alloc: Global, pieces: &'t [Piece<'t>]) -> Result<(Expr, &'t [Piece<'t>]), Refusal>
-    ensures tree { Reads IsProduct (ends 2) (λ x. (expr_tree x.0, map piece x.1.now)) result (map piece pieces.now) }
-    ensures shorter { IfOk result (λ x. length x.1.now ≤ length pieces.now) }
+fn product<'t>(
+    alloc: Global,
+    tokens: &'t [ParserToken<'t>],
+) -> Result<(Expr, &'t [ParserToken<'t>]), ParseError>
+    ensures tree { FindsTree IsProduct (ends 2) (λ x. (expr_tree x.0, map lexeme x.1.now)) result (map lexeme tokens.now) }
+    ensures shorter { IfOk result (λ x. length x.1.now ≤ length tokens.now) }
 {
-    let (mut left, mut rest) = signed(alloc, pieces)?;
+    let (mut left, mut rest) = signed(alloc, tokens)?;
     while let Some((operator, after)) = product_operator(rest) {
         let (right, after) = signed(alloc, after)?;
         left = join(alloc, operator, left, right)?;
@@ -99,25 +102,31 @@ fn product<'t>(alloc: Global, pieces: &'t [Piece<'t>]) -> Result<(Expr, &'t [Pie
 }
 
 #[cycle(expression)]
-fn signed<'t>(alloc: Global, pieces: &'t [Piece<'t>]) -> Result<(Expr, &'t [Piece<'t>]), Refusal>
-    ensures tree { Reads IsSigned (ends 3) (λ x. (expr_tree x.0, map piece x.1.now)) result (map piece pieces.now) }
-    ensures shorter { IfOk result (λ x. length x.1.now ≤ length pieces.now) }
+fn signed<'t>(
+    alloc: Global,
+    tokens: &'t [ParserToken<'t>],
+) -> Result<(Expr, &'t [ParserToken<'t>]), ParseError>
+    ensures tree { FindsTree IsSigned (ends 3) (λ x. (expr_tree x.0, map lexeme x.1.now)) result (map lexeme tokens.now) }
+    ensures shorter { IfOk result (λ x. length x.1.now ≤ length tokens.now) }
 {
-    match after_mark(Mark::Minus, pieces) {
+    match after_mark(Mark::Minus, tokens) {
         Some(after) => {
             let (operand, rest) = signed(alloc, after)?;
             Ok((Expr::Minus(Box::new(alloc, operand)?), rest))
         }
-        None => power(alloc, pieces),
+        None => power(alloc, tokens),
     }
 }
 
 #[cycle(expression)]
-fn power<'t>(alloc: Global, pieces: &'t [Piece<'t>]) -> Result<(Expr, &'t [Piece<'t>]), Refusal>
-    ensures tree { Reads IsPower (ends 3) (λ x. (expr_tree x.0, map piece x.1.now)) result (map piece pieces.now) }
-    ensures shorter { IfOk result (λ x. length x.1.now ≤ length pieces.now) }
+fn power<'t>(
+    alloc: Global,
+    tokens: &'t [ParserToken<'t>],
+) -> Result<(Expr, &'t [ParserToken<'t>]), ParseError>
+    ensures tree { FindsTree IsPower (ends 3) (λ x. (expr_tree x.0, map lexeme x.1.now)) result (map lexeme tokens.now) }
+    ensures shorter { IfOk result (λ x. length x.1.now ≤ length tokens.now) }
 {
-    let (base, rest) = atom(alloc, pieces)?;
+    let (base, rest) = atom(alloc, tokens)?;
     match after_mark(Mark::Caret, rest) {
         Some(after) => {
             let (exponent, rest) = exponent(alloc, after)?;
@@ -129,73 +138,82 @@ fn power<'t>(alloc: Global, pieces: &'t [Piece<'t>]) -> Result<(Expr, &'t [Piece
 }
 
 #[cycle(expression)]
-fn exponent<'t>(alloc: Global, pieces: &'t [Piece<'t>]) -> Result<(Expr, &'t [Piece<'t>]), Refusal>
-    ensures tree { Reads IsExponent (ends 3) (λ x. (expr_tree x.0, map piece x.1.now)) result (map piece pieces.now) }
-    ensures shorter { IfOk result (λ x. length x.1.now ≤ length pieces.now) }
+fn exponent<'t>(
+    alloc: Global,
+    tokens: &'t [ParserToken<'t>],
+) -> Result<(Expr, &'t [ParserToken<'t>]), ParseError>
+    ensures tree { FindsTree IsExponent (ends 3) (λ x. (expr_tree x.0, map lexeme x.1.now)) result (map lexeme tokens.now) }
+    ensures shorter { IfOk result (λ x. length x.1.now ≤ length tokens.now) }
 {
-    match after_mark(Mark::Minus, pieces) {
+    match after_mark(Mark::Minus, tokens) {
         Some(after) => {
             let (operand, rest) = exponent(alloc, after)?;
             Ok((Expr::Minus(Box::new(alloc, operand)?), rest))
         }
-        None => power(alloc, pieces),
+        None => power(alloc, tokens),
     }
 }
 
 // An expression and the parenthesis behind it.
 #[cycle(expression)]
-fn closed<'t>(alloc: Global, pieces: &'t [Piece<'t>]) -> Result<(Expr, &'t [Piece<'t>]), Refusal>
-    ensures tree { Reads (IsBefore Mark.Close IsExpr) Always (λ x. (expr_tree x.0, map piece x.1.now)) result (map piece pieces.now) }
-    ensures shorter { IfOk result (λ x. length x.1.now ≤ length pieces.now) }
+fn parenthesized<'t>(
+    alloc: Global,
+    tokens: &'t [ParserToken<'t>],
+) -> Result<(Expr, &'t [ParserToken<'t>]), ParseError>
+    ensures tree { FindsTree (IsBefore Mark.Close IsExpr) Always (λ x. (expr_tree x.0, map lexeme x.1.now)) result (map lexeme tokens.now) }
+    ensures shorter { IfOk result (λ x. length x.1.now ≤ length tokens.now) }
 {
-    let (inner, rest) = expr(alloc, pieces)?;
+    let (inner, rest) = expr(alloc, tokens)?;
     match after_mark(Mark::Close, rest) {
         Some(rest) => Ok((inner, rest)),
         None => {
             drop(inner);
-            Err(Refusal::Syntax(rest.len()))
+            Err(ParseError::Syntax(rest.len()))
         }
     }
 }
 
 #[cycle(expression)]
-fn atom<'t>(alloc: Global, pieces: &'t [Piece<'t>]) -> Result<(Expr, &'t [Piece<'t>]), Refusal>
-    ensures tree { Reads IsAtom (ends 4) (λ x. (expr_tree x.0, map piece x.1.now)) result (map piece pieces.now) }
-    ensures shorter { IfOk result (λ x. length x.1.now ≤ length pieces.now) }
+fn atom<'t>(
+    alloc: Global,
+    tokens: &'t [ParserToken<'t>],
+) -> Result<(Expr, &'t [ParserToken<'t>]), ParseError>
+    ensures tree { FindsTree IsAtom (ends 4) (λ x. (expr_tree x.0, map lexeme x.1.now)) result (map lexeme tokens.now) }
+    ensures shorter { IfOk result (λ x. length x.1.now ≤ length tokens.now) }
 {
-    let Some((first, rest)) = pieces.split_first() else {
-        return Err(Refusal::Syntax(0));
+    let Some((first, rest)) = tokens.split_first() else {
+        return Err(ParseError::Syntax(0));
     };
     match first {
-        Piece::Numeral(n) => {
+        ParserToken::Numeral(n) => {
             let n = *n;
             Ok((Expr::Numeral(n), rest))
         }
-        Piece::Text(bytes, _) => {
+        ParserToken::Text(bytes, _) => {
             let bytes = Bytes::copy(alloc, bytes.as_slice())?;
             Ok((Expr::Text(bytes), rest))
         }
-        Piece::Name(_) => {
-            let (var, rest) = variable(alloc, pieces)?;
+        ParserToken::Name(_) => {
+            let (var, rest) = variable(alloc, tokens)?;
             Ok((Expr::Var(var), rest))
         }
-        Piece::Keyword(keyword, _) => {
+        ParserToken::Keyword(keyword, _) => {
             if *keyword != Keyword::Strlen {
-                return Err(Refusal::Syntax(pieces.len()));
+                return Err(ParseError::Syntax(tokens.len()));
             }
             match after_mark(Mark::Open, rest) {
                 Some(rest) => {
-                    let (inner, rest) = closed(alloc, rest)?;
+                    let (inner, rest) = parenthesized(alloc, rest)?;
                     Ok((Expr::Strlen(Box::new(alloc, inner)?), rest))
                 }
-                None => Err(Refusal::Syntax(rest.len())),
+                None => Err(ParseError::Syntax(rest.len())),
             }
         }
-        Piece::Mark(mark) => {
+        ParserToken::Mark(mark) => {
             if *mark != Mark::Open {
-                return Err(Refusal::Syntax(pieces.len()));
+                return Err(ParseError::Syntax(tokens.len()));
             }
-            closed(alloc, rest)
+            parenthesized(alloc, rest)
         }
     }
 }
@@ -204,13 +222,13 @@ fn atom<'t>(alloc: Global, pieces: &'t [Piece<'t>]) -> Result<(Expr, &'t [Piece<
 #[cycle(expression)]
 pub(crate) fn variable<'t>(
     alloc: Global,
-    pieces: &'t [Piece<'t>],
-) -> Result<(Var, &'t [Piece<'t>]), Refusal>
-    ensures tree { Reads IsTarget (ends 4) (λ x. (var_tree x.0, map piece x.1.now)) result (map piece pieces.now) }
-    ensures shorter { IfOk result (λ x. length x.1.now ≤ length pieces.now) }
+    tokens: &'t [ParserToken<'t>],
+) -> Result<(Var, &'t [ParserToken<'t>]), ParseError>
+    ensures tree { FindsTree IsTarget (ends 4) (λ x. (var_tree x.0, map lexeme x.1.now)) result (map lexeme tokens.now) }
+    ensures shorter { IfOk result (λ x. length x.1.now ≤ length tokens.now) }
 {
-    let Some((name, rest)) = name_at(pieces) else {
-        return Err(Refusal::Syntax(pieces.len()));
+    let Some((name, rest)) = name_at(tokens) else {
+        return Err(ParseError::Syntax(tokens.len()));
     };
     let name = Name::copy(alloc, name)?;
     match after_mark(Mark::OpenIndex, rest) {
@@ -229,30 +247,33 @@ pub(crate) fn variable<'t>(
 pub(crate) fn expr_before<'t>(
     alloc: Global,
     mark: Mark,
-    pieces: &'t [Piece<'t>],
-) -> Result<(Expr, &'t [Piece<'t>]), Refusal>
+    tokens: &'t [ParserToken<'t>],
+) -> Result<(Expr, &'t [ParserToken<'t>]), ParseError>
     requires ends { binding (Lexeme.mark mark) ≡ 0 }
-    ensures tree { Reads (IsBefore mark IsExpr) Always (λ x. (expr_tree x.0, map piece x.1.now)) result (map piece pieces.now) }
-    ensures shorter { IfOk result (λ x. length x.1.now ≤ length pieces.now) }
+    ensures tree { FindsTree (IsBefore mark IsExpr) Always (λ x. (expr_tree x.0, map lexeme x.1.now)) result (map lexeme tokens.now) }
+    ensures shorter { IfOk result (λ x. length x.1.now ≤ length tokens.now) }
 {
-    let (read, rest) = expr(alloc, pieces)?;
+    let (read, rest) = expr(alloc, tokens)?;
     match after_mark(mark, rest) {
         Some(rest) => Ok((read, rest)),
         None => {
             drop(read);
-            Err(Refusal::Syntax(rest.len()))
+            Err(ParseError::Syntax(rest.len()))
         }
     }
 }
 
 // Expressions with commas between them, and the bracket behind them.
 #[cycle(expression)]
-fn indices<'t>(alloc: Global, pieces: &'t [Piece<'t>]) -> Result<(Exprs, &'t [Piece<'t>]), Refusal>
-    ensures tree { Reads (IsBefore Mark.CloseIndex IsExprs) Always (λ x. (expr_list (exprs_of x.0), map piece x.1.now)) result (map piece pieces.now) }
-    ensures shorter { IfOk result (λ x. length x.1.now ≤ length pieces.now) }
+fn indices<'t>(
+    alloc: Global,
+    tokens: &'t [ParserToken<'t>],
+) -> Result<(Exprs, &'t [ParserToken<'t>]), ParseError>
+    ensures tree { FindsTree (IsBefore Mark.CloseIndex IsExprs) Always (λ x. (expr_list (exprs_of x.0), map lexeme x.1.now)) result (map lexeme tokens.now) }
+    ensures shorter { IfOk result (λ x. length x.1.now ≤ length tokens.now) }
 {
     let mut items = Vec::new(alloc);
-    let (first, mut rest) = expr(alloc, pieces)?;
+    let (first, mut rest) = expr(alloc, tokens)?;
     items.push(first)?;
     while let Some(after) = after_mark(Mark::Comma, rest) {
         let (next, after) = expr(alloc, after)?;
@@ -261,6 +282,6 @@ fn indices<'t>(alloc: Global, pieces: &'t [Piece<'t>]) -> Result<(Exprs, &'t [Pi
     }
     match after_mark(Mark::CloseIndex, rest) {
         Some(rest) => Ok((Exprs::from_vec(items), rest)),
-        None => Err(Refusal::Syntax(rest.len())),
+        None => Err(ParseError::Syntax(rest.len())),
     }
 }

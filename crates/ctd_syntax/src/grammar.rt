@@ -6,9 +6,9 @@ ghost use Rattle.ctd_syntax.specs.Reading.{IsCut, IsFault, Parses};
 ghost use Rattle.ctd_syntax.specs.View.{command_trees};
 
 use crate::command::commands;
-use crate::front::Refusal;
+use crate::front::ParseError;
 use crate::nesting::first_too_deep;
-use crate::piece::pieces;
+use crate::parser_token::parser_tokens;
 use crate::tree::Program;
 use ctd_token::{LoadFault, LoadKind, PROGRAM_LIMIT, Place, Token, advance, tokens};
 use std::alloc::Global;
@@ -42,14 +42,14 @@ fn program_of(alloc: Global, text: &[u8], tokens: &[Token]) -> Result<Program, L
     ensures numbered { IfOk result (λ program. IsNumbered (command_trees program)) }
     ensures refused { IfErr result (λ f. IsFault text.now f.kind f.place) }
 {
-    let pieces = pieces(alloc, text, tokens)?;
-    if let Some(before) = first_too_deep(alloc, pieces.as_slice())? {
+    let parser_tokens = parser_tokens(alloc, text, tokens)?;
+    if let Some(before) = first_too_deep(alloc, parser_tokens.as_slice())? {
         return Err(LoadFault {
             kind: LoadKind::TooDeep,
             place: tokens.get(before).map(|token| token.place),
         });
     }
-    match commands(alloc, pieces.as_slice()) {
+    match commands(alloc, parser_tokens.as_slice()) {
         Ok((commands, rest)) => {
             if rest.is_empty() {
                 Ok(Program::new(commands))
@@ -57,8 +57,8 @@ fn program_of(alloc: Global, text: &[u8], tokens: &[Token]) -> Result<Program, L
                 Err(no_program(text, tokens, rest.len()))
             }
         }
-        Err(Refusal::Syntax(left)) => Err(no_program(text, tokens, left)),
-        Err(Refusal::Memory) => Err(LoadFault {
+        Err(ParseError::Syntax(left)) => Err(no_program(text, tokens, left)),
+        Err(ParseError::Memory) => Err(LoadFault {
             kind: LoadKind::Memory,
             place: None,
         }),

@@ -34,7 +34,7 @@ impl Keyword {
     ghost use Rattle.ctd_syntax.specs.Lexeme.{keyword_of};
 
     /// The word that some bytes spell.
-    pub(crate) fn spelled(word: &[u8]) -> Keyword
+    pub(crate) fn from_word(word: &[u8]) -> Keyword
         ensures { result ≡ keyword_of word.now }
     {
         match word {

@@ -7,14 +7,14 @@ mod condition;
 mod expression;
 mod front;
 mod grammar;
-pub mod keyword;
+mod keyword;
 mod names;
 mod nesting;
-mod piece;
-pub mod preset;
+mod parser_token;
+mod preset;
 mod preset_text;
 mod target;
-pub mod tree;
+mod tree;
 
 pub use ctd_token::{
     Bytes, LoadFault, LoadKind, Mark, NESTING_LIMIT, Name, PROGRAM_LIMIT, Place, Token, TokenKind,

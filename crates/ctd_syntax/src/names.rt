@@ -3,10 +3,10 @@
 ghost use Rattle.std.specs.Prelude.{◌≤◌, length, map, IfOk};
 ghost use Rattle.ctd_syntax.specs.View.{names_of};
 ghost use Rattle.ctd_syntax.specs.Grammar.{IsNames};
-ghost use Rattle.ctd_syntax.specs.Front.{Reads, Always, IsBefore, piece};
+ghost use Rattle.ctd_syntax.specs.Front.{FindsTree, Always, IsBefore, lexeme};
 
-use crate::front::{Refusal, after_mark, name_at};
-use crate::piece::Piece;
+use crate::front::{ParseError, after_mark, name_at};
+use crate::parser_token::ParserToken;
 use crate::tree::Names;
 use ctd_token::{Mark, Name};
 use std::alloc::Global;
@@ -15,25 +15,25 @@ use std::alloc::Global;
 /// follows it.
 pub(crate) fn names<'t>(
     alloc: Global,
-    pieces: &'t [Piece<'t>],
-) -> Result<(Names, &'t [Piece<'t>]), Refusal>
-    ensures tree { Reads (IsBefore Mark.Close IsNames) Always (λ x. (names_of x.0, map piece x.1.now)) result (map piece pieces.now) }
-    ensures shorter { IfOk result (λ x. length x.1.now ≤ length pieces.now) }
+    tokens: &'t [ParserToken<'t>],
+) -> Result<(Names, &'t [ParserToken<'t>]), ParseError>
+    ensures tree { FindsTree (IsBefore Mark.Close IsNames) Always (λ x. (names_of x.0, map lexeme x.1.now)) result (map lexeme tokens.now) }
+    ensures shorter { IfOk result (λ x. length x.1.now ≤ length tokens.now) }
 {
     let mut items = Vec::new(alloc);
-    let Some((first, mut rest)) = name_at(pieces) else {
-        return Err(Refusal::Syntax(pieces.len()));
+    let Some((first, mut rest)) = name_at(tokens) else {
+        return Err(ParseError::Syntax(tokens.len()));
     };
     items.push(Name::copy(alloc, first)?)?;
     while let Some(after) = after_mark(Mark::Comma, rest) {
         let Some((next, after)) = name_at(after) else {
-            return Err(Refusal::Syntax(after.len()));
+            return Err(ParseError::Syntax(after.len()));
         };
         items.push(Name::copy(alloc, next)?)?;
         rest = after;
     }
     match after_mark(Mark::Close, rest) {
         Some(rest) => Ok((Names::from_vec(items), rest)),
-        None => Err(Refusal::Syntax(rest.len())),
+        None => Err(ParseError::Syntax(rest.len())),
     }
 }

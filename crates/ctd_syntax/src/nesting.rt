@@ -1,11 +1,11 @@
 //! How deep the tokens of a program nest.
 
 ghost use Rattle.std.specs.Prelude.{◌≡◌, map, IfOk};
-ghost use Rattle.ctd_syntax.specs.Front.{piece};
+ghost use Rattle.ctd_syntax.specs.Front.{lexeme};
 ghost use Rattle.ctd_syntax.specs.Nesting.{change_of, start, too_deep};
 
 use crate::keyword::Keyword;
-use crate::piece::Piece;
+use crate::parser_token::ParserToken;
 use ctd_token::{Mark, NESTING_LIMIT};
 use std::alloc::{AllocError, Global};
 
@@ -24,18 +24,18 @@ enum Change {
     Keeps,
 }
 
-fn change_of(token: &Piece<'_>) -> Change
-    ensures { result ≡ change_of (piece token.now) }
+fn change_of(token: &ParserToken<'_>) -> Change
+    ensures { result ≡ change_of (lexeme token.now) }
 {
     match token {
-        Piece::Mark(mark) => match mark {
+        ParserToken::Mark(mark) => match mark {
             Mark::Open | Mark::OpenIndex => Change::Opens,
             Mark::Close | Mark::CloseIndex => Change::Closes,
             Mark::Comma => Change::Restarts,
             Mark::Assign => Change::Keeps,
             _ => Change::Grows,
         },
-        Piece::Keyword(keyword, _) => match keyword {
+        ParserToken::Keyword(keyword, _) => match keyword {
             Keyword::Rep | Keyword::RepI | Keyword::While | Keyword::WhileI | Keyword::If => {
                 Change::Opens
             }
@@ -50,16 +50,16 @@ fn change_of(token: &Piece<'_>) -> Change
 /// How many tokens stand before the first after which the weight passes `NESTING_LIMIT`.
 pub(crate) fn first_too_deep(
     alloc: Global,
-    pieces: &[Piece<'_>],
+    tokens: &[ParserToken<'_>],
 ) -> Result<Option<usize>, AllocError>
-    ensures { IfOk result (λ found. found ≡ too_deep start (map piece pieces.now)) }
+    ensures { IfOk result (λ found. found ≡ too_deep start (map lexeme tokens.now)) }
 {
     let mut outer: Vec<u32> = Vec::new(alloc);
     let mut inner = 0u32;
     let mut weight = 0u32;
     let mut n = 0;
-    while n < pieces.len() {
-        match change_of(&pieces[n]) {
+    while n < tokens.len() {
+        match change_of(&tokens[n]) {
             Change::Opens => {
                 outer.push(inner)?;
                 inner = 0;

@@ -5,12 +5,12 @@ ghost use Rattle.std.specs.Prelude.{◌≡◌, ◌≤◌, length, map, IfOk};
 ghost use Rattle.ctd_syntax.specs.Lexeme;
 ghost use Rattle.ctd_syntax.specs.View.{assignment, assignments_of, target, var_tree};
 ghost use Rattle.ctd_syntax.specs.Grammar.{IsTarget, IsTargetEnd, IsAssignments};
-ghost use Rattle.ctd_syntax.specs.Front.{Reads, Always, IsAssignment, IsBefore, piece};
+ghost use Rattle.ctd_syntax.specs.Front.{FindsTree, Always, IsAssignment, IsBefore, lexeme};
 ghost use Rattle.ctd_syntax.specs.Levels.{binding, ends};
 
 use crate::expression::{expr, variable};
-use crate::front::{Refusal, after_mark};
-use crate::piece::Piece;
+use crate::front::{ParseError, after_mark};
+use crate::parser_token::ParserToken;
 use crate::tree::{Assignment, Assignments, Var};
 use ctd_token::Mark;
 use std::alloc::Global;
@@ -19,18 +19,18 @@ use std::alloc::Global;
 pub(crate) fn target_before<'t>(
     alloc: Global,
     mark: Mark,
-    pieces: &'t [Piece<'t>],
-) -> Result<(Var, &'t [Piece<'t>]), Refusal>
+    tokens: &'t [ParserToken<'t>],
+) -> Result<(Var, &'t [ParserToken<'t>]), ParseError>
     requires ends { binding (Lexeme.mark mark) ≡ 0 }
-    ensures tree { Reads (IsBefore mark IsTarget) Always (λ x. (var_tree x.0, map piece x.1.now)) result (map piece pieces.now) }
-    ensures shorter { IfOk result (λ x. length x.1.now ≤ length pieces.now) }
+    ensures tree { FindsTree (IsBefore mark IsTarget) Always (λ x. (var_tree x.0, map lexeme x.1.now)) result (map lexeme tokens.now) }
+    ensures shorter { IfOk result (λ x. length x.1.now ≤ length tokens.now) }
 {
-    let (read, rest) = variable(alloc, pieces)?;
+    let (read, rest) = variable(alloc, tokens)?;
     match after_mark(mark, rest) {
         Some(rest) => Ok((read, rest)),
         None => {
             drop(read);
-            Err(Refusal::Syntax(rest.len()))
+            Err(ParseError::Syntax(rest.len()))
         }
     }
 }
@@ -38,16 +38,16 @@ pub(crate) fn target_before<'t>(
 /// A comma and a variable or nothing, and the parenthesis behind it, and what follows it.
 pub(crate) fn target_end<'t>(
     alloc: Global,
-    pieces: &'t [Piece<'t>],
-) -> Result<(Option<Var>, &'t [Piece<'t>]), Refusal>
-    ensures tree { Reads IsTargetEnd Always (λ x. (target x.0, map piece x.1.now)) result (map piece pieces.now) }
-    ensures shorter { IfOk result (λ x. length x.1.now ≤ length pieces.now) }
+    tokens: &'t [ParserToken<'t>],
+) -> Result<(Option<Var>, &'t [ParserToken<'t>]), ParseError>
+    ensures tree { FindsTree IsTargetEnd Always (λ x. (target x.0, map lexeme x.1.now)) result (map lexeme tokens.now) }
+    ensures shorter { IfOk result (λ x. length x.1.now ≤ length tokens.now) }
 {
-    if let Some(rest) = after_mark(Mark::Close, pieces) {
+    if let Some(rest) = after_mark(Mark::Close, tokens) {
         return Ok((None, rest));
     }
-    let Some(after) = after_mark(Mark::Comma, pieces) else {
-        return Err(Refusal::Syntax(pieces.len()));
+    let Some(after) = after_mark(Mark::Comma, tokens) else {
+        return Err(ParseError::Syntax(tokens.len()));
     };
     let (read, rest) = target_before(alloc, Mark::Close, after)?;
     Ok((Some(read), rest))
@@ -56,12 +56,12 @@ pub(crate) fn target_end<'t>(
 // A variable, `=` and its value.
 fn one_assignment<'t>(
     alloc: Global,
-    pieces: &'t [Piece<'t>],
-) -> Result<(Assignment, &'t [Piece<'t>]), Refusal>
-    ensures tree { Reads IsAssignment (ends 1) (λ x. (assignment x.0, map piece x.1.now)) result (map piece pieces.now) }
-    ensures shorter { IfOk result (λ x. length x.1.now ≤ length pieces.now) }
+    tokens: &'t [ParserToken<'t>],
+) -> Result<(Assignment, &'t [ParserToken<'t>]), ParseError>
+    ensures tree { FindsTree IsAssignment (ends 1) (λ x. (assignment x.0, map lexeme x.1.now)) result (map lexeme tokens.now) }
+    ensures shorter { IfOk result (λ x. length x.1.now ≤ length tokens.now) }
 {
-    let (target, rest) = target_before(alloc, Mark::Assign, pieces)?;
+    let (target, rest) = target_before(alloc, Mark::Assign, tokens)?;
     let (value, rest) = expr(alloc, rest)?;
     Ok((Assignment { target, value }, rest))
 }
@@ -70,13 +70,13 @@ fn one_assignment<'t>(
 /// what follows it.
 pub(crate) fn assignments<'t>(
     alloc: Global,
-    pieces: &'t [Piece<'t>],
-) -> Result<(Assignments, &'t [Piece<'t>]), Refusal>
-    ensures tree { Reads (IsBefore Mark.Close IsAssignments) Always (λ x. (map assignment (assignments_of x.0), map piece x.1.now)) result (map piece pieces.now) }
-    ensures shorter { IfOk result (λ x. length x.1.now ≤ length pieces.now) }
+    tokens: &'t [ParserToken<'t>],
+) -> Result<(Assignments, &'t [ParserToken<'t>]), ParseError>
+    ensures tree { FindsTree (IsBefore Mark.Close IsAssignments) Always (λ x. (map assignment (assignments_of x.0), map lexeme x.1.now)) result (map lexeme tokens.now) }
+    ensures shorter { IfOk result (λ x. length x.1.now ≤ length tokens.now) }
 {
     let mut items = Vec::new(alloc);
-    let (first, mut rest) = one_assignment(alloc, pieces)?;
+    let (first, mut rest) = one_assignment(alloc, tokens)?;
     items.push(first)?;
     while let Some(after) = after_mark(Mark::Comma, rest) {
         let (next, after) = one_assignment(alloc, after)?;
@@ -85,6 +85,6 @@ pub(crate) fn assignments<'t>(
     }
     match after_mark(Mark::Close, rest) {
         Some(rest) => Ok((Assignments::from_vec(items), rest)),
-        None => Err(Refusal::Syntax(rest.len())),
+        None => Err(ParseError::Syntax(rest.len())),
     }
 }

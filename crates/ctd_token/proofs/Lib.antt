@@ -1,6 +1,6 @@
 pub mod Numerals
 pub mod Literals
-pub mod OneCut
+pub mod UniqueTokens
 pub mod Cutting
 pub mod TokenFaults
 pub mod Decided

@@ -5,7 +5,7 @@ use Rattle.std.specs.List.{prefix_len}
 use Rattle.std.proofs.lemmas.List.{take-append-le, take-append-drop}
 use Rattle.std.proofs.lemmas.Bool.{cases_lt}
 use Rattle.std.proofs.lemmas.List.Sums.{prefix_len-le-length}
-use Rattle.ctd_token.specs.Literal.{piece, is_octal, octal_len, octal, octal_escape, escape, after_backslash, piece_at, Closed, closed_here, one_later, with_piece, literal}
+use Rattle.ctd_token.specs.Literal.{literal_part, is_octal, octal_len, octal, octal_escape, escape, after_backslash, part_at, Closed, closed_here, one_later, with_part, literal}
 
 -- what stands behind a prefix does not change the row at its front, unless the row is the whole prefix
 row_by : (b : Bool) (more less : ℕ) (k : ℕ) → (less < k → more ≡ less) → (k ≤ less → less ≤ more) → cond b (1 + less) 0 < suc k → cond b (1 + more) 0 ≡ cond b (1 + less) 0
@@ -36,9 +36,9 @@ octal_escape-append : (xs ys : List ℕ) → octal_len xs < length xs → octal_
 octal_escape-append xs ys lt =
     let len = octal_len-append xs ys lt in
     let le : octal_len xs ≤ length xs = omega arith in
-    ap (λ n. piece (octal (take n (xs ++ ys)) ∷ []) (1 + n)) len ∙ ap (λ digits. piece (octal digits ∷ []) (1 + octal_len xs)) (take-append-le (octal_len xs) xs ys le)
+    ap (λ n. literal_part (octal (take n (xs ++ ys)) ∷ []) (1 + n)) len ∙ ap (λ digits. literal_part (octal digits ∷ []) (1 + octal_len xs)) (take-append-le (octal_len xs) xs ys le)
 
--- a piece that ends before the end of a prefix
+-- a part that ends before the end of a prefix
 after_by : (b : Bool) (d : ℕ) (ds ys : List ℕ) → (cond b (octal_escape (d ∷ ds)) (escape d)).length < suc (length (d ∷ ds)) → cond b (octal_escape (d ∷ ds ++ ys)) (escape d) ≡ cond b (octal_escape (d ∷ ds)) (escape d)
 after_by true d ds ys lt = octal_escape-append (d ∷ ds) ys (omega (arith, lt))
 after_by false d ds ys lt = refl
@@ -47,15 +47,15 @@ after_backslash-append : (xs ys : List ℕ) → 0 < length xs → (after_backsla
 after_backslash-append [] ys some lt = absurd (omega (arith, some))
 after_backslash-append (d ∷ ds) ys some lt = after_by (is_octal d) d ds ys lt
 
-piece_by : (b : Bool) (x : ℕ) (xs ys : List ℕ) → 0 < length xs → (cond b (after_backslash xs) (piece (x ∷ []) 1)).length < suc (length xs)
-    → cond b (after_backslash (xs ++ ys)) (piece (x ∷ []) 1) ≡ cond b (after_backslash xs) (piece (x ∷ []) 1)
-piece_by true x xs ys some lt = after_backslash-append xs ys some lt
-piece_by false x xs ys some lt = refl
+part_by : (b : Bool) (x : ℕ) (xs ys : List ℕ) → 0 < length xs → (cond b (after_backslash xs) (literal_part (x ∷ []) 1)).length < suc (length xs)
+    → cond b (after_backslash (xs ++ ys)) (literal_part (x ∷ []) 1) ≡ cond b (after_backslash xs) (literal_part (x ∷ []) 1)
+part_by true x xs ys some lt = after_backslash-append xs ys some lt
+part_by false x xs ys some lt = refl
 
-pub piece_at-append : (x : ℕ) (xs ys : List ℕ) → 0 < length xs → (piece_at x xs).length ≤ length xs → piece_at x (xs ++ ys) ≡ piece_at x xs
-piece_at-append x xs ys some le = piece_by (nat_eq x 92) x xs ys some (omega (arith, le))
+pub part_at-append : (x : ℕ) (xs ys : List ℕ) → 0 < length xs → (part_at x xs).length ≤ length xs → part_at x (xs ++ ys) ≡ part_at x xs
+part_at-append x xs ys some le = part_by (nat_eq x 92) x xs ys some (omega (arith, le))
 
--- a piece of a prefix is no longer than that of the whole
+-- a part of a prefix is no longer than that of the whole
 after_grows : (b : Bool) (d : ℕ) (ds ys : List ℕ) → (cond b (octal_escape (d ∷ ds)) (escape d)).length ≤ (cond b (octal_escape (d ∷ ds ++ ys)) (escape d)).length
 after_grows true d ds ys = omega (arith, row_grows is_octal (d ∷ ds) ys)
 after_grows false d ds ys = omega arith
@@ -64,18 +64,18 @@ after_backslash_grows : (xs ys : List ℕ) → 0 < length xs → (after_backslas
 after_backslash_grows [] ys some = absurd (omega (arith, some))
 after_backslash_grows (d ∷ ds) ys some = after_grows (is_octal d) d ds ys
 
-piece_grows : (b : Bool) (x : ℕ) (xs ys : List ℕ) → 0 < length xs
-    → (cond b (after_backslash xs) (piece (x ∷ []) 1)).length ≤ (cond b (after_backslash (xs ++ ys)) (piece (x ∷ []) 1)).length
-piece_grows true x xs ys some = after_backslash_grows xs ys some
-piece_grows false x xs ys some = omega arith
+part_grows : (b : Bool) (x : ℕ) (xs ys : List ℕ) → 0 < length xs
+    → (cond b (after_backslash xs) (literal_part (x ∷ []) 1)).length ≤ (cond b (after_backslash (xs ++ ys)) (literal_part (x ∷ []) 1)).length
+part_grows true x xs ys some = after_backslash_grows xs ys some
+part_grows false x xs ys some = omega arith
 
--- a piece that ends within a prefix is the piece there
-piece_at-take : (x k : ℕ) (xs : List ℕ) → 0 < length (take k xs) → (piece_at x xs).length ≤ length (take k xs) → piece_at x (take k xs) ≡ piece_at x xs
-piece_at-take x k xs some le =
+-- a part that ends within a prefix is the part there
+part_at-take : (x k : ℕ) (xs : List ℕ) → 0 < length (take k xs) → (part_at x xs).length ≤ length (take k xs) → part_at x (take k xs) ≡ part_at x xs
+part_at-take x k xs some le =
     let whole : take k xs ++ drop k xs ≡ xs = take-append-drop k xs in
-    let grows : (piece_at x (take k xs)).length ≤ (piece_at x (take k xs ++ drop k xs)).length = piece_grows (nat_eq x 92) x (take k xs) (drop k xs) some in
-    let is : (piece_at x (take k xs ++ drop k xs)).length ≡ (piece_at x xs).length = ap (λ ys. (piece_at x ys).length) whole in
-    sym (piece_at-append x (take k xs) (drop k xs) some (omega (arith, grows, is, le))) ∙ ap (piece_at x) whole
+    let grows : (part_at x (take k xs)).length ≤ (part_at x (take k xs ++ drop k xs)).length = part_grows (nat_eq x 92) x (take k xs) (drop k xs) some in
+    let is : (part_at x (take k xs ++ drop k xs)).length ≡ (part_at x xs).length = ap (λ ys. (part_at x ys).length) whole in
+    sym (part_at-append x (take k xs) (drop k xs) some (omega (arith, grows, is, le))) ∙ ap (part_at x) whole
 
 -- a literal that closes has bytes past those that are skipped, and is no longer than its bytes
 pub record ClosesWithin (skipped : ℕ) (bytes : List ℕ) (c : Closed) : Type 0 where
@@ -93,7 +93,7 @@ made_by f None y e = absurd (let never : ⊥ = cc in never)
 made_by f (Some x) y e = record { from = x; is = refl; gives = cc }
 
 abbrev read_on : ℕ → List ℕ → Option Closed
-read_on b bs = option_map (with_piece (piece_at b bs)) (literal ((piece_at b bs).length - 1) bs)
+read_on b bs = option_map (with_part (part_at b bs)) (literal ((part_at b bs).length - 1) bs)
 
 closes_by : (quote : Bool) (b : ℕ) (bs : List ℕ) (c : Closed) → ((n : ℕ) (d : Closed) → literal n bs ≡ Some d → ClosesWithin n bs d)
     → cond quote (Some closed_here) (read_on b bs) ≡ Some c → ClosesWithin 0 (b ∷ bs) c
@@ -102,8 +102,8 @@ closes_by true b bs c rest e =
     let one : 1 ≡ c.length = ap (λ x. x.length) same in
     record { past = omega (arith, one); within = omega (arith, one) }
 closes_by false b bs c rest e =
-    let p = piece_at b bs in
-    let made = made_by (with_piece p) (literal (p.length - 1) bs) c e in
+    let p = part_at b bs in
+    let made = made_by (with_part p) (literal (p.length - 1) bs) c e in
     let inner = rest (p.length - 1) made.from made.is in
     let longer : 1 + made.from.length ≡ c.length = ap (λ x. x.length) made.gives in
     record { past = omega (arith, longer); within = omega (arith, inner.within, longer) }
@@ -122,12 +122,12 @@ longer_by : (quote : Bool) (b : ℕ) (bs ys : List ℕ) (c : Closed) → ((n : �
     → cond quote (Some closed_here) (read_on b bs) ≡ Some c → cond quote (Some closed_here) (read_on b (bs ++ ys)) ≡ Some c
 longer_by true b bs ys c rest e = e
 longer_by false b bs ys c rest e =
-    let p = piece_at b bs in
-    let made = made_by (with_piece p) (literal (p.length - 1) bs) c e in
+    let p = part_at b bs in
+    let made = made_by (with_part p) (literal (p.length - 1) bs) c e in
     let inside = closes_within (p.length - 1) bs made.from made.is in
-    let same : piece_at b (bs ++ ys) ≡ p = piece_at-append b bs ys (omega (arith, inside.past, inside.within)) (omega (arith, inside.past, inside.within)) in
-    ap (λ q. option_map (with_piece q) (literal (q.length - 1) (bs ++ ys))) same
-    ∙ ap (option_map (with_piece p)) (rest (p.length - 1) made.from made.is)
+    let same : part_at b (bs ++ ys) ≡ p = part_at-append b bs ys (omega (arith, inside.past, inside.within)) (omega (arith, inside.past, inside.within)) in
+    ap (λ q. option_map (with_part q) (literal (q.length - 1) (bs ++ ys))) same
+    ∙ ap (option_map (with_part p)) (rest (p.length - 1) made.from made.is)
     ∙ ap Some made.gives
 
 pub literal-append : (skipped : ℕ) (bytes ys : List ℕ) (c : Closed) → literal skipped bytes ≡ Some c → literal skipped (bytes ++ ys) ≡ Some c
@@ -142,15 +142,15 @@ shorter_by : (quote : Bool) (b k : ℕ) (bs : List ℕ) (c : Closed) → c.lengt
     → cond quote (Some closed_here) (read_on b bs) ≡ Some c → cond quote (Some closed_here) (read_on b (take k bs)) ≡ Some c
 shorter_by true b k bs c le rest e = e
 shorter_by false b k bs c le rest e =
-    let p = piece_at b bs in
-    let made = made_by (with_piece p) (literal (p.length - 1) bs) c e in
+    let p = part_at b bs in
+    let made = made_by (with_part p) (literal (p.length - 1) bs) c e in
     let inside = closes_within (p.length - 1) bs made.from made.is in
     let longer : 1 + made.from.length ≡ c.length = ap (λ x. x.length) made.gives in
     let short : made.from.length ≤ k = omega (arith, longer, le) in
     let len : length (take k bs) ≡ min k (length bs) = length-take k bs in
-    let same : piece_at b (take k bs) ≡ p = piece_at-take b k bs (omega (arith, len, short, inside.past, inside.within)) (omega (arith, len, short, inside.past, inside.within)) in
-    ap (λ q. option_map (with_piece q) (literal (q.length - 1) (take k bs))) same
-    ∙ ap (option_map (with_piece p)) (rest (p.length - 1) made.from short made.is)
+    let same : part_at b (take k bs) ≡ p = part_at-take b k bs (omega (arith, len, short, inside.past, inside.within)) (omega (arith, len, short, inside.past, inside.within)) in
+    ap (λ q. option_map (with_part q) (literal (q.length - 1) (take k bs))) same
+    ∙ ap (option_map (with_part p)) (rest (p.length - 1) made.from short made.is)
     ∙ ap Some made.gives
 
 pub literal-take : (skipped k : ℕ) (bytes : List ℕ) (c : Closed) → c.length ≤ k → literal skipped bytes ≡ Some c → literal skipped (take k bytes) ≡ Some c

@@ -1,4 +1,4 @@
--- How a literal is read on, from a piece to the next.
+-- How a literal is read on, from a part to the next.
 use Rattle.std.proofs.Common.{◌≡◌, ℕ, zero, suc, ◌+◌, ◌-◌, ◌≤◌, ◌<◌, Bool, true, false, cond, nat_eq, nat_lt, List, [], ◌∷◌, ◌++◌, length, take, drop, get_or, sum, Option, Some, None, Ok, refl, sym, ap, ◌∙◌, subst, arith, append_assoc, append-nil, length-drop, get_or-drop, tests}
 use Rattle.std.specs.Option.{option_map, option_or}
 use Rattle.std.specs.List.{prefix_len}
@@ -7,7 +7,7 @@ use Rattle.std.proofs.lemmas.List.Sums.{prefix_len-le-length}
 use Rattle.std.proofs.lemmas.Bool.{le-ltb, lt-ltb}
 use Rattle.ctd_token.specs.declared.fault.LoadKind.TheVariants.{UnfinishedString, BadOctal}
 use Rattle.ctd_token.specs.declared.token.TokenKind.TheVariants as tokens
-use Rattle.ctd_token.specs.Literal.{Piece, piece, after_backslash, piece_at, is_plain, Closed, closed_here, one_later, with_piece, literal}
+use Rattle.ctd_token.specs.Literal.{LiteralPart, literal_part, after_backslash, part_at, is_plain, Closed, closed_here, one_later, with_part, literal}
 use Rattle.ctd_token.specs.Cut.{Found, wrong, closed_text, text_at}
 
 -- a literal with n bytes in front, which stand for these values and have this octal escape above 255
@@ -37,7 +37,7 @@ unchanged : (o : Option Closed) → o ≡ option_map (joined [] None 0) o
 unchanged None = refl
 unchanged (Some c) = ap Some (same_closed c (joined [] None 0 c) refl (shifted_none c.bad_octal) (omega arith))
 
--- bytes of the last piece are passed over
+-- bytes of the last part are passed over
 pub skipped : (n : ℕ) (bs : List ℕ) → literal n bs ≡ option_map (joined [] None n) (literal 0 (drop n bs))
 skipped zero bs = unchanged (literal 0 bs)
 skipped (suc n) [] = refl
@@ -45,7 +45,7 @@ skipped (suc n) (b ∷ bs) =
     let one_more : (c : Closed) → one_later (joined [] None n c) ≡ joined [] None (suc n) c = λ c. same_closed (one_later (joined [] None n c)) (joined [] None (suc n) c) refl (shifted_twice 1 n (suc n) c.bad_octal (omega arith)) (omega arith) in
     ap (option_map one_later) (skipped n bs) ∙ map_map one_later (joined [] None n) (joined [] None (suc n)) one_more (literal 0 (drop n bs))
 
--- where the octal escape above 255 is in a piece that stands for these values
+-- where the octal escape above 255 is in a part that stands for these values
 abbrev pub bad_of : List ℕ → Option ℕ
 bad_of vs = cond (nat_lt 255 (sum vs)) (Some 0) None
 
@@ -53,17 +53,17 @@ bad_first : (large : Bool) (m : ℕ) (o : Option ℕ) → cond large (Some 0) (o
 bad_first true m o = refl
 bad_first false m o = shifted_twice 1 m (suc m) o (omega arith)
 
--- a piece is read
-pub piece_read : (b : ℕ) (bs : List ℕ) (p : Piece) (m : ℕ) → nat_eq b 34 ≡ false → piece_at b bs ≡ p → p.length ≡ suc m → literal 0 (b ∷ bs) ≡ option_map (joined p.values (bad_of p.values) (suc m)) (literal 0 (drop m bs))
-piece_read b bs p m unquoted is long =
-    let by_piece : Option Closed = option_map (with_piece (piece_at b bs)) (literal ((piece_at b bs).length - 1) bs) in
+-- a part is read
+pub part_read : (b : ℕ) (bs : List ℕ) (p : LiteralPart) (m : ℕ) → nat_eq b 34 ≡ false → part_at b bs ≡ p → p.length ≡ suc m → literal 0 (b ∷ bs) ≡ option_map (joined p.values (bad_of p.values) (suc m)) (literal 0 (drop m bs))
+part_read b bs p m unquoted is long =
+    let by_part : Option Closed = option_map (with_part (part_at b bs)) (literal ((part_at b bs).length - 1) bs) in
     let less : p.length - 1 ≡ m = omega arith in
-    let joins : (c : Closed) → with_piece p (joined [] None m c) ≡ joined p.values (bad_of p.values) (suc m) c = λ c. same_closed (with_piece p (joined [] None m c)) (joined p.values (bad_of p.values) (suc m) c) refl (bad_first (nat_lt 255 (sum p.values)) m c.bad_octal) (omega arith) in
-    ap (λ t. cond t (Some closed_here) by_piece) unquoted
-    ∙ ap (λ q. option_map (with_piece q) (literal (q.length - 1) bs)) is
-    ∙ ap (λ k. option_map (with_piece p) (literal k bs)) less
-    ∙ ap (option_map (with_piece p)) (skipped m bs)
-    ∙ map_map (with_piece p) (joined [] None m) (joined p.values (bad_of p.values) (suc m)) joins (literal 0 (drop m bs))
+    let joins : (c : Closed) → with_part p (joined [] None m c) ≡ joined p.values (bad_of p.values) (suc m) c = λ c. same_closed (with_part p (joined [] None m c)) (joined p.values (bad_of p.values) (suc m) c) refl (bad_first (nat_lt 255 (sum p.values)) m c.bad_octal) (omega arith) in
+    ap (λ t. cond t (Some closed_here) by_part) unquoted
+    ∙ ap (λ q. option_map (with_part q) (literal (q.length - 1) bs)) is
+    ∙ ap (λ k. option_map (with_part p) (literal k bs)) less
+    ∙ ap (option_map (with_part p)) (skipped m bs)
+    ∙ map_map (with_part p) (joined [] None m) (joined p.values (bad_of p.values) (suc m)) joins (literal 0 (drop m bs))
 
 bad_twice : (bad other : Option ℕ) (n m : ℕ) (o : Option ℕ) → option_or bad (option_map (λ k. n + k) (option_or other (option_map (λ k. m + k) o))) ≡ option_or (option_or bad (option_map (λ k. n + k) other)) (option_map (λ k. n + m + k) o)
 bad_twice (Some k) other n m o = refl
@@ -93,7 +93,7 @@ plain_read (suc n) (b ∷ bs) small le =
     let unquoted : nat_eq b 34 ≡ false = grind (arith, tests, goes.0) in
     let itself : nat_eq b 92 ≡ false = grind (arith, tests, goes.0) in
     let fits : bad_of (b ∷ []) ≡ None = small_values (b ∷ []) (omega arith) in
-    let one : literal 0 (b ∷ bs) ≡ option_map (joined (b ∷ []) (bad_of (b ∷ [])) 1) (literal 0 bs) = piece_read b bs (piece (b ∷ []) 1) 0 unquoted (ap (λ t. cond t (after_backslash bs) (piece (b ∷ []) 1)) itself) refl in
+    let one : literal 0 (b ∷ bs) ≡ option_map (joined (b ∷ []) (bad_of (b ∷ [])) 1) (literal 0 bs) = part_read b bs (literal_part (b ∷ []) 1) 0 unquoted (ap (λ t. cond t (after_backslash bs) (literal_part (b ∷ []) 1)) itself) refl in
     let joins : (c : Closed) → joined (b ∷ []) None 1 (joined (take n bs) None n c) ≡ joined (b ∷ take n bs) None (suc n) c = λ c. same_closed (joined (b ∷ []) None 1 (joined (take n bs) None n c)) (joined (b ∷ take n bs) None (suc n) c) refl (shifted_twice 1 n (suc n) c.bad_octal (omega arith)) (omega arith) in
     one
     ∙ ap (λ o. option_map (joined (b ∷ []) o 1) (literal 0 bs)) fits
@@ -164,13 +164,13 @@ plain_on bytes values new bad at m r small is made =
 escape_read : (bytes : List ℕ) (at m : ℕ) (vs : List ℕ) → at < length bytes → get_or bytes at 0 ≡ 92 → vs ≡ (after_backslash (drop (at + 1) bytes)).values → m ≡ (after_backslash (drop (at + 1) bytes)).length → 0 < m → literal 0 (drop at bytes) ≡ option_map (joined vs (bad_of vs) m) (literal 0 (drop (at + m) bytes))
 escape_read bytes at m vs lt backslash means long some =
     let rest : List ℕ = drop (at + 1) bytes in
-    let p : Piece = after_backslash rest in
+    let p : LiteralPart = after_backslash rest in
     let next : p.length ≡ suc (m - 1) = omega arith in
     let one : suc (m - 1) ≡ m = omega arith in
     let on_by : at + 1 + (m - 1) ≡ at + m = omega arith in
     at_drop_more (literal 0) bytes at 0 lt
     ∙ ap (λ b. literal 0 (b ∷ rest)) backslash
-    ∙ piece_read 92 rest p (m - 1) refl refl next
+    ∙ part_read 92 rest p (m - 1) refl refl next
     ∙ ap (λ l. option_map (joined p.values (bad_of p.values) (suc (m - 1))) (literal 0 l)) (drop-drop (m - 1) (at + 1) bytes ∙ ap (λ k. drop k bytes) on_by)
     ∙ ap (λ k. option_map (joined p.values (bad_of p.values) k) (literal 0 (drop (at + m) bytes))) one
     ∙ ap (λ v. option_map (joined v (bad_of v) m) (literal 0 (drop (at + m) bytes))) (sym means)

@@ -29,7 +29,7 @@ mark_of (a ∷ []) = single_mark a
 mark_of (a ∷ b ∷ []) = double_mark a b
 mark_of (a ∷ b ∷ c ∷ more) = None
 
--- a string literal with its quotes: an opening quote, and pieces up to the closing quote at the end
+-- a string literal with its quotes: an opening quote, and parts up to the closing quote at the end
 pub record IsLiteral (bytes : List ℕ) : Type 0 where
   pub after : List ℕ
   pub closed : Closed

@@ -15,33 +15,33 @@ abbrev pub octal : List ℕ → ℕ
 octal digits = fold (λ n b. 8 * n + (b - 48)) 0 digits
 
 -- the next bytes of a literal: what they stand for, and how many they are
-pub record Piece : Type 0 where
+pub record LiteralPart : Type 0 where
   pub values : List ℕ
   pub length : ℕ
 
 -- so many bytes stand for these values
-abbrev pub piece : List ℕ → ℕ → Piece
-piece values length = record { values = values; length = length }
+abbrev pub literal_part : List ℕ → ℕ → LiteralPart
+literal_part values length = record { values = values; length = length }
 
 -- a backslash and a byte that is no octal digit: `n`, `t`, `r`, `b`, a quote, a backslash, a line feed, and any other, which is then read by itself
-abbrev pub escape : ℕ → Piece
+abbrev pub escape : ℕ → LiteralPart
 escape b =
-    if nat_eq b 110 then piece (10 ∷ []) 2
-    else if nat_eq b 116 then piece (9 ∷ []) 2
-    else if nat_eq b 114 then piece (13 ∷ []) 2
-    else if nat_eq b 98 then piece (8 ∷ []) 2
-    else if nat_eq b 34 then piece (34 ∷ []) 2
-    else if nat_eq b 92 then piece (92 ∷ []) 2
-    else if nat_eq b 10 then piece [] 2
-    else piece (92 ∷ []) 1
+    if nat_eq b 110 then literal_part (10 ∷ []) 2
+    else if nat_eq b 116 then literal_part (9 ∷ []) 2
+    else if nat_eq b 114 then literal_part (13 ∷ []) 2
+    else if nat_eq b 98 then literal_part (8 ∷ []) 2
+    else if nat_eq b 34 then literal_part (34 ∷ []) 2
+    else if nat_eq b 92 then literal_part (92 ∷ []) 2
+    else if nat_eq b 10 then literal_part [] 2
+    else literal_part (92 ∷ []) 1
 
 -- a backslash and the octal digits after it
-abbrev pub octal_escape : List ℕ → Piece
-octal_escape bytes = piece (octal (take (octal_len bytes) bytes) ∷ []) (1 + octal_len bytes)
+abbrev pub octal_escape : List ℕ → LiteralPart
+octal_escape bytes = literal_part (octal (take (octal_len bytes) bytes) ∷ []) (1 + octal_len bytes)
 
 -- a backslash and the bytes after it: an octal escape, another one, or the backslash alone
-abbrev pub after_backslash : List ℕ → Piece
-after_backslash [] = piece (92 ∷ []) 1
+abbrev pub after_backslash : List ℕ → LiteralPart
+after_backslash [] = literal_part (92 ∷ []) 1
 after_backslash (b ∷ bs) =
     if is_octal b then octal_escape (b ∷ bs) else escape b
 
@@ -50,8 +50,8 @@ abbrev pub is_plain : ℕ → Bool
 is_plain b = not (nat_eq b 34) && not (nat_eq b 92)
 
 -- any other byte stands for itself
-abbrev pub piece_at : ℕ → List ℕ → Piece
-piece_at b bs = if nat_eq b 92 then after_backslash bs else piece (b ∷ []) 1
+abbrev pub part_at : ℕ → List ℕ → LiteralPart
+part_at b bs = if nat_eq b 92 then after_backslash bs else literal_part (b ∷ []) 1
 
 -- a literal read up to its closing quote: what it stands for, where its first octal escape above 255 is, and its length with the quote
 pub record Closed : Type 0 where
@@ -67,18 +67,18 @@ closed_here = record { values = []; bad_octal = None; length = 1 }
 abbrev pub one_later : Closed → Closed
 one_later c = record { values = c.values; bad_octal = option_map (λ n. 1 + n) c.bad_octal; length = 1 + c.length }
 
--- a piece in front: only an octal escape stands for more than 255
-abbrev pub with_piece : Piece → Closed → Closed
-with_piece p c = record {
+-- a part in front: only an octal escape stands for more than 255
+abbrev pub with_part : LiteralPart → Closed → Closed
+with_part p c = record {
   values = p.values ++ c.values;
   bad_octal = if nat_lt 255 (sum p.values) then Some 0 else option_map (λ n. 1 + n) c.bad_octal;
   length = 1 + c.length;
 }
 
--- piece by piece to the closing quote, after some bytes that belong to the last piece; nothing where no quote closes
+-- part by part to the closing quote, after some bytes that belong to the last part; nothing where no quote closes
 abbrev pub literal : (skipped : ℕ) → List ℕ → Option Closed
 literal skipped [] = None
 literal (suc n) (b ∷ bs) = option_map one_later (literal n bs)
 literal zero (b ∷ bs) =
     if nat_eq b 34 then Some closed_here
-    else option_map (with_piece (piece_at b bs)) (literal ((piece_at b bs).length - 1) bs)
+    else option_map (with_part (part_at b bs)) (literal ((part_at b bs).length - 1) bs)

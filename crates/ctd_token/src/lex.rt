@@ -37,7 +37,7 @@ pub fn advance(place: Place, text: &[u8], at: usize, to: usize) -> Place
 }
 
 // The token of so many bytes at an offset, which has this place.
-fn spanned(kind: TokenKind, at: usize, len: usize, start: Place) -> Token
+fn token_with_span(kind: TokenKind, at: usize, len: usize, start: Place) -> Token
     requires { at + len < 2 ^ 32 }
     ensures { result ≡ record { kind = kind; first = at; after = at + len; place = start } }
 {
@@ -50,7 +50,7 @@ fn spanned(kind: TokenKind, at: usize, len: usize, start: Place) -> Token
 }
 
 // The fault of a token that begins at an offset of the text.
-fn placed(fault: TokenFault, place: Place, text: &[u8], at: usize) -> LoadFault
+fn fault_at(fault: TokenFault, place: Place, text: &[u8], at: usize) -> LoadFault
     requires short { length text.now ≤ PROGRAM_LIMIT }
     requires here { place ≡ place_at text.now at }
     requires within { at ≤ length text.now }
@@ -96,9 +96,9 @@ pub fn tokens(alloc: Global, text: &[u8]) -> Result<Vec<Token>, LoadFault>
     while at < text.len() {
         let (kind, len) = match token_at(alloc, &text[at..]) {
             Ok(found) => found,
-            Err(fault) => return Err(placed(fault, place, text, at)),
+            Err(fault) => return Err(fault_at(fault, place, text, at)),
         };
-        tokens.push(spanned(kind, at, len, place))?;
+        tokens.push(token_with_span(kind, at, len, place))?;
         let after = at + len;
         let next = after + gap_len(&text[after..]);
         place = advance(place, text, at, next);

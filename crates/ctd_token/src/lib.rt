@@ -2,16 +2,16 @@
 #![tactic(auto)]
 
 mod display;
-pub mod fault;
+mod fault;
 mod laws;
 mod lex;
-pub mod limits;
+mod limits;
 mod literal;
 mod scan;
 #[cfg(test)]
 mod tests;
-pub mod text;
-pub mod token;
+mod text;
+mod token;
 
 pub use fault::{LoadFault, LoadKind, TokenFault};
 pub use laws::{tokens_are_longest, tokens_are_unique};

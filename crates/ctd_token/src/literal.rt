@@ -13,13 +13,13 @@ use std::alloc::Global;
 
 /// The next bytes of a literal: what they stand for, if anything, and how many they are.
 #[derive(Clone, Copy, Debug, PartialEq, Eq)]
-struct Piece {
+struct LiteralPart {
     value: Option<u16>,
     length: usize,
 }
 
 // A backslash that begins no escape, and stands for itself.
-const LONE_BACKSLASH: Piece = Piece {
+const LONE_BACKSLASH: LiteralPart = LiteralPart {
     value: Some(b'\\' as u16),
     length: 1,
 };
@@ -42,7 +42,7 @@ fn plain_len(bytes: &[u8]) -> usize
 }
 
 // A backslash and up to three octal digits.
-fn octal_escape(bytes: &[u8]) -> Piece
+fn octal_escape(bytes: &[u8]) -> LiteralPart
     ensures value { option_to_list result.value ≡ (octal_escape bytes.now).values }
     ensures length { result.length ≡ (octal_escape bytes.now).length }
     ensures within { result.length ≤ 1 + length bytes.now }
@@ -53,14 +53,14 @@ fn octal_escape(bytes: &[u8]) -> Piece
         value = 8 * value + (bytes[n] - b'0') as u16;
         n += 1;
     }
-    Piece {
+    LiteralPart {
         value: Some(value),
         length: 1 + n,
     }
 }
 
 // A backslash and a byte that is no octal digit.
-fn escape(b: u8) -> Piece
+fn escape(b: u8) -> LiteralPart
     ensures value { option_to_list result.value ≡ (escape b).values }
     ensures length { result.length ≡ (escape b).length }
 {
@@ -71,21 +71,21 @@ fn escape(b: u8) -> Piece
         b'b' => b'\x08',
         b'"' | b'\\' => b,
         b'\n' => {
-            return Piece {
+            return LiteralPart {
                 value: None,
                 length: 2,
             };
         }
         _ => return LONE_BACKSLASH,
     };
-    Piece {
+    LiteralPart {
         value: Some(byte as u16),
         length: 2,
     }
 }
 
 // A backslash, and the bytes after it.
-fn after_backslash(bytes: &[u8]) -> Piece
+fn after_backslash(bytes: &[u8]) -> LiteralPart
     ensures value { option_to_list result.value ≡ (after_backslash bytes.now).values }
     ensures length { result.length ≡ (after_backslash bytes.now).length }
     ensures within { result.length ≤ 1 + length bytes.now }
@@ -122,13 +122,13 @@ pub(crate) fn text_at(alloc: Global, bytes: &[u8]) -> Result<(TokenKind, usize),
             };
         }
         if bytes[at] == b'\\' {
-            let piece = after_backslash(&bytes[at + 1..]);
-            match piece.value {
+            let part = after_backslash(&bytes[at + 1..]);
+            match part.value {
                 Some(value) if value > 255 => bad_octal = bad_octal.or(Some(at)),
                 Some(value) => values.push(value as u8)?,
                 None => {}
             }
-            at += piece.length;
+            at += part.length;
         } else {
             let n = plain_len(&bytes[at..]);
             values.extend_from_slice(&bytes[at..at + n])?;

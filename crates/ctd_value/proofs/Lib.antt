@@ -8,5 +8,5 @@ pub mod Merged
 pub mod Ordinary
 pub mod Powers
 pub mod Small
-pub mod Steps
+pub mod ListTraversal
 pub mod StoreLaws

@@ -2,20 +2,24 @@
 #![tactic(auto)]
 
 mod arithmetic;
-pub mod expression;
-pub mod fault;
-pub mod laws;
+mod condition;
+mod expression;
+mod fault;
+mod laws;
 mod lent;
 mod order;
-mod plain_test;
-pub mod store;
-pub mod test;
+mod pure_test;
+mod store;
 mod unique;
-pub mod value;
+mod value;
 mod variables;
 
+pub use condition::holds;
 pub use expression::{count_of, eval, index_values, locate};
 pub use fault::{EvalFault, TestFault};
+pub use laws::{
+    assignment_sets_one_key, presets_give_first_values, unset_clears_one_name,
+    values_are_of_distinct_keys,
+};
 pub use store::{EntryRef, Indices, Store};
-pub use test::holds;
 pub use value::{Key, Value};

@@ -7,15 +7,15 @@ use crate::source::{Seen, Source};
 use crate::spot::Spot;
 
 impl<'d, R: Source> Cursor<'d, R> {
-    ghost use Rattle.ctd_source.specs.Sight.{sight, source as source_now};
+    ghost use Rattle.ctd_source.specs.CursorState.{state_of, source as source_now};
 
     /// The first of the bytes that are held, as many as lie in one piece and before the limit: these may be looked at
     /// one after the other with no read. There are some, where any is held and the next one lies before the limit.
     pub fn held_run(&self) -> &[u8]
-        ensures front { take (length result.now) (sight self.now).held ≡ result.now }
-        ensures held { length result.now ≤ length (sight self.now).held }
-        ensures within { 0 < length result.now → (sight self.now).spot.offset + length result.now ≤ (sight self.now).limit }
-        ensures some { 0 < length (sight self.now).held → (sight self.now).spot.offset < (sight self.now).limit → 0 < length result.now }
+        ensures front { take (length result.now) (state_of self.now).held ≡ result.now }
+        ensures held { length result.now ≤ length (state_of self.now).held }
+        ensures within { 0 < length result.now → (state_of self.now).spot.offset + length result.now ≤ (state_of self.now).limit }
+        ensures some { 0 < length (state_of self.now).held → (state_of self.now).spot.offset < (state_of self.now).limit → 0 < length result.now }
     {
         let (front, back) = self.window.as_slices();
         let run = if front.is_empty() { back } else { front };
@@ -28,8 +28,8 @@ impl<'d, R: Source> Cursor<'d, R> {
 
     /// How many bytes are held: those that were taken and not yet passed.
     pub fn held(&self) -> usize
-        ensures held { result ≡ length (sight self.now).held }
-        ensures counted { (sight self.now).taken ≡ (sight self.now).spot.offset + result }
+        ensures held { result ≡ length (state_of self.now).held }
+        ensures counted { (state_of self.now).taken ≡ (state_of self.now).spot.offset + result }
         ensures within { result ≤ WINDOW }
     {
         self.window.len()
@@ -37,22 +37,22 @@ impl<'d, R: Source> Cursor<'d, R> {
 
     /// How many bytes were taken from the source since the start.
     pub fn taken(&self) -> u64
-        ensures taken { result ≡ (sight self.now).taken }
-        ensures within { result ≤ (sight self.now).limit + 1 }
+        ensures taken { result ≡ (state_of self.now).taken }
+        ensures within { result ≤ (state_of self.now).limit + 1 }
     {
         self.taken
     }
 
     /// The spot of the next byte: line and column from 1, the column in bytes.
     pub fn spot(&self) -> Spot
-        ensures { result ≡ (sight self.now).spot }
+        ensures { result ≡ (state_of self.now).spot }
     {
         self.spot
     }
 
     /// What was seen of the source's end.
     pub fn seen(&self) -> Seen
-        ensures seen { result ≡ (sight self.now).seen }
+        ensures seen { result ≡ (state_of self.now).seen }
         ensures source { result ≡ R.seen (source_now self.now) }
     {
         self.intake.seen

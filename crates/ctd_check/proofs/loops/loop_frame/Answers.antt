@@ -9,10 +9,10 @@ use Rattle.ctd_check.proofs.loops.loop_frame.Goals as goal
 pub returns-clause-tasks : goal.returns-clause-tasks
 returns-clause-tasks c =
     let body = ap command_trees c.as_slice.ensures ∙ sym (list_commands c.args.body.now) in
-    ap (λ s. turn (loop_of c.args.place (guard_in c.args.guard) (counter_in c.args.counter) s (command_trees c.as_slice.result.now)) 0 ∷ []) c.unboxed-between.ensures.same
+    ap (λ s. turn (loop_of c.args.place (guard_in c.args.guard) (counter_in c.args.counter) s (command_trees c.as_slice.result.now)) 0 ∷ []) c.unbox-between.ensures.same
     ∙ ap (λ b. turn (loop_of c.args.place (guard_in c.args.guard) (counter_in c.args.counter) (boxed_separator c.args.between.now) b) 0 ∷ []) body
 
 pub returns-clause-blocks : goal.returns-clause-blocks
 returns-clause-blocks c =
     let body = ap command_trees c.as_slice.ensures ∙ sym (list_commands c.args.body.now) in
-    omega (arith, ap separator_blocks c.unboxed-between.ensures.same, ap list_blocks body)
+    omega (arith, ap separator_blocks c.unbox-between.ensures.same, ap list_blocks body)

@@ -1,5 +1,5 @@
 use Rattle.std.proofs.Common.{◌++◌, arith, ap, sym, ◌∙◌, refl}
-use Rattle.ctd_source.proofs.Going.{goes_so, goes_both}
+use Rattle.ctd_source.proofs.AdvanceLemmas.{advances_so, advances_both}
 use Rattle.ctd_check.specs.Run.{run}
 use Rattle.ctd_check.specs.Pending.{to_do, frame_tasks}
 use Rattle.ctd_check.specs.Performs.{state}
@@ -15,7 +15,7 @@ loop-frame-preserved g c =
       sound = c.in_ok-advance.ensures.advances.sound;
       known = c.in_ok-advance.ensures.known;
       spent = omega (arith, c.loop-frame.invariant.spent, c.in_ok-advance.ensures.spent, c.in-Some.ensures.left);
-      goes = goes_so (goes_both c.loop-frame.invariant.goes c.in_ok-advance.ensures.advances.goes)
+      goes = advances_so (advances_both c.loop-frame.invariant.goes c.in_ok-advance.ensures.advances.goes)
           (λ d _ e. e.0 ∙ ap (λ ts. run d c.loop-frame.agenda.left ts (state c.loop-frame.run)) split ∙ ap (λ n. run d n (frame_tasks c.in-Some.frame ++ to_do c.pop.new.self.frames.items) (state c.loop-frame.run)) (sym c.in-Some.ensures.left) ∙ e.1);
     }
 
@@ -30,7 +30,7 @@ conclude-requires-clause-done g c = c.in_default.ensures.empty
 pub returns-clause-ends : goal.returns-clause-ends
 returns-clause-ends g c = record {
   sound = c.conclude.ensures.ends.sound;
-  goes = goes_so (goes_both c.loop-frame.invariant.goes c.conclude.ensures.ends.goes)
+  goes = advances_so (advances_both c.loop-frame.invariant.goes c.conclude.ensures.ends.goes)
       (λ d _ e. follows_as d c.conclude.result c.conclude.new.agenda.left _ (state c.conclude.new.run) _ _ (e.0 ∙ ap (λ fs. run d c.loop-frame.agenda.left (to_do fs) (state c.loop-frame.run)) (c.in_default.ensures.frames ∙ sym c.in_default.ensures.empty) ∙ ap (λ n. run d n (to_do c.pop.new.self.frames.items) (state c.loop-frame.run)) (sym c.in_default.ensures.left)) e.1);
 }
 

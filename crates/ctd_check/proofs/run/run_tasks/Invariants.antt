@@ -1,5 +1,5 @@
 use Rattle.std.proofs.Common.{◌≡◌, ◌≤◌, ◌+◌, ◌*◌, length}
-use Rattle.ctd_source.specs.Follow.{Goes}
+use Rattle.ctd_source.specs.Received.{AdvancesSuchThat}
 use Rattle.ctd_check.specs.Run.{run}
 use Rattle.ctd_check.specs.Known.{AreKnown}
 use Rattle.ctd_check.specs.Pending.{to_do}
@@ -12,7 +12,7 @@ invariant-loop-frame g l = record {
   sound : IsSound l.run;
   known : AreKnown l.matchers (to_do l.agenda.frames.items);
   spent : l.agenda.left ≤ l.initial.agenda.left;
-  goes : Goes l.initial.run.cursor l.run.cursor (λ d. run d l.initial.agenda.left (to_do l.initial.agenda.frames.items) (state l.initial.run) ≡ run d l.agenda.left (to_do l.agenda.frames.items) (state l.run));
+  goes : AdvancesSuchThat l.initial.run.cursor l.run.cursor (λ d. run d l.initial.agenda.left (to_do l.initial.agenda.frames.items) (state l.initial.run) ≡ run d l.agenda.left (to_do l.agenda.frames.items) (state l.run));
 }
 
 abbrev pub decreases-loop-frame : goal.decreases-loop-frame

@@ -2,9 +2,9 @@ use Rattle.std.proofs.Common.{◌≡◌, ◌≤◌, ◌<◌, ℕ, ◌+◌, ◌++
 use Rattle.std.specs.Prelude.{slice_get}
 use Rattle.std.specs.List.{common_prefix_len}
 use Rattle.std.proofs.lemmas.List.Sums.{common_prefix_len-le}
-use Rattle.ctd_source.specs.Sight.{sight}
+use Rattle.ctd_source.specs.CursorState.{state_of}
 use Rattle.ctd_source.specs.TestData.{visible}
-use Rattle.ctd_source.proofs.Going.{goes_so, goes_both, goes_looking, goes_moving}
+use Rattle.ctd_source.proofs.AdvanceLemmas.{advances_so, advances_both, advances_looking, advances_moving}
 use Rattle.ctd_source.proofs.Visible.{seen_byte}
 use Rattle.ctd_check.proofs.DigitRuns.{some_held}
 use Rattle.ctd_check.proofs.Integers.{run_seen}
@@ -30,26 +30,26 @@ returns-in-Ok-Some-clause-passes g c =
     let same : s.spot.offset ≡ c.args.cursor.now.spot.offset = ap (λ x. x.offset) r.spot in
     let le = common_prefix_len-le nat_eq wanted run in
     let within : count ≤ length run = omega (arith, c.common_len-count.ensures, le.1) in
-    let first : slice_get (sight s).held 0 ≡ Some c.in-Ok-Some._byte = sym c.in-Ok-Some.ensures.held ∙ c.in-Ok-Some.field-0-is in
+    let first : slice_get (state_of s).held 0 ≡ Some c.in-Ok-Some._byte = sym c.in-Ok-Some.ensures.held ∙ c.in-Ok-Some.field-0-is in
     let below : s.spot.offset < s.limit = (let P : Option ℕ → Type 0 = λ o. IfSome o (λ _. s.spot.offset < s.limit) in subst P c.in-Ok-Some.field-0-is c.in-Ok-Some.ensures.within) in
-    let some : 0 < length run = c.held_run.ensures.some (some_held (sight s).held c.in-Ok-Some._byte first) below in
-    let seen = goes_so (goes_moving count s t m) (λ d stand _. run_seen d (sight s) run count t.spot.offset stand.before s.counted within c.held_run.ensures.front c.held_run.ensures.held c.held_run.ensures.within m.offset) in
+    let some : 0 < length run = c.held_run.ensures.some (some_held (state_of s).held c.in-Ok-Some._byte first) below in
+    let seen = advances_so (advances_moving count s t m) (λ d stand _. run_seen d (state_of s) run count t.spot.offset stand.before s.counted within c.held_run.ensures.front c.held_run.ensures.held c.held_run.ensures.within m.offset) in
     let front : take count run ≡ take count wanted = ap (λ k. take k run) c.common_len-count.ensures ∙ sym (same_front wanted run) ∙ ap (λ k. take k wanted) (sym c.common_len-count.ensures) in
-    goes_so (goes_both (goes_looking c.args.cursor.now s _ r (c.in-Ok-Some.ensures.answer c.requires.sound)) seen)
+    advances_so (advances_both (advances_looking c.args.cursor.now s _ r (c.in-Ok-Some.ensures.answer c.requires.sound)) seen)
     (λ d _ e.
     let next = e.0 ∙ ap Ok c.in-Ok-Some.field-0-is in
     front_passed wanted d c.args.cursor.now.spot.offset t.spot.offset count c.in-Ok-Some._byte (m.offset ∙ ap (λ p. p + count) same)
     (ap (visible d) (sym same) ∙ e.1.1 ∙ ap (λ xs. xs ++ visible d t.spot.offset) front) next
     (λ none. ap (common_prefix_len nat_eq wanted) (seen_byte d c.args.cursor.now.spot.offset c.in-Ok-Some._byte next)
-    ∙ first_differs wanted run (sight s).held (visible d (c.args.cursor.now.spot.offset + 1)) c.in-Ok-Some._byte c.held_run.ensures.front some first (sym c.common_len-count.ensures ∙ none)))
+    ∙ first_differs wanted run (state_of s).held (visible d (c.args.cursor.now.spot.offset + 1)) c.in-Ok-Some._byte c.held_run.ensures.front some first (sym c.common_len-count.ensures ∙ none)))
 
 pub returns-in-Ok-None-clause-passes : goal.returns-in-Ok-None-clause-passes
 returns-in-Ok-None-clause-passes g c =
     let r = c.in-Ok-None.ensures.reads in
-    goes_so (goes_looking c.args.cursor.now c.look.new.self _ r (c.in-Ok-None.ensures.answer c.requires.sound))
+    advances_so (advances_looking c.args.cursor.now c.look.new.self _ r (c.in-Ok-None.ensures.answer c.requires.sound))
     (λ d _ e. front_ended c.args.wanted.now d c.args.cursor.now.spot.offset c.look.new.self.spot.offset (ap (λ s. s.offset) r.spot) (e ∙ ap Ok c.in-Ok-None.field-0-is))
 
 pub returns-in-Err-clause-passes : goal.returns-in-Err-clause-passes
 returns-in-Err-clause-passes g c =
     let r = c.in-Err.ensures.reads in
-    goes_so (goes_looking c.args.cursor.now c.look.new.self _ r (c.in-Err.ensures.answer c.requires.sound)) (λ d _ e. (ap (λ s. s.offset) r.spot, e))
+    advances_so (advances_looking c.args.cursor.now c.look.new.self _ r (c.in-Err.ensures.answer c.requires.sound)) (λ d _ e. (ap (λ s. s.offset) r.spot, e))

@@ -1,5 +1,5 @@
 use Rattle.std.proofs.Common.{◌≡◌, ◌≤◌, ◌-◌, length, take}
-use Rattle.ctd_source.specs.Sight.{Gave}
+use Rattle.ctd_source.specs.CursorState.{Gave}
 use Rattle.ctd_source.specs.declared.source.Seen.TheVariants.{Going}
 use Rattle.ctd_check.proofs.text.fill.Given as goal
 

@@ -1,11 +1,11 @@
 use Rattle.std.proofs.Common.{refl, arith, ap, ◌∙◌}
 use Rattle.std.specs.Prelude.{map}
 use Rattle.ctd_syntax.specs.Tree
-use Rattle.ctd_syntax.specs.Front.{Always, IsBefore, IsPair, piece}
+use Rattle.ctd_syntax.specs.Front.{Always, IsBefore, IsPair, lexeme}
 use Rattle.ctd_syntax.specs.Grammar.{IsExpr, IsTarget, IsTest, IsCommand, IsCommands}
 use Rattle.ctd_syntax.specs.Levels.{ends}
 use Rattle.ctd_syntax.specs.Tests.{test_ends}
-use Rattle.ctd_syntax.specs.CommandWords.{Behind, CommandsEnd, IsBlock, IsBranchEnd, IsLoopEnd}
+use Rattle.ctd_syntax.specs.CommandWords.{IsCommandRest, CommandsEnd, IsBlock, IsBranchEnd, IsLoopEnd}
 use Rattle.ctd_token.specs.declared.token.Mark.TheVariants.{Close, Comma}
 use Rattle.ctd_syntax.specs.declared.keyword.Keyword.TheVariants as words
 use Rattle.ctd_syntax.proofs.Fronts.{reads_as, refused_exit, before_reads, word_reads, pair_reads, first_none, second_none}
@@ -14,101 +14,101 @@ use Rattle.ctd_syntax.specs.View.{command_trees}
 use Rattle.ctd_syntax.proofs.Trees.{held_separator, list_commands, trees_then}
 use Rattle.ctd_syntax.proofs.command.+command.Goals as goal
 
-pub counted-returns-in_err-end-clause-tree : goal.counted-returns-in_err-end-clause-tree
-counted-returns-in_err-end-clause-tree t c = refused_exit IsLoopEnd (IsPair IsExpr IsLoopEnd) Always Always _ (map piece c.in_ok-count.rest.now) (map piece c.args.pieces.now) _ c.from_residual-in_err-end.result c.from_residual-in_err-end.ensures.1 (second_none IsExpr IsLoopEnd (ends 1) Always before_loop_end (map piece c.args.pieces.now) (map piece c.in_ok-count.rest.now) _ c.in_ok-count.ensures.tree) c.in_err-end.ensures.tree
+pub rep_tail-returns-in_err-end-clause-tree : goal.rep_tail-returns-in_err-end-clause-tree
+rep_tail-returns-in_err-end-clause-tree t c = refused_exit IsLoopEnd (IsPair IsExpr IsLoopEnd) Always Always _ (map lexeme c.in_ok-count.rest.now) (map lexeme c.args.tokens.now) _ c.from_residual-in_err-end.result c.from_residual-in_err-end.ensures.1 (second_none IsExpr IsLoopEnd (ends 1) Always before_loop_end (map lexeme c.args.tokens.now) (map lexeme c.in_ok-count.rest.now) _ c.in_ok-count.ensures.tree) c.in_err-end.ensures.tree
 
-pub counted-returns-clause-tree : goal.counted-returns-clause-tree
-counted-returns-clause-tree t c = pair_reads IsExpr IsLoopEnd (ends 1) Always before_loop_end (map piece c.args.pieces.now) (map piece c.in_ok-count.rest.now) (map piece c.in_ok-end.rest.now) _ _ c.in_ok-count.ensures.tree c.in_ok-end.ensures.tree
+pub rep_tail-returns-clause-tree : goal.rep_tail-returns-clause-tree
+rep_tail-returns-clause-tree t c = pair_reads IsExpr IsLoopEnd (ends 1) Always before_loop_end (map lexeme c.args.tokens.now) (map lexeme c.in_ok-count.rest.now) (map lexeme c.in_ok-end.rest.now) _ _ c.in_ok-count.ensures.tree c.in_ok-end.ensures.tree
 
-pub tested-returns-in_err-end-clause-tree : goal.tested-returns-in_err-end-clause-tree
-tested-returns-in_err-end-clause-tree t c = refused_exit IsLoopEnd (IsPair IsTest IsLoopEnd) Always Always _ (map piece c.in_ok-condition.rest.now) (map piece c.args.pieces.now) _ c.from_residual-in_err-end.result c.from_residual-in_err-end.ensures.1 (second_none IsTest IsLoopEnd (test_ends 1) Always test_before_loop_end (map piece c.args.pieces.now) (map piece c.in_ok-condition.rest.now) _ c.in_ok-condition.ensures.tree) c.in_err-end.ensures.tree
+pub while_tail-returns-in_err-end-clause-tree : goal.while_tail-returns-in_err-end-clause-tree
+while_tail-returns-in_err-end-clause-tree t c = refused_exit IsLoopEnd (IsPair IsTest IsLoopEnd) Always Always _ (map lexeme c.in_ok-condition.rest.now) (map lexeme c.args.tokens.now) _ c.from_residual-in_err-end.result c.from_residual-in_err-end.ensures.1 (second_none IsTest IsLoopEnd (test_ends 1) Always test_before_loop_end (map lexeme c.args.tokens.now) (map lexeme c.in_ok-condition.rest.now) _ c.in_ok-condition.ensures.tree) c.in_err-end.ensures.tree
 
-pub tested-returns-clause-tree : goal.tested-returns-clause-tree
-tested-returns-clause-tree t c = pair_reads IsTest IsLoopEnd (test_ends 1) Always test_before_loop_end (map piece c.args.pieces.now) (map piece c.in_ok-condition.rest.now) (map piece c.in_ok-end.rest.now) _ _ c.in_ok-condition.ensures.tree c.in_ok-end.ensures.tree
+pub while_tail-returns-clause-tree : goal.while_tail-returns-clause-tree
+while_tail-returns-clause-tree t c = pair_reads IsTest IsLoopEnd (test_ends 1) Always test_before_loop_end (map lexeme c.args.tokens.now) (map lexeme c.in_ok-condition.rest.now) (map lexeme c.in_ok-end.rest.now) _ _ c.in_ok-condition.ensures.tree c.in_ok-end.ensures.tree
 
 pub branches-returns-in_err-else_do-clause-tree : goal.branches-returns-in_err-else_do-clause-tree
-branches-returns-in_err-else_do-clause-tree t c = refused_exit IsBranchEnd (IsPair IsCommands IsBranchEnd) Always Always _ (map piece c.in_ok-then_do.rest.now) (map piece c.args.pieces.now) _ c.from_residual-in_err-else_do.result c.from_residual-in_err-else_do.ensures.1 (second_none IsCommands IsBranchEnd CommandsEnd Always before_branch_end (map piece c.args.pieces.now) (map piece c.in_ok-then_do.rest.now) _ c.in_ok-then_do.ensures.tree) c.in_err-else_do.ensures.tree
+branches-returns-in_err-else_do-clause-tree t c = refused_exit IsBranchEnd (IsPair IsCommands IsBranchEnd) Always Always _ (map lexeme c.in_ok-then_do.rest.now) (map lexeme c.args.tokens.now) _ c.from_residual-in_err-else_do.result c.from_residual-in_err-else_do.ensures.1 (second_none IsCommands IsBranchEnd CommandsEnd Always before_branch_end (map lexeme c.args.tokens.now) (map lexeme c.in_ok-then_do.rest.now) _ c.in_ok-then_do.ensures.tree) c.in_err-else_do.ensures.tree
 
 pub branches-returns-clause-tree : goal.branches-returns-clause-tree
-branches-returns-clause-tree t c = pair_reads IsCommands IsBranchEnd CommandsEnd Always before_branch_end (map piece c.args.pieces.now) (map piece c.in_ok-then_do.rest.now) (map piece c.in_ok-else_do.rest.now) _ _ c.in_ok-then_do.ensures.tree c.in_ok-else_do.ensures.tree
+branches-returns-clause-tree t c = pair_reads IsCommands IsBranchEnd CommandsEnd Always before_branch_end (map lexeme c.args.tokens.now) (map lexeme c.in_ok-then_do.rest.now) (map lexeme c.in_ok-else_do.rest.now) _ _ c.in_ok-then_do.ensures.tree c.in_ok-else_do.ensures.tree
 
 pub rep-returns-in_err-count-clause-tree : goal.rep-returns-in_err-count-clause-tree
-rep-returns-in_err-count-clause-tree t c = refused_exit (IsPair IsExpr IsLoopEnd) (Behind words.Rep c.args.place) Always Always _ (map piece c.in-Some.after.now) (map piece c.args.pieces.now) _ c.from_residual.result c.from_residual.ensures.1 (opened_none (λ x. Tree.rep c.args.place x.0 x.1.0 x.1.1) (IsPair IsExpr IsLoopEnd) Always (map piece c.args.pieces.now) (map piece c.in-Some.after.now) c.in-Some.ensures.found) c.in_err-count.ensures.tree
+rep-returns-in_err-count-clause-tree t c = refused_exit (IsPair IsExpr IsLoopEnd) (IsCommandRest words.Rep c.args.place) Always Always _ (map lexeme c.in-Some.after.now) (map lexeme c.args.tokens.now) _ c.from_residual.result c.from_residual.ensures.1 (opened_none (λ x. Tree.rep c.args.place x.0 x.1.0 x.1.1) (IsPair IsExpr IsLoopEnd) Always (map lexeme c.args.tokens.now) (map lexeme c.in-Some.after.now) c.in-Some.ensures.found) c.in_err-count.ensures.tree
 
 pub rep-returns-clause-tree : goal.rep-returns-clause-tree
-rep-returns-clause-tree t c = rw (held_separator c.in_ok-count.between) (opened_reads (λ x. Tree.rep c.args.place x.0 x.1.0 x.1.1) (IsPair IsExpr IsLoopEnd) Always (map piece c.args.pieces.now) (map piece c.in-Some.after.now) (map piece c.in_ok-count.rest.now) _ c.in-Some.ensures.found c.in_ok-count.ensures.tree)
+rep-returns-clause-tree t c = rw (held_separator c.in_ok-count.between) (opened_reads (λ x. Tree.rep c.args.place x.0 x.1.0 x.1.1) (IsPair IsExpr IsLoopEnd) Always (map lexeme c.args.tokens.now) (map lexeme c.in-Some.after.now) (map lexeme c.in_ok-count.rest.now) _ c.in-Some.ensures.found c.in_ok-count.ensures.tree)
 
-pub repeat_while-returns-in_err-condition-clause-tree : goal.repeat_while-returns-in_err-condition-clause-tree
-repeat_while-returns-in_err-condition-clause-tree t c = refused_exit (IsPair IsTest IsLoopEnd) (Behind words.While c.args.place) Always Always _ (map piece c.in-Some.after.now) (map piece c.args.pieces.now) _ c.from_residual.result c.from_residual.ensures.1 (opened_none (λ x. Tree.while c.args.place x.0 x.1.0 x.1.1) (IsPair IsTest IsLoopEnd) Always (map piece c.args.pieces.now) (map piece c.in-Some.after.now) c.in-Some.ensures.found) c.in_err-condition.ensures.tree
+pub while_command-returns-in_err-condition-clause-tree : goal.while_command-returns-in_err-condition-clause-tree
+while_command-returns-in_err-condition-clause-tree t c = refused_exit (IsPair IsTest IsLoopEnd) (IsCommandRest words.While c.args.place) Always Always _ (map lexeme c.in-Some.after.now) (map lexeme c.args.tokens.now) _ c.from_residual.result c.from_residual.ensures.1 (opened_none (λ x. Tree.while c.args.place x.0 x.1.0 x.1.1) (IsPair IsTest IsLoopEnd) Always (map lexeme c.args.tokens.now) (map lexeme c.in-Some.after.now) c.in-Some.ensures.found) c.in_err-condition.ensures.tree
 
-pub repeat_while-returns-clause-tree : goal.repeat_while-returns-clause-tree
-repeat_while-returns-clause-tree t c = rw (held_separator c.in_ok-condition.between) (opened_reads (λ x. Tree.while c.args.place x.0 x.1.0 x.1.1) (IsPair IsTest IsLoopEnd) Always (map piece c.args.pieces.now) (map piece c.in-Some.after.now) (map piece c.in_ok-condition.rest.now) _ c.in-Some.ensures.found c.in_ok-condition.ensures.tree)
+pub while_command-returns-clause-tree : goal.while_command-returns-clause-tree
+while_command-returns-clause-tree t c = rw (held_separator c.in_ok-condition.between) (opened_reads (λ x. Tree.while c.args.place x.0 x.1.0 x.1.1) (IsPair IsTest IsLoopEnd) Always (map lexeme c.args.tokens.now) (map lexeme c.in-Some.after.now) (map lexeme c.in_ok-condition.rest.now) _ c.in-Some.ensures.found c.in_ok-condition.ensures.tree)
 
 pub repi-returns-in_err-counter-clause-tree : goal.repi-returns-in_err-counter-clause-tree
-repi-returns-in_err-counter-clause-tree t c = refused_exit (IsBefore Comma IsTarget) (Behind words.RepI c.args.place) Always Always _ (map piece c.in-Some.after.now) (map piece c.args.pieces.now) _ c.from_residual.result c.from_residual.ensures.1 (λ not. opened_none (λ x. Tree.repi c.args.place x.0 x.1.0 x.1.1.0 x.1.1.1) (IsPair (IsBefore Comma IsTarget) (IsPair IsExpr IsLoopEnd)) Always (map piece c.args.pieces.now) (map piece c.in-Some.after.now) c.in-Some.ensures.found (first_none (IsBefore Comma IsTarget) (IsPair IsExpr IsLoopEnd) Always Always (whatever (IsPair IsExpr IsLoopEnd)) (map piece c.in-Some.after.now) not)) c.in_err-counter.ensures.tree
+repi-returns-in_err-counter-clause-tree t c = refused_exit (IsBefore Comma IsTarget) (IsCommandRest words.RepI c.args.place) Always Always _ (map lexeme c.in-Some.after.now) (map lexeme c.args.tokens.now) _ c.from_residual.result c.from_residual.ensures.1 (λ not. opened_none (λ x. Tree.repi c.args.place x.0 x.1.0 x.1.1.0 x.1.1.1) (IsPair (IsBefore Comma IsTarget) (IsPair IsExpr IsLoopEnd)) Always (map lexeme c.args.tokens.now) (map lexeme c.in-Some.after.now) c.in-Some.ensures.found (first_none (IsBefore Comma IsTarget) (IsPair IsExpr IsLoopEnd) Always Always (whatever (IsPair IsExpr IsLoopEnd)) (map lexeme c.in-Some.after.now) not)) c.in_err-counter.ensures.tree
 
 pub repi-returns-in_err-count-clause-tree : goal.repi-returns-in_err-count-clause-tree
-repi-returns-in_err-count-clause-tree t c = refused_exit (IsPair IsExpr IsLoopEnd) (Behind words.RepI c.args.place) Always Always _ (map piece c.in_ok-counter.rest.now) (map piece c.args.pieces.now) _ c.from_residual-in_err-count.result c.from_residual-in_err-count.ensures.1 (λ not. opened_none (λ x. Tree.repi c.args.place x.0 x.1.0 x.1.1.0 x.1.1.1) (IsPair (IsBefore Comma IsTarget) (IsPair IsExpr IsLoopEnd)) Always (map piece c.args.pieces.now) (map piece c.in-Some.after.now) c.in-Some.ensures.found (second_none (IsBefore Comma IsTarget) (IsPair IsExpr IsLoopEnd) Always Always (whatever (IsPair IsExpr IsLoopEnd)) (map piece c.in-Some.after.now) (map piece c.in_ok-counter.rest.now) _ c.in_ok-counter.ensures.tree not)) c.in_err-count.ensures.tree
+repi-returns-in_err-count-clause-tree t c = refused_exit (IsPair IsExpr IsLoopEnd) (IsCommandRest words.RepI c.args.place) Always Always _ (map lexeme c.in_ok-counter.rest.now) (map lexeme c.args.tokens.now) _ c.from_residual-in_err-count.result c.from_residual-in_err-count.ensures.1 (λ not. opened_none (λ x. Tree.repi c.args.place x.0 x.1.0 x.1.1.0 x.1.1.1) (IsPair (IsBefore Comma IsTarget) (IsPair IsExpr IsLoopEnd)) Always (map lexeme c.args.tokens.now) (map lexeme c.in-Some.after.now) c.in-Some.ensures.found (second_none (IsBefore Comma IsTarget) (IsPair IsExpr IsLoopEnd) Always Always (whatever (IsPair IsExpr IsLoopEnd)) (map lexeme c.in-Some.after.now) (map lexeme c.in_ok-counter.rest.now) _ c.in_ok-counter.ensures.tree not)) c.in_err-count.ensures.tree
 
 pub repi-returns-clause-tree : goal.repi-returns-clause-tree
-repi-returns-clause-tree t c = rw (held_separator c.in_ok-count.between) (opened_reads (λ x. Tree.repi c.args.place x.0 x.1.0 x.1.1.0 x.1.1.1) (IsPair (IsBefore Comma IsTarget) (IsPair IsExpr IsLoopEnd)) Always (map piece c.args.pieces.now) (map piece c.in-Some.after.now) (map piece c.in_ok-count.rest.now) _ c.in-Some.ensures.found (pair_reads (IsBefore Comma IsTarget) (IsPair IsExpr IsLoopEnd) Always Always (whatever (IsPair IsExpr IsLoopEnd)) (map piece c.in-Some.after.now) (map piece c.in_ok-counter.rest.now) (map piece c.in_ok-count.rest.now) _ _ c.in_ok-counter.ensures.tree c.in_ok-count.ensures.tree))
+repi-returns-clause-tree t c = rw (held_separator c.in_ok-count.between) (opened_reads (λ x. Tree.repi c.args.place x.0 x.1.0 x.1.1.0 x.1.1.1) (IsPair (IsBefore Comma IsTarget) (IsPair IsExpr IsLoopEnd)) Always (map lexeme c.args.tokens.now) (map lexeme c.in-Some.after.now) (map lexeme c.in_ok-count.rest.now) _ c.in-Some.ensures.found (pair_reads (IsBefore Comma IsTarget) (IsPair IsExpr IsLoopEnd) Always Always (whatever (IsPair IsExpr IsLoopEnd)) (map lexeme c.in-Some.after.now) (map lexeme c.in_ok-counter.rest.now) (map lexeme c.in_ok-count.rest.now) _ _ c.in_ok-counter.ensures.tree c.in_ok-count.ensures.tree))
 
 pub whilei-returns-in_err-counter-clause-tree : goal.whilei-returns-in_err-counter-clause-tree
-whilei-returns-in_err-counter-clause-tree t c = refused_exit (IsBefore Comma IsTarget) (Behind words.WhileI c.args.place) Always Always _ (map piece c.in-Some.after.now) (map piece c.args.pieces.now) _ c.from_residual.result c.from_residual.ensures.1 (λ not. opened_none (λ x. Tree.whilei c.args.place x.0 x.1.0 x.1.1.0 x.1.1.1) (IsPair (IsBefore Comma IsTarget) (IsPair IsTest IsLoopEnd)) Always (map piece c.args.pieces.now) (map piece c.in-Some.after.now) c.in-Some.ensures.found (first_none (IsBefore Comma IsTarget) (IsPair IsTest IsLoopEnd) Always Always (whatever (IsPair IsTest IsLoopEnd)) (map piece c.in-Some.after.now) not)) c.in_err-counter.ensures.tree
+whilei-returns-in_err-counter-clause-tree t c = refused_exit (IsBefore Comma IsTarget) (IsCommandRest words.WhileI c.args.place) Always Always _ (map lexeme c.in-Some.after.now) (map lexeme c.args.tokens.now) _ c.from_residual.result c.from_residual.ensures.1 (λ not. opened_none (λ x. Tree.whilei c.args.place x.0 x.1.0 x.1.1.0 x.1.1.1) (IsPair (IsBefore Comma IsTarget) (IsPair IsTest IsLoopEnd)) Always (map lexeme c.args.tokens.now) (map lexeme c.in-Some.after.now) c.in-Some.ensures.found (first_none (IsBefore Comma IsTarget) (IsPair IsTest IsLoopEnd) Always Always (whatever (IsPair IsTest IsLoopEnd)) (map lexeme c.in-Some.after.now) not)) c.in_err-counter.ensures.tree
 
 pub whilei-returns-in_err-condition-clause-tree : goal.whilei-returns-in_err-condition-clause-tree
-whilei-returns-in_err-condition-clause-tree t c = refused_exit (IsPair IsTest IsLoopEnd) (Behind words.WhileI c.args.place) Always Always _ (map piece c.in_ok-counter.rest.now) (map piece c.args.pieces.now) _ c.from_residual-in_err-condition.result c.from_residual-in_err-condition.ensures.1 (λ not. opened_none (λ x. Tree.whilei c.args.place x.0 x.1.0 x.1.1.0 x.1.1.1) (IsPair (IsBefore Comma IsTarget) (IsPair IsTest IsLoopEnd)) Always (map piece c.args.pieces.now) (map piece c.in-Some.after.now) c.in-Some.ensures.found (second_none (IsBefore Comma IsTarget) (IsPair IsTest IsLoopEnd) Always Always (whatever (IsPair IsTest IsLoopEnd)) (map piece c.in-Some.after.now) (map piece c.in_ok-counter.rest.now) _ c.in_ok-counter.ensures.tree not)) c.in_err-condition.ensures.tree
+whilei-returns-in_err-condition-clause-tree t c = refused_exit (IsPair IsTest IsLoopEnd) (IsCommandRest words.WhileI c.args.place) Always Always _ (map lexeme c.in_ok-counter.rest.now) (map lexeme c.args.tokens.now) _ c.from_residual-in_err-condition.result c.from_residual-in_err-condition.ensures.1 (λ not. opened_none (λ x. Tree.whilei c.args.place x.0 x.1.0 x.1.1.0 x.1.1.1) (IsPair (IsBefore Comma IsTarget) (IsPair IsTest IsLoopEnd)) Always (map lexeme c.args.tokens.now) (map lexeme c.in-Some.after.now) c.in-Some.ensures.found (second_none (IsBefore Comma IsTarget) (IsPair IsTest IsLoopEnd) Always Always (whatever (IsPair IsTest IsLoopEnd)) (map lexeme c.in-Some.after.now) (map lexeme c.in_ok-counter.rest.now) _ c.in_ok-counter.ensures.tree not)) c.in_err-condition.ensures.tree
 
 pub whilei-returns-clause-tree : goal.whilei-returns-clause-tree
-whilei-returns-clause-tree t c = rw (held_separator c.in_ok-condition.between) (opened_reads (λ x. Tree.whilei c.args.place x.0 x.1.0 x.1.1.0 x.1.1.1) (IsPair (IsBefore Comma IsTarget) (IsPair IsTest IsLoopEnd)) Always (map piece c.args.pieces.now) (map piece c.in-Some.after.now) (map piece c.in_ok-condition.rest.now) _ c.in-Some.ensures.found (pair_reads (IsBefore Comma IsTarget) (IsPair IsTest IsLoopEnd) Always Always (whatever (IsPair IsTest IsLoopEnd)) (map piece c.in-Some.after.now) (map piece c.in_ok-counter.rest.now) (map piece c.in_ok-condition.rest.now) _ _ c.in_ok-counter.ensures.tree c.in_ok-condition.ensures.tree))
+whilei-returns-clause-tree t c = rw (held_separator c.in_ok-condition.between) (opened_reads (λ x. Tree.whilei c.args.place x.0 x.1.0 x.1.1.0 x.1.1.1) (IsPair (IsBefore Comma IsTarget) (IsPair IsTest IsLoopEnd)) Always (map lexeme c.args.tokens.now) (map lexeme c.in-Some.after.now) (map lexeme c.in_ok-condition.rest.now) _ c.in-Some.ensures.found (pair_reads (IsBefore Comma IsTarget) (IsPair IsTest IsLoopEnd) Always Always (whatever (IsPair IsTest IsLoopEnd)) (map lexeme c.in-Some.after.now) (map lexeme c.in_ok-counter.rest.now) (map lexeme c.in_ok-condition.rest.now) _ _ c.in_ok-counter.ensures.tree c.in_ok-condition.ensures.tree))
 
-pub choice-returns-in_err-condition-clause-tree : goal.choice-returns-in_err-condition-clause-tree
-choice-returns-in_err-condition-clause-tree t c = refused_exit (IsBefore Close IsTest) (Behind words.If c.args.place) Always Always _ (map piece c.in-Some.after.now) (map piece c.args.pieces.now) _ c.from_residual.result c.from_residual.ensures.1 (λ not. opened_none (λ x. Tree.choice c.args.place x.0 x.1.0 x.1.1) (IsPair (IsBefore Close IsTest) (IsPair IsCommands IsBranchEnd)) Always (map piece c.args.pieces.now) (map piece c.in-Some.after.now) c.in-Some.ensures.found (first_none (IsBefore Close IsTest) (IsPair IsCommands IsBranchEnd) Always Always (whatever (IsPair IsCommands IsBranchEnd)) (map piece c.in-Some.after.now) not)) c.in_err-condition.ensures.tree
+pub if_command-returns-in_err-condition-clause-tree : goal.if_command-returns-in_err-condition-clause-tree
+if_command-returns-in_err-condition-clause-tree t c = refused_exit (IsBefore Close IsTest) (IsCommandRest words.If c.args.place) Always Always _ (map lexeme c.in-Some.after.now) (map lexeme c.args.tokens.now) _ c.from_residual.result c.from_residual.ensures.1 (λ not. opened_none (λ x. Tree.choice c.args.place x.0 x.1.0 x.1.1) (IsPair (IsBefore Close IsTest) (IsPair IsCommands IsBranchEnd)) Always (map lexeme c.args.tokens.now) (map lexeme c.in-Some.after.now) c.in-Some.ensures.found (first_none (IsBefore Close IsTest) (IsPair IsCommands IsBranchEnd) Always Always (whatever (IsPair IsCommands IsBranchEnd)) (map lexeme c.in-Some.after.now) not)) c.in_err-condition.ensures.tree
 
-pub choice-returns-in_err-then_do-clause-tree : goal.choice-returns-in_err-then_do-clause-tree
-choice-returns-in_err-then_do-clause-tree t c = refused_exit (IsPair IsCommands IsBranchEnd) (Behind words.If c.args.place) Always Always _ (map piece c.in_ok-condition.rest.now) (map piece c.args.pieces.now) _ c.from_residual-in_err-then_do.result c.from_residual-in_err-then_do.ensures.1 (λ not. opened_none (λ x. Tree.choice c.args.place x.0 x.1.0 x.1.1) (IsPair (IsBefore Close IsTest) (IsPair IsCommands IsBranchEnd)) Always (map piece c.args.pieces.now) (map piece c.in-Some.after.now) c.in-Some.ensures.found (second_none (IsBefore Close IsTest) (IsPair IsCommands IsBranchEnd) Always Always (whatever (IsPair IsCommands IsBranchEnd)) (map piece c.in-Some.after.now) (map piece c.in_ok-condition.rest.now) _ c.in_ok-condition.ensures.tree not)) c.in_err-then_do.ensures.tree
+pub if_command-returns-in_err-then_do-clause-tree : goal.if_command-returns-in_err-then_do-clause-tree
+if_command-returns-in_err-then_do-clause-tree t c = refused_exit (IsPair IsCommands IsBranchEnd) (IsCommandRest words.If c.args.place) Always Always _ (map lexeme c.in_ok-condition.rest.now) (map lexeme c.args.tokens.now) _ c.from_residual-in_err-then_do.result c.from_residual-in_err-then_do.ensures.1 (λ not. opened_none (λ x. Tree.choice c.args.place x.0 x.1.0 x.1.1) (IsPair (IsBefore Close IsTest) (IsPair IsCommands IsBranchEnd)) Always (map lexeme c.args.tokens.now) (map lexeme c.in-Some.after.now) c.in-Some.ensures.found (second_none (IsBefore Close IsTest) (IsPair IsCommands IsBranchEnd) Always Always (whatever (IsPair IsCommands IsBranchEnd)) (map lexeme c.in-Some.after.now) (map lexeme c.in_ok-condition.rest.now) _ c.in_ok-condition.ensures.tree not)) c.in_err-then_do.ensures.tree
 
-pub choice-returns-clause-tree : goal.choice-returns-clause-tree
-choice-returns-clause-tree t c = opened_reads (λ x. Tree.choice c.args.place x.0 x.1.0 x.1.1) (IsPair (IsBefore Close IsTest) (IsPair IsCommands IsBranchEnd)) Always (map piece c.args.pieces.now) (map piece c.in-Some.after.now) (map piece c.in_ok-then_do.rest.now) _ c.in-Some.ensures.found (pair_reads (IsBefore Close IsTest) (IsPair IsCommands IsBranchEnd) Always Always (whatever (IsPair IsCommands IsBranchEnd)) (map piece c.in-Some.after.now) (map piece c.in_ok-condition.rest.now) (map piece c.in_ok-then_do.rest.now) _ _ c.in_ok-condition.ensures.tree c.in_ok-then_do.ensures.tree)
+pub if_command-returns-clause-tree : goal.if_command-returns-clause-tree
+if_command-returns-clause-tree t c = opened_reads (λ x. Tree.choice c.args.place x.0 x.1.0 x.1.1) (IsPair (IsBefore Close IsTest) (IsPair IsCommands IsBranchEnd)) Always (map lexeme c.args.tokens.now) (map lexeme c.in-Some.after.now) (map lexeme c.in_ok-then_do.rest.now) _ c.in-Some.ensures.found (pair_reads (IsBefore Close IsTest) (IsPair IsCommands IsBranchEnd) Always Always (whatever (IsPair IsCommands IsBranchEnd)) (map lexeme c.in-Some.after.now) (map lexeme c.in_ok-condition.rest.now) (map lexeme c.in_ok-then_do.rest.now) _ _ c.in_ok-condition.ensures.tree c.in_ok-then_do.ensures.tree)
 
 pub separator_before-returns-in-Some-clause-tree : goal.separator_before-returns-in-Some-clause-tree
-separator_before-returns-in-Some-clause-tree t c = before_reads IsCommand Always Close (λ us. tt) (map piece c.args.pieces.now) (map piece c.in_ok-between.rest.now) (map piece c.in-Some.rest.now) _ c.in_ok-between.ensures.tree c.in-Some.ensures.found
+separator_before-returns-in-Some-clause-tree t c = before_reads IsCommand Always Close (λ us. tt) (map lexeme c.args.tokens.now) (map lexeme c.in_ok-between.rest.now) (map lexeme c.in-Some.rest.now) _ c.in_ok-between.ensures.tree c.in-Some.ensures.found
 
 pub block-returns-in-Some-clause-tree : goal.block-returns-in-Some-clause-tree
-block-returns-in-Some-clause-tree t c = word_reads IsCommands CommandsEnd words.End (λ at us. refl) (map piece c.args.pieces.now) (map piece c.in_ok-body.rest.now) (map piece c.in-Some.rest.now) _ c.in-Some.ensures.found.0 c.in_ok-body.ensures.tree c.in-Some.ensures.found.1
+block-returns-in-Some-clause-tree t c = word_reads IsCommands CommandsEnd words.End (λ at us. refl) (map lexeme c.args.tokens.now) (map lexeme c.in_ok-body.rest.now) (map lexeme c.in-Some.rest.now) _ c.in-Some.ensures.found.0 c.in_ok-body.ensures.tree c.in-Some.ensures.found.1
 
 pub branch_end-returns-in-Some-clause-tree : goal.branch_end-returns-in-Some-clause-tree
-branch_end-returns-in-Some-clause-tree t c = rw (list_commands c.from_vec.result ∙ ap command_trees (c.from_vec.ensures ∙ c.new.ensures.items)) (branch_ended (map piece c.args.pieces.now) (map piece c.in-Some.rest.now) c.in-Some.ensures.found.0 c.in-Some.ensures.found.1)
+branch_end-returns-in-Some-clause-tree t c = rw (list_commands c.from_vec.result ∙ ap command_trees (c.from_vec.ensures ∙ c.new.ensures.items)) (branch_ended (map lexeme c.args.tokens.now) (map lexeme c.in-Some.rest.now) c.in-Some.ensures.found.0 c.in-Some.ensures.found.1)
 
 pub branch_end-returns-in-Some-after_word-clause-tree : goal.branch_end-returns-in-Some-after_word-clause-tree
-branch_end-returns-in-Some-after_word-clause-tree t c = reads_as IsBlock IsBranchEnd Always Always _ (map piece c.in-Some-after_word.after.now) (map piece c.args.pieces.now) c.block.result (branch_goes_on (map piece c.args.pieces.now) (map piece c.in-Some-after_word.after.now) c.in-Some-after_word.ensures.found.0 c.in-Some-after_word.ensures.found.1) (branch_no_block (map piece c.args.pieces.now) (map piece c.in-Some-after_word.after.now) c.in-Some-after_word.ensures.found.0 c.in-Some-after_word.ensures.found.1) c.block.ensures.tree
+branch_end-returns-in-Some-after_word-clause-tree t c = reads_as IsBlock IsBranchEnd Always Always _ (map lexeme c.in-Some-after_word.after.now) (map lexeme c.args.tokens.now) c.block.result (branch_goes_on (map lexeme c.args.tokens.now) (map lexeme c.in-Some-after_word.after.now) c.in-Some-after_word.ensures.found.0 c.in-Some-after_word.ensures.found.1) (branch_no_block (map lexeme c.args.tokens.now) (map lexeme c.in-Some-after_word.after.now) c.in-Some-after_word.ensures.found.0 c.in-Some-after_word.ensures.found.1) c.block.ensures.tree
 
 pub command-returns-in-Some-clause-tree : goal.command-returns-in-Some-clause-tree
-command-returns-in-Some-clause-tree t c = reads_as (Behind c.in-Some.word c.in-Some.place) IsCommand Always Always _ (map piece c.in-Some.rest.now) (map piece c.args.pieces.now) c.behind.result (command_reads (map piece c.args.pieces.now) (map piece c.in-Some.rest.now) c.in-Some.word c.in-Some.place c.in-Some.ensures.found) (command_none (map piece c.args.pieces.now) (map piece c.in-Some.rest.now) c.in-Some.word c.in-Some.place c.in-Some.ensures.found) c.behind.ensures.tree
+command-returns-in-Some-clause-tree t c = reads_as (IsCommandRest c.in-Some.word c.in-Some.place) IsCommand Always Always _ (map lexeme c.in-Some.rest.now) (map lexeme c.args.tokens.now) c.command_rest.result (command_reads (map lexeme c.args.tokens.now) (map lexeme c.in-Some.rest.now) c.in-Some.word c.in-Some.place c.in-Some.ensures.found) (command_none (map lexeme c.args.tokens.now) (map lexeme c.in-Some.rest.now) c.in-Some.word c.in-Some.place c.in-Some.ensures.found) c.command_rest.ensures.tree
 
 pub commands-loop-word-init : goal.commands-loop-word-init
-commands-loop-word-init t c = record { part = rw (c.split_at.ensures.back, c.new-items.ensures.items) (commands_start (map piece c.args.pieces.now)); shorter = rw c.split_at.ensures.back (omega arith) }
+commands-loop-word-init t c = record { part = rw (c.split_at.ensures.back, c.new-items.ensures.items) (commands_start (map lexeme c.args.tokens.now)); shorter = rw c.split_at.ensures.back (omega arith) }
 
 pub commands-returns-in_err-next-clause-tree : goal.commands-returns-in_err-next-clause-tree
-commands-returns-in_err-next-clause-tree t c = refused_exit (Behind c.in-Some.word c.in-Some.place) IsCommands Always CommandsEnd _ (map piece c.in-Some.after.now) (map piece c.args.pieces.now) _ c.from_residual.result c.from_residual.ensures.1 (λ not. commands_no_next (map piece c.args.pieces.now) (map piece c.loop-word.rest.now) _ c.loop-word.invariant.part (begins_at (map piece c.loop-word.rest.now) (map piece c.in-Some.after.now) c.in-Some.word c.in-Some.place c.in-Some.ensures.found c.in-Some.ensures.word) (command_none (map piece c.loop-word.rest.now) (map piece c.in-Some.after.now) c.in-Some.word c.in-Some.place c.in-Some.ensures.found not)) c.in_err-next.ensures.tree
+commands-returns-in_err-next-clause-tree t c = refused_exit (IsCommandRest c.in-Some.word c.in-Some.place) IsCommands Always CommandsEnd _ (map lexeme c.in-Some.after.now) (map lexeme c.args.tokens.now) _ c.from_residual.result c.from_residual.ensures.1 (λ not. commands_no_next (map lexeme c.args.tokens.now) (map lexeme c.loop-word.rest.now) _ c.loop-word.invariant.part (begins_at (map lexeme c.loop-word.rest.now) (map lexeme c.in-Some.after.now) c.in-Some.word c.in-Some.place c.in-Some.ensures.found c.in-Some.ensures.word) (command_none (map lexeme c.loop-word.rest.now) (map lexeme c.in-Some.after.now) c.in-Some.word c.in-Some.place c.in-Some.ensures.found not)) c.in_err-next.ensures.tree
 
 pub commands-loop-word-preserved : goal.commands-loop-word-preserved
-commands-loop-word-preserved t c = record { part = rw (ap command_trees c.in_ok-push.ensures.items ∙ trees_then c.loop-word.items.items c.in_ok-next.next) (commands_next (map piece c.args.pieces.now) (map piece c.loop-word.rest.now) (map piece c.in_ok-next.after.now) _ _ c.loop-word.invariant.part (begins_at (map piece c.loop-word.rest.now) (map piece c.in-Some.after.now) c.in-Some.word c.in-Some.place c.in-Some.ensures.found c.in-Some.ensures.word) (command_reads (map piece c.loop-word.rest.now) (map piece c.in-Some.after.now) c.in-Some.word c.in-Some.place c.in-Some.ensures.found _ _ c.in_ok-next.ensures.tree)); shorter = omega (arith, c.loop-word.invariant.shorter, c.in-Some.ensures.shorter, c.in_ok-next.ensures.shorter) }
+commands-loop-word-preserved t c = record { part = rw (ap command_trees c.in_ok-push.ensures.items ∙ trees_then c.loop-word.items.items c.in_ok-next.next) (commands_next (map lexeme c.args.tokens.now) (map lexeme c.loop-word.rest.now) (map lexeme c.in_ok-next.after.now) _ _ c.loop-word.invariant.part (begins_at (map lexeme c.loop-word.rest.now) (map lexeme c.in-Some.after.now) c.in-Some.word c.in-Some.place c.in-Some.ensures.found c.in-Some.ensures.word) (command_reads (map lexeme c.loop-word.rest.now) (map lexeme c.in-Some.after.now) c.in-Some.word c.in-Some.place c.in-Some.ensures.found _ _ c.in_ok-next.ensures.tree)); shorter = omega (arith, c.loop-word.invariant.shorter, c.in-Some.ensures.shorter, c.in_ok-next.ensures.shorter) }
 
 pub commands-returns-clause-tree : goal.commands-returns-clause-tree
-commands-returns-clause-tree t c = rw (list_commands c.from_vec.result ∙ ap command_trees c.from_vec.ensures) (commands_end (map piece c.args.pieces.now) (map piece c.loop-word.rest.now) _ c.loop-word.invariant.part c.in_default.ensures.none)
+commands-returns-clause-tree t c = rw (list_commands c.from_vec.result ∙ ap command_trees c.from_vec.ensures) (commands_end (map lexeme c.args.tokens.now) (map lexeme c.loop-word.rest.now) _ c.loop-word.invariant.part c.in_default.ensures.none)
 
 pub loop_end-returns-in_err-body-clause-tree : goal.loop_end-returns-in_err-body-clause-tree
-loop_end-returns-in_err-body-clause-tree t c = refused_exit IsBlock IsLoopEnd Always Always _ (map piece c.in-Some.rest.now) (map piece c.args.pieces.now) _ c.from_residual.result c.from_residual.ensures.1 (loop_end_no_block (map piece c.args.pieces.now) (map piece c.in-Some.rest.now) c.in-Some.ensures.found) c.in_err-body.ensures.tree
+loop_end-returns-in_err-body-clause-tree t c = refused_exit IsBlock IsLoopEnd Always Always _ (map lexeme c.in-Some.rest.now) (map lexeme c.args.tokens.now) _ c.from_residual.result c.from_residual.ensures.1 (loop_end_no_block (map lexeme c.args.tokens.now) (map lexeme c.in-Some.rest.now) c.in-Some.ensures.found) c.in_err-body.ensures.tree
 
 pub loop_end-returns-in-Some-clause-tree : goal.loop_end-returns-in-Some-clause-tree
-loop_end-returns-in-Some-clause-tree t c = loop_end_plain (map piece c.args.pieces.now) (map piece c.in-Some.rest.now) (map piece c.in_ok-body.rest.now) _ c.in-Some.ensures.found c.in_ok-body.ensures.tree
+loop_end-returns-in-Some-clause-tree t c = loop_end_plain (map lexeme c.args.tokens.now) (map lexeme c.in-Some.rest.now) (map lexeme c.in_ok-body.rest.now) _ c.in-Some.ensures.found c.in_ok-body.ensures.tree
 
 pub loop_end-returns-in_err-between-clause-tree : goal.loop_end-returns-in_err-between-clause-tree
-loop_end-returns-in_err-between-clause-tree t c = refused_exit (IsBefore Close IsCommand) IsLoopEnd Always Always _ (map piece c.in-Some-after_mark.after.now) (map piece c.args.pieces.now) _ c.from_residual-in_err-between.result c.from_residual-in_err-between.ensures.1 (λ not. loop_end_no_separated (map piece c.args.pieces.now) (map piece c.in-Some-after_mark.after.now) c.in-Some-after_mark.ensures.found (first_none (IsBefore Close IsCommand) IsBlock Always Always (whatever IsBlock) (map piece c.in-Some-after_mark.after.now) not)) c.in_err-between.ensures.tree
+loop_end-returns-in_err-between-clause-tree t c = refused_exit (IsBefore Close IsCommand) IsLoopEnd Always Always _ (map lexeme c.in-Some-after_mark.after.now) (map lexeme c.args.tokens.now) _ c.from_residual-in_err-between.result c.from_residual-in_err-between.ensures.1 (λ not. loop_end_no_separated (map lexeme c.args.tokens.now) (map lexeme c.in-Some-after_mark.after.now) c.in-Some-after_mark.ensures.found (first_none (IsBefore Close IsCommand) IsBlock Always Always (whatever IsBlock) (map lexeme c.in-Some-after_mark.after.now) not)) c.in_err-between.ensures.tree
 
 pub loop_end-returns-in_err-body-2-clause-tree : goal.loop_end-returns-in_err-body-2-clause-tree
-loop_end-returns-in_err-body-2-clause-tree t c = refused_exit IsBlock IsLoopEnd Always Always _ (map piece c.in_ok-between.rest.now) (map piece c.args.pieces.now) _ c.from_residual-in_err-body-2.result c.from_residual-in_err-body-2.ensures.1 (λ not. loop_end_no_separated (map piece c.args.pieces.now) (map piece c.in-Some-after_mark.after.now) c.in-Some-after_mark.ensures.found (second_none (IsBefore Close IsCommand) IsBlock Always Always (whatever IsBlock) (map piece c.in-Some-after_mark.after.now) (map piece c.in_ok-between.rest.now) _ c.in_ok-between.ensures.tree not)) c.in_err-body-2.ensures.tree
+loop_end-returns-in_err-body-2-clause-tree t c = refused_exit IsBlock IsLoopEnd Always Always _ (map lexeme c.in_ok-between.rest.now) (map lexeme c.args.tokens.now) _ c.from_residual-in_err-body-2.result c.from_residual-in_err-body-2.ensures.1 (λ not. loop_end_no_separated (map lexeme c.args.tokens.now) (map lexeme c.in-Some-after_mark.after.now) c.in-Some-after_mark.ensures.found (second_none (IsBefore Close IsCommand) IsBlock Always Always (whatever IsBlock) (map lexeme c.in-Some-after_mark.after.now) (map lexeme c.in_ok-between.rest.now) _ c.in_ok-between.ensures.tree not)) c.in_err-body-2.ensures.tree
 
 pub loop_end-returns-clause-tree : goal.loop_end-returns-clause-tree
-loop_end-returns-clause-tree t c = rw c.in_ok-between-2.ensures.ok (loop_end_separated (map piece c.args.pieces.now) (map piece c.in-Some-after_mark.after.now) (map piece c.in_ok-body-2.rest.now) _ _ c.in-Some-after_mark.ensures.found (pair_reads (IsBefore Close IsCommand) IsBlock Always Always (whatever IsBlock) (map piece c.in-Some-after_mark.after.now) (map piece c.in_ok-between.rest.now) (map piece c.in_ok-body-2.rest.now) _ _ c.in_ok-between.ensures.tree c.in_ok-body-2.ensures.tree))
+loop_end-returns-clause-tree t c = rw c.in_ok-between-2.ensures.ok (loop_end_separated (map lexeme c.args.tokens.now) (map lexeme c.in-Some-after_mark.after.now) (map lexeme c.in_ok-body-2.rest.now) _ _ c.in-Some-after_mark.ensures.found (pair_reads (IsBefore Close IsCommand) IsBlock Always Always (whatever IsBlock) (map lexeme c.in-Some-after_mark.after.now) (map lexeme c.in_ok-between.rest.now) (map lexeme c.in_ok-body-2.rest.now) _ _ c.in_ok-between.ensures.tree c.in_ok-body-2.ensures.tree))

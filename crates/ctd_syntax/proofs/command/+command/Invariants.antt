@@ -1,59 +1,59 @@
 use Rattle.std.proofs.Common.{◌≤◌, length, ◌+◌, ◌*◌}
 use Rattle.std.specs.Prelude.{map}
 use Rattle.ctd_syntax.specs.View.{command_trees}
-use Rattle.ctd_syntax.specs.Front.{piece}
+use Rattle.ctd_syntax.specs.Front.{lexeme}
 use Rattle.ctd_syntax.proofs.CommandReads.{PartCommands}
 use Rattle.ctd_syntax.proofs.command.+command.Given as goal
 
 abbrev pub decreases-command : goal.decreases-command
-decreases-command l = 8 * length l.pieces.now + 0
+decreases-command l = 8 * length l.tokens.now + 0
 
 abbrev pub decreases-rep : goal.decreases-rep
-decreases-rep l = 8 * length l.pieces.now + 2
+decreases-rep l = 8 * length l.tokens.now + 2
 
 abbrev pub decreases-repi : goal.decreases-repi
-decreases-repi l = 8 * length l.pieces.now + 2
+decreases-repi l = 8 * length l.tokens.now + 2
 
-abbrev pub decreases-repeat_while : goal.decreases-repeat_while
-decreases-repeat_while l = 8 * length l.pieces.now + 2
+abbrev pub decreases-while_command : goal.decreases-while_command
+decreases-while_command l = 8 * length l.tokens.now + 2
 
 abbrev pub decreases-whilei : goal.decreases-whilei
-decreases-whilei l = 8 * length l.pieces.now + 2
+decreases-whilei l = 8 * length l.tokens.now + 2
 
-abbrev pub decreases-choice : goal.decreases-choice
-decreases-choice l = 8 * length l.pieces.now + 2
+abbrev pub decreases-if_command : goal.decreases-if_command
+decreases-if_command l = 8 * length l.tokens.now + 2
 
-abbrev pub decreases-behind : goal.decreases-behind
-decreases-behind l = 8 * length l.pieces.now + 3
+abbrev pub decreases-command_rest : goal.decreases-command_rest
+decreases-command_rest l = 8 * length l.tokens.now + 3
 
 abbrev pub decreases-separator_before : goal.decreases-separator_before
-decreases-separator_before l = 8 * length l.pieces.now + 2
+decreases-separator_before l = 8 * length l.tokens.now + 2
 
 abbrev pub decreases-block : goal.decreases-block
-decreases-block l = 8 * length l.pieces.now + 5
+decreases-block l = 8 * length l.tokens.now + 5
 
 abbrev pub decreases-commands : goal.decreases-commands
-decreases-commands l = 8 * length l.pieces.now + 4
+decreases-commands l = 8 * length l.tokens.now + 4
 
 abbrev pub decreases-branch_end : goal.decreases-branch_end
-decreases-branch_end l = 8 * length l.pieces.now + 2
+decreases-branch_end l = 8 * length l.tokens.now + 2
 
 abbrev pub decreases-branches : goal.decreases-branches
-decreases-branches l = 8 * length l.pieces.now + 6
+decreases-branches l = 8 * length l.tokens.now + 6
 
 abbrev pub decreases-loop_end : goal.decreases-loop_end
-decreases-loop_end l = 8 * length l.pieces.now + 2
+decreases-loop_end l = 8 * length l.tokens.now + 2
 
-abbrev pub decreases-counted : goal.decreases-counted
-decreases-counted l = 8 * length l.pieces.now + 3
+abbrev pub decreases-rep_tail : goal.decreases-rep_tail
+decreases-rep_tail l = 8 * length l.tokens.now + 3
 
-abbrev pub decreases-tested : goal.decreases-tested
-decreases-tested l = 8 * length l.pieces.now + 3
+abbrev pub decreases-while_tail : goal.decreases-while_tail
+decreases-while_tail l = 8 * length l.tokens.now + 3
 
 abbrev pub invariant-commands-loop-word : goal.invariant-commands-loop-word
 invariant-commands-loop-word l = record {
-  part : PartCommands (map piece l.fn.pieces) (command_trees l.items.items) (map piece l.rest);
-  shorter : length l.rest ≤ length l.fn.pieces;
+  part : PartCommands (map lexeme l.fn.tokens) (command_trees l.items.items) (map lexeme l.rest);
+  shorter : length l.rest ≤ length l.fn.tokens;
 }
 
 abbrev pub decreases-commands-loop-word : goal.decreases-commands-loop-word

@@ -1,9 +1,9 @@
 use Rattle.std.proofs.Common.{arith}
 use Rattle.std.specs.Prelude.{map}
-use Rattle.ctd_syntax.specs.Front.{Always, IsBefore, piece}
+use Rattle.ctd_syntax.specs.Front.{Always, IsBefore, lexeme}
 use Rattle.ctd_syntax.specs.Grammar.{IsTest, IsBoth, IsNegated, IsPlain}
 use Rattle.ctd_syntax.specs.Levels.{ends}
-use Rattle.ctd_syntax.specs.Tests.{test_ends, Asked, IsCompared}
+use Rattle.ctd_syntax.specs.Tests.{test_ends, IsTestCall, IsCompared}
 use Rattle.ctd_token.specs.declared.token.Mark.TheVariants.{Close}
 use Rattle.ctd_syntax.proofs.Fronts.{reads_as, refused_exit, before_reads}
 use Rattle.ctd_syntax.proofs.Chains.{start, no_start, finish, next, no_next}
@@ -12,52 +12,52 @@ use Rattle.ctd_syntax.proofs.Conditions.{bang_reads, bang_none, plain_is_negated
 use Rattle.ctd_syntax.proofs.condition.+test.Goals as goal
 
 pub test-returns-in_err-left-clause-tree : goal.test-returns-in_err-left-clause-tree
-test-returns-in_err-left-clause-tree t c = refused_exit IsBoth IsTest (test_ends 2) (test_ends 1) _ (map piece c.args.pieces.now) (map piece c.args.pieces.now) _ c.from_residual.result c.from_residual.ensures.1 (no_start ors (map piece c.args.pieces.now)) c.in_err-left.ensures.tree
+test-returns-in_err-left-clause-tree t c = refused_exit IsBoth IsTest (test_ends 2) (test_ends 1) _ (map lexeme c.args.tokens.now) (map lexeme c.args.tokens.now) _ c.from_residual.result c.from_residual.ensures.1 (no_start ors (map lexeme c.args.tokens.now)) c.in_err-left.ensures.tree
 
 pub test-loop-after-init : goal.test-loop-after-init
-test-loop-after-init t c = record { partly = start ors (map piece c.args.pieces.now) _ (map piece c.in_ok-left.rest.now) c.in_ok-left.ensures.tree; shorter = c.in_ok-left.ensures.shorter }
+test-loop-after-init t c = record { partly = start ors (map lexeme c.args.tokens.now) _ (map lexeme c.in_ok-left.rest.now) c.in_ok-left.ensures.tree; shorter = c.in_ok-left.ensures.shorter }
 
 pub test-returns-in_err-right-clause-tree : goal.test-returns-in_err-right-clause-tree
-test-returns-in_err-right-clause-tree t c = refused_exit IsBoth IsTest (test_ends 2) (test_ends 1) _ (map piece c.in-Some.after.now) (map piece c.args.pieces.now) _ c.from_residual-in_err-right.result c.from_residual-in_err-right.ensures.1 (no_next ors (map piece c.args.pieces.now) _ (map piece c.loop-after.rest.now) (map piece c.in-Some.after.now) tt c.loop-after.invariant.partly (or_at (map piece c.loop-after.rest.now) (map piece c.in-Some.after.now) c.in-Some.ensures.found)) c.in_err-right.ensures.tree
+test-returns-in_err-right-clause-tree t c = refused_exit IsBoth IsTest (test_ends 2) (test_ends 1) _ (map lexeme c.in-Some.after.now) (map lexeme c.args.tokens.now) _ c.from_residual-in_err-right.result c.from_residual-in_err-right.ensures.1 (no_next ors (map lexeme c.args.tokens.now) _ (map lexeme c.loop-after.rest.now) (map lexeme c.in-Some.after.now) tt c.loop-after.invariant.partly (or_at (map lexeme c.loop-after.rest.now) (map lexeme c.in-Some.after.now) c.in-Some.ensures.found)) c.in_err-right.ensures.tree
 
 pub test-loop-after-preserved : goal.test-loop-after-preserved
-test-loop-after-preserved t c = record { partly = rw (c.in_ok-a.ensures.ok, c.in_ok-b.ensures.ok) (next ors (map piece c.args.pieces.now) _ _ (map piece c.loop-after.rest.now) (map piece c.in-Some.after.now) (map piece c.in_ok-right.after.now) tt c.loop-after.invariant.partly (or_at (map piece c.loop-after.rest.now) (map piece c.in-Some.after.now) c.in-Some.ensures.found) c.in_ok-right.ensures.tree); shorter = omega (arith, c.loop-after.invariant.shorter, c.in-Some.ensures.shorter, c.in_ok-right.ensures.shorter) }
+test-loop-after-preserved t c = record { partly = rw (c.in_ok-a.ensures.ok, c.in_ok-b.ensures.ok) (next ors (map lexeme c.args.tokens.now) _ _ (map lexeme c.loop-after.rest.now) (map lexeme c.in-Some.after.now) (map lexeme c.in_ok-right.after.now) tt c.loop-after.invariant.partly (or_at (map lexeme c.loop-after.rest.now) (map lexeme c.in-Some.after.now) c.in-Some.ensures.found) c.in_ok-right.ensures.tree); shorter = omega (arith, c.loop-after.invariant.shorter, c.in-Some.ensures.shorter, c.in_ok-right.ensures.shorter) }
 
 pub test-returns-clause-tree : goal.test-returns-clause-tree
-test-returns-clause-tree t c = finish ors (map piece c.args.pieces.now) _ (map piece c.loop-after.rest.now) c.loop-after.invariant.partly (no_or (map piece c.loop-after.rest.now) c.in_default.ensures.none)
+test-returns-clause-tree t c = finish ors (map lexeme c.args.tokens.now) _ (map lexeme c.loop-after.rest.now) c.loop-after.invariant.partly (no_or (map lexeme c.loop-after.rest.now) c.in_default.ensures.none)
 
 pub both-returns-in_err-left-clause-tree : goal.both-returns-in_err-left-clause-tree
-both-returns-in_err-left-clause-tree t c = refused_exit IsNegated IsBoth (ends 1) (test_ends 2) _ (map piece c.args.pieces.now) (map piece c.args.pieces.now) _ c.from_residual.result c.from_residual.ensures.1 (no_start ands (map piece c.args.pieces.now)) c.in_err-left.ensures.tree
+both-returns-in_err-left-clause-tree t c = refused_exit IsNegated IsBoth (ends 1) (test_ends 2) _ (map lexeme c.args.tokens.now) (map lexeme c.args.tokens.now) _ c.from_residual.result c.from_residual.ensures.1 (no_start ands (map lexeme c.args.tokens.now)) c.in_err-left.ensures.tree
 
 pub both-loop-after-init : goal.both-loop-after-init
-both-loop-after-init t c = record { partly = start ands (map piece c.args.pieces.now) _ (map piece c.in_ok-left.rest.now) c.in_ok-left.ensures.tree; shorter = c.in_ok-left.ensures.shorter }
+both-loop-after-init t c = record { partly = start ands (map lexeme c.args.tokens.now) _ (map lexeme c.in_ok-left.rest.now) c.in_ok-left.ensures.tree; shorter = c.in_ok-left.ensures.shorter }
 
 pub both-returns-in_err-right-clause-tree : goal.both-returns-in_err-right-clause-tree
-both-returns-in_err-right-clause-tree t c = refused_exit IsNegated IsBoth (ends 1) (test_ends 2) _ (map piece c.in-Some.after.now) (map piece c.args.pieces.now) _ c.from_residual-in_err-right.result c.from_residual-in_err-right.ensures.1 (no_next ands (map piece c.args.pieces.now) _ (map piece c.loop-after.rest.now) (map piece c.in-Some.after.now) tt c.loop-after.invariant.partly (and_at (map piece c.loop-after.rest.now) (map piece c.in-Some.after.now) c.in-Some.ensures.found)) c.in_err-right.ensures.tree
+both-returns-in_err-right-clause-tree t c = refused_exit IsNegated IsBoth (ends 1) (test_ends 2) _ (map lexeme c.in-Some.after.now) (map lexeme c.args.tokens.now) _ c.from_residual-in_err-right.result c.from_residual-in_err-right.ensures.1 (no_next ands (map lexeme c.args.tokens.now) _ (map lexeme c.loop-after.rest.now) (map lexeme c.in-Some.after.now) tt c.loop-after.invariant.partly (and_at (map lexeme c.loop-after.rest.now) (map lexeme c.in-Some.after.now) c.in-Some.ensures.found)) c.in_err-right.ensures.tree
 
 pub both-loop-after-preserved : goal.both-loop-after-preserved
-both-loop-after-preserved t c = record { partly = rw (c.in_ok-a.ensures.ok, c.in_ok-b.ensures.ok) (next ands (map piece c.args.pieces.now) _ _ (map piece c.loop-after.rest.now) (map piece c.in-Some.after.now) (map piece c.in_ok-right.after.now) tt c.loop-after.invariant.partly (and_at (map piece c.loop-after.rest.now) (map piece c.in-Some.after.now) c.in-Some.ensures.found) c.in_ok-right.ensures.tree); shorter = omega (arith, c.loop-after.invariant.shorter, c.in-Some.ensures.shorter, c.in_ok-right.ensures.shorter) }
+both-loop-after-preserved t c = record { partly = rw (c.in_ok-a.ensures.ok, c.in_ok-b.ensures.ok) (next ands (map lexeme c.args.tokens.now) _ _ (map lexeme c.loop-after.rest.now) (map lexeme c.in-Some.after.now) (map lexeme c.in_ok-right.after.now) tt c.loop-after.invariant.partly (and_at (map lexeme c.loop-after.rest.now) (map lexeme c.in-Some.after.now) c.in-Some.ensures.found) c.in_ok-right.ensures.tree); shorter = omega (arith, c.loop-after.invariant.shorter, c.in-Some.ensures.shorter, c.in_ok-right.ensures.shorter) }
 
 pub both-returns-clause-tree : goal.both-returns-clause-tree
-both-returns-clause-tree t c = finish ands (map piece c.args.pieces.now) _ (map piece c.loop-after.rest.now) c.loop-after.invariant.partly (no_and (map piece c.loop-after.rest.now) c.in_default.ensures.none)
+both-returns-clause-tree t c = finish ands (map lexeme c.args.tokens.now) _ (map lexeme c.loop-after.rest.now) c.loop-after.invariant.partly (no_and (map lexeme c.loop-after.rest.now) c.in_default.ensures.none)
 
 pub negated-returns-in_err-operand-in-Some-clause-tree : goal.negated-returns-in_err-operand-in-Some-clause-tree
-negated-returns-in_err-operand-in-Some-clause-tree t c = refused_exit IsNegated IsNegated (ends 1) (ends 1) _ (map piece c.in-Some.after.now) (map piece c.args.pieces.now) _ c.from_residual.result c.from_residual.ensures.1 (bang_none (map piece c.args.pieces.now) (map piece c.in-Some.after.now) c.in-Some.ensures.found) c.in_err-operand-in-Some.ensures.tree
+negated-returns-in_err-operand-in-Some-clause-tree t c = refused_exit IsNegated IsNegated (ends 1) (ends 1) _ (map lexeme c.in-Some.after.now) (map lexeme c.args.tokens.now) _ c.from_residual.result c.from_residual.ensures.1 (bang_none (map lexeme c.args.tokens.now) (map lexeme c.in-Some.after.now) c.in-Some.ensures.found) c.in_err-operand-in-Some.ensures.tree
 
 pub negated-returns-in_ok-new-in-Some-clause-tree : goal.negated-returns-in_ok-new-in-Some-clause-tree
-negated-returns-in_ok-new-in-Some-clause-tree t c = rw c.in_ok-new-in-Some.ensures.ok (bang_reads (map piece c.args.pieces.now) (map piece c.in-Some.after.now) _ _ c.in-Some.ensures.found c.in_ok-operand-in-Some.ensures.tree)
+negated-returns-in_ok-new-in-Some-clause-tree t c = rw c.in_ok-new-in-Some.ensures.ok (bang_reads (map lexeme c.args.tokens.now) (map lexeme c.in-Some.after.now) _ _ c.in-Some.ensures.found c.in_ok-operand-in-Some.ensures.tree)
 
 pub negated-returns-in-None-clause-tree : goal.negated-returns-in-None-clause-tree
-negated-returns-in-None-clause-tree t c = reads_as IsPlain IsNegated (ends 1) (ends 1) _ (map piece c.args.pieces.now) (map piece c.args.pieces.now) c.plain.result (plain_is_negated (map piece c.args.pieces.now) c.in-None.ensures.none) (no_plain_negated (map piece c.args.pieces.now) c.in-None.ensures.none) c.plain.ensures.tree
+negated-returns-in-None-clause-tree t c = reads_as IsPlain IsNegated (ends 1) (ends 1) _ (map lexeme c.args.tokens.now) (map lexeme c.args.tokens.now) c.plain.result (plain_is_negated (map lexeme c.args.tokens.now) c.in-None.ensures.none) (no_plain_negated (map lexeme c.args.tokens.now) c.in-None.ensures.none) c.plain.ensures.tree
 
 pub plain-returns-in-Some-clause-tree : goal.plain-returns-in-Some-clause-tree
-plain-returns-in-Some-clause-tree t c = reads_as (Asked c.in-Some.keyword) IsPlain Always (ends 1) _ (map piece c.in-Some.rest.now) (map piece c.args.pieces.now) c.asked.result (asked_reads (map piece c.args.pieces.now) (map piece c.in-Some.rest.now) c.in-Some.keyword c.in-Some.ensures.operator) (asked_none (map piece c.args.pieces.now) (map piece c.in-Some.rest.now) c.in-Some.keyword c.in-Some.ensures.operator) c.asked.ensures.tree
+plain-returns-in-Some-clause-tree t c = reads_as (IsTestCall c.in-Some.keyword) IsPlain Always (ends 1) _ (map lexeme c.in-Some.rest.now) (map lexeme c.args.tokens.now) c.test_call.result (asked_reads (map lexeme c.args.tokens.now) (map lexeme c.in-Some.rest.now) c.in-Some.keyword c.in-Some.ensures.operator) (asked_none (map lexeme c.args.tokens.now) (map lexeme c.in-Some.rest.now) c.in-Some.keyword c.in-Some.ensures.operator) c.test_call.ensures.tree
 
 pub plain-returns-in-Some-group_at-clause-tree : goal.plain-returns-in-Some-group_at-clause-tree
-plain-returns-in-Some-group_at-clause-tree t c = reads_as (IsBefore Close IsTest) IsPlain Always (ends 1) _ (map piece c.in-Some-group_at.rest.now) (map piece c.args.pieces.now) c.test_before.result (group_reads (map piece c.args.pieces.now) (map piece c.in-Some-group_at.rest.now) c.in-Some-group_at.ensures.found c.in-Some-group_at.ensures.holds) (group_none (map piece c.args.pieces.now) (map piece c.in-Some-group_at.rest.now) c.in-Some-group_at.ensures.found c.in-Some-group_at.ensures.holds) c.test_before.ensures.tree
+plain-returns-in-Some-group_at-clause-tree t c = reads_as (IsBefore Close IsTest) IsPlain Always (ends 1) _ (map lexeme c.in-Some-group_at.rest.now) (map lexeme c.args.tokens.now) c.test_before.result (group_reads (map lexeme c.args.tokens.now) (map lexeme c.in-Some-group_at.rest.now) c.in-Some-group_at.ensures.found c.in-Some-group_at.ensures.holds) (group_none (map lexeme c.args.tokens.now) (map lexeme c.in-Some-group_at.rest.now) c.in-Some-group_at.ensures.found c.in-Some-group_at.ensures.holds) c.test_before.ensures.tree
 
 pub plain-returns-clause-tree : goal.plain-returns-clause-tree
-plain-returns-clause-tree t c = reads_as IsCompared IsPlain (ends 1) (ends 1) _ (map piece c.args.pieces.now) (map piece c.args.pieces.now) c.comparison.result (compare_reads (map piece c.args.pieces.now) c.in_default.ensures.operator c.in_default-group_at.ensures.none) (compare_none (map piece c.args.pieces.now) c.in_default.ensures.operator c.in_default-group_at.ensures.none) c.comparison.ensures.tree
+plain-returns-clause-tree t c = reads_as IsCompared IsPlain (ends 1) (ends 1) _ (map lexeme c.args.tokens.now) (map lexeme c.args.tokens.now) c.comparison.result (compare_reads (map lexeme c.args.tokens.now) c.in_default.ensures.operator c.in_default-group_at.ensures.none) (compare_none (map lexeme c.args.tokens.now) c.in_default.ensures.operator c.in_default-group_at.ensures.none) c.comparison.ensures.tree
 
 pub test_before-returns-in-Some-clause-tree : goal.test_before-returns-in-Some-clause-tree
-test_before-returns-in-Some-clause-tree t c = before_reads IsTest (test_ends 1) c.args.mark (λ us. c.requires.ends) (map piece c.args.pieces.now) (map piece c.in_ok-read.rest.now) (map piece c.in-Some.rest.now) _ c.in_ok-read.ensures.tree c.in-Some.ensures.found
+test_before-returns-in-Some-clause-tree t c = before_reads IsTest (test_ends 1) c.args.mark (λ us. c.requires.ends) (map lexeme c.args.tokens.now) (map lexeme c.in_ok-read.rest.now) (map lexeme c.in-Some.rest.now) _ c.in_ok-read.ensures.tree c.in-Some.ensures.found

@@ -2,31 +2,31 @@ use Rattle.std.proofs.Common.{◌≤◌, length, ◌+◌, ◌*◌}
 use Rattle.std.specs.Prelude.{map}
 use Rattle.ctd_syntax.specs.View.{test_tree}
 use Rattle.ctd_syntax.specs.Grammar.{IsTest, IsBoth, IsNegated}
-use Rattle.ctd_syntax.specs.Front.{piece}
+use Rattle.ctd_syntax.specs.Front.{lexeme}
 use Rattle.ctd_syntax.specs.Tests.{test_ends}
 use Rattle.ctd_syntax.proofs.Chains.{Partly}
 use Rattle.ctd_syntax.proofs.TestLevels.{or_operator, and_operator, either, together}
 use Rattle.ctd_syntax.proofs.condition.+test.Given as goal
 
 abbrev pub decreases-test_before : goal.decreases-test_before
-decreases-test_before l = 8 * length l.pieces.now + 6
+decreases-test_before l = 8 * length l.tokens.now + 6
 
 abbrev pub decreases-test : goal.decreases-test
-decreases-test l = 8 * length l.pieces.now + 5
+decreases-test l = 8 * length l.tokens.now + 5
 
 abbrev pub decreases-both : goal.decreases-both
-decreases-both l = 8 * length l.pieces.now + 4
+decreases-both l = 8 * length l.tokens.now + 4
 
 abbrev pub decreases-negated : goal.decreases-negated
-decreases-negated l = 8 * length l.pieces.now + 3
+decreases-negated l = 8 * length l.tokens.now + 3
 
 abbrev pub decreases-plain : goal.decreases-plain
-decreases-plain l = 8 * length l.pieces.now + 2
+decreases-plain l = 8 * length l.tokens.now + 2
 
 abbrev pub invariant-test-loop-after : goal.invariant-test-loop-after
 invariant-test-loop-after l = record {
-  partly : Partly IsTest IsBoth (test_ends 1) or_operator either (map piece l.fn.pieces) (test_tree l.left) (map piece l.rest);
-  shorter : length l.rest ≤ length l.fn.pieces;
+  partly : Partly IsTest IsBoth (test_ends 1) or_operator either (map lexeme l.fn.tokens) (test_tree l.left) (map lexeme l.rest);
+  shorter : length l.rest ≤ length l.fn.tokens;
 }
 
 abbrev pub decreases-test-loop-after : goal.decreases-test-loop-after
@@ -34,8 +34,8 @@ decreases-test-loop-after l = length l.rest
 
 abbrev pub invariant-both-loop-after : goal.invariant-both-loop-after
 invariant-both-loop-after l = record {
-  partly : Partly IsBoth IsNegated (test_ends 2) and_operator together (map piece l.fn.pieces) (test_tree l.left) (map piece l.rest);
-  shorter : length l.rest ≤ length l.fn.pieces;
+  partly : Partly IsBoth IsNegated (test_ends 2) and_operator together (map lexeme l.fn.tokens) (test_tree l.left) (map lexeme l.rest);
+  shorter : length l.rest ≤ length l.fn.tokens;
 }
 
 abbrev pub decreases-both-loop-after : goal.decreases-both-loop-after

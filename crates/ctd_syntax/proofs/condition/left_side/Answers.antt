@@ -1,7 +1,7 @@
 use Rattle.std.specs.Prelude.{map}
-use Rattle.ctd_syntax.specs.Front.{piece}
+use Rattle.ctd_syntax.specs.Front.{lexeme}
 use Rattle.ctd_syntax.proofs.Conditions.{left_reads}
 use Rattle.ctd_syntax.proofs.condition.left_side.Goals as goal
 
 pub returns-in-Some-clause-tree : goal.returns-in-Some-clause-tree
-returns-in-Some-clause-tree c = left_reads (map piece c.args.pieces.now) (map piece c.in_ok-left.rest.now) (map piece c.in-Some.after.now) _ c.in-Some.by c.in_ok-left.ensures.tree c.in-Some.ensures.operator
+returns-in-Some-clause-tree c = left_reads (map lexeme c.args.tokens.now) (map lexeme c.in_ok-left.rest.now) (map lexeme c.in-Some.after.now) _ c.in-Some.by c.in_ok-left.ensures.tree c.in-Some.ensures.operator

@@ -3,7 +3,7 @@ use Rattle.std.specs.Prelude.{map}
 use Rattle.ctd_syntax.specs.Lexeme.{Lexeme, mark}
 use Rattle.ctd_syntax.specs.View.{expr_tree, var_tree, expr_list, exprs_of}
 use Rattle.ctd_syntax.specs.Grammar.{IsExpr, IsExprs, IsProduct, IsSigned, IsPower, IsExponent, IsAtom, IsTarget}
-use Rattle.ctd_syntax.specs.Front.{Found, Always, IsBefore, piece}
+use Rattle.ctd_syntax.specs.Front.{Found, Always, IsBefore, lexeme}
 use Rattle.ctd_syntax.specs.Levels.{ends}
 use Rattle.ctd_token.specs.declared.token.Mark.TheVariants.{Open, Close, CloseIndex}
 use Rattle.ctd_syntax.proofs.Chains.{start, no_start, finish, next, no_next}
@@ -12,7 +12,7 @@ use Rattle.ctd_syntax.proofs.Fronts.{reads_as, refused_exit, before_reads}
 use Rattle.ctd_syntax.proofs.Rows.{index_list, list_of, list_view, lists_none, lists_start, lists_next, lists_no_next, lists_end, lists_unclosed}
 use Rattle.ctd_syntax.proofs.Atoms.{minus_reads, minus_none, power_is_signed, no_power_signed, power_reads, power_none, atom_is_power, no_atom_power, negative_reads, negative_none, power_is_exponent, no_power_exponent, numeral_reads, text_reads, variable_reads, variable_none, variable_plain, variable_indexed, variable_bad_index, not_strlen_begins, strlen_reads, strlen_none, group_reads, group_none, not_open_begins, no_atom}
 use Rattle.ctd_syntax.specs.Tree
-use Rattle.ctd_syntax.specs.declared.piece.Piece.TheVariants as pieces
+use Rattle.ctd_syntax.specs.declared.parser_token.ParserToken.TheVariants as parser_tokens
 use Rattle.ctd_syntax.specs.declared.keyword.Keyword.TheVariants.{Strlen}
 use Rattle.std.proofs.lemmas.Int.{to_z-of_z}
 use Rattle.std.proofs.lemmas.List.{map-append}
@@ -24,133 +24,133 @@ use Rattle.ctd_syntax.proofs.expression.+expression.Goals as goal
 pub atom-returns-in_err-inner-in-Some-after_mark-clause-tree : goal.atom-returns-in_err-inner-in-Some-after_mark-clause-tree
 atom-returns-in_err-inner-in-Some-after_mark-clause-tree t c =
     let is_strlen : c.in-Keyword.keyword ≡ Strlen = search (rules, c.ne.ensures, c.if-ne.ensures) in
-    refused_exit (IsBefore Close IsExpr) IsAtom Always (ends 4) _ (map piece c.in-Some-after_mark.rest.now) (map piece c.args.pieces.now) _ c.from_residual-in_err-inner-in-Some-after_mark.result c.from_residual-in_err-inner-in-Some-after_mark.ensures.1 (strlen_none (map piece c.args.pieces.now) (map piece c.in-Some.rest.now) (map piece c.in-Some-after_mark.rest.now) _ (ap (map piece) c.in-Some.ensures.cases.0 ∙ ap (λ x. piece x ∷ map piece c.in-Some.rest.now) (c.in-Keyword.is ∙ ap (λ x. pieces.Keyword x c.in-Keyword.field-1) is_strlen)) c.in-Some-after_mark.ensures.found) c.in_err-inner-in-Some-after_mark.ensures.tree
+    refused_exit (IsBefore Close IsExpr) IsAtom Always (ends 4) _ (map lexeme c.in-Some-after_mark.rest.now) (map lexeme c.args.tokens.now) _ c.from_residual-in_err-inner-in-Some-after_mark.result c.from_residual-in_err-inner-in-Some-after_mark.ensures.1 (strlen_none (map lexeme c.args.tokens.now) (map lexeme c.in-Some.rest.now) (map lexeme c.in-Some-after_mark.rest.now) _ (ap (map lexeme) c.in-Some.ensures.cases.0 ∙ ap (λ x. lexeme x ∷ map lexeme c.in-Some.rest.now) (c.in-Keyword.is ∙ ap (λ x. parser_tokens.Keyword x c.in-Keyword.field-1) is_strlen)) c.in-Some-after_mark.ensures.found) c.in_err-inner-in-Some-after_mark.ensures.tree
 
 pub atom-returns-in-Numeral-clause-tree : goal.atom-returns-in-Numeral-clause-tree
-atom-returns-in-Numeral-clause-tree t c = rw (to_z-of_z w128 c.in-Numeral.n (search rules)) (numeral_reads (map piece c.args.pieces.now) (map piece c.in-Some.rest.now) _ (ap (map piece) c.in-Some.ensures.cases.0 ∙ ap (λ x. piece x ∷ map piece c.in-Some.rest.now) c.in-Numeral.is))
+atom-returns-in-Numeral-clause-tree t c = rw (to_z-of_z w128 c.in-Numeral.n (search rules)) (numeral_reads (map lexeme c.args.tokens.now) (map lexeme c.in-Some.rest.now) _ (ap (map lexeme) c.in-Some.ensures.cases.0 ∙ ap (λ x. lexeme x ∷ map lexeme c.in-Some.rest.now) c.in-Numeral.is))
 
 pub atom-returns-in_ok-bytes-in-Text-clause-tree : goal.atom-returns-in_ok-bytes-in-Text-clause-tree
-atom-returns-in_ok-bytes-in-Text-clause-tree t c = rw (c.in_ok-bytes-in-Text.ensures.equal, c.as_slice.ensures.whole) (text_reads (map piece c.args.pieces.now) (map piece c.in-Some.rest.now) _ _ (ap (map piece) c.in-Some.ensures.cases.0 ∙ ap (λ x. piece x ∷ map piece c.in-Some.rest.now) c.in-Text.is))
+atom-returns-in_ok-bytes-in-Text-clause-tree t c = rw (c.in_ok-bytes-in-Text.ensures.equal, c.as_slice.ensures.whole) (text_reads (map lexeme c.args.tokens.now) (map lexeme c.in-Some.rest.now) _ _ (ap (map lexeme) c.in-Some.ensures.cases.0 ∙ ap (λ x. lexeme x ∷ map lexeme c.in-Some.rest.now) c.in-Text.is))
 
 pub atom-returns-in_err-var-in-Name-clause-tree : goal.atom-returns-in_err-var-in-Name-clause-tree
-atom-returns-in_err-var-in-Name-clause-tree t c = refused_exit IsTarget IsAtom (ends 4) (ends 4) _ (map piece c.args.pieces.now) (map piece c.args.pieces.now) _ c.from_residual-in_err-var-in-Name.result c.from_residual-in_err-var-in-Name.ensures.1 (variable_none (map piece c.args.pieces.now) (map piece c.in-Some.rest.now) _ (ap (map piece) c.in-Some.ensures.cases.0 ∙ ap (λ x. piece x ∷ map piece c.in-Some.rest.now) c.in-Name.is)) c.in_err-var-in-Name.ensures.tree
+atom-returns-in_err-var-in-Name-clause-tree t c = refused_exit IsTarget IsAtom (ends 4) (ends 4) _ (map lexeme c.args.tokens.now) (map lexeme c.args.tokens.now) _ c.from_residual-in_err-var-in-Name.result c.from_residual-in_err-var-in-Name.ensures.1 (variable_none (map lexeme c.args.tokens.now) (map lexeme c.in-Some.rest.now) _ (ap (map lexeme) c.in-Some.ensures.cases.0 ∙ ap (λ x. lexeme x ∷ map lexeme c.in-Some.rest.now) c.in-Name.is)) c.in_err-var-in-Name.ensures.tree
 
 pub atom-returns-in_ok-var-in-Name-clause-tree : goal.atom-returns-in_ok-var-in-Name-clause-tree
 atom-returns-in_ok-var-in-Name-clause-tree t c =
     let v : Var = c.in_ok-var-in-Name.var in
-    let found = variable_reads (map piece c.args.pieces.now) (map piece c.in-Some.rest.now) (map piece c.in_ok-var-in-Name.rest.now) _ (var_tree v) (ap (map piece) c.in-Some.ensures.cases.0 ∙ ap (λ x. piece x ∷ map piece c.in-Some.rest.now) c.in-Name.is) c.in_ok-var-in-Name.ensures.tree in
-    subst (λ x. Found IsAtom (ends 4) (map piece c.args.pieces.now) x (map piece c.in_ok-var-in-Name.rest.now)) (sym (variable_tree v)) found
+    let found = variable_reads (map lexeme c.args.tokens.now) (map lexeme c.in-Some.rest.now) (map lexeme c.in_ok-var-in-Name.rest.now) _ (var_tree v) (ap (map lexeme) c.in-Some.ensures.cases.0 ∙ ap (λ x. lexeme x ∷ map lexeme c.in-Some.rest.now) c.in-Name.is) c.in_ok-var-in-Name.ensures.tree in
+    subst (λ x. Found IsAtom (ends 4) (map lexeme c.args.tokens.now) x (map lexeme c.in_ok-var-in-Name.rest.now)) (sym (variable_tree v)) found
 
 pub atom-returns-then-ne-clause-tree : goal.atom-returns-then-ne-clause-tree
-atom-returns-then-ne-clause-tree t c = no_atom (map piece c.args.pieces.now) (map piece c.in-Some.rest.now) (Lexeme.keyword c.in-Keyword.keyword _) (ap (map piece) c.in-Some.ensures.cases.0 ∙ ap (λ x. piece x ∷ map piece c.in-Some.rest.now) c.in-Keyword.is) (not_strlen_begins c.in-Keyword.keyword _ (search (rules, c.ne.ensures, c.if-ne.ensures)))
+atom-returns-then-ne-clause-tree t c = no_atom (map lexeme c.args.tokens.now) (map lexeme c.in-Some.rest.now) (Lexeme.keyword c.in-Keyword.keyword _) (ap (map lexeme) c.in-Some.ensures.cases.0 ∙ ap (λ x. lexeme x ∷ map lexeme c.in-Some.rest.now) c.in-Keyword.is) (not_strlen_begins c.in-Keyword.keyword _ (search (rules, c.ne.ensures, c.if-ne.ensures)))
 
 pub variable-returns-in_err-indices-in-Some-after_mark-clause-tree : goal.variable-returns-in_err-indices-in-Some-after_mark-clause-tree
-variable-returns-in_err-indices-in-Some-after_mark-clause-tree t c = refused_exit (IsBefore CloseIndex IsExprs) IsTarget Always (ends 4) _ (map piece c.in-Some-after_mark.after.now) (map piece c.args.pieces.now) _ c.from_residual-in_err-indices-in-Some-after_mark.result c.from_residual-in_err-indices-in-Some-after_mark.ensures.1 (variable_bad_index (map piece c.args.pieces.now) (map piece c.in-Some.rest.now) (map piece c.in-Some-after_mark.after.now) c.in-Some.name.now c.in-Some.ensures.found c.in-Some-after_mark.ensures.found) c.in_err-indices-in-Some-after_mark.ensures.tree
+variable-returns-in_err-indices-in-Some-after_mark-clause-tree t c = refused_exit (IsBefore CloseIndex IsExprs) IsTarget Always (ends 4) _ (map lexeme c.in-Some-after_mark.after.now) (map lexeme c.args.tokens.now) _ c.from_residual-in_err-indices-in-Some-after_mark.result c.from_residual-in_err-indices-in-Some-after_mark.ensures.1 (variable_bad_index (map lexeme c.args.tokens.now) (map lexeme c.in-Some.rest.now) (map lexeme c.in-Some-after_mark.after.now) c.in-Some.name.now c.in-Some.ensures.found c.in-Some-after_mark.ensures.found) c.in_err-indices-in-Some-after_mark.ensures.tree
 
 pub variable-returns-in_ok-indices-in-Some-after_mark-clause-tree : goal.variable-returns-in_ok-indices-in-Some-after_mark-clause-tree
-variable-returns-in_ok-indices-in-Some-after_mark-clause-tree t c = rw c.in_ok-name.ensures.equal (variable_indexed (map piece c.args.pieces.now) (map piece c.in-Some.rest.now) (map piece c.in-Some-after_mark.after.now) (map piece c.in_ok-indices-in-Some-after_mark.rest.now) c.in-Some.name.now _ c.in-Some.ensures.found c.in-Some-after_mark.ensures.found c.in_ok-indices-in-Some-after_mark.ensures.tree)
+variable-returns-in_ok-indices-in-Some-after_mark-clause-tree t c = rw c.in_ok-name.ensures.equal (variable_indexed (map lexeme c.args.tokens.now) (map lexeme c.in-Some.rest.now) (map lexeme c.in-Some-after_mark.after.now) (map lexeme c.in_ok-indices-in-Some-after_mark.rest.now) c.in-Some.name.now _ c.in-Some.ensures.found c.in-Some-after_mark.ensures.found c.in_ok-indices-in-Some-after_mark.ensures.tree)
 
 pub variable-returns-in-None-clause-tree : goal.variable-returns-in-None-clause-tree
 variable-returns-in-None-clause-tree t c =
     let is : expr_list (exprs_of c.from_vec-indices.result) ≡ Tree.none = ap expr_list (c.from_vec-indices.ensures ∙ c.new.ensures.items) in
-    rw (c.in_ok-name.ensures.equal, is) (variable_plain (map piece c.args.pieces.now) (map piece c.in-Some.rest.now) c.in-Some.name.now c.in-Some.ensures.found c.in-None.ensures.none)
+    rw (c.in_ok-name.ensures.equal, is) (variable_plain (map lexeme c.args.tokens.now) (map lexeme c.in-Some.rest.now) c.in-Some.name.now c.in-Some.ensures.found c.in-None.ensures.none)
 
 pub indices-returns-in_err-first-clause-tree : goal.indices-returns-in_err-first-clause-tree
-indices-returns-in_err-first-clause-tree t c = refused_exit IsExpr (IsBefore CloseIndex IsExprs) (ends 1) Always _ (map piece c.args.pieces.now) (map piece c.args.pieces.now) _ c.from_residual.result c.from_residual.ensures.1 (lists_none index_list (map piece c.args.pieces.now)) c.in_err-first.ensures.tree
+indices-returns-in_err-first-clause-tree t c = refused_exit IsExpr (IsBefore CloseIndex IsExprs) (ends 1) Always _ (map lexeme c.args.tokens.now) (map lexeme c.args.tokens.now) _ c.from_residual.result c.from_residual.ensures.1 (lists_none index_list (map lexeme c.args.tokens.now)) c.in_err-first.ensures.tree
 
 pub indices-loop-after-init : goal.indices-loop-after-init
 indices-loop-after-init t c =
     let is : map expr_tree c.push.new.self.items ≡ expr_tree c.in_ok-first.first ∷ [] = ap (map expr_tree) (c.in_ok-push.ensures.items ∙ ap (λ l. l ++ c.in_ok-first.first ∷ []) c.new-items.ensures.items) in
-    record { partly = rw is (lists_start index_list (map piece c.args.pieces.now) (map piece c.in_ok-first.rest.now) _ c.in_ok-first.ensures.tree); shorter = c.in_ok-first.ensures.shorter }
+    record { partly = rw is (lists_start index_list (map lexeme c.args.tokens.now) (map lexeme c.in_ok-first.rest.now) _ c.in_ok-first.ensures.tree); shorter = c.in_ok-first.ensures.shorter }
 
 pub indices-returns-in_err-next-clause-tree : goal.indices-returns-in_err-next-clause-tree
-indices-returns-in_err-next-clause-tree t c = refused_exit IsExpr (IsBefore CloseIndex IsExprs) (ends 1) Always _ (map piece c.in-Some.after.now) (map piece c.args.pieces.now) _ c.from_residual-in_err-next.result c.from_residual-in_err-next.ensures.1 (lists_no_next index_list (map piece c.args.pieces.now) (map piece c.loop-after.rest.now) (map piece c.in-Some.after.now) _ c.loop-after.invariant.partly c.in-Some.ensures.found) c.in_err-next.ensures.tree
+indices-returns-in_err-next-clause-tree t c = refused_exit IsExpr (IsBefore CloseIndex IsExprs) (ends 1) Always _ (map lexeme c.in-Some.after.now) (map lexeme c.args.tokens.now) _ c.from_residual-in_err-next.result c.from_residual-in_err-next.ensures.1 (lists_no_next index_list (map lexeme c.args.tokens.now) (map lexeme c.loop-after.rest.now) (map lexeme c.in-Some.after.now) _ c.loop-after.invariant.partly c.in-Some.ensures.found) c.in_err-next.ensures.tree
 
 pub indices-loop-after-preserved : goal.indices-loop-after-preserved
 indices-loop-after-preserved t c =
     let is : map expr_tree c.push-in-Some.new.self.items ≡ map expr_tree c.loop-after.items.items ++ expr_tree c.in_ok-next.next ∷ [] = ap (map expr_tree) c.in_ok-push-2.ensures.items ∙ map-append expr_tree c.loop-after.items.items (c.in_ok-next.next ∷ []) in
-    record { partly = rw is (lists_next index_list (map piece c.args.pieces.now) (map piece c.loop-after.rest.now) (map piece c.in-Some.after.now) (map piece c.in_ok-next.after.now) _ _ c.loop-after.invariant.partly c.in-Some.ensures.found c.in_ok-next.ensures.tree); shorter = omega (arith, c.loop-after.invariant.shorter, c.in-Some.ensures.shorter, c.in_ok-next.ensures.shorter) }
+    record { partly = rw is (lists_next index_list (map lexeme c.args.tokens.now) (map lexeme c.loop-after.rest.now) (map lexeme c.in-Some.after.now) (map lexeme c.in_ok-next.after.now) _ _ c.loop-after.invariant.partly c.in-Some.ensures.found c.in_ok-next.ensures.tree); shorter = omega (arith, c.loop-after.invariant.shorter, c.in-Some.ensures.shorter, c.in_ok-next.ensures.shorter) }
 
 pub indices-returns-in-Some-after_mark-clause-tree : goal.indices-returns-in-Some-after_mark-clause-tree
 indices-returns-in-Some-after_mark-clause-tree t c =
     let is : list_of (map expr_tree c.loop-after.items.items) ≡ expr_list (exprs_of c.from_vec.result) = list_view c.loop-after.items.items ∙ ap expr_list (sym c.from_vec.ensures) in
-    subst (λ l. Found (IsBefore CloseIndex IsExprs) Always (map piece c.args.pieces.now) l (map piece c.in-Some-after_mark.rest.now)) is (lists_end index_list (map piece c.args.pieces.now) (map piece c.loop-after.rest.now) (map piece c.in-Some-after_mark.rest.now) _ c.loop-after.invariant.partly c.in_default.ensures.none c.in-Some-after_mark.ensures.found)
+    subst (λ l. Found (IsBefore CloseIndex IsExprs) Always (map lexeme c.args.tokens.now) l (map lexeme c.in-Some-after_mark.rest.now)) is (lists_end index_list (map lexeme c.args.tokens.now) (map lexeme c.loop-after.rest.now) (map lexeme c.in-Some-after_mark.rest.now) _ c.loop-after.invariant.partly c.in_default.ensures.none c.in-Some-after_mark.ensures.found)
 
 pub indices-returns-clause-tree : goal.indices-returns-clause-tree
-indices-returns-clause-tree t c = lists_unclosed index_list (map piece c.args.pieces.now) (map piece c.loop-after.rest.now) _ c.loop-after.invariant.partly c.in_default.ensures.none c.in-None.ensures.none
+indices-returns-clause-tree t c = lists_unclosed index_list (map lexeme c.args.tokens.now) (map lexeme c.loop-after.rest.now) _ c.loop-after.invariant.partly c.in_default.ensures.none c.in-None.ensures.none
 
 pub atom-returns-in_ok-new-in-Some-after_mark-clause-tree : goal.atom-returns-in_ok-new-in-Some-after_mark-clause-tree
 atom-returns-in_ok-new-in-Some-after_mark-clause-tree t c =
     let is_strlen : c.in-Keyword.keyword ≡ Strlen = search (rules, c.ne.ensures, c.if-ne.ensures) in
-    rw c.in_ok-new-in-Some-after_mark.ensures.ok (strlen_reads (map piece c.args.pieces.now) (map piece c.in-Some.rest.now) (map piece c.in-Some-after_mark.rest.now) _ _ _ (ap (map piece) c.in-Some.ensures.cases.0 ∙ ap (λ x. piece x ∷ map piece c.in-Some.rest.now) (c.in-Keyword.is ∙ ap (λ x. pieces.Keyword x c.in-Keyword.field-1) is_strlen)) c.in-Some-after_mark.ensures.found c.in_ok-inner-in-Some-after_mark.ensures.tree)
+    rw c.in_ok-new-in-Some-after_mark.ensures.ok (strlen_reads (map lexeme c.args.tokens.now) (map lexeme c.in-Some.rest.now) (map lexeme c.in-Some-after_mark.rest.now) _ _ _ (ap (map lexeme) c.in-Some.ensures.cases.0 ∙ ap (λ x. lexeme x ∷ map lexeme c.in-Some.rest.now) (c.in-Keyword.is ∙ ap (λ x. parser_tokens.Keyword x c.in-Keyword.field-1) is_strlen)) c.in-Some-after_mark.ensures.found c.in_ok-inner-in-Some-after_mark.ensures.tree)
 
 pub atom-returns-else-ne-2-clause-tree : goal.atom-returns-else-ne-2-clause-tree
 atom-returns-else-ne-2-clause-tree t c =
     let is_open : c.in-Mark.mark ≡ Open = search (rules, c.ne-in-Mark.ensures, c.if-ne-2.ensures) in
-    reads_as (IsBefore Close IsExpr) IsAtom Always (ends 4) _ (map piece c.in-Some.rest.now) (map piece c.args.pieces.now) c.closed-in-Mark.result (group_reads (map piece c.args.pieces.now) (map piece c.in-Some.rest.now) (ap (map piece) c.in-Some.ensures.cases.0 ∙ ap (λ x. piece x ∷ map piece c.in-Some.rest.now) (c.in-Mark.is ∙ ap pieces.Mark is_open))) (group_none (map piece c.args.pieces.now) (map piece c.in-Some.rest.now) (ap (map piece) c.in-Some.ensures.cases.0 ∙ ap (λ x. piece x ∷ map piece c.in-Some.rest.now) (c.in-Mark.is ∙ ap pieces.Mark is_open))) c.closed-in-Mark.ensures.tree
+    reads_as (IsBefore Close IsExpr) IsAtom Always (ends 4) _ (map lexeme c.in-Some.rest.now) (map lexeme c.args.tokens.now) c.parenthesized-in-Mark.result (group_reads (map lexeme c.args.tokens.now) (map lexeme c.in-Some.rest.now) (ap (map lexeme) c.in-Some.ensures.cases.0 ∙ ap (λ x. lexeme x ∷ map lexeme c.in-Some.rest.now) (c.in-Mark.is ∙ ap parser_tokens.Mark is_open))) (group_none (map lexeme c.args.tokens.now) (map lexeme c.in-Some.rest.now) (ap (map lexeme) c.in-Some.ensures.cases.0 ∙ ap (λ x. lexeme x ∷ map lexeme c.in-Some.rest.now) (c.in-Mark.is ∙ ap parser_tokens.Mark is_open))) c.parenthesized-in-Mark.ensures.tree
 
 pub atom-returns-then-ne-2-clause-tree : goal.atom-returns-then-ne-2-clause-tree
-atom-returns-then-ne-2-clause-tree t c = no_atom (map piece c.args.pieces.now) (map piece c.in-Some.rest.now) (mark c.in-Mark.mark) (ap (map piece) c.in-Some.ensures.cases.0 ∙ ap (λ x. piece x ∷ map piece c.in-Some.rest.now) c.in-Mark.is) (not_open_begins c.in-Mark.mark (search (rules, c.ne-in-Mark.ensures, c.if-ne-2.ensures)))
+atom-returns-then-ne-2-clause-tree t c = no_atom (map lexeme c.args.tokens.now) (map lexeme c.in-Some.rest.now) (mark c.in-Mark.mark) (ap (map lexeme) c.in-Some.ensures.cases.0 ∙ ap (λ x. lexeme x ∷ map lexeme c.in-Some.rest.now) c.in-Mark.is) (not_open_begins c.in-Mark.mark (search (rules, c.ne-in-Mark.ensures, c.if-ne-2.ensures)))
 
-pub closed-returns-in-Some-clause-tree : goal.closed-returns-in-Some-clause-tree
-closed-returns-in-Some-clause-tree t c = before_reads IsExpr (ends 1) Close (λ us. omega arith) (map piece c.args.pieces.now) (map piece c.in_ok-inner.rest.now) (map piece c.in-Some.rest.now) _ c.in_ok-inner.ensures.tree c.in-Some.ensures.found
+pub parenthesized-returns-in-Some-clause-tree : goal.parenthesized-returns-in-Some-clause-tree
+parenthesized-returns-in-Some-clause-tree t c = before_reads IsExpr (ends 1) Close (λ us. omega arith) (map lexeme c.args.tokens.now) (map lexeme c.in_ok-inner.rest.now) (map lexeme c.in-Some.rest.now) _ c.in_ok-inner.ensures.tree c.in-Some.ensures.found
 
 pub exponent-returns-in_err-operand-in-Some-clause-tree : goal.exponent-returns-in_err-operand-in-Some-clause-tree
-exponent-returns-in_err-operand-in-Some-clause-tree t c = refused_exit IsExponent IsExponent (ends 3) (ends 3) _ (map piece c.in-Some.after.now) (map piece c.args.pieces.now) _ c.from_residual.result c.from_residual.ensures.1 (negative_none (map piece c.args.pieces.now) (map piece c.in-Some.after.now) c.in-Some.ensures.found) c.in_err-operand-in-Some.ensures.tree
+exponent-returns-in_err-operand-in-Some-clause-tree t c = refused_exit IsExponent IsExponent (ends 3) (ends 3) _ (map lexeme c.in-Some.after.now) (map lexeme c.args.tokens.now) _ c.from_residual.result c.from_residual.ensures.1 (negative_none (map lexeme c.args.tokens.now) (map lexeme c.in-Some.after.now) c.in-Some.ensures.found) c.in_err-operand-in-Some.ensures.tree
 
 pub exponent-returns-in_ok-new-in-Some-clause-tree : goal.exponent-returns-in_ok-new-in-Some-clause-tree
-exponent-returns-in_ok-new-in-Some-clause-tree t c = rw c.in_ok-new-in-Some.ensures.ok (negative_reads (map piece c.args.pieces.now) (map piece c.in-Some.after.now) _ _ c.in-Some.ensures.found c.in_ok-operand-in-Some.ensures.tree)
+exponent-returns-in_ok-new-in-Some-clause-tree t c = rw c.in_ok-new-in-Some.ensures.ok (negative_reads (map lexeme c.args.tokens.now) (map lexeme c.in-Some.after.now) _ _ c.in-Some.ensures.found c.in_ok-operand-in-Some.ensures.tree)
 
 pub exponent-returns-in-None-clause-tree : goal.exponent-returns-in-None-clause-tree
-exponent-returns-in-None-clause-tree t c = reads_as IsPower IsExponent (ends 3) (ends 3) _ (map piece c.args.pieces.now) (map piece c.args.pieces.now) c.power.result (power_is_exponent (map piece c.args.pieces.now) c.in-None.ensures.none) (no_power_exponent (map piece c.args.pieces.now) c.in-None.ensures.none) c.power.ensures.tree
+exponent-returns-in-None-clause-tree t c = reads_as IsPower IsExponent (ends 3) (ends 3) _ (map lexeme c.args.tokens.now) (map lexeme c.args.tokens.now) c.power.result (power_is_exponent (map lexeme c.args.tokens.now) c.in-None.ensures.none) (no_power_exponent (map lexeme c.args.tokens.now) c.in-None.ensures.none) c.power.ensures.tree
 
 pub signed-returns-in_err-operand-in-Some-clause-tree : goal.signed-returns-in_err-operand-in-Some-clause-tree
-signed-returns-in_err-operand-in-Some-clause-tree t c = refused_exit IsSigned IsSigned (ends 3) (ends 3) _ (map piece c.in-Some.after.now) (map piece c.args.pieces.now) _ c.from_residual.result c.from_residual.ensures.1 (minus_none (map piece c.args.pieces.now) (map piece c.in-Some.after.now) c.in-Some.ensures.found) c.in_err-operand-in-Some.ensures.tree
+signed-returns-in_err-operand-in-Some-clause-tree t c = refused_exit IsSigned IsSigned (ends 3) (ends 3) _ (map lexeme c.in-Some.after.now) (map lexeme c.args.tokens.now) _ c.from_residual.result c.from_residual.ensures.1 (minus_none (map lexeme c.args.tokens.now) (map lexeme c.in-Some.after.now) c.in-Some.ensures.found) c.in_err-operand-in-Some.ensures.tree
 
 pub signed-returns-in_ok-new-in-Some-clause-tree : goal.signed-returns-in_ok-new-in-Some-clause-tree
-signed-returns-in_ok-new-in-Some-clause-tree t c = rw c.in_ok-new-in-Some.ensures.ok (minus_reads (map piece c.args.pieces.now) (map piece c.in-Some.after.now) _ _ c.in-Some.ensures.found c.in_ok-operand-in-Some.ensures.tree)
+signed-returns-in_ok-new-in-Some-clause-tree t c = rw c.in_ok-new-in-Some.ensures.ok (minus_reads (map lexeme c.args.tokens.now) (map lexeme c.in-Some.after.now) _ _ c.in-Some.ensures.found c.in_ok-operand-in-Some.ensures.tree)
 
 pub signed-returns-in-None-clause-tree : goal.signed-returns-in-None-clause-tree
-signed-returns-in-None-clause-tree t c = reads_as IsPower IsSigned (ends 3) (ends 3) _ (map piece c.args.pieces.now) (map piece c.args.pieces.now) c.power.result (power_is_signed (map piece c.args.pieces.now) c.in-None.ensures.none) (no_power_signed (map piece c.args.pieces.now) c.in-None.ensures.none) c.power.ensures.tree
+signed-returns-in-None-clause-tree t c = reads_as IsPower IsSigned (ends 3) (ends 3) _ (map lexeme c.args.tokens.now) (map lexeme c.args.tokens.now) c.power.result (power_is_signed (map lexeme c.args.tokens.now) c.in-None.ensures.none) (no_power_signed (map lexeme c.args.tokens.now) c.in-None.ensures.none) c.power.ensures.tree
 
 pub expr-returns-in_err-left-clause-tree : goal.expr-returns-in_err-left-clause-tree
-expr-returns-in_err-left-clause-tree t c = refused_exit IsProduct IsExpr (ends 2) (ends 1) _ (map piece c.args.pieces.now) (map piece c.args.pieces.now) _ c.from_residual.result c.from_residual.ensures.1 (no_start sums (map piece c.args.pieces.now)) c.in_err-left.ensures.tree
+expr-returns-in_err-left-clause-tree t c = refused_exit IsProduct IsExpr (ends 2) (ends 1) _ (map lexeme c.args.tokens.now) (map lexeme c.args.tokens.now) _ c.from_residual.result c.from_residual.ensures.1 (no_start sums (map lexeme c.args.tokens.now)) c.in_err-left.ensures.tree
 
 pub expr-loop-operator-init : goal.expr-loop-operator-init
-expr-loop-operator-init t c = record { partly = start sums (map piece c.args.pieces.now) _ (map piece c.in_ok-left.rest.now) c.in_ok-left.ensures.tree; shorter = c.in_ok-left.ensures.shorter }
+expr-loop-operator-init t c = record { partly = start sums (map lexeme c.args.tokens.now) _ (map lexeme c.in_ok-left.rest.now) c.in_ok-left.ensures.tree; shorter = c.in_ok-left.ensures.shorter }
 
 pub expr-returns-in_err-right-clause-tree : goal.expr-returns-in_err-right-clause-tree
-expr-returns-in_err-right-clause-tree t c = refused_exit IsProduct IsExpr (ends 2) (ends 1) _ (map piece c.in-Some.after.now) (map piece c.args.pieces.now) _ c.from_residual-in_err-right.result c.from_residual-in_err-right.ensures.1 (no_next sums (map piece c.args.pieces.now) _ (map piece c.loop-operator.rest.now) (map piece c.in-Some.after.now) _ c.loop-operator.invariant.partly c.in-Some.ensures.operator) c.in_err-right.ensures.tree
+expr-returns-in_err-right-clause-tree t c = refused_exit IsProduct IsExpr (ends 2) (ends 1) _ (map lexeme c.in-Some.after.now) (map lexeme c.args.tokens.now) _ c.from_residual-in_err-right.result c.from_residual-in_err-right.ensures.1 (no_next sums (map lexeme c.args.tokens.now) _ (map lexeme c.loop-operator.rest.now) (map lexeme c.in-Some.after.now) _ c.loop-operator.invariant.partly c.in-Some.ensures.operator) c.in_err-right.ensures.tree
 
 pub expr-loop-operator-preserved : goal.expr-loop-operator-preserved
-expr-loop-operator-preserved t c = record { partly = rw c.in_ok-left-2.ensures (next sums (map piece c.args.pieces.now) _ _ (map piece c.loop-operator.rest.now) (map piece c.in-Some.after.now) (map piece c.in_ok-right.after.now) _ c.loop-operator.invariant.partly c.in-Some.ensures.operator c.in_ok-right.ensures.tree); shorter = omega (arith, c.loop-operator.invariant.shorter, c.in-Some.ensures.shorter, c.in_ok-right.ensures.shorter) }
+expr-loop-operator-preserved t c = record { partly = rw c.in_ok-left-2.ensures (next sums (map lexeme c.args.tokens.now) _ _ (map lexeme c.loop-operator.rest.now) (map lexeme c.in-Some.after.now) (map lexeme c.in_ok-right.after.now) _ c.loop-operator.invariant.partly c.in-Some.ensures.operator c.in_ok-right.ensures.tree); shorter = omega (arith, c.loop-operator.invariant.shorter, c.in-Some.ensures.shorter, c.in_ok-right.ensures.shorter) }
 
 pub expr-returns-clause-tree : goal.expr-returns-clause-tree
-expr-returns-clause-tree t c = finish sums (map piece c.args.pieces.now) _ (map piece c.loop-operator.rest.now) c.loop-operator.invariant.partly c.in_default.ensures.operator
+expr-returns-clause-tree t c = finish sums (map lexeme c.args.tokens.now) _ (map lexeme c.loop-operator.rest.now) c.loop-operator.invariant.partly c.in_default.ensures.operator
 
 pub product-returns-in_err-left-clause-tree : goal.product-returns-in_err-left-clause-tree
-product-returns-in_err-left-clause-tree t c = refused_exit IsSigned IsProduct (ends 3) (ends 2) _ (map piece c.args.pieces.now) (map piece c.args.pieces.now) _ c.from_residual.result c.from_residual.ensures.1 (no_start products (map piece c.args.pieces.now)) c.in_err-left.ensures.tree
+product-returns-in_err-left-clause-tree t c = refused_exit IsSigned IsProduct (ends 3) (ends 2) _ (map lexeme c.args.tokens.now) (map lexeme c.args.tokens.now) _ c.from_residual.result c.from_residual.ensures.1 (no_start products (map lexeme c.args.tokens.now)) c.in_err-left.ensures.tree
 
 pub product-loop-operator-init : goal.product-loop-operator-init
-product-loop-operator-init t c = record { partly = start products (map piece c.args.pieces.now) _ (map piece c.in_ok-left.rest.now) c.in_ok-left.ensures.tree; shorter = c.in_ok-left.ensures.shorter }
+product-loop-operator-init t c = record { partly = start products (map lexeme c.args.tokens.now) _ (map lexeme c.in_ok-left.rest.now) c.in_ok-left.ensures.tree; shorter = c.in_ok-left.ensures.shorter }
 
 pub product-returns-in_err-right-clause-tree : goal.product-returns-in_err-right-clause-tree
-product-returns-in_err-right-clause-tree t c = refused_exit IsSigned IsProduct (ends 3) (ends 2) _ (map piece c.in-Some.after.now) (map piece c.args.pieces.now) _ c.from_residual-in_err-right.result c.from_residual-in_err-right.ensures.1 (no_next products (map piece c.args.pieces.now) _ (map piece c.loop-operator.rest.now) (map piece c.in-Some.after.now) _ c.loop-operator.invariant.partly c.in-Some.ensures.operator) c.in_err-right.ensures.tree
+product-returns-in_err-right-clause-tree t c = refused_exit IsSigned IsProduct (ends 3) (ends 2) _ (map lexeme c.in-Some.after.now) (map lexeme c.args.tokens.now) _ c.from_residual-in_err-right.result c.from_residual-in_err-right.ensures.1 (no_next products (map lexeme c.args.tokens.now) _ (map lexeme c.loop-operator.rest.now) (map lexeme c.in-Some.after.now) _ c.loop-operator.invariant.partly c.in-Some.ensures.operator) c.in_err-right.ensures.tree
 
 pub product-loop-operator-preserved : goal.product-loop-operator-preserved
-product-loop-operator-preserved t c = record { partly = rw c.in_ok-left-2.ensures (next products (map piece c.args.pieces.now) _ _ (map piece c.loop-operator.rest.now) (map piece c.in-Some.after.now) (map piece c.in_ok-right.after.now) _ c.loop-operator.invariant.partly c.in-Some.ensures.operator c.in_ok-right.ensures.tree); shorter = omega (arith, c.loop-operator.invariant.shorter, c.in-Some.ensures.shorter, c.in_ok-right.ensures.shorter) }
+product-loop-operator-preserved t c = record { partly = rw c.in_ok-left-2.ensures (next products (map lexeme c.args.tokens.now) _ _ (map lexeme c.loop-operator.rest.now) (map lexeme c.in-Some.after.now) (map lexeme c.in_ok-right.after.now) _ c.loop-operator.invariant.partly c.in-Some.ensures.operator c.in_ok-right.ensures.tree); shorter = omega (arith, c.loop-operator.invariant.shorter, c.in-Some.ensures.shorter, c.in_ok-right.ensures.shorter) }
 
 pub product-returns-clause-tree : goal.product-returns-clause-tree
-product-returns-clause-tree t c = finish products (map piece c.args.pieces.now) _ (map piece c.loop-operator.rest.now) c.loop-operator.invariant.partly c.in_default.ensures.operator
+product-returns-clause-tree t c = finish products (map lexeme c.args.tokens.now) _ (map lexeme c.loop-operator.rest.now) c.loop-operator.invariant.partly c.in_default.ensures.operator
 
 pub power-returns-in_err-base-clause-tree : goal.power-returns-in_err-base-clause-tree
-power-returns-in_err-base-clause-tree t c = refused_exit IsAtom IsPower (ends 4) (ends 3) _ (map piece c.args.pieces.now) (map piece c.args.pieces.now) _ c.from_residual.result c.from_residual.ensures.1 (no_atom_power (map piece c.args.pieces.now)) c.in_err-base.ensures.tree
+power-returns-in_err-base-clause-tree t c = refused_exit IsAtom IsPower (ends 4) (ends 3) _ (map lexeme c.args.tokens.now) (map lexeme c.args.tokens.now) _ c.from_residual.result c.from_residual.ensures.1 (no_atom_power (map lexeme c.args.tokens.now)) c.in_err-base.ensures.tree
 
 pub power-returns-in_err-exponent-in-Some-clause-tree : goal.power-returns-in_err-exponent-in-Some-clause-tree
-power-returns-in_err-exponent-in-Some-clause-tree t c = refused_exit IsExponent IsPower (ends 3) (ends 3) _ (map piece c.in-Some.after.now) (map piece c.args.pieces.now) _ c.from_residual-in_err-exponent-in-Some.result c.from_residual-in_err-exponent-in-Some.ensures.1 (power_none (map piece c.args.pieces.now) (map piece c.in_ok-base.rest.now) (map piece c.in-Some.after.now) _ c.in_ok-base.ensures.tree c.in-Some.ensures.found) c.in_err-exponent-in-Some.ensures.tree
+power-returns-in_err-exponent-in-Some-clause-tree t c = refused_exit IsExponent IsPower (ends 3) (ends 3) _ (map lexeme c.in-Some.after.now) (map lexeme c.args.tokens.now) _ c.from_residual-in_err-exponent-in-Some.result c.from_residual-in_err-exponent-in-Some.ensures.1 (power_none (map lexeme c.args.tokens.now) (map lexeme c.in_ok-base.rest.now) (map lexeme c.in-Some.after.now) _ c.in_ok-base.ensures.tree c.in-Some.ensures.found) c.in_err-exponent-in-Some.ensures.tree
 
 pub power-returns-in_ok-new-in-Some-clause-tree : goal.power-returns-in_ok-new-in-Some-clause-tree
-power-returns-in_ok-new-in-Some-clause-tree t c = rw (c.in_ok-base-in-Some.ensures.ok, c.in_ok-new-in-Some.ensures.ok) (power_reads (map piece c.args.pieces.now) (map piece c.in_ok-base.rest.now) (map piece c.in-Some.after.now) _ _ _ c.in_ok-base.ensures.tree c.in-Some.ensures.found c.in_ok-exponent-in-Some.ensures.tree)
+power-returns-in_ok-new-in-Some-clause-tree t c = rw (c.in_ok-base-in-Some.ensures.ok, c.in_ok-new-in-Some.ensures.ok) (power_reads (map lexeme c.args.tokens.now) (map lexeme c.in_ok-base.rest.now) (map lexeme c.in-Some.after.now) _ _ _ c.in_ok-base.ensures.tree c.in-Some.ensures.found c.in_ok-exponent-in-Some.ensures.tree)
 
 pub power-returns-in-None-clause-tree : goal.power-returns-in-None-clause-tree
-power-returns-in-None-clause-tree t c = atom_is_power (map piece c.args.pieces.now) (map piece c.in_ok-base.rest.now) _ c.in_ok-base.ensures.tree c.in-None.ensures.none
+power-returns-in-None-clause-tree t c = atom_is_power (map lexeme c.args.tokens.now) (map lexeme c.in_ok-base.rest.now) _ c.in_ok-base.ensures.tree c.in-None.ensures.none

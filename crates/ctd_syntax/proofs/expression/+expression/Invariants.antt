@@ -2,7 +2,7 @@ use Rattle.std.proofs.Common.{◌≤◌, length, ◌+◌, ◌*◌}
 use Rattle.std.specs.Prelude.{map}
 use Rattle.ctd_syntax.specs.View.{expr_tree}
 use Rattle.ctd_syntax.specs.Grammar.{IsExpr, IsProduct, IsSigned}
-use Rattle.ctd_syntax.specs.Front.{piece}
+use Rattle.ctd_syntax.specs.Front.{lexeme}
 use Rattle.ctd_syntax.specs.Levels.{ends, sum_operator, product_operator, join}
 use Rattle.ctd_syntax.proofs.Rows.{Separated, IsOne, Before, comma, append}
 use Rattle.ctd_token.specs.declared.token.Mark.TheVariants.{CloseIndex}
@@ -10,36 +10,36 @@ use Rattle.ctd_syntax.proofs.Chains.{Partly}
 use Rattle.ctd_syntax.proofs.expression.+expression.Given as goal
 
 abbrev pub decreases-indices : goal.decreases-indices
-decreases-indices l = 10 * length l.pieces.now + 8
+decreases-indices l = 10 * length l.tokens.now + 8
 
 abbrev pub decreases-variable : goal.decreases-variable
-decreases-variable l = 10 * length l.pieces.now + 1
+decreases-variable l = 10 * length l.tokens.now + 1
 
-abbrev pub decreases-closed : goal.decreases-closed
-decreases-closed l = 10 * length l.pieces.now + 7
+abbrev pub decreases-parenthesized : goal.decreases-parenthesized
+decreases-parenthesized l = 10 * length l.tokens.now + 7
 
 abbrev pub decreases-expr : goal.decreases-expr
-decreases-expr l = 10 * length l.pieces.now + 6
+decreases-expr l = 10 * length l.tokens.now + 6
 
 abbrev pub decreases-product : goal.decreases-product
-decreases-product l = 10 * length l.pieces.now + 5
+decreases-product l = 10 * length l.tokens.now + 5
 
 abbrev pub decreases-signed : goal.decreases-signed
-decreases-signed l = 10 * length l.pieces.now + 4
+decreases-signed l = 10 * length l.tokens.now + 4
 
 abbrev pub decreases-exponent : goal.decreases-exponent
-decreases-exponent l = 10 * length l.pieces.now + 4
+decreases-exponent l = 10 * length l.tokens.now + 4
 
 abbrev pub decreases-power : goal.decreases-power
-decreases-power l = 10 * length l.pieces.now + 3
+decreases-power l = 10 * length l.tokens.now + 3
 
 abbrev pub decreases-atom : goal.decreases-atom
-decreases-atom l = 10 * length l.pieces.now + 2
+decreases-atom l = 10 * length l.tokens.now + 2
 
 abbrev pub invariant-expr-loop-operator : goal.invariant-expr-loop-operator
 invariant-expr-loop-operator l = record {
-  partly : Partly IsExpr IsProduct (ends 1) sum_operator join (map piece l.fn.pieces) (expr_tree l.left) (map piece l.rest);
-  shorter : length l.rest ≤ length l.fn.pieces;
+  partly : Partly IsExpr IsProduct (ends 1) sum_operator join (map lexeme l.fn.tokens) (expr_tree l.left) (map lexeme l.rest);
+  shorter : length l.rest ≤ length l.fn.tokens;
 }
 
 abbrev pub decreases-expr-loop-operator : goal.decreases-expr-loop-operator
@@ -47,8 +47,8 @@ decreases-expr-loop-operator l = length l.rest
 
 abbrev pub invariant-product-loop-operator : goal.invariant-product-loop-operator
 invariant-product-loop-operator l = record {
-  partly : Partly IsProduct IsSigned (ends 2) product_operator join (map piece l.fn.pieces) (expr_tree l.left) (map piece l.rest);
-  shorter : length l.rest ≤ length l.fn.pieces;
+  partly : Partly IsProduct IsSigned (ends 2) product_operator join (map lexeme l.fn.tokens) (expr_tree l.left) (map lexeme l.rest);
+  shorter : length l.rest ≤ length l.fn.tokens;
 }
 
 abbrev pub decreases-product-loop-operator : goal.decreases-product-loop-operator
@@ -56,8 +56,8 @@ decreases-product-loop-operator l = length l.rest
 
 abbrev pub invariant-indices-loop-after : goal.invariant-indices-loop-after
 invariant-indices-loop-after l = record {
-  partly : Partly (Separated IsExpr) (IsOne IsExpr) (Before CloseIndex) comma append (map piece l.fn.pieces) (map expr_tree l.items.items) (map piece l.rest);
-  shorter : length l.rest ≤ length l.fn.pieces;
+  partly : Partly (Separated IsExpr) (IsOne IsExpr) (Before CloseIndex) comma append (map lexeme l.fn.tokens) (map expr_tree l.items.items) (map lexeme l.rest);
+  shorter : length l.rest ≤ length l.fn.tokens;
 }
 
 abbrev pub decreases-indices-loop-after : goal.decreases-indices-loop-after

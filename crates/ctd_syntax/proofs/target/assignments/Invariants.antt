@@ -1,6 +1,6 @@
 use Rattle.std.proofs.Common.{◌≤◌, length}
 use Rattle.std.specs.Prelude.{map}
-use Rattle.ctd_syntax.specs.Front.{piece, IsAssignment}
+use Rattle.ctd_syntax.specs.Front.{lexeme, IsAssignment}
 use Rattle.ctd_syntax.specs.View.{assignment}
 use Rattle.ctd_token.specs.declared.token.Mark.TheVariants.{Close}
 use Rattle.ctd_syntax.proofs.Rows.{PartRow}
@@ -8,8 +8,8 @@ use Rattle.ctd_syntax.proofs.target.assignments.Given as goal
 
 abbrev pub invariant-loop-after : goal.invariant-loop-after
 invariant-loop-after l = record {
-  partly : PartRow IsAssignment Close (map piece l.pieces) (map assignment l.items.items) (map piece l.rest);
-  shorter : length l.rest ≤ length l.pieces;
+  partly : PartRow IsAssignment Close (map lexeme l.tokens) (map assignment l.items.items) (map lexeme l.rest);
+  shorter : length l.rest ≤ length l.tokens;
 }
 
 abbrev pub decreases-loop-after : goal.decreases-loop-after

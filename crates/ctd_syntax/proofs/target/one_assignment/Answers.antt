@@ -1,5 +1,5 @@
 use Rattle.std.specs.Prelude.{map}
-use Rattle.ctd_syntax.specs.Front.{Always, IsBefore, IsAssignment, piece}
+use Rattle.ctd_syntax.specs.Front.{Always, IsBefore, IsAssignment, lexeme}
 use Rattle.ctd_syntax.specs.Grammar.{IsExpr, IsTarget}
 use Rattle.ctd_syntax.specs.Levels.{ends}
 use Rattle.ctd_token.specs.declared.token.Mark.TheVariants.{Assign}
@@ -8,10 +8,10 @@ use Rattle.ctd_syntax.proofs.Targets.{assignment_reads, assignment_no_target, as
 use Rattle.ctd_syntax.proofs.target.one_assignment.Goals as goal
 
 pub returns-in_err-target-clause-tree : goal.returns-in_err-target-clause-tree
-returns-in_err-target-clause-tree c = refused_exit (IsBefore Assign IsTarget) IsAssignment Always (ends 1) _ (map piece c.args.pieces.now) (map piece c.args.pieces.now) _ c.from_residual.result c.from_residual.ensures.1 (assignment_no_target (map piece c.args.pieces.now)) c.in_err-target.ensures.tree
+returns-in_err-target-clause-tree c = refused_exit (IsBefore Assign IsTarget) IsAssignment Always (ends 1) _ (map lexeme c.args.tokens.now) (map lexeme c.args.tokens.now) _ c.from_residual.result c.from_residual.ensures.1 (assignment_no_target (map lexeme c.args.tokens.now)) c.in_err-target.ensures.tree
 
 pub returns-in_err-value-clause-tree : goal.returns-in_err-value-clause-tree
-returns-in_err-value-clause-tree c = refused_exit IsExpr IsAssignment (ends 1) (ends 1) _ (map piece c.in_ok-target.rest.now) (map piece c.args.pieces.now) _ c.from_residual-in_err-value.result c.from_residual-in_err-value.ensures.1 (assignment_no_value (map piece c.args.pieces.now) (map piece c.in_ok-target.rest.now) _ c.in_ok-target.ensures.tree) c.in_err-value.ensures.tree
+returns-in_err-value-clause-tree c = refused_exit IsExpr IsAssignment (ends 1) (ends 1) _ (map lexeme c.in_ok-target.rest.now) (map lexeme c.args.tokens.now) _ c.from_residual-in_err-value.result c.from_residual-in_err-value.ensures.1 (assignment_no_value (map lexeme c.args.tokens.now) (map lexeme c.in_ok-target.rest.now) _ c.in_ok-target.ensures.tree) c.in_err-value.ensures.tree
 
 pub returns-clause-tree : goal.returns-clause-tree
-returns-clause-tree c = assignment_reads (map piece c.args.pieces.now) (map piece c.in_ok-target.rest.now) (map piece c.in_ok-value.rest.now) _ _ c.in_ok-target.ensures.tree c.in_ok-value.ensures.tree
+returns-clause-tree c = assignment_reads (map lexeme c.args.tokens.now) (map lexeme c.in_ok-target.rest.now) (map lexeme c.in_ok-value.rest.now) _ _ c.in_ok-target.ensures.tree c.in_ok-value.ensures.tree

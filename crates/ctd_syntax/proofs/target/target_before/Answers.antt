@@ -1,10 +1,10 @@
 use Rattle.std.proofs.Common.{arith}
 use Rattle.std.specs.Prelude.{map}
-use Rattle.ctd_syntax.specs.Front.{piece}
+use Rattle.ctd_syntax.specs.Front.{lexeme}
 use Rattle.ctd_syntax.specs.Grammar.{IsTarget}
 use Rattle.ctd_syntax.specs.Levels.{ends}
 use Rattle.ctd_syntax.proofs.Fronts.{before_reads}
 use Rattle.ctd_syntax.proofs.target.target_before.Goals as goal
 
 pub returns-in-Some-clause-tree : goal.returns-in-Some-clause-tree
-returns-in-Some-clause-tree c = before_reads IsTarget (ends 4) c.args.mark (λ us. omega (arith, c.requires.ends)) (map piece c.args.pieces.now) (map piece c.in_ok-read.rest.now) (map piece c.in-Some.rest.now) _ c.in_ok-read.ensures.tree c.in-Some.ensures.found
+returns-in-Some-clause-tree c = before_reads IsTarget (ends 4) c.args.mark (λ us. omega (arith, c.requires.ends)) (map lexeme c.args.tokens.now) (map lexeme c.in_ok-read.rest.now) (map lexeme c.in-Some.rest.now) _ c.in_ok-read.ensures.tree c.in-Some.ensures.found

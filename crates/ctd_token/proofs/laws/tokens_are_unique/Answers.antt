@@ -1,4 +1,4 @@
-use Rattle.ctd_token.proofs.OneCut.{same_cut, no_cut, same_fault}
+use Rattle.ctd_token.proofs.UniqueTokens.{same_cut, no_cut, same_fault}
 use Rattle.ctd_token.proofs.Decided.{decided}
 use Rattle.ctd_token.proofs.laws.tokens_are_unique.Goals as goal
 

@@ -12,7 +12,7 @@ returns-in-Err-clause-fault c =
     let text : List ℕ = c.args.text.now in
     let at : ℕ = c.loop-at.at in
     let found = subst (λ l. Scans (Err c.in-Err.fault) (token_at l)) (take_rest text at) c.in-Err.ensures.token in
-    fault_is text c.loop-at.tokens.items at c.loop-at.place c.in-Err.fault c.placed.result c.if-text-gt-PROGRAM_LIMIT.false c.loop-at.invariant c.loop-at-test.true found c.placed.ensures
+    fault_is text c.loop-at.tokens.items at c.loop-at.place c.in-Err.fault c.fault_at.result c.if-text-gt-PROGRAM_LIMIT.false c.loop-at.invariant c.loop-at-test.true found c.fault_at.ensures
 
 pub loop-at-preserved : goal.loop-at-preserved
 loop-at-preserved c =
@@ -27,7 +27,7 @@ loop-at-preserved c =
     let le : n ≤ length (drop (at + len) text) = omega (arith, c.gap_len.ensures.within, ap length tail) in
     let skipped : drop n (drop (at + len) text) ≡ skip_gap false (drop (at + len) text) = ap (drop n) (sym tail) ∙ c.gap_len.ensures.skipped ∙ ap (skip_gap false) tail in
     let cut = more text c.loop-at.tokens.items t at len n c.loop-at.place c.advance-place-in-loop-at.result c.loop-at.invariant found refl refl refl within le skipped c.advance-place-in-loop-at.ensures.there in
-    let made = subst (λ u. Cutting text (c.loop-at.tokens.items ++ u ∷ []) (at + len + n) c.advance-place-in-loop-at.result) (sym c.spanned.ensures) cut in
+    let made = subst (λ u. Cutting text (c.loop-at.tokens.items ++ u ∷ []) (at + len + n) c.advance-place-in-loop-at.result) (sym c.token_with_span.ensures) cut in
     subst (λ l. Cutting text l (at + len + n) c.advance-place-in-loop-at.result) (sym c.in_ok-push.ensures.items) made
 
 pub returns-clause-cut : goal.returns-clause-cut

@@ -14,29 +14,29 @@ pub loop-at-preserved-then-bytes-at-eq92 : goal.loop-at-preserved-then-bytes-at-
 loop-at-preserved-then-bytes-at-eq92 c =
     let bytes : List ℕ = c.args.bytes.now in
     let at : ℕ = c.loop-at.at in
-    let m : ℕ = c.after_backslash-piece.result.length in
+    let m : ℕ = c.after_backslash-part.result.length in
     let rest = take_rest bytes (at + 1) in
-    let means : option_to_list c.after_backslash-piece.result.value ≡ (after_backslash (drop (at + 1) bytes)).values = c.after_backslash-piece.ensures.value ∙ ap (λ l. (after_backslash l).values) rest in
-    let long : m ≡ (after_backslash (drop (at + 1) bytes)).length = c.after_backslash-piece.ensures.length ∙ ap (λ l. (after_backslash l).length) rest in
-    let fits : at + m ≤ length bytes = omega (arith, c.after_backslash-piece.ensures.within, ap length rest, length-drop (at + 1) bytes, c.loop-at-test.true) in
+    let means : option_to_list c.after_backslash-part.result.value ≡ (after_backslash (drop (at + 1) bytes)).values = c.after_backslash-part.ensures.value ∙ ap (λ l. (after_backslash l).values) rest in
+    let long : m ≡ (after_backslash (drop (at + 1) bytes)).length = c.after_backslash-part.ensures.length ∙ ap (λ l. (after_backslash l).length) rest in
+    let fits : at + m ≤ length bytes = omega (arith, c.after_backslash-part.ensures.within, ap length rest, length-drop (at + 1) bytes, c.loop-at-test.true) in
     let r = c.loop-at.invariant in
     let items = c.loop-at.values.items in
     let bad = c.loop-at.bad_octal in
-    elim c.match-piece.branch [
+    elim c.match-part.branch [
       | in-Some-value w ↦
           let vs : List ℕ = w.in-Some-value.value ∷ [] in
-          let read = bad_on bytes items vs bad at m r c.loop-at-test.true c.if-bytes-at-eq92.true (ap option_to_list (sym w.in-Some-value.is) ∙ means) long c.after_backslash-piece.ensures.some fits (omega (arith, w.if-value-gt255.true)) in
-          subst (λ b. Reading bytes c.match-piece.values.items b (at + m)) (sym (w.bad_octal-is ∙ w.or-bad_octal.ensures)) (subst (λ v. Reading bytes v.items (option_or bad (Some at)) (at + m)) (sym w.values-is) read)
+          let read = bad_on bytes items vs bad at m r c.loop-at-test.true c.if-bytes-at-eq92.true (ap option_to_list (sym w.in-Some-value.is) ∙ means) long c.after_backslash-part.ensures.some fits (omega (arith, w.if-value-gt255.true)) in
+          subst (λ b. Reading bytes c.match-part.values.items b (at + m)) (sym (w.bad_octal-is ∙ w.or-bad_octal.ensures)) (subst (λ v. Reading bytes v.items (option_or bad (Some at)) (at + m)) (sym w.values-is) read)
       | in-Some-2+in_ok-push-in-Some-2 w ↦
           let vs : List ℕ = w.in-Some-2.value ∷ [] in
           let both = sym w.in-Some-2.is ∙ w.in-Some-value.is in
           let same : w.in-Some-2.value ≡ w.in-Some-value.value = cc in
-          let read = escape_on bytes items (items ++ vs) vs bad at m r c.loop-at-test.true c.if-bytes-at-eq92.true (ap option_to_list (sym w.in-Some-2.is) ∙ means) long c.after_backslash-piece.ensures.some fits (omega (arith, same)) refl in
+          let read = escape_on bytes items (items ++ vs) vs bad at m r c.loop-at-test.true c.if-bytes-at-eq92.true (ap option_to_list (sym w.in-Some-2.is) ∙ means) long c.after_backslash-part.ensures.some fits (omega (arith, same)) refl in
           let made = ap (λ v. v.items) w.values-is ∙ w.in_ok-push-in-Some-2.ensures.items in
-          subst (λ b. Reading bytes c.match-piece.values.items b (at + m)) (sym w.bad_octal-is) (subst (λ l. Reading bytes l bad (at + m)) (sym made) read)
+          subst (λ b. Reading bytes c.match-part.values.items b (at + m)) (sym w.bad_octal-is) (subst (λ l. Reading bytes l bad (at + m)) (sym made) read)
       | in-None-value w ↦
-          let read = escape_on bytes items items [] bad at m r c.loop-at-test.true c.if-bytes-at-eq92.true (ap option_to_list (sym w.in-None-value.is) ∙ means) long c.after_backslash-piece.ensures.some fits (omega arith) (sym (append-nil items)) in
-          subst (λ b. Reading bytes c.match-piece.values.items b (at + m)) (sym w.bad_octal-is) (subst (λ v. Reading bytes v.items bad (at + m)) (sym w.values-is) read)
+          let read = escape_on bytes items items [] bad at m r c.loop-at-test.true c.if-bytes-at-eq92.true (ap option_to_list (sym w.in-None-value.is) ∙ means) long c.after_backslash-part.ensures.some fits (omega arith) (sym (append-nil items)) in
+          subst (λ b. Reading bytes c.match-part.values.items b (at + m)) (sym w.bad_octal-is) (subst (λ v. Reading bytes v.items bad (at + m)) (sym w.values-is) read)
     ]
 
 pub loop-at-preserved : goal.loop-at-preserved

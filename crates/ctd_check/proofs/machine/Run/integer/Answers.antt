@@ -1,7 +1,7 @@
 use Rattle.std.proofs.Common.{[], ap, sym, ◌∙◌, Ok, rules}
 use Rattle.std.proofs.lemmas.Int.{to_z-of_z}
 use Rattle.std.specs.Int.{w128}
-use Rattle.ctd_source.proofs.Going.{goes_so, goes_both}
+use Rattle.ctd_source.proofs.AdvanceLemmas.{advances_so, advances_both}
 use Rattle.ctd_check.specs.Effect.{judged}
 use Rattle.ctd_check.specs.Performs.{state}
 use Rattle.ctd_check.proofs.Acts.{stopped_by, answers_as}
@@ -11,13 +11,13 @@ use Rattle.ctd_check.proofs.machine.Run.integer.Goals as goal
 pub returns-in_err-is_negative : goal.returns-in_err-is_negative
 returns-in_err-is_negative g c = record {
   performs = stopped_by c.in_err-is_negative.field-0.0 _ c.from_residual.ensures
-      (goes_so c.in_err-is_negative.ensures.passes (λ d _ e. integer_unseen c.args.least c.args.most d (state c.args.self.now) _ _ e));
+      (advances_so c.in_err-is_negative.ensures.passes (λ d _ e. integer_unseen c.args.least c.args.most d (state c.args.self.now) _ _ e));
 }
 
 pub returns-in_err-pass_digits : goal.returns-in_err-pass_digits
 returns-in_err-pass_digits g c = record {
   performs = stopped_by c.in_err-pass_digits.field-0.0 _ c.from_residual-in_err-pass_digits.ensures
-      (goes_so (goes_both c.in_ok-is_negative.ensures.passes c.in_err-pass_digits.ensures.passes)
+      (advances_so (advances_both c.in_ok-is_negative.ensures.passes c.in_err-pass_digits.ensures.passes)
       (λ d _ e. integer_faulty c.args.least c.args.most d (state c.args.self.now) _ c.in_ok-is_negative.is_negative _ _ (passed _ _ d _ _ _ c.in_ok-is_negative.is_negative _ e.0 e.1) e.1.stop));
 }
 
@@ -25,7 +25,7 @@ pub returns-in-Ok : goal.returns-in-Ok
 returns-in-Ok g c = record {
   performs = answers_as (ap Ok (to_z-of_z w128 c.in-Ok.n (search rules))) (record {
     sound = c.in_ok-pass_digits.ensures.sound;
-    goes = goes_so (goes_both c.in_ok-is_negative.ensures.passes c.in_ok-pass_digits.ensures.passes)
+    goes = advances_so (advances_both c.in_ok-is_negative.ensures.passes c.in_ok-pass_digits.ensures.passes)
         (λ d _ e.
         let whole = passed _ _ d _ _ _ c.in_ok-is_negative.is_negative _ e.0 e.1 in
         let is = simp (to_z-of_z w128 c.args.least c.ranges.least, to_z-of_z w128 c.args.most c.ranges.most) at (c.in-Ok.ensures e.1.row.row (e.1.row.seen [] c.none-digits.ensures)) in
@@ -38,7 +38,7 @@ pub returns-in-Err : goal.returns-in-Err
 returns-in-Err g c = record {
   performs = record {
     sound = tt;
-    goes = goes_so (goes_both c.in_ok-is_negative.ensures.passes c.in_ok-pass_digits.ensures.passes)
+    goes = advances_so (advances_both c.in_ok-is_negative.ensures.passes c.in_ok-pass_digits.ensures.passes)
         (λ d _ e.
         let whole = passed _ _ d _ _ _ c.in_ok-is_negative.is_negative _ e.0 e.1 in
         let is = simp (to_z-of_z w128 c.args.least c.ranges.least, to_z-of_z w128 c.args.most c.ranges.most) at (c.in-Err.ensures e.1.row.row (e.1.row.seen [] c.none-digits.ensures)) in

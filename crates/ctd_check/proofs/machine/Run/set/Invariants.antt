@@ -1,5 +1,5 @@
 use Rattle.std.proofs.Common.{◌≡◌, drop, map}
-use Rattle.ctd_source.specs.Follow.{Goes}
+use Rattle.ctd_source.specs.Received.{AdvancesSuchThat}
 use Rattle.ctd_syntax.specs.View.{assignment}
 use Rattle.ctd_check.specs.Effect.{set}
 use Rattle.ctd_check.specs.Performs.{IsSound, state}
@@ -9,5 +9,5 @@ use Rattle.ctd_check.proofs.machine.Run.set.Given as goal
 abbrev pub invariant-loop-assignment : goal.invariant-loop-assignment
 invariant-loop-assignment g l = record {
   sound : IsSound l.self;
-  goes : Goes l.initial.self.cursor l.self.cursor (λ d. set (map assignment l.assignments) d (state l.initial.self) ≡ set (map assignment (drop l.assignment-index l.assignments)) d (state l.self));
+  goes : AdvancesSuchThat l.initial.self.cursor l.self.cursor (λ d. set (map assignment l.assignments) d (state l.initial.self) ≡ set (map assignment (drop l.assignment-index l.assignments)) d (state l.self));
 }

@@ -1,4 +1,4 @@
-use Rattle.ctd_source.proofs.Going.{goes_so}
+use Rattle.ctd_source.proofs.AdvanceLemmas.{advances_so}
 use Rattle.ctd_check.specs.Performs.{state}
 use Rattle.ctd_check.proofs.Acts.{stopped_by}
 use Rattle.ctd_check.proofs.Skipping.{skips, skips_to_fault}
@@ -7,13 +7,13 @@ use Rattle.ctd_check.proofs.machine.Run.skip_blanks.Goals as goal
 pub returns-in_err-pass_blanks : goal.returns-in_err-pass_blanks
 returns-in_err-pass_blanks g c = record {
   performs = stopped_by c.in_err-pass_blanks.field-0.0 _ c.from_residual.ensures
-      (goes_so c.in_err-pass_blanks.ensures.passes (λ d _ e. skips_to_fault d (state c.args.self.now) _ _ e));
+      (advances_so c.in_err-pass_blanks.ensures.passes (λ d _ e. skips_to_fault d (state c.args.self.now) _ _ e));
 }
 
 pub returns : goal.returns
 returns g c = record {
   performs = record {
     sound = c.in_ok-pass_blanks.ensures.sound;
-    goes = goes_so c.in_ok-pass_blanks.ensures.passes (λ d _ e. skips d (state c.args.self.now) _ e);
+    goes = advances_so c.in_ok-pass_blanks.ensures.passes (λ d _ e. skips d (state c.args.self.now) _ e);
   };
 }

@@ -16,33 +16,33 @@ use Rattle.ctd_check.proofs.Acts.{performs_answering, performs_as, answers_as}
 use Rattle.ctd_check.proofs.machine.Run.start.Goals as goal
 
 pub returns-in-Space-clause-performs : goal.returns-in-Space-clause-performs
-returns-in-Space-clause-performs g c = rw c.in-Space.is (answers_as c.simple.ensures.tasks (performs_answering (λ _. []) c.space.ensures.performs))
+returns-in-Space-clause-performs g c = rw c.in-Space.is (answers_as c.no_frame.ensures.tasks (performs_answering (λ _. []) c.space.ensures.performs))
 
 pub returns-in-Newline-clause-performs : goal.returns-in-Newline-clause-performs
-returns-in-Newline-clause-performs g c = rw c.in-Newline.is (answers_as c.simple-in-Newline.ensures.tasks (performs_answering (λ _. []) c.newline.ensures.performs))
+returns-in-Newline-clause-performs g c = rw c.in-Newline.is (answers_as c.no_frame-in-Newline.ensures.tasks (performs_answering (λ _. []) c.newline.ensures.performs))
 
 pub returns-in-Eof-clause-performs : goal.returns-in-Eof-clause-performs
-returns-in-Eof-clause-performs g c = rw c.in-Eof.is (answers_as c.simple-in-Eof.ensures.tasks (performs_answering (λ _. []) c.end.ensures.performs))
+returns-in-Eof-clause-performs g c = rw c.in-Eof.is (answers_as c.no_frame-in-Eof.ensures.tasks (performs_answering (λ _. []) c.end.ensures.performs))
 
 pub returns-in-Assert-clause-performs : goal.returns-in-Assert-clause-performs
-returns-in-Assert-clause-performs g c = rw c.in-Assert.is (answers_as c.simple-in-Assert.ensures.tasks (performs_answering (λ _. []) c.assert.ensures.performs))
+returns-in-Assert-clause-performs g c = rw c.in-Assert.is (answers_as c.no_frame-in-Assert.ensures.tasks (performs_answering (λ _. []) c.assert.ensures.performs))
 
 pub returns-in-Int-clause-performs : goal.returns-in-Int-clause-performs
-returns-in-Int-clause-performs g c = rw c.in-Int.is (answers_as c.simple-in-Int.ensures.tasks (performs_answering (λ _. []) c.int.ensures.performs))
+returns-in-Int-clause-performs g c = rw c.in-Int.is (answers_as c.no_frame-in-Int.ensures.tasks (performs_answering (λ _. []) c.int.ensures.performs))
 
 pub returns-in-String-clause-performs : goal.returns-in-String-clause-performs
-returns-in-String-clause-performs g c = rw c.in-String.is (answers_as c.simple-in-String.ensures.tasks (performs_answering (λ _. []) c.string.ensures.performs))
+returns-in-String-clause-performs g c = rw c.in-String.is (answers_as c.no_frame-in-String.ensures.tasks (performs_answering (λ _. []) c.string.ensures.performs))
 
 pub returns-in-Set-clause-performs : goal.returns-in-Set-clause-performs
 returns-in-Set-clause-performs g c =
-    rw c.in-Set.is (answers_as c.simple-in-Set.ensures.tasks (performs_answering (λ _. []) (performs_as (λ d s. ap (λ xs. set (map assignment xs) d s) c.as_slice.ensures) c.set.ensures.performs)))
+    rw c.in-Set.is (answers_as c.no_frame-in-Set.ensures.tasks (performs_answering (λ _. []) (performs_as (λ d s. ap (λ xs. set (map assignment xs) d s) c.as_slice.ensures) c.set.ensures.performs)))
 
 pub returns-in-Unset-clause-performs : goal.returns-in-Unset-clause-performs
 returns-in-Unset-clause-performs g c =
     rw c.in-Unset.is (performs_answering (λ _. []) (performs_as (λ d s. ap (λ xs. unset_all xs d s) c.as_slice-in-Unset.ensures) c.unset.ensures.performs))
 
 pub returns-in-Regex-clause-performs : goal.returns-in-Regex-clause-performs
-returns-in-Regex-clause-performs g c = rw c.in-Regex.is (answers_as c.simple-in-Regex.ensures.tasks (performs_answering (λ _. []) c.regex.ensures.performs))
+returns-in-Regex-clause-performs g c = rw c.in-Regex.is (answers_as c.no_frame-in-Regex.ensures.tasks (performs_answering (λ _. []) c.regex.ensures.performs))
 
 -- the literals of the command, by what it does
 among_of : (ps : List (List ℕ)) (a b : Action) (place : Place) → a ≡ b → AreAmong ps (command_literals (action_tree a place)) → AreAmong ps (command_literals (action_tree b place))
