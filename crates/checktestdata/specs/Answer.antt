@@ -1,4 +1,4 @@
--- What a command line is answered.
+-- What the tool answers to a command line.
 use Rattle.std.specs.Prelude.{◌≡◌, ◌⊎◌, ℕ, List, Option}
 use Rattle.std.specs.declared.alloc.Global.{Global}
 use Rattle.std.specs.declared.io.buffered.BufReader.{BufReader}

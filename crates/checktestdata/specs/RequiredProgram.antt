@@ -1,4 +1,4 @@
--- The command line wants the name of the program's file.
+-- The command line requires the name of the program's file.
 use Rattle.std.specs.Prelude.{◌≡◌, List, [], ◌∷◌, All, map, false, codes}
 use Rattle.std.specs.List.{slice_index_or}
 use Rattle.clap.specs.Built.{AddsArg, AddsInTurn, IsPlainArg, TakesValue}

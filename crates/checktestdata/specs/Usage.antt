@@ -62,7 +62,7 @@ abbrev pub IsBadSteps : Option Text → Type 0
 IsBadSteps None = ⊥
 IsBadSteps (Some text) = ¬ (IsStepNumber text)
 
--- the words have this fault; want of memory may come at any words
+-- the words have this fault; memory may run out whatever the words
 abbrev pub IsFault : List Text → UsageFault → Type 0
 IsFault words fault.Words = ¬ (All IsUtf8 words) ⊎ (All IsUtf8 words × IsRefusedAs words fault.Words)
 IsFault words fault.BadSteps = IsTaken words × (flag_in words (codes "generate") ≡ false) × IsGoodPreset (value_in words (codes "define"))

@@ -24,7 +24,7 @@ pub record FlushedAfter {S : Type 0} (G : Ghosts S) (old new : S) (text : List �
   pub whole : Appends (G.taken old) (G.taken before) text
   pub last : G.flushes before new
 
--- the stream took the whole text and was flushed behind it, and works; where there is no text it was not touched
+-- the stream took the whole text and was flushed after it, and works; where there is no text it was not touched
 pub record TakesAll {S : Type 0} {G : Ghosts S} (stream : Change G) (text : List ℕ) : Type 0 where
   pub bytes : Appends (G.taken stream.old) (G.taken stream.new) text
   pub flushed : text ≢ [] → FlushedAfter G stream.old stream.new text
@@ -51,13 +51,13 @@ pub record WritesAll {O E : Type 0} {G : Ghosts O} {H : Ghosts E} (out : Change 
 abbrev pub BreaksOff : {O E : Type 0} {G : Ghosts O} {H : Ghosts E} → Change G → Change H → Report → Type 0
 BreaksOff out err report = (FailsIn out report.out × IsUntouched err) ⊎ (FailsIn err report.err × IsUntouched out)
 
--- what a call leaves that writes this report: all of it, a part where a stream failed, and nothing for want of memory
+-- what a call leaves that writes this report: all of it, a part where a stream failed, and nothing where memory ran out
 abbrev pub Leaves : {O E : Type 0} {G : Ghosts O} {H : Ghosts E} → Change G → Change H → Report → Result ℕ ToolFault → Type 0
 Leaves out err report (Ok status) = WritesAll out err report status
 Leaves out err report (Err Write) = BreaksOff out err report
 Leaves out err report (Err Memory) = IsUntouched out × IsUntouched err
 
--- what a call leaves that writes one of these reports; for want of memory none of them need be known
+-- what a call leaves that writes one of these reports; where memory ran out, nothing is said of the report
 abbrev pub LeavesOneOf : {O E : Type 0} {G : Ghosts O} {H : Ghosts E} → Change G → Change H → (Report → Type 0) → Result ℕ ToolFault → Type 0
 LeavesOneOf out err IsReport (Ok status) = (report : Report) × IsReport report × WritesAll out err report status
 LeavesOneOf out err IsReport (Err Write) = (report : Report) × IsReport report × BreaksOff out err report

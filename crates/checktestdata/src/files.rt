@@ -42,7 +42,7 @@ pub struct Sources<R: Read> {
     pub testdata: FromRead<BufReader<R>>,
 }
 
-/// What a run answered, and its sources as it left them, where it had both.
+/// What a run returned, and its sources after it, if both were opened.
 #[derive(Drop)]
 pub struct Ran<R: Read> {
     pub answer: Result<u8, ToolFault>,

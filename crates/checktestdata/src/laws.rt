@@ -5,7 +5,7 @@ ghost use Rattle.clap.specs.Words.{fault_of};
 ghost use Rattle.checktestdata.specs.CommandLine.{checker};
 ghost use Rattle.checktestdata.specs.Usage.{IsSingle};
 
-/// Whatever the words, clap has one kind of error for them at most, so a fault is the one that they have.
+/// Whatever the words, clap finds at most one kind of error in them, so the fault is well defined.
 pub fn refusals_have_one_kind()
     ensures { (words : List (List ℕ)) → IsSingle (fault_of checker words) }
 {}

@@ -135,7 +135,7 @@ pub(crate) fn write_outcome<O: Sink, E: Sink>(
     }
 }
 
-/// Writes why a program was not read, and answers the status. Want of memory is answered as such.
+/// Writes why a program was not read, and returns the status. `Memory` is returned and not written.
 pub(crate) fn write_load_fault<O: Sink, E: Sink>(
     alloc: Global,
     fault: &LoadFault,
@@ -228,7 +228,7 @@ fn is_wanted(fault: &UsageFault) -> bool
     }
 }
 
-/// Writes what words that give no settings ask for, or their fault, and answers the status. It takes no memory.
+/// Writes what words that give no settings ask for, or their fault, and answers the status. It allocates nothing.
 pub fn report_usage<O: Sink, E: Sink>(
     fault: &UsageFault,
     out: &mut O,

@@ -1,4 +1,4 @@
-//! The words of a command line, answered whole.
+//! From a command line to its report and status.
 
 ghost use Rattle.std.specs.Prelude.{◌≡◌, false};
 ghost use Rattle.checktestdata.specs.Answer.{Ends, IsAnswer};

@@ -14,8 +14,8 @@ use std::alloc::Global;
 /// Reads the program, checks the data against it, writes the report and answers the status: the report of the program's
 /// meaning on the whole data, or of a fault of the program; then the data are not touched.
 ///
-/// `Write` is answered where a stream failed: it holds a part of its text from the start, and the other stream nothing.
-/// `Memory` is answered where no memory was left: nothing was written.
+/// `Write` is returned where a stream failed, which then holds a part of its text from the start, and the other stream nothing.
+/// `Memory` is returned where memory ran out: nothing was written.
 pub fn run_tool<P: Source, D: Source, O: Sink, E: Sink>(
     alloc: Global,
     setup: &Setup,

@@ -48,7 +48,7 @@ module _ {R : Type 0} {G : Ghosts R} where
   pub doing : {A : Type 0} (a : Run R G) (r : Result A CommandFailure) (m : Act A) → IsSound a → AlwaysDoes r m → Performs a a r m
   doing a r m sound does = record { sound = always r sound; goes = advances_so (advances_nowhere a.cursor) (λ d _ _. does d (state a)) }
 
-  -- want of memory says nothing of what was done
+  -- if memory ran out, nothing is said of what was done
   pub forgotten : {A : Type 0} {a b : Run R G} {P : TestData → Type 0} (q : Result A CommandFailure) (m : Act A) → IsErr q × IsErrAnd q (λ e. e ≡ Memory) → AdvancesSuchThat a.cursor b.cursor P → Performs a b q m
   forgotten (Ok x) m is goes = let e : true ≡ false = sym is.0 in cc
   forgotten (Err e) m is goes = answers_as (ap Err is.1) (record { sound = tt; goes = advances_so goes (λ d _ _. tt) })

@@ -1,4 +1,4 @@
--- The commands that blanks may stand before and behind: SPACE, NEWLINE and EOF; and the start of the data.
+-- The commands that skip blanks: SPACE, NEWLINE and EOF; and the start of the data.
 use Rattle.std.specs.Prelude.{ℕ, Bool, false, ◌||◌, nat_eq, ⊤, Option, Some, None, if◌then◌else◌}
 use Rattle.std.specs.List.{prefix_len}
 use Rattle.ctd_source.specs.TestData.{visible}
@@ -41,7 +41,7 @@ newline_between_blanks = do
   _ ← one_byte 10 ExpectedNewline
   skip_blanks
 
--- the end of the data behind blanks
+-- the end of the data after blanks
 abbrev pub end_behind_blanks : Act ⊤
 end_behind_blanks = do
   _ ← skip_blanks

@@ -15,7 +15,7 @@ use Rattle.ctd_check.specs.declared.failure.Halt.{Halt}
 use Rattle.ctd_check.specs.declared.failure.Halt.TheVariants as halts
 use Rattle.ctd_check.specs.State.{fault_of_look}
 
--- want of a value, or of memory
+-- how a command fails when an expression does
 abbrev pub failure_of : EvalFault → CommandFailure
 failure_of evals.Undefined = Stopped Undefined
 failure_of evals.WrongType = Stopped WrongType

@@ -1,4 +1,4 @@
--- What the parts of an interpreter ensure.
+-- What each method of a run ensures.
 use Rattle.std.specs.Prelude.{◌≡◌, ℕ, Option, None, Result, Ok, Err, OnOk, List, []}
 use Rattle.ctd_source.specs.declared.source.Source.{Ghosts}
 use Rattle.ctd_source.specs.TestData.{TestData}
@@ -21,7 +21,7 @@ abbrev pub answering : {A B E : Type 0} → (A → B) → Result A E → Result 
 answering f (Ok x) = Ok (f x)
 answering f (Err e) = Err e
 
--- a call that answered this and left this state had this effect; want of memory says nothing of it
+-- a call that answered this and left this state had this effect; if memory ran out, nothing is said
 abbrev pub Does : {A : Type 0} → Result A CommandFailure → State → Effect A → Type 0
 Does (Ok x) s e = e ≡ done x s
 Does (Err (Rejected reason)) s e = e ≡ rejected reason s.offset

@@ -9,7 +9,7 @@ use Rattle.ctd_check.specs.declared.outcome.Fault.TheVariants.{MatchTooLong}
 use Rattle.ctd_check.specs.State.{Act, ◌>>=◌, give, reject, stop, pass, window_seen}
 use Rattle.ctd_check.specs.Effect.{keep}
 
--- a match of so many bytes, of which the window has more; no match refuses the data
+-- a match of so many bytes, of which the window has more; no match rejects the data
 abbrev pub shorter_match : Option ℕ → Act ℕ
 shorter_match None = reject RegexMismatch
 shorter_match (Some n) = if nat_eq n WINDOW then stop MatchTooLong else give n

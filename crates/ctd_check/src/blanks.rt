@@ -61,7 +61,7 @@ impl<'d, D: Source> Run<'d, D> {
         Ok(())
     }
 
-    /// Passes a blank and those behind it.
+    /// Passes one or more blanks.
     pub(crate) fn some_blanks(&mut self) -> Result<(), CommandFailure>
         requires sound { IsSound self.old }
         ensures performs { Performs self.old self.new result some_blanks }

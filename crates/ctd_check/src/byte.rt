@@ -52,7 +52,7 @@ impl<'d, D: Source> Run<'d, D> {
         self.skip_blanks()
     }
 
-    /// The end of the data behind blanks.
+    /// Skips blanks, then requires the end of the data.
     fn end_behind_blanks(&mut self) -> Result<(), CommandFailure>
         requires sound { IsSound self.old }
         ensures performs { Performs self.old self.new result end_behind_blanks }

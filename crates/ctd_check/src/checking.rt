@@ -33,7 +33,7 @@ fn outcome_of(ended: Result<(), Halt>) -> Result<Outcome, AllocError>
 /// with the presets pinned.
 ///
 /// The source is read only as far as the program needs, at most a window ahead of what is consumed. Every program, data
-/// and limits get an answer; the only error is want of memory.
+/// and limits get an answer; the only error is that memory ran out.
 pub fn check<D: Source>(
     alloc: Global,
     plan: &Plan,

@@ -92,7 +92,7 @@ impl<'d, D: Source> Run<'d, D> {
     }
 }
 
-/// The number that a value is.
+/// The number of a value; a string is WrongType.
 fn number_in(value: Value) -> Result<i128, CommandFailure>
     ensures tells { Tells result (with_fault fault_of_value (number value)) }
 {
@@ -102,7 +102,7 @@ fn number_in(value: Value) -> Result<i128, CommandFailure>
     }
 }
 
-/// The string that a value is.
+/// The bytes of a value; a number is WrongType.
 fn text_in(value: Value) -> Result<Bytes, CommandFailure>
     ensures tells { Tells result (with_fault fault_of_value (text value)) }
 {

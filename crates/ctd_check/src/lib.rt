@@ -1,4 +1,4 @@
-//! What a check of data against a program answers.
+//! Loading a program, and checking data against it.
 #![tactic(auto)]
 
 mod agenda;

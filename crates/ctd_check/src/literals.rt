@@ -7,7 +7,7 @@ ghost use Rattle.ctd_check.specs.Literals.{literals_at};
 use ctd_syntax::{Action, Command, Commands, PatternLiteral};
 use std::alloc::{AllocError, Global};
 
-/// Lists those of commands behind those that were found before.
+/// Appends the literals of commands to those found before.
 #[cycle(literals)]
 fn list_literals<'p>(
     commands: &'p [Command],

@@ -41,7 +41,7 @@ impl<'d, D: Source> Run<'d, D> {
         self.cursor.take();
     }
 
-    /// Passes so many bytes that are held.
+    /// Passes `n` held bytes.
     pub(crate) fn pass_many(&mut self, n: usize)
         requires sound { IsSound self.old }
         requires held { n ≤ length (state_of self.old.cursor).held }

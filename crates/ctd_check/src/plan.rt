@@ -93,7 +93,7 @@ fn patterns_in(alloc: Global, commands: &[Command]) -> Result<Vec<Pattern>, Load
     build_all(alloc, found.as_slice())
 }
 
-/// What searches for each pattern, in order.
+/// A matcher for each pattern, in order.
 fn matchers_of(alloc: Global, patterns: &[Pattern]) -> Result<Vec<Matcher<'_>>, AllocError>
     ensures same { IfOk result (λ matchers. matchers.items ≡ patterns.now) }
 {
@@ -124,7 +124,7 @@ impl Plan {
         matchers_of(alloc, self.patterns.as_slice())
     }
 
-    /// What a text is that came whole.
+    /// The plan of a complete text.
     fn read(alloc: Global, text: &[u8]) -> Result<Plan, LoadFault>
         requires { length text.now ≤ PROGRAM_LIMIT }
         ensures loads { TextLoadsAs command_trees result text.now }

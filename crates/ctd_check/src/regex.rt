@@ -15,7 +15,7 @@ use ctd_source::{Source, WINDOW};
 use ctd_syntax::{Bytes, PatternLiteral, Var};
 use ctd_value::Value;
 
-/// The length of a match that the window goes on behind.
+/// The length of a match, unless it fills the window.
 fn shorter_match(length: Option<usize>) -> Result<usize, CommandFailure>
     ensures does { AlwaysDoes result (shorter_match length) }
     ensures same { IfOk result (λ n. length ≡ Some n) }

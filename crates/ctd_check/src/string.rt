@@ -29,7 +29,7 @@ fn common_len(wanted: &[u8], bytes: &[u8]) -> usize
     count
 }
 
-/// What is left of some bytes behind the first of them.
+/// The bytes after the first `count`.
 fn rest_after(bytes: &[u8], count: usize) -> &[u8]
     requires { count ≤ length bytes.now }
     ensures { result.now ≡ drop count bytes.now }

@@ -60,7 +60,7 @@ pub record IsNoProgram (program : List ℕ) (place : Option Place) : Type 0 wher
   pub some_place : Place
   pub place_is : place ≡ Some some_place
 
--- a text is refused with this fault before its patterns are asked; want of memory is no fault of a text
+-- a text is refused with this fault before its patterns are asked; running out of memory is no fault of a text
 abbrev pub IsRefused : List ℕ → LoadKind → Option Place → Type 0
 IsRefused program ProgramTooLong place = (PROGRAM_LIMIT < length program) × (place ≡ None)
 IsRefused program BadByte place = HasFault program BadByte place
@@ -74,7 +74,7 @@ IsRefused program BadPattern place = ⊥
 IsRefused program Read place = ⊥
 IsRefused program Memory place = ⊥
 
--- a text is answered by this fault, or by want of memory, which has no place
+-- a text has this fault, or memory ran out, which has no place
 abbrev pub IsFault : List ℕ → LoadKind → Option Place → Type 0
 IsFault program Memory place = place ≡ None
 IsFault program kind place = IsRefused program kind place

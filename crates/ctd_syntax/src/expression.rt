@@ -1,5 +1,5 @@
 //! From tokens to expressions, by levels and loops (checktestdata language specification, grammar).
-//! A tree that is not wanted is given to `drop` outright: an implied drop is unfolded variant by variant in the proof.
+//! A tree that is not wanted is given to `drop` explicitly: an implicit drop is unfolded variant by variant in the proof.
 
 ghost use Rattle.std.specs.Prelude.{◌≡◌, ◌≤◌, ◌<◌, length, map, IfOk, IfSome};
 ghost use Rattle.ctd_syntax.specs.View.{expr_tree, expr_list, exprs_of, var_tree};

@@ -13,7 +13,7 @@ use std::alloc::{AllocError, AllocFailed};
 /// Why there is no tree.
 #[derive(Clone, Copy, Debug, PartialEq, Eq)]
 pub(crate) enum ParseError {
-    /// No tree is at the front; so many tokens are left from the first that fits nowhere.
+    /// No tree is at the front; with the number of tokens left from the first that fits nowhere.
     Syntax(usize),
     /// No memory was left.
     Memory,

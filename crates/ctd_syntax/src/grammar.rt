@@ -13,7 +13,7 @@ use crate::tree::Program;
 use ctd_token::{LoadFault, LoadKind, PROGRAM_LIMIT, Place, Token, advance, tokens};
 use std::alloc::Global;
 
-// The place of the first of so many last tokens; of none, the end of the text.
+// The place of the first of the last `left` tokens, or the end of the text.
 fn place_of_rest(text: &[u8], tokens: &[Token], left: usize) -> Place
     requires { length text.now ≤ PROGRAM_LIMIT }
 {

@@ -126,7 +126,7 @@ mark_at a (b ∷ bs) = mark_or (double_mark a b) 2 (mark_or (single_mark a) 1 (E
 abbrev pub Found : Type 0
 Found = Result (TokenKind × ℕ) (LoadKind × ℕ)
 
--- a fault so many bytes behind the first
+-- a fault this many bytes after the first
 abbrev pub wrong : LoadKind → ℕ → Found
 wrong kind behind = Err (kind, behind)
 

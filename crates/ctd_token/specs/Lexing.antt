@@ -18,7 +18,7 @@ pub record HasFault (program : List ℕ) (kind : LoadKind) (place : Option Place
 abbrev pub IsDecided : List ℕ → Type 0
 IsDecided program = ((ts : List Token) × Cuts program 0 program ts) ⊎ ((kind : LoadKind) × (offset : ℕ) × Faults 0 program kind offset)
 
--- a text has no tokens for this fault; want of memory is no fault of a text and has no place, and the other kinds are no faults of tokens
+-- a text has no tokens for this fault; running out of memory is no fault of a text and has no place, and the other kinds are no faults of tokens
 abbrev pub IsLexFault : List ℕ → LoadKind → Option Place → Type 0
 IsLexFault program ProgramTooLong place = (PROGRAM_LIMIT < length program) × (place ≡ None)
 IsLexFault program BadByte place = HasFault program BadByte place

@@ -177,7 +177,7 @@ fn mark_at(bytes: &[u8]) -> Result<(TokenKind, usize), LoadKind>
 /// specification, tokens).
 ///
 /// No blank and no comment is left out: at one, the fault is BadByte. The fault is at the first byte, but BadOctal is at
-/// its backslash, so many bytes behind. Only a string takes memory, and only a refused growth is Memory. The time is
+/// its backslash, this many bytes further on. Only a string takes memory, and only a refused growth is Memory. The time is
 /// linear in the bytes of the token, where there is one.
 pub fn token_at(alloc: Global, bytes: &[u8]) -> Result<(TokenKind, usize), TokenFault>
     requires some { 0 < length bytes.now }

@@ -70,14 +70,14 @@ impl Store {
         })
     }
 
-    /// The value of a key: its pin, or else what was assigned last. Takes no memory.
+    /// The value of a key: its pin, or else what was assigned last. Allocates nothing.
     pub fn get(&self, key: &Key) -> Option<&Value>
         ensures value { option_copied result ≡ value_at self.now key.now }
     {
         self.value_at(key.name(), key.indices())
     }
 
-    /// The value of a name at some indices: its pin, or else what was assigned last. Takes no memory.
+    /// The value of a name at some indices: its pin, or else what was assigned last. Allocates nothing.
     pub(crate) fn value_at(&self, name: &[u8], indices: &[Value]) -> Option<&Value>
         ensures value { option_copied result ≡ value_at self.now (record { name = name.now; indices = indices.now }) }
         ensures listed { option_copied result ≡ find values_cmp indices.now (values_of self.now name.now) }
@@ -88,7 +88,7 @@ impl Store {
         }
     }
 
-    /// Whether a name has a value at some indices. Takes no memory.
+    /// Whether a name has a value at some indices. Allocates nothing.
     pub(crate) fn has_indices(&self, name: &[u8], indices: &[Value]) -> bool
         ensures value { result ≡ has_indices (values_of self.now name.now) indices.now }
     {
@@ -123,7 +123,7 @@ impl Store {
         Ok(())
     }
 
-    /// Removes all that was assigned to a name, at whatever indices; pins stay. Takes no memory.
+    /// Removes all that was assigned to a name, at whatever indices; pins stay. Allocates nothing.
     pub fn unset(&mut self, name: &Name)
         ensures value { self.new ≡ unset self.old name.now }
     {

@@ -41,14 +41,14 @@ impl Variables {
         }
     }
 
-    /// The array of a name, if it has one. Takes no memory.
+    /// The array of a name, if it has one. Allocates nothing.
     pub(crate) fn array(&self, name: &[u8]) -> Option<&Array>
         ensures value { option_copied result ≡ find bytes_cmp name.now self.now }
     {
         self.arrays.get(name)
     }
 
-    /// The value of a name at an index list. Takes no memory.
+    /// The value of a name at an index list. Allocates nothing.
     pub(crate) fn get(&self, name: &[u8], indices: &[Value]) -> Option<&Value>
         ensures value { option_copied result ≡ find values_cmp indices.now (array_of name.now self.now) }
     {
@@ -90,7 +90,7 @@ impl Variables {
         Ok(())
     }
 
-    /// Removes a name with its array. Takes no memory.
+    /// Removes a name with its array. Allocates nothing.
     pub(crate) fn remove(&mut self, name: &[u8])
         ensures value { self.new ≡ filter (λ e. not (same_bytes name.now e.0)) self.old }
     {
@@ -157,7 +157,7 @@ impl Array {
         }
     }
 
-    /// The value at an index list. Takes no memory.
+    /// The value at an index list. Allocates nothing.
     pub(crate) fn get(&self, indices: &[Value]) -> Option<&Value>
         ensures value { option_copied result ≡ find values_cmp indices.now self.now }
     {

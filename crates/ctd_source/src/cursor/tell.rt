@@ -1,4 +1,4 @@
-//! What a cursor tells of itself, with no read.
+//! What can be asked of a cursor without a read.
 ghost use Rattle.std.specs.Prelude.{◌≡◌, ◌+◌, ◌<◌, ◌≤◌, length, take};
 ghost use Rattle.ctd_source.specs.declared.limits.TheConstants.{WINDOW};
 
