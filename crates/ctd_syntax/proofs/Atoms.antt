@@ -3,7 +3,7 @@ use Rattle.std.proofs.Common.{◌≡◌, ℕ, ◌<◌, List, [], ◌∷◌, ◌+
 use Rattle.ctd_syntax.specs.Lexeme.{Lexeme, keyword, mark}
 use Rattle.ctd_syntax.specs.Tree
 use Rattle.ctd_syntax.specs.Tree.{ExprTree, ExprList, VarTree}
-use Rattle.ctd_syntax.specs.Grammar.{IsExpr, IsSigned, unsigned, minus, IsPower, atom, power, IsExponent, positive, negative, IsAtom, numeral, text, variable, strlen, group, IsTarget, IsVariable, plain, indexed, IsExprs}
+use Rattle.ctd_syntax.specs.Grammar.{IsExpr, IsSigned, unsigned, minus, IsPower, atom, power, IsExponent, positive, negative, IsAtom, numeral, text, variable, strlen, group, IsTarget, IsVariable, unindexed, indexed, IsExprs}
 use Rattle.ctd_syntax.specs.Front.{Found, NotFound, Always, IsBefore}
 use Rattle.ctd_syntax.specs.Levels.{ends}
 use Rattle.ctd_token.specs.declared.text.Place.{Place}
@@ -19,7 +19,7 @@ VariableAt b r us n l = ((n ≡ b) × (l ≡ Tree.none) × (us ≡ r)) ⊎ ((ws 
 
 variable_at : (b : List ℕ) (r ts us : List Lexeme) (n : List ℕ) (l : ExprList) → Lexeme.name b ∷ r ≡ ts ++ us → IsVariable ts n l → VariableAt b r us n l
 unfolding VariableAt
-variable_at b r ts us n l e plain = let h : n ≡ b = cc in let k : us ≡ r = cc in inl (h, refl, k)
+variable_at b r ts us n l e unindexed = let h : n ≡ b = cc in let k : us ≡ r = cc in inl (h, refl, k)
 variable_at b r ts us n l e (indexed {ts = vs} i) =
     let h : n ≡ b = cc in
     let k : r ≡ mark OpenIndex ∷ ((vs ++ mark CloseIndex ∷ []) ++ us) = cc in
@@ -27,7 +27,7 @@ variable_at b r ts us n l e (indexed {ts = vs} i) =
 
 -- a variable begins with its name
 variable_head : (t : Lexeme) (r ts us : List Lexeme) (n : List ℕ) (l : ExprList) → t ∷ r ≡ ts ++ us → IsVariable ts n l → Lexeme.name n ≡ t
-variable_head t r ts us n l e plain = cc
+variable_head t r ts us n l e unindexed = cc
 variable_head t r ts us n l e (indexed i) = cc
 
 name_starts : (tokens r ts us : List Lexeme) (t : Lexeme) (v : VarTree) → tokens ≡ t ∷ r → tokens ≡ ts ++ us → IsTarget ts v → Lexeme.name v.name ≡ t
@@ -44,7 +44,7 @@ unfolding VariableAt
 variable_plain tokens r b e none = record {
   front = Lexeme.name b ∷ [];
   split = e;
-  spells = plain;
+  spells = unindexed;
   only = λ ts us u split h w. elim (variable_at b r ts us u.name u.indices (sym e ∙ split) w) [
     | inl same ↦ (ap (λ x. record { name = x; indices = u.indices }) same.0 ∙ ap (λ x. record { name = b; indices = x }) same.1, same.2)
     | inr i ↦ absurd (none (i.0 ++ us) i.1)
@@ -76,7 +76,7 @@ pub no_name : (tokens : List Lexeme) → ((b : List ℕ) (ts : List Lexeme) → 
 no_name tokens none ts us u split h w = begins_not ts us u.name u.indices split w
   where
     begins_not : (ts us : List Lexeme) (n : List ℕ) (l : ExprList) → tokens ≡ ts ++ us → IsVariable ts n l → ⊥
-    begins_not ts us n l e plain = none n us e
+    begins_not ts us n l e unindexed = none n us e
     begins_not ts us n l e (indexed {ts = vs} i) = none n (mark OpenIndex ∷ (vs ++ mark CloseIndex ∷ []) ++ us) e
 
 -- what an atom is, by its first token
@@ -312,7 +312,7 @@ pub no_tokens : (tokens : List Lexeme) → tokens ≡ [] → NotFound IsAtom (en
 no_tokens tokens e ts us u split h w = ends_before ts us u (sym e ∙ split) w
   where
     no_variable : (ts us : List Lexeme) (n : List ℕ) (l : ExprList) → [] ≡ ts ++ us → IsVariable ts n l → ⊥
-    no_variable ts us n l e plain = cc
+    no_variable ts us n l e unindexed = cc
     no_variable ts us n l e (indexed i) = cc
 
     ends_before : (ts us : List Lexeme) (u : ExprTree) → [] ≡ ts ++ us → IsAtom ts u → ⊥

@@ -4,7 +4,7 @@ use Rattle.std.proofs.Math.Nat.{max-zero, zero-max}
 use Rattle.ctd_syntax.specs.Lexeme.{Lexeme, mark, keyword}
 use Rattle.ctd_syntax.specs.Tree.{ExprTree, ExprList, VarTree, TestTree, CommandTree, CommandList, Separator, blocks, separator_blocks, list_blocks}
 use Rattle.ctd_syntax.specs.Grammar
-use Rattle.ctd_syntax.specs.Grammar.{IsExpr, IsProduct, IsSigned, IsPower, IsExponent, IsAtom, IsVariable, IsExprs, IsNames, IsTest, IsBoth, IsNegated, IsPlain, IsTargetEnd, IsAssignments, IsCommand, IsRepeated, IsBranches, IsCommands, mark_of}
+use Rattle.ctd_syntax.specs.Grammar.{IsExpr, IsProduct, IsSigned, IsPower, IsExponent, IsAtom, IsVariable, IsExprs, IsNames, IsTest, IsBoth, IsNegated, IsSimpleTest, IsTargetEnd, IsAssignments, IsCommand, IsRepeated, IsBranches, IsCommands, mark_of}
 use Rattle.ctd_syntax.specs.Nesting.{change_of, word_change, step, start, weight, too_deep}
 use Rattle.ctd_token.specs.declared.text.Place.{Place}
 use Rattle.ctd_token.specs.declared.limits.TheConstants.{NESTING_LIMIT}
@@ -153,7 +153,7 @@ mutual
 
   -- a variable does so
   variable_even : (ts : List Lexeme) (b : List ℕ) (l : ExprList) → IsVariable ts b l → Even ts
-  variable_even ts b l Grammar.plain = even_alone (Lexeme.name b) (λ c cs. (c, refl))
+  variable_even ts b l Grammar.unindexed = even_alone (Lexeme.name b) (λ c cs. (c, refl))
   variable_even ts b l (Grammar.indexed {ts = us} i) =
       even_behind (Lexeme.name b) (mark OpenIndex ∷ us ++ mark CloseIndex ∷ []) (λ c cs. (c, refl))
       (even_stays (mark OpenIndex ∷ us ++ mark CloseIndex ∷ []) (opens (mark OpenIndex) (us ++ mark CloseIndex ∷ []) refl (closes us (mark CloseIndex) refl (exprs_even us _ i))))
@@ -181,11 +181,11 @@ mutual
 
   -- a test behind ! does so
   negated_even : (ts : List Lexeme) (a : TestTree) → IsNegated ts a → Even ts
-  negated_even ts a (Grammar.plain i) = plain_even ts a i
+  negated_even ts a (Grammar.simple i) = plain_even ts a i
   negated_even ts a (Grammar.not {ts = us} i) = even_behind (mark Bang) us (λ c cs. (c + 1, refl)) (negated_even us _ i)
 
   -- a test without && and || does so
-  plain_even : (ts : List Lexeme) (a : TestTree) → IsPlain ts a → Even ts
+  plain_even : (ts : List Lexeme) (a : TestTree) → IsSimpleTest ts a → Even ts
   plain_even ts a (Grammar.compare {ts = us} {us = vs} {by} i j) = even_over us vs (mark (mark_of by)) (compare_level by) (expr_even us _ i) (expr_even vs _ j)
   plain_even ts a (Grammar.matches {ts = us} {at} i) = even_stays ts (asked words.Match at us refl (expr_even us _ i))
   plain_even ts a (Grammar.at_end {at}) = even_alone (keyword words.IsEof at) (λ c cs. (c, refl))

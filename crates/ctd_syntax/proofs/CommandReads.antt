@@ -8,7 +8,7 @@ use Rattle.ctd_syntax.specs.Grammar.{IsExpr, IsTest, IsTarget, IsTargetEnd, IsCo
 use Rattle.ctd_syntax.specs.Front.{Found, NotFound, Always, IsBefore, IsAfter, IsBuilt, IsPair, Spelling, Following}
 use Rattle.ctd_syntax.specs.Levels.{ends}
 use Rattle.ctd_syntax.specs.Tests.{test_ends}
-use Rattle.ctd_syntax.specs.CommandWords.{IsCommandRest, CommandsEnd, IsBlock, IsBranchEnd, IsLoopEnd, IsPattern, command_begins, is_command_word}
+use Rattle.ctd_syntax.specs.CommandWords.{IsCommandRest, CommandsEnd, IsBlock, IsBranchEnd, IsLoopEnd, IsPatternText, command_begins, is_command_word}
 use Rattle.ctd_token.specs.declared.text.Place.{Place}
 use Rattle.ctd_token.specs.declared.token.Mark.TheVariants.{Open, Close, Comma}
 use Rattle.ctd_syntax.specs.declared.keyword.Keyword.{Keyword}
@@ -49,7 +49,7 @@ pub whatever : {T : Type 0} (A : Spelling T) (vs us : List Lexeme) (b : T) → A
 whatever A vs us b i h = tt
 
 -- a string with its place
-pub pattern_found : (tokens rest : List Lexeme) (bytes : List ℕ) (at : Place) → tokens ≡ Lexeme.text bytes at ∷ rest → Found IsPattern Always tokens (bytes, at) rest
+pub pattern_found : (tokens rest : List Lexeme) (bytes : List ℕ) (at : Place) → tokens ≡ Lexeme.text bytes at ∷ rest → Found IsPatternText Always tokens (bytes, at) rest
 pattern_found tokens rest bytes at e = record {
   front = Lexeme.text bytes at ∷ [];
   split = e;
@@ -60,7 +60,7 @@ pattern_found tokens rest bytes at e = record {
     same_text : {bytes : List ℕ} {at : Place} {rest us : List Lexeme} {u : List ℕ × Place} → Lexeme.text bytes at ∷ rest ≡ Lexeme.text u.0 u.1 ∷ us → (u ≡ (bytes, at)) × (us ≡ rest)
     same_text {bytes} {at} {rest} {us} {u} e = let a : u.0 ≡ bytes = cc in let p : u.1 ≡ at = cc in let b : us ≡ rest = cc in (ap (λ x. (x, u.1)) a ∙ ap (λ x. (bytes, x)) p, b)
 
-pub pattern_none : (tokens : List Lexeme) → ((bytes : List ℕ) (at : Place) (ts : List Lexeme) → tokens ≡ Lexeme.text bytes at ∷ ts → ⊥) → NotFound IsPattern Always tokens
+pub pattern_none : (tokens : List Lexeme) → ((bytes : List ℕ) (at : Place) (ts : List Lexeme) → tokens ≡ Lexeme.text bytes at ∷ ts → ⊥) → NotFound IsPatternText Always tokens
 pattern_none tokens none ts us u split h w = none u.0 u.1 us (split ∙ ap (λ l. l ++ us) w)
 
 -- the end of a loop as the grammar has it, and back

@@ -4,7 +4,7 @@ use Rattle.ctd_syntax.specs.Lexeme.{Lexeme, mark, keyword}
 use Rattle.ctd_syntax.specs.Tree
 use Rattle.ctd_syntax.specs.Tree.{ExprTree, ExprList, TestTree}
 use Rattle.ctd_syntax.specs.Grammar
-use Rattle.ctd_syntax.specs.Grammar.{IsExpr, IsProduct, IsSigned, IsPower, IsAtom, IsVariable, IsNames, IsTest, IsNegated, IsPlain, mark_of}
+use Rattle.ctd_syntax.specs.Grammar.{IsExpr, IsProduct, IsSigned, IsPower, IsAtom, IsVariable, IsNames, IsTest, IsNegated, IsSimpleTest, mark_of}
 use Rattle.ctd_syntax.specs.Front.{Found, NotFound, Always, IsBefore, IsAfter, IsPair, IsName, Spelling, operator_at, after_operator}
 use Rattle.ctd_syntax.specs.Levels.{binding, ends}
 use Rattle.ctd_syntax.specs.Tests.{question, IsTestCall, IsLeft, IsCompared, compare_operator, holds_test}
@@ -165,7 +165,7 @@ atom_heading t ts us a (Grammar.text {bytes} {at}) r e = let h : Lexeme.text byt
 atom_heading t ts us a (Grammar.variable {name} i) r e = variable_heading t ts us name _ i r e
   where
     variable_heading : (t : Lexeme) (ts us : List Lexeme) (n : List ℕ) (l : ExprList) → IsVariable ts n l → Heading t ts us
-    variable_heading t ts us n l Grammar.plain r e = let h : Lexeme.name n ≡ t = cc in subst (λ x. begins_expr x ≡ true) h refl
+    variable_heading t ts us n l Grammar.unindexed r e = let h : Lexeme.name n ≡ t = cc in subst (λ x. begins_expr x ≡ true) h refl
     variable_heading t ts us n l (Grammar.indexed i) r e = let h : Lexeme.name n ≡ t = cc in subst (λ x. begins_expr x ≡ true) h refl
 atom_heading t ts us a (Grammar.strlen {at} i) r e = let h : keyword Strlen at ≡ t = cc in subst (λ x. begins_expr x ≡ true) h refl
 atom_heading t ts us a (Grammar.group i) r e = let h : mark Open ≡ t = cc in subst (λ x. begins_expr x ≡ true) h refl
@@ -195,7 +195,7 @@ data PlainAs : List Lexeme → TestTree → Type 0 where
   asked : {ts : List Lexeme} {u : TestTree} (t : Lexeme) (k : Keyword) (vs : List Lexeme) → ts ≡ t ∷ vs → question t ≡ Some k → IsTestCall k vs u → PlainAs ts u
   grouped : {ts : List Lexeme} {u : TestTree} (vs : List Lexeme) → ts ≡ mark Open ∷ vs → IsBefore Close IsTest vs u → PlainAs ts u
 
-plain_as : (ts : List Lexeme) (u : TestTree) → IsPlain ts u → PlainAs ts u
+plain_as : (ts : List Lexeme) (u : TestTree) → IsSimpleTest ts u → PlainAs ts u
 plain_as ts u (Grammar.compare {ts = us} {us = vs} {a} {b} {by} i j) = compared (((a, by), b), refl, (us ++ mark (mark_of by) ∷ [], vs, sym (append_assoc us (mark (mark_of by) ∷ []) vs), (us, refl, i), j))
 plain_as ts u (Grammar.matches {ts = us} {a} {at} i) = asked (keyword Match at) Match (mark Open ∷ us ++ mark Close ∷ []) refl refl (a, refl, (us ++ mark Close ∷ [], refl, (us, refl, i)))
 plain_as ts u (Grammar.at_end {at}) = asked (keyword IsEof at) IsEof [] refl refl (refl, refl)
@@ -203,35 +203,35 @@ plain_as ts u (Grammar.unique {ts = us} {names} {at} i) = asked (keyword Unique 
 plain_as ts u (Grammar.in_array {ts = us} {a} {name} {at} i) = asked (keyword InArray at) InArray (mark Open ∷ us ++ mark Comma ∷ Lexeme.name name ∷ mark Close ∷ []) refl refl ((a, name), refl, (us ++ mark Comma ∷ Lexeme.name name ∷ mark Close ∷ [], refl, (us ++ mark Comma ∷ [], Lexeme.name name ∷ mark Close ∷ [], sym (append_assoc us (mark Comma ∷ []) (Lexeme.name name ∷ mark Close ∷ [])), (us, refl, i), (Lexeme.name name ∷ [], refl, refl))))
 plain_as ts u (Grammar.group {ts = us} i) = grouped (us ++ mark Close ∷ []) refl (us, refl, i)
 
-compared_plain : (ts : List Lexeme) (u : TestTree) → IsCompared ts u → IsPlain ts u
+compared_plain : (ts : List Lexeme) (u : TestTree) → IsCompared ts u → IsSimpleTest ts u
 compared_plain ts u (x, tree, (us, vs, split, (ws, marked, i), j)) =
     let is : ts ≡ ws ++ mark (mark_of x.0.1) ∷ vs = split ∙ ap (λ l. l ++ vs) marked ∙ append_assoc ws (mark (mark_of x.0.1) ∷ []) vs in
-    subst (λ l. IsPlain l u) (sym is) (subst (IsPlain (ws ++ mark (mark_of x.0.1) ∷ vs)) (sym tree) (Grammar.compare i j))
+    subst (λ l. IsSimpleTest l u) (sym is) (subst (IsSimpleTest (ws ++ mark (mark_of x.0.1) ∷ vs)) (sym tree) (Grammar.compare i j))
 
-grouped_plain : (ts vs : List Lexeme) (u : TestTree) → ts ≡ mark Open ∷ vs → IsBefore Close IsTest vs u → IsPlain ts u
-grouped_plain ts vs u e (ws, closing, i) = subst (λ l. IsPlain l u) (sym (e ∙ ap (λ l. mark Open ∷ l) closing)) (Grammar.group i)
+grouped_plain : (ts vs : List Lexeme) (u : TestTree) → ts ≡ mark Open ∷ vs → IsBefore Close IsTest vs u → IsSimpleTest ts u
+grouped_plain ts vs u e (ws, closing, i) = subst (λ l. IsSimpleTest l u) (sym (e ∙ ap (λ l. mark Open ∷ l) closing)) (Grammar.group i)
 
-asked_plain : (t : Lexeme) (k : Keyword) (vs : List Lexeme) (u : TestTree) → question t ≡ Some k → IsTestCall k vs u → IsPlain (t ∷ vs) u
+asked_plain : (t : Lexeme) (k : Keyword) (vs : List Lexeme) (u : TestTree) → question t ≡ Some k → IsTestCall k vs u → IsSimpleTest (t ∷ vs) u
 asked_plain (keyword Match at) k vs u e w =
     let is : IsTestCall Match vs u = subst (λ x. IsTestCall x vs u) (sym (same_some e)) w in
     let tokens : vs ≡ mark Open ∷ (is.2.2.0 ++ mark Close ∷ []) = is.2.1 ∙ ap (λ l. mark Open ∷ l) is.2.2.1 in
-    subst (λ l. IsPlain (keyword Match at ∷ l) u) (sym tokens) (subst (IsPlain _) (sym is.1) (Grammar.matches is.2.2.2))
+    subst (λ l. IsSimpleTest (keyword Match at ∷ l) u) (sym tokens) (subst (IsSimpleTest _) (sym is.1) (Grammar.matches is.2.2.2))
 asked_plain (keyword IsEof at) k vs u e w =
     let is : IsTestCall IsEof vs u = subst (λ x. IsTestCall x vs u) (sym (same_some e)) w in
-    subst (λ l. IsPlain (keyword IsEof at ∷ l) u) (sym is.0) (subst (IsPlain _) (sym is.1) Grammar.at_end)
+    subst (λ l. IsSimpleTest (keyword IsEof at ∷ l) u) (sym is.0) (subst (IsSimpleTest _) (sym is.1) Grammar.at_end)
 asked_plain (keyword Unique at) k vs u e w =
     let is : IsTestCall Unique vs u = subst (λ x. IsTestCall x vs u) (sym (same_some e)) w in
     let tokens : vs ≡ mark Open ∷ (is.2.2.0 ++ mark Close ∷ []) = is.2.1 ∙ ap (λ l. mark Open ∷ l) is.2.2.1 in
-    subst (λ l. IsPlain (keyword Unique at ∷ l) u) (sym tokens) (subst (IsPlain _) (sym is.1) (Grammar.unique is.2.2.2))
+    subst (λ l. IsSimpleTest (keyword Unique at ∷ l) u) (sym tokens) (subst (IsSimpleTest _) (sym is.1) (Grammar.unique is.2.2.2))
 asked_plain (keyword InArray at) k vs u e w =
     let is : IsTestCall InArray vs u = subst (λ x. IsTestCall x vs u) (sym (same_some e)) w in
     sought_plain at vs u is
   where
-    sought_plain : (at : _) (vs : List Lexeme) (u : TestTree) → IsTestCall InArray vs u → IsPlain (keyword InArray at ∷ vs) u
+    sought_plain : (at : _) (vs : List Lexeme) (u : TestTree) → IsTestCall InArray vs u → IsSimpleTest (keyword InArray at ∷ vs) u
     sought_plain at vs u (x, tree, (ts, opened, (us, ws, split, (es, comma, i), (ns, closing, n)))) =
         let tokens : vs ≡ mark Open ∷ (es ++ mark Comma ∷ Lexeme.name x.1 ∷ mark Close ∷ []) =
         opened ∙ ap (λ l. mark Open ∷ l) (split ∙ ap (λ l. l ++ ws) comma ∙ append_assoc es (mark Comma ∷ []) ws ∙ ap (λ l. es ++ mark Comma ∷ l) (closing ∙ ap (λ l. l ++ mark Close ∷ []) n)) in
-        subst (λ l. IsPlain (keyword InArray at ∷ l) u) (sym tokens) (subst (IsPlain _) (sym tree) (Grammar.in_array i))
+        subst (λ l. IsSimpleTest (keyword InArray at ∷ l) u) (sym tokens) (subst (IsSimpleTest _) (sym tree) (Grammar.in_array i))
 asked_plain _ k vs u e w = absurd (cc)
 
 same_tail : {t s : Lexeme} {r vs : List Lexeme} → t ∷ r ≡ s ∷ vs → (s ≡ t) × (vs ≡ r)
@@ -253,7 +253,7 @@ begins_asked tokens r ts us t k u e q split (grouped vs front w) =
     let n : question t ≡ None = subst (λ x. question x ≡ None) same.0 refl in
     absurd (cc)
 
-pub asked_reads : (tokens r : List Lexeme) (k : Keyword) → operator_at question tokens ≡ Some (k, r) → (u : TestTree) (after : List Lexeme) → Found (IsTestCall k) Always r u after → Found IsPlain (ends 1) tokens u after
+pub asked_reads : (tokens r : List Lexeme) (k : Keyword) → operator_at question tokens ≡ Some (k, r) → (u : TestTree) (after : List Lexeme) → Found (IsTestCall k) Always r u after → Found IsSimpleTest (ends 1) tokens u after
 asked_reads tokens r k e u after f =
     let is = operator_is question tokens r k e in
     record {
@@ -265,7 +265,7 @@ asked_reads tokens r k e u after f =
           f.only i.0 us v i.1 tt i.2;
     }
 
-pub asked_none : (tokens r : List Lexeme) (k : Keyword) → operator_at question tokens ≡ Some (k, r) → NotFound (IsTestCall k) Always r → NotFound IsPlain (ends 1) tokens
+pub asked_none : (tokens r : List Lexeme) (k : Keyword) → operator_at question tokens ≡ Some (k, r) → NotFound (IsTestCall k) Always r → NotFound IsSimpleTest (ends 1) tokens
 asked_none tokens r k e not ts us v split h w =
     let is = operator_is question tokens r k e in
     let i = begins_asked tokens r ts us is.0 k v is.1 is.2 split (plain_as ts v w) in
@@ -285,7 +285,7 @@ begins_grouped tokens r ts us u e q split (grouped vs front w) =
     let same = same_tail (sym e ∙ split ∙ ap (λ l. l ++ us) front) in
     (vs, sym same.1, w)
 
-pub group_reads : (tokens r : List Lexeme) → tokens ≡ mark Open ∷ r → holds_test (Some 0) r ≡ true → (u : TestTree) (after : List Lexeme) → Found (IsBefore Close IsTest) Always r u after → Found IsPlain (ends 1) tokens u after
+pub group_reads : (tokens r : List Lexeme) → tokens ≡ mark Open ∷ r → holds_test (Some 0) r ≡ true → (u : TestTree) (after : List Lexeme) → Found (IsBefore Close IsTest) Always r u after → Found IsSimpleTest (ends 1) tokens u after
 group_reads tokens r e q u after f = record {
   front = mark Open ∷ f.front;
   split = e ∙ ap (λ l. mark Open ∷ l) f.split;
@@ -295,7 +295,7 @@ group_reads tokens r e q u after f = record {
       f.only i.0 us v i.1 tt i.2;
 }
 
-pub group_none : (tokens r : List Lexeme) → tokens ≡ mark Open ∷ r → holds_test (Some 0) r ≡ true → NotFound (IsBefore Close IsTest) Always r → NotFound IsPlain (ends 1) tokens
+pub group_none : (tokens r : List Lexeme) → tokens ≡ mark Open ∷ r → holds_test (Some 0) r ≡ true → NotFound (IsBefore Close IsTest) Always r → NotFound IsSimpleTest (ends 1) tokens
 group_none tokens r e q not ts us v split h w =
     let i = begins_grouped tokens r ts us v e q split (plain_as ts v w) in
     not i.0 us v i.1 tt i.2
@@ -311,7 +311,7 @@ begins_compared tokens ts us u q none split (grouped vs front (ws, closing, i)) 
     let y : holds_test (Some 0) (vs ++ us) ≡ true = ap (holds_test (Some 0)) (ap (λ l. l ++ us) closing ∙ append_assoc ws (mark Close ∷ []) us) ∙ test_tells 0 ws (mark Close ∷ us) u i in
     absurd (cc)
 
-pub compare_reads : (tokens : List Lexeme) → operator_at question tokens ≡ None → ((r : List Lexeme) → tokens ≡ mark Open ∷ r → holds_test (Some 0) r ≡ false) → (u : TestTree) (after : List Lexeme) → Found IsCompared (ends 1) tokens u after → Found IsPlain (ends 1) tokens u after
+pub compare_reads : (tokens : List Lexeme) → operator_at question tokens ≡ None → ((r : List Lexeme) → tokens ≡ mark Open ∷ r → holds_test (Some 0) r ≡ false) → (u : TestTree) (after : List Lexeme) → Found IsCompared (ends 1) tokens u after → Found IsSimpleTest (ends 1) tokens u after
 compare_reads tokens q none u after f = record {
   front = f.front;
   split = f.split;
@@ -319,7 +319,7 @@ compare_reads tokens q none u after f = record {
   only = λ ts us v split h w. f.only ts us v split h (begins_compared tokens ts us v q none split (plain_as ts v w));
 }
 
-pub compare_none : (tokens : List Lexeme) → operator_at question tokens ≡ None → ((r : List Lexeme) → tokens ≡ mark Open ∷ r → holds_test (Some 0) r ≡ false) → NotFound IsCompared (ends 1) tokens → NotFound IsPlain (ends 1) tokens
+pub compare_none : (tokens : List Lexeme) → operator_at question tokens ≡ None → ((r : List Lexeme) → tokens ≡ mark Open ∷ r → holds_test (Some 0) r ≡ false) → NotFound IsCompared (ends 1) tokens → NotFound IsSimpleTest (ends 1) tokens
 compare_none tokens q none not ts us v split h w = not ts us v split h (begins_compared tokens ts us v q none split (plain_as ts v w))
 
 -- `!`
@@ -337,7 +337,7 @@ plain_bang ts us r u e (asked s l vs front is w) =
 plain_bang ts us r u e (grouped vs front w) = absurd (let same = same_tail (e ∙ ap (λ l. l ++ us) front) in let f : mark Open ≡ mark Bang = same.0 in cc)
 
 negated_bang : (ts us r : List Lexeme) (u : TestTree) → mark Bang ∷ r ≡ ts ++ us → IsNegated ts u → (vs : List Lexeme) × (a : TestTree) × (r ≡ vs ++ us) × (u ≡ Tree.not a) × IsNegated vs a
-negated_bang ts us r u e (Grammar.plain i) = absurd (plain_bang ts us r u e (plain_as ts u i))
+negated_bang ts us r u e (Grammar.simple i) = absurd (plain_bang ts us r u e (plain_as ts u i))
 negated_bang ts us r u e (Grammar.not {ts = vs} {a} i) = let k : r ≡ vs ++ us = cc in (vs, a, k, refl, i)
 
 pub bang_reads : (tokens r after : List Lexeme) (a : TestTree) → tokens ≡ mark Bang ∷ r → Found IsNegated (ends 1) r a after → Found IsNegated (ends 1) tokens (Tree.not a) after
@@ -354,17 +354,17 @@ bang_reads tokens r after a e f = record {
 pub bang_none : (tokens r : List Lexeme) → tokens ≡ mark Bang ∷ r → NotFound IsNegated (ends 1) r → NotFound IsNegated (ends 1) tokens
 bang_none tokens r e not ts us u split h w = let i = negated_bang ts us r u (sym e ∙ split) w in not i.0 us i.1 i.2 h i.4
 
-negated_plain : (tokens ts us : List Lexeme) (u : TestTree) → ((r : List Lexeme) → tokens ≡ mark Bang ∷ r → ⊥) → tokens ≡ ts ++ us → IsNegated ts u → IsPlain ts u
-negated_plain tokens ts us u none e (Grammar.plain i) = i
+negated_plain : (tokens ts us : List Lexeme) (u : TestTree) → ((r : List Lexeme) → tokens ≡ mark Bang ∷ r → ⊥) → tokens ≡ ts ++ us → IsNegated ts u → IsSimpleTest ts u
+negated_plain tokens ts us u none e (Grammar.simple i) = i
 negated_plain tokens ts us u none e (Grammar.not {ts = vs} i) = absurd (none (vs ++ us) e)
 
-pub plain_is_negated : (tokens : List Lexeme) → ((r : List Lexeme) → tokens ≡ mark Bang ∷ r → ⊥) → (a : TestTree) (after : List Lexeme) → Found IsPlain (ends 1) tokens a after → Found IsNegated (ends 1) tokens a after
+pub plain_is_negated : (tokens : List Lexeme) → ((r : List Lexeme) → tokens ≡ mark Bang ∷ r → ⊥) → (a : TestTree) (after : List Lexeme) → Found IsSimpleTest (ends 1) tokens a after → Found IsNegated (ends 1) tokens a after
 plain_is_negated tokens none a after f = record {
   front = f.front;
   split = f.split;
-  spells = Grammar.plain f.spells;
+  spells = Grammar.simple f.spells;
   only = λ ts us u split h w. f.only ts us u split h (negated_plain tokens ts us u none split w);
 }
 
-pub no_plain_negated : (tokens : List Lexeme) → ((r : List Lexeme) → tokens ≡ mark Bang ∷ r → ⊥) → NotFound IsPlain (ends 1) tokens → NotFound IsNegated (ends 1) tokens
+pub no_plain_negated : (tokens : List Lexeme) → ((r : List Lexeme) → tokens ≡ mark Bang ∷ r → ⊥) → NotFound IsSimpleTest (ends 1) tokens → NotFound IsNegated (ends 1) tokens
 no_plain_negated tokens none not ts us u split h w = not ts us u split h (negated_plain tokens ts us u none split w)

@@ -26,6 +26,18 @@ refused_exit A B E F view s tokens e read is no_tree r =
     let same : read ≡ Err e = p.1 ∙ ap Err p.2 in
     subst (λ x. FindsTree B F view x tokens) (sym same) (refused_as A B E F s tokens e no_tree r)
 
+-- where there is no tree, any error says so
+no_tree_as : {U : Type 0} (B : List Lexeme → U → Type 0) (F : List Lexeme → Type 0) (tokens : List Lexeme) (e : ParseError) → NotFound B F tokens → Refused B F e tokens
+no_tree_as B F tokens Memory no_tree = tt
+no_tree_as B F tokens (Syntax left) no_tree = no_tree
+
+-- the exit where there is no tree
+pub no_tree_exit : {X U : Type 0} (B : List Lexeme → U → Type 0) (F : List Lexeme → Type 0) (view : X → U × List Lexeme) (tokens : List Lexeme) (e : ParseError) (read : Result X ParseError) → IsErrAnd read (λ y. y ≡ e) → NotFound B F tokens → FindsTree B F view read tokens
+no_tree_exit B F view tokens e read is no_tree =
+    let p = err_from_is_err_and read is in
+    let same : read ≡ Err e = p.1 ∙ ap Err p.2 in
+    subst (λ x. FindsTree B F view x tokens) (sym same) (no_tree_as B F tokens e no_tree)
+
 -- a tree and the mark behind it
 pub before_reads : {T : Type 0} (Spells : Spelling T) (Ends : Following) (end_mark : Mark) → ((us : List Lexeme) → Ends (mark end_mark ∷ us)) → (tokens rest r : List Lexeme) (a : T) → Found Spells Ends tokens a rest → rest ≡ mark end_mark ∷ r → Found (IsBefore end_mark Spells) Always tokens a r
 before_reads Spells Ends end_mark ended tokens rest r a f e = record {

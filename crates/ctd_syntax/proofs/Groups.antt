@@ -3,7 +3,7 @@ use Rattle.std.proofs.Common.{◌≡◌, ℕ, suc, List, [], ◌∷◌, ◌++◌
 use Rattle.ctd_syntax.specs.Lexeme.{Lexeme, mark}
 use Rattle.ctd_syntax.specs.Tree.{ExprTree, ExprList, TestTree}
 use Rattle.ctd_syntax.specs.Grammar
-use Rattle.ctd_syntax.specs.Grammar.{IsExpr, IsProduct, IsSigned, IsPower, IsExponent, IsAtom, IsVariable, IsExprs, IsTest, IsBoth, IsNegated, IsPlain, mark_of}
+use Rattle.ctd_syntax.specs.Grammar.{IsExpr, IsProduct, IsSigned, IsPower, IsExponent, IsAtom, IsVariable, IsExprs, IsTest, IsBoth, IsNegated, IsSimpleTest, mark_of}
 use Rattle.ctd_syntax.specs.Tests.{holds_test}
 use Rattle.ctd_token.specs.declared.token.Mark.TheVariants.{Open, Close, Plus, Minus, Times, Divide, Percent, Caret, Comma, CloseIndex, OrOr, AndAnd}
 use Rattle.ctd_syntax.specs.declared.tree.Compare.{Compare}
@@ -50,7 +50,7 @@ mutual
   atom_skips n ts rest a (Grammar.group {ts = us} i) = ap (H (suc n)) (append_assoc us (mark Close ∷ []) rest) ∙ expr_skips (suc n) us (mark Close ∷ rest) _ i
 
   variable_skips : (n : ℕ) (ts rest : List Lexeme) (b : List ℕ) (l : ExprList) → IsVariable ts b l → H n (ts ++ rest) ≡ H n rest
-  variable_skips n ts rest b l Grammar.plain = refl
+  variable_skips n ts rest b l Grammar.unindexed = refl
   variable_skips n ts rest b l (Grammar.indexed {ts = us} i) = ap (H n) (append_assoc us (mark CloseIndex ∷ []) rest) ∙ exprs_skips n us (mark CloseIndex ∷ rest) _ i
 
   exprs_skips : (n : ℕ) (ts rest : List Lexeme) (l : ExprList) → IsExprs ts l → H n (ts ++ rest) ≡ H n rest
@@ -76,10 +76,10 @@ mutual
   both_tells n ts rest a (Grammar.and {ts = us} {us = vs} i j) = ap (H n) (append_assoc us (mark AndAnd ∷ vs) rest) ∙ both_tells n us (mark AndAnd ∷ (vs ++ rest)) _ i
 
   negated_tells : (n : ℕ) (ts rest : List Lexeme) (a : TestTree) → IsNegated ts a → H n (ts ++ rest) ≡ true
-  negated_tells n ts rest a (Grammar.plain i) = plain_tells n ts rest a i
+  negated_tells n ts rest a (Grammar.simple i) = plain_tells n ts rest a i
   negated_tells n ts rest a (Grammar.not i) = refl
 
-  plain_tells : (n : ℕ) (ts rest : List Lexeme) (a : TestTree) → IsPlain ts a → H n (ts ++ rest) ≡ true
+  plain_tells : (n : ℕ) (ts rest : List Lexeme) (a : TestTree) → IsSimpleTest ts a → H n (ts ++ rest) ≡ true
   plain_tells n ts rest a (Grammar.compare {ts = us} {us = vs} {by} i j) = ap (H n) (append_assoc us (mark (mark_of by) ∷ vs) rest) ∙ expr_skips n us (mark (mark_of by) ∷ (vs ++ rest)) _ i ∙ compare_tells by n (vs ++ rest)
   plain_tells n ts rest a (Grammar.matches i) = refl
   plain_tells n ts rest a Grammar.at_end = refl
@@ -100,7 +100,7 @@ atom_opening ts us a Grammar.text r e = absurd (cc)
 atom_opening ts us a (Grammar.variable i) r e = absurd (no_variable _ _ _ us r i e)
   where
     no_variable : (ts : List Lexeme) (b : List ℕ) (l : ExprList) (us r : List Lexeme) → IsVariable ts b l → mark Open ∷ r ≡ ts ++ us → ⊥
-    no_variable ts b l us r Grammar.plain e = cc
+    no_variable ts b l us r Grammar.unindexed e = cc
     no_variable ts b l us r (Grammar.indexed i) e = cc
 atom_opening ts us a (Grammar.strlen i) r e = absurd (cc)
 atom_opening ts us a (Grammar.group {ts = vs} i) r e =

@@ -43,8 +43,8 @@ abbrev pub CommandsEnd : Following
 CommandsEnd ts = command_begins ts ≡ false
 
 -- a string with its place
-abbrev pub IsPattern : Spelling (List ℕ × Place)
-IsPattern ts x = ts ≡ Lexeme.text x.0 x.1 ∷ []
+abbrev pub IsPatternText : Spelling (List ℕ × Place)
+IsPatternText ts x = ts ≡ Lexeme.text x.0 x.1 ∷ []
 
 -- the commands of a block, and its END
 abbrev pub IsBlock : Spelling CommandList
@@ -69,7 +69,7 @@ IsCommandRest words.Newline at ts u = (ts ≡ []) × (u ≡ Tree.newline at)
 IsCommandRest words.Eof at ts u = (ts ≡ []) × (u ≡ Tree.eof at)
 IsCommandRest words.Int at ts u = IsBuilt (λ x. Tree.int at x.0 x.1.0 x.1.1) (IsAfter Open (IsPair (IsBefore Comma IsExpr) (IsPair IsExpr IsTargetEnd))) ts u
 IsCommandRest words.String at ts u = IsBuilt (Tree.string at) (IsAfter Open (IsBefore Close IsExpr)) ts u
-IsCommandRest (words.Regex number) at ts u = IsBuilt (λ x. Tree.regex at (record { number = number; bytes = x.0.0; place = x.0.1 }) x.1) (IsAfter Open (IsPair IsPattern IsTargetEnd)) ts u
+IsCommandRest (words.Regex number) at ts u = IsBuilt (λ x. Tree.regex at (record { number = number; bytes = x.0.0; place = x.0.1 }) x.1) (IsAfter Open (IsPair IsPatternText IsTargetEnd)) ts u
 IsCommandRest words.Assert at ts u = IsBuilt (Tree.assert at) (IsAfter Open (IsBefore Close IsTest)) ts u
 IsCommandRest words.Set at ts u = IsBuilt (Tree.set at) (IsAfter Open (IsBefore Close IsAssignments)) ts u
 IsCommandRest words.Unset at ts u = IsBuilt (Tree.unset at) (IsAfter Open (IsBefore Close IsNames)) ts u

@@ -51,7 +51,7 @@ mutual
 
   -- a name, alone or with indices
   pub data IsVariable : List Lexeme → List ℕ → ExprList → Type 0 where
-    plain : {name : List ℕ} → IsVariable (Lexeme.name name ∷ []) name Tree.none
+    unindexed : {name : List ℕ} → IsVariable (Lexeme.name name ∷ []) name Tree.none
     indexed : {ts : List Lexeme} {name : List ℕ} {indices : ExprList} → IsExprs ts indices → IsVariable (Lexeme.name name ∷ mark OpenIndex ∷ ts ++ mark CloseIndex ∷ []) name indices
 
   -- one expression or more, with commas between them
@@ -90,17 +90,17 @@ mutual
 
   -- any number of !
   pub data IsNegated : List Lexeme → TestTree → Type 0 where
-    plain : {ts : List Lexeme} {a : TestTree} → IsPlain ts a → IsNegated ts a
+    simple : {ts : List Lexeme} {a : TestTree} → IsSimpleTest ts a → IsNegated ts a
     not : {ts : List Lexeme} {a : TestTree} → IsNegated ts a → IsNegated (mark Bang ∷ ts) (Tree.not a)
 
   -- a comparison, a question, or a test in parentheses
-  pub data IsPlain : List Lexeme → TestTree → Type 0 where
-    compare : {ts us : List Lexeme} {a b : ExprTree} {by : Compare} → IsExpr ts a → IsExpr us b → IsPlain (ts ++ mark (mark_of by) ∷ us) (Tree.compare by a b)
-    matches : {ts : List Lexeme} {a : ExprTree} {at : Place} → IsExpr ts a → IsPlain (keyword words.Match at ∷ mark Open ∷ ts ++ mark Close ∷ []) (Tree.matches a)
-    at_end : {at : Place} → IsPlain (keyword words.IsEof at ∷ []) Tree.at_end
-    unique : {ts : List Lexeme} {names : List (List ℕ)} {at : Place} → IsNames ts names → IsPlain (keyword words.Unique at ∷ mark Open ∷ ts ++ mark Close ∷ []) (Tree.unique names)
-    in_array : {ts : List Lexeme} {a : ExprTree} {name : List ℕ} {at : Place} → IsExpr ts a → IsPlain (keyword words.InArray at ∷ mark Open ∷ ts ++ mark Comma ∷ Lexeme.name name ∷ mark Close ∷ []) (Tree.in_array a name)
-    group : {ts : List Lexeme} {a : TestTree} → IsTest ts a → IsPlain (mark Open ∷ ts ++ mark Close ∷ []) a
+  pub data IsSimpleTest : List Lexeme → TestTree → Type 0 where
+    compare : {ts us : List Lexeme} {a b : ExprTree} {by : Compare} → IsExpr ts a → IsExpr us b → IsSimpleTest (ts ++ mark (mark_of by) ∷ us) (Tree.compare by a b)
+    matches : {ts : List Lexeme} {a : ExprTree} {at : Place} → IsExpr ts a → IsSimpleTest (keyword words.Match at ∷ mark Open ∷ ts ++ mark Close ∷ []) (Tree.matches a)
+    at_end : {at : Place} → IsSimpleTest (keyword words.IsEof at ∷ []) Tree.at_end
+    unique : {ts : List Lexeme} {names : List (List ℕ)} {at : Place} → IsNames ts names → IsSimpleTest (keyword words.Unique at ∷ mark Open ∷ ts ++ mark Close ∷ []) (Tree.unique names)
+    in_array : {ts : List Lexeme} {a : ExprTree} {name : List ℕ} {at : Place} → IsExpr ts a → IsSimpleTest (keyword words.InArray at ∷ mark Open ∷ ts ++ mark Comma ∷ Lexeme.name name ∷ mark Close ∷ []) (Tree.in_array a name)
+    group : {ts : List Lexeme} {a : TestTree} → IsTest ts a → IsSimpleTest (mark Open ∷ ts ++ mark Close ∷ []) a
 
 -- a target or none, and the closing parenthesis
 pub data IsTargetEnd : List Lexeme → Option VarTree → Type 0 where

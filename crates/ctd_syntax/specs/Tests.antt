@@ -114,11 +114,11 @@ closes_before_test d [] = None
 closes_before_test d (t ∷ ts) = closes_before_test_at (role_of t) d (λ e. closes_before_test e ts)
 
 -- whether n is enough
-abbrev pub is_within : ℕ → Option ℕ → Bool
-is_within n None = false
-is_within n (Some zero) = true
-is_within zero (Some (suc m)) = false
-is_within (suc n) (Some (suc m)) = is_within n (Some m)
+abbrev pub is_enough : ℕ → Option ℕ → Bool
+is_enough n None = false
+is_enough n (Some zero) = true
+is_enough zero (Some (suc m)) = false
+is_enough (suc n) (Some (suc m)) = is_enough n (Some m)
 
 -- whether a parenthesis comes first
 abbrev pub opens : List Lexeme → Bool
@@ -136,6 +136,6 @@ AreGroups zero ts = (r : List Lexeme) → ts ≡ mark Open ∷ r → holds_test 
 AreGroups (suc n) ts = (r : List Lexeme) × (ts ≡ mark Open ∷ r) × (holds_test (Some 0) r ≡ true) × AreGroups n r
 
 -- what may be known of that
-abbrev pub AreKnown : Option ℕ → List Lexeme → Type 0
-AreKnown None ts = Unit {0}
-AreKnown (Some n) ts = AreGroups n ts
+abbrev pub AreKnownGroups : Option ℕ → List Lexeme → Type 0
+AreKnownGroups None ts = Unit {0}
+AreKnownGroups (Some n) ts = AreGroups n ts

@@ -11,7 +11,7 @@ ghost use Rattle.ctd_syntax.specs.CommandWords.{IsCommandRest, CommandsEnd, IsBl
 
 use crate::condition::{test, test_before};
 use crate::expression::{expr, expr_before};
-use crate::front::{ParseError, after_mark, after_word, text_at, word_at};
+use crate::front::{ParseError, after_mark, after_open, after_word, text_at, word_at};
 use crate::keyword::Keyword;
 use crate::names::names;
 use crate::parser_token::ParserToken;
@@ -42,9 +42,7 @@ fn int<'t>(
     ensures tree { FindsTree (IsCommandRest Keyword.Int place) Always (λ x. (command_tree x.0, map lexeme x.1.now)) result (map lexeme tokens.now) }
     ensures shorter { IfOk result (λ x. length x.1.now ≤ length tokens.now) }
 {
-    let Some(after) = after_mark(Mark::Open, tokens) else {
-        return Err(ParseError::Syntax(tokens.len()));
-    };
+    let after = after_open(tokens)?;
     let (low, rest) = expr_before(alloc, Mark::Comma, after)?;
     let ((high, target), rest) = upper_bound(alloc, rest)?;
     let action = Action::Int(low, high, target);
@@ -60,9 +58,7 @@ fn string<'t>(
     ensures tree { FindsTree (IsCommandRest Keyword.String place) Always (λ x. (command_tree x.0, map lexeme x.1.now)) result (map lexeme tokens.now) }
     ensures shorter { IfOk result (λ x. length x.1.now ≤ length tokens.now) }
 {
-    let Some(after) = after_mark(Mark::Open, tokens) else {
-        return Err(ParseError::Syntax(tokens.len()));
-    };
+    let after = after_open(tokens)?;
     let (text, rest) = expr_before(alloc, Mark::Close, after)?;
     let action = Action::String(text);
     Ok((Command { place, action }, rest))
@@ -78,9 +74,7 @@ fn regex<'t>(
     ensures tree { FindsTree (IsCommandRest (Keyword.Regex number) place) Always (λ x. (command_tree x.0, map lexeme x.1.now)) result (map lexeme tokens.now) }
     ensures shorter { IfOk result (λ x. length x.1.now ≤ length tokens.now) }
 {
-    let Some(after) = after_mark(Mark::Open, tokens) else {
-        return Err(ParseError::Syntax(tokens.len()));
-    };
+    let after = after_open(tokens)?;
     let Some((text, at, rest)) = text_at(after) else {
         return Err(ParseError::Syntax(after.len()));
     };
@@ -104,9 +98,7 @@ fn assert<'t>(
     ensures tree { FindsTree (IsCommandRest Keyword.Assert place) Always (λ x. (command_tree x.0, map lexeme x.1.now)) result (map lexeme tokens.now) }
     ensures shorter { IfOk result (λ x. length x.1.now ≤ length tokens.now) }
 {
-    let Some(after) = after_mark(Mark::Open, tokens) else {
-        return Err(ParseError::Syntax(tokens.len()));
-    };
+    let after = after_open(tokens)?;
     let (condition, rest) = test_before(alloc, Mark::Close, None, after)?;
     let action = Action::Assert(condition);
     Ok((Command { place, action }, rest))
@@ -121,9 +113,7 @@ fn set<'t>(
     ensures tree { FindsTree (IsCommandRest Keyword.Set place) Always (λ x. (command_tree x.0, map lexeme x.1.now)) result (map lexeme tokens.now) }
     ensures shorter { IfOk result (λ x. length x.1.now ≤ length tokens.now) }
 {
-    let Some(after) = after_mark(Mark::Open, tokens) else {
-        return Err(ParseError::Syntax(tokens.len()));
-    };
+    let after = after_open(tokens)?;
     let (list, rest) = assignments(alloc, after)?;
     let action = Action::Set(list);
     Ok((Command { place, action }, rest))
@@ -138,9 +128,7 @@ fn unset<'t>(
     ensures tree { FindsTree (IsCommandRest Keyword.Unset place) Always (λ x. (command_tree x.0, map lexeme x.1.now)) result (map lexeme tokens.now) }
     ensures shorter { IfOk result (λ x. length x.1.now ≤ length tokens.now) }
 {
-    let Some(after) = after_mark(Mark::Open, tokens) else {
-        return Err(ParseError::Syntax(tokens.len()));
-    };
+    let after = after_open(tokens)?;
     let (list, rest) = names(alloc, after)?;
     let action = Action::Unset(list);
     Ok((Command { place, action }, rest))
@@ -187,9 +175,7 @@ fn rep<'t>(
     ensures tree { FindsTree (IsCommandRest Keyword.Rep place) Always (λ x. (command_tree x.0, map lexeme x.1.now)) result (map lexeme tokens.now) }
     ensures shorter { IfOk result (λ x. length x.1.now ≤ length tokens.now) }
 {
-    let Some(after) = after_mark(Mark::Open, tokens) else {
-        return Err(ParseError::Syntax(tokens.len()));
-    };
+    let after = after_open(tokens)?;
     let ((count, (between, body)), rest) = rep_tail(alloc, after)?;
     let action = Action::Rep(count, between, body);
     Ok((Command { place, action }, rest))
@@ -205,9 +191,7 @@ fn repi<'t>(
     ensures tree { FindsTree (IsCommandRest Keyword.RepI place) Always (λ x. (command_tree x.0, map lexeme x.1.now)) result (map lexeme tokens.now) }
     ensures shorter { IfOk result (λ x. length x.1.now ≤ length tokens.now) }
 {
-    let Some(after) = after_mark(Mark::Open, tokens) else {
-        return Err(ParseError::Syntax(tokens.len()));
-    };
+    let after = after_open(tokens)?;
     let (counter, rest) = target_before(alloc, Mark::Comma, after)?;
     let ((count, (between, body)), rest) = rep_tail(alloc, rest)?;
     let action = Action::RepI(counter, count, between, body);
@@ -224,9 +208,7 @@ fn while_command<'t>(
     ensures tree { FindsTree (IsCommandRest Keyword.While place) Always (λ x. (command_tree x.0, map lexeme x.1.now)) result (map lexeme tokens.now) }
     ensures shorter { IfOk result (λ x. length x.1.now ≤ length tokens.now) }
 {
-    let Some(after) = after_mark(Mark::Open, tokens) else {
-        return Err(ParseError::Syntax(tokens.len()));
-    };
+    let after = after_open(tokens)?;
     let ((condition, (between, body)), rest) = while_tail(alloc, after)?;
     let action = Action::While(condition, between, body);
     Ok((Command { place, action }, rest))
@@ -242,9 +224,7 @@ fn whilei<'t>(
     ensures tree { FindsTree (IsCommandRest Keyword.WhileI place) Always (λ x. (command_tree x.0, map lexeme x.1.now)) result (map lexeme tokens.now) }
     ensures shorter { IfOk result (λ x. length x.1.now ≤ length tokens.now) }
 {
-    let Some(after) = after_mark(Mark::Open, tokens) else {
-        return Err(ParseError::Syntax(tokens.len()));
-    };
+    let after = after_open(tokens)?;
     let (counter, rest) = target_before(alloc, Mark::Comma, after)?;
     let ((condition, (between, body)), rest) = while_tail(alloc, rest)?;
     let action = Action::WhileI(counter, condition, between, body);
@@ -293,9 +273,7 @@ fn if_command<'t>(
     ensures tree { FindsTree (IsCommandRest Keyword.If place) Always (λ x. (command_tree x.0, map lexeme x.1.now)) result (map lexeme tokens.now) }
     ensures shorter { IfOk result (λ x. length x.1.now ≤ length tokens.now) }
 {
-    let Some(after) = after_mark(Mark::Open, tokens) else {
-        return Err(ParseError::Syntax(tokens.len()));
-    };
+    let after = after_open(tokens)?;
     let (condition, rest) = test_before(alloc, Mark::Close, None, after)?;
     let ((then_do, else_do), rest) = branches(alloc, rest)?;
     let action = Action::If(condition, then_do, else_do);

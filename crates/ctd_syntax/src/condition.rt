@@ -5,13 +5,13 @@ ghost use Rattle.std.specs.Prelude.{◌≡◌, ◌≤◌, ◌<◌, ◌++◌, [],
 ghost use Rattle.ctd_syntax.specs.Lexeme;
 ghost use Rattle.ctd_syntax.specs.Lexeme.{Lexeme};
 ghost use Rattle.ctd_syntax.specs.View.{expr_tree, test_tree};
-ghost use Rattle.ctd_syntax.specs.Grammar.{IsTest, IsBoth, IsNegated, IsPlain};
+ghost use Rattle.ctd_syntax.specs.Grammar.{IsTest, IsBoth, IsNegated, IsSimpleTest};
 ghost use Rattle.ctd_syntax.specs.Front.{FindsTree, Always, IsBefore, IsName, StartsWith, lexeme};
 ghost use Rattle.ctd_syntax.specs.Levels.{ends};
-ghost use Rattle.ctd_syntax.specs.Tests.{test_ends, compare_operator, question, IsTestCall, IsLeft, IsCompared, AreGroups, AreKnown, closes_before_test, role_of, holds_test, is_within, openings, opens};
+ghost use Rattle.ctd_syntax.specs.Tests.{test_ends, compare_operator, question, IsTestCall, IsLeft, IsCompared, AreGroups, AreKnownGroups, closes_before_test, role_of, holds_test, is_enough, openings, opens};
 
 use crate::expression::{expr, expr_before};
-use crate::front::{ParseError, after_mark, name_at};
+use crate::front::{ParseError, after_mark, after_open, name_at};
 use crate::keyword::Keyword;
 use crate::names::names;
 use crate::parser_token::ParserToken;
@@ -77,7 +77,7 @@ fn opening_len(tokens: &[ParserToken<'_>]) -> usize
 // many are not enough.
 fn closes_before_test(limit: usize, tokens: &[ParserToken<'_>]) -> Option<usize>
     ensures some { IfSome result (λ n. (n < limit) × (closes_before_test 0 (map lexeme tokens.now) ≡ Some n)) }
-    ensures none { IfNone result ((n : ℕ) → n < limit → is_within n (closes_before_test 0 (map lexeme tokens.now)) ≡ false) }
+    ensures none { IfNone result ((n : ℕ) → n < limit → is_enough n (closes_before_test 0 (map lexeme tokens.now)) ≡ false) }
 {
     let mut closed: usize = 0;
     let mut depth: usize = 0;
@@ -150,7 +150,7 @@ fn group_at<'t>(
     groups: Option<usize>,
     tokens: &'t [ParserToken<'t>],
 ) -> Option<(usize, &'t [ParserToken<'t>])>
-    requires known { AreKnown groups (map lexeme tokens.now) }
+    requires known { AreKnownGroups groups (map lexeme tokens.now) }
     ensures found { IfSome result (λ x. map lexeme tokens.now ≡ Lexeme.mark Mark.Open ∷ map lexeme x.1.now) }
     ensures holds { IfSome result (λ x. holds_test (Some 0) (map lexeme x.1.now) ≡ true) }
     ensures further { IfSome result (λ x. AreGroups x.0 (map lexeme x.1.now)) }
@@ -204,9 +204,7 @@ fn matches<'t>(
     ensures tree { FindsTree (IsTestCall Keyword.Match) Always (λ x. (test_tree x.0, map lexeme x.1.now)) result (map lexeme tokens.now) }
     ensures shorter { IfOk result (λ x. length x.1.now ≤ length tokens.now) }
 {
-    let Some(after) = after_mark(Mark::Open, tokens) else {
-        return Err(ParseError::Syntax(tokens.len()));
-    };
+    let after = after_open(tokens)?;
     let (operand, rest) = expr_before(alloc, Mark::Close, after)?;
     Ok((Test::Match(operand), rest))
 }
@@ -219,9 +217,7 @@ fn unique<'t>(
     ensures tree { FindsTree (IsTestCall Keyword.Unique) Always (λ x. (test_tree x.0, map lexeme x.1.now)) result (map lexeme tokens.now) }
     ensures shorter { IfOk result (λ x. length x.1.now ≤ length tokens.now) }
 {
-    let Some(after) = after_mark(Mark::Open, tokens) else {
-        return Err(ParseError::Syntax(tokens.len()));
-    };
+    let after = after_open(tokens)?;
     let (list, rest) = names(alloc, after)?;
     Ok((Test::Unique(list), rest))
 }
@@ -251,9 +247,7 @@ fn in_array<'t>(
     ensures tree { FindsTree (IsTestCall Keyword.InArray) Always (λ x. (test_tree x.0, map lexeme x.1.now)) result (map lexeme tokens.now) }
     ensures shorter { IfOk result (λ x. length x.1.now ≤ length tokens.now) }
 {
-    let Some(after) = after_mark(Mark::Open, tokens) else {
-        return Err(ParseError::Syntax(tokens.len()));
-    };
+    let after = after_open(tokens)?;
     let (operand, rest) = expr_before(alloc, Mark::Comma, after)?;
     let (name, rest) = last_name(alloc, rest)?;
     Ok((Test::InArray(operand, name), rest))
@@ -284,7 +278,7 @@ pub(crate) fn test<'t>(
     groups: Option<usize>,
     tokens: &'t [ParserToken<'t>],
 ) -> Result<(Test, &'t [ParserToken<'t>]), ParseError>
-    requires known { AreKnown groups (map lexeme tokens.now) }
+    requires known { AreKnownGroups groups (map lexeme tokens.now) }
     ensures tree { FindsTree IsTest (test_ends 1) (λ x. (test_tree x.0, map lexeme x.1.now)) result (map lexeme tokens.now) }
     ensures shorter { IfOk result (λ x. length x.1.now ≤ length tokens.now) }
 {
@@ -305,7 +299,7 @@ fn both<'t>(
     groups: Option<usize>,
     tokens: &'t [ParserToken<'t>],
 ) -> Result<(Test, &'t [ParserToken<'t>]), ParseError>
-    requires known { AreKnown groups (map lexeme tokens.now) }
+    requires known { AreKnownGroups groups (map lexeme tokens.now) }
     ensures tree { FindsTree IsBoth (test_ends 2) (λ x. (test_tree x.0, map lexeme x.1.now)) result (map lexeme tokens.now) }
     ensures shorter { IfOk result (λ x. length x.1.now ≤ length tokens.now) }
 {
@@ -326,7 +320,7 @@ fn negated<'t>(
     groups: Option<usize>,
     tokens: &'t [ParserToken<'t>],
 ) -> Result<(Test, &'t [ParserToken<'t>]), ParseError>
-    requires known { AreKnown groups (map lexeme tokens.now) }
+    requires known { AreKnownGroups groups (map lexeme tokens.now) }
     ensures tree { FindsTree IsNegated (ends 1) (λ x. (test_tree x.0, map lexeme x.1.now)) result (map lexeme tokens.now) }
     ensures shorter { IfOk result (λ x. length x.1.now ≤ length tokens.now) }
 {
@@ -335,18 +329,18 @@ fn negated<'t>(
             let (operand, rest) = negated(alloc, None, after)?;
             Ok((Test::Not(Box::new(alloc, operand)?), rest))
         }
-        None => plain(alloc, groups, tokens),
+        None => simple_test(alloc, groups, tokens),
     }
 }
 
 #[cycle(test)]
-fn plain<'t>(
+fn simple_test<'t>(
     alloc: Global,
     groups: Option<usize>,
     tokens: &'t [ParserToken<'t>],
 ) -> Result<(Test, &'t [ParserToken<'t>]), ParseError>
-    requires known { AreKnown groups (map lexeme tokens.now) }
-    ensures tree { FindsTree IsPlain (ends 1) (λ x. (test_tree x.0, map lexeme x.1.now)) result (map lexeme tokens.now) }
+    requires known { AreKnownGroups groups (map lexeme tokens.now) }
+    ensures tree { FindsTree IsSimpleTest (ends 1) (λ x. (test_tree x.0, map lexeme x.1.now)) result (map lexeme tokens.now) }
     ensures shorter { IfOk result (λ x. length x.1.now ≤ length tokens.now) }
 {
     if let Some((keyword, rest)) = question_at(tokens) {
@@ -368,7 +362,7 @@ pub(crate) fn test_before<'t>(
     tokens: &'t [ParserToken<'t>],
 ) -> Result<(Test, &'t [ParserToken<'t>]), ParseError>
     requires ends { test_ends 1 (Lexeme.mark mark ∷ []) }
-    requires known { AreKnown groups (map lexeme tokens.now) }
+    requires known { AreKnownGroups groups (map lexeme tokens.now) }
     ensures tree { FindsTree (IsBefore mark IsTest) Always (λ x. (test_tree x.0, map lexeme x.1.now)) result (map lexeme tokens.now) }
     ensures shorter { IfOk result (λ x. length x.1.now ≤ length tokens.now) }
 {

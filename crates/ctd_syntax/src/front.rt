@@ -1,6 +1,6 @@
 //! What stands at the front of the tokens that are left.
 
-ghost use Rattle.std.specs.Prelude.{◌≡◌, ◌<◌, List, ℕ, ◌∷◌, length, map, IfSome, IfNone};
+ghost use Rattle.std.specs.Prelude.{◌≡◌, ◌<◌, List, ℕ, ◌∷◌, length, map, IfOk, IfErr, IfSome, IfNone};
 ghost use Rattle.ctd_syntax.specs.Front.{lexeme};
 ghost use Rattle.ctd_syntax.specs.Lexeme;
 ghost use Rattle.ctd_syntax.specs.Lexeme.{Lexeme};
@@ -54,6 +54,20 @@ pub(crate) fn after_mark<'t>(
     match first {
         ParserToken::Mark(found) if *found == mark => Some(after),
         _ => None,
+    }
+}
+
+/// What follows an opening parenthesis at the front, or Syntax where another token or none is there.
+pub(crate) fn after_open<'t>(
+    tokens: &'t [ParserToken<'t>],
+) -> Result<&'t [ParserToken<'t>], ParseError>
+    ensures found { IfOk result (λ rest. map lexeme tokens.now ≡ Lexeme.mark Mark.Open ∷ map lexeme rest.now) }
+    ensures shorter { IfOk result (λ rest. length rest.now < length tokens.now) }
+    ensures none { IfErr result (λ _. (ts : List Lexeme) → map lexeme tokens.now ≡ Lexeme.mark Mark.Open ∷ ts → ⊥) }
+{
+    match after_mark(Mark::Open, tokens) {
+        Some(after) => Ok(after),
+        None => Err(ParseError::Syntax(tokens.len())),
     }
 }
 

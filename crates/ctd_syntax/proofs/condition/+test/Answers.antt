@@ -1,7 +1,7 @@
 use Rattle.std.proofs.Common.{arith}
 use Rattle.std.specs.Prelude.{map}
 use Rattle.ctd_syntax.specs.Front.{Always, IsBefore, lexeme}
-use Rattle.ctd_syntax.specs.Grammar.{IsTest, IsBoth, IsNegated, IsPlain}
+use Rattle.ctd_syntax.specs.Grammar.{IsTest, IsBoth, IsNegated, IsSimpleTest}
 use Rattle.ctd_syntax.specs.Levels.{ends}
 use Rattle.ctd_syntax.specs.Tests.{test_ends, IsTestCall, IsCompared}
 use Rattle.ctd_token.specs.declared.token.Mark.TheVariants.{Close}
@@ -48,16 +48,16 @@ pub negated-returns-in_ok-new-in-Some-clause-tree : goal.negated-returns-in_ok-n
 negated-returns-in_ok-new-in-Some-clause-tree t c = rw c.in_ok-new-in-Some.ensures.ok (bang_reads (map lexeme c.args.tokens.now) (map lexeme c.in-Some.after.now) _ _ c.in-Some.ensures.found c.in_ok-operand-in-Some.ensures.tree)
 
 pub negated-returns-in-None-clause-tree : goal.negated-returns-in-None-clause-tree
-negated-returns-in-None-clause-tree t c = reads_as IsPlain IsNegated (ends 1) (ends 1) _ (map lexeme c.args.tokens.now) (map lexeme c.args.tokens.now) c.plain.result (plain_is_negated (map lexeme c.args.tokens.now) c.in-None.ensures.none) (no_plain_negated (map lexeme c.args.tokens.now) c.in-None.ensures.none) c.plain.ensures.tree
+negated-returns-in-None-clause-tree t c = reads_as IsSimpleTest IsNegated (ends 1) (ends 1) _ (map lexeme c.args.tokens.now) (map lexeme c.args.tokens.now) c.simple_test.result (plain_is_negated (map lexeme c.args.tokens.now) c.in-None.ensures.none) (no_plain_negated (map lexeme c.args.tokens.now) c.in-None.ensures.none) c.simple_test.ensures.tree
 
-pub plain-returns-in-Some-clause-tree : goal.plain-returns-in-Some-clause-tree
-plain-returns-in-Some-clause-tree t c = reads_as (IsTestCall c.in-Some.keyword) IsPlain Always (ends 1) _ (map lexeme c.in-Some.rest.now) (map lexeme c.args.tokens.now) c.test_call.result (asked_reads (map lexeme c.args.tokens.now) (map lexeme c.in-Some.rest.now) c.in-Some.keyword c.in-Some.ensures.operator) (asked_none (map lexeme c.args.tokens.now) (map lexeme c.in-Some.rest.now) c.in-Some.keyword c.in-Some.ensures.operator) c.test_call.ensures.tree
+pub simple_test-returns-in-Some-clause-tree : goal.simple_test-returns-in-Some-clause-tree
+simple_test-returns-in-Some-clause-tree t c = reads_as (IsTestCall c.in-Some.keyword) IsSimpleTest Always (ends 1) _ (map lexeme c.in-Some.rest.now) (map lexeme c.args.tokens.now) c.test_call.result (asked_reads (map lexeme c.args.tokens.now) (map lexeme c.in-Some.rest.now) c.in-Some.keyword c.in-Some.ensures.operator) (asked_none (map lexeme c.args.tokens.now) (map lexeme c.in-Some.rest.now) c.in-Some.keyword c.in-Some.ensures.operator) c.test_call.ensures.tree
 
-pub plain-returns-in-Some-group_at-clause-tree : goal.plain-returns-in-Some-group_at-clause-tree
-plain-returns-in-Some-group_at-clause-tree t c = reads_as (IsBefore Close IsTest) IsPlain Always (ends 1) _ (map lexeme c.in-Some-group_at.rest.now) (map lexeme c.args.tokens.now) c.test_before.result (group_reads (map lexeme c.args.tokens.now) (map lexeme c.in-Some-group_at.rest.now) c.in-Some-group_at.ensures.found c.in-Some-group_at.ensures.holds) (group_none (map lexeme c.args.tokens.now) (map lexeme c.in-Some-group_at.rest.now) c.in-Some-group_at.ensures.found c.in-Some-group_at.ensures.holds) c.test_before.ensures.tree
+pub simple_test-returns-in-Some-group_at-clause-tree : goal.simple_test-returns-in-Some-group_at-clause-tree
+simple_test-returns-in-Some-group_at-clause-tree t c = reads_as (IsBefore Close IsTest) IsSimpleTest Always (ends 1) _ (map lexeme c.in-Some-group_at.rest.now) (map lexeme c.args.tokens.now) c.test_before.result (group_reads (map lexeme c.args.tokens.now) (map lexeme c.in-Some-group_at.rest.now) c.in-Some-group_at.ensures.found c.in-Some-group_at.ensures.holds) (group_none (map lexeme c.args.tokens.now) (map lexeme c.in-Some-group_at.rest.now) c.in-Some-group_at.ensures.found c.in-Some-group_at.ensures.holds) c.test_before.ensures.tree
 
-pub plain-returns-clause-tree : goal.plain-returns-clause-tree
-plain-returns-clause-tree t c = reads_as IsCompared IsPlain (ends 1) (ends 1) _ (map lexeme c.args.tokens.now) (map lexeme c.args.tokens.now) c.comparison.result (compare_reads (map lexeme c.args.tokens.now) c.in_default.ensures.operator c.in_default-group_at.ensures.none) (compare_none (map lexeme c.args.tokens.now) c.in_default.ensures.operator c.in_default-group_at.ensures.none) c.comparison.ensures.tree
+pub simple_test-returns-clause-tree : goal.simple_test-returns-clause-tree
+simple_test-returns-clause-tree t c = reads_as IsCompared IsSimpleTest (ends 1) (ends 1) _ (map lexeme c.args.tokens.now) (map lexeme c.args.tokens.now) c.comparison.result (compare_reads (map lexeme c.args.tokens.now) c.in_default.ensures.operator c.in_default-group_at.ensures.none) (compare_none (map lexeme c.args.tokens.now) c.in_default.ensures.operator c.in_default-group_at.ensures.none) c.comparison.ensures.tree
 
 pub test_before-returns-in-Some-clause-tree : goal.test_before-returns-in-Some-clause-tree
 test_before-returns-in-Some-clause-tree t c = before_reads IsTest (test_ends 1) c.args.mark (λ us. c.requires.ends) (map lexeme c.args.tokens.now) (map lexeme c.in_ok-read.rest.now) (map lexeme c.in-Some.rest.now) _ c.in_ok-read.ensures.tree c.in-Some.ensures.found

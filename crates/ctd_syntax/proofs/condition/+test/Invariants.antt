@@ -20,8 +20,8 @@ decreases-both l = 8 * length l.tokens.now + 4
 abbrev pub decreases-negated : goal.decreases-negated
 decreases-negated l = 8 * length l.tokens.now + 3
 
-abbrev pub decreases-plain : goal.decreases-plain
-decreases-plain l = 8 * length l.tokens.now + 2
+abbrev pub decreases-simple_test : goal.decreases-simple_test
+decreases-simple_test l = 8 * length l.tokens.now + 2
 
 abbrev pub invariant-test-loop-after : goal.invariant-test-loop-after
 invariant-test-loop-after l = record {

@@ -4,15 +4,18 @@ use Rattle.ctd_syntax.specs.Grammar.{IsExpr}
 use Rattle.ctd_syntax.specs.Tests.{IsTestCall}
 use Rattle.ctd_token.specs.declared.token.Mark.TheVariants.{Close, Comma}
 use Rattle.ctd_syntax.specs.declared.keyword.Keyword.TheVariants.{InArray}
-use Rattle.ctd_syntax.proofs.Fronts.{refused_exit}
-use Rattle.ctd_syntax.proofs.Conditions.{in_array_reads, in_array_no_expr, in_array_no_name}
+use Rattle.ctd_syntax.proofs.Fronts.{refused_exit, no_tree_exit}
+use Rattle.ctd_syntax.proofs.Conditions.{in_array_reads, in_array_no_expr, in_array_no_name, not_in_array}
 use Rattle.ctd_syntax.proofs.condition.in_array.Goals as goal
 
+pub returns-in_err-after-clause-tree : goal.returns-in_err-after-clause-tree
+returns-in_err-after-clause-tree c = no_tree_exit (IsTestCall InArray) Always _ (map lexeme c.args.tokens.now) _ c.from_residual.result c.from_residual.ensures.1 (not_in_array (map lexeme c.args.tokens.now) c.in_err-after.ensures.none)
+
 pub returns-in_err-operand-clause-tree : goal.returns-in_err-operand-clause-tree
-returns-in_err-operand-clause-tree c = refused_exit (IsBefore Comma IsExpr) (IsTestCall InArray) Always Always _ (map lexeme c.in-Some.after.now) (map lexeme c.args.tokens.now) _ c.from_residual.result c.from_residual.ensures.1 (in_array_no_expr (map lexeme c.args.tokens.now) (map lexeme c.in-Some.after.now) c.in-Some.ensures.found) c.in_err-operand.ensures.tree
+returns-in_err-operand-clause-tree c = refused_exit (IsBefore Comma IsExpr) (IsTestCall InArray) Always Always _ (map lexeme c.in_ok-after.after.now) (map lexeme c.args.tokens.now) _ c.from_residual-in_err-operand.result c.from_residual-in_err-operand.ensures.1 (in_array_no_expr (map lexeme c.args.tokens.now) (map lexeme c.in_ok-after.after.now) c.in_ok-after.ensures.found) c.in_err-operand.ensures.tree
 
 pub returns-in_err-name-clause-tree : goal.returns-in_err-name-clause-tree
-returns-in_err-name-clause-tree c = refused_exit (IsBefore Close IsName) (IsTestCall InArray) Always Always _ (map lexeme c.in_ok-operand.rest.now) (map lexeme c.args.tokens.now) _ c.from_residual-in_err-name.result c.from_residual-in_err-name.ensures.1 (in_array_no_name (map lexeme c.args.tokens.now) (map lexeme c.in-Some.after.now) (map lexeme c.in_ok-operand.rest.now) _ c.in-Some.ensures.found c.in_ok-operand.ensures.tree) c.in_err-name.ensures.tree
+returns-in_err-name-clause-tree c = refused_exit (IsBefore Close IsName) (IsTestCall InArray) Always Always _ (map lexeme c.in_ok-operand.rest.now) (map lexeme c.args.tokens.now) _ c.from_residual-in_err-name.result c.from_residual-in_err-name.ensures.1 (in_array_no_name (map lexeme c.args.tokens.now) (map lexeme c.in_ok-after.after.now) (map lexeme c.in_ok-operand.rest.now) _ c.in_ok-after.ensures.found c.in_ok-operand.ensures.tree) c.in_err-name.ensures.tree
 
 pub returns-clause-tree : goal.returns-clause-tree
-returns-clause-tree c = in_array_reads (map lexeme c.args.tokens.now) (map lexeme c.in-Some.after.now) (map lexeme c.in_ok-operand.rest.now) (map lexeme c.in_ok-name.rest.now) _ _ c.in-Some.ensures.found c.in_ok-operand.ensures.tree c.in_ok-name.ensures.tree
+returns-clause-tree c = in_array_reads (map lexeme c.args.tokens.now) (map lexeme c.in_ok-after.after.now) (map lexeme c.in_ok-operand.rest.now) (map lexeme c.in_ok-name.rest.now) _ _ c.in_ok-after.ensures.found c.in_ok-operand.ensures.tree c.in_ok-name.ensures.tree
