@@ -14,7 +14,7 @@ use Rattle.ctd_value.specs.declared.value.Value.{Value}
 use Rattle.ctd_value.specs.declared.value.Value.TheVariants as values
 use Rattle.ctd_value.specs.Order.{values_cmp, same_values}
 use Rattle.ctd_value.specs.OrderLaws.{values_total, exact_lists}
-use Rattle.ctd_value.specs.Store.{Array, index_lists, place, laid}
+use Rattle.ctd_value.specs.Store.{Array, index_lists, slot, laid}
 use Rattle.ctd_value.proofs.Firsts.{HasEachOnce}
 use Rattle.ctd_value.proofs.Maps.{seen}
 
@@ -22,9 +22,9 @@ number : List Value → ℕ
 number (values.Int (pos n) ∷ is) = n
 number is = 0
 
-pub places_apart : (m n : ℕ) → place m ≡ place n → m ≡ n
+pub slots_apart : (m n : ℕ) → slot m ≡ slot n → m ≡ n
 unfolding number
-places_apart m n e = ap number e
+slots_apart m n e = ap number e
 
 differs : (q k : List Value) → q ≢ k → eq_by_cmp values_cmp q k ≡ false
 differs q k apart = elim (values_cmp q k) as (λ o. values_cmp q k ≡ o → is_eq o ≡ false) [
@@ -38,38 +38,38 @@ tied k = ap is_eq (tied_itself values_total k)
 
 is_sorted-laid : (n : ℕ) (xs : List Value) (es : Array) → T (is_sorted values_cmp es) → T (is_sorted values_cmp (laid n xs es))
 is_sorted-laid n [] es sorted = sorted
-is_sorted-laid n (x ∷ xs) es sorted = is_sorted-put values_cmp values_total (place n) x (laid (suc n) xs es) (is_sorted-laid (suc n) xs es sorted)
+is_sorted-laid n (x ∷ xs) es sorted = is_sorted-put values_cmp values_total (slot n) x (laid (suc n) xs es) (is_sorted-laid (suc n) xs es sorted)
 
--- what is found at a place of the dense part
-pub found_dense : (n at : ℕ) (xs : List Value) (w : Value) (es : Array) → at < length xs → w ≡ get_or xs at w → find values_cmp (place (n + at)) (laid n xs es) ≡ Some w
+-- what is found at a slot of the dense part
+pub found_dense : (n at : ℕ) (xs : List Value) (w : Value) (es : Array) → at < length xs → w ≡ get_or xs at w → find values_cmp (slot (n + at)) (laid n xs es) ≡ Some w
 found_dense n at [] w es in_range is = absurd (omega (arith, in_range))
 found_dense n zero (x ∷ xs) w es in_range is =
-    ap (λ m. find values_cmp (place m) (put values_cmp (place n) x (laid (suc n) xs es))) (omega arith)
-    ∙ find-put values_cmp values_total (place n) (place n) x (laid (suc n) xs es)
-    ∙ ap (λ b. cond b (Some x) (find values_cmp (place n) (laid (suc n) xs es))) (tied (place n))
+    ap (λ m. find values_cmp (slot m) (put values_cmp (slot n) x (laid (suc n) xs es))) (omega arith)
+    ∙ find-put values_cmp values_total (slot n) (slot n) x (laid (suc n) xs es)
+    ∙ ap (λ b. cond b (Some x) (find values_cmp (slot n) (laid (suc n) xs es))) (tied (slot n))
     ∙ ap Some (sym is)
 found_dense n (suc at) (x ∷ xs) w es in_range is =
-    find-put values_cmp values_total (place (n + suc at)) (place n) x (laid (suc n) xs es)
-    ∙ ap (λ b. cond b (Some x) (find values_cmp (place (n + suc at)) (laid (suc n) xs es))) (differs (place (n + suc at)) (place n) (λ e. let same = places_apart _ _ e in omega (arith, same)))
-    ∙ ap (λ m. find values_cmp (place m) (laid (suc n) xs es)) (omega arith)
+    find-put values_cmp values_total (slot (n + suc at)) (slot n) x (laid (suc n) xs es)
+    ∙ ap (λ b. cond b (Some x) (find values_cmp (slot (n + suc at)) (laid (suc n) xs es))) (differs (slot (n + suc at)) (slot n) (λ e. let same = slots_apart _ _ e in omega (arith, same)))
+    ∙ ap (λ m. find values_cmp (slot m) (laid (suc n) xs es)) (omega arith)
     ∙ found_dense (suc n) at xs w es (omega (arith, in_range)) is
 
--- no place of so many from n on
+-- no slot of so many from n on
 abbrev pub Elsewhere : List Value → ℕ → ℕ → Type 0
-Elsewhere q n count = (m : ℕ) → m < count → q ≢ place (n + m)
+Elsewhere q n count = (m : ℕ) → m < count → q ≢ slot (n + m)
 
 next : (q : List Value) (n count : ℕ) → Elsewhere q n (suc count) → Elsewhere q (suc n) count
-next q n count away m below e = away (suc m) (omega (arith, below)) (e ∙ ap place (omega arith))
+next q n count away m below e = away (suc m) (omega (arith, below)) (e ∙ ap slot (omega arith))
 
-first : (q : List Value) (n count : ℕ) → Elsewhere q n (suc count) → q ≢ place n
-first q n count away e = away 0 (omega arith) (e ∙ ap place (omega arith))
+first : (q : List Value) (n count : ℕ) → Elsewhere q n (suc count) → q ≢ slot n
+first q n count away e = away 0 (omega arith) (e ∙ ap slot (omega arith))
 
 -- and elsewhere
 pub found_elsewhere : (q : List Value) (n : ℕ) (xs : List Value) (es : Array) → Elsewhere q n (length xs) → find values_cmp q (laid n xs es) ≡ find values_cmp q es
 found_elsewhere q n [] es away = refl
 found_elsewhere q n (x ∷ xs) es away =
-    find-put values_cmp values_total q (place n) x (laid (suc n) xs es)
-    ∙ ap (λ b. cond b (Some x) (find values_cmp q (laid (suc n) xs es))) (differs q (place n) (first q n (length xs) away))
+    find-put values_cmp values_total q (slot n) x (laid (suc n) xs es)
+    ∙ ap (λ b. cond b (Some x) (find values_cmp q (laid (suc n) xs es))) (differs q (slot n) (first q n (length xs) away))
     ∙ found_elsewhere q (suc n) xs es (next q n (length xs) away)
 
 swapped : {X : Type 0} (a b : Bool) (v w : X) (r : Option X) → (a ≡ true → b ≡ true → ⊥) → cond a (Some v) (cond b (Some w) r) ≡ cond b (Some w) (cond a (Some v) r)
@@ -109,22 +109,22 @@ put_again k v w es sorted =
 
 -- a value written into the dense part or at its end
 pub written : (n at : ℕ) (xs : List Value) (v : Value) (es : Array) → T (is_sorted values_cmp es) → at ≤ length xs
-    → laid n (take at xs ++ v ∷ drop (suc at) xs) es ≡ put values_cmp (place (n + at)) v (laid n xs es)
-written n zero [] v es sorted in_range = ap (λ m. put values_cmp (place m) v es) (omega arith)
+    → laid n (take at xs ++ v ∷ drop (suc at) xs) es ≡ put values_cmp (slot (n + at)) v (laid n xs es)
+written n zero [] v es sorted in_range = ap (λ m. put values_cmp (slot m) v es) (omega arith)
 written n zero (x ∷ xs) v es sorted in_range =
-    sym (ap (λ m. put values_cmp (place m) v (put values_cmp (place n) x (laid (suc n) xs es))) (omega arith)
-    ∙ put_again (place n) v x (laid (suc n) xs es) (is_sorted-laid (suc n) xs es sorted))
+    sym (ap (λ m. put values_cmp (slot m) v (put values_cmp (slot n) x (laid (suc n) xs es))) (omega arith)
+    ∙ put_again (slot n) v x (laid (suc n) xs es) (is_sorted-laid (suc n) xs es sorted))
 written n (suc at) [] v es sorted in_range = absurd (omega (arith, in_range))
 written n (suc at) (x ∷ xs) v es sorted in_range =
-    ap (put values_cmp (place n) x) (written (suc n) at xs v es sorted (omega (arith, in_range)) ∙ ap (λ m. put values_cmp (place m) v (laid (suc n) xs es)) (omega arith))
-    ∙ put_other (place n) (place (n + suc at)) x v (laid (suc n) xs es) (is_sorted-laid (suc n) xs es sorted) (λ e. let same = places_apart _ _ e in omega (arith, same))
+    ap (put values_cmp (slot n) x) (written (suc n) at xs v es sorted (omega (arith, in_range)) ∙ ap (λ m. put values_cmp (slot m) v (laid (suc n) xs es)) (omega arith))
+    ∙ put_other (slot n) (slot (n + suc at)) x v (laid (suc n) xs es) (is_sorted-laid (suc n) xs es sorted) (λ e. let same = slots_apart _ _ e in omega (arith, same))
 
 -- a value written elsewhere
 pub written_elsewhere : (k : List Value) (n : ℕ) (xs : List Value) (v : Value) (es : Array) → T (is_sorted values_cmp es) → Elsewhere k n (length xs) → laid n xs (put values_cmp k v es) ≡ put values_cmp k v (laid n xs es)
 written_elsewhere k n [] v es sorted away = refl
 written_elsewhere k n (x ∷ xs) v es sorted away =
-    ap (put values_cmp (place n) x) (written_elsewhere k (suc n) xs v es sorted (next k n (length xs) away))
-    ∙ put_other (place n) k x v (laid (suc n) xs es) (is_sorted-laid (suc n) xs es sorted) (λ e. first k n (length xs) away (sym e))
+    ap (put values_cmp (slot n) x) (written_elsewhere k (suc n) xs v es sorted (next k n (length xs) away))
+    ∙ put_other (slot n) k x v (laid (suc n) xs es) (is_sorted-laid (suc n) xs es sorted) (λ e. first k n (length xs) away (sym e))
 
 both : (a b : Bool) → a ≡ true → T b → T (a && b)
 both true b p q = q
@@ -144,21 +144,21 @@ sorted_seen part (e ∷ es) h = both _ _ (to_true _ (below_seen part e.0 es h.0)
     to_true false t = absurd t
 
 -- the same from 0 on
-pub found_at : (q : List Value) (at : ℕ) (xs : List Value) (w : Value) (es : Array) → q ≡ place at → at < length xs → w ≡ get_or xs at w → find values_cmp q (laid 0 xs es) ≡ Some w
-found_at q at xs w es here in_range is = ap (λ r. find values_cmp r (laid 0 xs es)) (here ∙ ap place (omega arith)) ∙ found_dense 0 at xs w es in_range is
+pub found_at : (q : List Value) (at : ℕ) (xs : List Value) (w : Value) (es : Array) → q ≡ slot at → at < length xs → w ≡ get_or xs at w → find values_cmp q (laid 0 xs es) ≡ Some w
+found_at q at xs w es here in_range is = ap (λ r. find values_cmp r (laid 0 xs es)) (here ∙ ap slot (omega arith)) ∙ found_dense 0 at xs w es in_range is
 
 abbrev pub Outside : List Value → ℕ → Type 0
-Outside q count = (m : ℕ) → m < count → q ≢ place m
+Outside q count = (m : ℕ) → m < count → q ≢ slot m
 
 from_zero : (q : List Value) (count : ℕ) → Outside q count → Elsewhere q 0 count
-from_zero q count out m below e = out m below (e ∙ ap place (omega arith))
+from_zero q count out m below e = out m below (e ∙ ap slot (omega arith))
 
 pub found_outside : (q : List Value) (xs : List Value) (es : Array) → Outside q (length xs) → find values_cmp q (laid 0 xs es) ≡ find values_cmp q es
 found_outside q xs es out = found_elsewhere q 0 xs es (from_zero q (length xs) out)
 
-pub written_at : (q : List Value) (at : ℕ) (xs : List Value) (v : Value) (es : Array) → T (is_sorted values_cmp es) → q ≡ place at → at ≤ length xs
+pub written_at : (q : List Value) (at : ℕ) (xs : List Value) (v : Value) (es : Array) → T (is_sorted values_cmp es) → q ≡ slot at → at ≤ length xs
     → laid 0 (take at xs ++ v ∷ drop (suc at) xs) es ≡ put values_cmp q v (laid 0 xs es)
-written_at q at xs v es sorted here in_range = written 0 at xs v es sorted in_range ∙ ap (λ r. put values_cmp r v (laid 0 xs es)) (sym (here ∙ ap place (omega arith)))
+written_at q at xs v es sorted here in_range = written 0 at xs v es sorted in_range ∙ ap (λ r. put values_cmp r v (laid 0 xs es)) (sym (here ∙ ap slot (omega arith)))
 
 pub written_outside : (k : List Value) (xs : List Value) (v : Value) (es : Array) → T (is_sorted values_cmp es) → Outside k (length xs) → laid 0 xs (put values_cmp k v es) ≡ put values_cmp k v (laid 0 xs es)
 written_outside k xs v es sorted out = written_elsewhere k 0 xs v es sorted (from_zero k (length xs) out)

@@ -10,9 +10,9 @@ use Rattle.ctd_value.specs.declared.value.Value.{Value}
 use Rattle.ctd_value.specs.Order.{values_cmp}
 use Rattle.ctd_value.specs.OrderLaws.{values_total}
 use Rattle.ctd_value.specs.Showing.{not_among}
-use Rattle.ctd_value.specs.Store.{Array, place, laid, order_of_place, has_indices}
+use Rattle.ctd_value.specs.Store.{Array, slot, laid, order_of_slot, has_indices}
 
-pub rising : (m n : ℕ) → m < n → values_cmp (place m) (place n) ≡ Less
+pub rising : (m n : ℕ) → m < n → values_cmp (slot m) (slot n) ≡ Less
 rising m n below = grind arith
 
 abbrev HeadAfter : List Value → Array → Type 0
@@ -27,38 +27,38 @@ head_put k j v (e ∷ es) less h = elim (values_cmp j e.0) as (λ o. HeadAfter k
   | Greater ↦ h
 ]
 
-head_laid : (m n : ℕ) (xs : List Value) (es : Array) → m < n → HeadAfter (place m) es → HeadAfter (place m) (laid n xs es)
+head_laid : (m n : ℕ) (xs : List Value) (es : Array) → m < n → HeadAfter (slot m) es → HeadAfter (slot m) (laid n xs es)
 head_laid m n [] es below h = h
-head_laid m n (x ∷ xs) es below h = head_put (place m) (place n) x (laid (suc n) xs es) (rising m n below) (head_laid m (suc n) xs es (omega (arith, below)) h)
+head_laid m n (x ∷ xs) es below h = head_put (slot m) (slot n) x (laid (suc n) xs es) (rising m n below) (head_laid m (suc n) xs es (omega (arith, below)) h)
 
 put_first : (k : List Value) (v : Value) (es : Array) → HeadAfter k es → put values_cmp k v es ≡ (k, v) ∷ es
 put_first k v [] h = refl
 put_first k v (e ∷ es) h = ap (λ o. by_order o ((k, v) ∷ e ∷ es) ((e.0, v) ∷ es) (e ∷ put values_cmp k v es)) h
 
--- a place before the first entry
-pub laid_before : (n : ℕ) (x : Value) (xs : List Value) (es : Array) → HeadAfter (place n) es → laid n (x ∷ xs) es ≡ (place n, x) ∷ laid (suc n) xs es
-laid_before n x xs es h = put_first (place n) x (laid (suc n) xs es) (head_laid n (suc n) xs es (omega arith) h)
+-- a slot before the first entry
+pub laid_before : (n : ℕ) (x : Value) (xs : List Value) (es : Array) → HeadAfter (slot n) es → laid n (x ∷ xs) es ≡ (slot n, x) ∷ laid (suc n) xs es
+laid_before n x xs es h = put_first (slot n) x (laid (suc n) xs es) (head_laid n (suc n) xs es (omega arith) h)
 
-greater_on : (m n : ℕ) (k : List Value) → m < n → values_cmp (place m) k ≡ Greater → values_cmp (place n) k ≡ Greater
+greater_on : (m n : ℕ) (k : List Value) → m < n → values_cmp (slot m) k ≡ Greater → values_cmp (slot n) k ≡ Greater
 greater_on m n k below h =
-    values_total.antisymm (place n) k
-    ∙ ap ordering_reverse (values_total.trans k (place m) (place n) (values_total.antisymm k (place m) ∙ ap ordering_reverse h) (rising m n below))
+    values_total.antisymm (slot n) k
+    ∙ ap ordering_reverse (values_total.trans k (slot m) (slot n) (values_total.antisymm k (slot m) ∙ ap ordering_reverse h) (rising m n below))
 
--- places after the first entry
-pub laid_after : (n : ℕ) (xs : List Value) (e : List Value × Value) (es : Array) → values_cmp (place n) e.0 ≡ Greater → laid n xs (e ∷ es) ≡ e ∷ laid n xs es
+-- slots after the first entry
+pub laid_after : (n : ℕ) (xs : List Value) (e : List Value × Value) (es : Array) → values_cmp (slot n) e.0 ≡ Greater → laid n xs (e ∷ es) ≡ e ∷ laid n xs es
 laid_after n [] e es h = refl
 laid_after n (x ∷ xs) e es h =
-    ap (put values_cmp (place n) x) (laid_after (suc n) xs e es (greater_on n (suc n) e.0 (omega arith) h))
-    ∙ ap (λ o. by_order o ((place n, x) ∷ e ∷ laid (suc n) xs es) ((e.0, x) ∷ laid (suc n) xs es) (e ∷ put values_cmp (place n) x (laid (suc n) xs es))) h
+    ap (put values_cmp (slot n) x) (laid_after (suc n) xs e es (greater_on n (suc n) e.0 (omega arith) h))
+    ∙ ap (λ o. by_order o ((slot n, x) ∷ e ∷ laid (suc n) xs es) ((e.0, x) ∷ laid (suc n) xs es) (e ∷ put values_cmp (slot n) x (laid (suc n) xs es))) h
 
--- a place that the first entry has too
-pub laid_same : (n : ℕ) (x : Value) (xs : List Value) (e : List Value × Value) (es : Array) → values_cmp (place n) e.0 ≡ Equal → laid n (x ∷ xs) (e ∷ es) ≡ (e.0, x) ∷ laid (suc n) xs es
+-- a slot that the first entry has too
+pub laid_same : (n : ℕ) (x : Value) (xs : List Value) (e : List Value × Value) (es : Array) → values_cmp (slot n) e.0 ≡ Equal → laid n (x ∷ xs) (e ∷ es) ≡ (e.0, x) ∷ laid (suc n) xs es
 laid_same n x xs e es h =
-    ap (put values_cmp (place n) x) (laid_after (suc n) xs e es (above h))
-    ∙ ap (λ o. by_order o ((place n, x) ∷ e ∷ laid (suc n) xs es) ((e.0, x) ∷ laid (suc n) xs es) (e ∷ put values_cmp (place n) x (laid (suc n) xs es))) h
+    ap (put values_cmp (slot n) x) (laid_after (suc n) xs e es (above h))
+    ∙ ap (λ o. by_order o ((slot n, x) ∷ e ∷ laid (suc n) xs es) ((e.0, x) ∷ laid (suc n) xs es) (e ∷ put values_cmp (slot n) x (laid (suc n) xs es))) h
   where
-    above : values_cmp (place n) e.0 ≡ Equal → values_cmp (place (suc n)) e.0 ≡ Greater
-    above tied = values_total.antisymm (place (suc n)) e.0 ∙ ap ordering_reverse (sym (values_total.congr (place n) e.0 (place (suc n)) tied) ∙ rising n (suc n) (omega arith))
+    above : values_cmp (slot n) e.0 ≡ Equal → values_cmp (slot (suc n)) e.0 ≡ Greater
+    above tied = values_total.antisymm (slot (suc n)) e.0 ∙ ap ordering_reverse (sym (values_total.congr (slot n) e.0 (slot (suc n)) tied) ∙ rising n (suc n) (omega arith))
 
 one_more : (hidden : Array) (e : List Value × Value) (es : Array) → not_among hidden (e ∷ es) ≡ not_among hidden (e ∷ []) ++ not_among hidden es
 one_more hidden e es = elim (not (has_indices hidden e.0)) as (λ b. cond b (e ∷ not_among hidden es) (not_among hidden es) ≡ cond b (e ∷ []) [] ++ not_among hidden es) [ true ↦ refl | false ↦ refl ]
@@ -72,9 +72,9 @@ added hidden sofar more now later total e before is new =
     ∙ ap (λ es. sofar ++ not_among hidden es) (sym is)
     ∙ before
 
--- the dense part from a place on
-pub from_place : (n : ℕ) (xs : List Value) (x : Value) (es : Array) → n < length xs → x ≡ get_or xs n x → laid n (drop n xs) es ≡ laid n (x ∷ drop (suc n) xs) es
-from_place n xs x es in_range is = ap (λ ys. laid n ys es) (drop-cons xs n x in_range ∙ ap (λ y. y ∷ drop (suc n) xs) (sym is))
+-- the dense part from a slot on
+pub from_slot : (n : ℕ) (xs : List Value) (x : Value) (es : Array) → n < length xs → x ≡ get_or xs n x → laid n (drop n xs) es ≡ laid n (x ∷ drop (suc n) xs) es
+from_slot n xs x es in_range is = ap (λ ys. laid n ys es) (drop-cons xs n x in_range ∙ ap (λ y. y ∷ drop (suc n) xs) (sym is))
 
 lower : (b : Bool) (o c : Ordering) → o ≡ (if b then c else Greater) → is_lt o ≡ true → (b ≡ true) × (c ≡ Less)
 lower true o Less e h = (refl, refl)
@@ -94,34 +94,34 @@ further true o Equal e l h is = cc
 further true o Greater e l h is = refl
 further false o c e l h is = cc
 
-pub merged_before : (n count : ℕ) (xs : List Value) (x : Value) (e : List Value × Value) (es : Array) (o : Ordering) → count ≡ length xs → o ≡ order_of_place n count e.0 → is_lt o ≡ true → x ≡ get_or xs n x
-    → laid n (drop n xs) (e ∷ es) ≡ (place n, x) ∷ laid (n + 1) (drop (n + 1) xs) (e ∷ es)
+pub merged_before : (n count : ℕ) (xs : List Value) (x : Value) (e : List Value × Value) (es : Array) (o : Ordering) → count ≡ length xs → o ≡ order_of_slot n count e.0 → is_lt o ≡ true → x ≡ get_or xs n x
+    → laid n (drop n xs) (e ∷ es) ≡ (slot n, x) ∷ laid (n + 1) (drop (n + 1) xs) (e ∷ es)
 merged_before n count xs x e es o size is less item =
-    let h = lower (nat_lt n count) o (values_cmp (place n) e.0) is less in
+    let h = lower (nat_lt n count) o (values_cmp (slot n) e.0) is less in
     let below : n < count = ltb-true n count h.0 in
-    from_place n xs x (e ∷ es) (omega (arith, below, size)) item
+    from_slot n xs x (e ∷ es) (omega (arith, below, size)) item
     ∙ laid_before n x (drop (suc n) xs) (e ∷ es) h.1
-    ∙ ap (λ m. (place n, x) ∷ laid m (drop m xs) (e ∷ es)) (sym (add-one n))
+    ∙ ap (λ m. (slot n, x) ∷ laid m (drop m xs) (e ∷ es)) (sym (add-one n))
 
-pub merged_same : (n count : ℕ) (xs : List Value) (x : Value) (e : List Value × Value) (es : Array) (o : Ordering) → count ≡ length xs → o ≡ order_of_place n count e.0 → is_eq o ≡ true → x ≡ get_or xs n x
+pub merged_same : (n count : ℕ) (xs : List Value) (x : Value) (e : List Value × Value) (es : Array) (o : Ordering) → count ≡ length xs → o ≡ order_of_slot n count e.0 → is_eq o ≡ true → x ≡ get_or xs n x
     → laid n (drop n xs) (e ∷ es) ≡ (e.0, x) ∷ laid (n + 1) (drop (n + 1) xs) es
 merged_same n count xs x e es o size is same item =
-    let h = alike (nat_lt n count) o (values_cmp (place n) e.0) is same in
+    let h = alike (nat_lt n count) o (values_cmp (slot n) e.0) is same in
     let below : n < count = ltb-true n count h.0 in
-    from_place n xs x (e ∷ es) (omega (arith, below, size)) item
+    from_slot n xs x (e ∷ es) (omega (arith, below, size)) item
     ∙ laid_same n x (drop (suc n) xs) e es h.1
     ∙ ap (λ m. (e.0, x) ∷ laid m (drop m xs) es) (sym (add-one n))
 
-pub merged_after : (n count : ℕ) (xs : List Value) (e : List Value × Value) (es : Array) (o : Ordering) → count ≡ length xs → o ≡ order_of_place n count e.0 → is_lt o ≡ false → is_eq o ≡ false
+pub merged_after : (n count : ℕ) (xs : List Value) (e : List Value × Value) (es : Array) (o : Ordering) → count ≡ length xs → o ≡ order_of_slot n count e.0 → is_lt o ≡ false → is_eq o ≡ false
     → laid n (drop n xs) (e ∷ es) ≡ e ∷ laid n (drop n xs) es
 merged_after n count xs e es o size is not_less not_same =
     elim (nat_lt n count) as (λ b. nat_lt n count ≡ b → laid n (drop n xs) (e ∷ es) ≡ e ∷ laid n (drop n xs) es) [
-      | true ↦ λ t. laid_after n (drop n xs) e es (further (nat_lt n count) o (values_cmp (place n) e.0) is not_less not_same t)
+      | true ↦ λ t. laid_after n (drop n xs) e es (further (nat_lt n count) o (values_cmp (slot n) e.0) is not_less not_same t)
       | false ↦ λ t.
           let over : count ≤ n = ltb-false n count t in
           let none : drop n xs ≡ [] = drop_of_length-le xs (omega (arith, over, size)) in
           ap (λ ys. laid n ys (e ∷ es)) none ∙ ap (λ ys. e ∷ laid n ys es) (sym none)
     ] refl
 
-pub merged_last : (n : ℕ) (xs : List Value) (x : Value) → n < length xs → x ≡ get_or xs n x → laid n (drop n xs) [] ≡ (place n, x) ∷ laid (n + 1) (drop (n + 1) xs) []
-merged_last n xs x below item = from_place n xs x [] below item ∙ laid_before n x (drop (suc n) xs) [] tt ∙ ap (λ m. (place n, x) ∷ laid m (drop m xs) []) (sym (add-one n))
+pub merged_last : (n : ℕ) (xs : List Value) (x : Value) → n < length xs → x ≡ get_or xs n x → laid n (drop n xs) [] ≡ (slot n, x) ∷ laid (n + 1) (drop (n + 1) xs) []
+merged_last n xs x below item = from_slot n xs x [] below item ∙ laid_before n x (drop (suc n) xs) [] tt ∙ ap (λ m. (slot n, x) ∷ laid m (drop m xs) []) (sym (add-one n))

@@ -17,7 +17,7 @@ pub record Key : Type 0 where
   pub name : List ℕ
   pub indices : List Value
 
--- keys by their names and then by their indices, place by place
+-- keys by their names and then by their indices, index by index
 abbrev pub key_cmp : Key → Key → Ordering
 key_cmp a b = ordering_then (bytes_cmp a.name b.name) (values_cmp a.indices b.indices)
 
@@ -26,17 +26,17 @@ abbrev pub Array : Type 0
 Array = List (List Value × Value)
 
 -- the index list that is one number
-abbrev pub place : ℕ → List Value
-place n = values.Int (pos n) ∷ []
+abbrev pub slot : ℕ → List Value
+slot n = values.Int (pos n) ∷ []
 
 -- an array, with values at the numbers from n on laid over it
 abbrev pub laid : ℕ → List Value → Array → Array
 laid n [] array = array
-laid n (x ∷ xs) array = put values_cmp (place n) x (laid (suc n) xs array)
+laid n (x ∷ xs) array = put values_cmp (slot n) x (laid (suc n) xs array)
 
 -- how the index list of a number stands to an index list, where there are so many; any further is after each
-abbrev pub order_of_place : ℕ → ℕ → List Value → Ordering
-order_of_place n count indices = if nat_lt n count then values_cmp (place n) indices else Greater
+abbrev pub order_of_slot : ℕ → ℕ → List Value → Ordering
+order_of_slot n count indices = if nat_lt n count then values_cmp (slot n) indices else Greater
 
 -- names with their arrays, in the order of the names; where one came twice, its first array would count
 abbrev pub Variables : Type 0

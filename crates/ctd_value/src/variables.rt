@@ -6,7 +6,7 @@ ghost use Rattle.std.specs.Option.{option_copied, unwrap_or, IfSome, IfNone};
 ghost use Rattle.std.specs.FinMap.{find, put};
 ghost use Rattle.ctd_value.specs.Order.{bytes_cmp, values_cmp, same_bytes, same_values};
 ghost use Rattle.ctd_value.specs.Showing.{entry, indices_of, not_among};
-ghost use Rattle.ctd_value.specs.Store.{array_of, with_value, has_indices, index_lists, place, order_of_place};
+ghost use Rattle.ctd_value.specs.Store.{array_of, with_value, has_indices, index_lists, slot, order_of_slot};
 
 use crate::store::{EntryRef, Indices};
 use crate::value::Value;
@@ -161,7 +161,7 @@ impl Array {
     pub(crate) fn get(&self, indices: &[Value]) -> Option<&Value>
         ensures value { option_copied result ≡ find values_cmp indices.now self.now }
     {
-        match place_below(self.dense.len(), indices) {
+        match slot_below(self.dense.len(), indices) {
             Some(at) => Some(&self.dense[at]),
             None => self.rest.get(indices),
         }
@@ -172,7 +172,7 @@ impl Array {
         ensures ok { OnOk result (self.new ≡ put values_cmp indices.items value self.old) }
         ensures err { OnErr result (self.new ≡ self.old) }
     {
-        match place_below(self.dense.len() + 1, &indices) {
+        match slot_below(self.dense.len() + 1, &indices) {
             Some(at) => {
                 drop(indices);
                 write(&mut self.dense, at, value)
@@ -196,11 +196,11 @@ impl Array {
         let mut next = 0;
         for (indices, value) in &self.rest {
             let indices = indices.as_slice();
-            while order_of_place(next, self.dense.len(), indices).is_lt() {
-                entries = with_entry(hidden, at_place(next), &self.dense[next], entries)?;
+            while order_of_slot(next, self.dense.len(), indices).is_lt() {
+                entries = with_entry(hidden, slot_indices(next), &self.dense[next], entries)?;
                 next += 1;
             }
-            if order_of_place(next, self.dense.len(), indices).is_eq() {
+            if order_of_slot(next, self.dense.len(), indices).is_eq() {
                 entries = with_entry(hidden, Indices::Listed(indices), &self.dense[next], entries)?;
                 next += 1;
             } else {
@@ -208,14 +208,14 @@ impl Array {
             }
         }
         while next < self.dense.len() {
-            entries = with_entry(hidden, at_place(next), &self.dense[next], entries)?;
+            entries = with_entry(hidden, slot_indices(next), &self.dense[next], entries)?;
             next += 1;
         }
         Ok(entries)
     }
 }
 
-/// Gives a place of a list a value, where one past its end is a place too; after an error all is as it was.
+/// Gives a slot of a list a value, where one past its end is a slot too; after an error all is as it was.
 fn write(values: &mut Vec<Value>, at: usize, value: Value) -> Result<(), AllocError>
     requires { at ≤ length values.old.items }
     ensures ok { OnOk result (values.new.items ≡ take at values.old.items ++ value ∷ drop (suc at) values.old.items) }
@@ -230,9 +230,9 @@ fn write(values: &mut Vec<Value>, at: usize, value: Value) -> Result<(), AllocEr
 }
 
 /// The number that an index list is, where it is one below the bound.
-fn place_below(bound: usize, indices: &[Value]) -> Option<usize>
-    ensures found { IfSome result (λ n. (n < bound) × (indices.now ≡ place n)) }
-    ensures none { IfNone result ((n : ℕ) → n < bound → indices.now ≢ place n) }
+fn slot_below(bound: usize, indices: &[Value]) -> Option<usize>
+    ensures found { IfSome result (λ n. (n < bound) × (indices.now ≡ slot n)) }
+    ensures none { IfNone result ((n : ℕ) → n < bound → indices.now ≢ slot n) }
 {
     match indices {
         [Value::Int(n)] => match usize::try_from(*n) {
@@ -243,16 +243,16 @@ fn place_below(bound: usize, indices: &[Value]) -> Option<usize>
     }
 }
 
-/// The index list of a place of the dense part.
-fn at_place<'s>(number: usize) -> Indices<'s>
-    ensures value { indices_of result ≡ place number }
+/// The index list of a slot of the dense part.
+fn slot_indices<'s>(number: usize) -> Indices<'s>
+    ensures value { indices_of result ≡ slot number }
 {
     Indices::One([Value::Int(number as i128)])
 }
 
-/// How the index list of a place stands to an index list; past the last place it is after each.
-fn order_of_place(number: usize, count: usize, indices: &[Value]) -> Ordering
-    ensures value { result ≡ order_of_place number count indices.now }
+/// How the index list of a slot stands to an index list; past the last slot it is after each.
+fn order_of_slot(number: usize, count: usize, indices: &[Value]) -> Ordering
+    ensures value { result ≡ order_of_slot number count indices.now }
 {
     if number < count {
         [Value::Int(number as i128)].as_slice().cmp(indices)
