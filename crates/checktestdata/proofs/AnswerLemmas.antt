@@ -12,24 +12,24 @@ use Rattle.checktestdata.specs.declared.setup.UsageFault.TheVariants as usage
 use Rattle.checktestdata.specs.Files.{Visit, IsFilesReport}
 use Rattle.checktestdata.specs.declared.report.ToolFault.{ToolFault}
 use Rattle.checktestdata.specs.declared.report.ToolFault.TheVariants.{Memory, Write}
-use Rattle.checktestdata.specs.Answer.{Ends, IsAnswer}
+use Rattle.checktestdata.specs.Answer.{EndsWithReport, IsAnswer}
 use Rattle.checktestdata.specs.Report.{Report, IsToolReport}
 use Rattle.checktestdata.specs.Written.{Change, LeavesOneOf}
 
 -- what ends in one of some reports ends in one of more
-pub Ends-weaker : {O E : Type 0} {S : sinks.Ghosts O} {T : sinks.Ghosts E} (out : Change S) (err : Change T) (IsReport IsMore : Report → Type 0) (status : ℕ)
-    → ((report : Report) → IsReport report → IsMore report) → Ends out err IsReport status → Ends out err IsMore status
-Ends-weaker out err IsReport IsMore status more h = (h.0, more h.0 h.1, h.2)
+pub EndsWithReport-weaker : {O E : Type 0} {S : sinks.Ghosts O} {T : sinks.Ghosts E} (out : Change S) (err : Change T) (IsReport IsMore : Report → Type 0) (status : ℕ)
+    → ((report : Report) → IsReport report → IsMore report) → EndsWithReport out err IsReport status → EndsWithReport out err IsMore status
+EndsWithReport-weaker out err IsReport IsMore status more h = (h.0, more h.0 h.1, h.2)
 
 -- what leaves one of some reports, with its status, ends so
-pub LeavesOneOf-Ends : {O E : Type 0} {S : sinks.Ghosts O} {T : sinks.Ghosts E} (out : Change S) (err : Change T) (IsReport : Report → Type 0) (status : ℕ)
-    → LeavesOneOf out err IsReport (Ok status) → Ends out err IsReport status
-LeavesOneOf-Ends out err IsReport status h = (h.0, h.1, inl h.2)
+pub LeavesOneOf-EndsWithReport : {O E : Type 0} {S : sinks.Ghosts O} {T : sinks.Ghosts E} (out : Change S) (err : Change T) (IsReport : Report → Type 0) (status : ℕ)
+    → LeavesOneOf out err IsReport (Ok status) → EndsWithReport out err IsReport status
+LeavesOneOf-EndsWithReport out err IsReport status h = (h.0, h.1, inl h.2)
 
 -- where a stream failed, the status is 2
-pub BreaksOff-Ends : {O E : Type 0} {S : sinks.Ghosts O} {T : sinks.Ghosts E} (out : Change S) (err : Change T) (IsReport : Report → Type 0)
-    → LeavesOneOf out err IsReport (Err Write) → Ends out err IsReport 2
-BreaksOff-Ends out err IsReport h = (h.0, h.1, inr (h.2, refl))
+pub BreaksOff-EndsWithReport : {O E : Type 0} {S : sinks.Ghosts O} {T : sinks.Ghosts E} (out : Change S) (err : Change T) (IsReport : Report → Type 0)
+    → LeavesOneOf out err IsReport (Err Write) → EndsWithReport out err IsReport 2
+BreaksOff-EndsWithReport out err IsReport h = (h.0, h.1, inr (h.2, refl))
 
 -- what a command line is answered of files is a report of files
 IsFilesReport-IsToolReport : {F R : Type 0} (remaining : R → Option (List ℕ)) (G : Ghosts (FromRead (BufReader R Global))) (s : Setup) (v : Visit F R) (sources : Option (Sources R)) (report : Report)

@@ -12,12 +12,12 @@ use Rattle.checktestdata.specs.declared.setup.UsageFault.TheVariants.{Memory}
 use Rattle.checktestdata.specs.Files.{Visit, IsFilesReport}
 use Rattle.checktestdata.specs.Report.{Report, usage_report}
 use Rattle.checktestdata.specs.Settings.{IsSetup}
-use Rattle.checktestdata.specs.Usage.{IsFault}
+use Rattle.checktestdata.specs.Usage.{IsUsageFault}
 use Rattle.checktestdata.specs.Written.{Change, WritesAll, BreaksOff}
 
 -- one of these reports was written whole, and the status is its own; or a stream failed in it, and the status is 2
-abbrev pub Ends : {O E : Type 0} {S : sinks.Ghosts O} {T : sinks.Ghosts E} → Change S → Change T → (Report → Type 0) → ℕ → Type 0
-Ends out err IsReport status =
+abbrev pub EndsWithReport : {O E : Type 0} {S : sinks.Ghosts O} {T : sinks.Ghosts E} → Change S → Change T → (Report → Type 0) → ℕ → Type 0
+EndsWithReport out err IsReport status =
     (report : Report) × IsReport report × (WritesAll out err report status ⊎ (BreaksOff out err report × (status ≡ 2)))
 
 -- the words ask for settings, and the report is that of the files
@@ -26,7 +26,7 @@ AnswersSetup remaining G words v sources report = (s : Setup) × IsSetup words s
 
 -- the words have this fault, no file was asked for, and the report is that of the fault
 abbrev pub AnswersFault : {F R : Type 0} → List (List ℕ) → Visit F R → Report → Type 0
-AnswersFault words v report = (fault : UsageFault) × IsFault words fault × (v.new ≡ v.old) × (report ≡ usage_report fault)
+AnswersFault words v report = (fault : UsageFault) × IsUsageFault words fault × (v.new ≡ v.old) × (report ≡ usage_report fault)
 
 -- the report on the files that the words name; or that of the words, and no file was asked for; or that no memory was left
 abbrev pub IsAnswer : {F R : Type 0} → (R → Option (List ℕ)) → Ghosts (FromRead (BufReader R Global)) → List (List ℕ) → Visit F R → Option (Sources R) → Report → Type 0

@@ -63,12 +63,12 @@ IsBadSteps None = ⊥
 IsBadSteps (Some text) = ¬ (IsStepNumber text)
 
 -- the words have this fault; memory may run out whatever the words
-abbrev pub IsFault : List Text → UsageFault → Type 0
-IsFault words fault.Words = ¬ (All IsUtf8 words) ⊎ (All IsUtf8 words × IsRefusedAs words fault.Words)
-IsFault words fault.BadSteps = IsTaken words × (flag_in words (codes "generate") ≡ false) × IsGoodPreset (value_in words (codes "define"))
+abbrev pub IsUsageFault : List Text → UsageFault → Type 0
+IsUsageFault words fault.Words = ¬ (All IsUtf8 words) ⊎ (All IsUtf8 words × IsRefusedAs words fault.Words)
+IsUsageFault words fault.BadSteps = IsTaken words × (flag_in words (codes "generate") ≡ false) × IsGoodPreset (value_in words (codes "define"))
     × IsBadSteps (value_in words (codes "max-steps"))
-IsFault words fault.BadPreset = IsTaken words × (flag_in words (codes "generate") ≡ false) × IsBadPreset (value_in words (codes "define"))
-IsFault words fault.Generate = IsTaken words × (flag_in words (codes "generate") ≡ true)
-IsFault words fault.Help = All IsUtf8 words × IsRefusedAs words fault.Help
-IsFault words fault.Version = All IsUtf8 words × IsRefusedAs words fault.Version
-IsFault words fault.Memory = Unit {0}
+IsUsageFault words fault.BadPreset = IsTaken words × (flag_in words (codes "generate") ≡ false) × IsBadPreset (value_in words (codes "define"))
+IsUsageFault words fault.Generate = IsTaken words × (flag_in words (codes "generate") ≡ true)
+IsUsageFault words fault.Help = All IsUtf8 words × IsRefusedAs words fault.Help
+IsUsageFault words fault.Version = All IsUtf8 words × IsRefusedAs words fault.Version
+IsUsageFault words fault.Memory = Unit {0}

@@ -1,7 +1,7 @@
 //! The files, the words and the streams of the process.
 
 ghost use Rattle.std.specs.Prelude.{◌≡◌, false};
-ghost use Rattle.checktestdata.specs.Answer.{Ends};
+ghost use Rattle.checktestdata.specs.Answer.{EndsWithReport};
 ghost use Rattle.checktestdata.specs.Report.{IsToolReport};
 ghost use Rattle.checktestdata.specs.Written.{change};
 
@@ -81,7 +81,7 @@ impl Files for HostFiles<'_> {
 pub(crate) fn answer(rt: &HostRuntime, out: &mut ToWrite<Stdout>, err: &mut ToWrite<Stderr>) -> u8
     requires out_works { ⟦<ToWrite<Stdout> as Sink>⟧.has_failed out.old ≡ false }
     requires err_works { ⟦<ToWrite<Stderr> as Sink>⟧.has_failed err.old ≡ false }
-    ensures { Ends (change ⟦<ToWrite<Stdout> as Sink>⟧ out.old out.new)
+    ensures { EndsWithReport (change ⟦<ToWrite<Stdout> as Sink>⟧ out.old out.new)
         (change ⟦<ToWrite<Stderr> as Sink>⟧ err.old err.new)
         IsToolReport result }
 {

@@ -1,7 +1,7 @@
 //! From a command line to its report and status.
 
 ghost use Rattle.std.specs.Prelude.{◌≡◌, false};
-ghost use Rattle.checktestdata.specs.Answer.{Ends, IsAnswer};
+ghost use Rattle.checktestdata.specs.Answer.{EndsWithReport, IsAnswer};
 ghost use Rattle.checktestdata.specs.Files.{visit};
 ghost use Rattle.checktestdata.specs.Report.{usage_report};
 ghost use Rattle.checktestdata.specs.Written.{change};
@@ -26,7 +26,7 @@ pub struct Ended<R: Read> {
 pub fn usage_status<O: Sink, E: Sink>(fault: &UsageFault, out: &mut O, err: &mut E) -> u8
     requires out_works { O.has_failed out.old ≡ false }
     requires err_works { E.has_failed err.old ≡ false }
-    ensures { Ends (change O.Sink out.old out.new) (change E.Sink err.old err.new)
+    ensures { EndsWithReport (change O.Sink out.old out.new) (change E.Sink err.old err.new)
         (λ report. report ≡ usage_report fault.now) result }
 {
     match report_usage(fault, out, err) {
@@ -45,7 +45,7 @@ pub fn run_words<F: Files, O: Sink, E: Sink>(
 ) -> Ended<F::File>
     requires out_works { O.has_failed out.old ≡ false }
     requires err_works { E.has_failed err.old ≡ false }
-    ensures { Ends (change O.Sink out.old out.new) (change E.Sink err.old err.new)
+    ensures { EndsWithReport (change O.Sink out.old out.new) (change E.Sink err.old err.new)
         (IsAnswer F.File.remaining ⟦<FromRead<BufReader<F::File>> as Source>⟧ words.now
         (visit F.opens F.takes_input files.old files.new) result.sources) result.status }
 {

@@ -5,7 +5,7 @@ ghost use Rattle.std.specs.Option.{SomeIff};
 ghost use Rattle.std.specs.Str.Parse.{digits_value};
 ghost use Rattle.clap.specs.Words.{first_of, found_of, kind_of, rows_of};
 ghost use Rattle.checktestdata.specs.Settings.{ArePresetsOf, IsSetup, IsStepLimitOf, file_of, mode_by};
-ghost use Rattle.checktestdata.specs.Usage.{IsBadPreset, IsBadSteps, IsFault, IsStepNumber, fault_by_kind, is_on};
+ghost use Rattle.checktestdata.specs.Usage.{IsBadPreset, IsBadSteps, IsUsageFault, IsStepNumber, fault_by_kind, is_on};
 
 use crate::command_line::matches_in;
 use crate::setup::{Setup, UsageFault};
@@ -146,7 +146,7 @@ fn file_named(alloc: Global, name: Option<&str>) -> Result<Option<Bytes>, AllocE
 /// help or the version (Words, Help, Version); `-g` (Generate); BadPreset; BadSteps. Memory may come at any of them.
 pub fn settings(alloc: Global, words: &[Bytes]) -> Result<Setup, UsageFault>
     ensures setup { IfOk result (IsSetup words.now) }
-    ensures fault { IfErr result (IsFault words.now) }
+    ensures fault { IfErr result (IsUsageFault words.now) }
 {
     let texts = texts_of(alloc, words)?;
     let matches = match matches_in(alloc, texts.as_slice()) {
