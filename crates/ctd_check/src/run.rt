@@ -34,14 +34,14 @@ fn begin<'p, D: Source>(
     ensures kept { matchers.new ≡ matchers.old }
 {
     let spot = run.cursor.spot();
-    let site = Site::At(command.place);
-    agenda.pay(spot, site)?;
+    let command_site = Site::At(command.place);
+    agenda.pay(spot, command_site)?;
     match run.start(command, matchers) {
         Ok(frame) => {
             agenda.leave(frame);
             Ok(())
         }
-        Err(failure) => Err(failure.halt(spot, site)),
+        Err(failure) => Err(failure.halt(spot, command_site)),
     }
 }
 
