@@ -272,7 +272,7 @@ fn test_call<'t>(
 }
 
 /// The test at the front, and what follows it. It may be known how many parentheses there hold a test.
-#[cycle(test)]
+#[cycle(condition)]
 pub(crate) fn test<'t>(
     alloc: Global,
     groups: Option<usize>,
@@ -293,7 +293,7 @@ pub(crate) fn test<'t>(
     Ok((left, rest))
 }
 
-#[cycle(test)]
+#[cycle(condition)]
 fn both<'t>(
     alloc: Global,
     groups: Option<usize>,
@@ -314,7 +314,7 @@ fn both<'t>(
     Ok((left, rest))
 }
 
-#[cycle(test)]
+#[cycle(condition)]
 fn negated<'t>(
     alloc: Global,
     groups: Option<usize>,
@@ -333,7 +333,7 @@ fn negated<'t>(
     }
 }
 
-#[cycle(test)]
+#[cycle(condition)]
 fn simple_test<'t>(
     alloc: Global,
     groups: Option<usize>,
@@ -354,7 +354,7 @@ fn simple_test<'t>(
 
 /// The test at the front and a mark behind it, and what follows the mark. It may be known how many parentheses there
 /// hold a test.
-#[cycle(test)]
+#[cycle(condition)]
 pub(crate) fn test_before<'t>(
     alloc: Global,
     mark: Mark,

@@ -9,7 +9,7 @@ use Rattle.ctd_syntax.proofs.Fronts.{reads_as, refused_exit, before_reads}
 use Rattle.ctd_syntax.proofs.Chains.{start, no_start, finish, next, no_next}
 use Rattle.ctd_syntax.proofs.TestLevels.{ors, ands, or_at, and_at, no_or, no_and}
 use Rattle.ctd_syntax.proofs.Conditions.{bang_reads, bang_none, plain_is_negated, no_plain_negated, asked_reads, asked_none, group_reads, group_none, compare_reads, compare_none}
-use Rattle.ctd_syntax.proofs.condition.+test.Goals as goal
+use Rattle.ctd_syntax.proofs.condition.+condition.Goals as goal
 
 pub test-returns-in_err-left-clause-tree : goal.test-returns-in_err-left-clause-tree
 test-returns-in_err-left-clause-tree t c = refused_exit IsBoth IsTest (test_ends 2) (test_ends 1) _ (map lexeme c.args.tokens.now) (map lexeme c.args.tokens.now) _ c.from_residual.result c.from_residual.ensures.1 (no_start ors (map lexeme c.args.tokens.now)) c.in_err-left.ensures.tree

@@ -6,7 +6,7 @@ use Rattle.ctd_syntax.specs.Front.{lexeme}
 use Rattle.ctd_syntax.specs.Tests.{test_ends}
 use Rattle.ctd_syntax.proofs.Chains.{Partly}
 use Rattle.ctd_syntax.proofs.TestLevels.{or_operator, and_operator, either, together}
-use Rattle.ctd_syntax.proofs.condition.+test.Given as goal
+use Rattle.ctd_syntax.proofs.condition.+condition.Given as goal
 
 abbrev pub decreases-test_before : goal.decreases-test_before
 decreases-test_before l = 8 * length l.tokens.now + 6
