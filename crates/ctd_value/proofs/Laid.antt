@@ -26,7 +26,7 @@ pub slots_apart : (m n : ℕ) → slot m ≡ slot n → m ≡ n
 unfolding number
 slots_apart m n e = ap number e
 
-differs : (q k : List Value) → q ≢ k → eq_by_cmp values_cmp q k ≡ false
+pub differs : (q k : List Value) → q ≢ k → eq_by_cmp values_cmp q k ≡ false
 differs q k apart = elim (values_cmp q k) as (λ o. values_cmp q k ≡ o → is_eq o ≡ false) [
   | Less ↦ λ _. refl
   | Equal ↦ λ e. absurd (apart (exact_lists q k e))
@@ -36,7 +36,7 @@ differs q k apart = elim (values_cmp q k) as (λ o. values_cmp q k ≡ o → is_
 tied : (k : List Value) → eq_by_cmp values_cmp k k ≡ true
 tied k = ap is_eq (tied_itself values_total k)
 
-is_sorted-laid : (n : ℕ) (xs : List Value) (es : Array) → T (is_sorted values_cmp es) → T (is_sorted values_cmp (laid n xs es))
+pub is_sorted-laid : (n : ℕ) (xs : List Value) (es : Array) → T (is_sorted values_cmp es) → T (is_sorted values_cmp (laid n xs es))
 is_sorted-laid n [] es sorted = sorted
 is_sorted-laid n (x ∷ xs) es sorted = is_sorted-put values_cmp values_total (slot n) x (laid (suc n) xs es) (is_sorted-laid (suc n) xs es sorted)
 
@@ -88,7 +88,7 @@ same_as q k = elim (values_cmp q k) as (λ o. values_cmp q k ≡ o → is_eq o �
   | Greater ↦ λ _ never. cc
 ] refl
 
-put_other : (k j : List Value) (v w : Value) (es : Array) → T (is_sorted values_cmp es) → k ≢ j → put values_cmp k v (put values_cmp j w es) ≡ put values_cmp j w (put values_cmp k v es)
+pub put_other : (k j : List Value) (v w : Value) (es : Array) → T (is_sorted values_cmp es) → k ≢ j → put values_cmp k v (put values_cmp j w es) ≡ put values_cmp j w (put values_cmp k v es)
 put_other k j v w es sorted apart =
     same_entries values_cmp values_total exact_lists _ _
     (is_sorted-put values_cmp values_total k v _ (is_sorted-put values_cmp values_total j w es sorted))
@@ -98,7 +98,7 @@ put_other k j v w es sorted apart =
     ∙ swapped (eq_by_cmp values_cmp q k) (eq_by_cmp values_cmp q j) v w (find values_cmp q es) (λ a b. apart (sym (same_as q k a) ∙ same_as q j b))
     ∙ sym (find-put values_cmp values_total q j w (put values_cmp k v es) ∙ ap (cond (eq_by_cmp values_cmp q j) (Some w)) (find-put values_cmp values_total q k v es)))
 
-put_again : (k : List Value) (v w : Value) (es : Array) → T (is_sorted values_cmp es) → put values_cmp k v (put values_cmp k w es) ≡ put values_cmp k v es
+pub put_again : (k : List Value) (v w : Value) (es : Array) → T (is_sorted values_cmp es) → put values_cmp k v (put values_cmp k w es) ≡ put values_cmp k v es
 put_again k v w es sorted =
     same_entries values_cmp values_total exact_lists _ _
     (is_sorted-put values_cmp values_total k v _ (is_sorted-put values_cmp values_total k w es sorted))
@@ -163,11 +163,11 @@ written_at q at xs v es sorted here in_range = written 0 at xs v es sorted in_ra
 pub written_outside : (k : List Value) (xs : List Value) (v : Value) (es : Array) → T (is_sorted values_cmp es) → Outside k (length xs) → laid 0 xs (put values_cmp k v es) ≡ put values_cmp k v (laid 0 xs es)
 written_outside k xs v es sorted out = written_elsewhere k 0 xs v es sorted (from_zero k (length xs) out)
 
-left_of : (a b : Bool) → T (a && b) → T a
+pub left_of : (a b : Bool) → T (a && b) → T a
 left_of true b h = tt
 left_of false b h = h
 
-right_of : (a b : Bool) → T (a && b) → T b
+pub right_of : (a b : Bool) → T (a && b) → T b
 right_of true b h = h
 right_of false b h = absurd h
 
@@ -180,7 +180,7 @@ below_apart : (k : List Value) (es : Array) → T (below_all values_cmp k es) �
 below_apart k [] h = tt
 below_apart k (e ∷ es) h = (less_apart (values_cmp k e.0) (left_of _ _ h), below_apart k es (right_of _ _ h))
 
-sorted_each_once : (es : Array) → T (is_sorted values_cmp es) → HasEachOnce es
+pub sorted_each_once : (es : Array) → T (is_sorted values_cmp es) → HasEachOnce es
 unfolding IsDistinct
 sorted_each_once [] h = tt
 sorted_each_once (e ∷ es) h = IsDistinct-cons same_values e.0 (index_lists es) (below_apart e.0 es (left_of _ _ h)) (sorted_each_once es (right_of _ _ h))

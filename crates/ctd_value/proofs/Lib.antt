@@ -1,3 +1,4 @@
+pub mod Alone
 pub mod Distinct
 pub mod Firsts
 pub mod Giving

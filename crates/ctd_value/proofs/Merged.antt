@@ -31,7 +31,7 @@ head_laid : (m n : ℕ) (xs : List Value) (es : Array) → m < n → HeadAfter (
 head_laid m n [] es below h = h
 head_laid m n (x ∷ xs) es below h = head_put (slot m) (slot n) x (laid (suc n) xs es) (rising m n below) (head_laid m (suc n) xs es (omega (arith, below)) h)
 
-put_first : (k : List Value) (v : Value) (es : Array) → HeadAfter k es → put values_cmp k v es ≡ (k, v) ∷ es
+pub put_first : (k : List Value) (v : Value) (es : Array) → HeadAfter k es → put values_cmp k v es ≡ (k, v) ∷ es
 put_first k v [] h = refl
 put_first k v (e ∷ es) h = ap (λ o. by_order o ((k, v) ∷ e ∷ es) ((e.0, v) ∷ es) (e ∷ put values_cmp k v es)) h
 

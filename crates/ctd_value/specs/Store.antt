@@ -1,7 +1,7 @@
 -- What has been assigned and pinned, and what a variable stands for.
-use Rattle.std.specs.Prelude.{ℕ, suc, pos, nat_lt, Bool, not, List, [], ◌∷◌, ◌++◌, filter, fold, map, is_some, Option, if◌then◌else◌}
+use Rattle.std.specs.Prelude.{ℕ, suc, pos, nat_lt, Bool, not, ◌&&◌, List, [], ◌∷◌, ◌++◌, filter, fold, map, is_some, Option, Some, None, if◌then◌else◌}
 use Rattle.std.specs.Option.{option_or, unwrap_or}
-use Rattle.std.specs.FinMap.{find, put}
+use Rattle.std.specs.FinMap.{find, put, is_sorted}
 use Rattle.std.specs.declared.cmp.Ordering.{Ordering}
 use Rattle.std.specs.declared.cmp.Ordering.TheVariants.{Greater}
 use Rattle.std.specs.Ordering.{ordering_then}
@@ -33,6 +33,15 @@ slot n = values.Int (pos n) ∷ []
 abbrev pub laid : ℕ → List Value → Array → Array
 laid n [] array = array
 laid n (x ∷ xs) array = put values_cmp (slot n) x (laid (suc n) xs array)
+
+-- an array, with the value without indices laid over it, if there is one
+abbrev pub with_alone : Option Value → Array → Array
+with_alone None array = array
+with_alone (Some x) array = put values_cmp [] x array
+
+-- whether an array is in order and has no value without indices
+abbrev pub is_indexed : Array → Bool
+is_indexed array = is_sorted values_cmp array && not (is_some (find values_cmp [] array))
 
 -- how the index list of a number stands to an index list, where there are so many; any further is after each
 abbrev pub order_of_slot : ℕ → ℕ → List Value → Ordering

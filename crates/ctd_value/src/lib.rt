@@ -5,6 +5,7 @@ mod arithmetic;
 mod condition;
 mod expression;
 mod fault;
+mod indexed;
 mod laws;
 mod lent;
 mod order;

@@ -1,17 +1,17 @@
 //! Names with their arrays, in the order of the names, and arrays: index lists with their values, in their order.
 
-ghost use Rattle.std.specs.Prelude.{◌≡◌, ◌≢◌, ℕ, suc, ◌<◌, ◌≤◌, length, take, drop, [], ◌∷◌, ◌++◌, map, filter, not, IfOk, OnOk, OnErr};
+ghost use Rattle.std.specs.Prelude.{◌≡◌, [], ◌∷◌, ◌++◌, map, filter, not, Some, IfOk, OnOk, OnErr};
 ghost use Rattle.std.specs.List.{IsDistinct};
-ghost use Rattle.std.specs.Option.{option_copied, unwrap_or, IfSome, IfNone};
+ghost use Rattle.std.specs.Option.{option_copied, unwrap_or};
 ghost use Rattle.std.specs.FinMap.{find, put};
 ghost use Rattle.ctd_value.specs.Order.{bytes_cmp, values_cmp, same_bytes, same_values};
 ghost use Rattle.ctd_value.specs.Showing.{entry, indices_of, not_among};
-ghost use Rattle.ctd_value.specs.Store.{array_of, with_value, has_indices, index_lists, slot, order_of_slot};
+ghost use Rattle.ctd_value.specs.Store.{array_of, with_value, has_indices, index_lists};
 
+use crate::indexed::Indexed;
 use crate::store::{EntryRef, Indices};
 use crate::value::Value;
 use std::alloc::{AllocError, Global};
-use std::cmp::Ordering;
 use std::collections::BTreeMap;
 use std::marker::Model;
 use std::mem::replace;
@@ -118,22 +118,21 @@ impl Variables {
 /// Index lists with their values, each index list once, which contracts see as the list of them in order.
 #[derive(Debug, Drop)]
 pub(crate) struct Array {
-    // At 0 the value of the index list 0, and so on; what stands here hides what `rest` has there.
-    dense: Vec<Value>,
-    rest: BTreeMap<Vec<Value>, Value>,
+    // The value without indices, which is asked for most.
+    alone: Option<Value>,
+    // The values at one index or more.
+    indexed: Indexed,
 }
 
 impl Model for Array {
-    ghost use Rattle.std.specs.Prelude.{T, map};
-    ghost use Rattle.std.specs.FinMap.{is_sorted};
-    ghost use Rattle.ctd_value.specs.Order.{values_cmp};
-    ghost use Rattle.ctd_value.specs.Store.{Array, laid};
+    ghost use Rattle.std.specs.Prelude.{T};
+    ghost use Rattle.ctd_value.specs.Store.{Array, with_alone, is_indexed};
 
     ghost Value = { Array };
 
-    ghost view = { λ a. laid 0 a.dense.items (map (λ e. (e.0.items, e.1)) a.rest.entries) };
+    ghost view = { λ a. with_alone a.alone a.indexed };
 
-    ghost invariant = { λ a. T (is_sorted values_cmp (map (λ e. (e.0.items, e.1)) a.rest.entries)) };
+    ghost invariant = { λ a. T (is_indexed a.indexed) };
 }
 
 impl Array {
@@ -152,8 +151,8 @@ impl Array {
         ensures empty { result ≡ [] }
     {
         Array {
-            dense: Vec::new(alloc),
-            rest: BTreeMap::new(alloc),
+            alone: None,
+            indexed: Indexed::new(alloc),
         }
     }
 
@@ -161,9 +160,10 @@ impl Array {
     pub(crate) fn get(&self, indices: &[Value]) -> Option<&Value>
         ensures value { option_copied result ≡ find values_cmp indices.now self.now }
     {
-        match slot_below(self.dense.len(), indices) {
-            Some(at) => Some(&self.dense[at]),
-            None => self.rest.get(indices),
+        if indices.is_empty() {
+            self.alone.as_ref()
+        } else {
+            self.indexed.get(indices)
         }
     }
 
@@ -172,97 +172,41 @@ impl Array {
         ensures ok { OnOk result (self.new ≡ put values_cmp indices.items value self.old) }
         ensures err { OnErr result (self.new ≡ self.old) }
     {
-        match slot_below(self.dense.len() + 1, &indices) {
-            Some(at) => {
-                drop(indices);
-                write(&mut self.dense, at, value)
-            }
-            None => {
-                self.rest.insert(indices, value)?;
-                Ok(())
-            }
+        if indices.as_slice().is_empty() {
+            set_alone(&mut self.alone, value);
+            return Ok(());
         }
+        self.indexed.insert(indices, value)
     }
 
     /// Adds the entries to others, but for those at whose index lists the hidden array, if there is one, has a value.
     pub(crate) fn add_entries<'s>(
         &'s self,
         hidden: Option<&Array>,
-        mut entries: Vec<EntryRef<'s>>,
+        entries: Vec<EntryRef<'s>>,
     ) -> Result<Vec<EntryRef<'s>>, AllocError>
         ensures added { IfOk result (λ list. map entry list.items ≡ map entry entries.entry.items ++ not_among (unwrap_or (option_copied hidden.entry) []) self.now) }
         ensures once { IfOk result (λ _. IsDistinct same_values (index_lists self.now)) }
     {
-        let mut next = 0;
-        for (indices, value) in &self.rest {
-            let indices = indices.as_slice();
-            while order_of_slot(next, self.dense.len(), indices).is_lt() {
-                entries = with_entry(hidden, slot_indices(next), &self.dense[next], entries)?;
-                next += 1;
+        match &self.alone {
+            Some(value) => {
+                let more = with_entry(hidden, Indices::Listed(&[]), value, entries)?;
+                self.indexed.add_entries(hidden, more)
             }
-            if order_of_slot(next, self.dense.len(), indices).is_eq() {
-                entries = with_entry(hidden, Indices::Listed(indices), &self.dense[next], entries)?;
-                next += 1;
-            } else {
-                entries = with_entry(hidden, Indices::Listed(indices), value, entries)?;
-            }
+            None => self.indexed.add_entries(hidden, entries),
         }
-        while next < self.dense.len() {
-            entries = with_entry(hidden, slot_indices(next), &self.dense[next], entries)?;
-            next += 1;
-        }
-        Ok(entries)
     }
 }
 
-/// Gives a slot of a list a value, where one past its end is a slot too; after an error all is as it was.
-fn write(values: &mut Vec<Value>, at: usize, value: Value) -> Result<(), AllocError>
-    requires { at ≤ length values.old.items }
-    ensures ok { OnOk result (values.new.items ≡ take at values.old.items ++ value ∷ drop (suc at) values.old.items) }
-    ensures err { OnErr result (values.new.items ≡ values.old.items) }
+/// Puts a value in the place of another or of none.
+fn set_alone(alone: &mut Option<Value>, value: Value)
+    ensures { alone.new ≡ Some value }
 {
-    if at < values.len() {
-        drop(replace(&mut values[at], value));
-    } else {
-        values.push(value)?;
-    }
-    Ok(())
-}
-
-/// The number that an index list is, where it is one below the bound.
-fn slot_below(bound: usize, indices: &[Value]) -> Option<usize>
-    ensures found { IfSome result (λ n. (n < bound) × (indices.now ≡ slot n)) }
-    ensures none { IfNone result ((n : ℕ) → n < bound → indices.now ≢ slot n) }
-{
-    match indices {
-        [Value::Int(n)] => match usize::try_from(*n) {
-            Ok(at) if at < bound => Some(at),
-            _ => None,
-        },
-        _ => None,
-    }
-}
-
-/// The index list of a slot of the dense part.
-fn slot_indices<'s>(number: usize) -> Indices<'s>
-    ensures value { indices_of result ≡ slot number }
-{
-    Indices::One([Value::Int(number as i128)])
-}
-
-/// How the index list of a slot stands to an index list; past the last slot it is after each.
-fn order_of_slot(number: usize, count: usize, indices: &[Value]) -> Ordering
-    ensures value { result ≡ order_of_slot number count indices.now }
-{
-    if number < count {
-        [Value::Int(number as i128)].as_slice().cmp(indices)
-    } else {
-        Ordering::Greater
-    }
+    drop(replace(alone, Some(value)));
 }
 
 /// The entries, with one more where the hidden array, if there is one, has no value at its index list.
-fn with_entry<'s>(
+pub(crate) fn with_entry<'s>(
     hidden: Option<&Array>,
     indices: Indices<'s>,
     value: &'s Value,

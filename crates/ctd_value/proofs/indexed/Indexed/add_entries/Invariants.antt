@@ -3,7 +3,7 @@ use Rattle.std.specs.Option.{option_copied, unwrap_or}
 use Rattle.ctd_value.specs.Showing.{entry, not_among}
 use Rattle.ctd_value.specs.Store.{laid}
 use Rattle.ctd_value.proofs.Maps.{seen}
-use Rattle.ctd_value.proofs.variables.Array.add_entries.Given as goal
+use Rattle.ctd_value.proofs.indexed.Indexed.add_entries.Given as goal
 
 abbrev pub invariant-loop-indices : goal.invariant-loop-indices
 invariant-loop-indices l = map entry l.entries.items ++ not_among (unwrap_or (option_copied l.hidden) []) (laid l.next (drop l.next l.self-inside.dense.items) (seen (λ k. k.items) l.indices-iterator)) ≡ map entry l.fn.entries.items ++ not_among (unwrap_or (option_copied l.hidden) []) l.self
