@@ -1,0 +1,4 @@
+use Rattle.ctd_tool.proofs.report.write_load_fault.Goals as goal
+
+pub returns-clause-written : goal.returns-clause-written
+returns-clause-written g c = rw (c.as_bytes.ensures.value, c.in_ok-line.ensures) at c.write_report.ensures.written

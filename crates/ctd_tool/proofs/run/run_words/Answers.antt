@@ -1,0 +1,25 @@
+use Rattle.std.proofs.Common.{◌≡◌, Err, inl, inr, rules}
+use Rattle.ctd_tool.proofs.AnswerLemmas.{EndsWithReport-weaker, LeavesOneOf-EndsWithReport, BreaksOff-EndsWithReport, Memory-untouched}
+use Rattle.ctd_tool.specs.Written.{change}
+use Rattle.ctd_tool.specs.declared.report.ToolFault.TheVariants.{Memory, Write}
+use Rattle.ctd_tool.proofs.run.run_words.Goals as goal
+use Rattle.ctd_tool.proofs.run.run_words.Goals.{in-Ok-answer, in-Err-Memory, in-Err-Write}
+
+pub returns : goal.returns
+returns g c =
+    let setup_is = c.in-Ok.ensures.setup in
+    let written = c.check_files-answer.ensures.written in
+    elim c.match-answer.branch [
+      | in-Ok-answer w ↦ rw (w.out-is, w.err-is, w.status-is)
+          (EndsWithReport-weaker _ _ _ _ _ (λ report files. inl (c.in-Ok.setup, setup_is, files)) (LeavesOneOf-EndsWithReport _ _ _ _ (rw w.in-Ok-answer.is at written)))
+      | in-Err-Memory w ↦ rw (w.out-is, w.err-is, w.status-is)
+          (let fault_is : c.check_files-answer.result.answer ≡ Err Memory = search rules in
+          let untouched = Memory-untouched
+          (change g.O.Sink c.args.out.now c.check_files-answer.new.out)
+          (change g.E.Sink c.args.err.now c.check_files-answer.new.err)
+          _ _ fault_is written in
+          EndsWithReport-weaker _ _ _ _ _ (λ report is. inr (inr is)) (rw (untouched.0, untouched.1) at w.usage_status-status.ensures))
+      | in-Err-Write w ↦ rw (w.out-is, w.err-is, w.status-is)
+          (let fault_is : c.check_files-answer.result.answer ≡ Err Write = search rules in
+          EndsWithReport-weaker _ _ _ _ _ (λ report files. inl (c.in-Ok.setup, setup_is, files)) (BreaksOff-EndsWithReport _ _ _ (rw fault_is at written)))
+    ]

@@ -1,0 +1,43 @@
+-- What the tool reports, by the meaning of the program on the whole data.
+use Rattle.std.specs.Prelude.{◌≡◌, ◌⊎◌, ℕ, List}
+use Rattle.ctd_source.specs.declared.source.Source.{Ghosts}
+use Rattle.ctd_source.specs.TestData.{TestData}
+use Rattle.ctd_source.specs.Agreement.{Agrees}
+use Rattle.ctd_source.specs.CursorState.{Gave}
+use Rattle.ctd_token.specs.declared.fault.LoadFault.{LoadFault}
+use Rattle.ctd_syntax.specs.Tree.{CommandList}
+use Rattle.ctd_check.specs.Loading.{Loads, MayFail}
+use Rattle.ctd_check.specs.Run.{meaning}
+use Rattle.ctd_tool.specs.declared.setup.Setup.{Setup}
+use Rattle.ctd_tool.specs.Report.{Report, check_report, load_report}
+
+-- a source as a call begins and as it ends
+pub record Call {S : Type 0} (G : Ghosts S) : Type 0 where
+  pub old : S
+  pub new : S
+
+abbrev pub call : {S : Type 0} (G : Ghosts S) → S → S → Call G
+call G old new = record { old = old; new = new }
+
+-- the program's source gave the text of this program; the report is that of its meaning on all data under the limit that agree with the bytes that the data's source gave and with what was seen of its end
+pub record ReportsMeaning {P D : Type 0} {G : Ghosts P} {H : Ghosts D} (s : Setup) (program : Call G) (testdata : Call H) (report : Report) : Type 0 where
+  pub tree : CommandList
+  pub text : List ℕ
+  pub gave_text : Gave G program.old program.new text
+  pub loads : Loads text (G.seen program.new) tree
+  pub bytes : List ℕ
+  pub gave : Gave H testdata.old testdata.new bytes
+  pub means : (d : TestData) → d.limit ≡ s.limits.bytes → Agrees bytes (H.seen testdata.new) d → report ≡ check_report s.quiet (meaning s.mode tree s.presets d s.limits.steps).outcome
+
+-- the program's source gave a text that may fail so, and the data are not touched
+pub record ReportsFault {P D : Type 0} {G : Ghosts P} {H : Ghosts D} (program : Call G) (testdata : Call H) (report : Report) : Type 0 where
+  pub fault : LoadFault
+  pub text : List ℕ
+  pub gave_text : Gave G program.old program.new text
+  pub fails : MayFail text (G.seen program.new) fault
+  pub untouched : testdata.new ≡ testdata.old
+  pub report_is : report ≡ load_report fault
+
+-- what the tool reports of what two sources gave
+abbrev pub IsReport : {P D : Type 0} {G : Ghosts P} {H : Ghosts D} → Setup → Call G → Call H → Report → Type 0
+IsReport s program testdata report = ReportsMeaning s program testdata report ⊎ ReportsFault program testdata report

@@ -1,0 +1,53 @@
+//! A program and data, read and checked, and the report of it.
+
+ghost use Rattle.std.specs.Prelude.{◌≡◌, ◌≤◌, ◌^◌, false};
+ghost use Rattle.ctd_source.specs.declared.source.Seen.TheVariants.{Going};
+ghost use Rattle.ctd_tool.specs.Headline.{IsReport, call};
+ghost use Rattle.ctd_tool.specs.Written.{LeavesOneOf, change};
+
+use crate::report::{ToolFault, write_load_fault, write_outcome};
+use crate::setup::Setup;
+use crate::sink::Sink;
+use ctd_check::{LoadKind, Plan, Source, check};
+use std::alloc::Global;
+
+/// Reads the program, checks the data against it, writes the report and answers the status: the report of the program's
+/// meaning on the whole data, or of a fault of the program; then the data are not touched.
+///
+/// `Write` is returned where a stream failed, which then holds a part of its text from the start, and the other stream nothing.
+/// `Memory` is returned where memory ran out: nothing was written.
+pub fn run_tool<P: Source, D: Source, O: Sink, E: Sink>(
+    alloc: Global,
+    setup: &Setup,
+    program: &mut P,
+    testdata: &mut D,
+    out: &mut O,
+    err: &mut E,
+) -> Result<u8, ToolFault>
+    requires program_going { P.seen program.old ≡ Going }
+    requires testdata_going { D.seen testdata.old ≡ Going }
+    requires bytes { setup.now.limits.bytes ≤ 2 ^ 62 }
+    requires out_works { O.has_failed out.old ≡ false }
+    requires err_works { E.has_failed err.old ≡ false }
+    ensures written { LeavesOneOf (change O.Sink out.old out.new) (change E.Sink err.old err.new)
+        (IsReport setup.now (call P.Source program.old program.new) (call D.Source testdata.old testdata.new)) result }
+{
+    let plan = match Plan::load(alloc, program) {
+        Ok(plan) => plan,
+        Err(fault) => match fault.kind {
+            LoadKind::Memory => return Err(ToolFault::Memory),
+            _ => return write_load_fault(alloc, &fault, out, err),
+        },
+    };
+    match check(
+        alloc,
+        &plan,
+        &setup.presets,
+        testdata,
+        setup.limits,
+        setup.mode,
+    ) {
+        Ok(checked) => write_outcome(alloc, &checked.outcome, setup.quiet, out, err),
+        Err(_memory) => Err(ToolFault::Memory),
+    }
+}
