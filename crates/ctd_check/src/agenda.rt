@@ -1,10 +1,10 @@
 //! What a run has still to do: its frames, and the steps that are left.
-ghost use Rattle.std.specs.Prelude.{◌≡◌, ◌≤◌, ◌<◌, ◌+◌, ◌-◌, ◌*◌, ◌^◌, ◌++◌, ◌∷◌, [], length, OnOk, IfErr, IfNone, MatchOption};
-ghost use Rattle.ctd_syntax.specs.Tree.{list_blocks};
-ghost use Rattle.ctd_syntax.specs.View.{command_trees};
+ghost use Rattle.std.specs.Prelude.{◌≡◌, ℕ, ◌≤◌, ◌<◌, ◌+◌, ◌-◌, ◌*◌, ◌^◌, ◌++◌, ◌∷◌, [], length, OnOk, IfErr, IfNone, IfSome, MatchOption};
+ghost use Rattle.ctd_syntax.specs.Tree.{blocks, list_blocks};
+ghost use Rattle.ctd_syntax.specs.View.{command_tree, command_trees};
 ghost use Rattle.ctd_check.specs.declared.failure.Halt.TheVariants.{Ended};
-ghost use Rattle.ctd_check.specs.Loops.{tasks, finish};
-ghost use Rattle.ctd_check.specs.Pending.{Fits, fits_prop, to_do, frame_tasks, left_tasks, frame_blocks, lap_turn, IsWithin};
+ghost use Rattle.ctd_check.specs.Loops.{start, tasks, finish};
+ghost use Rattle.ctd_check.specs.Pending.{Fits, fits_prop, to_do, frame_tasks, left_tasks, frame_blocks, lap_turn, IsListDone, IsWithin};
 ghost use Rattle.ctd_check.specs.Failures.{at_limit};
 
 use crate::failure::Halt;
@@ -23,6 +23,20 @@ pub(crate) struct Agenda<'p> {
     frames: ArrayVec<Frame<'p>, MOST_FRAMES>,
     left: u64,
     ghost fits: { Fits left frames.items } by { fits_prop left frames.items },
+}
+
+/// Takes the next command of the last frame, where its list has one.
+fn next_in<'p>(frames: &mut [Frame<'p>]) -> Option<&'p Command>
+    ensures len { length frames.new ≡ length frames.old }
+    ensures to_do { IfSome result (λ c. to_do frames.old ≡ start (command_tree c.now) ∷ to_do frames.new) }
+    ensures room { (left : ℕ) → Fits left frames.old → IfSome result (λ c. length frames.old + blocks (command_tree c.now) ≤ 201) }
+    ensures fits { (left : ℕ) → Fits left frames.old → Fits left frames.new }
+    ensures none { IfNone result ((frames.new ≡ frames.old) × IsListDone frames.old) }
+{
+    match frames.len().checked_sub(1) {
+        Some(last) => frames[last].next_command(),
+        None => None,
+    }
 }
 
 impl<'p> Agenda<'p> {
@@ -74,6 +88,17 @@ impl<'p> Agenda<'p> {
         }
     }
 
+    /// Takes the next command of the topmost frame, where its list has one.
+    pub(crate) fn next_command(&mut self) -> Option<&'p Command>
+        ensures left { self.new.left ≡ self.old.left }
+        ensures len { length self.new.frames.items ≡ length self.old.frames.items }
+        ensures to_do { IfSome result (λ c. to_do self.old.frames.items ≡ start (command_tree c.now) ∷ to_do self.new.frames.items) }
+        ensures room { IfSome result (λ c. length self.old.frames.items + blocks (command_tree c.now) ≤ 201) }
+        ensures none { IfNone result ((self.new.frames.items ≡ self.old.frames.items) × IsListDone self.old.frames.items) }
+    {
+        next_in(self.frames.as_mut_slice())
+    }
+
     /// Takes the topmost frame.
     pub(crate) fn pop(&mut self) -> Option<Frame<'p>>
         ensures left { self.new.left ≡ self.old.left }
@@ -81,6 +106,7 @@ impl<'p> Agenda<'p> {
         ensures empty { IfNone result (self.new.frames.items ≡ []) }
         ensures room { MatchOption result (Unit {0}) (λ frame. length self.new.frames.items + 1 + frame_blocks frame ≤ 201) }
         ensures turn { MatchOption result (Unit {0}) (λ frame. lap_turn frame.lap + self.new.left + 1 ≤ 2 ^ 64) }
+        ensures done { IsListDone self.old.frames.items → IfSome result (λ frame. frame.rest.now ≡ []) }
     {
         self.frames.pop()
     }

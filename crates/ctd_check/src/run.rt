@@ -96,13 +96,14 @@ fn begin_turn<'p, D: Source>(
     }
 }
 
-/// Does the next thing of the topmost frame.
-fn advance<'p, D: Source>(
+/// The end of a frame's list: where it is the body of a loop, the loop's next turn.
+fn end_list<'p, D: Source>(
     frame: Frame<'p>,
     run: &mut Run<'_, D>,
     agenda: &mut Agenda<'p>,
     matchers: &mut [Matcher<'_>],
 ) -> Result<(), Halt>
+    requires done { frame.rest.now ≡ [] }
     requires sound { IsSound run.old }
     requires room { length agenda.old.frames.items + 1 + frame_blocks frame ≤ 201 }
     requires known { AreKnown matchers.old (frame_tasks frame ++ to_do agenda.old.frames.items) }
@@ -113,18 +114,9 @@ fn advance<'p, D: Source>(
     ensures known { OnOk result (AreKnown matchers.new (to_do agenda.new.frames.items)) }
     ensures kept { matchers.new ≡ matchers.old }
 {
-    match frame.rest.split_first() {
-        Some((command, rest)) => {
-            agenda.push(Frame {
-                rest,
-                lap: frame.lap,
-            });
-            begin(command, run, agenda, matchers)
-        }
-        None => match frame.lap {
-            Some(lap) => begin_turn(lap, run, agenda, matchers),
-            None => Ok(()),
-        },
+    match frame.lap {
+        Some(lap) => begin_turn(lap, run, agenda, matchers),
+        None => Ok(()),
     }
 }
 
@@ -154,10 +146,16 @@ fn run_tasks<D: Source>(
     ensures spent { agenda.new.left ≤ agenda.old.left }
     ensures ends { Ends run.old run.new agenda.old.left (to_do agenda.old.frames.items) agenda.new.left result }
 {
-    while let Some(frame) = agenda.pop() {
-        advance(frame, run, agenda, matchers)?;
+    loop {
+        if let Some(command) = agenda.next_command() {
+            begin(command, run, agenda, matchers)?;
+            continue;
+        }
+        match agenda.pop() {
+            Some(frame) => end_list(frame, run, agenda, matchers)?,
+            None => return conclude(run, agenda),
+        }
     }
-    conclude(run, agenda)
 }
 
 /// Runs a whole program: what stands before its first command, and then its tasks.

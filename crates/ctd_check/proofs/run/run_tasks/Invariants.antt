@@ -7,13 +7,13 @@ use Rattle.ctd_check.specs.Performs.{IsSound, state}
 use Rattle.ctd_check.proofs.run.run_tasks.Given as goal
 
 -- what the frames have still to do is what is left of the whole
-abbrev pub invariant-loop-frame : goal.invariant-loop-frame
-invariant-loop-frame g l = record {
+abbrev pub invariant-loop-command : goal.invariant-loop-command
+invariant-loop-command g l = record {
   sound : IsSound l.run;
   known : AreKnown l.matchers (to_do l.agenda.frames.items);
   spent : l.agenda.left ≤ l.initial.agenda.left;
   goes : AdvancesSuchThat l.initial.run.cursor l.run.cursor (λ d. run d l.initial.agenda.left (to_do l.initial.agenda.frames.items) (state l.initial.run) ≡ run d l.agenda.left (to_do l.agenda.frames.items) (state l.run));
 }
 
-abbrev pub decreases-loop-frame : goal.decreases-loop-frame
-decreases-loop-frame g l = 2 * l.agenda.left + length l.agenda.frames.items
+abbrev pub decreases-loop-command : goal.decreases-loop-command
+decreases-loop-command g l = 2 * l.agenda.left + length l.agenda.frames.items
