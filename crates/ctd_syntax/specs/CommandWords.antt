@@ -26,7 +26,14 @@ is_command_word words.RepI = true
 is_command_word words.While = true
 is_command_word words.WhileI = true
 is_command_word words.If = true
-is_command_word _ = false
+is_command_word words.Else = false
+is_command_word words.End = false
+is_command_word words.Strlen = false
+is_command_word words.Match = false
+is_command_word words.IsEof = false
+is_command_word words.Unique = false
+is_command_word words.InArray = false
+is_command_word words.Unknown = false
 
 -- whether a token does
 abbrev pub begins_command : Lexeme → Bool

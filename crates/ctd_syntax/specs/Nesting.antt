@@ -3,7 +3,7 @@ use Rattle.std.specs.Prelude.{ℕ, ◌+◌, List, [], ◌∷◌, length, sum, Op
 use Rattle.ctd_token.specs.declared.token.Mark.{Mark}
 use Rattle.ctd_token.specs.declared.token.Mark.TheVariants.{Open, Close, OpenIndex, CloseIndex, Comma, Assign}
 use Rattle.ctd_syntax.specs.declared.keyword.Keyword.{Keyword}
-use Rattle.ctd_syntax.specs.declared.keyword.Keyword.TheVariants.{Rep, RepI, While, WhileI, If, Else, End}
+use Rattle.ctd_syntax.specs.declared.keyword.Keyword.TheVariants as words
 use Rattle.ctd_syntax.specs.declared.nesting.Change.{Change}
 use Rattle.ctd_syntax.specs.declared.nesting.Change.TheVariants.{Opens, Closes, Restarts, Grows, Keeps}
 use Rattle.ctd_token.specs.declared.limits.TheConstants.{NESTING_LIMIT}
@@ -21,14 +21,28 @@ mark_change _ = Grows
 
 -- loops and IF open, ELSE restarts, END closes
 abbrev pub word_change : Keyword → Change
-word_change Rep = Opens
-word_change RepI = Opens
-word_change While = Opens
-word_change WhileI = Opens
-word_change If = Opens
-word_change Else = Restarts
-word_change End = Closes
-word_change _ = Keeps
+word_change words.Rep = Opens
+word_change words.RepI = Opens
+word_change words.While = Opens
+word_change words.WhileI = Opens
+word_change words.If = Opens
+word_change words.Else = Restarts
+word_change words.End = Closes
+word_change words.Space = Keeps
+word_change words.Newline = Keeps
+word_change words.Eof = Keeps
+word_change words.Int = Keeps
+word_change words.String = Keeps
+word_change (words.Regex number) = Keeps
+word_change words.Assert = Keeps
+word_change words.Set = Keeps
+word_change words.Unset = Keeps
+word_change words.Strlen = Keeps
+word_change words.Match = Keeps
+word_change words.IsEof = Keeps
+word_change words.Unique = Keeps
+word_change words.InArray = Keeps
+word_change words.Unknown = Keeps
 
 -- names, numbers and strings change nothing
 abbrev pub change_of : Lexeme → Change

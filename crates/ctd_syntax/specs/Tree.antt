@@ -71,12 +71,20 @@ mutual
 -- how many blocks are open at a command at most
 abbrev mutual
   pub blocks : CommandTree → ℕ
+  blocks (space place) = 0
+  blocks (newline place) = 0
+  blocks (eof place) = 0
+  blocks (int place low high target) = 0
+  blocks (string place e) = 0
+  blocks (regex place literal target) = 0
+  blocks (assert place t) = 0
+  blocks (set place assignments) = 0
+  blocks (unset place names) = 0
   blocks (rep place count sep body) = 1 + max (separator_blocks sep) (list_blocks body)
   blocks (repi place v count sep body) = 1 + max (separator_blocks sep) (list_blocks body)
   blocks (while place t sep body) = 1 + max (separator_blocks sep) (list_blocks body)
   blocks (whilei place v t sep body) = 1 + max (separator_blocks sep) (list_blocks body)
   blocks (choice place t a b) = 1 + max (list_blocks a) (list_blocks b)
-  blocks _ = 0
 
   -- the same of a separator
   pub separator_blocks : Separator → ℕ

@@ -363,7 +363,14 @@ fn command_rest<'t>(
         Keyword::While => return while_command(alloc, place, tokens),
         Keyword::WhileI => return whilei(alloc, place, tokens),
         Keyword::If => return if_command(alloc, place, tokens),
-        _ => return Err(ParseError::Syntax(tokens.len())),
+        Keyword::Else
+        | Keyword::End
+        | Keyword::Strlen
+        | Keyword::Match
+        | Keyword::IsEof
+        | Keyword::Unique
+        | Keyword::InArray
+        | Keyword::Unknown => return Err(ParseError::Syntax(tokens.len())),
     };
     Ok((Command { place, action }, tokens))
 }
@@ -387,7 +394,20 @@ fn command_word<'t>(
         | Keyword::Unique
         | Keyword::InArray
         | Keyword::Unknown => None,
-        _ => Some((word, place, after)),
+        Keyword::Space
+        | Keyword::Newline
+        | Keyword::Eof
+        | Keyword::Int
+        | Keyword::String
+        | Keyword::Regex(_)
+        | Keyword::Assert
+        | Keyword::Set
+        | Keyword::Unset
+        | Keyword::Rep
+        | Keyword::RepI
+        | Keyword::While
+        | Keyword::WhileI
+        | Keyword::If => Some((word, place, after)),
     }
 }
 

@@ -41,7 +41,21 @@ fn change_of(token: &ParserToken<'_>) -> Change
             }
             Keyword::Else => Change::Restarts,
             Keyword::End => Change::Closes,
-            _ => Change::Keeps,
+            Keyword::Space
+            | Keyword::Newline
+            | Keyword::Eof
+            | Keyword::Int
+            | Keyword::String
+            | Keyword::Regex(_)
+            | Keyword::Assert
+            | Keyword::Set
+            | Keyword::Unset
+            | Keyword::Strlen
+            | Keyword::Match
+            | Keyword::IsEof
+            | Keyword::Unique
+            | Keyword::InArray
+            | Keyword::Unknown => Change::Keeps,
         },
         _ => Change::Keeps,
     }
