@@ -4,7 +4,7 @@ use Rattle.std.proofs.Math.Nat.{max-zero, zero-max}
 use Rattle.ctd_syntax.specs.Lexeme.{Lexeme, mark, keyword}
 use Rattle.ctd_syntax.specs.Tree.{ExprTree, ExprList, VarTree, TestTree, CommandTree, CommandList, Separator, blocks, separator_blocks, list_blocks}
 use Rattle.ctd_syntax.specs.Grammar
-use Rattle.ctd_syntax.specs.Grammar.{IsExpr, IsProduct, IsSigned, IsPower, IsExponent, IsAtom, IsVariable, IsExprs, IsNames, IsTest, IsBoth, IsNegated, IsSimpleTest, IsTargetEnd, IsAssignments, IsCommand, IsRepeated, IsBranches, IsCommands, mark_of}
+use Rattle.ctd_syntax.specs.Grammar.{IsExpr, IsProduct, IsSigned, IsPower, IsExponent, IsAtom, IsVariable, IsExprs, IsNames, IsTest, IsBoth, IsNegated, IsSimpleTest, IsTargetEnd, IsAssignments, IsCommand, IsRepeated, IsBranches, IsCommands, compare_mark}
 use Rattle.ctd_syntax.specs.Nesting.{change_of, word_change, step, start, weight, too_deep}
 use Rattle.ctd_token.specs.declared.text.Place.{Place}
 use Rattle.ctd_token.specs.declared.limits.TheConstants.{NESTING_LIMIT}
@@ -106,7 +106,7 @@ asked : (k : Keyword) (at : Place) (ts : List Lexeme) → word_change k ≡ Keep
 asked k at ts e f = called k at (ts ++ mark Close ∷ []) e (closes ts (mark Close) refl f)
 
 -- the mark of a comparison is an operator
-compare_level : (by : Compare) → IsLevel (mark (mark_of by))
+compare_level : (by : Compare) → IsLevel (mark (compare_mark by))
 compare_level Less c cs = (c + 1, refl)
 compare_level Greater c cs = (c + 1, refl)
 compare_level AtMost c cs = (c + 1, refl)
@@ -186,7 +186,7 @@ mutual
 
   -- a test without && and || does so
   plain_even : (ts : List Lexeme) (a : TestTree) → IsSimpleTest ts a → Even ts
-  plain_even ts a (Grammar.compare {ts = us} {us = vs} {by} i j) = even_over us vs (mark (mark_of by)) (compare_level by) (expr_even us _ i) (expr_even vs _ j)
+  plain_even ts a (Grammar.compare {ts = us} {us = vs} {by} i j) = even_over us vs (mark (compare_mark by)) (compare_level by) (expr_even us _ i) (expr_even vs _ j)
   plain_even ts a (Grammar.matches {ts = us} {at} i) = even_stays ts (asked words.Match at us refl (expr_even us _ i))
   plain_even ts a (Grammar.at_end {at}) = even_alone (keyword words.IsEof at) (λ c cs. (c, refl))
   plain_even ts a (Grammar.unique {ts = us} {at} i) = even_stays ts (asked words.Unique at us refl (names_even us _ i))

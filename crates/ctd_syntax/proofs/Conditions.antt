@@ -4,7 +4,7 @@ use Rattle.ctd_syntax.specs.Lexeme.{Lexeme, mark, keyword}
 use Rattle.ctd_syntax.specs.Tree
 use Rattle.ctd_syntax.specs.Tree.{ExprTree, ExprList, TestTree}
 use Rattle.ctd_syntax.specs.Grammar
-use Rattle.ctd_syntax.specs.Grammar.{IsExpr, IsProduct, IsSigned, IsPower, IsAtom, IsVariable, IsNames, IsTest, IsNegated, IsSimpleTest, mark_of}
+use Rattle.ctd_syntax.specs.Grammar.{IsExpr, IsProduct, IsSigned, IsPower, IsAtom, IsVariable, IsNames, IsTest, IsNegated, IsSimpleTest, compare_mark}
 use Rattle.ctd_syntax.specs.Front.{Found, NotFound, Always, IsBefore, IsAfter, IsPair, IsName, Spelling, operator_at, after_operator}
 use Rattle.ctd_syntax.specs.Levels.{binding, ends}
 use Rattle.ctd_syntax.specs.Tests.{question, IsTestCall, IsLeft, IsCompared, compare_operator, holds_test}
@@ -19,16 +19,16 @@ use Rattle.ctd_syntax.proofs.Fronts.{built, not_built, after_reads, after_none, 
 use Rattle.ctd_syntax.proofs.Groups.{expr_opening, test_tells}
 
 -- comparisons and their marks
-compare_is : (t : Lexeme) (by : Compare) → compare_operator t ≡ Some by → t ≡ mark (mark_of by)
-compare_is (mark marks.Less) by e = let h : Less ≡ by = cc in ap (λ x. mark (mark_of x)) h
-compare_is (mark marks.Greater) by e = let h : Greater ≡ by = cc in ap (λ x. mark (mark_of x)) h
-compare_is (mark marks.AtMost) by e = let h : AtMost ≡ by = cc in ap (λ x. mark (mark_of x)) h
-compare_is (mark marks.AtLeast) by e = let h : AtLeast ≡ by = cc in ap (λ x. mark (mark_of x)) h
-compare_is (mark marks.Equal) by e = let h : Equal ≡ by = cc in ap (λ x. mark (mark_of x)) h
-compare_is (mark marks.Unequal) by e = let h : Unequal ≡ by = cc in ap (λ x. mark (mark_of x)) h
+compare_is : (t : Lexeme) (by : Compare) → compare_operator t ≡ Some by → t ≡ mark (compare_mark by)
+compare_is (mark marks.Less) by e = let h : Less ≡ by = cc in ap (λ x. mark (compare_mark x)) h
+compare_is (mark marks.Greater) by e = let h : Greater ≡ by = cc in ap (λ x. mark (compare_mark x)) h
+compare_is (mark marks.AtMost) by e = let h : AtMost ≡ by = cc in ap (λ x. mark (compare_mark x)) h
+compare_is (mark marks.AtLeast) by e = let h : AtLeast ≡ by = cc in ap (λ x. mark (compare_mark x)) h
+compare_is (mark marks.Equal) by e = let h : Equal ≡ by = cc in ap (λ x. mark (compare_mark x)) h
+compare_is (mark marks.Unequal) by e = let h : Unequal ≡ by = cc in ap (λ x. mark (compare_mark x)) h
 compare_is _ by e = absurd (cc)
 
-is_compare : (by : Compare) → compare_operator (mark (mark_of by)) ≡ Some by
+is_compare : (by : Compare) → compare_operator (mark (compare_mark by)) ≡ Some by
 is_compare Less = refl
 is_compare Greater = refl
 is_compare AtMost = refl
@@ -36,7 +36,7 @@ is_compare AtLeast = refl
 is_compare Equal = refl
 is_compare Unequal = refl
 
-compare_binds : (by : Compare) → binding (mark (mark_of by)) < 1
+compare_binds : (by : Compare) → binding (mark (compare_mark by)) < 1
 compare_binds Less = omega arith
 compare_binds Greater = omega arith
 compare_binds AtMost = omega arith
@@ -44,8 +44,8 @@ compare_binds AtLeast = omega arith
 compare_binds Equal = omega arith
 compare_binds Unequal = omega arith
 
-left_split : (tokens ts us vs : List Lexeme) (by : Compare) → tokens ≡ ts ++ us → ts ≡ vs ++ mark (mark_of by) ∷ [] → tokens ≡ vs ++ mark (mark_of by) ∷ us
-left_split tokens ts us vs by split w = split ∙ ap (λ l. l ++ us) w ∙ append_assoc vs (mark (mark_of by) ∷ []) us
+left_split : (tokens ts us vs : List Lexeme) (by : Compare) → tokens ≡ ts ++ us → ts ≡ vs ++ mark (compare_mark by) ∷ [] → tokens ≡ vs ++ mark (compare_mark by) ∷ us
+left_split tokens ts us vs by split w = split ∙ ap (λ l. l ++ us) w ∙ append_assoc vs (mark (compare_mark by) ∷ []) us
 
 same_some : {A : Type 0} {a b : A} → Some a ≡ Some b → a ≡ b
 same_some e = cc
@@ -53,28 +53,28 @@ same_some e = cc
 pub left_reads : (tokens rest r : List Lexeme) (a : ExprTree) (by : Compare) → Found IsExpr (ends 1) tokens a rest → operator_at compare_operator rest ≡ Some (by, r) → Found IsLeft Always tokens (a, by) r
 left_reads tokens rest r a by f e =
     let is = operator_is compare_operator rest r by e in
-    let marked : rest ≡ mark (mark_of by) ∷ r = is.1 ∙ ap (λ t. t ∷ r) (compare_is is.0 by is.2) in
+    let marked : rest ≡ mark (compare_mark by) ∷ r = is.1 ∙ ap (λ t. t ∷ r) (compare_is is.0 by is.2) in
     record {
-      front = f.front ++ mark (mark_of by) ∷ [];
-      split = f.split ∙ ap (λ l. f.front ++ l) marked ∙ sym (append_assoc f.front (mark (mark_of by) ∷ []) r);
+      front = f.front ++ mark (compare_mark by) ∷ [];
+      split = f.split ∙ ap (λ l. f.front ++ l) marked ∙ sym (append_assoc f.front (mark (compare_mark by) ∷ []) r);
       spells = (f.front, refl, f.spells);
       only = λ ts us u split h w.
-          let same = f.only w.0 (mark (mark_of u.1) ∷ us) u.0 (left_split tokens ts us w.0 u.1 split w.1) (compare_binds u.1) w.2 in
-          let front : mark (mark_of u.1) ∷ us ≡ mark (mark_of by) ∷ r = same.1 ∙ marked in
+          let same = f.only w.0 (mark (compare_mark u.1) ∷ us) u.0 (left_split tokens ts us w.0 u.1 split w.1) (compare_binds u.1) w.2 in
+          let front : mark (compare_mark u.1) ∷ us ≡ mark (compare_mark by) ∷ r = same.1 ∙ marked in
           let tail : us ≡ r = cc in
-          let first : mark (mark_of u.1) ≡ mark (mark_of by) = cc in
+          let first : mark (compare_mark u.1) ≡ mark (compare_mark by) = cc in
           let by_is : u.1 ≡ by = same_some (sym (is_compare u.1) ∙ ap compare_operator first ∙ is_compare by) in
           (ap (λ x. (x, u.1)) same.0 ∙ ap (λ x. (a, x)) by_is, tail);
     }
 
 pub left_none : (tokens rest : List Lexeme) (a : ExprTree) → Found IsExpr (ends 1) tokens a rest → operator_at compare_operator rest ≡ None → NotFound IsLeft Always tokens
 left_none tokens rest a f e ts us u split h w =
-    let same = f.only w.0 (mark (mark_of u.1) ∷ us) u.0 (left_split tokens ts us w.0 u.1 split w.1) (compare_binds u.1) w.2 in
+    let same = f.only w.0 (mark (compare_mark u.1) ∷ us) u.0 (left_split tokens ts us w.0 u.1 split w.1) (compare_binds u.1) w.2 in
     let found : operator_at compare_operator rest ≡ Some (u.1, us) = ap (operator_at compare_operator) (sym same.1) ∙ ap (λ x. after_operator x us) (is_compare u.1) in
     absurd (cc)
 
 pub no_left : (tokens : List Lexeme) → NotFound IsExpr (ends 1) tokens → NotFound IsLeft Always tokens
-no_left tokens not ts us u split h w = not w.0 (mark (mark_of u.1) ∷ us) u.0 (left_split tokens ts us w.0 u.1 split w.1) (compare_binds u.1) w.2
+no_left tokens not ts us u split h w = not w.0 (mark (compare_mark u.1) ∷ us) u.0 (left_split tokens ts us w.0 u.1 split w.1) (compare_binds u.1) w.2
 
 of_compare : (ExprTree × Compare) × ExprTree → TestTree
 of_compare x = Tree.compare x.0.1 x.0.0 x.1
@@ -196,7 +196,7 @@ data PlainAs : List Lexeme → TestTree → Type 0 where
   grouped : {ts : List Lexeme} {u : TestTree} (vs : List Lexeme) → ts ≡ mark Open ∷ vs → IsBefore Close IsTest vs u → PlainAs ts u
 
 plain_as : (ts : List Lexeme) (u : TestTree) → IsSimpleTest ts u → PlainAs ts u
-plain_as ts u (Grammar.compare {ts = us} {us = vs} {a} {b} {by} i j) = compared (((a, by), b), refl, (us ++ mark (mark_of by) ∷ [], vs, sym (append_assoc us (mark (mark_of by) ∷ []) vs), (us, refl, i), j))
+plain_as ts u (Grammar.compare {ts = us} {us = vs} {a} {b} {by} i j) = compared (((a, by), b), refl, (us ++ mark (compare_mark by) ∷ [], vs, sym (append_assoc us (mark (compare_mark by) ∷ []) vs), (us, refl, i), j))
 plain_as ts u (Grammar.matches {ts = us} {a} {at} i) = asked (keyword Match at) Match (mark Open ∷ us ++ mark Close ∷ []) refl refl (a, refl, (us ++ mark Close ∷ [], refl, (us, refl, i)))
 plain_as ts u (Grammar.at_end {at}) = asked (keyword IsEof at) IsEof [] refl refl (refl, refl)
 plain_as ts u (Grammar.unique {ts = us} {names} {at} i) = asked (keyword Unique at) Unique (mark Open ∷ us ++ mark Close ∷ []) refl refl (names, refl, (us ++ mark Close ∷ [], refl, (us, refl, i)))
@@ -205,8 +205,8 @@ plain_as ts u (Grammar.group {ts = us} i) = grouped (us ++ mark Close ∷ []) re
 
 compared_plain : (ts : List Lexeme) (u : TestTree) → IsCompared ts u → IsSimpleTest ts u
 compared_plain ts u (x, tree, (us, vs, split, (ws, marked, i), j)) =
-    let is : ts ≡ ws ++ mark (mark_of x.0.1) ∷ vs = split ∙ ap (λ l. l ++ vs) marked ∙ append_assoc ws (mark (mark_of x.0.1) ∷ []) vs in
-    subst (λ l. IsSimpleTest l u) (sym is) (subst (IsSimpleTest (ws ++ mark (mark_of x.0.1) ∷ vs)) (sym tree) (Grammar.compare i j))
+    let is : ts ≡ ws ++ mark (compare_mark x.0.1) ∷ vs = split ∙ ap (λ l. l ++ vs) marked ∙ append_assoc ws (mark (compare_mark x.0.1) ∷ []) vs in
+    subst (λ l. IsSimpleTest l u) (sym is) (subst (IsSimpleTest (ws ++ mark (compare_mark x.0.1) ∷ vs)) (sym tree) (Grammar.compare i j))
 
 grouped_plain : (ts vs : List Lexeme) (u : TestTree) → ts ≡ mark Open ∷ vs → IsBefore Close IsTest vs u → IsSimpleTest ts u
 grouped_plain ts vs u e (ws, closing, i) = subst (λ l. IsSimpleTest l u) (sym (e ∙ ap (λ l. mark Open ∷ l) closing)) (Grammar.group i)
@@ -240,8 +240,8 @@ same_tail {t} {s} {r} {vs} e = let a : s ≡ t = cc in let b : vs ≡ r = cc in 
 -- what a test is that begins with such a word
 begins_asked : (tokens r ts us : List Lexeme) (t : Lexeme) (k : Keyword) (u : TestTree) → tokens ≡ t ∷ r → question t ≡ Some k → tokens ≡ ts ++ us → PlainAs ts u → (vs : List Lexeme) × (r ≡ vs ++ us) × IsTestCall k vs u
 begins_asked tokens r ts us t k u e q split (compared (x, tree, (vs, ws, parts, (ls, marked, i), j))) =
-    let whole : t ∷ r ≡ ls ++ mark (mark_of x.0.1) ∷ (ws ++ us) = sym e ∙ split ∙ ap (λ l. l ++ us) (parts ∙ ap (λ l. l ++ ws) marked ∙ append_assoc ls (mark (mark_of x.0.1) ∷ []) ws) ∙ append_assoc ls (mark (mark_of x.0.1) ∷ ws) us in
-    let n : begins_expr t ≡ true = expr_heading t ls (mark (mark_of x.0.1) ∷ (ws ++ us)) x.0.0 i r whole in
+    let whole : t ∷ r ≡ ls ++ mark (compare_mark x.0.1) ∷ (ws ++ us) = sym e ∙ split ∙ ap (λ l. l ++ us) (parts ∙ ap (λ l. l ++ ws) marked ∙ append_assoc ls (mark (compare_mark x.0.1) ∷ []) ws) ∙ append_assoc ls (mark (compare_mark x.0.1) ∷ ws) us in
+    let n : begins_expr t ≡ true = expr_heading t ls (mark (compare_mark x.0.1) ∷ (ws ++ us)) x.0.0 i r whole in
     let m : begins_expr t ≡ false = asks_not t k q in
     absurd (cc)
 begins_asked tokens r ts us t k u e q split (asked s l vs front is w) =
@@ -274,8 +274,8 @@ asked_none tokens r k e not ts us v split h w =
 -- what a test is that begins with a parenthesis which holds a test
 begins_grouped : (tokens r ts us : List Lexeme) (u : TestTree) → tokens ≡ mark Open ∷ r → holds_test (Some 0) r ≡ true → tokens ≡ ts ++ us → PlainAs ts u → (vs : List Lexeme) × (r ≡ vs ++ us) × IsBefore Close IsTest vs u
 begins_grouped tokens r ts us u e q split (compared (x, tree, (vs, ws, parts, (ls, marked, i), j))) =
-    let whole : mark Open ∷ r ≡ ls ++ mark (mark_of x.0.1) ∷ (ws ++ us) = sym e ∙ split ∙ ap (λ l. l ++ us) (parts ∙ ap (λ l. l ++ ws) marked ∙ append_assoc ls (mark (mark_of x.0.1) ∷ []) ws) ∙ append_assoc ls (mark (mark_of x.0.1) ∷ ws) us in
-    let n : holds_test (Some 0) r ≡ false = expr_opening ls (mark (mark_of x.0.1) ∷ (ws ++ us)) x.0.0 i r whole in
+    let whole : mark Open ∷ r ≡ ls ++ mark (compare_mark x.0.1) ∷ (ws ++ us) = sym e ∙ split ∙ ap (λ l. l ++ us) (parts ∙ ap (λ l. l ++ ws) marked ∙ append_assoc ls (mark (compare_mark x.0.1) ∷ []) ws) ∙ append_assoc ls (mark (compare_mark x.0.1) ∷ ws) us in
+    let n : holds_test (Some 0) r ≡ false = expr_opening ls (mark (compare_mark x.0.1) ∷ (ws ++ us)) x.0.0 i r whole in
     absurd (cc)
 begins_grouped tokens r ts us u e q split (asked s l vs front is w) =
     let same = same_tail (sym e ∙ split ∙ ap (λ l. l ++ us) front) in
@@ -325,8 +325,8 @@ compare_none tokens q none not ts us v split h w = not ts us v split h (begins_c
 -- `!`
 plain_bang : (ts us r : List Lexeme) (u : TestTree) → mark Bang ∷ r ≡ ts ++ us → PlainAs ts u → ⊥
 plain_bang ts us r u e (compared (x, tree, (vs, ws, parts, (ls, marked, i), j))) =
-    let whole : mark Bang ∷ r ≡ ls ++ mark (mark_of x.0.1) ∷ (ws ++ us) = e ∙ ap (λ l. l ++ us) (parts ∙ ap (λ l. l ++ ws) marked ∙ append_assoc ls (mark (mark_of x.0.1) ∷ []) ws) ∙ append_assoc ls (mark (mark_of x.0.1) ∷ ws) us in
-    no_bang ls (mark (mark_of x.0.1) ∷ (ws ++ us)) x.0.0 i r whole
+    let whole : mark Bang ∷ r ≡ ls ++ mark (compare_mark x.0.1) ∷ (ws ++ us) = e ∙ ap (λ l. l ++ us) (parts ∙ ap (λ l. l ++ ws) marked ∙ append_assoc ls (mark (compare_mark x.0.1) ∷ []) ws) ∙ append_assoc ls (mark (compare_mark x.0.1) ∷ ws) us in
+    no_bang ls (mark (compare_mark x.0.1) ∷ (ws ++ us)) x.0.0 i r whole
   where
     no_bang : (ts us : List Lexeme) (a : ExprTree) → IsExpr ts a → (r : List Lexeme) → mark Bang ∷ r ≡ ts ++ us → ⊥
     no_bang ts us a i r e = let n : false ≡ true = expr_heading (mark Bang) ts us a i r e in cc

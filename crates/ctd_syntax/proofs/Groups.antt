@@ -3,7 +3,7 @@ use Rattle.std.proofs.Common.{◌≡◌, ℕ, suc, List, [], ◌∷◌, ◌++◌
 use Rattle.ctd_syntax.specs.Lexeme.{Lexeme, mark}
 use Rattle.ctd_syntax.specs.Tree.{ExprTree, ExprList, TestTree}
 use Rattle.ctd_syntax.specs.Grammar
-use Rattle.ctd_syntax.specs.Grammar.{IsExpr, IsProduct, IsSigned, IsPower, IsExponent, IsAtom, IsVariable, IsExprs, IsTest, IsBoth, IsNegated, IsSimpleTest, mark_of}
+use Rattle.ctd_syntax.specs.Grammar.{IsExpr, IsProduct, IsSigned, IsPower, IsExponent, IsAtom, IsVariable, IsExprs, IsTest, IsBoth, IsNegated, IsSimpleTest, compare_mark}
 use Rattle.ctd_syntax.specs.Tests.{holds_test}
 use Rattle.ctd_token.specs.declared.token.Mark.TheVariants.{Open, Close, Plus, Minus, Times, Divide, Percent, Caret, Comma, CloseIndex, OrOr, AndAnd}
 use Rattle.ctd_syntax.specs.declared.tree.Compare.{Compare}
@@ -57,7 +57,7 @@ mutual
   exprs_skips n ts rest l (Grammar.one i) = expr_skips n ts rest _ i
   exprs_skips n ts rest l (Grammar.more {ts = us} {us = vs} i j) = over n us vs rest (mark Comma) (expr_skips n us (mark Comma ∷ (vs ++ rest)) _ i ∙ exprs_skips n vs rest _ j)
 
-compare_tells : (by : Compare) (n : ℕ) (ts : List Lexeme) → H n (mark (mark_of by) ∷ ts) ≡ true
+compare_tells : (by : Compare) (n : ℕ) (ts : List Lexeme) → H n (mark (compare_mark by) ∷ ts) ≡ true
 compare_tells Less n ts = refl
 compare_tells Greater n ts = refl
 compare_tells AtMost n ts = refl
@@ -80,7 +80,7 @@ mutual
   negated_tells n ts rest a (Grammar.not i) = refl
 
   plain_tells : (n : ℕ) (ts rest : List Lexeme) (a : TestTree) → IsSimpleTest ts a → H n (ts ++ rest) ≡ true
-  plain_tells n ts rest a (Grammar.compare {ts = us} {us = vs} {by} i j) = ap (H n) (append_assoc us (mark (mark_of by) ∷ vs) rest) ∙ expr_skips n us (mark (mark_of by) ∷ (vs ++ rest)) _ i ∙ compare_tells by n (vs ++ rest)
+  plain_tells n ts rest a (Grammar.compare {ts = us} {us = vs} {by} i j) = ap (H n) (append_assoc us (mark (compare_mark by) ∷ vs) rest) ∙ expr_skips n us (mark (compare_mark by) ∷ (vs ++ rest)) _ i ∙ compare_tells by n (vs ++ rest)
   plain_tells n ts rest a (Grammar.matches i) = refl
   plain_tells n ts rest a Grammar.at_end = refl
   plain_tells n ts rest a (Grammar.unique i) = refl

@@ -10,7 +10,7 @@ use Rattle.ctd_token.specs.declared.token.Mark.TheVariants.{Close, CloseIndex, C
 use Rattle.ctd_syntax.specs.Lexeme.{Lexeme, mark, keyword, lexeme_of, with_number, regex_count, numbered_word, word_count}
 use Rattle.ctd_syntax.specs.Tree.{ExprTree, ExprList, VarTree, TestTree, CommandTree, CommandList, Separator}
 use Rattle.ctd_syntax.specs.Grammar
-use Rattle.ctd_syntax.specs.Grammar.{IsExpr, IsProduct, IsSigned, IsPower, IsExponent, IsAtom, IsVariable, IsExprs, IsNames, IsTest, IsBoth, IsNegated, IsSimpleTest, IsTargetEnd, IsAssignments, IsCommand, IsRepeated, IsBranches, IsCommands, mark_of}
+use Rattle.ctd_syntax.specs.Grammar.{IsExpr, IsProduct, IsSigned, IsPower, IsExponent, IsAtom, IsVariable, IsExprs, IsNames, IsTest, IsBoth, IsNegated, IsSimpleTest, IsTargetEnd, IsAssignments, IsCommand, IsRepeated, IsBranches, IsCommands, compare_mark}
 use Rattle.ctd_syntax.specs.Numbering.{command_literals, separator_literals, literals, numbers_of, IsNumbered}
 use Rattle.ctd_syntax.specs.Reading.{Reads, lexemes, lexemes_from}
 
@@ -151,7 +151,7 @@ mutual
   negated_none ts a (Grammar.not {ts = us} i) = negated_none us _ i
 
   plain_none : (ts : List Lexeme) (a : TestTree) → IsSimpleTest ts a → HasNone ts
-  plain_none ts a (Grammar.compare {ts = us} {us = vs} {by} i j) = none_in-append us (mark (mark_of by) ∷ vs) (expr_none us _ i) (expr_none vs _ j)
+  plain_none ts a (Grammar.compare {ts = us} {us = vs} {by} i j) = none_in-append us (mark (compare_mark by) ∷ vs) (expr_none us _ i) (expr_none vs _ j)
   plain_none ts a (Grammar.matches {ts = us} i) = none_in-append us (mark Close ∷ []) (expr_none us _ i) refl
   plain_none ts a Grammar.at_end = refl
   plain_none ts a (Grammar.unique {ts = us} i) = none_in-append us (mark Close ∷ []) (names_none us _ i) refl

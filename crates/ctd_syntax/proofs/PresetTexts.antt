@@ -10,8 +10,8 @@ use Rattle.ctd_syntax.specs.declared.preset.Literal.TheVariants as literals
 use Rattle.ctd_syntax.specs.declared.preset.Preset.{Preset}
 use Rattle.ctd_token.specs.declared.token.TokenKind.{TokenKind}
 use Rattle.ctd_token.specs.declared.token.TokenKind.TheVariants as tokens
-use Rattle.ctd_token.specs.Cut.{Found, is_digit, goes_on, token_at}
-use Rattle.ctd_syntax.specs.Presets.{IsToken, IsLiteral, number, negative, string, IsPreset, preset}
+use Rattle.ctd_token.specs.Cut.{TokenOrFault, is_digit, fraction_begins, token_at}
+use Rattle.ctd_syntax.specs.Presets.{IsToken, IsPresetValue, number, negative, string, IsPreset, preset}
 use Rattle.ctd_syntax.specs.PresetFront.{plain, negated, literal_at, valued, behind_name, named, preset_at}
 use Rattle.ctd_syntax.proofs.TokenFronts.{known_of, no_token, name_front, name_alone, numeral_front, numeral_alone}
 use Rattle.ctd_syntax.proofs.LiteralFronts.{of_some, text_front, text_alone}
@@ -21,9 +21,9 @@ abbrev pub IsEnd : List ℕ → Type 0
 IsEnd [] = Unit {0}
 IsEnd (b ∷ bs) = b ≡ 44
 
-no_digit : (rest : List ℕ) → IsEnd rest → (goes_on rest ≡ false) × (prefix_len is_digit rest ≡ 0)
+no_digit : (rest : List ℕ) → IsEnd rest → (fraction_begins rest ≡ false) × (prefix_len is_digit rest ≡ 0)
 no_digit [] end = (refl, refl)
-no_digit (b ∷ bs) end = (ap (λ c. goes_on (c ∷ bs)) end, ap (λ c. prefix_len is_digit (c ∷ bs)) end)
+no_digit (b ∷ bs) end = (ap (λ c. fraction_begins (c ∷ bs)) end, ap (λ c. prefix_len is_digit (c ∷ bs)) end)
 
 unsigned : (b : ℕ) (bs : List ℕ) → nat_eq b 45 ≡ false → literal_at (b ∷ bs) ≡ plain (token_at (b ∷ bs))
 unsigned b bs is = ap (λ t. cond t (negated (token_at bs)) (plain (token_at (b ∷ bs)))) is
@@ -43,7 +43,7 @@ no_minus_text text values is b bs e =
     ap (λ c. nat_eq c 45) of.0
 
 -- a literal before a comma or the end is the one at the front
-pub literal_first : (text rest : List ℕ) (v : Literal) → IsLiteral text v → IsEnd rest → literal_at (text ++ rest) ≡ Some (v, length text)
+pub literal_first : (text rest : List ℕ) (v : Literal) → IsPresetValue text v → IsEnd rest → literal_at (text ++ rest) ≡ Some (v, length text)
 literal_first text rest v (number {n} is) end =
     let ends = no_digit rest end in
     plain_front text rest (tokens.Numeral n) is (no_minus text n is) ∙ ap plain (numeral_front text rest n is ends.0 ends.1)
@@ -73,37 +73,37 @@ same_some {A} x y n m o e f =
     let second : A × ℕ → ℕ = λ q. q.1 in
     (ap first pair, ap second pair)
 
-plain_spells : (bytes : List ℕ) (found : Found) (v : Literal) (n : ℕ) → token_at bytes ≡ found → plain found ≡ Some (v, n) → IsLiteral (take n bytes) v
+plain_spells : (bytes : List ℕ) (found : TokenOrFault) (v : Literal) (n : ℕ) → token_at bytes ≡ found → plain found ≡ Some (v, n) → IsPresetValue (take n bytes) v
 plain_spells bytes (Ok (tokens.Numeral m, k)) v n is e =
     let same = same_some (literals.Int m) v k n (plain (Ok (tokens.Numeral m, k))) refl e in
-    subst (λ w. IsLiteral (take n bytes) w) same.0 (subst (λ j. IsLiteral (take j bytes) (literals.Int m)) same.1 (number (numeral_alone bytes k m is)))
+    subst (λ w. IsPresetValue (take n bytes) w) same.0 (subst (λ j. IsPresetValue (take j bytes) (literals.Int m)) same.1 (number (numeral_alone bytes k m is)))
 plain_spells bytes (Ok (tokens.Text values, k)) v n is e =
     let same = same_some (literals.Text values) v k n (plain (Ok (tokens.Text values, k))) refl e in
-    subst (λ w. IsLiteral (take n bytes) w) same.0 (subst (λ j. IsLiteral (take j bytes) (literals.Text values)) same.1 (string (text_alone bytes k values is)))
+    subst (λ w. IsPresetValue (take n bytes) w) same.0 (subst (λ j. IsPresetValue (take j bytes) (literals.Text values)) same.1 (string (text_alone bytes k values is)))
 plain_spells bytes (Ok (tokens.Word, k)) v n is e = absurd (let f : None ≡ Some (v, n) = e in cc)
 plain_spells bytes (Ok (tokens.Name, k)) v n is e = absurd (let f : None ≡ Some (v, n) = e in cc)
 plain_spells bytes (Ok (tokens.Mark m, k)) v n is e = absurd (let f : None ≡ Some (v, n) = e in cc)
 plain_spells bytes (Err x) v n is e = absurd (let f : None ≡ Some (v, n) = e in cc)
 
-negated_spells : (bytes : List ℕ) (found : Found) (v : Literal) (n : ℕ) → token_at bytes ≡ found → negated found ≡ Some (v, n) → IsLiteral (take n (45 ∷ bytes)) v
+negated_spells : (bytes : List ℕ) (found : TokenOrFault) (v : Literal) (n : ℕ) → token_at bytes ≡ found → negated found ≡ Some (v, n) → IsPresetValue (take n (45 ∷ bytes)) v
 negated_spells bytes (Ok (tokens.Numeral m, k)) v n is e =
     let same = same_some (literals.Int (neg_ℤ m)) v (1 + k) n (negated (Ok (tokens.Numeral m, k))) refl e in
     let next : suc k ≡ n = omega (arith, same.1) in
-    subst (λ w. IsLiteral (take n (45 ∷ bytes)) w) same.0 (subst (λ j. IsLiteral (take j (45 ∷ bytes)) (literals.Int (neg_ℤ m))) next (negative (numeral_alone bytes k m is)))
+    subst (λ w. IsPresetValue (take n (45 ∷ bytes)) w) same.0 (subst (λ j. IsPresetValue (take j (45 ∷ bytes)) (literals.Int (neg_ℤ m))) next (negative (numeral_alone bytes k m is)))
 negated_spells bytes (Ok (tokens.Text values, k)) v n is e = absurd (let f : None ≡ Some (v, n) = e in cc)
 negated_spells bytes (Ok (tokens.Word, k)) v n is e = absurd (let f : None ≡ Some (v, n) = e in cc)
 negated_spells bytes (Ok (tokens.Name, k)) v n is e = absurd (let f : None ≡ Some (v, n) = e in cc)
 negated_spells bytes (Ok (tokens.Mark m, k)) v n is e = absurd (let f : None ≡ Some (v, n) = e in cc)
 negated_spells bytes (Err x) v n is e = absurd (let f : None ≡ Some (v, n) = e in cc)
 
-signed_spells : (b : ℕ) (bs : List ℕ) (v : Literal) (n : ℕ) (minus : Bool) → nat_eq b 45 ≡ minus → cond minus (negated (token_at bs)) (plain (token_at (b ∷ bs))) ≡ Some (v, n) → IsLiteral (take n (b ∷ bs)) v
+signed_spells : (b : ℕ) (bs : List ℕ) (v : Literal) (n : ℕ) (minus : Bool) → nat_eq b 45 ≡ minus → cond minus (negated (token_at bs)) (plain (token_at (b ∷ bs))) ≡ Some (v, n) → IsPresetValue (take n (b ∷ bs)) v
 signed_spells b bs v n true is e =
     let same : 45 ≡ b = grind (arith, tests, is) in
-    subst (λ c. IsLiteral (take n (c ∷ bs)) v) same (negated_spells bs (token_at bs) v n refl e)
+    subst (λ c. IsPresetValue (take n (c ∷ bs)) v) same (negated_spells bs (token_at bs) v n refl e)
 signed_spells b bs v n false is e = plain_spells (b ∷ bs) (token_at (b ∷ bs)) v n refl e
 
 -- the literal at the front is one
-pub literal_spells : (bytes : List ℕ) (v : Literal) (n : ℕ) → literal_at bytes ≡ Some (v, n) → IsLiteral (take n bytes) v
+pub literal_spells : (bytes : List ℕ) (v : Literal) (n : ℕ) → literal_at bytes ≡ Some (v, n) → IsPresetValue (take n bytes) v
 literal_spells [] v n e = absurd (let f : None ≡ Some (v, n) = e in cc)
 literal_spells (b ∷ bs) v n e = signed_spells b bs v n (nat_eq b 45) refl e
 
@@ -134,7 +134,7 @@ behind_spells name (b ∷ bs) p n is e =
     let same : 61 ≡ b = grind (arith, tests, equals) in
     subst (λ c. IsPreset (take n (name ++ c ∷ bs)) p) same (valued_spells name bs p n (nat_eq b 61) is e)
 
-named_spells : (bytes : List ℕ) (found : Found) (p : Preset) (n : ℕ) → token_at bytes ≡ found → named found bytes ≡ Some (p, n) → IsPreset (take n bytes) p
+named_spells : (bytes : List ℕ) (found : TokenOrFault) (p : Preset) (n : ℕ) → token_at bytes ≡ found → named found bytes ≡ Some (p, n) → IsPreset (take n bytes) p
 named_spells bytes (Ok (tokens.Name, k)) p n is e = subst (λ l. IsPreset (take n l) p) (take-append-drop k bytes) (behind_spells (take k bytes) (drop k bytes) p n (name_alone bytes k is) e)
 named_spells bytes (Ok (tokens.Word, k)) p n is e = absurd (let f : None ≡ Some (p, n) = e in cc)
 named_spells bytes (Ok (tokens.Numeral m, k)) p n is e = absurd (let f : None ≡ Some (p, n) = e in cc)

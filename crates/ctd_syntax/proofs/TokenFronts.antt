@@ -13,19 +13,19 @@ use Rattle.ctd_token.specs.declared.token.Mark.{Mark}
 use Rattle.ctd_token.specs.declared.token.TokenKind.{TokenKind}
 use Rattle.ctd_token.specs.declared.token.TokenKind.TheVariants as tokens
 use Rattle.ctd_token.specs.Literal.{Closed, literal}
-use Rattle.ctd_token.specs.Cut.{is_upper, is_lower, is_digit, Judged, Found, wrong, at_first_byte, is_left_out_word, word_at, name_len, decimal, has_leading_zero, goes_on, numeral_at, mark_or, mark_at, single_mark, double_mark, closed_text, text_at, token_at}
+use Rattle.ctd_token.specs.Cut.{is_upper, is_lower, is_digit, Judged, TokenOrFault, wrong, at_first_byte, is_left_out_word, word_at, name_len, decimal, has_leading_zero, fraction_begins, numeral_at, mark_or, mark_at, single_mark, double_mark, closed_text, text_at, token_at}
 use Rattle.ctd_syntax.specs.Presets.{IsToken}
 use Rattle.ctd_syntax.specs.PresetFront.{negated}
 use Rattle.ctd_token.proofs.TokenFaults.{token_some}
 
 -- what a name, a numeral or a string at the front of b ∷ bs is
-abbrev Known : ℕ → List ℕ → Found → Type 0
+abbrev Known : ℕ → List ℕ → TokenOrFault → Type 0
 Known b bs (Ok (tokens.Name, n)) = (is_lower b ≡ true) × (n ≡ name_len (b ∷ bs))
 Known b bs (Ok (tokens.Numeral m, n)) = (is_digit b ≡ true) × (numeral_at (prefix_len is_digit (b ∷ bs)) (b ∷ bs) ≡ Ok (tokens.Numeral m, n))
 Known b bs (Ok (tokens.Text values, n)) = (b ≡ 34) × (text_at (literal 0 bs) ≡ Ok (tokens.Text values, n))
 Known b bs _ = Unit {0}
 
-by_test : (P : Found → Type 0) (t : Bool) (x y : Found) → (t ≡ true → P x) → P y → P (cond t x y)
+by_test : (P : TokenOrFault → Type 0) (t : Bool) (x y : TokenOrFault) → (t ≡ true → P x) → P y → P (cond t x y)
 by_test P true x y p q = p refl
 by_test P false x y p q = q
 
@@ -62,20 +62,20 @@ known : (b : ℕ) (bs : List ℕ) → Known b bs (token_at (b ∷ bs))
 known b bs =
     let all : List ℕ = b ∷ bs in
     let n : ℕ = prefix_len is_digit all in
-    let name : Found = Ok (tokens.Name, name_len all) in
+    let name : TokenOrFault = Ok (tokens.Name, name_len all) in
     let word : Judged = word_at (prefix_len is_upper all) all in
     let numeral : Judged = numeral_at n all in
-    let text : Found = text_at (literal 0 bs) in
-    let mark : Found = at_first_byte (mark_at b bs) in
-    let by_quote : Found = cond (nat_eq b 34) text mark in
-    let by_digit : Found = cond (is_digit b) (at_first_byte numeral) by_quote in
-    let by_lower : Found = cond (is_lower b) name by_digit in
+    let text : TokenOrFault = text_at (literal 0 bs) in
+    let mark : TokenOrFault = at_first_byte (mark_at b bs) in
+    let by_quote : TokenOrFault = cond (nat_eq b 34) text mark in
+    let by_digit : TokenOrFault = cond (is_digit b) (at_first_byte numeral) by_quote in
+    let by_lower : TokenOrFault = cond (is_lower b) name by_digit in
     let from_quote : Known b bs by_quote = by_test (Known b bs) (nat_eq b 34) text mark (λ is. known_text b bs (literal 0 bs) (grind (arith, tests, is)) refl) (known_marks b bs bs) in
-    let from_digit : Known b bs by_digit = by_test (Known b bs) (is_digit b) (at_first_byte numeral) by_quote (λ is. known_numeral b bs (has_leading_zero (take n all) || goes_on (drop n all)) (nat_le (2 ^ 127) (decimal (take n all))) (decimal (take n all)) n is refl) from_quote in
+    let from_digit : Known b bs by_digit = by_test (Known b bs) (is_digit b) (at_first_byte numeral) by_quote (λ is. known_numeral b bs (has_leading_zero (take n all) || fraction_begins (drop n all)) (nat_le (2 ^ 127) (decimal (take n all))) (decimal (take n all)) n is refl) from_quote in
     let from_lower : Known b bs by_lower = by_test (Known b bs) (is_lower b) name by_digit (λ is. (is, refl)) from_digit in
     by_test (Known b bs) (is_upper b) (at_first_byte word) by_lower (λ _. known_word b bs (is_left_out_word (take (prefix_len is_upper all) all)) (prefix_len is_upper all)) from_lower
 
-pub known_of : (b : ℕ) (bs : List ℕ) (found : Found) → token_at (b ∷ bs) ≡ found → Known b bs found
+pub known_of : (b : ℕ) (bs : List ℕ) (found : TokenOrFault) → token_at (b ∷ bs) ≡ found → Known b bs found
 known_of b bs found is = subst (Known b bs) is (known b bs)
 
 pub same_found : {A E : Type 0} (x y : A) (n m : ℕ) (found : Result (A × ℕ) E) → found ≡ Ok (x, n) → found ≡ Ok (y, m) → (x ≡ y) × (n ≡ m)
@@ -102,7 +102,7 @@ numeral_value (b ∷ bs) m len is =
     let all : List ℕ = b ∷ bs in
     let n : ℕ = prefix_len is_digit all in
     let of = known_of b bs (Ok (tokens.Numeral m, len)) is in
-    let small = small_numeral (has_leading_zero (take n all) || goes_on (drop n all)) (nat_le (2 ^ 127) (decimal (take n all))) (decimal (take n all)) n m len refl of.1 in
+    let small = small_numeral (has_leading_zero (take n all) || fraction_begins (drop n all)) (nat_le (2 ^ 127) (decimal (take n all))) (decimal (take n all)) n m len refl of.1 in
     (decimal (take n all), small.0, small.1)
 
 -- a number in the range has a negative
@@ -135,9 +135,9 @@ name_found : (b : ℕ) (bs : List ℕ) → is_lower b ≡ true → token_at (b �
 name_found b bs low =
     let all : List ℕ = b ∷ bs in
     let up : is_upper b ≡ false = grind (arith, tests, low) in
-    let name : Found = Ok (tokens.Name, name_len all) in
-    let word : Found = at_first_byte (word_at (prefix_len is_upper all) all) in
-    let other : Found = cond (is_digit b) (at_first_byte (numeral_at (prefix_len is_digit all) all)) (cond (nat_eq b 34) (text_at (literal 0 bs)) (at_first_byte (mark_at b bs))) in
+    let name : TokenOrFault = Ok (tokens.Name, name_len all) in
+    let word : TokenOrFault = at_first_byte (word_at (prefix_len is_upper all) all) in
+    let other : TokenOrFault = cond (is_digit b) (at_first_byte (numeral_at (prefix_len is_digit all) all)) (cond (nat_eq b 34) (text_at (literal 0 bs)) (at_first_byte (mark_at b bs))) in
     ap (λ t. cond t word (cond (is_lower b) name other)) up ∙ ap (λ t. cond t name other) low
 
 numeral_found : (b : ℕ) (bs : List ℕ) → is_digit b ≡ true → token_at (b ∷ bs) ≡ at_first_byte (numeral_at (prefix_len is_digit (b ∷ bs)) (b ∷ bs))
@@ -145,10 +145,10 @@ numeral_found b bs digit =
     let all : List ℕ = b ∷ bs in
     let up : is_upper b ≡ false = grind (arith, tests, digit) in
     let low : is_lower b ≡ false = grind (arith, tests, digit) in
-    let name : Found = Ok (tokens.Name, name_len all) in
-    let word : Found = at_first_byte (word_at (prefix_len is_upper all) all) in
-    let numeral : Found = at_first_byte (numeral_at (prefix_len is_digit all) all) in
-    let other : Found = cond (nat_eq b 34) (text_at (literal 0 bs)) (at_first_byte (mark_at b bs)) in
+    let name : TokenOrFault = Ok (tokens.Name, name_len all) in
+    let word : TokenOrFault = at_first_byte (word_at (prefix_len is_upper all) all) in
+    let numeral : TokenOrFault = at_first_byte (numeral_at (prefix_len is_digit all) all) in
+    let other : TokenOrFault = cond (nat_eq b 34) (text_at (literal 0 bs)) (at_first_byte (mark_at b bs)) in
     ap (λ t. cond t word (cond (is_lower b) name (cond (is_digit b) numeral other))) up
     ∙ ap (λ t. cond t name (cond (is_digit b) numeral other)) low
     ∙ ap (λ t. cond t numeral other) digit
@@ -176,20 +176,20 @@ name_alone (b ∷ bs) (suc n) is =
 abbrev numeral_of : ℕ → List ℕ → Bool → Judged
 numeral_of n digits more = judged (has_leading_zero digits || more) (nat_le (2 ^ 127) (decimal digits)) (decimal digits) n
 
-numeral_whole : (text rest : List ℕ) → goes_on rest ≡ false → numeral_at (length text) (text ++ rest) ≡ numeral_of (length text) text false
+numeral_whole : (text rest : List ℕ) → fraction_begins rest ≡ false → numeral_at (length text) (text ++ rest) ≡ numeral_of (length text) text false
 numeral_whole text rest ends =
-    ap (λ l. numeral_of (length text) l (goes_on (drop (length text) (text ++ rest)))) (take-append_seam text rest)
-    ∙ ap (λ l. numeral_of (length text) text (goes_on l)) (drop-append_seam text rest)
+    ap (λ l. numeral_of (length text) l (fraction_begins (drop (length text) (text ++ rest)))) (take-append_seam text rest)
+    ∙ ap (λ l. numeral_of (length text) text (fraction_begins l)) (drop-append_seam text rest)
     ∙ ap (numeral_of (length text) text) ends
 
 numeral_length : (b : ℕ) (bs : List ℕ) (m : ℤ) (n : ℕ) → numeral_at (prefix_len is_digit (b ∷ bs)) (b ∷ bs) ≡ Ok (tokens.Numeral m, n) → prefix_len is_digit (b ∷ bs) ≡ n
 numeral_length b bs m len is =
     let all : List ℕ = b ∷ bs in
     let n : ℕ = prefix_len is_digit all in
-    (small_numeral (has_leading_zero (take n all) || goes_on (drop n all)) (nat_le (2 ^ 127) (decimal (take n all))) (decimal (take n all)) n m len refl is).2
+    (small_numeral (has_leading_zero (take n all) || fraction_begins (drop n all)) (nat_le (2 ^ 127) (decimal (take n all))) (decimal (take n all)) n m len refl is).2
 
 -- a numeral before what is no part of it
-pub numeral_front : (text rest : List ℕ) (m : ℤ) → IsToken text (tokens.Numeral m) → goes_on rest ≡ false → prefix_len is_digit rest ≡ 0 → token_at (text ++ rest) ≡ Ok (tokens.Numeral m, length text)
+pub numeral_front : (text rest : List ℕ) (m : ℤ) → IsToken text (tokens.Numeral m) → fraction_begins rest ≡ false → prefix_len is_digit rest ≡ 0 → token_at (text ++ rest) ≡ Ok (tokens.Numeral m, length text)
 numeral_front [] rest m is ends none = absurd (no_token (tokens.Numeral m) 0 is)
 numeral_front (b ∷ bs) rest m is ends none =
     let text : List ℕ = b ∷ bs in
@@ -216,8 +216,8 @@ numeral_alone (b ∷ bs) (suc n) m is =
     let of = known_of b bs (Ok (tokens.Numeral m, suc n)) is in
     let long : prefix_len is_digit all ≡ suc n = numeral_length b bs m (suc n) of.1 in
     let run = run_alone is_digit all (suc n) (sym long) in
-    let found : numeral_of (suc n) text (goes_on (drop n bs)) ≡ Ok (tokens.Numeral m, suc n) = ap (λ k. numeral_at k all) (sym long) ∙ of.1 in
-    let clean : numeral_of (suc n) text false ≡ Ok (tokens.Numeral m, suc n) = plain_digits (has_leading_zero text) (goes_on (drop n bs)) (nat_le (2 ^ 127) (decimal text)) (decimal text) (suc n) m (suc n) found in
+    let found : numeral_of (suc n) text (fraction_begins (drop n bs)) ≡ Ok (tokens.Numeral m, suc n) = ap (λ k. numeral_at k all) (sym long) ∙ of.1 in
+    let clean : numeral_of (suc n) text false ≡ Ok (tokens.Numeral m, suc n) = plain_digits (has_leading_zero text) (fraction_begins (drop n bs)) (nat_le (2 ^ 127) (decimal text)) (decimal text) (suc n) m (suc n) found in
     let alone : numeral_at (length text) text ≡ numeral_of (length text) text false = ap (numeral_at (length text)) (sym (append-nil text)) ∙ numeral_whole text [] refl in
     numeral_found b (take n bs) of.0
     ∙ ap (λ k. at_first_byte (numeral_at k text)) run.0

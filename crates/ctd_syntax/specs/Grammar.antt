@@ -69,13 +69,13 @@ pub data IsNames : List Lexeme → List (List ℕ) → Type 0 where
   more : {ts : List Lexeme} {name : List ℕ} {names : List (List ℕ)} → IsNames ts names → IsNames (Lexeme.name name ∷ mark Comma ∷ ts) (name ∷ names)
 
 -- the mark of a comparison
-abbrev pub mark_of : Compare → Mark
-mark_of comparisons.Less = marks.Less
-mark_of comparisons.Greater = marks.Greater
-mark_of comparisons.AtMost = marks.AtMost
-mark_of comparisons.AtLeast = marks.AtLeast
-mark_of comparisons.Equal = marks.Equal
-mark_of comparisons.Unequal = marks.Unequal
+abbrev pub compare_mark : Compare → Mark
+compare_mark comparisons.Less = marks.Less
+compare_mark comparisons.Greater = marks.Greater
+compare_mark comparisons.AtMost = marks.AtMost
+compare_mark comparisons.AtLeast = marks.AtLeast
+compare_mark comparisons.Equal = marks.Equal
+compare_mark comparisons.Unequal = marks.Unequal
 
 mutual
   -- || from the left
@@ -95,7 +95,7 @@ mutual
 
   -- a comparison, a question, or a test in parentheses
   pub data IsSimpleTest : List Lexeme → TestTree → Type 0 where
-    compare : {ts us : List Lexeme} {a b : ExprTree} {by : Compare} → IsExpr ts a → IsExpr us b → IsSimpleTest (ts ++ mark (mark_of by) ∷ us) (Tree.compare by a b)
+    compare : {ts us : List Lexeme} {a b : ExprTree} {by : Compare} → IsExpr ts a → IsExpr us b → IsSimpleTest (ts ++ mark (compare_mark by) ∷ us) (Tree.compare by a b)
     matches : {ts : List Lexeme} {a : ExprTree} {at : Place} → IsExpr ts a → IsSimpleTest (keyword words.Match at ∷ mark Open ∷ ts ++ mark Close ∷ []) (Tree.matches a)
     at_end : {at : Place} → IsSimpleTest (keyword words.IsEof at ∷ []) Tree.at_end
     unique : {ts : List Lexeme} {names : List (List ℕ)} {at : Place} → IsNames ts names → IsSimpleTest (keyword words.Unique at ∷ mark Open ∷ ts ++ mark Close ∷ []) (Tree.unique names)

@@ -8,7 +8,7 @@ use Rattle.ctd_syntax.specs.declared.preset.PresetFault.TheVariants.{BadPreset, 
 use Rattle.ctd_token.specs.declared.fault.TokenFault.{TokenFault}
 use Rattle.ctd_token.specs.declared.fault.TokenFault.TheVariants as scanning
 use Rattle.ctd_token.specs.declared.token.TokenKind.TheVariants as tokens
-use Rattle.ctd_token.specs.Cut.{Found, token_at}
+use Rattle.ctd_token.specs.Cut.{TokenOrFault, token_at}
 
 -- a fault of a token is one of the presets
 abbrev pub fault_of : TokenFault → PresetFault
@@ -16,19 +16,19 @@ fault_of (scanning.Wrong kind behind) = BadPreset
 fault_of scanning.Memory = Memory
 
 -- what is found, unless no memory was left
-abbrev pub Answers : {T : Type 0} → Result T PresetFault → Option T → Type 0
-Answers (Ok x) found = found ≡ Some x
-Answers (Err BadPreset) found = found ≡ None
-Answers (Err Memory) found = Unit {0}
+abbrev pub IsFound : {T : Type 0} → Result T PresetFault → Option T → Type 0
+IsFound (Ok x) found = found ≡ Some x
+IsFound (Err BadPreset) found = found ≡ None
+IsFound (Err Memory) found = Unit {0}
 
 -- a token that is a literal
-abbrev pub plain : Found → Option (Literal × ℕ)
+abbrev pub plain : TokenOrFault → Option (Literal × ℕ)
 plain (Ok (tokens.Numeral n, len)) = Some (literals.Int n, len)
 plain (Ok (tokens.Text values, len)) = Some (literals.Text values, len)
 plain _ = None
 
 -- a numeral behind a minus
-abbrev pub negated : Found → Option (Literal × ℕ)
+abbrev pub negated : TokenOrFault → Option (Literal × ℕ)
 negated (Ok (tokens.Numeral n, len)) = Some (literals.Int (neg_ℤ n), 1 + len)
 negated _ = None
 
@@ -47,7 +47,7 @@ behind_name name [] = None
 behind_name name (b ∷ bs) = if nat_eq b 61 then option_map (valued name) (literal_at bs) else None
 
 -- a first token that is a name, and what is behind it
-abbrev pub named : Found → List ℕ → Option (Preset × ℕ)
+abbrev pub named : TokenOrFault → List ℕ → Option (Preset × ℕ)
 named (Ok (tokens.Name, n)) bytes = behind_name (take n bytes) (drop n bytes)
 named _ bytes = None
 

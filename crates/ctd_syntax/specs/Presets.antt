@@ -12,14 +12,14 @@ abbrev pub IsToken : List ℕ → TokenKind → Type 0
 IsToken text t = token_at text ≡ Ok (t, length text)
 
 -- a numeral, a minus and a numeral, or a string
-pub data IsLiteral : List ℕ → Literal → Type 0 where
-  number : {text : List ℕ} {n : ℤ} → IsToken text (tokens.Numeral n) → IsLiteral text (literals.Int n)
-  negative : {text : List ℕ} {n : ℤ} → IsToken text (tokens.Numeral n) → IsLiteral (45 ∷ text) (literals.Int (neg_ℤ n))
-  string : {text values : List ℕ} → IsToken text (tokens.Text values) → IsLiteral text (literals.Text values)
+pub data IsPresetValue : List ℕ → Literal → Type 0 where
+  number : {text : List ℕ} {n : ℤ} → IsToken text (tokens.Numeral n) → IsPresetValue text (literals.Int n)
+  negative : {text : List ℕ} {n : ℤ} → IsToken text (tokens.Numeral n) → IsPresetValue (45 ∷ text) (literals.Int (neg_ℤ n))
+  string : {text values : List ℕ} → IsToken text (tokens.Text values) → IsPresetValue text (literals.Text values)
 
 -- name=value, without blanks
 pub data IsPreset : List ℕ → Preset → Type 0 where
-  preset : (name value : List ℕ) {v : Literal} → IsToken name tokens.Name → IsLiteral value v → IsPreset (name ++ 61 ∷ value) (record { name = name; value = v })
+  preset : (name value : List ℕ) {v : Literal} → IsToken name tokens.Name → IsPresetValue value v → IsPreset (name ++ 61 ∷ value) (record { name = name; value = v })
 
 -- one item or more, with a comma between each two
 pub data AreSeparated {T : Type 0} (Item : List ℕ → T → Type 0) : List ℕ → List T → Type 0 where

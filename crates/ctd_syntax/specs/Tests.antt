@@ -11,7 +11,7 @@ use Rattle.ctd_syntax.specs.declared.condition.TokenRole.TheVariants.{Tests, Ope
 use Rattle.ctd_syntax.specs.Lexeme.{Lexeme, mark, keyword}
 use Rattle.ctd_syntax.specs.Tree
 use Rattle.ctd_syntax.specs.Tree.{ExprTree, TestTree}
-use Rattle.ctd_syntax.specs.Grammar.{IsExpr, IsNames, mark_of}
+use Rattle.ctd_syntax.specs.Grammar.{IsExpr, IsNames, compare_mark}
 use Rattle.ctd_syntax.specs.Front.{Spelling, IsAfter, IsBefore, IsPair, IsName}
 use Rattle.ctd_syntax.specs.Levels.{binding}
 
@@ -54,7 +54,7 @@ IsTestCall _ ts u = ⊥
 
 -- an expression and a comparison behind it
 abbrev pub IsLeft : Spelling (ExprTree × Compare)
-IsLeft vs x = (ts : List Lexeme) × (vs ≡ ts ++ mark (mark_of x.1) ∷ []) × IsExpr ts x.0
+IsLeft vs x = (ts : List Lexeme) × (vs ≡ ts ++ mark (compare_mark x.1) ∷ []) × IsExpr ts x.0
 
 -- two expressions and a comparison between them
 abbrev pub IsCompared : Spelling TestTree

@@ -4,7 +4,7 @@
 ghost use Rattle.std.specs.Prelude.{◌≡◌, ◌+◌, ◌≤◌, ◌<◌, List, length, Err, IfOk};
 ghost use Rattle.ctd_syntax.specs.Presets.{ArePresets};
 ghost use Rattle.ctd_token.specs.Cut.{token_at};
-ghost use Rattle.ctd_syntax.specs.PresetFront.{Answers, negated, literal_at, preset_at};
+ghost use Rattle.ctd_syntax.specs.PresetFront.{IsFound, negated, literal_at, preset_at};
 ghost use Rattle.ctd_syntax.specs.declared.preset.Preset.{Preset};
 
 use crate::preset::{Literal, Preset, PresetFault};
@@ -13,7 +13,7 @@ use std::alloc::Global;
 
 // The number behind a minus and its length with the minus.
 fn negative_at(alloc: Global, bytes: &[u8]) -> Result<(Literal, usize), PresetFault>
-    ensures value { Answers result (negated (token_at bytes.now)) }
+    ensures value { IsFound result (negated (token_at bytes.now)) }
     ensures within { IfOk result (λ x. x.1 ≤ 1 + length bytes.now) }
 {
     if bytes.is_empty() {
@@ -28,7 +28,7 @@ fn negative_at(alloc: Global, bytes: &[u8]) -> Result<(Literal, usize), PresetFa
 
 // The literal at the front of some bytes and its length.
 fn literal_at(alloc: Global, bytes: &[u8]) -> Result<(Literal, usize), PresetFault>
-    ensures value { Answers result (literal_at bytes.now) }
+    ensures value { IsFound result (literal_at bytes.now) }
     ensures within { IfOk result (λ x. x.1 ≤ length bytes.now) }
 {
     if bytes.is_empty() {
@@ -47,7 +47,7 @@ fn literal_at(alloc: Global, bytes: &[u8]) -> Result<(Literal, usize), PresetFau
 
 // The preset at the front of some bytes and its length.
 fn preset_at(alloc: Global, bytes: &[u8]) -> Result<(Preset, usize), PresetFault>
-    ensures value { Answers result (preset_at bytes.now) }
+    ensures value { IsFound result (preset_at bytes.now) }
     ensures within { IfOk result (λ x. (0 < x.1) × (x.1 ≤ length bytes.now)) }
 {
     if bytes.is_empty() {

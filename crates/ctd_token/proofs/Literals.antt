@@ -8,7 +8,7 @@ use Rattle.std.proofs.lemmas.Bool.{le-ltb, lt-ltb}
 use Rattle.ctd_token.specs.declared.fault.LoadKind.TheVariants.{UnfinishedString, BadOctal}
 use Rattle.ctd_token.specs.declared.token.TokenKind.TheVariants as tokens
 use Rattle.ctd_token.specs.Literal.{LiteralPart, literal_part, after_backslash, part_at, is_plain, Closed, closed_here, one_later, with_part, literal}
-use Rattle.ctd_token.specs.Cut.{Found, wrong, closed_text, text_at}
+use Rattle.ctd_token.specs.Cut.{TokenOrFault, wrong, closed_text, text_at}
 
 -- a literal with n bytes in front, which stand for these values and have this octal escape above 255
 abbrev pub joined : List ℕ → Option ℕ → ℕ → Closed → Closed
@@ -188,7 +188,7 @@ bad_on bytes values vs bad at m r lt backslash means long some fits large =
     found_bad bytes values bad at r vs m fits read
 
 -- what a literal with its opening quote is
-abbrev text_of : Closed → Option ℕ → Found
+abbrev text_of : Closed → Option ℕ → TokenOrFault
 text_of c None = Ok (tokens.Text c.values, c.length)
 text_of c (Some n) = wrong BadOctal n
 

@@ -1,26 +1,34 @@
 -- The numbers that digits spell.
-use Rattle.std.proofs.Common.{◌≡◌, ℕ, ◌+◌, ◌-◌, ◌*◌, ◌≤◌, ◌<◌, List, [], ◌∷◌, length, take, drop, get_or, true, Bool, cond, ap, sym, ◌∙◌, arith, get_or-take, length-take-le}
-use Rattle.std.specs.List.{prefix_len, fold}
-use Rattle.std.proofs.lemmas.List.{take-append-drop}
-use Rattle.std.proofs.lemmas.List.Sums.{fold-append, fold_more, prefix_len-le-length, prefix_len_passes}
+use Rattle.std.proofs.Common.{◌≡◌, ℕ, zero, suc, ◌+◌, ◌-◌, ◌*◌, ◌^◌, ◌≤◌, ◌<◌, List, [], ◌∷◌, ◌++◌, length, take, get_or, true, Bool, cond, ap, ◌∙◌, arith, add-one, get_or-take, length-append, length-take-le}
+use Rattle.std.specs.List.{prefix_len}
+use Rattle.std.proofs.Math.Nat.{mul_assoc, mul-le-mul_left, pow-suc, pow-le-pow_right}
+use Rattle.std.proofs.lemmas.List.{length-take, take_more}
+use Rattle.std.proofs.lemmas.List.Sums.{prefix_len-le-length, prefix_len_passes}
 use Rattle.ctd_token.specs.Cut.{decimal, is_digit}
 
--- a number with one more digit behind it
-abbrev with_digit : ℕ → ℕ → ℕ
-with_digit n b = 10 * n + (b - 48)
-
-decimal_grows : (n : ℕ) (bs : List ℕ) → n ≤ fold with_digit n bs
-decimal_grows n [] = omega arith
-decimal_grows n (b ∷ bs) = omega (arith, decimal_grows (10 * n + (b - 48)) bs)
+-- one more digit behind others
+pub decimal-append : (bs : List ℕ) (b : ℕ) → decimal (bs ++ b ∷ []) ≡ decimal bs * 10 + (b - 48)
+decimal-append [] b = omega arith
+decimal-append (c ∷ bs) b =
+    let e : 10 ^ length (bs ++ b ∷ []) ≡ 10 ^ length bs * 10 =
+    ap (λ n. 10 ^ n) (length-append bs (b ∷ []) ∙ add-one (length bs)) ∙ pow-suc 10 (length bs) in
+    rw (e, decimal-append bs b) (omega (arith, mul_assoc (c - 48) (10 ^ length bs) 10))
 
 decimal-take-le : (i : ℕ) (bs : List ℕ) → decimal (take i bs) ≤ decimal bs
-decimal-take-le i bs =
-    let whole : decimal bs ≡ fold with_digit (decimal (take i bs)) (drop i bs) = ap decimal (sym (take-append-drop i bs)) ∙ fold-append with_digit 0 (take i bs) (drop i bs) in
-    omega (arith, whole, decimal_grows (decimal (take i bs)) (drop i bs))
+decimal-take-le zero bs = omega arith
+decimal-take-le (suc i) [] = omega arith
+decimal-take-le (suc i) (b ∷ bs) =
+    let shorter : length (take i bs) ≤ length bs = omega (arith, length-take i bs) in
+    let power : 10 ^ length (take i bs) ≤ 10 ^ length bs = pow-le-pow_right (omega arith) shorter in
+    omega (arith, mul-le-mul_left (b - 48) power, decimal-take-le i bs)
+
+-- the next digit behind those before it
+pub decimal_more : (bs : List ℕ) (i : ℕ) → i < length bs → decimal (take (i + 1) bs) ≡ 10 * decimal (take i bs) + (get_or bs i 0 - 48)
+decimal_more bs i lt = omega (arith, ap decimal (take_more bs i 0 lt), decimal-append (take i bs) (get_or bs i 0))
 
 -- the digits up to the next one spell no more than all do
 pub decimal_more_le : (bs : List ℕ) (i : ℕ) → i < length bs → 10 * decimal (take i bs) + (get_or bs i 0 - 48) ≤ decimal bs
-decimal_more_le bs i lt = omega (arith, fold_more with_digit 0 bs i 0 lt, decimal-take-le (i + 1) bs)
+decimal_more_le bs i lt = omega (arith, decimal_more bs i lt, decimal-take-le (i + 1) bs)
 
 -- the longest row of digits holds digits alone
 pub digits_alone : (n : ℕ) (bs : List ℕ) → n ≡ prefix_len is_digit bs → (k d : ℕ) → k < length (take n bs) → is_digit (get_or (take n bs) k d) ≡ true

@@ -13,7 +13,7 @@ use Rattle.ctd_token.specs.declared.fault.LoadFault.{LoadFault}
 use Rattle.ctd_token.specs.declared.fault.TokenFault.{TokenFault}
 use Rattle.ctd_token.specs.declared.fault.TokenFault.TheVariants as scanning
 use Rattle.ctd_token.specs.Literal.{Closed, literal}
-use Rattle.ctd_token.specs.Cut.{is_upper, is_lower, is_digit, Judged, Found, wrong, at_first_byte, is_left_out_word, word_at, name_len, decimal, has_leading_zero, goes_on, numeral_at, mark_or, mark_at, single_mark, double_mark, closed_text, text_at, token_at, place_at}
+use Rattle.ctd_token.specs.Cut.{is_upper, is_lower, is_digit, Judged, TokenOrFault, wrong, at_first_byte, is_left_out_word, word_at, name_len, decimal, has_leading_zero, fraction_begins, numeral_at, mark_or, mark_at, single_mark, double_mark, closed_text, text_at, token_at, place_at}
 use Rattle.ctd_token.specs.Scanning.{Scans, IsPlaced}
 use Rattle.ctd_token.specs.Lexing.{HasFault, IsLexFault}
 use Rattle.ctd_token.proofs.Cutting.{Cutting, fault}
@@ -32,7 +32,7 @@ abbrev JudgedWell : Judged → Type 0
 JudgedWell (Ok (t, n)) = 0 < n
 JudgedWell (Err kind) = IsTokenKind kind
 
-abbrev FoundWell : Found → Type 0
+abbrev FoundWell : TokenOrFault → Type 0
 FoundWell (Ok (t, n)) = 0 < n
 FoundWell (Err (kind, n)) = IsTokenKind kind
 
@@ -40,7 +40,7 @@ judged_if : (t : Bool) (x y : Judged) → JudgedWell x → JudgedWell y → Judg
 judged_if true x y p q = p
 judged_if false x y p q = q
 
-found_if : (t : Bool) (x y : Found) → (t ≡ true → FoundWell x) → FoundWell y → FoundWell (cond t x y)
+found_if : (t : Bool) (x y : TokenOrFault) → (t ≡ true → FoundWell x) → FoundWell y → FoundWell (cond t x y)
 found_if true x y p q = p refl
 found_if false x y p q = q
 
@@ -83,20 +83,20 @@ numeral_well b bs is =
     let digits : List ℕ = take n (b ∷ bs) in
     let fits : Judged = Ok (tokens.Numeral (pos (decimal digits)), n) in
     let judged : Judged = cond (nat_le (2 ^ 127) (decimal digits)) (Err NumberTooLarge) fits in
-    judged_if (has_leading_zero digits || goes_on (drop n (b ∷ bs))) (Err NotInProfile) judged tt (judged_if (nat_le (2 ^ 127) (decimal digits)) (Err NumberTooLarge) fits tt (run_some is_digit b bs is))
+    judged_if (has_leading_zero digits || fraction_begins (drop n (b ∷ bs))) (Err NotInProfile) judged tt (judged_if (nat_le (2 ^ 127) (decimal digits)) (Err NumberTooLarge) fits tt (run_some is_digit b bs is))
 
 pub token_well : (bytes : List ℕ) → FoundWell (token_at bytes)
 token_well [] = tt
 token_well (b ∷ bs) =
     let all : List ℕ = b ∷ bs in
-    let name : Found = Ok (tokens.Name, name_len all) in
+    let name : TokenOrFault = Ok (tokens.Name, name_len all) in
     let word : Judged = word_at (prefix_len is_upper all) all in
     let numeral : Judged = numeral_at (prefix_len is_digit all) all in
-    let text : Found = text_at (literal 0 bs) in
-    let mark : Found = at_first_byte (mark_at b bs) in
-    let by_quote : Found = cond (nat_eq b 34) text mark in
-    let by_digit : Found = cond (is_digit b) (at_first_byte numeral) by_quote in
-    let by_lower : Found = cond (is_lower b) name by_digit in
+    let text : TokenOrFault = text_at (literal 0 bs) in
+    let mark : TokenOrFault = at_first_byte (mark_at b bs) in
+    let by_quote : TokenOrFault = cond (nat_eq b 34) text mark in
+    let by_digit : TokenOrFault = cond (is_digit b) (at_first_byte numeral) by_quote in
+    let by_lower : TokenOrFault = cond (is_lower b) name by_digit in
     let from_quote : FoundWell by_quote = found_if (nat_eq b 34) text mark (λ _. text_well (literal 0 bs)) (first_well (mark_at b bs) (marks_well b bs)) in
     let from_digit : FoundWell by_digit = found_if (is_digit b) (at_first_byte numeral) by_quote (λ is. first_well numeral (numeral_well b bs is)) from_quote in
     let from_lower : FoundWell by_lower = found_if (is_lower b) name by_digit (λ is. name_some b bs is) from_digit in

@@ -4,16 +4,16 @@ use Rattle.ctd_token.specs.declared.token.Token.{Token}
 use Rattle.ctd_token.specs.declared.token.TokenKind.{TokenKind}
 use Rattle.ctd_token.specs.declared.fault.LoadKind.{LoadKind}
 use Rattle.ctd_token.specs.declared.fault.LoadKind.TheVariants.{BadByte}
-use Rattle.ctd_token.specs.Cut.{Found, wrong, skip_gap, token_at, place_at, next_token, Cuts, none, token, Faults, here, later}
+use Rattle.ctd_token.specs.Cut.{TokenOrFault, wrong, skip_gap, token_at, place_at, next_token, Cuts, none, token, Faults, here, later}
 
-same_token : (x y : TokenKind) (n m : ℕ) (found : Found) → found ≡ Ok (x, n) → found ≡ Ok (y, m) → (x ≡ y) × (n ≡ m)
+same_token : (x y : TokenKind) (n m : ℕ) (found : TokenOrFault) → found ≡ Ok (x, n) → found ≡ Ok (y, m) → (x ≡ y) × (n ≡ m)
 same_token x y n m found e f =
     let pair : (x, n) ≡ (y, m) = cc in
     let first : TokenKind × ℕ → TokenKind = λ q. q.0 in
     let second : TokenKind × ℕ → ℕ = λ q. q.1 in
     (ap first pair, ap second pair)
 
-same_wrong : (x y : LoadKind) (n m : ℕ) (found : Found) → found ≡ wrong x n → found ≡ wrong y m → (x ≡ y) × (n ≡ m)
+same_wrong : (x y : LoadKind) (n m : ℕ) (found : TokenOrFault) → found ≡ wrong x n → found ≡ wrong y m → (x ≡ y) × (n ≡ m)
 same_wrong x y n m found e f =
     let pair : (x, n) ≡ (y, m) = cc in
     let first : LoadKind × ℕ → LoadKind = λ q. q.0 in
@@ -23,7 +23,7 @@ same_wrong x y n m found e f =
 no_token : (bytes : List ℕ) (x : TokenKind × ℕ) → skip_gap false bytes ≡ [] → token_at (skip_gap false bytes) ≡ Ok x → ⊥
 no_token bytes x e f = let g : wrong BadByte 0 ≡ Ok x = sym (ap token_at e) ∙ f in cc
 
-no_both : (x : TokenKind × ℕ) (kind : LoadKind) (n : ℕ) (found : Found) → found ≡ Ok x → found ≡ wrong kind n → ⊥
+no_both : (x : TokenKind × ℕ) (kind : LoadKind) (n : ℕ) (found : TokenOrFault) → found ≡ Ok x → found ≡ wrong kind n → ⊥
 no_both x kind n found e f = cc
 
 pub same_cut : (text : List ℕ) (at : ℕ) (bytes : List ℕ) (a b : List Token) → Cuts text at bytes a → Cuts text at bytes b → a ≡ b

@@ -1,5 +1,5 @@
 -- How a text is cut into tokens.
-use Rattle.std.specs.Prelude.{◌≡◌, ℕ, ◌+◌, ◌-◌, ◌*◌, ◌||◌, ◌&&◌, not, Bool, false, nat_eq, nat_le, if◌then◌else◌, List, [], ◌∷◌, Option, Some, None, Result, Ok, Err, get_or, drop, take, length, count_by, fold, codes, pos, ◌^◌}
+use Rattle.std.specs.Prelude.{◌≡◌, ℕ, ◌+◌, ◌-◌, ◌*◌, ◌||◌, ◌&&◌, not, Bool, false, nat_eq, nat_le, if◌then◌else◌, List, [], ◌∷◌, Option, Some, None, Result, Ok, Err, get_or, drop, take, length, count_by, codes, pos, ◌^◌}
 use Rattle.std.specs.List.{prefix_len, after_last, list_any}
 use Rattle.std.specs.Str.{bytes_eq}
 use Rattle.ctd_token.specs.declared.text.Place.{Place}
@@ -20,8 +20,8 @@ place_at text p = record {
 }
 
 -- space, tab, carriage return and line feed
-abbrev pub is_blank : ℕ → Bool
-is_blank b = nat_eq b 32 || nat_eq b 9 || nat_eq b 13 || nat_eq b 10
+abbrev pub is_whitespace : ℕ → Bool
+is_whitespace b = nat_eq b 32 || nat_eq b 9 || nat_eq b 13 || nat_eq b 10
 
 -- `A` to `Z`
 abbrev pub is_upper : ℕ → Bool
@@ -43,7 +43,7 @@ is_hash b = nat_eq b 35
 abbrev pub skip_gap : (in_comment : Bool) → List ℕ → List ℕ
 skip_gap in_comment [] = []
 skip_gap in_comment (b ∷ bs) =
-    if in_comment || is_blank b || is_hash b then skip_gap (is_hash b || (in_comment && not (nat_eq b 10))) bs else b ∷ bs
+    if in_comment || is_whitespace b || is_hash b then skip_gap (is_hash b || (in_comment && not (nat_eq b 10))) bs else b ∷ bs
 
 -- the mark that one byte is: ( ) [ ] , = + - * / % ^ ! < >
 abbrev pub single_mark : ℕ → Option Mark
@@ -92,23 +92,24 @@ word_at n bytes = if is_left_out_word (take n bytes) then Err NotInProfile else 
 abbrev pub name_len : List ℕ → ℕ
 name_len bytes = prefix_len (λ b. is_lower b || is_digit b) bytes
 
--- the number that digits spell
+-- the number that digits spell: the sum of the digits times powers of ten
 abbrev pub decimal : List ℕ → ℕ
-decimal digits = fold (λ n b. 10 * n + (b - 48)) 0 digits
+decimal [] = 0
+decimal (b ∷ bs) = (b - 48) * 10 ^ length bs + decimal bs
 
 -- two or more digits, of which the first is `0`
 abbrev pub has_leading_zero : List ℕ → Bool
 has_leading_zero digits = nat_le 2 (length digits) && nat_eq (get_or digits 0 0) 48
 
 -- a fraction or an exponent begins: `.`, `e` or `E`
-abbrev pub goes_on : List ℕ → Bool
-goes_on [] = false
-goes_on (b ∷ bs) = nat_eq b 46 || nat_eq b 101 || nat_eq b 69
+abbrev pub fraction_begins : List ℕ → Bool
+fraction_begins [] = false
+fraction_begins (b ∷ bs) = nat_eq b 46 || nat_eq b 101 || nat_eq b 69
 
 -- a numeral of n digits
 abbrev pub numeral_at : ℕ → List ℕ → Judged
 numeral_at n bytes =
-    if has_leading_zero (take n bytes) || goes_on (drop n bytes) then Err NotInProfile
+    if has_leading_zero (take n bytes) || fraction_begins (drop n bytes) then Err NotInProfile
     else if nat_le (2 ^ 127) (decimal (take n bytes)) then Err NumberTooLarge
     else Ok (tokens.Numeral (pos (decimal (take n bytes))), n)
 
@@ -123,30 +124,30 @@ mark_at a [] = mark_or (single_mark a) 1 (Err BadByte)
 mark_at a (b ∷ bs) = mark_or (double_mark a b) 2 (mark_or (single_mark a) 1 (Err BadByte))
 
 -- what stands at the front of some bytes: a token and its length, or a fault and how far behind the first byte it is
-abbrev pub Found : Type 0
-Found = Result (TokenKind × ℕ) (LoadKind × ℕ)
+abbrev pub TokenOrFault : Type 0
+TokenOrFault = Result (TokenKind × ℕ) (LoadKind × ℕ)
 
 -- a fault this many bytes after the first
-abbrev pub wrong : LoadKind → ℕ → Found
+abbrev pub wrong : LoadKind → ℕ → TokenOrFault
 wrong kind behind = Err (kind, behind)
 
 -- a fault is at the first byte, unless said otherwise
-abbrev pub at_first_byte : Judged → Found
+abbrev pub at_first_byte : Judged → TokenOrFault
 at_first_byte (Ok t) = Ok t
 at_first_byte (Err kind) = wrong kind 0
 
 -- a closed string: its first octal escape above 255 is a fault, at the backslash
-abbrev pub closed_text : Closed → Option ℕ → Found
+abbrev pub closed_text : Closed → Option ℕ → TokenOrFault
 closed_text c None = Ok (tokens.Text c.values, 1 + c.length)
 closed_text c (Some n) = wrong BadOctal (1 + n)
 
 -- a string after its opening quote
-abbrev pub text_at : Option Closed → Found
+abbrev pub text_at : Option Closed → TokenOrFault
 text_at None = wrong UnfinishedString 0
 text_at (Some c) = closed_text c c.bad_octal
 
 -- the longest token at the front of some bytes and its length, or the fault there
-abbrev pub token_at : List ℕ → Found
+abbrev pub token_at : List ℕ → TokenOrFault
 token_at [] = wrong BadByte 0
 token_at (b ∷ bs) =
     if is_upper b then at_first_byte (word_at (prefix_len is_upper (b ∷ bs)) (b ∷ bs))

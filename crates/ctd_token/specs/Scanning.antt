@@ -5,10 +5,10 @@ use Rattle.ctd_token.specs.declared.fault.TokenFault.{TokenFault}
 use Rattle.ctd_token.specs.declared.fault.TokenFault.TheVariants.{Wrong, Memory}
 use Rattle.ctd_token.specs.declared.fault.LoadFault.{LoadFault}
 use Rattle.ctd_token.specs.declared.fault.LoadKind.TheVariants as loading
-use Rattle.ctd_token.specs.Cut.{Found, wrong, place_at}
+use Rattle.ctd_token.specs.Cut.{TokenOrFault, wrong, place_at}
 
 -- the token or the fault that is found, unless no memory was left
-abbrev pub Scans : Result (TokenKind × ℕ) TokenFault → Found → Type 0
+abbrev pub Scans : Result (TokenKind × ℕ) TokenFault → TokenOrFault → Type 0
 Scans (Ok t) found = found ≡ Ok t
 Scans (Err (Wrong kind behind)) found = found ≡ wrong kind behind
 Scans (Err Memory) found = Unit {0}

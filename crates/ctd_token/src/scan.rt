@@ -3,7 +3,7 @@
 
 ghost use Rattle.std.specs.Prelude.{◌≡◌, ◌≤◌, ◌<◌, ◌^◌, drop, take, false, true, slice_index, length, All, IfOk, IfErr, MatchOption};
 ghost use Rattle.std.specs.List.{prefix_len};
-ghost use Rattle.ctd_token.specs.Cut.{is_blank, is_upper, is_digit, skip_gap, single_mark, double_mark, is_left_out_word, name_len, decimal, word_at, numeral_at, mark_at, token_at};
+ghost use Rattle.ctd_token.specs.Cut.{is_whitespace, is_upper, is_digit, skip_gap, single_mark, double_mark, is_left_out_word, name_len, decimal, word_at, numeral_at, mark_at, token_at};
 ghost use Rattle.ctd_token.specs.Scanning.{Scans, FaultWithin};
 
 use crate::fault::{LoadKind, TokenFault};
@@ -11,8 +11,8 @@ use crate::literal::text_at;
 use crate::token::{Mark, TokenKind};
 use std::alloc::Global;
 
-fn is_blank(b: u8) -> bool
-    ensures { result ≡ is_blank b }
+fn is_whitespace(b: u8) -> bool
+    ensures { result ≡ is_whitespace b }
 {
     matches!(b, b' ' | b'\t' | b'\r' | b'\n')
 }
@@ -30,7 +30,7 @@ pub(crate) fn gap_len(bytes: &[u8]) -> usize
             in_comment = b != b'\n';
         } else if b == b'#' {
             in_comment = true;
-        } else if !is_blank(b) {
+        } else if !is_whitespace(b) {
             break;
         }
         n += 1;
@@ -108,8 +108,8 @@ fn numeral_at(bytes: &[u8]) -> Result<(TokenKind, usize), LoadKind>
     ensures within { IfOk result (λ x. x.1 ≤ length bytes.now) }
 {
     let n = digits_len(bytes);
-    let goes_on = n < bytes.len() && matches!(bytes[n], b'.' | b'e' | b'E');
-    if goes_on || (n >= 2 && bytes[0] == b'0') {
+    let fraction_begins = n < bytes.len() && matches!(bytes[n], b'.' | b'e' | b'E');
+    if fraction_begins || (n >= 2 && bytes[0] == b'0') {
         return Err(LoadKind::NotInProfile);
     }
     match decimal(&bytes[..n]) {

@@ -2,7 +2,7 @@ use Rattle.std.proofs.Common.{◌≡◌, ℕ, ◌+◌, ◌-◌, ◌∷◌, [], �
 use Rattle.ctd_syntax.specs.declared.preset.PresetFault.TheVariants.{BadPreset}
 use Rattle.ctd_syntax.specs.declared.preset.Preset.{Preset}
 use Rattle.ctd_syntax.specs.Presets.{ArePresets}
-use Rattle.ctd_syntax.specs.PresetFront.{Answers, preset_at}
+use Rattle.ctd_syntax.specs.PresetFront.{IsFound, preset_at}
 use Rattle.ctd_syntax.proofs.PresetLists.{ReadUpTo, none_there, no_comma, last, on, same_list}
 use Rattle.ctd_syntax.proofs.preset_text.presets.Goals as goal
 
@@ -10,7 +10,7 @@ pub returns-in_err-preset-clause-refused : goal.returns-in_err-preset-clause-ref
 returns-in_err-preset-clause-refused c is =
     let at : ℕ = c.loop-found.at in
     let bad : c.in_err-preset.field-0.0 ≡ BadPreset = grind (arith, c.from_residual.ensures.1) in
-    none_there c.loop-found.invariant (subst (λ f. Answers {T = Preset × ℕ} (Err f) (preset_at (take (length c.args.text.now - at) (drop at c.args.text.now)))) bad c.in_err-preset.ensures.value)
+    none_there c.loop-found.invariant (subst (λ f. IsFound {T = Preset × ℕ} (Err f) (preset_at (take (length c.args.text.now - at) (drop at c.args.text.now)))) bad c.in_err-preset.ensures.value)
 
 pub returns-then-at-text-clause-read : goal.returns-then-at-text-clause-read
 returns-then-at-text-clause-read c =
