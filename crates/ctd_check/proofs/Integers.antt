@@ -20,7 +20,7 @@ use Rattle.ctd_check.specs.State.{State, Effect, faulty, proceed, told, fault_of
 use Rattle.ctd_check.specs.Effect.{judged, read_integer, integer}
 
 -- no digit comes first
-abbrev NoDigit : List ℕ → Type 0
+abbrev pub NoDigit : List ℕ → Type 0
 NoDigit [] = Unit {0}
 NoDigit (b ∷ bs) = is_ascii_digit b ≡ false
 
@@ -29,7 +29,7 @@ both_true true b e = (refl, e)
 both_true false b e = cc
 
 -- the digits of a row end where no digit comes
-row_while : (row rest : List ℕ) → list_all is_ascii_digit row ≡ true → NoDigit rest → take_while is_ascii_digit (row ++ rest) ≡ row
+pub row_while : (row rest : List ℕ) → list_all is_ascii_digit row ≡ true → NoDigit rest → take_while is_ascii_digit (row ++ rest) ≡ row
 row_while [] [] all none = refl
 row_while [] (b ∷ bs) all none = take_while-cons is_ascii_digit b bs ∙ ap (λ x. cond x (b ∷ take_while is_ascii_digit bs) []) none
 row_while (x ∷ xs) rest all none =
@@ -161,6 +161,11 @@ past_digit byte next e other = let P : Result (Option ℕ) LookFault → Type 0 
 
 pub past_end : (next : Result (Option ℕ) LookFault) → next ≡ Ok None → IsPast next
 past_end next e = let P : Result (Option ℕ) LookFault → Type 0 = λ r. IsPast r in subst P (sym e) tt
+
+-- nor does any byte that is looked at matter
+pub integer_seen : (least most : ℤ) (d : TestData) (s : State) (q : ℕ) (negative : Bool) (row : List ℕ) (x : Option ℕ) → Passed d s.offset q negative row → next_byte d q ≡ Ok x
+    → integer least most d s ≡ judged (judge least most negative row) d (record { offset = q; store = s.store; mode = s.mode })
+integer_seen least most d s q negative row x f e = integer_parts least most d s q negative row f ∙ ap (λ next. by_parts least most d s q next negative row) e
 
 no_more : (p : ℕ) → p + 0 ≡ p
 no_more p = omega arith

@@ -3,6 +3,10 @@ pub mod Building
 pub mod Concluding
 pub mod Decimal
 pub mod DigitRuns
+pub mod FewDigits
+pub mod HeldIntegers
+pub mod HeldBlanks
+pub mod HeldRuns
 pub mod InTurn
 pub mod Integers
 pub mod Knowing

@@ -1,5 +1,5 @@
 //! Blanks, which whitespace mode skips.
-ghost use Rattle.std.specs.Prelude.{◌≡◌, nat_eq, OnOk, None};
+ghost use Rattle.std.specs.Prelude.{◌≡◌, ◌<◌, true, false, nat_eq, OnOk, None, Ok};
 ghost use Rattle.std.specs.List.{prefix_len};
 ghost use Rattle.ctd_source.specs.CursorState.{state_of};
 ghost use Rattle.ctd_source.specs.Received.{AdvancesSuchThat};
@@ -43,7 +43,7 @@ fn pass_blanks<D: Source>(cursor: &mut Cursor<'_, D>) -> Result<(), LookFault>
                     return Ok(());
                 }
                 let count = blank_len(cursor.held_run());
-                cursor.take_many(count);
+                cursor.take_in_line(count);
             }
             Ok(None) => return Ok(()),
             Err(fault) => return Err(fault),
@@ -57,12 +57,55 @@ impl<'d, D: Source> Run<'d, D> {
         requires sound { IsSound self.old }
         ensures performs { Performs self.old self.new result skip_blanks }
     {
-        pass_blanks(&mut self.cursor)?;
-        Ok(())
+        if self.held_blanks(0) {
+            Ok(())
+        } else {
+            self.any_blanks()
+        }
+    }
+
+    /// Passes the blanks that come next, where they are at least `least` and another byte is held behind them, and tells
+    /// whether they are. It leaves all as it is where they are not, and says nothing of what is next.
+    fn held_blanks(&mut self, least: usize) -> bool
+        requires sound { IsSound self.old }
+        ensures skips { result ≡ true → Performs self.old self.new (Ok tt) skip_blanks }
+        ensures some { result ≡ true → 0 < least → Performs self.old self.new (Ok tt) some_blanks }
+        ensures stays { result ≡ false → self.new ≡ self.old }
+    {
+        let run = self.cursor.held_run();
+        let count = blank_len(run);
+        if count < least || count == run.len() {
+            return false;
+        }
+        self.cursor.take_in_line(count);
+        true
     }
 
     /// Passes one or more blanks.
     pub(crate) fn some_blanks(&mut self) -> Result<(), CommandFailure>
+        requires sound { IsSound self.old }
+        ensures performs { Performs self.old self.new result some_blanks }
+    {
+        if self.held_blanks(1) {
+            Ok(())
+        } else {
+            self.blank_and_more()
+        }
+    }
+
+    /// Passes the blanks that come next, however they are held.
+    #[inline(never)]
+    fn any_blanks(&mut self) -> Result<(), CommandFailure>
+        requires sound { IsSound self.old }
+        ensures performs { Performs self.old self.new result skip_blanks }
+    {
+        pass_blanks(&mut self.cursor)?;
+        Ok(())
+    }
+
+    /// Passes a blank and those that come next, however they are held.
+    #[inline(never)]
+    fn blank_and_more(&mut self) -> Result<(), CommandFailure>
         requires sound { IsSound self.old }
         ensures performs { Performs self.old self.new result some_blanks }
     {
@@ -71,7 +114,7 @@ impl<'d, D: Source> Run<'d, D> {
                 if !is_blank(byte) {
                     return Err(CommandFailure::Rejected(Reason::ExpectedSpace));
                 }
-                self.skip_blanks()
+                self.any_blanks()
             }
             None => Err(CommandFailure::Rejected(Reason::ExpectedSpace)),
         }

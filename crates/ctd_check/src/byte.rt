@@ -62,6 +62,7 @@ impl<'d, D: Source> Run<'d, D> {
     }
 
     /// Passes this byte, and else rejects the data for this reason.
+    #[inline(always)]
     fn one_byte(&mut self, wanted: u8, reason: Reason) -> Result<(), CommandFailure>
         requires sound { IsSound self.old }
         ensures performs { Performs self.old self.new result (one_byte wanted reason) }

@@ -1,9 +1,10 @@
 //! The digits of an integer as they pass: what a judgement needs is kept, and no digit.
 
 ghost use Rattle.std.specs.Prelude.{◌≡◌, ◌≤◌, ◌<◌, ◌+◌, ◌-◌, ◌*◌, ◌^◌, ◌++◌, if◌then◌else◌, ◌∷◌, [], ℕ, List, length, take, min, IfSome, IfNone, true};
-ghost use Rattle.std.specs.List.{prefix_len};
+ghost use Rattle.std.specs.List.{prefix_len, take_while};
 ghost use Rattle.std.specs.Char.{is_ascii_digit};
-ghost use Rattle.ctd_check.specs.Integer.{judge, signed, in_interval};
+ghost use Rattle.ctd_check.specs.Integer.{decimal, judge, signed, in_interval};
+ghost use Rattle.ctd_check.specs.declared.digits.TheConstants.{FEW};
 
 use crate::outcome::Reason;
 
@@ -23,6 +24,27 @@ const MIN_SIZE: u128 = 0x8000_0000_0000_0000_0000_0000_0000_0000;
 
 /// One more, which stands for all greater sizes: no bound reaches it.
 const BEYOND: u128 = 0x8000_0000_0000_0000_0000_0000_0000_0001;
+
+/// How many digits have a number of 64 bits, whichever they are.
+pub(crate) const FEW: usize = 19;
+
+/// The number of the digits that a few bytes begin with, and the bytes behind them.
+fn number_in_front(few: &[u8]) -> (u64, &[u8])
+    requires { length few.now ≤ FEW }
+    ensures number { result.0 ≡ decimal (take_while is_ascii_digit few.now) }
+    ensures rest { length few.now ≡ prefix_len is_ascii_digit few.now + length result.1.now }
+{
+    let mut rest = few;
+    let mut number = 0;
+    while let [byte, tail @ ..] = rest {
+        if !byte.is_ascii_digit() {
+            break;
+        }
+        number = number * 10 + (*byte - b'0') as u64;
+        rest = tail;
+    }
+    (number, rest)
+}
 
 /// The size that a further digit makes.
 fn append_digit(size: u128, digit: u8) -> u128
@@ -75,6 +97,22 @@ impl DigitSummary {
             is_zero_first: false,
             size: 0,
         }
+    }
+
+    /// The digits that a few bytes begin with, and how many they are.
+    pub(crate) fn of_few(few: &[u8]) -> (DigitSummary, usize)
+        requires { length few.now ≤ FEW }
+        ensures count { result.1 ≡ prefix_len is_ascii_digit few.now }
+        ensures seen { Summarizes result.0 (take result.1 few.now) }
+    {
+        let (number, rest) = number_in_front(few);
+        let count = few.len() - rest.len();
+        let digits = DigitSummary {
+            count: count.min(2) as u8,
+            is_zero_first: matches!(few, [b'0', ..]),
+            size: number as u128,
+        };
+        (digits, count)
     }
 
     /// One more digit.

@@ -1,17 +1,54 @@
 //! INT: an integer of any length, in an interval.
-ghost use Rattle.std.specs.Prelude.{◌≡◌, OnOk, None};
+ghost use Rattle.std.specs.Prelude.{◌≡◌, OnOk, IfSome, IfNone, None, Ok};
 ghost use Rattle.ctd_source.specs.CursorState.{state_of};
 ghost use Rattle.ctd_source.specs.Received.{AdvancesSuchThat};
 ghost use Rattle.ctd_syntax.specs.View.{expr_tree, target};
 ghost use Rattle.ctd_check.specs.Effect.{int, integer};
-ghost use Rattle.ctd_check.specs.Passing.{PassesMinus, PassesDigits};
+ghost use Rattle.ctd_check.specs.Integer.{is_minus};
+ghost use Rattle.ctd_check.specs.Passing.{IsInFront, PassesMinus, PassesDigits};
 ghost use Rattle.ctd_check.specs.Performs.{IsSound, Performs};
 
-use crate::digits::DigitSummary;
+use crate::digits::{DigitSummary, FEW};
 use crate::failure::CommandFailure;
 use crate::machine::Run;
 use ctd_source::{Cursor, LookFault, Source};
 use ctd_syntax::{Expr, Var};
+
+/// An integer at the front of some bytes.
+#[derive(Clone, Copy, Debug)]
+struct Front {
+    value: i128,
+    /// How many bytes it takes.
+    len: usize,
+}
+
+/// Whether a minus comes first.
+fn begins_with_minus(bytes: &[u8]) -> bool
+    ensures { result ≡ is_minus bytes.now }
+{
+    matches!(bytes, [b'-', ..])
+}
+
+/// The integer that some bytes begin with, where it has few digits, ends before the bytes do and is accepted.
+fn integer_in_front(bytes: &[u8], least: i128, most: i128) -> Option<Front>
+    ensures { IfSome result (λ front. IsInFront least most bytes.now front.value front.len) }
+{
+    let is_negative = begins_with_minus(bytes);
+    let sign_len = usize::from(is_negative);
+    let unsigned = &bytes[sign_len..];
+    let few = &unsigned[..unsigned.len().min(FEW)];
+    let (digits, count) = DigitSummary::of_few(few);
+    if count == few.len() {
+        return None;
+    }
+    match digits.judge(least, most, is_negative) {
+        Ok(value) => Some(Front {
+            value,
+            len: sign_len + count,
+        }),
+        Err(_reason) => None,
+    }
+}
 
 /// Passes a minus, where one is next, and tells whether it was.
 fn pass_minus<D: Source>(cursor: &mut Cursor<'_, D>) -> Result<bool, LookFault>
@@ -75,6 +112,30 @@ impl<'d, D: Source> Run<'d, D> {
 
     /// Passes the longest prefix of the form of an integer and judges it.
     fn integer(&mut self, least: i128, most: i128) -> Result<i128, CommandFailure>
+        requires sound { IsSound self.old }
+        ensures performs { Performs self.old self.new result (integer least most) }
+    {
+        match self.held_integer(least, most) {
+            Some(n) => Ok(n),
+            None => self.any_integer(least, most),
+        }
+    }
+
+    /// Passes an integer that is held whole, has few digits and is accepted, where one is next. It leaves all as it is where
+    /// none is, and says nothing of what is next.
+    fn held_integer(&mut self, least: i128, most: i128) -> Option<i128>
+        requires sound { IsSound self.old }
+        ensures performs { IfSome result (λ n. Performs self.old self.new (Ok n) (integer least most)) }
+        ensures stays { IfNone result (self.new ≡ self.old) }
+    {
+        let front = integer_in_front(self.cursor.held_run(), least, most)?;
+        self.cursor.take_in_line(front.len);
+        Some(front.value)
+    }
+
+    /// Passes the longest prefix of the form of an integer, of any length and however it is held, and judges it.
+    #[inline(never)]
+    fn any_integer(&mut self, least: i128, most: i128) -> Result<i128, CommandFailure>
         requires sound { IsSound self.old }
         ensures performs { Performs self.old self.new result (integer least most) }
     {

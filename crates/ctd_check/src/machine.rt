@@ -21,6 +21,7 @@ pub(crate) struct Run<'d, D: Source> {
 
 impl<'d, D: Source> Run<'d, D> {
     /// The next byte, or none at the end.
+    #[inline]
     pub(crate) fn next(&mut self) -> Result<Option<u8>, CommandFailure>
         requires sound { IsSound self.old }
         ensures performs { Performs self.old self.new result next_seen }
@@ -33,6 +34,7 @@ impl<'d, D: Source> Run<'d, D> {
     }
 
     /// Passes a byte that is held.
+    #[inline]
     pub(crate) fn pass_one(&mut self)
         requires sound { IsSound self.old }
         requires held { 0 < length (state_of self.old.cursor).held }

@@ -1,5 +1,5 @@
 -- How what is known of the data goes on as a cursor goes on.
-use Rattle.std.proofs.Common.{◌≡◌, ◌≢◌, ℕ, ◌≤◌, List, [], ◌++◌, length, take, refl, ap, sym, ◌∙◌, subst, arith, append_assoc, length-append, Option, Result}
+use Rattle.std.proofs.Common.{◌≡◌, ◌≢◌, ℕ, List, [], ◌++◌, length, take, refl, ap, sym, ◌∙◌, subst, arith, append_assoc, length-append, Option, Result}
 use Rattle.std.proofs.lemmas.List.{append-nil, take-take, take_all, take-append-le}
 use Rattle.ctd_source.specs.declared.cursor.Cursor.{Cursor}
 use Rattle.ctd_source.specs.declared.source.Source.{Ghosts}
@@ -9,7 +9,7 @@ use Rattle.ctd_source.specs.declared.spot.LookFault.{LookFault}
 use Rattle.ctd_source.specs.TestData.{TestData, look, first_of, next_byte}
 use Rattle.ctd_source.specs.Agreement.{Agrees}
 use Rattle.ctd_source.specs.Consistency.{CursorState, IsConsistentWith}
-use Rattle.ctd_source.specs.CursorState.{state_of, source, ReadsOn, MovesPast}
+use Rattle.ctd_source.specs.CursorState.{state_of, ReadsOn, MovesPast}
 use Rattle.ctd_source.specs.Received.{HasReceived, AdvancesSuchThat}
 use Rattle.ctd_source.proofs.Agreeing.{reading_follows, moving_follows, agreeing_stands}
 

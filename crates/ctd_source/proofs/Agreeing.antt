@@ -1,5 +1,5 @@
 -- A cursor that is consistent with the bytes given so far is consistent with all data that agree with them.
-use Rattle.std.proofs.Common.{◌≡◌, ℕ, ◌+◌, ◌≤◌, min, List, [], ◌++◌, length, take, drop, true, false, refl, ap, sym, ◌∙◌, arith, length-append, length-take, append_assoc, subst}
+use Rattle.std.proofs.Common.{◌≡◌, ℕ, ◌+◌, ◌≤◌, List, [], ◌++◌, length, take, drop, true, false, refl, ap, sym, ◌∙◌, arith, length-append, length-take, subst}
 use Rattle.std.proofs.lemmas.List.{take_all, take-append-le, take-take, drop-append-le}
 use Rattle.ctd_source.specs.declared.cursor.Cursor.{Cursor}
 use Rattle.ctd_source.specs.declared.source.Source.{Ghosts}

@@ -1,6 +1,6 @@
 -- The spot after many bytes, by their newlines and the last of them.
-use Rattle.std.proofs.Common.{◌≡◌, ℕ, suc, ◌+◌, ◌-◌, ◌<◌, ◌≤◌, Bool, true, false, List, [], ◌∷◌, ◌++◌, length, take, drop, get_or, refl, ap, sym, ◌∙◌, arith, length-drop, subst}
-use Rattle.std.specs.Prelude.{slice_index, count_by}
+use Rattle.std.proofs.Common.{◌≡◌, ℕ, suc, ◌+◌, ◌-◌, ◌<◌, Bool, true, false, List, [], ◌∷◌, ◌++◌, length, take, drop, get_or, refl, ap, sym, ◌∙◌, arith, length-drop}
+use Rattle.std.specs.Prelude.{count_by}
 use Rattle.std.specs.List.{fold}
 use Rattle.std.proofs.lemmas.List.Sums.{fold-append}
 use Rattle.std.proofs.lemmas.List.{take-append-drop, at_drop_more, get_or-drop}
@@ -73,3 +73,18 @@ spot_no_newline s xs none = same_spot _ _ (omega (arith, fold_line s xs, none_co
 pub spot_last_newline : (s : Spot) (xs : List ℕ) (k lines : ℕ) → NoneAfter (Passes (is_byte 10) xs) 0 (length xs) k → Passes (is_byte 10) xs k → lines ≡ count_by is_newline xs
     → record { line = s.line + lines; column = length xs - k; offset = s.offset + length xs } ≡ fold spot_after s xs
 spot_last_newline s xs k lines none is counted = same_spot _ _ (omega (arith, fold_line s xs, counted)) (sym (fold_column_last s xs k none.high none.after is)) (sym (fold_offset s xs))
+
+column_by : (b : Bool) (s : Spot) (x : ℕ) (xs : List ℕ) → is_newline x ≡ b → count_by is_newline (x ∷ xs) ≡ 0 → ((t : Spot) → count_by is_newline xs ≡ 0 → (fold spot_after t xs).column ≡ t.column + length xs) → (fold spot_after (spot_after s x) xs).column ≡ s.column + length (x ∷ xs)
+column_by true s x xs is none rest = let some : count_by is_newline (x ∷ xs) ≡ count_by is_newline xs + 1 = grind (arith, common_steps) in absurd (omega (arith, some, none))
+column_by false s x xs is none rest =
+    let others : count_by is_newline xs ≡ 0 = grind (arith, common_steps) in
+    let next : (spot_after s x).column ≡ s.column + 1 = grind (arith, common_steps) in
+    omega (arith, rest (spot_after s x) others, next)
+
+column_in_line : (s : Spot) (xs : List ℕ) → count_by is_newline xs ≡ 0 → (fold spot_after s xs).column ≡ s.column + length xs
+column_in_line s [] none = omega arith
+column_in_line s (x ∷ xs) none = column_by (is_newline x) s x xs refl none (λ t others. column_in_line t xs others)
+
+-- with none, by their count
+pub spot_in_line : (s : Spot) (xs : List ℕ) (n : ℕ) → length xs ≡ n → count_by is_newline xs ≡ 0 → record { line = s.line; column = s.column + n; offset = s.offset + n } ≡ fold spot_after s xs
+spot_in_line s xs n len none = same_spot _ _ (omega (arith, fold_line s xs, none)) (omega (arith, column_in_line s xs none, len)) (omega (arith, fold_offset s xs, len))

@@ -6,7 +6,7 @@ use Rattle.ctd_check.specs.Effect.{judged}
 use Rattle.ctd_check.specs.Performs.{state}
 use Rattle.ctd_check.proofs.Acts.{stopped_by, answers_as}
 use Rattle.ctd_check.proofs.Integers.{passed, integer_faulty, integer_unseen, integer_judged}
-use Rattle.ctd_check.proofs.machine.Run.integer.Goals as goal
+use Rattle.ctd_check.proofs.machine.Run.any_integer.Goals as goal
 
 pub returns-in_err-is_negative : goal.returns-in_err-is_negative
 returns-in_err-is_negative g c = record {

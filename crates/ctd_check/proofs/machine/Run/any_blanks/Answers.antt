@@ -2,7 +2,7 @@ use Rattle.ctd_source.proofs.AdvanceLemmas.{advances_so}
 use Rattle.ctd_check.specs.Performs.{state}
 use Rattle.ctd_check.proofs.Acts.{stopped_by}
 use Rattle.ctd_check.proofs.Skipping.{skips, skips_to_fault}
-use Rattle.ctd_check.proofs.machine.Run.skip_blanks.Goals as goal
+use Rattle.ctd_check.proofs.machine.Run.any_blanks.Goals as goal
 
 pub returns-in_err-pass_blanks : goal.returns-in_err-pass_blanks
 returns-in_err-pass_blanks g c = record {
