@@ -65,7 +65,7 @@ impl<'d, D: Source> Run<'d, D> {
         ensures performs { Performs self.old self.new result (set_to (var_tree v.now) value) }
     {
         let indices = self.indices(v)?;
-        self.store.assign_at(v.name.as_slice(), indices, value)?;
+        self.store.assign_at(&v.name, indices, value)?;
         Ok(())
     }
 

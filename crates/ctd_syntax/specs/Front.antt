@@ -15,7 +15,7 @@ use Rattle.ctd_syntax.specs.Lexeme.{Lexeme, mark}
 -- what the grammar sees of a token of the parser
 abbrev pub lexeme : ParserToken → Lexeme
 lexeme (parser_tokens.Keyword k place) = Lexeme.keyword k place
-lexeme (parser_tokens.Name n) = Lexeme.name n.now
+lexeme (parser_tokens.Name n number) = Lexeme.name n.now
 lexeme (parser_tokens.Numeral n) = Lexeme.numeral n
 lexeme (parser_tokens.Text t place) = Lexeme.text t.now place
 lexeme (parser_tokens.Mark m) = Lexeme.mark m

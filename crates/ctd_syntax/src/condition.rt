@@ -230,13 +230,13 @@ fn last_name<'t>(
     ensures tree { FindsTree (IsBefore Mark.Close IsName) Always (λ x. (x.0, map lexeme x.1.now)) result (map lexeme tokens.now) }
     ensures shorter { IfOk result (λ x. length x.1.now ≤ length tokens.now) }
 {
-    let Some((name, rest)) = name_at(tokens) else {
+    let Some((name, number, rest)) = name_at(tokens) else {
         return Err(ParseError::Syntax(tokens.len()));
     };
     let Some(rest) = after_mark(Mark::Close, rest) else {
         return Err(ParseError::Syntax(rest.len()));
     };
-    Ok((Name::copy(alloc, name)?, rest))
+    Ok((Name::numbered(alloc, name, number)?, rest))
 }
 
 // What stands behind INARRAY.

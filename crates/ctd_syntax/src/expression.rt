@@ -193,7 +193,7 @@ fn atom<'t>(
             let bytes = Bytes::copy(alloc, bytes.as_slice())?;
             Ok((Expr::Text(bytes), rest))
         }
-        ParserToken::Name(_) => {
+        ParserToken::Name(_, _) => {
             let (var, rest) = variable(alloc, tokens)?;
             Ok((Expr::Var(var), rest))
         }
@@ -227,10 +227,10 @@ pub(crate) fn variable<'t>(
     ensures tree { FindsTree IsTarget (ends 4) (λ x. (var_tree x.0, map lexeme x.1.now)) result (map lexeme tokens.now) }
     ensures shorter { IfOk result (λ x. length x.1.now ≤ length tokens.now) }
 {
-    let Some((name, rest)) = name_at(tokens) else {
+    let Some((name, number, rest)) = name_at(tokens) else {
         return Err(ParseError::Syntax(tokens.len()));
     };
-    let name = Name::copy(alloc, name)?;
+    let name = Name::numbered(alloc, name, number)?;
     match after_mark(Mark::OpenIndex, rest) {
         Some(after) => {
             let (indices, rest) = indices(alloc, after)?;

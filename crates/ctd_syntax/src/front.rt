@@ -71,17 +71,17 @@ pub(crate) fn after_open<'t>(
     }
 }
 
-/// The name at the front, and what follows it.
+/// The name at the front with its number, and what follows it.
 pub(crate) fn name_at<'t>(
     tokens: &'t [ParserToken<'t>],
-) -> Option<(&'t [u8], &'t [ParserToken<'t>])>
-    ensures found { IfSome result (λ x. map lexeme tokens.now ≡ Lexeme.name x.0.now ∷ map lexeme x.1.now) }
-    ensures shorter { IfSome result (λ x. length x.1.now < length tokens.now) }
+) -> Option<(&'t [u8], u32, &'t [ParserToken<'t>])>
+    ensures found { IfSome result (λ x. map lexeme tokens.now ≡ Lexeme.name x.0.now ∷ map lexeme x.2.now) }
+    ensures shorter { IfSome result (λ x. length x.2.now < length tokens.now) }
     ensures none { IfNone result ((bytes : List ℕ) (ts : List Lexeme) → map lexeme tokens.now ≡ Lexeme.name bytes ∷ ts → ⊥) }
 {
     let (first, after) = tokens.split_first()?;
     match first {
-        ParserToken::Name(name) => Some((name, after)),
+        ParserToken::Name(name, number) => Some((name, *number, after)),
         _ => None,
     }
 }

@@ -21,15 +21,15 @@ pub(crate) fn names<'t>(
     ensures shorter { IfOk result (λ x. length x.1.now ≤ length tokens.now) }
 {
     let mut items = Vec::new(alloc);
-    let Some((first, mut rest)) = name_at(tokens) else {
+    let Some((first, number, mut rest)) = name_at(tokens) else {
         return Err(ParseError::Syntax(tokens.len()));
     };
-    items.push(Name::copy(alloc, first)?)?;
+    items.push(Name::numbered(alloc, first, number)?)?;
     while let Some(after) = after_mark(Mark::Comma, rest) {
-        let Some((next, after)) = name_at(after) else {
+        let Some((next, number, after)) = name_at(after) else {
             return Err(ParseError::Syntax(after.len()));
         };
-        items.push(Name::copy(alloc, next)?)?;
+        items.push(Name::numbered(alloc, next, number)?)?;
         rest = after;
     }
     match after_mark(Mark::Close, rest) {

@@ -380,6 +380,11 @@ fn bytes_and_names(rt: HostRuntime) -> Result<(), Fail> {
     assert_eq!(rt; bytes.as_slice(), b"ab".as_slice());
     let name = Name::copy(rt.alloc(), b"n1")?;
     assert_eq!(rt; name.as_slice(), b"n1".as_slice());
+    let name = Name::numbered(rt.alloc(), b"n1", 7)?;
+    assert_eq!(rt; name.as_slice(), b"n1".as_slice());
+    assert_eq!(rt; name.number(), 7);
+    let name = Name::from_vec(b"n1".to_vec(rt.alloc())?);
+    assert_eq!(rt; name.as_slice(), b"n1".as_slice());
     Ok(())
 }
 

@@ -52,7 +52,12 @@ impl Bytes {
 #[derive(Debug, Drop)]
 pub struct Name {
     bytes: Bytes,
+    // Of this no contract says anything.
+    number: u32,
 }
+
+// The number of a name that was given none.
+const NO_NUMBER: u32 = u32::MAX;
 
 impl Model for Name {
     ghost Value = { List ℕ };
@@ -65,8 +70,25 @@ impl Name {
     pub fn copy(alloc: Global, bytes: &[u8]) -> Result<Name, AllocError>
         ensures equal { IfOk result (λ copied. copied ≡ bytes.now) }
     {
+        Name::numbered(alloc, bytes, NO_NUMBER)
+    }
+
+    /// A name of these bytes, copied, with a number for those who look names up; or an error where no memory is left for it.
+    pub fn numbered(alloc: Global, bytes: &[u8], number: u32) -> Result<Name, AllocError>
+        ensures equal { IfOk result (λ copied. copied ≡ bytes.now) }
+    {
         let bytes = Bytes::copy(alloc, bytes)?;
-        Ok(Name { bytes })
+        Ok(Name { bytes, number })
+    }
+
+    /// The name of these bytes, which are not copied.
+    pub fn from_vec(bytes: Vec<u8>) -> Name
+        ensures equal { result ≡ bytes.items }
+    {
+        Name {
+            bytes: Bytes::from_vec(bytes),
+            number: NO_NUMBER,
+        }
     }
 
     /// The bytes of the name, all of them.
@@ -74,5 +96,11 @@ impl Name {
         ensures whole { result.now ≡ self.now }
     {
         self.bytes.as_slice()
+    }
+
+    /// The number that the name was given, or one that no name is given. It is a hint for those who look names up: equal names
+    /// may have different numbers, and different names the same one.
+    pub fn number(&self) -> u32 {
+        self.number
     }
 }

@@ -1,4 +1,5 @@
 pub mod Alone
+pub mod ArraysSeen
 pub mod Distinct
 pub mod Firsts
 pub mod Giving
@@ -6,6 +7,7 @@ pub mod Laid
 pub mod Lookups
 pub mod Maps
 pub mod Merged
+pub mod Named
 pub mod Ordinary
 pub mod Powers
 pub mod Small

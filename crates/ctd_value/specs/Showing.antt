@@ -5,7 +5,8 @@ use Rattle.ctd_value.specs.declared.store.EntryRef.{EntryRef}
 use Rattle.ctd_value.specs.declared.store.Indices.{Indices}
 use Rattle.ctd_value.specs.declared.store.Indices.TheVariants as lists
 use Rattle.ctd_value.specs.declared.value.Value.{Value}
-use Rattle.ctd_value.specs.Store.{Array, has_indices}
+use Rattle.ctd_value.specs.declared.variables.NamedArray.{NamedArray}
+use Rattle.ctd_value.specs.Store.{Array, Variables, has_indices}
 
 -- the index list of an entry
 abbrev pub indices_of : Indices → List Value
@@ -19,6 +20,10 @@ entry e = (indices_of e.indices, e.value.now)
 -- the values that a list of borrows lends
 abbrev pub values_seen : List (Bor Value) → List Value
 values_seen lent = map (λ v. v.now) lent
+
+-- the names of arrays, with what the arrays are
+abbrev pub arrays_seen : List NamedArray → Variables
+arrays_seen list = map (λ n. (n.name.items, n.array)) list
 
 -- the entries of an array at whose index lists another has no value
 abbrev pub not_among : Array → Array → Array

@@ -1,5 +1,5 @@
 -- What has been assigned and pinned, and what a variable stands for.
-use Rattle.std.specs.Prelude.{ℕ, suc, pos, nat_lt, Bool, not, ◌&&◌, List, [], ◌∷◌, ◌++◌, filter, fold, map, is_some, Option, Some, None, if◌then◌else◌}
+use Rattle.std.specs.Prelude.{ℕ, suc, pos, nat_eq, nat_lt, true, false, Bool, not, ◌&&◌, List, [], ◌∷◌, ◌++◌, filter, fold, map, is_some, slice_get, option_map, Option, Some, None, if◌then◌else◌}
 use Rattle.std.specs.Option.{option_or, unwrap_or}
 use Rattle.std.specs.FinMap.{find, put, is_sorted}
 use Rattle.std.specs.declared.cmp.Ordering.{Ordering}
@@ -50,6 +50,34 @@ order_of_slot n count indices = if nat_lt n count then values_cmp (slot n) indic
 -- names with their arrays, in the order of the names; where one came twice, its first array would count
 abbrev pub Variables : Type 0
 Variables = List (List ℕ × Array)
+
+-- the variables, with the array of a name laid over them, if it has entries
+abbrev pub with_array : List ℕ → Array → Variables → Variables
+with_array name [] variables = variables
+with_array name (e ∷ es) variables = put bytes_cmp name (e ∷ es) variables
+
+-- names with their arrays, put in the order of the names, without those that have no entries
+abbrev pub in_order : Variables → Variables
+in_order [] = []
+in_order (v ∷ vs) = with_array v.0 v.1 (in_order vs)
+
+-- the name at a position
+abbrev pub name_at : Variables → ℕ → Option (List ℕ)
+name_at variables at = option_map (λ v. v.0) (slice_get variables at)
+
+-- names with their positions, in the order of the names
+abbrev pub Positions : Type 0
+Positions = List (List ℕ × ℕ)
+
+-- whether a position is there and is this one
+abbrev pub is_position : ℕ → Option ℕ → Bool
+is_position at None = false
+is_position at (Some position) = nat_eq position at
+
+-- whether each name has its position, counted from a number on
+abbrev pub have_positions : ℕ → Variables → Positions → Bool
+have_positions from [] positions = true
+have_positions from (v ∷ vs) positions = is_position from (find bytes_cmp v.0 positions) && have_positions (suc from) vs positions
 
 -- the array of a name, with no entries where the name has none
 abbrev pub array_of : List ℕ → Variables → Array

@@ -9,6 +9,7 @@ mod indexed;
 mod laws;
 mod lent;
 mod order;
+mod positions;
 mod pure_test;
 mod store;
 mod unique;

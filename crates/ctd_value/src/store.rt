@@ -62,7 +62,7 @@ impl Store {
         let mut pins = Variables::new(alloc);
         for preset in presets.pins() {
             let value = value_of(alloc, &preset.value)?;
-            pins.insert(preset.name.as_slice(), Vec::new(alloc), value)?;
+            pins.insert(&preset.name, Vec::new(alloc), value)?;
         }
         Ok(Store {
             pins,
@@ -74,13 +74,26 @@ impl Store {
     pub fn get(&self, key: &Key) -> Option<&Value>
         ensures value { option_copied result ≡ value_at self.now key.now }
     {
-        self.value_at(key.name(), key.indices())
+        self.value_at(key.stored_name(), key.indices())
     }
 
     /// The value of a name at some indices: its pin, or else what was assigned last. Allocates nothing.
-    pub(crate) fn value_at(&self, name: &[u8], indices: &[Value]) -> Option<&Value>
+    #[inline(always)]
+    pub(crate) fn value_at(&self, name: &Name, indices: &[Value]) -> Option<&Value>
         ensures value { option_copied result ≡ value_at self.now (record { name = name.now; indices = indices.now }) }
         ensures listed { option_copied result ≡ find values_cmp indices.now (values_of self.now name.now) }
+    {
+        // Mostly nothing is pinned.
+        if self.pins.is_empty() {
+            return self.assigned.get(name, indices);
+        }
+        self.pinned_or_assigned(name, indices)
+    }
+
+    /// The same, where something is pinned.
+    #[inline(never)]
+    fn pinned_or_assigned(&self, name: &Name, indices: &[Value]) -> Option<&Value>
+        ensures value { option_copied result ≡ value_at self.now (record { name = name.now; indices = indices.now }) }
     {
         match self.pins.get(name, indices) {
             Some(value) => Some(value),
@@ -89,7 +102,7 @@ impl Store {
     }
 
     /// Whether a name has a value at some indices. Allocates nothing.
-    pub(crate) fn has_indices(&self, name: &[u8], indices: &[Value]) -> bool
+    pub(crate) fn has_indices(&self, name: &Name, indices: &[Value]) -> bool
         ensures value { result ≡ has_indices (values_of self.now name.now) indices.now }
     {
         self.value_at(name, indices).is_some()
@@ -109,7 +122,7 @@ impl Store {
     /// Gives a name a value at an index list, as `assign` does; takes no memory for a name that was assigned to before.
     pub fn assign_at(
         &mut self,
-        name: &[u8],
+        name: &Name,
         indices: Vec<Value>,
         value: Value,
     ) -> Result<(), AllocError>
@@ -117,17 +130,24 @@ impl Store {
         ensures pinned { IsTrue (is_pinned self.old (record { name = name.now; indices = indices.items })) → IsOk result }
         ensures err { OnErr result (self.new ≡ self.old) }
     {
-        if self.pins.get(name, &indices).is_none() {
+        if !self.is_pinned(name, &indices) {
             self.assigned.insert(name, indices, value)?;
         }
         Ok(())
+    }
+
+    /// Whether a preset pins a name at some indices.
+    fn is_pinned(&self, name: &Name, indices: &[Value]) -> bool
+        ensures value { result ≡ is_pinned self.now (record { name = name.now; indices = indices.now }) }
+    {
+        !self.pins.is_empty() && self.pins.get(name, indices).is_some()
     }
 
     /// Removes all that was assigned to a name, at whatever indices; pins stay. Allocates nothing.
     pub fn unset(&mut self, name: &Name)
         ensures value { self.new ≡ unset self.old name.now }
     {
-        self.assigned.remove(name.as_slice());
+        self.assigned.remove(name);
     }
 
     /// Each key of a name that has a value, once and with its value, in no stated order; or an error where no memory is left
@@ -136,14 +156,14 @@ impl Store {
         ensures each_once { IfOk result (λ list. IsPermutation (values_of self.now name.now) (map entry list.items)) }
         ensures distinct { IfOk result (λ list. AllPairs (λ a b. indices_of a.indices ≢ indices_of b.indices) list.items) }
     {
-        self.entries_of(alloc, name.as_slice())
+        self.entries_of(alloc, name)
     }
 
     /// Each key of a name that has a value, once and with its value, in the order of the definition.
     pub(crate) fn entries_of(
         &self,
         alloc: Global,
-        name: &[u8],
+        name: &Name,
     ) -> Result<Vec<EntryRef<'_>>, AllocError>
         ensures value { IfOk result (λ list. map entry list.items ≡ values_of self.now name.now) }
     {

@@ -1,34 +1,49 @@
-//! Names with their arrays, in the order of the names, and arrays: index lists with their values, in their order.
+//! Names with their arrays, and arrays: index lists with their values, in their order.
 
-ghost use Rattle.std.specs.Prelude.{◌≡◌, [], ◌∷◌, ◌++◌, map, filter, not, Some, IfOk, OnOk, OnErr};
+ghost use Rattle.std.specs.Prelude.{◌≡◌, ◌≢◌, ◌↔◌, ℕ, [], ◌∷◌, ◌++◌, map, filter, length, not, Some, IfOk, IfSome, IfNone, IsTrue, OnOk, OnErr};
 ghost use Rattle.std.specs.List.{IsDistinct};
 ghost use Rattle.std.specs.Option.{option_copied, unwrap_or};
 ghost use Rattle.std.specs.FinMap.{find, put};
 ghost use Rattle.ctd_value.specs.Order.{bytes_cmp, values_cmp, same_bytes, same_values};
-ghost use Rattle.ctd_value.specs.Showing.{entry, indices_of, not_among};
-ghost use Rattle.ctd_value.specs.Store.{array_of, with_value, has_indices, index_lists};
+ghost use Rattle.ctd_value.specs.Showing.{arrays_seen, entry, indices_of, not_among};
+ghost use Rattle.ctd_value.specs.Store.{array_of, name_at, with_value, has_indices, index_lists};
 
 use crate::indexed::Indexed;
+use crate::positions::Positions;
 use crate::store::{EntryRef, Indices};
 use crate::value::Value;
+use ctd_syntax::Name;
 use std::alloc::{AllocError, Global};
-use std::collections::BTreeMap;
 use std::marker::Model;
 use std::mem::replace;
 
-/// Names with their arrays, each name once, which contracts see as the list of them in order.
+/// A name with its array, which has no entries where the name has no values.
+#[derive(Debug, Drop)]
+struct NamedArray {
+    name: Vec<u8>,
+    array: Array,
+}
+
+/// Names with their arrays, each name once, which contracts see as the list of them in the order of the names, without those
+/// that have no entries.
 #[derive(Debug, Drop)]
 pub(crate) struct Variables {
-    arrays: BTreeMap<Vec<u8>, Array>,
+    // Each name once, in the order in which they came.
+    list: Vec<NamedArray>,
+    // Where each name stands in the list.
+    positions: Positions,
 }
 
 impl Model for Variables {
-    ghost use Rattle.std.specs.Prelude.{map};
-    ghost use Rattle.ctd_value.specs.Store.{Variables};
+    ghost use Rattle.std.specs.Prelude.{T};
+    ghost use Rattle.ctd_value.specs.Showing.{arrays_seen};
+    ghost use Rattle.ctd_value.specs.Store.{Variables, in_order, have_positions};
 
     ghost Value = { Variables };
 
-    ghost view = { λ v. map (λ e. (e.0.items, e.1)) v.arrays.entries };
+    ghost view = { λ v. in_order (arrays_seen v.list.items) };
+
+    ghost invariant = { λ v. T (have_positions 0 (arrays_seen v.list.items) v.positions) };
 }
 
 impl Variables {
@@ -37,71 +52,67 @@ impl Variables {
         ensures empty { result ≡ [] }
     {
         Variables {
-            arrays: BTreeMap::new(alloc),
+            list: Vec::new(alloc),
+            positions: Positions::new(alloc),
         }
     }
 
-    /// The array of a name, if it has one. Allocates nothing.
-    pub(crate) fn array(&self, name: &[u8]) -> Option<&Array>
-        ensures value { option_copied result ≡ find bytes_cmp name.now self.now }
+    /// Whether no name ever had a value.
+    pub(crate) fn is_empty(&self) -> bool
+        ensures none { IsTrue result → self.now ≡ [] }
     {
-        self.arrays.get(name)
+        self.list.is_empty()
+    }
+
+    /// The array of a name; none where the name never had a value. Allocates nothing.
+    #[inline(always)]
+    pub(crate) fn array(&self, name: &Name) -> Option<&Array>
+        ensures value { unwrap_or (option_copied result) [] ≡ array_of name.now self.now }
+    {
+        let at = position(&self.list, &self.positions, name)?;
+        Some(&self.list[at].array)
     }
 
     /// The value of a name at an index list. Allocates nothing.
-    pub(crate) fn get(&self, name: &[u8], indices: &[Value]) -> Option<&Value>
+    #[inline(always)]
+    pub(crate) fn get(&self, name: &Name, indices: &[Value]) -> Option<&Value>
         ensures value { option_copied result ≡ find values_cmp indices.now (array_of name.now self.now) }
     {
-        match self.array(name) {
-            Some(array) => array.get(indices),
-            None => None,
-        }
+        self.array(name)?.get(indices)
     }
 
-    /// Gives a name a value at an index list; after an error all is as it was. Takes no memory for a name that has an array.
+    /// Gives a name a value at an index list; after an error all is as it was. Takes no memory for a name that had a value
+    /// before.
     pub(crate) fn insert(
         &mut self,
-        name: &[u8],
+        name: &Name,
         indices: Vec<Value>,
         value: Value,
     ) -> Result<(), AllocError>
         ensures ok { OnOk result (self.new ≡ with_value (record { name = name.now; indices = indices.items }) value self.old) }
         ensures err { OnErr result (self.new ≡ self.old) }
     {
-        match self.arrays.get_mut(name) {
-            Some(array) => array.insert(indices, value),
-            None => self.insert_new(name, indices, value),
+        match position(&self.list, &self.positions, name) {
+            Some(at) => self.list[at].array.insert(indices, value),
+            None => add_name(&mut self.list, &mut self.positions, name, indices, value),
         }
     }
 
-    /// Gives a name that has no array one with a single value; after an error all is as it was.
-    fn insert_new(
-        &mut self,
-        name: &[u8],
-        indices: Vec<Value>,
-        value: Value,
-    ) -> Result<(), AllocError>
-        ensures ok { OnOk result (self.new ≡ put bytes_cmp name.now ((indices.items, value) ∷ []) self.old) }
-        ensures err { OnErr result (self.new ≡ self.old) }
-    {
-        // A store keeps no allocator, so the indices tell where memory comes from.
-        let name = name.to_vec(*indices.allocator())?;
-        self.arrays.insert(name, Array::of_one(indices, value)?)?;
-        Ok(())
-    }
-
-    /// Removes a name with its array. Allocates nothing.
-    pub(crate) fn remove(&mut self, name: &[u8])
+    /// Removes the values of a name. Allocates nothing.
+    pub(crate) fn remove(&mut self, name: &Name)
         ensures value { self.new ≡ filter (λ e. not (same_bytes name.now e.0)) self.old }
     {
-        drop(self.arrays.remove(name));
+        if let Some(at) = position(&self.list, &self.positions, name) {
+            let empty = Array::new(*self.list.allocator());
+            drop(replace(&mut self.list[at].array, empty));
+        }
     }
 
     /// Adds the entries of a name to others, but for those at whose index lists the hidden array, if there is one, has a
     /// value.
     pub(crate) fn add_entries<'s>(
         &'s self,
-        name: &[u8],
+        name: &Name,
         hidden: Option<&Array>,
         entries: Vec<EntryRef<'s>>,
     ) -> Result<Vec<EntryRef<'s>>, AllocError>
@@ -113,6 +124,61 @@ impl Variables {
             None => Ok(entries),
         }
     }
+}
+
+/// Where a name stands in a list. Only where its hint leads elsewhere, the name is searched for.
+#[inline(always)]
+fn position(list: &[NamedArray], positions: &Positions, name: &Name) -> Option<usize>
+    ensures found { IfSome result (λ at. name_at (arrays_seen list.now) at ≡ Some name.now) }
+    ensures none { IfNone result ((at : ℕ) → find bytes_cmp name.now positions.now ≡ Some at → name_at (arrays_seen list.now) at ≢ Some name.now) }
+{
+    match positions.hint(name) {
+        Some(at) if has_name(list, at, name) => Some(at),
+        _ => searched_position(list, positions, name),
+    }
+}
+
+/// Where a name stands in a list, by a search. A function of its own, so that its registers are saved only where it is needed.
+#[inline(never)]
+fn searched_position(list: &[NamedArray], positions: &Positions, name: &Name) -> Option<usize>
+    ensures found { IfSome result (λ at. name_at (arrays_seen list.now) at ≡ Some name.now) }
+    ensures none { IfNone result ((at : ℕ) → find bytes_cmp name.now positions.now ≡ Some at → name_at (arrays_seen list.now) at ≢ Some name.now) }
+{
+    match positions.get(name) {
+        Some(at) if has_name(list, at, name) => Some(at),
+        _ => None,
+    }
+}
+
+/// Whether a name stands at a position of a list.
+fn has_name(list: &[NamedArray], at: usize, name: &Name) -> bool
+    ensures value { IsTrue result ↔ (name_at (arrays_seen list.now) at ≡ Some name.now) }
+{
+    match list.get(at) {
+        Some(named) => named.name.as_slice() == name.as_slice(),
+        None => false,
+    }
+}
+
+/// Adds a name with a single value; after an error the list and the positions are as they were.
+fn add_name(
+    list: &mut Vec<NamedArray>,
+    positions: &mut Positions,
+    name: &Name,
+    indices: Vec<Value>,
+    value: Value,
+) -> Result<(), AllocError>
+    ensures ok { OnOk result ((arrays_seen list.new.items ≡ arrays_seen list.old.items ++ (name.now, (indices.items, value) ∷ []) ∷ []) × (positions.new ≡ put bytes_cmp name.now (length list.old.items) positions.old)) }
+    ensures err { OnErr result ((arrays_seen list.new.items ≡ arrays_seen list.old.items) × (positions.new ≡ positions.old)) }
+{
+    // A store keeps no allocator, so the indices tell where memory comes from.
+    let alloc = *indices.allocator();
+    let bytes = name.as_slice().to_vec(alloc)?;
+    let array = Array::of_one(indices, value)?;
+    list.reserve(1)?;
+    positions.insert(alloc, name, list.len())?;
+    list.push_reserved(NamedArray { name: bytes, array });
+    Ok(())
 }
 
 /// Index lists with their values, each index list once, which contracts see as the list of them in order.

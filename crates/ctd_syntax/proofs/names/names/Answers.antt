@@ -7,7 +7,7 @@ use Rattle.ctd_syntax.proofs.names.names.Goals as goal
 
 pub loop-after-init : goal.loop-after-init
 loop-after-init c =
-    let is : c.push.new.self.items ≡ c.in-Some.first.now ∷ [] = c.in_ok-push.ensures.items ∙ ap (λ l. l ++ c.in_ok-copy.field-0 ∷ []) c.new-items.ensures.items ∙ ap (λ x. x ∷ []) c.in_ok-copy.ensures.equal in
+    let is : c.push.new.self.items ≡ c.in-Some.first.now ∷ [] = c.in_ok-push.ensures.items ∙ ap (λ l. l ++ c.in_ok-numbered.field-0 ∷ []) c.new-items.ensures.items ∙ ap (λ x. x ∷ []) c.in_ok-numbered.ensures.equal in
     record { partly = rw is (lists_start name_list (map lexeme c.args.tokens.now) (map lexeme c.in-Some.rest.now) c.in-Some.first.now (name_found (map lexeme c.args.tokens.now) (map lexeme c.in-Some.rest.now) c.in-Some.first.now c.in-Some.ensures.found)); shorter = omega (arith, c.in-Some.ensures.shorter) }
 
 pub returns-in_default-name_at-clause-tree : goal.returns-in_default-name_at-clause-tree
@@ -15,7 +15,7 @@ returns-in_default-name_at-clause-tree c = lists_no_next name_list (map lexeme c
 
 pub loop-after-preserved : goal.loop-after-preserved
 loop-after-preserved c =
-    let is : c.push-in-Some-after_mark.new.self.items ≡ c.loop-after.items.items ++ c.in-Some-name_at.next.now ∷ [] = c.in_ok-push-2.ensures.items ∙ ap (λ x. c.loop-after.items.items ++ x ∷ []) c.in_ok-copy-2.ensures.equal in
+    let is : c.push-in-Some-after_mark.new.self.items ≡ c.loop-after.items.items ++ c.in-Some-name_at.next.now ∷ [] = c.in_ok-push-2.ensures.items ∙ ap (λ x. c.loop-after.items.items ++ x ∷ []) c.in_ok-numbered-2.ensures.equal in
     record { partly = rw is (lists_next name_list (map lexeme c.args.tokens.now) (map lexeme c.loop-after.rest.now) (map lexeme c.in-Some-after_mark.after.now) (map lexeme c.in-Some-name_at.after.now) c.loop-after.items.items c.in-Some-name_at.next.now c.loop-after.invariant.partly c.in-Some-after_mark.ensures.found (name_found (map lexeme c.in-Some-after_mark.after.now) (map lexeme c.in-Some-name_at.after.now) c.in-Some-name_at.next.now c.in-Some-name_at.ensures.found)); shorter = omega (arith, c.loop-after.invariant.shorter, c.in-Some-after_mark.ensures.shorter, c.in-Some-name_at.ensures.shorter) }
 
 pub returns-in-Some-after_mark-2-clause-tree : goal.returns-in-Some-after_mark-2-clause-tree

@@ -16,7 +16,7 @@ one_more program n i ts d found whole lt so_far =
 
 pub loop-token-preserved : goal.loop-token-preserved
 loop-token-preserved c = record {
-  within = omega (arith, c.give_number.ensures.at_most_one, c.loop-token.invariant.within);
-  same = rw (c.in_ok-push.ensures.items, map-append, c.give_number.ensures.same, c.give_number.ensures.counted, c.parser_token_of.ensures, c.token-item.is)
+  within = omega (arith, c.give_number-token.ensures.at_most_one, c.loop-token.invariant.within);
+  same = rw (c.in_ok-push.ensures.items, map-append, c.in_ok-number_name.ensures.same, c.give_number-token.ensures.same, c.give_number-token.ensures.counted, c.parser_token_of.ensures, c.token-item.is)
       (one_more c.args.text.now c.loop-token.before c.loop-token.token-index c.args.tokens.now _ _ _ c.loop-token-test.true c.loop-token.invariant.same);
 }

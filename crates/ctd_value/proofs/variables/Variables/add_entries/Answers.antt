@@ -4,4 +4,4 @@ use Rattle.ctd_value.proofs.Firsts.{HasEachOnce, each_once}
 use Rattle.ctd_value.proofs.variables.Variables.add_entries.Goals as goal
 
 pub returns-in-None-clause-once : goal.returns-in-None-clause-once
-returns-in-None-clause-once c = subst (λ o. HasEachOnce (unwrap_or o [])) (sym (ap option_copied c.in-None.is) ∙ c.array.ensures.value) (each_once [])
+returns-in-None-clause-once c = subst HasEachOnce (ap (λ o. unwrap_or (option_copied o) []) (sym c.in-None.is) ∙ c.array.ensures.value) (each_once [])
