@@ -13,13 +13,13 @@ use Rattle.ctd_source.proofs.AdvanceLemmas.{advances_so, advances_both, advances
 use Rattle.ctd_value.specs.Fault.{ValueFault, with_fault}
 use Rattle.ctd_value.specs.declared.value.Value.{Value}
 use Rattle.ctd_value.specs.Store.{History, Key, assign}
-use Rattle.ctd_check.specs.Effect.{assigned}
+use Rattle.ctd_check.specs.Effect.{assign_key}
 use Rattle.ctd_check.specs.declared.machine.Run.{Run}
 use Rattle.ctd_check.specs.declared.outcome.Reason.{Reason}
 use Rattle.ctd_check.specs.declared.outcome.Fault.{Fault}
 use Rattle.ctd_check.specs.declared.failure.CommandFailure.{CommandFailure}
 use Rattle.ctd_check.specs.declared.failure.CommandFailure.TheVariants.{Rejected, Stopped, Memory}
-use Rattle.ctd_check.specs.State.{State, Effect, Act, done, faulty, proceed, ◌>>=◌, give, reject, told, evaluate, fault_of_value, fault_of_look, next_seen, pass}
+use Rattle.ctd_check.specs.State.{State, Effect, Act, done, faulty, proceed, ◌>>=◌, give, reject, told, evaluate, fault_of_value, fault_of_look, see_next, pass}
 use Rattle.ctd_check.specs.Performs.{Does, Tells, answering, state, IsSound, Performs}
 
 pub does_early : {A B : Type 0} (r : CommandFailure) (s : State) (e : Effect A) (k : A → State → Effect B) → Does {A = A} (Err r) s e → Does {A = B} (Err r) s (proceed e k)
@@ -137,7 +137,7 @@ module _ {R : Type 0} {G : Ghosts R} where
 
   -- the next byte
   pub looked : (a : Run R G) (now : Cursor R G) (next : Option ℕ) → (r : ReadsOn a.cursor now) → now.fault ≡ None → ((d : TestData) → IsConsistentWith d (state_of now) → Ok next ≡ first_of (look d (state_of now).spot.offset 1))
-      → Performs a (with_cursor a now) (Ok next) next_seen
+      → Performs a (with_cursor a now) (Ok next) see_next
   looked a now next r sound answer = record {
     sound = sound;
     goes = advances_so (advances_looking a.cursor now (Ok next) r answer)
@@ -146,7 +146,7 @@ module _ {R : Type 0} {G : Ghosts R} where
 
   -- a fault in its place
   pub looked_faulty : (a : Run R G) (now : Cursor R G) (fault : LookFault) (failure : CommandFailure) → (r : ReadsOn a.cursor now) → failure ≡ Stopped (fault_of_look fault) → ((d : TestData) → IsConsistentWith d (state_of now) → Err fault ≡ first_of (look d (state_of now).spot.offset 1))
-      → Performs a (with_cursor a now) (Err failure) next_seen
+      → Performs a (with_cursor a now) (Err failure) see_next
   looked_faulty a now fault failure r is answer =
       let b = with_cursor a now in
       answers_as (ap Err is) (record {
@@ -163,7 +163,7 @@ module _ {R : Type 0} {G : Ghosts R} where
   }
 
   -- a key gets a value
-  pub assigning : (a : Run R G) (store : History) (k : Key) (value : Value) → IsSound a → store ≡ assign a.store k value → Performs a (record { alloc = a.alloc; cursor = a.cursor; store = store; mode = a.mode }) (Ok tt) (assigned k value)
+  pub assigning : (a : Run R G) (store : History) (k : Key) (value : Value) → IsSound a → store ≡ assign a.store k value → Performs a (record { alloc = a.alloc; cursor = a.cursor; store = store; mode = a.mode }) (Ok tt) (assign_key k value)
   assigning a store k value sound is = record {
     sound = sound;
     goes = advances_so (advances_nowhere a.cursor) (λ d _ _. ap (λ h. done tt (record { offset = a.cursor.spot.offset; store = h; mode = a.mode })) (sym is));

@@ -16,7 +16,7 @@ use Rattle.ctd_source.proofs.Visible.{seen_run}
 use Rattle.ctd_check.specs.Integer.{is_minus, sign_len, digits_of, prefix_len_of, judge}
 use Rattle.ctd_check.specs.Passing.{IsInFront}
 use Rattle.ctd_check.specs.State.{State, done}
-use Rattle.ctd_check.specs.Effect.{integer, judged}
+use Rattle.ctd_check.specs.Effect.{integer, decide}
 use Rattle.ctd_check.proofs.HeldRuns.{stops_within, while_within, front_in_line, run_front, held_next}
 use Rattle.ctd_check.proofs.Integers.{Passed, integer_seen}
 
@@ -118,4 +118,4 @@ front_read least most run value size d s old new f before after counted_old coun
     let passed : Passed d s.offset new.spot.offset (is_minus run) (digits_of run) = front_passed least most run value size d s.offset new.spot.offset (old.spot.offset + length run) f seen (there ∙ ap (λ p. p + size) (sym here)) in
     let some : 0 < length new.held = omega (arith, ap length left, length-drop size old.held, f.ends, held) in
     integer_seen least most d s new.spot.offset (is_minus run) (digits_of run) _ passed (held_next d new after counted_new some (omega (arith, there, limit, limited, f.ends)))
-    ∙ ap (λ r. judged r d (record { offset = new.spot.offset; store = s.store; mode = s.mode })) f.judged
+    ∙ ap (λ r. decide r d (record { offset = new.spot.offset; store = s.store; mode = s.mode })) f.judged

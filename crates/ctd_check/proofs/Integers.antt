@@ -17,7 +17,7 @@ use Rattle.ctd_check.specs.Summaries.{Summarizes}
 use Rattle.ctd_check.specs.Passing.{PassesMinus, PassesRow, PassesDigits, IsPast, StopsAt}
 use Rattle.ctd_value.specs.Fault.{with_fault}
 use Rattle.ctd_check.specs.State.{State, Effect, faulty, proceed, told, fault_of_look}
-use Rattle.ctd_check.specs.Effect.{judged, read_integer, integer}
+use Rattle.ctd_check.specs.Effect.{decide, read_integer, integer}
 
 -- no digit comes first
 abbrev pub NoDigit : List ℕ → Type 0
@@ -124,7 +124,7 @@ passed old new d p m q false r minus f =
 
 -- an integer by where its prefix ends, what is seen there, its sign and its digits
 abbrev by_parts : ℤ → ℤ → TestData → State → ℕ → Result (Option ℕ) LookFault → Bool → List ℕ → Effect ℤ
-by_parts least most d s q next negative row = proceed (told (with_fault fault_of_look next) (record { offset = q; store = s.store; mode = s.mode })) (λ _ t. judged (judge least most negative row) d t)
+by_parts least most d s q next negative row = proceed (told (with_fault fault_of_look next) (record { offset = q; store = s.store; mode = s.mode })) (λ _ t. decide (judge least most negative row) d t)
 
 integer_parts : (least most : ℤ) (d : TestData) (s : State) (q : ℕ) (negative : Bool) (row : List ℕ) → Passed d s.offset q negative row → integer least most d s ≡ by_parts least most d s q (next_byte d q) negative row
 integer_parts least most d s q negative row f =
@@ -146,13 +146,13 @@ integer_unseen least most d s q fault f =
     ∙ ap (λ next. by_parts least most d s q next false []) (ap (next_byte d) f.0 ∙ f.1)
 
 judged_by : (next : Result (Option ℕ) LookFault) (least most : ℤ) (d : TestData) (s : State) (q : ℕ) (negative : Bool) (row : List ℕ) → Passed d s.offset q negative row → next_byte d q ≡ next → IsPast next
-    → integer least most d s ≡ judged (judge least most negative row) d (record { offset = q; store = s.store; mode = s.mode })
+    → integer least most d s ≡ decide (judge least most negative row) d (record { offset = q; store = s.store; mode = s.mode })
 judged_by (Ok x) least most d s q negative row f e past = integer_parts least most d s q negative row f ∙ ap (λ next. by_parts least most d s q next negative row) e
 judged_by (Err fault) least most d s q negative row f e past = absurd past
 
 -- the judgement is that of what was passed
 pub integer_judged : (least most : ℤ) (d : TestData) (s : State) (q : ℕ) (negative : Bool) (row : List ℕ) → Passed d s.offset q negative row → IsPast (next_byte d q)
-    → integer least most d s ≡ judged (judge least most negative row) d (record { offset = q; store = s.store; mode = s.mode })
+    → integer least most d s ≡ decide (judge least most negative row) d (record { offset = q; store = s.store; mode = s.mode })
 integer_judged least most d s q negative row f past = judged_by (next_byte d q) least most d s q negative row f refl past
 
 -- a byte that is no digit, and the end, stop the digits
@@ -164,7 +164,7 @@ past_end next e = let P : Result (Option ℕ) LookFault → Type 0 = λ r. IsPas
 
 -- nor does any byte that is looked at matter
 pub integer_seen : (least most : ℤ) (d : TestData) (s : State) (q : ℕ) (negative : Bool) (row : List ℕ) (x : Option ℕ) → Passed d s.offset q negative row → next_byte d q ≡ Ok x
-    → integer least most d s ≡ judged (judge least most negative row) d (record { offset = q; store = s.store; mode = s.mode })
+    → integer least most d s ≡ decide (judge least most negative row) d (record { offset = q; store = s.store; mode = s.mode })
 integer_seen least most d s q negative row x f e = integer_parts least most d s q negative row f ∙ ap (λ next. by_parts least most d s q next negative row) e
 
 no_more : (p : ℕ) → p + 0 ≡ p

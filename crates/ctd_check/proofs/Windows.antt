@@ -15,7 +15,7 @@ use Rattle.ctd_value.specs.Fault.{with_fault}
 use Rattle.ctd_check.specs.declared.machine.Run.{Run}
 use Rattle.ctd_check.specs.declared.failure.CommandFailure.{CommandFailure}
 use Rattle.ctd_check.specs.declared.failure.CommandFailure.TheVariants.{Memory}
-use Rattle.ctd_check.specs.State.{State, Effect, Act, done, rejected, faulty, proceed, ◌>>=◌, give, pass, told, fault_of_look, window_seen}
+use Rattle.ctd_check.specs.State.{State, Effect, Act, done, rejected, faulty, proceed, ◌>>=◌, give, pass, told, fault_of_look, see_window}
 use Rattle.ctd_check.specs.Performs.{Does, AlwaysDoes, state, IsSound, Performs}
 use Rattle.ctd_check.specs.Regex.{shorter_match, matched, matched_len, regex}
 use Rattle.ctd_check.proofs.Acts.{does_early, always, answers_as, with_cursor}
@@ -58,7 +58,7 @@ module _ {R : Type 0} {G : Ghosts R} where
   gives_as old new r q same w = let P : Result (Bor (List ℕ)) LookFault → Type 0 = λ x. GivesWindow old new x in subst P same w
 
   -- the window
-  pub windowed : (a : Run R G) (now : Cursor R G) (window : Bor (List ℕ)) → IsSound a → GivesWindow a.cursor now (Ok window) → Performs a (with_cursor a now) (Ok window.now) window_seen
+  pub windowed : (a : Run R G) (now : Cursor R G) (window : Bor (List ℕ)) → IsSound a → GivesWindow a.cursor now (Ok window) → Performs a (with_cursor a now) (Ok window.now) see_window
   windowed a now window sound w = record {
     sound = w.fault;
     goes = advances_so (advances_reading a.cursor now w.reads) (λ d stand _.
@@ -67,7 +67,7 @@ module _ {R : Type 0} {G : Ghosts R} where
   }
 
   -- a fault in its place
-  pub window_faulty : (a : Run R G) (now : Cursor R G) (fault : LookFault) → IsSound a → GivesWindow a.cursor now (Err fault) → AdvancesSuchThat a.cursor now (λ d. window_seen d (state a) ≡ faulty (fault_of_look fault) now.spot.offset)
+  pub window_faulty : (a : Run R G) (now : Cursor R G) (fault : LookFault) → IsSound a → GivesWindow a.cursor now (Err fault) → AdvancesSuchThat a.cursor now (λ d. see_window d (state a) ≡ faulty (fault_of_look fault) now.spot.offset)
   window_faulty a now fault sound w =
       advances_so (advances_reading a.cursor now w.reads) (λ d stand _.
       ap (λ x. told (with_fault fault_of_look x) (state a)) (ap (λ s. look d s.offset WINDOW) (sym w.reads.spot) ∙ sym (w.answer sound d stand.after))

@@ -5,7 +5,7 @@ use Rattle.ctd_source.specs.TestData.{visible}
 use Rattle.ctd_check.specs.declared.outcome.Mode.{Mode}
 use Rattle.ctd_check.specs.declared.outcome.Mode.TheVariants.{Exact, BlanksOk}
 use Rattle.ctd_check.specs.declared.outcome.Reason.TheVariants.{ExpectedSpace, ExpectedNewline}
-use Rattle.ctd_check.specs.State.{Act, ◌>>=◌, give, reject, pass, next_seen}
+use Rattle.ctd_check.specs.State.{Act, ◌>>=◌, give, reject, pass, see_next}
 use Rattle.ctd_check.specs.Effect.{one_byte, eof}
 
 -- a blank is a space, a tab, a vertical tab, a form feed or a carriage return
@@ -21,7 +21,7 @@ blank_next (Some b) = is_blank b
 abbrev pub skip_first : ℕ → Act ⊤
 skip_first n = do
   _ ← pass n
-  _ ← next_seen
+  _ ← see_next
   give tt
 
 -- all blanks that come next
@@ -31,7 +31,7 @@ skip_blanks d s = skip_first (prefix_len is_blank (visible d s.offset)) d s
 -- one blank or more, as many as there are
 abbrev pub some_blanks : Act ⊤
 some_blanks = do
-  next ← next_seen
+  next ← see_next
   if blank_next next then skip_blanks else reject ExpectedSpace
 
 -- a line feed with the blanks around it

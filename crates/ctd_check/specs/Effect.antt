@@ -7,61 +7,57 @@ use Rattle.ctd_value.specs.declared.value.Value.{Value}
 use Rattle.ctd_value.specs.declared.value.Value.TheVariants as values
 use Rattle.ctd_value.specs.Fault.{with_fault}
 use Rattle.ctd_value.specs.Store.{Key, assign, unset}
+use Rattle.ctd_value.specs.Truth.{is_end}
 use Rattle.ctd_value.specs.Val.{val, key, number_of, text_of}
 use Rattle.ctd_value.specs.Truth.{truth}
 use Rattle.ctd_check.specs.declared.outcome.Reason.{Reason}
 use Rattle.ctd_check.specs.declared.outcome.Reason.TheVariants.{ExpectedEof, StringMismatch, AssertFailed}
 use Rattle.ctd_check.specs.Integer.{prefix_len_of, judge, is_minus, digits_of}
-use Rattle.ctd_check.specs.State.{Act, done, ◌>>=◌, give, reject, pass, told, evaluate, next_seen, fault_of_truth}
+use Rattle.ctd_check.specs.State.{Act, done, ◌>>=◌, give, reject, pass, told, evaluate, see_next, fault_of_truth}
 
 -- whether the next byte is this one
 abbrev pub is_byte : ℕ → Option ℕ → Bool
 is_byte c None = false
 is_byte c (Some b) = nat_eq b c
 
--- whether the end is reached
-abbrev pub is_end : Option ℕ → Bool
-is_end None = true
-is_end (Some b) = false
-
 -- this byte, and else the reason
 abbrev pub one_byte : ℕ → Reason → Act ⊤
 one_byte c reason = do
-  next ← next_seen
+  next ← see_next
   if is_byte c next then pass 1 else reject reason
 
 -- the end of the data
 abbrev pub eof : Act ⊤
 eof = do
-  next ← next_seen
+  next ← see_next
   if is_end next then give tt else reject ExpectedEof
 
 -- a key has the value from now on
-abbrev pub assigned : Key → Value → Act ⊤
-assigned k value d s = done tt (record { offset = s.offset; store = assign s.store k value; mode = s.mode })
+abbrev pub assign_key : Key → Value → Act ⊤
+assign_key k value d s = done tt (record { offset = s.offset; store = assign s.store k value; mode = s.mode })
 
 -- the indices of a variable are evaluated, and it gets the value
 abbrev pub set_to : VarTree → Value → Act ⊤
 set_to v value = do
   k ← evaluate (key v)
-  assigned k value
+  assign_key k value
 
 -- the same of a target, where there is one
 abbrev pub keep : Option VarTree → Value → Act ⊤
 keep None value = give tt
 keep (Some v) value = set_to v value
 
--- a judgement
-abbrev pub judged : Result ℤ Reason → Act ℤ
-judged (Ok z) = give z
-judged (Err reason) = reject reason
+-- a judgement decides
+abbrev pub decide : Result ℤ Reason → Act ℤ
+decide (Ok z) = give z
+decide (Err reason) = reject reason
 
 -- bytes of the form of an integer are passed, up to a byte that does not belong to it or the end, and they are judged
 abbrev pub read_integer : ℤ → ℤ → List ℕ → Act ℤ
 read_integer least most rest = do
   _ ← pass (prefix_len_of rest)
-  _ ← next_seen
-  judged (judge least most (is_minus rest) (digits_of rest))
+  _ ← see_next
+  decide (judge least most (is_minus rest) (digits_of rest))
 
 -- an integer in an interval
 abbrev pub integer : ℤ → ℤ → Act ℤ
@@ -78,7 +74,7 @@ int low high target = do
 -- the next byte is not the one that is wanted, or there is none
 abbrev pub differ : Act ⊤
 differ = do
-  _ ← next_seen
+  _ ← see_next
   reject StringMismatch
 
 -- of these bytes as many are passed as agree with those that come; where these are not all, another byte comes next, or none

@@ -6,7 +6,7 @@ use Rattle.ctd_syntax.specs.Tree.{VarTree}
 use Rattle.ctd_value.specs.declared.value.Value.TheVariants as values
 use Rattle.ctd_check.specs.declared.outcome.Reason.TheVariants.{RegexMismatch}
 use Rattle.ctd_check.specs.declared.outcome.Fault.TheVariants.{MatchTooLong}
-use Rattle.ctd_check.specs.State.{Act, ◌>>=◌, give, reject, stop, pass, window_seen}
+use Rattle.ctd_check.specs.State.{Act, ◌>>=◌, give, reject, stop, pass, see_window}
 use Rattle.ctd_check.specs.Effect.{keep}
 
 -- a match of so many bytes, of which the window has more; no match rejects the data
@@ -17,7 +17,7 @@ shorter_match (Some n) = if nat_eq n WINDOW then stop MatchTooLong else give n
 -- the bytes that the pattern of a literal matches at the start of the window
 abbrev pub matched : List ℕ → Act (List ℕ)
 matched literal = do
-  window ← window_seen
+  window ← see_window
   n ← shorter_match (length_at_start literal window)
   give (take n window)
 

@@ -16,7 +16,7 @@ use Rattle.ctd_check.specs.State.{State, Effect, done, rejected, faulty, Act, �
 use Rattle.ctd_check.specs.Effect.{int, string, assert, set, unset_all}
 use Rattle.ctd_check.specs.Blanks.{space, newline, end, first_skip}
 use Rattle.ctd_check.specs.Regex.{regex}
-use Rattle.ctd_check.specs.Loops.{Task, start, turn, finish, tasks, turned, counted, tested, choice}
+use Rattle.ctd_check.specs.Loops.{Task, start, turn, finish, tasks, run_turn, repeat, repeat_while, choice}
 
 -- where in the program a task stands
 abbrev pub site_of : Task → Site
@@ -41,16 +41,16 @@ act_of (Tree.regex place literal target) = simple (regex literal.bytes target)
 act_of (Tree.assert place t) = simple (assert t)
 act_of (Tree.set place assignments) = simple (set assignments)
 act_of (Tree.unset place names) = simple (unset_all names)
-act_of (Tree.rep place e sep body) = counted place e None sep body
-act_of (Tree.repi place v e sep body) = counted place e (Some v) sep body
-act_of (Tree.while place t sep body) = tested place t None sep body
-act_of (Tree.whilei place v t sep body) = tested place t (Some v) sep body
+act_of (Tree.rep place e sep body) = repeat place e None sep body
+act_of (Tree.repi place v e sep body) = repeat place e (Some v) sep body
+act_of (Tree.while place t sep body) = repeat_while place t None sep body
+act_of (Tree.whilei place v t sep body) = repeat_while place t (Some v) sep body
 act_of (Tree.choice place t then_do else_do) = choice t then_do else_do
 
 -- a task whose step is paid, and the tasks that it leaves to be done first
 abbrev pub perform : Task → Act (List Task)
 perform (start c) = act_of c
-perform (turn loop k) = turned loop k
+perform (turn loop k) = run_turn loop k
 perform finish = simple end
 
 -- how a run ended, with the steps that are left: all tasks are done and a state is left, or it stopped early with an outcome, once so many bytes are consumed

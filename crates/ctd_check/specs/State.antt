@@ -85,9 +85,9 @@ abbrev pub evaluate : {A : Type 0} → (History → Result A ValueFault) → Act
 evaluate f d s = told (faults.with_fault fault_of_value (f s.store)) s
 
 -- the next byte, or none at the end
-abbrev pub next_seen : Act (Option ℕ)
-next_seen d s = told (faults.with_fault fault_of_look (next_byte d s.offset)) s
+abbrev pub see_next : Act (Option ℕ)
+see_next d s = told (faults.with_fault fault_of_look (next_byte d s.offset)) s
 
 -- the window: as many of the bytes to come as it has, or all of them
-abbrev pub window_seen : Act (List ℕ)
-window_seen d s = told (faults.with_fault fault_of_look (look d s.offset WINDOW)) s
+abbrev pub see_window : Act (List ℕ)
+see_window d s = told (faults.with_fault fault_of_look (look d s.offset WINDOW)) s

@@ -4,7 +4,7 @@ ghost use Rattle.ctd_syntax.specs.Numbering.{literals, separator_literals};
 ghost use Rattle.ctd_syntax.specs.Tree.{list_blocks, separator_blocks};
 ghost use Rattle.ctd_syntax.specs.View.{expr_tree, test_tree, command_list, boxed_separator};
 ghost use Rattle.ctd_check.specs.Known.{AreAmong, LeavesKnown};
-ghost use Rattle.ctd_check.specs.Loops.{tasks, loop_of, turn, take_turn, count_turn, goes_on, counted, choice};
+ghost use Rattle.ctd_check.specs.Loops.{tasks, loop_of, turn, take_turn, count_turn, goes_on, repeat, choice};
 ghost use Rattle.ctd_check.specs.Pending.{frame_tasks, separator_in, frame_blocks, lap_turn, guard_in, counter_in, loop_in, left_tasks};
 ghost use Rattle.ctd_check.specs.Performs.{IsSound, Performs, NeedsRoom, answering};
 
@@ -93,7 +93,7 @@ impl<'d, D: Source> Run<'d, D> {
         body: &'p Commands,
     ) -> Result<Option<Frame<'p>>, CommandFailure>
         requires sound { IsSound self.old }
-        ensures performs { Performs self.old self.new (answering left_tasks result) (counted place (expr_tree count.now) (counter_in counter.entry) (boxed_separator between.now) (command_list body.now)) }
+        ensures performs { Performs self.old self.new (answering left_tasks result) (repeat place (expr_tree count.now) (counter_in counter.entry) (boxed_separator between.now) (command_list body.now)) }
         ensures room { NeedsRoom result (1 + max (separator_blocks (boxed_separator between.now)) (list_blocks (command_list body.now))) }
         ensures known { (patterns : List (List ℕ)) → AreAmong patterns (separator_literals (boxed_separator between.now) ++ literals (command_list body.now)) → LeavesKnown patterns result }
     {

@@ -1,7 +1,7 @@
 //! The state of a run: where the data are read, and the variables.
 ghost use Rattle.std.specs.Prelude.{◌≡◌, ◌<◌, ◌≤◌, length, Ok, Err, IfOk, IfSome};
 ghost use Rattle.ctd_source.specs.CursorState.{state_of, source as source_now, Borrows};
-ghost use Rattle.ctd_check.specs.State.{next_seen, pass, reject};
+ghost use Rattle.ctd_check.specs.State.{see_next, pass, reject};
 ghost use Rattle.ctd_check.specs.Performs.{IsSound, Performs};
 
 use crate::failure::CommandFailure;
@@ -24,7 +24,7 @@ impl<'d, D: Source> Run<'d, D> {
     #[inline]
     pub(crate) fn next(&mut self) -> Result<Option<u8>, CommandFailure>
         requires sound { IsSound self.old }
-        ensures performs { Performs self.old self.new result next_seen }
+        ensures performs { Performs self.old self.new result see_next }
         ensures held { IfOk result (λ next. IfSome next (λ _. 0 < length (state_of self.new.cursor).held)) }
     {
         match self.cursor.look() {

@@ -1,7 +1,7 @@
 //! The text of a program, as a source gives it.
 ghost use Rattle.std.specs.Prelude.{◌≡◌, ◌≢◌, ◌<◌, ◌≤◌, ◌+◌, true, false, length, take, drop, IfOk};
 ghost use Rattle.std.specs.Io.KnownBytes.{IsAtEnd};
-ghost use Rattle.ctd_source.specs.Pull.{seen_after, pulled, Gives};
+ghost use Rattle.ctd_source.specs.Pull.{seen_after, pulled, GivesNext};
 ghost use Rattle.ctd_source.specs.CursorState.{Gave};
 ghost use Rattle.ctd_source.specs.declared.source.Seen.TheVariants.{Going, Ended, Broken};
 
@@ -14,7 +14,7 @@ fn pull_behind<P: Source>(program: &mut P, room: &mut [u8], filled: usize) -> Re
     ensures bound { IfOk result (λ n. filled + n ≤ length room.new) }
     ensures given { P.given program.new ≡ P.given program.old + pulled result }
     ensures seen { P.seen program.new ≡ seen_after result }
-    ensures bytes { Gives (P.left program.old) (P.left program.new) result (drop filled room.new) }
+    ensures bytes { GivesNext (P.left program.old) (P.left program.new) result (drop filled room.new) }
     ensures end { P.seen program.old ≡ Going → P.seen program.new ≡ Ended → IsAtEnd (P.left program.new) }
 {
     program.pull(&mut room[filled..])

@@ -2,7 +2,7 @@ use Rattle.std.proofs.Common.{[], ap, sym, ◌∙◌, Ok, rules}
 use Rattle.std.proofs.lemmas.Int.{to_z-of_z}
 use Rattle.std.specs.Int.{w128}
 use Rattle.ctd_source.proofs.AdvanceLemmas.{advances_so, advances_both}
-use Rattle.ctd_check.specs.Effect.{judged}
+use Rattle.ctd_check.specs.Effect.{decide}
 use Rattle.ctd_check.specs.Performs.{state}
 use Rattle.ctd_check.proofs.Acts.{stopped_by, answers_as}
 use Rattle.ctd_check.proofs.Integers.{passed, integer_faulty, integer_unseen, integer_judged}
@@ -30,7 +30,7 @@ returns-in-Ok g c = record {
         let whole = passed _ _ d _ _ _ c.in_ok-is_negative.is_negative _ e.0 e.1 in
         let is = simp (to_z-of_z w128 c.args.least c.ranges.least, to_z-of_z w128 c.args.most c.ranges.most) at (c.in-Ok.ensures e.1.row.row (e.1.row.seen [] c.none-digits.ensures)) in
         integer_judged c.args.least c.args.most d (state c.args.self.now) _ c.in_ok-is_negative.is_negative _ whole e.1.stop
-        ∙ ap (λ r. judged r d (record { offset = c.pass_digits.new.cursor.spot.offset; store = c.args.self.now.store; mode = c.args.self.now.mode })) (sym is));
+        ∙ ap (λ r. decide r d (record { offset = c.pass_digits.new.cursor.spot.offset; store = c.args.self.now.store; mode = c.args.self.now.mode })) (sym is));
   });
 }
 
@@ -43,6 +43,6 @@ returns-in-Err g c = record {
         let whole = passed _ _ d _ _ _ c.in_ok-is_negative.is_negative _ e.0 e.1 in
         let is = simp (to_z-of_z w128 c.args.least c.ranges.least, to_z-of_z w128 c.args.most c.ranges.most) at (c.in-Err.ensures e.1.row.row (e.1.row.seen [] c.none-digits.ensures)) in
         integer_judged c.args.least c.args.most d (state c.args.self.now) _ c.in_ok-is_negative.is_negative _ whole e.1.stop
-        ∙ ap (λ r. judged r d (record { offset = c.pass_digits.new.cursor.spot.offset; store = c.args.self.now.store; mode = c.args.self.now.mode })) (sym is));
+        ∙ ap (λ r. decide r d (record { offset = c.pass_digits.new.cursor.spot.offset; store = c.args.self.now.store; mode = c.args.self.now.mode })) (sym is));
   };
 }
