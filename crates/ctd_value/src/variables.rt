@@ -95,6 +95,7 @@ impl Variables {
 
     /// Gives a name a value at an index list; after an error all is as it was. Takes no memory for a name that had a value
     /// before.
+    #[inline(always)]
     pub(crate) fn insert(
         &mut self,
         name: &Name,
@@ -190,6 +191,7 @@ fn is_same_name(a: &[u8], b: &[u8]) -> bool
 }
 
 /// Adds a name with a single value; after an error the list and the positions are as they were.
+#[inline(never)]
 fn add_name(
     list: &mut Vec<NamedArray>,
     positions: &mut Positions,
@@ -271,6 +273,7 @@ impl Array {
     }
 
     /// Gives an index list a value; after an error all is as it was.
+    #[inline(always)]
     pub(crate) fn insert(&mut self, indices: Vec<Value>, value: Value) -> Result<(), AllocError>
         ensures ok { OnOk result (self.new ≡ put values_cmp indices.items value self.old) }
         ensures err { OnErr result (self.new ≡ self.old) }
