@@ -1,6 +1,6 @@
 //! The variables: what is pinned, and what is assigned.
 
-ghost use Rattle.std.specs.Prelude.{◌≡◌, ◌≢◌, IfOk, OnOk, OnErr, IsOk, IsTrue, IsPermutation, AllPairs, map};
+ghost use Rattle.std.specs.Prelude.{◌≡◌, ◌≢◌, [], Some, IfSome, IfOk, OnOk, OnErr, IsOk, IsTrue, IsPermutation, AllPairs, map};
 ghost use Rattle.std.specs.Option.{option_copied};
 ghost use Rattle.std.specs.FinMap.{find};
 ghost use Rattle.ctd_value.specs.Order.{values_cmp};
@@ -90,7 +90,19 @@ impl Store {
         self.pinned_or_assigned(name, indices)
     }
 
-    /// The same, where something is pinned.
+    /// The value of a name without indices, where nothing is pinned and the name's hint leads to it; none says nothing.
+    #[inline(always)]
+    pub(crate) fn hinted(&self, name: &Name) -> Option<&Value>
+        ensures value { IfSome result (λ x. value_at self.now (record { name = name.now; indices = [] }) ≡ Some x.now) }
+    {
+        if self.pins.is_empty() {
+            self.assigned.hinted(name)
+        } else {
+            None
+        }
+    }
+
+    /// The value of a name at some indices, where something is pinned.
     #[inline(never)]
     fn pinned_or_assigned(&self, name: &Name, indices: &[Value]) -> Option<&Value>
         ensures value { option_copied result ≡ value_at self.now (record { name = name.now; indices = indices.now }) }

@@ -81,8 +81,21 @@ impl Variables {
         self.array(name)?.get(indices)
     }
 
+    /// The value of a name without indices, where the hint of the name leads to its array; none says nothing.
+    #[inline(always)]
+    pub(crate) fn hinted(&self, name: &Name) -> Option<&Value>
+        ensures value { IfSome result (λ x. find values_cmp [] (array_of name.now self.now) ≡ Some x.now) }
+    {
+        let at = self.positions.hint(name)?;
+        if !has_name(&self.list, at, name) {
+            return None;
+        }
+        self.list[at].array.alone()
+    }
+
     /// Gives a name a value at an index list; after an error all is as it was. Takes no memory for a name that had a value
     /// before.
+    #[inline(always)]
     pub(crate) fn insert(
         &mut self,
         name: &Name,
@@ -151,16 +164,34 @@ fn searched_position(list: &[NamedArray], positions: &Positions, name: &Name) ->
 }
 
 /// Whether a name stands at a position of a list.
+#[inline(always)]
 fn has_name(list: &[NamedArray], at: usize, name: &Name) -> bool
     ensures value { IsTrue result ↔ (name_at (arrays_seen list.now) at ≡ Some name.now) }
 {
     match list.get(at) {
-        Some(named) => named.name.as_slice() == name.as_slice(),
+        Some(named) => is_same_name(&named.name, name.as_slice()),
         None => false,
     }
 }
 
+/// Whether two names are the same. Names are short, so no call is made.
+#[inline(always)]
+fn is_same_name(a: &[u8], b: &[u8]) -> bool
+    ensures value { IsTrue result ↔ (a.now ≡ b.now) }
+{
+    if a.len() != b.len() {
+        return false;
+    }
+    for i in 0..a.len() {
+        if a[i] != b[i] {
+            return false;
+        }
+    }
+    true
+}
+
 /// Adds a name with a single value; after an error the list and the positions are as they were.
+#[inline(never)]
 fn add_name(
     list: &mut Vec<NamedArray>,
     positions: &mut Positions,
@@ -222,18 +253,27 @@ impl Array {
         }
     }
 
+    /// The value without indices.
+    #[inline(always)]
+    fn alone(&self) -> Option<&Value>
+        ensures value { option_copied result ≡ find values_cmp [] self.now }
+    {
+        self.alone.as_ref()
+    }
+
     /// The value at an index list. Allocates nothing.
     pub(crate) fn get(&self, indices: &[Value]) -> Option<&Value>
         ensures value { option_copied result ≡ find values_cmp indices.now self.now }
     {
         if indices.is_empty() {
-            self.alone.as_ref()
+            self.alone()
         } else {
             self.indexed.get(indices)
         }
     }
 
     /// Gives an index list a value; after an error all is as it was.
+    #[inline(always)]
     pub(crate) fn insert(&mut self, indices: Vec<Value>, value: Value) -> Result<(), AllocError>
         ensures ok { OnOk result (self.new ≡ put values_cmp indices.items value self.old) }
         ensures err { OnErr result (self.new ≡ self.old) }

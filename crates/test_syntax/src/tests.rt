@@ -5,6 +5,7 @@ mod cut_programs;
 mod depths;
 mod grammar;
 mod megabytes;
+mod numbers;
 mod presets;
 mod refusals;
 mod tree_text;
