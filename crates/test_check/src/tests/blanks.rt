@@ -1,6 +1,6 @@
 //! Whitespace mode: what is skipped, and what is not.
 
-use crate::tests::readers::{AMPLE, Failing, plan_of};
+use crate::tests::readers::{AMPLE, Cut, Failing, plan_of};
 use crate::tests::rows::{Row, checked_in, judged_in, told};
 use ctd_check::{FromRead, Limits, Mode, Outcome, Presets, check};
 use std::io::Read;
@@ -101,6 +101,29 @@ const BLANKS: [Row; 17] = [
 #[test]
 fn blanks_are_skipped_where_they_may_be(rt: HostRuntime) -> Result<(), Fail> {
     judged_in(&rt, rt.alloc(), "", Mode::BlanksOk, &BLANKS)
+}
+
+#[test]
+fn blanks_are_the_same_however_they_are_held(rt: HostRuntime) -> Result<(), Fail> {
+    let plan = plan_of(rt.alloc(), "INT(0,9) SPACE INT(0,9) NEWLINE INT(0,9)")?;
+    let presets = Presets::none(rt.alloc());
+    for most in [1, 2, 3, 4, 100] {
+        let mut source = FromRead::new(Cut {
+            reader: b" \t3 \x0B  4\r \n  5 ".as_slice(),
+            most,
+        });
+        let found = check(
+            rt.alloc(),
+            &plan,
+            &presets,
+            &mut source,
+            AMPLE,
+            Mode::BlanksOk,
+        )?;
+        assert_eq!(rt; found.outcome, Outcome::Accepted, "{most} at once");
+        assert_eq!(rt; (found.steps, found.consumed), (6, 15), "{most} at once");
+    }
+    Ok(())
 }
 
 #[test]

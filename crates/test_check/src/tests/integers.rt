@@ -40,6 +40,107 @@ fn an_integer_is_judged_as_it_is_written(rt: HostRuntime) -> Result<(), Fail> {
     Ok(())
 }
 
+// A program and its data, why they are rejected, if they are, and how many bytes are consumed.
+const HOWEVER_HELD: [(&str, &str, Option<Reason>, u64); 26] = [
+    ("INT(0,0) NEWLINE", "0\n", None, 2),
+    ("INT(0,0) NEWLINE", "-0\n", Some(Reason::MinusZero), 2),
+    ("INT(0,0) NEWLINE", "00\n", Some(Reason::LeadingZero), 2),
+    ("INT(0,9) NEWLINE", "05\n", Some(Reason::LeadingZero), 2),
+    ("INT(0,9) NEWLINE", "\n", Some(Reason::ExpectedInt), 0),
+    ("INT(0,9) NEWLINE", "-\n", Some(Reason::ExpectedInt), 1),
+    ("INT(-5,7) NEWLINE", "-6\n", Some(Reason::OutOfRange), 2),
+    ("INT(-5,7) NEWLINE", "-5\n", None, 3),
+    ("INT(-5,7) NEWLINE", "5\n", None, 2),
+    ("INT(-5,7) NEWLINE", "7\n", None, 2),
+    ("INT(-5,7) NEWLINE", "-7\n", Some(Reason::OutOfRange), 2),
+    ("INT(-5,7) NEWLINE", "8\n", Some(Reason::OutOfRange), 1),
+    // At the end of the data.
+    ("INT(-5,7)", "-5", None, 2),
+    ("INT(-5,7)", "7", None, 1),
+    ("INT(-5,7)", "8", Some(Reason::OutOfRange), 1),
+    ("INT(-5,7)", "-0", Some(Reason::MinusZero), 2),
+    // What is kept.
+    ("INT(-9,9,n) NEWLINE ASSERT(n==-5)", "-5\n", None, 3),
+    ("INT(0,1000,n) SPACE ASSERT(n==907)", "907 ", None, 4),
+    // Numbers of 18, 19 and 20 digits: the greatest ones, and those by one beside a bound.
+    (
+        "INT(0,999999999999999999,n) NEWLINE ASSERT(n==999999999999999999)",
+        "999999999999999999\n",
+        None,
+        19,
+    ),
+    (
+        "INT(0,999999999999999998) NEWLINE",
+        "999999999999999999\n",
+        Some(Reason::OutOfRange),
+        18,
+    ),
+    (
+        "INT(-100000000000000000,0,n) NEWLINE ASSERT(n==-100000000000000000)",
+        "-100000000000000000\n",
+        None,
+        20,
+    ),
+    (
+        "INT(0,9999999999999999999,n) NEWLINE ASSERT(n==9999999999999999999)",
+        "9999999999999999999\n",
+        None,
+        20,
+    ),
+    (
+        "INT(0,9999999999999999999) NEWLINE",
+        "10000000000000000000\n",
+        Some(Reason::OutOfRange),
+        20,
+    ),
+    (
+        "INT(-9999999999999999998,0) NEWLINE",
+        "-9999999999999999999\n",
+        Some(Reason::OutOfRange),
+        20,
+    ),
+    (
+        "INT(0,99999999999999999999,n) NEWLINE ASSERT(n==18446744073709551621)",
+        "18446744073709551621\n",
+        None,
+        21,
+    ),
+    (
+        "INT(0,9) NEWLINE",
+        "18446744073709551621\n",
+        Some(Reason::OutOfRange),
+        20,
+    ),
+];
+
+#[test]
+fn an_integer_is_the_same_however_it_is_held(rt: HostRuntime) -> Result<(), Fail> {
+    for (program, data, reason, consumed) in HOWEVER_HELD {
+        let outcome = match reason {
+            None => Outcome::Accepted,
+            Some(reason) => rejected(after(0), column(1), reason),
+        };
+        for most in [1, 2, 17, 18, 19, 100] {
+            let cut = Cut {
+                reader: data.as_bytes(),
+                most,
+            };
+            let checked = check_with(rt.alloc(), program, cut, AMPLE)?;
+            assert_eq!(rt;
+                checked.outcome,
+                outcome,
+                "{program}: {data}, {most} at once"
+            );
+            assert_eq!(rt;
+                checked.consumed,
+                consumed,
+                "{program}: {data}, {most} at once"
+            );
+        }
+    }
+    Ok(())
+}
+
 #[test]
 fn the_widest_interval_has_just_its_bounds(rt: HostRuntime) -> Result<(), Fail> {
     let program =
