@@ -1,23 +1,21 @@
 -- An integer that lies whole in a run of held bytes.
-use Rattle.std.proofs.Common.{◌≡◌, ◌≢◌, ◌<◌, ◌≤◌, ℕ, suc, ◌+◌, ◌&&◌, Bool, true, false, cond, nat_eq, List, [], ◌∷◌, ◌++◌, length, take, drop, refl, ap, sym, ◌∙◌, arith, length-drop, length-take, Ok, ℤ, if◌then◌else◌}
+use Rattle.std.proofs.Common.{◌≡◌, ◌≢◌, ◌<◌, ◌≤◌, ℕ, suc, ◌+◌, Bool, true, false, nat_eq, List, [], ◌∷◌, ◌++◌, length, take, drop, refl, ap, sym, ◌∙◌, arith, length-drop, length-take, Ok, ℤ, if◌then◌else◌}
 use mir.Val.{bool_byte}
-use Rattle.std.specs.Prelude.{count_by, slice_get}
-use Rattle.std.specs.List.{take_while, prefix_len, list_all}
+use Rattle.std.specs.Prelude.{count_by}
+use Rattle.std.specs.List.{take_while, prefix_len}
 use Rattle.std.specs.Char.{is_ascii_digit}
 use Rattle.std.proofs.lemmas.Bool.Decides.{nat_tests}
-use Rattle.std.proofs.lemmas.Grind.{common_steps}
-use Rattle.std.proofs.lemmas.List.{take-append-drop, take-append-le, drop-append-le, take-take}
+use Rattle.std.proofs.lemmas.List.{take-append-drop, drop-append-le}
 use Rattle.std.proofs.lemmas.List.Folds.{length-prefix_len}
 use Rattle.std.proofs.lemmas.List.Sums.{prefix_len-le-length}
-use Rattle.ctd_source.specs.TestData.{TestData, next_byte, visible, is_newline, first_of}
+use Rattle.ctd_source.specs.TestData.{TestData, visible, is_newline}
 use Rattle.ctd_source.specs.Consistency.{CursorState, IsConsistentWith}
-use Rattle.ctd_source.proofs.Looks.{look_found}
 use Rattle.ctd_source.proofs.Visible.{seen_run}
 use Rattle.ctd_check.specs.Integer.{is_minus, sign_len, digits_of, prefix_len_of, judge}
 use Rattle.ctd_check.specs.Passing.{IsInFront}
 use Rattle.ctd_check.specs.State.{State, done}
 use Rattle.ctd_check.specs.Effect.{integer, decide}
-use Rattle.ctd_check.proofs.HeldRuns.{stops_within, while_within, front_in_line, run_front, held_next}
+use Rattle.ctd_check.proofs.HeldRuns.{while_within, front_in_line, run_front, held_next}
 use Rattle.ctd_check.proofs.Integers.{Passed, integer_seen}
 
 -- the digits after the sign, where they end within the first few bytes
