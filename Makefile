@@ -1,12 +1,12 @@
 # build: prove and compile the checker (scripts/build.sh); test: rebuild every proof and test from scratch, then run the built program;
-# install: PREFIX and DESTDIR as usual.
+# install: PREFIX and DESTDIR as usual. bench: times the checker beside C written by hand (bench/README.md).
 PREFIX ?= /usr/local
 DESTDIR ?=
 
 program := crates/checktestdata/out/checktestdata
 sources := HANDLES crates.txt $(shell find crates -name out -prune -o \( -name '*.rt' -o -name '*.antt' \) -print)
 
-.PHONY: build test install clean
+.PHONY: build test bench install clean
 
 build: $(program)
 
@@ -15,6 +15,9 @@ $(program): $(sources)
 
 test:
 	@tests/gate.sh
+
+bench: build
+	@bench/whole_runs.py
 
 install: build
 	install -d $(DESTDIR)$(PREFIX)/bin
