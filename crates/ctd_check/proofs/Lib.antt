@@ -15,6 +15,7 @@ pub mod Lists
 pub mod Loads
 pub mod PulledText
 pub mod Running
+pub mod Setting
 pub mod SummaryLemmas
 pub mod Skipping
 pub mod Stacks

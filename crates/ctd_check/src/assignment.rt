@@ -9,7 +9,7 @@ use crate::failure::CommandFailure;
 use crate::machine::Run;
 use ctd_source::Source;
 use ctd_syntax::{Assignment, Name};
-use ctd_value::Store;
+use ctd_value::{Store, set_expression};
 
 /// Removes from each name all that was assigned to it.
 fn unset_names(names: &[Name], store: &mut Store)
@@ -37,8 +37,8 @@ impl<'d, D: Source> Run<'d, D> {
         requires sound { IsSound self.old }
         ensures performs { Performs self.old self.new result (give_value (assignment a.now)) }
     {
-        let value = self.value(&a.value)?;
-        self.set_to(&a.target, value)
+        set_expression(self.alloc, &a.target, &a.value, &mut self.store)?;
+        Ok(())
     }
 
     /// UNSET: each name loses all that was assigned to it.

@@ -11,7 +11,7 @@ use crate::machine::Run;
 use crate::outcome::Fault;
 use ctd_source::Source;
 use ctd_syntax::{Bytes, Expr, Test, Var};
-use ctd_value::{Value, count_of, eval, holds, index_values};
+use ctd_value::{Value, count_of, eval, holds, set_number, set_variable};
 
 impl<'d, D: Source> Run<'d, D> {
     /// The value of an expression.
@@ -51,21 +51,21 @@ impl<'d, D: Source> Run<'d, D> {
         Ok(count_of(self.alloc, e, &self.store)?)
     }
 
-    /// The values of the indices of a variable, which make its key.
-    fn indices(&self, v: &Var) -> Result<Vec<Value>, CommandFailure>
-        requires sound { IsSound self.now }
-        ensures performs { Performs self.now self.now (answering (λ indices. record { name = v.now.name; indices = indices.items }) result) (evaluate (key (var_tree v.now))) }
-    {
-        Ok(index_values(self.alloc, v, &self.store)?)
-    }
-
     /// Gives a variable a value, once its indices are evaluated.
     pub(crate) fn set_to(&mut self, v: &Var, value: Value) -> Result<(), CommandFailure>
         requires sound { IsSound self.old }
         ensures performs { Performs self.old self.new result (set_to (var_tree v.now) value) }
     {
-        let indices = self.indices(v)?;
-        self.store.assign_at(&v.name, indices, value)?;
+        set_variable(self.alloc, v, value, &mut self.store)?;
+        Ok(())
+    }
+
+    /// Gives a variable a number, once its indices are evaluated.
+    pub(crate) fn set_to_number(&mut self, v: &Var, n: i128) -> Result<(), CommandFailure>
+        requires sound { IsSound self.old }
+        ensures performs { Performs self.old self.new result (set_to (var_tree v.now) (Value.Int n)) }
+    {
+        set_number(self.alloc, v, n, &mut self.store)?;
         Ok(())
     }
 
@@ -75,7 +75,7 @@ impl<'d, D: Source> Run<'d, D> {
         ensures performs { Performs self.old self.new result (keep (target v.now) (Value.Int n)) }
     {
         match v {
-            Some(v) => self.set_to(v, Value::Int(n)),
+            Some(v) => self.set_to_number(v, n),
             None => Ok(()),
         }
     }

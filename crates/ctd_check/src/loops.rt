@@ -13,7 +13,6 @@ use crate::frame::{Frame, Guard, Lap};
 use crate::machine::Run;
 use ctd_source::Source;
 use ctd_syntax::{Command, Commands, Expr, Place, Test, Var};
-use ctd_value::Value;
 
 /// A separator, or none.
 fn unbox(between: &Option<Box<Command>>) -> Option<&Command>
@@ -108,7 +107,7 @@ impl<'d, D: Source> Run<'d, D> {
         ensures performs { Performs self.old self.new result (count_turn (counter_in counter.entry) turn) }
     {
         match counter {
-            Some(v) => self.set_to(v, Value::Int(i128::from(turn))),
+            Some(v) => self.set_to_number(v, i128::from(turn)),
             None => Ok(()),
         }
     }

@@ -13,3 +13,4 @@ pub mod Powers
 pub mod Small
 pub mod ListTraversal
 pub mod StoreLaws
+pub mod Telling

@@ -1,6 +1,6 @@
 //! Index lists with their values: a row of values for the numbers from 0 on, and an ordered map for all others.
 
-ghost use Rattle.std.specs.Prelude.{◌≡◌, ◌≢◌, ℕ, suc, ◌<◌, ◌≤◌, length, take, drop, [], ◌∷◌, ◌++◌, map, IfOk, OnOk, OnErr};
+ghost use Rattle.std.specs.Prelude.{◌≡◌, ◌≢◌, ℕ, suc, ◌<◌, ◌≤◌, length, take, drop, [], ◌∷◌, ◌++◌, map, true, false, IfOk, OnOk, OnErr};
 ghost use Rattle.std.specs.List.{IsDistinct};
 ghost use Rattle.std.specs.Option.{option_copied, unwrap_or, IfSome, IfNone};
 ghost use Rattle.std.specs.FinMap.{find, put};
@@ -74,6 +74,16 @@ impl Indexed {
                 Ok(())
             }
         }
+    }
+
+    /// Gives the index list of a number a value, where it stands in the row or just behind it, and tells whether it did; else all
+    /// is as it was, and nothing is said.
+    #[inline(always)]
+    pub(crate) fn insert_in_row(&mut self, at: usize, value: Value) -> bool
+        ensures done { result ≡ true → self.new ≡ put values_cmp (slot at) value self.old }
+        ensures stays { result ≡ false → self.new ≡ self.old }
+    {
+        at <= self.dense.len() && write(&mut self.dense, at, value).is_ok()
     }
 
     /// Adds the entries to others, but for those at whose index lists the hidden array, if there is one, has a value.

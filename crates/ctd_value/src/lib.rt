@@ -2,6 +2,7 @@
 #![tactic(auto)]
 
 mod arithmetic;
+mod assign;
 mod condition;
 mod expression;
 mod fault;
@@ -16,6 +17,7 @@ mod unique;
 mod value;
 mod variables;
 
+pub use assign::{set_expression, set_number, set_variable};
 pub use condition::holds;
 pub use expression::{count_of, eval, index_values, locate};
 pub use fault::{EvalFault, TestFault};

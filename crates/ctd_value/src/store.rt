@@ -1,10 +1,10 @@
 //! The variables: what is pinned, and what is assigned.
 
-ghost use Rattle.std.specs.Prelude.{◌≡◌, ◌≢◌, [], Some, IfSome, IfOk, OnOk, OnErr, IsOk, IsTrue, IsPermutation, AllPairs, map};
+ghost use Rattle.std.specs.Prelude.{◌≡◌, ◌≢◌, [], true, false, Some, IfSome, IfOk, OnOk, OnErr, IsOk, IsTrue, IsPermutation, AllPairs, map};
 ghost use Rattle.std.specs.Option.{option_copied};
 ghost use Rattle.std.specs.FinMap.{find};
 ghost use Rattle.ctd_value.specs.Order.{values_cmp};
-ghost use Rattle.ctd_value.specs.Store.{initial, is_pinned, value_at, assign, unset, values_of, value_of, has_indices};
+ghost use Rattle.ctd_value.specs.Store.{initial, slot, is_pinned, value_at, assign, unset, values_of, value_of, has_indices};
 ghost use Rattle.ctd_value.specs.Showing.{entry, indices_of};
 
 use crate::value::{Key, Value};
@@ -146,6 +146,16 @@ impl Store {
             self.assigned.insert(name, indices, value)?;
         }
         Ok(())
+    }
+
+    /// Gives a name a value at one number, where nothing is pinned and that takes no search, and tells whether it did; else all
+    /// is as it was, and nothing is said.
+    #[inline(always)]
+    pub(crate) fn assign_in_row(&mut self, name: &Name, at: usize, value: Value) -> bool
+        ensures done { result ≡ true → self.new ≡ assign self.old (record { name = name.now; indices = slot at }) value }
+        ensures stays { result ≡ false → self.new ≡ self.old }
+    {
+        self.pins.is_empty() && self.assigned.insert_in_row(name, at, value)
     }
 
     /// Whether a preset pins a name at some indices.

@@ -1,12 +1,12 @@
 //! Names with their arrays, and arrays: index lists with their values, in their order.
 
-ghost use Rattle.std.specs.Prelude.{◌≡◌, ◌≢◌, ◌↔◌, ℕ, [], ◌∷◌, ◌++◌, map, filter, length, not, Some, IfOk, IfSome, IfNone, IsTrue, OnOk, OnErr};
+ghost use Rattle.std.specs.Prelude.{◌≡◌, ◌≢◌, ◌↔◌, ℕ, [], ◌∷◌, ◌++◌, map, filter, length, not, true, false, Some, IfOk, IfSome, IfNone, IsTrue, OnOk, OnErr};
 ghost use Rattle.std.specs.List.{IsDistinct};
 ghost use Rattle.std.specs.Option.{option_copied, unwrap_or};
 ghost use Rattle.std.specs.FinMap.{find, put};
 ghost use Rattle.ctd_value.specs.Order.{bytes_cmp, values_cmp, same_bytes, same_values};
 ghost use Rattle.ctd_value.specs.Showing.{arrays_seen, entry, indices_of, not_among};
-ghost use Rattle.ctd_value.specs.Store.{array_of, name_at, with_value, has_indices, index_lists};
+ghost use Rattle.ctd_value.specs.Store.{array_of, name_at, slot, with_value, has_indices, index_lists};
 
 use crate::indexed::Indexed;
 use crate::positions::Positions;
@@ -86,10 +86,7 @@ impl Variables {
     pub(crate) fn hinted(&self, name: &Name) -> Option<&Value>
         ensures value { IfSome result (λ x. find values_cmp [] (array_of name.now self.now) ≡ Some x.now) }
     {
-        let at = self.positions.hint(name)?;
-        if !has_name(&self.list, at, name) {
-            return None;
-        }
+        let at = hinted_position(&self.list, &self.positions, name)?;
         self.list[at].array.alone()
     }
 
@@ -108,6 +105,19 @@ impl Variables {
         match position(&self.list, &self.positions, name) {
             Some(at) => self.list[at].array.insert(indices, value),
             None => add_name(&mut self.list, &mut self.positions, name, indices, value),
+        }
+    }
+
+    /// Gives a name a value at one number, where the hint of the name leads to its array and the number to a place in its row,
+    /// and tells whether it did; else all is as it was, and nothing is said.
+    #[inline(always)]
+    pub(crate) fn insert_in_row(&mut self, name: &Name, at: usize, value: Value) -> bool
+        ensures done { result ≡ true → self.new ≡ with_value (record { name = name.now; indices = slot at }) value self.old }
+        ensures stays { result ≡ false → self.new ≡ self.old }
+    {
+        match hinted_position(&self.list, &self.positions, name) {
+            Some(position) => self.list[position].array.insert_in_row(at, value),
+            None => false,
         }
     }
 
@@ -145,9 +155,20 @@ fn position(list: &[NamedArray], positions: &Positions, name: &Name) -> Option<u
     ensures found { IfSome result (λ at. name_at (arrays_seen list.now) at ≡ Some name.now) }
     ensures none { IfNone result ((at : ℕ) → find bytes_cmp name.now positions.now ≡ Some at → name_at (arrays_seen list.now) at ≢ Some name.now) }
 {
+    match hinted_position(list, positions, name) {
+        Some(at) => Some(at),
+        None => searched_position(list, positions, name),
+    }
+}
+
+/// Where a name stands in a list, where its hint leads there; none says nothing.
+#[inline(always)]
+fn hinted_position(list: &[NamedArray], positions: &Positions, name: &Name) -> Option<usize>
+    ensures found { IfSome result (λ at. name_at (arrays_seen list.now) at ≡ Some name.now) }
+{
     match positions.hint(name) {
         Some(at) if has_name(list, at, name) => Some(at),
-        _ => searched_position(list, positions, name),
+        _ => None,
     }
 }
 
@@ -283,6 +304,16 @@ impl Array {
             return Ok(());
         }
         self.indexed.insert(indices, value)
+    }
+
+    /// Gives the index list of a number a value, where it has a place in the row, and tells whether it did; else all is as it
+    /// was, and nothing is said.
+    #[inline(always)]
+    pub(crate) fn insert_in_row(&mut self, at: usize, value: Value) -> bool
+        ensures done { result ≡ true → self.new ≡ put values_cmp (slot at) value self.old }
+        ensures stays { result ≡ false → self.new ≡ self.old }
+    {
+        self.indexed.insert_in_row(at, value)
     }
 
     /// Adds the entries to others, but for those at whose index lists the hidden array, if there is one, has a value.

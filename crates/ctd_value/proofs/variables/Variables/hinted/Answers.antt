@@ -15,7 +15,7 @@ lent (Some x) o e = e
 pub returns : goal.returns
 returns c =
     let items = c.self.inside.list.items in
-    let name : name_at (arrays_seen items) c.in_ok-at.at ≡ Some c.args.name.now = subst (λ l. name_at (arrays_seen l) c.in_ok-at.at ≡ Some c.args.name.now) c.deref.ensures.value (c.if-not-has_name.ensures.value.0 cc) in
+    let name : name_at (arrays_seen items) c.in_ok-at.at ≡ Some c.args.name.now = subst (λ l. name_at (arrays_seen l) c.in_ok-at.at ≡ Some c.args.name.now) c.deref.ensures.value c.in_ok-at.ensures.found in
     record {
       value = lent c.alone.result (find values_cmp [] (array_of c.args.name.now c.args.self.now))
           (ap (find values_cmp []) (ap (array_of c.args.name.now) (sym c.self.view_is)

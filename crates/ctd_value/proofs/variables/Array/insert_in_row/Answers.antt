@@ -1,0 +1,16 @@
+use Rattle.std.proofs.Common.{ap, ◌∙◌}
+use Rattle.std.specs.FinMap.{put}
+use Rattle.ctd_value.specs.Order.{values_cmp}
+use Rattle.ctd_value.specs.Store.{slot, with_alone}
+use Rattle.ctd_value.proofs.Alone.{written_indexed}
+use Rattle.ctd_value.proofs.Telling.{indexed_still}
+use Rattle.ctd_value.proofs.variables.Array.insert_in_row.Goals as goal
+
+pub invariant_of-self : goal.invariant_of-self
+invariant_of-self c = indexed_still c.insert_in_row.result _ c.args.value c.self.inside.indexed c.insert_in_row.new.self c.self.invariant c.insert_in_row.ensures.done c.insert_in_row.ensures.stays
+
+pub returns-clause-done : goal.returns-clause-done
+returns-clause-done c is =
+    ap (with_alone c.self.inside.alone) (c.insert_in_row.ensures.done is)
+    ∙ written_indexed (slot c.args.at) c.args.value c.self.inside.alone c.self.inside.indexed tt c.self.invariant
+    ∙ ap (put values_cmp (slot c.args.at) c.args.value) c.self.view_is

@@ -1,0 +1,105 @@
+//! Values for variables (checktestdata language specification, SET).
+
+ghost use Rattle.std.specs.Prelude.{◌≡◌, ◌≢◌, true, false, pos, Ok, Err, OnErr, IfSome};
+ghost use Rattle.ctd_syntax.specs.View.{expr_tree, var_tree};
+ghost use Rattle.ctd_value.specs.Fault.{Gives};
+ghost use Rattle.ctd_value.specs.Lending.{map_ok};
+ghost use Rattle.ctd_value.specs.Val.{val};
+ghost use Rattle.ctd_value.specs.Setting.{with_variable, with_expression};
+ghost use Rattle.ctd_value.specs.declared.value.Value.TheVariants as values;
+
+use crate::expression::{eval, index_values, small};
+use crate::fault::EvalFault;
+use crate::store::Store;
+use crate::value::Value;
+use ctd_syntax::{Expr, Var};
+use std::alloc::Global;
+
+/// Gives a variable a value, once its indices are evaluated; a pinned variable stays as it is. After a fault the variables
+/// are as they were.
+pub fn set_variable(
+    alloc: Global,
+    v: &Var,
+    value: Value,
+    store: &mut Store,
+) -> Result<(), EvalFault>
+    ensures value { Gives (map_ok (λ _. store.new) result) (with_variable (var_tree v.now) value store.old) }
+    ensures err { OnErr result (store.new ≡ store.old) }
+    ensures no_count { result ≢ Err EvalFault.Count }
+    ensures no_shape { result ≢ Err EvalFault.Shape }
+{
+    let indices = index_values(alloc, v, store)?;
+    store.assign_at(&v.name, indices, value)?;
+    Ok(())
+}
+
+/// The same of a number.
+pub fn set_number(alloc: Global, v: &Var, n: i128, store: &mut Store) -> Result<(), EvalFault>
+    ensures value { Gives (map_ok (λ _. store.new) result) (with_variable (var_tree v.now) (values.Int n) store.old) }
+    ensures err { OnErr result (store.new ≡ store.old) }
+    ensures no_count { result ≢ Err EvalFault.Count }
+    ensures no_shape { result ≢ Err EvalFault.Shape }
+{
+    if set_small(alloc, v, n, store) {
+        return Ok(());
+    }
+    set_variable(alloc, v, Value::Int(n), store)
+}
+
+/// Evaluates an expression and then the indices of a variable, which gets the value; a pinned variable stays as it is. After a
+/// fault the variables are as they were.
+pub fn set_expression(
+    alloc: Global,
+    v: &Var,
+    e: &Expr,
+    store: &mut Store,
+) -> Result<(), EvalFault>
+    ensures value { Gives (map_ok (λ _. store.new) result) (with_expression (var_tree v.now) (expr_tree e.now) store.old) }
+    ensures err { OnErr result (store.new ≡ store.old) }
+    ensures no_count { result ≢ Err EvalFault.Count }
+    ensures no_shape { result ≢ Err EvalFault.Shape }
+{
+    match small(e, store) {
+        Some(n) => set_number(alloc, v, n as i128, store),
+        None => set_any(alloc, v, e, store),
+    }
+}
+
+/// The same of any expression.
+#[inline(never)]
+fn set_any(alloc: Global, v: &Var, e: &Expr, store: &mut Store) -> Result<(), EvalFault>
+    ensures value { Gives (map_ok (λ _. store.new) result) (with_expression (var_tree v.now) (expr_tree e.now) store.old) }
+    ensures err { OnErr result (store.new ≡ store.old) }
+    ensures no_count { result ≢ Err EvalFault.Count }
+    ensures no_shape { result ≢ Err EvalFault.Shape }
+{
+    let value = eval(alloc, e, store)?;
+    set_variable(alloc, v, value, store)
+}
+
+/// Gives a variable with at most one index a number, where that takes no list of indices, and tells whether it did; else all
+/// is as it was, and nothing is said.
+#[inline(always)]
+fn set_small(alloc: Global, v: &Var, n: i128, store: &mut Store) -> bool
+    ensures done { result ≡ true → with_variable (var_tree v.now) (values.Int n) store.old ≡ Ok store.new }
+    ensures stays { result ≡ false → store.new ≡ store.old }
+{
+    match v.indices.as_slice() {
+        [] => store
+            .assign_at(&v.name, Vec::new(alloc), Value::Int(n))
+            .is_ok(),
+        [index] => match small_index(index, store) {
+            Some(at) => store.assign_in_row(&v.name, at, Value::Int(n)),
+            None => false,
+        },
+        _ => false,
+    }
+}
+
+/// The value of an expression, where it is a number that an index of a row may be.
+#[inline(always)]
+fn small_index(e: &Expr, store: &Store) -> Option<usize>
+    ensures value { IfSome result (λ at. val (expr_tree e.now) store.now ≡ Ok (values.Int (pos at))) }
+{
+    usize::try_from(small(e, store)?).ok()
+}
