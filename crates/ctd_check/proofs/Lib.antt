@@ -14,8 +14,8 @@ pub mod Listing
 pub mod Lists
 pub mod Loads
 pub mod PulledText
+pub mod Rounds
 pub mod Running
-pub mod Setting
 pub mod SummaryLemmas
 pub mod Skipping
 pub mod Stacks

@@ -92,6 +92,10 @@ module _ {R : Type 0} {G : Ghosts R} where
       → Advances {A = Unit {0}} old new left (t ∷ rest) agenda (Ok tt)
   task_done old new t left left' more rest agenda one same is p = record { sound = p.sound; goes = done_goes old new t left agenda.left more rest (to_do agenda.frames.items) (one ∙ ap (λ n. n + 1) (sym same)) is p }
 
+  -- the same under another name of what was to be done
+  pub advances_as : {old new : Run R G} {left : ℕ} {before named : List Task} {agenda : Agenda} {r : Result (Unit {0}) Halt} → named ≡ before → Advances old new left before agenda r → Advances old new left named agenda r
+  advances_as {old = old} {new = new} {left = left} {agenda = agenda} {r = r} same p = let P : List Task → Type 0 = λ ts. Advances old new left ts agenda r in subst P (sym same) p
+
   -- a task that is rejected ends the run
   failed_goes : (old new : Run R G) (t : Task) (left left' : ℕ) (spot : Spot) (halt : Halt) (failure : CommandFailure) (rest after : List Task) → left ≡ left' + 1 → spot ≡ old.cursor.spot → halt ≡ halt_of spot (site_of t) failure → Performs {A = List Task} old new (Err failure) (perform t)
       → AdvancesSuchThat old.cursor new.cursor (λ d. ContinuesWith {A = Unit {0}} d (Err halt) left' after (state new) (run d left (t ∷ rest) (state old)))

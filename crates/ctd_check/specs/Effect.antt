@@ -1,5 +1,5 @@
 -- What each simple command does.
-use Rattle.std.specs.Prelude.{ℕ, Bool, true, false, nat_eq, ⊤, List, [], ◌∷◌, length, fold, ℤ, Option, Some, None, Result, Ok, Err, if◌then◌else◌}
+use Rattle.std.specs.Prelude.{ℕ, Bool, false, nat_eq, ⊤, List, [], ◌∷◌, length, fold, ℤ, Option, Some, None, Result, Ok, Err, if◌then◌else◌}
 use Rattle.std.specs.List.{common_prefix_len}
 use Rattle.ctd_source.specs.TestData.{visible}
 use Rattle.ctd_syntax.specs.Tree.{ExprTree, VarTree, TestTree}

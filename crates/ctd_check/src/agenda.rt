@@ -1,14 +1,16 @@
 //! What a run has still to do: its frames, and the steps that are left.
-ghost use Rattle.std.specs.Prelude.{◌≡◌, ℕ, ◌≤◌, ◌<◌, ◌+◌, ◌-◌, ◌*◌, ◌^◌, ◌++◌, ◌∷◌, [], length, OnOk, IfErr, IfNone, IfSome, MatchOption};
+ghost use Rattle.std.specs.Prelude.{◌≡◌, ℕ, ◌≤◌, ◌<◌, ◌+◌, ◌-◌, ◌^◌, ◌++◌, ◌∷◌, [], length, is_some, true, false, None, Some, OnOk, IfErr, IfNone, IfSome};
+ghost use Rattle.std.specs.Option.{option_copied};
 ghost use Rattle.ctd_syntax.specs.Tree.{blocks, list_blocks};
 ghost use Rattle.ctd_syntax.specs.View.{command_tree, command_trees};
 ghost use Rattle.ctd_check.specs.declared.failure.Halt.TheVariants.{Ended};
 ghost use Rattle.ctd_check.specs.Loops.{start, tasks, finish};
-ghost use Rattle.ctd_check.specs.Pending.{Fits, fits_prop, to_do, frame_tasks, left_tasks, frame_blocks, lap_turn, IsListDone, IsWithin};
+ghost use Rattle.ctd_check.specs.declared.frame.Lap.{Lap};
+ghost use Rattle.ctd_check.specs.Pending.{Fits, fits_prop, to_do, top_lap, frame_tasks, left_tasks, round_tasks, lap_blocks, frame_blocks, lap_turn, IsAtTurn, IsListDone, IsWithin};
 ghost use Rattle.ctd_check.specs.Failures.{at_limit};
 
 use crate::failure::Halt;
-use crate::frame::Frame;
+use crate::frame::{Frame, Lap};
 use crate::outcome::{Fault, Outcome, Site};
 use arrayvec::ArrayVec;
 use ctd_source::Spot;
@@ -25,6 +27,17 @@ pub(crate) struct Agenda<'p> {
     ghost fits: { Fits left frames.items } by { fits_prop left frames.items },
 }
 
+/// How a run ends that has no step left for a task that begins at this spot and stands at this site.
+pub(crate) fn out_of_steps(spot: Spot, site: Site) -> Halt
+    ensures { result ≡ Ended (at_limit spot site) }
+{
+    Halt::Ended(Outcome::Stopped {
+        spot,
+        place: site,
+        fault: Fault::StepLimit,
+    })
+}
+
 /// Takes the next command of the last frame, where its list has one.
 fn next_in<'p>(frames: &mut [Frame<'p>]) -> Option<&'p Command>
     ensures len { length frames.new ≡ length frames.old }
@@ -36,6 +49,18 @@ fn next_in<'p>(frames: &mut [Frame<'p>]) -> Option<&'p Command>
     match frames.len().checked_sub(1) {
         Some(last) => frames[last].next_command(),
         None => None,
+    }
+}
+
+/// Goes on with the loop of the last frame.
+fn go_round_in(frames: &mut [Frame<'_>])
+    requires turn { IfSome (top_lap frames.old) (λ lap. lap.turn + 1 < 2 ^ 64) }
+    ensures len { length frames.new ≡ length frames.old }
+    ensures to_do { (lap : Lap) → (at : IsAtTurn frames.old lap) → to_do frames.new ≡ round_tasks lap ++ to_do at.below }
+    ensures fits { (left : ℕ) → Fits (left + 1) frames.old → Fits left frames.new }
+{
+    if let Some(last) = frames.len().checked_sub(1) {
+        frames[last].go_round();
     }
 }
 
@@ -80,11 +105,7 @@ impl<'p> Agenda<'p> {
                 self.left = rest;
                 Ok(())
             }
-            None => Err(Halt::Ended(Outcome::Stopped {
-                spot,
-                place: site,
-                fault: Fault::StepLimit,
-            })),
+            None => Err(out_of_steps(spot, site)),
         }
     }
 
@@ -99,16 +120,56 @@ impl<'p> Agenda<'p> {
         next_in(self.frames.as_mut_slice())
     }
 
-    /// Takes the topmost frame.
-    pub(crate) fn pop(&mut self) -> Option<Frame<'p>>
-        ensures left { self.new.left ≡ self.old.left }
-        ensures frames { MatchOption result (self.old.frames.items ≡ []) (λ frame. self.old.frames.items ≡ self.new.frames.items ++ frame ∷ []) }
-        ensures empty { IfNone result (self.new.frames.items ≡ []) }
-        ensures room { MatchOption result (Unit {0}) (λ frame. length self.new.frames.items + 1 + frame_blocks frame ≤ 201) }
-        ensures turn { MatchOption result (Unit {0}) (λ frame. lap_turn frame.lap + self.new.left + 1 ≤ 2 ^ 64) }
-        ensures done { IsListDone self.old.frames.items → IfSome result (λ frame. frame.rest.now ≡ []) }
+    /// Whether the topmost frame is of a loop.
+    pub(crate) fn has_loop(&self) -> bool
+        ensures value { result ≡ is_some (top_lap self.now.frames.items) }
     {
-        self.frames.pop()
+        self.lap().is_some()
+    }
+
+    /// The loop of the topmost frame, before its next turn.
+    pub(crate) fn lap(&self) -> Option<&Lap<'p>>
+        ensures value { option_copied result ≡ top_lap self.now.frames.items }
+        ensures room { IfSome result (λ lap. length self.now.frames.items + lap_blocks (Some lap.now) ≤ 201) }
+    {
+        match self.frames.as_slice().last() {
+            Some(frame) => frame.lap.as_ref(),
+            None => None,
+        }
+    }
+
+    /// Pays a step and goes on with the loop of the topmost frame: its body, and then the turn after that.
+    pub(crate) fn go_round(&mut self)
+        requires left { 0 < self.old.left }
+        ensures paid { self.old.left ≡ self.new.left + 1 }
+        ensures len { length self.new.frames.items ≡ length self.old.frames.items }
+        ensures to_do { (lap : Lap) → (at : IsAtTurn self.old.frames.items lap) → to_do self.new.frames.items ≡ round_tasks lap ++ to_do at.below }
+    {
+        self.left -= 1;
+        go_round_in(self.frames.as_mut_slice());
+    }
+
+    /// Pays a step and takes the topmost frame off, whose loop is over.
+    pub(crate) fn end_loop(&mut self)
+        requires left { 0 < self.old.left }
+        ensures paid { self.old.left ≡ self.new.left + 1 }
+        ensures frames { (lap : Lap) → (at : IsAtTurn self.old.frames.items lap) → self.new.frames.items ≡ at.below }
+        ensures len { length self.new.frames.items ≤ length self.old.frames.items }
+    {
+        self.left -= 1;
+        self.frames.pop();
+    }
+
+    /// Takes the topmost frame off, whose list is done and which is of no loop, and tells whether there was one.
+    pub(crate) fn leave_list(&mut self) -> bool
+        requires done { IsListDone self.old.frames.items }
+        requires no_loop { top_lap self.old.frames.items ≡ None }
+        ensures left { self.new.left ≡ self.old.left }
+        ensures len { result ≡ true → length self.old.frames.items ≡ length self.new.frames.items + 1 }
+        ensures to_do { to_do self.new.frames.items ≡ to_do self.old.frames.items }
+        ensures none { result ≡ false → self.new.frames.items ≡ [] }
+    {
+        self.frames.pop().is_some()
     }
 
     /// Puts a frame on top.

@@ -124,9 +124,9 @@ impl<'d, D: Source> Run<'d, D> {
     }
 
     /// First the counter of a turn, and then whether the loop goes on with it.
-    pub(crate) fn take_turn(&mut self, lap: Lap<'_>) -> Result<bool, CommandFailure>
+    pub(crate) fn take_turn(&mut self, lap: &Lap<'_>) -> Result<bool, CommandFailure>
         requires sound { IsSound self.old }
-        ensures performs { Performs self.old self.new result (take_turn (loop_in lap.entry) lap.entry.turn) }
+        ensures performs { Performs self.old self.new result (take_turn (loop_in lap.now) lap.now.turn) }
     {
         self.count_turn(lap.counter, lap.turn)?;
         self.goes_on(lap.guard, lap.turn)

@@ -1,16 +1,16 @@
 //! The run of a program: its tasks one after the other, each for one step.
-ghost use Rattle.std.specs.Prelude.{◌≡◌, ◌≤◌, ◌<◌, ◌+◌, ◌*◌, ◌^◌, ◌∷◌, ◌++◌, [], length, OnOk, IfSome, Some};
-ghost use Rattle.ctd_syntax.specs.Tree.{blocks, list_blocks};
+ghost use Rattle.std.specs.Prelude.{◌≡◌, ◌≤◌, ◌<◌, ◌+◌, ◌*◌, ◌∷◌, [], length, is_some, true, OnOk, IfSome, Some};
+ghost use Rattle.ctd_syntax.specs.Tree.{blocks};
 ghost use Rattle.ctd_syntax.specs.View.{command_tree};
 ghost use Rattle.ctd_check.specs.Known.{AreKnown};
-ghost use Rattle.ctd_check.specs.Loops.{start, turn, separated};
-ghost use Rattle.ctd_check.specs.Pending.{to_do, frame_tasks, frame_blocks, lap_blocks, lap_turn, loop_in, separator_in, separator_tasks};
+ghost use Rattle.ctd_check.specs.Loops.{start, separated};
+ghost use Rattle.ctd_check.specs.Pending.{to_do, top_lap, lap_blocks, separator_in, separator_tasks, IsListDone};
 ghost use Rattle.ctd_check.specs.Performs.{IsSound, Advances, Ends, EndsAs, state};
 ghost use Rattle.ctd_check.specs.Run.{run_from};
 
-use crate::agenda::Agenda;
+use crate::agenda::{Agenda, out_of_steps};
 use crate::failure::Halt;
-use crate::frame::{Frame, Lap};
+use crate::frame::Lap;
 use crate::machine::Run;
 use crate::outcome::Site;
 use ctd_pattern::Matcher;
@@ -46,9 +46,9 @@ fn begin<'p, D: Source>(
 }
 
 /// The separator before a turn, which the first turn lacks.
-fn separator_before<'p>(lap: Lap<'p>) -> Option<&'p Command>
-    ensures tasks { separated lap.entry.turn (separator_in lap.entry.between) ≡ separator_tasks result }
-    ensures blocks { IfSome result (λ c. blocks (command_tree c.now) ≤ lap_blocks (Some lap.entry)) }
+fn separator_before<'p>(lap: &Lap<'p>) -> Option<&'p Command>
+    ensures tasks { separated lap.now.turn (separator_in lap.now.between) ≡ separator_tasks result }
+    ensures blocks { IfSome result (λ c. blocks (command_tree c.now) ≤ lap_blocks (Some lap.now)) }
 {
     if lap.turn == 0 {
         return None;
@@ -56,67 +56,48 @@ fn separator_before<'p>(lap: Lap<'p>) -> Option<&'p Command>
     lap.between
 }
 
-/// A turn of a loop.
-fn begin_turn<'p, D: Source>(
-    lap: Lap<'p>,
+/// The next turn of the loop of the topmost frame, whose list is done. The frame stays where it is as long as the loop goes
+/// on.
+fn begin_turn<D: Source>(
     run: &mut Run<'_, D>,
-    agenda: &mut Agenda<'p>,
+    agenda: &mut Agenda<'_>,
     matchers: &mut [Matcher<'_>],
 ) -> Result<(), Halt>
     requires sound { IsSound run.old }
-    requires room { length agenda.old.frames.items + 1 + lap_blocks (Some lap) ≤ 201 }
-    requires known { AreKnown matchers.old (turn (loop_in lap) lap.turn ∷ to_do agenda.old.frames.items) }
-    requires turn { lap.turn + agenda.old.left + 1 ≤ 2 ^ 64 }
+    requires done { IsListDone agenda.old.frames.items }
+    requires has_loop { is_some (top_lap agenda.old.frames.items) ≡ true }
+    requires known { AreKnown matchers.old (to_do agenda.old.frames.items) }
     ensures spent { agenda.new.left ≤ agenda.old.left }
-    ensures less { OnOk result (2 * agenda.new.left + length agenda.new.frames.items < 2 * agenda.old.left + length agenda.old.frames.items + 1) }
-    ensures advances { Advances run.old run.new agenda.old.left (turn (loop_in lap.entry) lap.entry.turn ∷ to_do agenda.old.frames.items) agenda.new result }
+    ensures less { OnOk result (2 * agenda.new.left + length agenda.new.frames.items < 2 * agenda.old.left + length agenda.old.frames.items) }
+    ensures advances { Advances run.old run.new agenda.old.left (to_do agenda.old.frames.items) agenda.new result }
     ensures known { OnOk result (AreKnown matchers.new (to_do agenda.new.frames.items)) }
     ensures kept { matchers.new ≡ matchers.old }
 {
     let spot = run.cursor.spot();
-    let site = Site::At(lap.place);
-    agenda.pay(spot, site)?;
+    let Some(lap) = agenda.lap() else {
+        unreachable!();
+    };
+    if agenda.left() == 0 {
+        return Err(out_of_steps(spot, Site::At(lap.place)));
+    }
+    let separator = separator_before(lap);
     match run.take_turn(lap) {
         Ok(true) => {
-            let next = Lap {
-                turn: lap.turn + 1,
-                ..lap
-            };
-            agenda.push(Frame {
-                rest: lap.body,
-                lap: Some(next),
-            });
-            match separator_before(lap) {
+            agenda.go_round();
+            match separator {
                 Some(command) => begin(command, run, agenda, matchers),
                 None => Ok(()),
             }
         }
-        Ok(false) => Ok(()),
-        Err(failure) => Err(failure.halt(spot, site)),
-    }
-}
-
-/// The end of a frame's list: where it is the body of a loop, the loop's next turn.
-fn end_list<'p, D: Source>(
-    frame: Frame<'p>,
-    run: &mut Run<'_, D>,
-    agenda: &mut Agenda<'p>,
-    matchers: &mut [Matcher<'_>],
-) -> Result<(), Halt>
-    requires done { frame.rest.now ≡ [] }
-    requires sound { IsSound run.old }
-    requires room { length agenda.old.frames.items + 1 + frame_blocks frame ≤ 201 }
-    requires known { AreKnown matchers.old (frame_tasks frame ++ to_do agenda.old.frames.items) }
-    requires turn { lap_turn frame.lap + agenda.old.left + 1 ≤ 2 ^ 64 }
-    ensures spent { agenda.new.left ≤ agenda.old.left }
-    ensures less { OnOk result (2 * agenda.new.left + length agenda.new.frames.items < 2 * agenda.old.left + length agenda.old.frames.items + 1) }
-    ensures advances { Advances run.old run.new agenda.old.left (frame_tasks frame.entry ++ to_do agenda.old.frames.items) agenda.new result }
-    ensures known { OnOk result (AreKnown matchers.new (to_do agenda.new.frames.items)) }
-    ensures kept { matchers.new ≡ matchers.old }
-{
-    match frame.lap {
-        Some(lap) => begin_turn(lap, run, agenda, matchers),
-        None => Ok(()),
+        Ok(false) => {
+            agenda.end_loop();
+            Ok(())
+        }
+        Err(failure) => {
+            let halt = failure.halt(spot, Site::At(lap.place));
+            agenda.end_loop();
+            Err(halt)
+        }
     }
 }
 
@@ -151,9 +132,12 @@ fn run_tasks<D: Source>(
             begin(command, run, agenda, matchers)?;
             continue;
         }
-        match agenda.pop() {
-            Some(frame) => end_list(frame, run, agenda, matchers)?,
-            None => return conclude(run, agenda),
+        if agenda.has_loop() {
+            begin_turn(run, agenda, matchers)?;
+            continue;
+        }
+        if !agenda.leave_list() {
+            return conclude(run, agenda);
         }
     }
 }

@@ -1,5 +1,5 @@
 -- What follows from a call that tells whether it was done.
-use Rattle.std.proofs.Common.{◌≡◌, Bool, true, false, T, List, ◌∷◌, [], Result, Ok, Err, OnOk, is_ok, subst, sym}
+use Rattle.std.proofs.Common.{◌≡◌, Bool, true, false, T, ◌∷◌, [], Result, Ok, Err, OnOk, is_ok, subst, sym}
 use Rattle.std.specs.FinMap.{put}
 use Rattle.ctd_value.specs.declared.value.Value.{Value}
 use Rattle.ctd_value.specs.Order.{values_cmp}
