@@ -62,7 +62,7 @@ nothing_left_out k [] h = refl
 nothing_left_out k (e ∷ es) h = ap (λ b. cond (not b) (e ∷ without k es) (without k es)) h.0 ∙ ap (λ r. e ∷ r) (nothing_left_out k es h.1)
 
 -- where each comes once, all are first
-all_first : (es : Array) → HasEachOnce es → first_of_each es ≡ es
+pub all_first : (es : Array) → HasEachOnce es → first_of_each es ≡ es
 all_first [] h = refl
 all_first (e ∷ es) h =
     ap (λ r. e ∷ without e.0 r) (all_first es (IsDistinct-tail same_values e.0 (index_lists es) h))

@@ -33,7 +33,7 @@ differs q k apart = elim (values_cmp q k) as (λ o. values_cmp q k ≡ o → is_
   | Greater ↦ λ _. refl
 ] refl
 
-tied : (k : List Value) → eq_by_cmp values_cmp k k ≡ true
+pub tied : (k : List Value) → eq_by_cmp values_cmp k k ≡ true
 tied k = ap is_eq (tied_itself values_total k)
 
 pub is_sorted-laid : (n : ℕ) (xs : List Value) (es : Array) → T (is_sorted values_cmp es) → T (is_sorted values_cmp (laid n xs es))

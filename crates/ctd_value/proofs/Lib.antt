@@ -10,6 +10,7 @@ pub mod Merged
 pub mod Named
 pub mod Ordinary
 pub mod Powers
+pub mod Rows
 pub mod Small
 pub mod ListTraversal
 pub mod StoreLaws

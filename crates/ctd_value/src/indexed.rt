@@ -6,7 +6,7 @@ ghost use Rattle.std.specs.Option.{option_copied, unwrap_or, IfSome, IfNone};
 ghost use Rattle.std.specs.FinMap.{find, put};
 ghost use Rattle.ctd_value.specs.Order.{values_cmp, same_values};
 ghost use Rattle.ctd_value.specs.Showing.{entry, indices_of, not_among};
-ghost use Rattle.ctd_value.specs.Store.{index_lists, slot, order_of_slot};
+ghost use Rattle.ctd_value.specs.Store.{index_lists, laid, slot, order_of_slot};
 
 use crate::store::{EntryRef, Indices};
 use crate::value::Value;
@@ -56,6 +56,18 @@ impl Indexed {
         match slot_below(self.dense.len(), indices) {
             Some(at) => Some(&self.dense[at]),
             None => self.rest.get(indices),
+        }
+    }
+
+    /// The values, where they stand at the numbers from 0 on alone; none says nothing.
+    #[inline(always)]
+    pub(crate) fn row(&self) -> Option<&[Value]>
+        ensures value { IfSome result (λ row. self.now ≡ laid 0 row.now []) }
+    {
+        if self.rest.is_empty() {
+            Some(&self.dense)
+        } else {
+            None
         }
     }
 

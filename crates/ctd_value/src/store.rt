@@ -4,7 +4,7 @@ ghost use Rattle.std.specs.Prelude.{◌≡◌, ◌≢◌, [], Some, IfSome, IfOk
 ghost use Rattle.std.specs.Option.{option_copied};
 ghost use Rattle.std.specs.FinMap.{find};
 ghost use Rattle.ctd_value.specs.Order.{values_cmp};
-ghost use Rattle.ctd_value.specs.Store.{initial, is_pinned, value_at, assign, unset, values_of, value_of, has_indices};
+ghost use Rattle.ctd_value.specs.Store.{initial, is_pinned, value_at, assign, unset, values_of, value_of, has_indices, laid};
 ghost use Rattle.ctd_value.specs.Showing.{entry, indices_of};
 
 use crate::value::{Key, Value};
@@ -97,6 +97,18 @@ impl Store {
     {
         if self.pins.is_empty() {
             self.assigned.hinted(name)
+        } else {
+            None
+        }
+    }
+
+    /// The values of a name, where nothing is pinned and they stand at the numbers from 0 on alone; none says nothing.
+    #[inline(always)]
+    pub(crate) fn row(&self, name: &Name) -> Option<&[Value]>
+        ensures value { IfSome result (λ row. values_of self.now name.now ≡ laid 0 row.now []) }
+    {
+        if self.pins.is_empty() {
+            self.assigned.array(name)?.row()
         } else {
             None
         }

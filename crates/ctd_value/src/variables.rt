@@ -6,7 +6,7 @@ ghost use Rattle.std.specs.Option.{option_copied, unwrap_or};
 ghost use Rattle.std.specs.FinMap.{find, put};
 ghost use Rattle.ctd_value.specs.Order.{bytes_cmp, values_cmp, same_bytes, same_values};
 ghost use Rattle.ctd_value.specs.Showing.{arrays_seen, entry, indices_of, not_among};
-ghost use Rattle.ctd_value.specs.Store.{array_of, name_at, with_value, has_indices, index_lists};
+ghost use Rattle.ctd_value.specs.Store.{array_of, name_at, with_value, has_indices, index_lists, laid};
 
 use crate::indexed::Indexed;
 use crate::positions::Positions;
@@ -259,6 +259,17 @@ impl Array {
         ensures value { option_copied result ≡ find values_cmp [] self.now }
     {
         self.alone.as_ref()
+    }
+
+    /// The values, where they stand at the numbers from 0 on alone; none says nothing.
+    #[inline(always)]
+    pub(crate) fn row(&self) -> Option<&[Value]>
+        ensures value { IfSome result (λ row. self.now ≡ laid 0 row.now []) }
+    {
+        match self.alone {
+            Some(_) => None,
+            None => self.indexed.row(),
+        }
     }
 
     /// The value at an index list. Allocates nothing.
