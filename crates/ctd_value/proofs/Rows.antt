@@ -73,30 +73,30 @@ same_shape n xs ys same =
     λ i. there i && back i
 
 -- the answer for one name
-pub one_name : (h : History) (names : List (List ℕ)) (first : List ℕ) (rest : List (List ℕ)) (row : List Value) (b : Bool) → names ≡ first ∷ rest → length rest ≡ 0
-    → values_of h first ≡ laid 0 row [] → b ≡ all_distinct (map (λ x. x ∷ []) row) → uniqueness (map (values_of h) names) ≡ Ok b
-one_name h names first [] row b is none there answer =
-    ap (λ ns. uniqueness (map (values_of h) ns)) is ∙ ap (λ a. uniqueness (a ∷ [])) there ∙ ap (λ ts. Ok (all_distinct ts)) (row_tuples 0 row) ∙ ap Ok (sym answer)
-one_name h names first (n ∷ rest) row b is none there answer = absurd (omega (arith, none))
+pub one_name : (h : History) (names : List (List ℕ)) (first : List ℕ) (rest : List (List ℕ)) (n : ℕ) (row : List Value) (b : Bool) → names ≡ first ∷ rest → length rest ≡ 0
+    → values_of h first ≡ laid n row [] → b ≡ all_distinct (map (λ x. x ∷ []) row) → uniqueness (map (values_of h) names) ≡ Ok b
+one_name h names first [] n row b is none there answer =
+    ap (λ ns. uniqueness (map (values_of h) ns)) is ∙ ap (λ a. uniqueness (a ∷ [])) there ∙ ap (λ ts. Ok (all_distinct ts)) (row_tuples n row) ∙ ap Ok (sym answer)
+one_name h names first (other ∷ rest) n row b is none there answer = absurd (omega (arith, none))
 
 -- and for two
-pub two_names : (h : History) (names : List (List ℕ)) (first second : List ℕ) (more rest : List (List ℕ)) (row other : List Value) (b : Bool) → names ≡ first ∷ more → more ≡ second ∷ rest → length rest ≡ 0
-    → values_of h first ≡ laid 0 row [] → values_of h second ≡ laid 0 other [] → length row ≡ length other → b ≡ all_distinct (map (λ p. p.0 ∷ p.1 ∷ []) (zip row other)) → uniqueness (map (values_of h) names) ≡ Ok b
-two_names h names first second more [] row other b is next none there too long answer =
+pub two_names : (h : History) (names : List (List ℕ)) (first second : List ℕ) (more rest : List (List ℕ)) (n m : ℕ) (row other : List Value) (b : Bool) → names ≡ first ∷ more → more ≡ second ∷ rest → length rest ≡ 0
+    → values_of h first ≡ laid n row [] → values_of h second ≡ laid m other [] → n ≡ m → length row ≡ length other → b ≡ all_distinct (map (λ p. p.0 ∷ p.1 ∷ []) (zip row other)) → uniqueness (map (values_of h) names) ≡ Ok b
+two_names h names first second more [] n m row other b is next none there too from long answer =
     ap (λ ns. uniqueness (map (values_of h) ns)) (is ∙ ap (λ ns. first ∷ ns) next)
-    ∙ (λ i. uniqueness (there i ∷ too i ∷ []))
-    ∙ ap (λ s. if s && true then Ok (all_distinct (tuples (laid 0 row [] ∷ laid 0 other [] ∷ []))) else Err Shape) (same_shape 0 row other long)
-    ∙ ap (λ ts. Ok (all_distinct ts)) (pair_tuples 0 row other long) ∙ ap Ok (sym answer)
-two_names h names first second more (n ∷ rest) row other b is next none there too long answer = absurd (omega (arith, none))
+    ∙ (λ i. uniqueness (there i ∷ (too ∙ ap (λ k. laid k other []) (sym from)) i ∷ []))
+    ∙ ap (λ s. if s && true then Ok (all_distinct (tuples (laid n row [] ∷ laid n other [] ∷ []))) else Err Shape) (same_shape n row other long)
+    ∙ ap (λ ts. Ok (all_distinct ts)) (pair_tuples n row other long) ∙ ap Ok (sym answer)
+two_names h names first second more (third ∷ rest) n m row other b is next none there too from long answer = absurd (omega (arith, none))
 
 -- a row that is assigned, where nothing is pinned
-pub whole_row : (h : History) (name : List ℕ) (pins assigned : Variables) (a : Array) (row : List Value) → record { pins = pins; assigned = assigned } ≡ h → pins ≡ [] → a ≡ array_of name assigned → a ≡ laid 0 row []
-    → values_of h name ≡ laid 0 row []
-whole_row h name pins assigned a row view none there is =
+pub whole_row : (h : History) (name : List ℕ) (pins assigned : Variables) (a : Array) (n : ℕ) (row : List Value) → record { pins = pins; assigned = assigned } ≡ h → pins ≡ [] → a ≡ array_of name assigned → a ≡ laid n row []
+    → values_of h name ≡ laid n row []
+whole_row h name pins assigned a n row view none there is =
     ap (λ h. values_of h name) (sym view)
     ∙ ap (λ ps. first_of_each (array_of name ps ++ array_of name assigned)) none
     ∙ ap first_of_each (sym there ∙ is)
-    ∙ all_first (laid 0 row []) (laid_each_once row [] tt)
+    ∙ all_first (laid n row []) (laid_each_once n row [] tt)
 
 pub if_some_weaker : {X : Type 0} (o : Option X) (P Q : X → Type 0) → ((x : X) → P x → Q x) → IfSome o P → IfSome o Q
 if_some_weaker None P Q f h = tt

@@ -7,6 +7,7 @@ ghost use Rattle.ctd_value.specs.Order.{values_cmp};
 ghost use Rattle.ctd_value.specs.Store.{initial, is_pinned, value_at, assign, unset, values_of, value_of, has_indices, laid};
 ghost use Rattle.ctd_value.specs.Showing.{entry, indices_of};
 
+use crate::indexed::Row;
 use crate::value::{Key, Value};
 use crate::variables::Variables;
 use ctd_syntax::{Bytes, Literal, Name, Preset, Presets};
@@ -102,10 +103,10 @@ impl Store {
         }
     }
 
-    /// The values of a name, where nothing is pinned and they stand at the numbers from 0 on alone; none says nothing.
+    /// The values of a name, where nothing is pinned and they are a row alone; none says nothing.
     #[inline(always)]
-    pub(crate) fn row(&self, name: &Name) -> Option<&[Value]>
-        ensures value { IfSome result (λ row. values_of self.now name.now ≡ laid 0 row.now []) }
+    pub(crate) fn row(&self, name: &Name) -> Option<Row<'_>>
+        ensures value { IfSome result (λ row. values_of self.now name.now ≡ laid row.base row.values.now []) }
     {
         if self.pins.is_empty() {
             self.assigned.array(name)?.row()

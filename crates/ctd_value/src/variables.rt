@@ -8,7 +8,7 @@ ghost use Rattle.ctd_value.specs.Order.{bytes_cmp, values_cmp, same_bytes, same_
 ghost use Rattle.ctd_value.specs.Showing.{arrays_seen, entry, indices_of, not_among};
 ghost use Rattle.ctd_value.specs.Store.{array_of, name_at, with_value, has_indices, index_lists, laid};
 
-use crate::indexed::Indexed;
+use crate::indexed::{Indexed, Row};
 use crate::positions::Positions;
 use crate::store::{EntryRef, Indices};
 use crate::value::Value;
@@ -261,10 +261,10 @@ impl Array {
         self.alone.as_ref()
     }
 
-    /// The values, where they stand at the numbers from 0 on alone; none says nothing.
+    /// The values, where they are a row alone; none says nothing.
     #[inline(always)]
-    pub(crate) fn row(&self) -> Option<&[Value]>
-        ensures value { IfSome result (λ row. self.now ≡ laid 0 row.now []) }
+    pub(crate) fn row(&self) -> Option<Row<'_>>
+        ensures value { IfSome result (λ row. self.now ≡ laid row.base row.values.now []) }
     {
         match self.alone {
             Some(_) => None,
