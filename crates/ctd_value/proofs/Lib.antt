@@ -6,6 +6,7 @@ pub mod Giving
 pub mod Laid
 pub mod Lookups
 pub mod Maps
+pub mod Members
 pub mod Merged
 pub mod Named
 pub mod Ordinary

@@ -1,16 +1,18 @@
 //! Index lists with their values: a row of values for the numbers from 0 or 1 on, and an ordered map for all others.
 
-ghost use Rattle.std.specs.Prelude.{◌≡◌, ◌≢◌, ℕ, suc, pos, ◌+◌, ◌<◌, ◌≤◌, length, take, drop, [], ◌∷◌, ◌++◌, map, IfOk, OnOk, OnErr};
-ghost use Rattle.std.specs.List.{IsDistinct};
+ghost use Rattle.std.specs.Prelude.{◌≡◌, ◌≢◌, ℕ, suc, pos, ◌+◌, ◌<◌, ◌≤◌, length, take, drop, [], ◌∷◌, ◌++◌, map, not, ◌&&◌, IfOk, OnOk, OnErr};
+ghost use Rattle.std.specs.List.{IsDistinct, list_any};
 ghost use Rattle.std.specs.Option.{option_copied, unwrap_or, IfSome, IfNone};
 ghost use Rattle.std.specs.FinMap.{find, put};
-ghost use Rattle.ctd_value.specs.Order.{values_cmp, same_values};
+ghost use Rattle.ctd_value.specs.Lending.{value_lent};
+ghost use Rattle.ctd_value.specs.Order.{values_cmp, same_value, same_values};
 ghost use Rattle.ctd_value.specs.Showing.{entry, indices_of, not_among};
-ghost use Rattle.ctd_value.specs.Store.{index_lists, laid, slot, order_of_slot};
+ghost use Rattle.ctd_value.specs.Store.{has_indices, index_lists, laid, slot, order_of_slot};
 
+use crate::lent::Lent;
 use crate::store::{EntryRef, Indices};
 use crate::value::Value;
-use crate::variables::{Array, with_entry};
+use crate::variables::{Array, has_indices, with_entry};
 use std::alloc::{AllocError, Global};
 use std::cmp::Ordering;
 use std::collections::BTreeMap;
@@ -141,6 +143,57 @@ impl Indexed {
         }
         Ok(entries)
     }
+
+    /// Whether a value is among those at whose index lists the hidden array, if there is one, has none. Allocates nothing.
+    pub(crate) fn has_value(&self, hidden: Option<&Array>, value: Lent<'_>) -> bool
+        ensures value { result ≡ list_any (λ e. same_value (value_lent value.entry) e.1) (not_among (unwrap_or (option_copied hidden.entry) []) self.now) }
+    {
+        let mut next = 0;
+        for (indices, stored) in &self.rest {
+            let indices = indices.as_slice();
+            while order_of_slot(self.base, next, self.dense.len(), indices).is_lt() {
+                if shows_at(hidden, self.base, next, &self.dense[next], value) {
+                    return true;
+                }
+                next += 1;
+            }
+            if order_of_slot(self.base, next, self.dense.len(), indices).is_eq() {
+                if shows(hidden, indices, &self.dense[next], value) {
+                    return true;
+                }
+                next += 1;
+            } else if shows(hidden, indices, stored, value) {
+                return true;
+            }
+        }
+        while next < self.dense.len() {
+            if shows_at(hidden, self.base, next, &self.dense[next], value) {
+                return true;
+            }
+            next += 1;
+        }
+        false
+    }
+}
+
+/// Whether a value is the one at a place from a base on, and the hidden array, if there is one, has none there.
+#[inline(always)]
+fn shows_at(hidden: Option<&Array>, base: usize, at: usize, stored: &Value, value: Lent<'_>) -> bool
+    ensures value { result ≡ (same_value (value_lent value.entry) stored.now && not (has_indices (unwrap_or (option_copied hidden.entry) []) (slot (base + at)))) }
+{
+    value.order(Lent::of(stored)).is_eq() && !has_indices(hidden, slot_indices(base, at).as_slice())
+}
+
+/// Whether a value is the one at an index list, and the hidden array, if there is one, has none there.
+pub(crate) fn shows(
+    hidden: Option<&Array>,
+    indices: &[Value],
+    stored: &Value,
+    value: Lent<'_>,
+) -> bool
+    ensures value { result ≡ (same_value (value_lent value.entry) stored.now && not (has_indices (unwrap_or (option_copied hidden.entry) []) indices.now)) }
+{
+    value.order(Lent::of(stored)).is_eq() && !has_indices(hidden, indices)
 }
 
 /// Gives a slot of a list a value, where one past its end is a slot too; after an error all is as it was.

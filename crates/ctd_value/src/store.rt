@@ -1,15 +1,18 @@
 //! The variables: what is pinned, and what is assigned.
 
 ghost use Rattle.std.specs.Prelude.{◌≡◌, ◌≢◌, [], Some, IfSome, IfOk, OnOk, OnErr, IsOk, IsTrue, IsPermutation, AllPairs, map};
+ghost use Rattle.std.specs.List.{list_any};
 ghost use Rattle.std.specs.Option.{option_copied};
 ghost use Rattle.std.specs.FinMap.{find};
-ghost use Rattle.ctd_value.specs.Order.{values_cmp};
+ghost use Rattle.ctd_value.specs.Lending.{value_lent};
+ghost use Rattle.ctd_value.specs.Order.{values_cmp, same_value};
 ghost use Rattle.ctd_value.specs.Store.{initial, is_pinned, value_at, assign, unset, values_of, value_of, has_indices, laid};
 ghost use Rattle.ctd_value.specs.Showing.{entry, indices_of};
 
 use crate::indexed::Row;
+use crate::lent::Lent;
 use crate::value::{Key, Value};
-use crate::variables::Variables;
+use crate::variables::{Variables, has_value};
 use ctd_syntax::{Bytes, Literal, Name, Preset, Presets};
 use std::alloc::{AllocError, Global};
 use std::marker::Model;
@@ -131,6 +134,17 @@ impl Store {
         ensures value { result ≡ has_indices (values_of self.now name.now) indices.now }
     {
         self.value_at(name, indices).is_some()
+    }
+
+    /// Whether a value is among those of a name. Allocates nothing.
+    pub(crate) fn has_value(&self, name: &Name, value: Lent<'_>) -> bool
+        ensures value { result ≡ list_any (λ e. same_value (value_lent value.entry) e.1) (values_of self.now name.now) }
+    {
+        let pinned = self.pins.array(name);
+        if has_value(pinned, None, value) {
+            return true;
+        }
+        has_value(self.assigned.array(name), pinned, value)
     }
 
     /// Gives a key a value. A pinned key stays as it is, and that takes no memory; after an error the variables are as they

@@ -1,14 +1,16 @@
 //! Names with their arrays, and arrays: index lists with their values, in their order.
 
 ghost use Rattle.std.specs.Prelude.{◌≡◌, ◌≢◌, ◌↔◌, ℕ, [], ◌∷◌, ◌++◌, map, filter, length, not, Some, IfOk, IfSome, IfNone, IsTrue, OnOk, OnErr};
-ghost use Rattle.std.specs.List.{IsDistinct};
+ghost use Rattle.std.specs.List.{IsDistinct, list_any};
 ghost use Rattle.std.specs.Option.{option_copied, unwrap_or};
 ghost use Rattle.std.specs.FinMap.{find, put};
-ghost use Rattle.ctd_value.specs.Order.{bytes_cmp, values_cmp, same_bytes, same_values};
+ghost use Rattle.ctd_value.specs.Lending.{value_lent};
+ghost use Rattle.ctd_value.specs.Order.{bytes_cmp, values_cmp, same_bytes, same_value, same_values};
 ghost use Rattle.ctd_value.specs.Showing.{arrays_seen, entry, indices_of, not_among};
 ghost use Rattle.ctd_value.specs.Store.{array_of, name_at, with_value, has_indices, index_lists, laid};
 
-use crate::indexed::{Indexed, Row};
+use crate::indexed::{Indexed, Row, shows};
+use crate::lent::Lent;
 use crate::positions::Positions;
 use crate::store::{EntryRef, Indices};
 use crate::value::Value;
@@ -313,6 +315,34 @@ impl Array {
             None => self.indexed.add_entries(hidden, entries),
         }
     }
+
+    /// Whether a value is among those at whose index lists the hidden array, if there is one, has none. Allocates nothing.
+    fn has_value(&self, hidden: Option<&Array>, value: Lent<'_>) -> bool
+        ensures value { result ≡ list_any (λ e. same_value (value_lent value.entry) e.1) (not_among (unwrap_or (option_copied hidden.entry) []) self.now) }
+        ensures once { IsDistinct same_values (index_lists self.now) }
+    {
+        match &self.alone {
+            Some(alone) => {
+                if shows(hidden, &[], alone, value) {
+                    return true;
+                }
+                self.indexed.has_value(hidden, value)
+            }
+            None => self.indexed.has_value(hidden, value),
+        }
+    }
+}
+
+/// Whether a value is among those of an array, if there is one, at whose index lists the hidden array, if there is one, has
+/// none. Allocates nothing.
+pub(crate) fn has_value(array: Option<&Array>, hidden: Option<&Array>, value: Lent<'_>) -> bool
+    ensures value { result ≡ list_any (λ e. same_value (value_lent value.entry) e.1) (not_among (unwrap_or (option_copied hidden.entry) []) (unwrap_or (option_copied array.entry) [])) }
+    ensures once { IsDistinct same_values (index_lists (unwrap_or (option_copied array.entry) [])) }
+{
+    match array {
+        Some(array) => array.has_value(hidden, value),
+        None => false,
+    }
 }
 
 /// Puts a value in the place of another or of none.
@@ -338,7 +368,7 @@ pub(crate) fn with_entry<'s>(
 }
 
 /// Whether an array, if there is one, has a value at an index list.
-fn has_indices(array: Option<&Array>, indices: &[Value]) -> bool
+pub(crate) fn has_indices(array: Option<&Array>, indices: &[Value]) -> bool
     ensures value { result ≡ has_indices (unwrap_or (option_copied array.entry) []) indices.now }
 {
     match array {

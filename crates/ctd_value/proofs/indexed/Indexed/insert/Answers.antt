@@ -1,6 +1,6 @@
 use Rattle.std.proofs.Common.{ap, sym, ◌∙◌, arith}
 use Rattle.std.specs.FinMap.{put}
-use Rattle.std.proofs.lemmas.Result.{on_ok_weaker, on_err_weaker}
+use Rattle.std.proofs.lemmas.Result.{on_ok_weaker}
 use Rattle.ctd_value.specs.Order.{values_cmp}
 use Rattle.ctd_value.specs.Store.{laid}
 use Rattle.ctd_value.proofs.Laid.{begun, written_at, written_elsewhere, sorted_seen}
