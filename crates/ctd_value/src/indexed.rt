@@ -19,6 +19,9 @@ use std::collections::BTreeMap;
 use std::marker::Model;
 use std::mem::replace;
 
+/// How many values the room is for that a row may keep while it has none.
+const ROOM_KEPT: usize = 64;
+
 /// Index lists with their values, each index list once, which contracts see as the list of them in order.
 #[derive(Debug, Drop)]
 pub(crate) struct Indexed {
@@ -102,6 +105,14 @@ impl Indexed {
                 Ok(())
             }
         }
+    }
+
+    /// Removes all values; a short row keeps its room for the next ones.
+    pub(crate) fn clear(&mut self)
+        ensures empty { self.new ≡ [] }
+    {
+        clear_row(&mut self.dense);
+        self.rest.clear();
     }
 
     /// Adds the entries to others, but for those at whose index lists the hidden array, if there is one, has a value.
@@ -208,6 +219,18 @@ fn write(values: &mut Vec<Value>, at: usize, value: Value) -> Result<(), AllocEr
         values.push(value)?;
     }
     Ok(())
+}
+
+/// Removes all values of a row; if it has much room, also that.
+fn clear_row(values: &mut Vec<Value>)
+    ensures empty { values.new.items ≡ [] }
+{
+    if values.capacity() <= ROOM_KEPT {
+        values.clear();
+    } else {
+        let empty = Vec::new(*values.allocator());
+        drop(replace(values, empty));
+    }
 }
 
 /// Where a row begins once an index list gets a value. A row with no values begins at 1 if that is the index list, and

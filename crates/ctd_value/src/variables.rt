@@ -118,8 +118,7 @@ impl Variables {
         ensures value { self.new ≡ filter (λ e. not (same_bytes name.now e.0)) self.old }
     {
         if let Some(at) = position(&self.list, &self.positions, name) {
-            let empty = Array::new(*self.list.allocator());
-            drop(replace(&mut self.list[at].array, empty));
+            self.list[at].array.clear();
         }
     }
 
@@ -296,6 +295,14 @@ impl Array {
             return Ok(());
         }
         self.indexed.insert(indices, value)
+    }
+
+    /// Removes all values.
+    fn clear(&mut self)
+        ensures empty { self.new ≡ [] }
+    {
+        drop(replace(&mut self.alone, None));
+        self.indexed.clear();
     }
 
     /// Adds the entries to others, but for those at whose index lists the hidden array, if there is one, has a value.
