@@ -62,7 +62,7 @@ nothing_left_out k [] h = refl
 nothing_left_out k (e ∷ es) h = ap (λ b. cond (not b) (e ∷ without k es) (without k es)) h.0 ∙ ap (λ r. e ∷ r) (nothing_left_out k es h.1)
 
 -- where each comes once, all are first
-all_first : (es : Array) → HasEachOnce es → first_of_each es ≡ es
+pub all_first : (es : Array) → HasEachOnce es → first_of_each es ≡ es
 all_first [] h = refl
 all_first (e ∷ es) h =
     ap (λ r. e ∷ without e.0 r) (all_first es (IsDistinct-tail same_values e.0 (index_lists es) h))
@@ -84,7 +84,7 @@ among_one_more : (e : List Value × Value) (a b : Array) → without e.0 (not_am
 among_one_more e a [] = refl
 among_one_more e a (x ∷ b) = one_more e.0 e.1 x (find values_cmp x.0 a) (same_values x.0 e.0) (not_among a b) (not_among (e ∷ a) b) (values_equiv.symm e.0 x.0) (among_one_more e a b)
 
-first_of_both : (a b : Array) → HasEachOnce a → first_of_each (a ++ b) ≡ a ++ not_among a (first_of_each b)
+pub first_of_both : (a b : Array) → HasEachOnce a → first_of_each (a ++ b) ≡ a ++ not_among a (first_of_each b)
 first_of_both [] b h = sym (among_none (first_of_each b))
 first_of_both (e ∷ a) b h =
     ap (λ r. e ∷ without e.0 r) (first_of_both a b (IsDistinct-tail same_values e.0 (index_lists a) h))

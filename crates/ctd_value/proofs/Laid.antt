@@ -33,7 +33,7 @@ differs q k apart = elim (values_cmp q k) as (λ o. values_cmp q k ≡ o → is_
   | Greater ↦ λ _. refl
 ] refl
 
-tied : (k : List Value) → eq_by_cmp values_cmp k k ≡ true
+pub tied : (k : List Value) → eq_by_cmp values_cmp k k ≡ true
 tied k = ap is_eq (tied_itself values_total k)
 
 pub is_sorted-laid : (n : ℕ) (xs : List Value) (es : Array) → T (is_sorted values_cmp es) → T (is_sorted values_cmp (laid n xs es))
@@ -143,25 +143,18 @@ sorted_seen part (e ∷ es) h = both _ _ (to_true _ (below_seen part e.0 es h.0)
     to_true true t = refl
     to_true false t = absurd t
 
--- the same from 0 on
-pub found_at : (q : List Value) (at : ℕ) (xs : List Value) (w : Value) (es : Array) → q ≡ slot at → at < length xs → w ≡ get_or xs at w → find values_cmp q (laid 0 xs es) ≡ Some w
-found_at q at xs w es here in_range is = ap (λ r. find values_cmp r (laid 0 xs es)) (here ∙ ap slot (omega arith)) ∙ found_dense 0 at xs w es in_range is
+-- the same at an index list
+pub found_at : (b : ℕ) (q : List Value) (at : ℕ) (xs : List Value) (w : Value) (es : Array) → q ≡ slot (b + at) → at < length xs → w ≡ get_or xs at w → find values_cmp q (laid b xs es) ≡ Some w
+found_at b q at xs w es here in_range is = ap (λ r. find values_cmp r (laid b xs es)) here ∙ found_dense b at xs w es in_range is
 
-abbrev pub Outside : List Value → ℕ → Type 0
-Outside q count = (m : ℕ) → m < count → q ≢ slot m
+pub written_at : (b : ℕ) (q : List Value) (at : ℕ) (xs : List Value) (v : Value) (es : Array) → T (is_sorted values_cmp es) → q ≡ slot (b + at) → at ≤ length xs
+    → laid b (take at xs ++ v ∷ drop (suc at) xs) es ≡ put values_cmp q v (laid b xs es)
+written_at b q at xs v es sorted here in_range = written b at xs v es sorted in_range ∙ ap (λ r. put values_cmp r v (laid b xs es)) (sym here)
 
-from_zero : (q : List Value) (count : ℕ) → Outside q count → Elsewhere q 0 count
-from_zero q count out m below e = out m below (e ∙ ap slot (omega arith))
-
-pub found_outside : (q : List Value) (xs : List Value) (es : Array) → Outside q (length xs) → find values_cmp q (laid 0 xs es) ≡ find values_cmp q es
-found_outside q xs es out = found_elsewhere q 0 xs es (from_zero q (length xs) out)
-
-pub written_at : (q : List Value) (at : ℕ) (xs : List Value) (v : Value) (es : Array) → T (is_sorted values_cmp es) → q ≡ slot at → at ≤ length xs
-    → laid 0 (take at xs ++ v ∷ drop (suc at) xs) es ≡ put values_cmp q v (laid 0 xs es)
-written_at q at xs v es sorted here in_range = written 0 at xs v es sorted in_range ∙ ap (λ r. put values_cmp r v (laid 0 xs es)) (sym (here ∙ ap slot (omega arith)))
-
-pub written_outside : (k : List Value) (xs : List Value) (v : Value) (es : Array) → T (is_sorted values_cmp es) → Outside k (length xs) → laid 0 xs (put values_cmp k v es) ≡ put values_cmp k v (laid 0 xs es)
-written_outside k xs v es sorted out = written_elsewhere k 0 xs v es sorted (from_zero k (length xs) out)
+-- where no values are laid it doesn't matter where they would begin
+pub begun : (b c : ℕ) (xs : List Value) (es : Array) → (0 < length xs → c ≡ b) → laid c xs es ≡ laid b xs es
+begun b c [] es same = refl
+begun b c (x ∷ xs) es same = ap (λ n. laid n (x ∷ xs) es) (same (omega arith))
 
 pub left_of : (a b : Bool) → T (a && b) → T a
 left_of true b h = tt
@@ -186,5 +179,5 @@ sorted_each_once [] h = tt
 sorted_each_once (e ∷ es) h = IsDistinct-cons same_values e.0 (index_lists es) (below_apart e.0 es (left_of _ _ h)) (sorted_each_once es (right_of _ _ h))
 
 -- no index list comes twice
-pub laid_each_once : (dense : List Value) (rest : Array) → T (is_sorted values_cmp rest) → HasEachOnce (laid 0 dense rest)
-laid_each_once dense rest sorted = sorted_each_once (laid 0 dense rest) (is_sorted-laid 0 dense rest sorted)
+pub laid_each_once : (b : ℕ) (dense : List Value) (rest : Array) → T (is_sorted values_cmp rest) → HasEachOnce (laid b dense rest)
+laid_each_once b dense rest sorted = sorted_each_once (laid b dense rest) (is_sorted-laid b dense rest sorted)

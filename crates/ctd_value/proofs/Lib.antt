@@ -6,10 +6,12 @@ pub mod Giving
 pub mod Laid
 pub mod Lookups
 pub mod Maps
+pub mod Members
 pub mod Merged
 pub mod Named
 pub mod Ordinary
 pub mod Powers
+pub mod Rows
 pub mod Small
 pub mod ListTraversal
 pub mod StoreLaws

@@ -72,9 +72,12 @@ added hidden sofar more now later total e before is new =
     ∙ ap (λ es. sofar ++ not_among hidden es) (sym is)
     ∙ before
 
--- the dense part from a slot on
-pub from_slot : (n : ℕ) (xs : List Value) (x : Value) (es : Array) → n < length xs → x ≡ get_or xs n x → laid n (drop n xs) es ≡ laid n (x ∷ drop (suc n) xs) es
-from_slot n xs x es in_range is = ap (λ ys. laid n ys es) (drop-cons xs n x in_range ∙ ap (λ y. y ∷ drop (suc n) xs) (sym is))
+-- the dense part from a place on
+pub from_slot : (m n : ℕ) (xs : List Value) (x : Value) (es : Array) → n < length xs → x ≡ get_or xs n x → laid m (drop n xs) es ≡ laid m (x ∷ drop (suc n) xs) es
+from_slot m n xs x es in_range is = ap (λ ys. laid m ys es) (drop-cons xs n x in_range ∙ ap (λ y. y ∷ drop (suc n) xs) (sym is))
+
+next_place : (b n : ℕ) → suc (b + n) ≡ b + (n + 1)
+next_place b n = omega arith
 
 lower : (b : Bool) (o c : Ordering) → o ≡ (if b then c else Greater) → is_lt o ≡ true → (b ≡ true) × (c ≡ Less)
 lower true o Less e h = (refl, refl)
@@ -94,34 +97,34 @@ further true o Equal e l h is = cc
 further true o Greater e l h is = refl
 further false o c e l h is = cc
 
-pub merged_before : (n count : ℕ) (xs : List Value) (x : Value) (e : List Value × Value) (es : Array) (o : Ordering) → count ≡ length xs → o ≡ order_of_slot n count e.0 → is_lt o ≡ true → x ≡ get_or xs n x
-    → laid n (drop n xs) (e ∷ es) ≡ (slot n, x) ∷ laid (n + 1) (drop (n + 1) xs) (e ∷ es)
-merged_before n count xs x e es o size is less item =
-    let h = lower (nat_lt n count) o (values_cmp (slot n) e.0) is less in
+pub merged_before : (b n count : ℕ) (xs : List Value) (x : Value) (e : List Value × Value) (es : Array) (o : Ordering) → count ≡ length xs → o ≡ order_of_slot b n count e.0 → is_lt o ≡ true → x ≡ get_or xs n x
+    → laid (b + n) (drop n xs) (e ∷ es) ≡ (slot (b + n), x) ∷ laid (b + (n + 1)) (drop (n + 1) xs) (e ∷ es)
+merged_before b n count xs x e es o size is less item =
+    let h = lower (nat_lt n count) o (values_cmp (slot (b + n)) e.0) is less in
     let below : n < count = ltb-true n count h.0 in
-    from_slot n xs x (e ∷ es) (omega (arith, below, size)) item
-    ∙ laid_before n x (drop (suc n) xs) (e ∷ es) h.1
-    ∙ ap (λ m. (slot n, x) ∷ laid m (drop m xs) (e ∷ es)) (sym (add-one n))
+    from_slot (b + n) n xs x (e ∷ es) (omega (arith, below, size)) item
+    ∙ laid_before (b + n) x (drop (suc n) xs) (e ∷ es) h.1
+    ∙ (λ i. (slot (b + n), x) ∷ laid (next_place b n i) (drop (sym (add-one n) i) xs) (e ∷ es))
 
-pub merged_same : (n count : ℕ) (xs : List Value) (x : Value) (e : List Value × Value) (es : Array) (o : Ordering) → count ≡ length xs → o ≡ order_of_slot n count e.0 → is_eq o ≡ true → x ≡ get_or xs n x
-    → laid n (drop n xs) (e ∷ es) ≡ (e.0, x) ∷ laid (n + 1) (drop (n + 1) xs) es
-merged_same n count xs x e es o size is same item =
-    let h = alike (nat_lt n count) o (values_cmp (slot n) e.0) is same in
+pub merged_same : (b n count : ℕ) (xs : List Value) (x : Value) (e : List Value × Value) (es : Array) (o : Ordering) → count ≡ length xs → o ≡ order_of_slot b n count e.0 → is_eq o ≡ true → x ≡ get_or xs n x
+    → laid (b + n) (drop n xs) (e ∷ es) ≡ (e.0, x) ∷ laid (b + (n + 1)) (drop (n + 1) xs) es
+merged_same b n count xs x e es o size is same item =
+    let h = alike (nat_lt n count) o (values_cmp (slot (b + n)) e.0) is same in
     let below : n < count = ltb-true n count h.0 in
-    from_slot n xs x (e ∷ es) (omega (arith, below, size)) item
-    ∙ laid_same n x (drop (suc n) xs) e es h.1
-    ∙ ap (λ m. (e.0, x) ∷ laid m (drop m xs) es) (sym (add-one n))
+    from_slot (b + n) n xs x (e ∷ es) (omega (arith, below, size)) item
+    ∙ laid_same (b + n) x (drop (suc n) xs) e es h.1
+    ∙ (λ i. (e.0, x) ∷ laid (next_place b n i) (drop (sym (add-one n) i) xs) es)
 
-pub merged_after : (n count : ℕ) (xs : List Value) (e : List Value × Value) (es : Array) (o : Ordering) → count ≡ length xs → o ≡ order_of_slot n count e.0 → is_lt o ≡ false → is_eq o ≡ false
-    → laid n (drop n xs) (e ∷ es) ≡ e ∷ laid n (drop n xs) es
-merged_after n count xs e es o size is not_less not_same =
-    elim (nat_lt n count) as (λ b. nat_lt n count ≡ b → laid n (drop n xs) (e ∷ es) ≡ e ∷ laid n (drop n xs) es) [
-      | true ↦ λ t. laid_after n (drop n xs) e es (further (nat_lt n count) o (values_cmp (slot n) e.0) is not_less not_same t)
+pub merged_after : (b n count : ℕ) (xs : List Value) (e : List Value × Value) (es : Array) (o : Ordering) → count ≡ length xs → o ≡ order_of_slot b n count e.0 → is_lt o ≡ false → is_eq o ≡ false
+    → laid (b + n) (drop n xs) (e ∷ es) ≡ e ∷ laid (b + n) (drop n xs) es
+merged_after b n count xs e es o size is not_less not_same =
+    elim (nat_lt n count) as (λ t. nat_lt n count ≡ t → laid (b + n) (drop n xs) (e ∷ es) ≡ e ∷ laid (b + n) (drop n xs) es) [
+      | true ↦ λ t. laid_after (b + n) (drop n xs) e es (further (nat_lt n count) o (values_cmp (slot (b + n)) e.0) is not_less not_same t)
       | false ↦ λ t.
           let over : count ≤ n = ltb-false n count t in
           let none : drop n xs ≡ [] = drop_of_length-le xs (omega (arith, over, size)) in
-          ap (λ ys. laid n ys (e ∷ es)) none ∙ ap (λ ys. e ∷ laid n ys es) (sym none)
+          ap (λ ys. laid (b + n) ys (e ∷ es)) none ∙ ap (λ ys. e ∷ laid (b + n) ys es) (sym none)
     ] refl
 
-pub merged_last : (n : ℕ) (xs : List Value) (x : Value) → n < length xs → x ≡ get_or xs n x → laid n (drop n xs) [] ≡ (slot n, x) ∷ laid (n + 1) (drop (n + 1) xs) []
-merged_last n xs x below item = from_slot n xs x [] below item ∙ laid_before n x (drop (suc n) xs) [] tt ∙ ap (λ m. (slot n, x) ∷ laid m (drop m xs) []) (sym (add-one n))
+pub merged_last : (b n : ℕ) (xs : List Value) (x : Value) → n < length xs → x ≡ get_or xs n x → laid (b + n) (drop n xs) [] ≡ (slot (b + n), x) ∷ laid (b + (n + 1)) (drop (n + 1) xs) []
+merged_last b n xs x below item = from_slot (b + n) n xs x [] below item ∙ laid_before (b + n) x (drop (suc n) xs) [] tt ∙ (λ i. (slot (b + n), x) ∷ laid (next_place b n i) (drop (sym (add-one n) i) xs) [])

@@ -1,5 +1,5 @@
 -- What has been assigned and pinned, and what a variable stands for.
-use Rattle.std.specs.Prelude.{ℕ, suc, pos, nat_eq, nat_lt, true, false, Bool, not, ◌&&◌, List, [], ◌∷◌, ◌++◌, filter, fold, map, is_some, slice_get, option_map, Option, Some, None, if◌then◌else◌}
+use Rattle.std.specs.Prelude.{ℕ, suc, pos, ◌+◌, nat_eq, nat_lt, true, false, Bool, not, ◌&&◌, List, [], ◌∷◌, ◌++◌, filter, fold, map, is_some, slice_get, option_map, Option, Some, None, if◌then◌else◌}
 use Rattle.std.specs.Option.{option_or, unwrap_or}
 use Rattle.std.specs.FinMap.{find, put, is_sorted}
 use Rattle.std.specs.declared.cmp.Ordering.{Ordering}
@@ -43,9 +43,9 @@ with_alone (Some x) array = put values_cmp [] x array
 abbrev pub is_indexed : Array → Bool
 is_indexed array = is_sorted values_cmp array && not (is_some (find values_cmp [] array))
 
--- how the index list of a number stands to an index list, where there are so many; any further is after each
-abbrev pub order_of_slot : ℕ → ℕ → List Value → Ordering
-order_of_slot n count indices = if nat_lt n count then values_cmp (slot n) indices else Greater
+-- how the index list at a place from a number on stands to an index list, where there are so many; any further is after each
+abbrev pub order_of_slot : ℕ → ℕ → ℕ → List Value → Ordering
+order_of_slot base at count indices = if nat_lt at count then values_cmp (slot (base + at)) indices else Greater
 
 -- names with their arrays, in the order of the names; where one came twice, its first array would count
 abbrev pub Variables : Type 0

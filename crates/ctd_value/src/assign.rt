@@ -89,7 +89,7 @@ fn set_small(alloc: Global, v: &Var, n: i128, store: &mut Store) -> bool
             .assign_at(&v.name, Vec::new(alloc), Value::Int(n))
             .is_ok(),
         [index] => match small_index(index, store) {
-            Some(at) => store.assign_in_row(&v.name, at, Value::Int(n)),
+            Some(number) => store.assign_in_row(&v.name, number, Value::Int(n)),
             None => false,
         },
         _ => false,
@@ -99,7 +99,7 @@ fn set_small(alloc: Global, v: &Var, n: i128, store: &mut Store) -> bool
 /// The value of an expression, where it is a number that an index of a row may be.
 #[inline(always)]
 fn small_index(e: &Expr, store: &Store) -> Option<usize>
-    ensures value { IfSome result (λ at. val (expr_tree e.now) store.now ≡ Ok (values.Int (pos at))) }
+    ensures value { IfSome result (λ number. val (expr_tree e.now) store.now ≡ Ok (values.Int (pos number))) }
 {
     usize::try_from(small(e, store)?).ok()
 }

@@ -1,28 +1,42 @@
-//! Index lists with their values: a row of values for the numbers from 0 on, and an ordered map for all others.
+//! Index lists with their values: a row of values for the numbers from 0 or 1 on, and an ordered map for all others.
 
-ghost use Rattle.std.specs.Prelude.{◌≡◌, ◌≢◌, ℕ, suc, ◌<◌, ◌≤◌, length, take, drop, [], ◌∷◌, ◌++◌, map, true, false, IfOk, OnOk, OnErr};
-ghost use Rattle.std.specs.List.{IsDistinct};
+ghost use Rattle.std.specs.Prelude.{◌≡◌, ◌≢◌, ℕ, suc, pos, ◌+◌, ◌<◌, ◌≤◌, length, take, drop, [], ◌∷◌, ◌++◌, map, not, ◌&&◌, true, false, IfOk, OnOk, OnErr};
+ghost use Rattle.std.specs.List.{IsDistinct, list_any};
 ghost use Rattle.std.specs.Option.{option_copied, unwrap_or, IfSome, IfNone};
 ghost use Rattle.std.specs.FinMap.{find, put};
-ghost use Rattle.ctd_value.specs.Order.{values_cmp, same_values};
+ghost use Rattle.ctd_value.specs.Lending.{value_lent};
+ghost use Rattle.ctd_value.specs.Order.{values_cmp, same_value, same_values};
 ghost use Rattle.ctd_value.specs.Showing.{entry, indices_of, not_among};
-ghost use Rattle.ctd_value.specs.Store.{index_lists, slot, order_of_slot};
+ghost use Rattle.ctd_value.specs.Store.{has_indices, index_lists, laid, slot, order_of_slot};
 
+use crate::lent::Lent;
 use crate::store::{EntryRef, Indices};
 use crate::value::Value;
-use crate::variables::{Array, with_entry};
+use crate::variables::{Array, has_indices, with_entry};
 use std::alloc::{AllocError, Global};
 use std::cmp::Ordering;
 use std::collections::BTreeMap;
 use std::marker::Model;
 use std::mem::replace;
 
+/// How many values the room is for that a row may keep while it has none.
+const ROOM_KEPT: usize = 64;
+
 /// Index lists with their values, each index list once, which contracts see as the list of them in order.
 #[derive(Debug, Drop)]
 pub(crate) struct Indexed {
-    // At 0 the value of the index list 0, and so on; what stands here hides what `rest` has there.
+    // The number of the first value of the row.
+    base: usize,
+    // The values of the numbers from there on; what stands here hides what `rest` has there.
     dense: Vec<Value>,
     rest: BTreeMap<Vec<Value>, Value>,
+}
+
+/// Values at the numbers from a base on.
+#[derive(Clone, Copy, Debug)]
+pub(crate) struct Row<'s> {
+    pub(crate) base: usize,
+    pub(crate) values: &'s [Value],
 }
 
 impl Model for Indexed {
@@ -33,7 +47,7 @@ impl Model for Indexed {
 
     ghost Value = { Array };
 
-    ghost view = { λ a. laid 0 a.dense.items (map (λ e. (e.0.items, e.1)) a.rest.entries) };
+    ghost view = { λ a. laid a.base a.dense.items (map (λ e. (e.0.items, e.1)) a.rest.entries) };
 
     ghost invariant = { λ a. T (is_sorted values_cmp (map (λ e. (e.0.items, e.1)) a.rest.entries)) };
 }
@@ -44,6 +58,7 @@ impl Indexed {
         ensures empty { result ≡ [] }
     {
         Indexed {
+            base: 0,
             dense: Vec::new(alloc),
             rest: BTreeMap::new(alloc),
         }
@@ -53,9 +68,24 @@ impl Indexed {
     pub(crate) fn get(&self, indices: &[Value]) -> Option<&Value>
         ensures value { option_copied result ≡ find values_cmp indices.now self.now }
     {
-        match slot_below(self.dense.len(), indices) {
+        match slot_below(self.base, self.dense.len(), indices) {
             Some(at) => Some(&self.dense[at]),
             None => self.rest.get(indices),
+        }
+    }
+
+    /// The values, where they are a row alone; none says nothing.
+    #[inline(always)]
+    pub(crate) fn row(&self) -> Option<Row<'_>>
+        ensures value { IfSome result (λ row. self.now ≡ laid row.base row.values.now []) }
+    {
+        if self.rest.is_empty() {
+            Some(Row {
+                base: self.base,
+                values: &self.dense,
+            })
+        } else {
+            None
         }
     }
 
@@ -64,7 +94,8 @@ impl Indexed {
         ensures ok { OnOk result (self.new ≡ put values_cmp indices.items value self.old) }
         ensures err { OnErr result (self.new ≡ self.old) }
     {
-        match slot_below(self.dense.len() + 1, &indices) {
+        self.base = base_for(self.base, self.dense.len(), &indices);
+        match slot_below(self.base, self.dense.len() + 1, &indices) {
             Some(at) => {
                 drop(indices);
                 write(&mut self.dense, at, value)
@@ -79,11 +110,22 @@ impl Indexed {
     /// Gives the index list of a number a value, where it stands in the row or just behind it, and tells whether it did; else all
     /// is as it was, and nothing is said.
     #[inline(always)]
-    pub(crate) fn insert_in_row(&mut self, at: usize, value: Value) -> bool
-        ensures done { result ≡ true → self.new ≡ put values_cmp (slot at) value self.old }
+    pub(crate) fn insert_in_row(&mut self, number: usize, value: Value) -> bool
+        ensures done { result ≡ true → self.new ≡ put values_cmp (slot number) value self.old }
         ensures stays { result ≡ false → self.new ≡ self.old }
     {
-        at <= self.dense.len() && write(&mut self.dense, at, value).is_ok()
+        match number.checked_sub(self.base) {
+            Some(at) if at <= self.dense.len() => write(&mut self.dense, at, value).is_ok(),
+            _ => false,
+        }
+    }
+
+    /// Removes all values; a short row keeps its room for the next ones.
+    pub(crate) fn clear(&mut self)
+        ensures empty { self.new ≡ [] }
+    {
+        clear_row(&mut self.dense);
+        self.rest.clear();
     }
 
     /// Adds the entries to others, but for those at whose index lists the hidden array, if there is one, has a value.
@@ -98,11 +140,16 @@ impl Indexed {
         let mut next = 0;
         for (indices, value) in &self.rest {
             let indices = indices.as_slice();
-            while order_of_slot(next, self.dense.len(), indices).is_lt() {
-                entries = with_entry(hidden, slot_indices(next), &self.dense[next], entries)?;
+            while order_of_slot(self.base, next, self.dense.len(), indices).is_lt() {
+                entries = with_entry(
+                    hidden,
+                    slot_indices(self.base, next),
+                    &self.dense[next],
+                    entries,
+                )?;
                 next += 1;
             }
-            if order_of_slot(next, self.dense.len(), indices).is_eq() {
+            if order_of_slot(self.base, next, self.dense.len(), indices).is_eq() {
                 entries = with_entry(hidden, Indices::Listed(indices), &self.dense[next], entries)?;
                 next += 1;
             } else {
@@ -110,11 +157,67 @@ impl Indexed {
             }
         }
         while next < self.dense.len() {
-            entries = with_entry(hidden, slot_indices(next), &self.dense[next], entries)?;
+            entries = with_entry(
+                hidden,
+                slot_indices(self.base, next),
+                &self.dense[next],
+                entries,
+            )?;
             next += 1;
         }
         Ok(entries)
     }
+
+    /// Whether a value is among those at whose index lists the hidden array, if there is one, has none. Allocates nothing.
+    pub(crate) fn has_value(&self, hidden: Option<&Array>, value: Lent<'_>) -> bool
+        ensures value { result ≡ list_any (λ e. same_value (value_lent value.entry) e.1) (not_among (unwrap_or (option_copied hidden.entry) []) self.now) }
+    {
+        let mut next = 0;
+        for (indices, stored) in &self.rest {
+            let indices = indices.as_slice();
+            while order_of_slot(self.base, next, self.dense.len(), indices).is_lt() {
+                if shows_at(hidden, self.base, next, &self.dense[next], value) {
+                    return true;
+                }
+                next += 1;
+            }
+            if order_of_slot(self.base, next, self.dense.len(), indices).is_eq() {
+                if shows(hidden, indices, &self.dense[next], value) {
+                    return true;
+                }
+                next += 1;
+            } else if shows(hidden, indices, stored, value) {
+                return true;
+            }
+        }
+        while next < self.dense.len() {
+            if shows_at(hidden, self.base, next, &self.dense[next], value) {
+                return true;
+            }
+            next += 1;
+        }
+        false
+    }
+}
+
+/// Whether a value is the one at a place from a base on, and the hidden array, if there is one, has none there.
+#[inline(always)]
+fn shows_at(hidden: Option<&Array>, base: usize, at: usize, stored: &Value, value: Lent<'_>) -> bool
+    ensures value { result ≡ (same_value (value_lent value.entry) stored.now && not (has_indices (unwrap_or (option_copied hidden.entry) []) (slot (base + at)))) }
+{
+    value.order(Lent::of(stored)).is_eq() && !has_indices(hidden, slot_indices(base, at).as_slice())
+}
+
+/// Whether a value is the one at an index list, and the hidden array, if there is one, has none there.
+pub(crate) fn shows(
+    hidden: Option<&Array>,
+    indices: &[Value],
+    stored: &Value,
+    value: Lent<'_>,
+) -> bool
+    ensures value { result ≡ (same_value (value_lent value.entry) stored.now && not (has_indices (unwrap_or (option_copied hidden.entry) []) indices.now)) }
+{
+    value.order(Lent::of(stored)).is_eq() && !has_indices(hidden, indices)
 }
 
 /// Gives a slot of a list a value, where one past its end is a slot too; after an error all is as it was.
@@ -131,33 +234,69 @@ fn write(values: &mut Vec<Value>, at: usize, value: Value) -> Result<(), AllocEr
     Ok(())
 }
 
-/// The number that an index list is, where it is one below the bound.
-fn slot_below(bound: usize, indices: &[Value]) -> Option<usize>
-    ensures found { IfSome result (λ n. (n < bound) × (indices.now ≡ slot n)) }
-    ensures none { IfNone result ((n : ℕ) → n < bound → indices.now ≢ slot n) }
+/// Removes all values of a row; if it has much room, also that.
+fn clear_row(values: &mut Vec<Value>)
+    ensures empty { values.new.items ≡ [] }
+{
+    if values.capacity() <= ROOM_KEPT {
+        values.clear();
+    } else {
+        let empty = Vec::new(*values.allocator());
+        drop(replace(values, empty));
+    }
+}
+
+/// Where a row begins once an index list gets a value. A row with no values begins at 1 if that is the index list, and
+/// else at 0.
+fn base_for(base: usize, count: usize, indices: &[Value]) -> usize
+    ensures kept { 0 < count → result ≡ base }
+    ensures from_one { count ≡ 0 → indices.now ≡ slot 1 → result ≡ 1 }
+    ensures from_zero { count ≡ 0 → indices.now ≢ slot 1 → result ≡ 0 }
+{
+    if count > 0 {
+        return base;
+    }
+    match indices {
+        [Value::Int(1)] => 1,
+        _ => 0,
+    }
+}
+
+/// Where an index list stands from a base on, where it is a number below a bound there.
+fn slot_below(base: usize, bound: usize, indices: &[Value]) -> Option<usize>
+    ensures found { IfSome result (λ n. (n < bound) × (indices.now ≡ slot (base + n))) }
+    ensures none { IfNone result ((n : ℕ) → n < bound → indices.now ≢ slot (base + n)) }
 {
     match indices {
-        [Value::Int(n)] => match usize::try_from(*n) {
-            Ok(at) if at < bound => Some(at),
-            _ => None,
-        },
+        [Value::Int(n)] => place_below(base, bound, *n),
         _ => None,
     }
 }
 
-/// The index list of a slot of the dense part.
-fn slot_indices<'s>(number: usize) -> Indices<'s>
-    ensures value { indices_of result ≡ slot number }
+/// Where a number stands from a base on, where it is below a bound there.
+fn place_below(base: usize, bound: usize, number: i128) -> Option<usize>
+    ensures found { IfSome result (λ n. (n < bound) × (number ≡ pos (base + n))) }
+    ensures none { IfNone result ((n : ℕ) → n < bound → number ≢ pos (base + n)) }
 {
-    Indices::One([Value::Int(number as i128)])
+    match usize::try_from(number.checked_sub(base as i128)?) {
+        Ok(at) if at < bound => Some(at),
+        _ => None,
+    }
 }
 
-/// How the index list of a slot stands to an index list; past the last slot it is after each.
-fn order_of_slot(number: usize, count: usize, indices: &[Value]) -> Ordering
-    ensures value { result ≡ order_of_slot number count indices.now }
+/// The index list at a place from a base on.
+fn slot_indices<'s>(base: usize, at: usize) -> Indices<'s>
+    ensures value { indices_of result ≡ slot (base + at) }
 {
-    if number < count {
-        [Value::Int(number as i128)].as_slice().cmp(indices)
+    Indices::One([Value::Int(base as i128 + at as i128)])
+}
+
+/// How the index list at a place from a base on stands to an index list; past the last place it is after each.
+fn order_of_slot(base: usize, at: usize, count: usize, indices: &[Value]) -> Ordering
+    ensures value { result ≡ order_of_slot base at count indices.now }
+{
+    if at < count {
+        slot_indices(base, at).as_slice().cmp(indices)
     } else {
         Ordering::Greater
     }

@@ -1,14 +1,18 @@
 //! The variables: what is pinned, and what is assigned.
 
 ghost use Rattle.std.specs.Prelude.{◌≡◌, ◌≢◌, [], true, false, Some, IfSome, IfOk, OnOk, OnErr, IsOk, IsTrue, IsPermutation, AllPairs, map};
+ghost use Rattle.std.specs.List.{list_any};
 ghost use Rattle.std.specs.Option.{option_copied};
 ghost use Rattle.std.specs.FinMap.{find};
-ghost use Rattle.ctd_value.specs.Order.{values_cmp};
-ghost use Rattle.ctd_value.specs.Store.{initial, slot, is_pinned, value_at, assign, unset, values_of, value_of, has_indices};
+ghost use Rattle.ctd_value.specs.Lending.{value_lent};
+ghost use Rattle.ctd_value.specs.Order.{values_cmp, same_value};
+ghost use Rattle.ctd_value.specs.Store.{initial, slot, is_pinned, value_at, assign, unset, values_of, value_of, has_indices, laid};
 ghost use Rattle.ctd_value.specs.Showing.{entry, indices_of};
 
+use crate::indexed::Row;
+use crate::lent::Lent;
 use crate::value::{Key, Value};
-use crate::variables::Variables;
+use crate::variables::{Variables, has_value};
 use ctd_syntax::{Bytes, Literal, Name, Preset, Presets};
 use std::alloc::{AllocError, Global};
 use std::marker::Model;
@@ -102,6 +106,18 @@ impl Store {
         }
     }
 
+    /// The values of a name, where nothing is pinned and they are a row alone; none says nothing.
+    #[inline(always)]
+    pub(crate) fn row(&self, name: &Name) -> Option<Row<'_>>
+        ensures value { IfSome result (λ row. values_of self.now name.now ≡ laid row.base row.values.now []) }
+    {
+        if self.pins.is_empty() {
+            self.assigned.array(name)?.row()
+        } else {
+            None
+        }
+    }
+
     /// The value of a name at some indices, where something is pinned.
     #[inline(never)]
     fn pinned_or_assigned(&self, name: &Name, indices: &[Value]) -> Option<&Value>
@@ -118,6 +134,17 @@ impl Store {
         ensures value { result ≡ has_indices (values_of self.now name.now) indices.now }
     {
         self.value_at(name, indices).is_some()
+    }
+
+    /// Whether a value is among those of a name. Allocates nothing.
+    pub(crate) fn has_value(&self, name: &Name, value: Lent<'_>) -> bool
+        ensures value { result ≡ list_any (λ e. same_value (value_lent value.entry) e.1) (values_of self.now name.now) }
+    {
+        let pinned = self.pins.array(name);
+        if has_value(pinned, None, value) {
+            return true;
+        }
+        has_value(self.assigned.array(name), pinned, value)
     }
 
     /// Gives a key a value. A pinned key stays as it is, and that takes no memory; after an error the variables are as they
@@ -152,11 +179,11 @@ impl Store {
     /// Gives a name a value at one number, where nothing is pinned and that takes no search, and tells whether it did; else all
     /// is as it was, and nothing is said.
     #[inline(always)]
-    pub(crate) fn assign_in_row(&mut self, name: &Name, at: usize, value: Value) -> bool
-        ensures done { result ≡ true → self.new ≡ assign self.old (record { name = name.now; indices = slot at }) value }
+    pub(crate) fn assign_in_row(&mut self, name: &Name, number: usize, value: Value) -> bool
+        ensures done { result ≡ true → self.new ≡ assign self.old (record { name = name.now; indices = slot number }) value }
         ensures stays { result ≡ false → self.new ≡ self.old }
     {
-        self.pins.is_empty() && self.assigned.insert_in_row(name, at, value)
+        self.pins.is_empty() && self.assigned.insert_in_row(name, number, value)
     }
 
     /// Whether a preset pins a name at some indices.

@@ -1,14 +1,16 @@
 //! Names with their arrays, and arrays: index lists with their values, in their order.
 
 ghost use Rattle.std.specs.Prelude.{◌≡◌, ◌≢◌, ◌↔◌, ℕ, [], ◌∷◌, ◌++◌, map, filter, length, not, true, false, Some, IfOk, IfSome, IfNone, IsTrue, OnOk, OnErr};
-ghost use Rattle.std.specs.List.{IsDistinct};
+ghost use Rattle.std.specs.List.{IsDistinct, list_any};
 ghost use Rattle.std.specs.Option.{option_copied, unwrap_or};
 ghost use Rattle.std.specs.FinMap.{find, put};
-ghost use Rattle.ctd_value.specs.Order.{bytes_cmp, values_cmp, same_bytes, same_values};
+ghost use Rattle.ctd_value.specs.Lending.{value_lent};
+ghost use Rattle.ctd_value.specs.Order.{bytes_cmp, values_cmp, same_bytes, same_value, same_values};
 ghost use Rattle.ctd_value.specs.Showing.{arrays_seen, entry, indices_of, not_among};
-ghost use Rattle.ctd_value.specs.Store.{array_of, name_at, slot, with_value, has_indices, index_lists};
+ghost use Rattle.ctd_value.specs.Store.{array_of, name_at, slot, with_value, has_indices, index_lists, laid};
 
-use crate::indexed::Indexed;
+use crate::indexed::{Indexed, Row, shows};
+use crate::lent::Lent;
 use crate::positions::Positions;
 use crate::store::{EntryRef, Indices};
 use crate::value::Value;
@@ -111,12 +113,12 @@ impl Variables {
     /// Gives a name a value at one number, where the hint of the name leads to its array and the number to a place in its row,
     /// and tells whether it did; else all is as it was, and nothing is said.
     #[inline(always)]
-    pub(crate) fn insert_in_row(&mut self, name: &Name, at: usize, value: Value) -> bool
-        ensures done { result ≡ true → self.new ≡ with_value (record { name = name.now; indices = slot at }) value self.old }
+    pub(crate) fn insert_in_row(&mut self, name: &Name, number: usize, value: Value) -> bool
+        ensures done { result ≡ true → self.new ≡ with_value (record { name = name.now; indices = slot number }) value self.old }
         ensures stays { result ≡ false → self.new ≡ self.old }
     {
         match hinted_position(&self.list, &self.positions, name) {
-            Some(position) => self.list[position].array.insert_in_row(at, value),
+            Some(at) => self.list[at].array.insert_in_row(number, value),
             None => false,
         }
     }
@@ -126,8 +128,7 @@ impl Variables {
         ensures value { self.new ≡ filter (λ e. not (same_bytes name.now e.0)) self.old }
     {
         if let Some(at) = position(&self.list, &self.positions, name) {
-            let empty = Array::new(*self.list.allocator());
-            drop(replace(&mut self.list[at].array, empty));
+            self.list[at].array.clear();
         }
     }
 
@@ -282,6 +283,17 @@ impl Array {
         self.alone.as_ref()
     }
 
+    /// The values, where they are a row alone; none says nothing.
+    #[inline(always)]
+    pub(crate) fn row(&self) -> Option<Row<'_>>
+        ensures value { IfSome result (λ row. self.now ≡ laid row.base row.values.now []) }
+    {
+        match self.alone {
+            Some(_) => None,
+            None => self.indexed.row(),
+        }
+    }
+
     /// The value at an index list. Allocates nothing.
     pub(crate) fn get(&self, indices: &[Value]) -> Option<&Value>
         ensures value { option_copied result ≡ find values_cmp indices.now self.now }
@@ -309,11 +321,19 @@ impl Array {
     /// Gives the index list of a number a value, where it has a place in the row, and tells whether it did; else all is as it
     /// was, and nothing is said.
     #[inline(always)]
-    pub(crate) fn insert_in_row(&mut self, at: usize, value: Value) -> bool
-        ensures done { result ≡ true → self.new ≡ put values_cmp (slot at) value self.old }
+    pub(crate) fn insert_in_row(&mut self, number: usize, value: Value) -> bool
+        ensures done { result ≡ true → self.new ≡ put values_cmp (slot number) value self.old }
         ensures stays { result ≡ false → self.new ≡ self.old }
     {
-        self.indexed.insert_in_row(at, value)
+        self.indexed.insert_in_row(number, value)
+    }
+
+    /// Removes all values.
+    fn clear(&mut self)
+        ensures empty { self.new ≡ [] }
+    {
+        drop(replace(&mut self.alone, None));
+        self.indexed.clear();
     }
 
     /// Adds the entries to others, but for those at whose index lists the hidden array, if there is one, has a value.
@@ -332,6 +352,34 @@ impl Array {
             }
             None => self.indexed.add_entries(hidden, entries),
         }
+    }
+
+    /// Whether a value is among those at whose index lists the hidden array, if there is one, has none. Allocates nothing.
+    fn has_value(&self, hidden: Option<&Array>, value: Lent<'_>) -> bool
+        ensures value { result ≡ list_any (λ e. same_value (value_lent value.entry) e.1) (not_among (unwrap_or (option_copied hidden.entry) []) self.now) }
+        ensures once { IsDistinct same_values (index_lists self.now) }
+    {
+        match &self.alone {
+            Some(alone) => {
+                if shows(hidden, &[], alone, value) {
+                    return true;
+                }
+                self.indexed.has_value(hidden, value)
+            }
+            None => self.indexed.has_value(hidden, value),
+        }
+    }
+}
+
+/// Whether a value is among those of an array, if there is one, at whose index lists the hidden array, if there is one, has
+/// none. Allocates nothing.
+pub(crate) fn has_value(array: Option<&Array>, hidden: Option<&Array>, value: Lent<'_>) -> bool
+    ensures value { result ≡ list_any (λ e. same_value (value_lent value.entry) e.1) (not_among (unwrap_or (option_copied hidden.entry) []) (unwrap_or (option_copied array.entry) [])) }
+    ensures once { IsDistinct same_values (index_lists (unwrap_or (option_copied array.entry) [])) }
+{
+    match array {
+        Some(array) => array.has_value(hidden, value),
+        None => false,
     }
 }
 
@@ -358,7 +406,7 @@ pub(crate) fn with_entry<'s>(
 }
 
 /// Whether an array, if there is one, has a value at an index list.
-fn has_indices(array: Option<&Array>, indices: &[Value]) -> bool
+pub(crate) fn has_indices(array: Option<&Array>, indices: &[Value]) -> bool
     ensures value { result ≡ has_indices (unwrap_or (option_copied array.entry) []) indices.now }
 {
     match array {

@@ -9,11 +9,19 @@ ASSERT(UNIQUE(a,b) && UNIQUE(a) && !INARRAY(1,a))
 SET(a[1]=1,a["1"]=2) ASSERT(UNIQUE(a) && a[1]==1)
 SET(a[1]=1,a[2]="1") ASSERT(UNIQUE(a))
 SET(a[1]="x",b[1]="yz",a[2]="xy",b[2]="z") ASSERT(UNIQUE(a,b))
-SET(a=1,b=1) ASSERT(UNIQUE(a,b) && UNIQUE(a,a,b))"#;
+SET(a=1,b=1) ASSERT(UNIQUE(a,b) && UNIQUE(a,a,b))
+SET(a[1]=7,a[2]=5,a[3]=6,a[0]=4) ASSERT(UNIQUE(a) && a[0]==4 && a[1]==7 && a[2]==5 && a[3]==6)
+SET(a[1]="x",a[2]=5,a[3]="w") ASSERT(UNIQUE(a) && INARRAY("w",a) && !INARRAY(6,a))
+SET(a[1]=2,a[2]=1,b[1]=1,b[2]=2) ASSERT(UNIQUE(a,b) && UNIQUE(b,a))
+SET(a[1]=2^100,a[2]=2^101,b[1]=1,b[2]=1) ASSERT(UNIQUE(a) && UNIQUE(a,b))"#;
 
 const REPEATED: &str = "SET(a[0]=1,a[1]=1,a[2]=1,b[0]=2,b[1]=3,b[2]=2) ASSERT(UNIQUE(a,b))
 SET(a[1]=1,a[2]=1,b[1]=2,b[2]=3) ASSERT(UNIQUE(a,b)) ASSERT(UNIQUE(a))
-SET(a[1,2]=5,a[1]=5) ASSERT(UNIQUE(a))";
+SET(a[1,2]=5,a[1]=5) ASSERT(UNIQUE(a))
+SET(a[1]=7,a[2]=5,a[3]=7) ASSERT(UNIQUE(a))
+SET(a[1]=\"y\",a[2]=\"x\",a[3]=\"y\") ASSERT(UNIQUE(a))
+SET(a[1]=2^100,a[2]=1,a[3]=2^100) ASSERT(UNIQUE(a))
+SET(a[1]=\"y\",a[2]=\"x\",a[3]=\"y\",b[1]=1,b[2]=1,b[3]=1) ASSERT(UNIQUE(a,b))";
 
 const OF_DIFFERENT_INDICES: &str = r#"SET(a[0]=1,b[0]=2,a[9]=0) ASSERT(UNIQUE(a,b))
 SET(a[0]=1,b[0]=2,b[9]=0) ASSERT(UNIQUE(a,b))
@@ -21,7 +29,8 @@ SET(a[1]=1,b["1"]=1) ASSERT(UNIQUE(a,b))
 SET(a[1]=1,b=1) ASSERT(UNIQUE(a,b))
 SET(a[1]=1) ASSERT(UNIQUE(b,a))
 SET(a[1]=1,b[1]=1,c[2]=1) ASSERT(UNIQUE(a,b,c))
-SET(a[1]=1,a[2]=1,b[1]=1) ASSERT(UNIQUE(a,b))"#;
+SET(a[1]=1,a[2]=1,b[1]=1) ASSERT(UNIQUE(a,b))
+SET(a[0]=1,a[1]=2,b[1]=1,b[2]=2) ASSERT(UNIQUE(a,b))"#;
 
 const SMALL_ARRAYS: [Row; 3] = [
     ("", DISTINCT, Ok(true)),

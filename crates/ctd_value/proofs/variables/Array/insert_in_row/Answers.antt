@@ -12,5 +12,5 @@ invariant_of-self c = indexed_still c.insert_in_row.result _ c.args.value c.self
 pub returns-clause-done : goal.returns-clause-done
 returns-clause-done c is =
     ap (with_alone c.self.inside.alone) (c.insert_in_row.ensures.done is)
-    ∙ written_indexed (slot c.args.at) c.args.value c.self.inside.alone c.self.inside.indexed tt c.self.invariant
-    ∙ ap (put values_cmp (slot c.args.at) c.args.value) c.self.view_is
+    ∙ written_indexed (slot c.args.number) c.args.value c.self.inside.alone c.self.inside.indexed tt c.self.invariant
+    ∙ ap (put values_cmp (slot c.args.number) c.args.value) c.self.view_is
