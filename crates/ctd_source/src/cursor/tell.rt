@@ -19,7 +19,7 @@ impl<'d, R: Source> Cursor<'d, R> {
     {
         let (front, back) = self.window.as_slices();
         let run = if front.is_empty() { back } else { front };
-        let before_limit = self.limit.saturating_sub(self.spot.offset);
+        let before_limit = self.limit.saturating_sub(self.spot.offset());
         match usize::try_from(before_limit) {
             Ok(most) if most < run.len() => &run[..most],
             _ => run,
@@ -44,10 +44,11 @@ impl<'d, R: Source> Cursor<'d, R> {
     }
 
     /// The spot of the next byte: line and column from 1, the column in bytes.
+    #[inline(always)]
     pub fn spot(&self) -> Spot
         ensures { result ≡ (state_of self.now).spot }
     {
-        self.spot
+        self.spot.spot()
     }
 
     /// What was seen of the source's end.
