@@ -1,6 +1,6 @@
 //! The bytes that a cursor holds.
 
-ghost use Rattle.std.specs.Prelude.{◌≡◌, ◌+◌, ◌^◌, ◌<◌, ◌≤◌, [], ◌++◌, true, length, take, drop, slice_get, fold, IfOk};
+ghost use Rattle.std.specs.Prelude.{◌≡◌, ◌+◌, ◌^◌, ◌<◌, ◌≤◌, [], ◌++◌, length, take, drop, slice_get, fold, IfOk};
 ghost use Rattle.ctd_source.specs.TestData.{spot_after};
 ghost use Rattle.ctd_source.specs.declared.limits.TheConstants.{WINDOW};
 
@@ -20,13 +20,13 @@ pub struct Held {
 }
 
 impl Model for Held {
-    ghost use Rattle.std.specs.Prelude.{◌≡◌, ◌≤◌, nat_eq, length, take, drop};
+    ghost use Rattle.std.specs.Prelude.{◌≡◌, ◌-◌, ◌≤◌, length, take, drop};
     ghost use Rattle.ctd_source.specs.declared.limits.TheConstants.{WINDOW};
     ghost use Rattle.ctd_source.specs.Holding.{Holding};
 
     ghost Value = { Holding };
 
-    ghost view = { λ h. record { items = drop h.passed h.ring.items; is_gathered = nat_eq (length h.mirror) (length h.ring.items) } };
+    ghost view = { λ h. record { items = drop h.passed h.ring.items; to_gather = length h.ring.items - length h.mirror } };
 
     ghost invariant = { λ h. (h.passed ≤ length h.ring.items) × (length h.ring.items ≤ WINDOW) × (h.ring.capacity ≡ WINDOW) × (h.mirror ≡ take (length h.mirror) h.ring.items) };
 }
@@ -115,14 +115,14 @@ impl Held {
     /// Gathers them in one piece.
     pub(crate) fn gather(&mut self)
         ensures kept { self.new.items ≡ self.old.items }
-        ensures gathered { self.new.is_gathered ≡ true }
+        ensures gathered { self.new.to_gather ≡ 0 }
     {
         self.mirror.catch_up(&self.ring);
     }
 
     /// They, gathered in one piece.
     pub(crate) fn gathered(&self) -> &[u8]
-        requires { self.now.is_gathered ≡ true }
+        requires { self.now.to_gather ≡ 0 }
         ensures { result.now ≡ self.now.items }
     {
         &self.mirror.bytes()[self.passed..]
