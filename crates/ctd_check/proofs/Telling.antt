@@ -1,5 +1,5 @@
 -- Faults of values and tests, as what they mean for a run.
-use Rattle.std.proofs.Common.{◌≡◌, Bool, refl, ap, ◌∙◌, subst, Result, Ok, Err, None}
+use Rattle.std.proofs.Common.{◌≡◌, Bool, true, false, refl, ap, sym, ◌∙◌, subst, Result, Ok, Err, None}
 use Rattle.ctd_source.specs.declared.source.Source.{Ghosts}
 use Rattle.ctd_source.specs.declared.cursor.Cursor.{Cursor}
 use Rattle.ctd_source.specs.Consistency.{IsConsistentWith}
@@ -7,20 +7,24 @@ use Rattle.ctd_source.specs.CursorState.{state_of, ReadsOn}
 use Rattle.ctd_source.specs.TestData.{TestData}
 use Rattle.ctd_source.proofs.AdvanceLemmas.{advances_so, advances_reading}
 use Rattle.ctd_syntax.specs.Tree.{TestTree}
+use Rattle.ctd_value.specs.declared.fault.EvalFault.{EvalFault}
 use Rattle.ctd_value.specs.declared.fault.EvalFault.TheVariants as evals
+use Rattle.ctd_value.specs.Store.{History}
+use Rattle.std.specs.Result.{IsErr, IsErrAnd}
+use Rattle.ctd_check.specs.declared.failure.CommandFailure.{CommandFailure}
 use Rattle.ctd_value.specs.declared.fault.TestFault.{TestFault}
 use Rattle.ctd_value.specs.declared.fault.TestFault.TheVariants as tests
-use Rattle.ctd_value.specs.Fault.{ValueFault, TruthFault, with_fault, test_fault, Answers, ◌>>=◌}
+use Rattle.ctd_value.specs.Fault.{ValueFault, TruthFault, with_fault, eval_fault, test_fault, Answers, Gives, ◌>>=◌}
 use Rattle.ctd_value.specs.Fault as faults
 use Rattle.ctd_value.specs.Truth.{truth}
 use Rattle.ctd_check.specs.declared.machine.Run.{Run}
 use Rattle.ctd_check.specs.declared.outcome.Fault.{Fault}
 use Rattle.ctd_check.specs.declared.outcome.Fault.TheVariants.{Undefined, WrongType, Overflow, DivisionByZero, Exponent, Count, Shape, StepLimit}
-use Rattle.ctd_check.specs.State.{State, done, faulty, proceed, told, fault_of_value, fault_of_truth, fault_of_look}
+use Rattle.ctd_check.specs.State.{State, done, faulty, proceed, told, evaluate, fault_of_value, fault_of_truth, fault_of_look}
 use Rattle.ctd_check.specs.Effect.{answer}
-use Rattle.ctd_check.specs.Failures.{test_failure}
-use Rattle.ctd_check.specs.Performs.{Does, state, Performs}
-use Rattle.ctd_check.proofs.Acts.{with_cursor}
+use Rattle.ctd_check.specs.Failures.{test_failure, failure_of}
+use Rattle.ctd_check.specs.Performs.{Does, Tells, answering, state, IsSound, Performs}
+use Rattle.ctd_check.proofs.Acts.{with_cursor, answers_as, evaluated}
 
 -- a value and then what is made of it
 pub told_both : {A B : Type 0} (r : Result A ValueFault) (f : A → Result B ValueFault) (s : State)
@@ -67,7 +71,51 @@ does_fault (tests.Eval evals.Shape) meant s is = told_fault (tests.Eval evals.Sh
 does_fault (tests.Eval evals.Memory) meant s is = tt
 does_fault (tests.Look fault) meant s is = told_fault (tests.Look fault) meant s is
 
+-- the fault of an expression that had one, other than want of memory
+value_fault_in : EvalFault → Fault
+value_fault_in evals.Undefined = Undefined
+value_fault_in evals.WrongType = WrongType
+value_fault_in evals.Overflow = Overflow
+value_fault_in evals.DivisionByZero = DivisionByZero
+value_fault_in evals.Exponent = Exponent
+value_fault_in evals.Count = Count
+value_fault_in evals.Shape = Shape
+value_fault_in evals.Memory = StepLimit
+
+same_value_fault : {A : Type 0} (r : Result A ValueFault) → with_fault fault_of_value r ≡ with_fault value_fault_in (with_fault eval_fault r)
+unfolding value_fault_in
+same_value_fault (Ok x) = refl
+same_value_fault (Err faults.Undefined) = refl
+same_value_fault (Err faults.WrongType) = refl
+same_value_fault (Err faults.Overflow) = refl
+same_value_fault (Err faults.DivisionByZero) = refl
+same_value_fault (Err faults.Exponent) = refl
+same_value_fault (Err faults.Count) = refl
+same_value_fault (Err faults.Shape) = refl
+
+tells_fault : {A : Type 0} (fault : EvalFault) (meant : Result A ValueFault) → Gives {X = A} (Err fault) meant → Tells {A = A} (Err (failure_of fault)) (with_fault fault_of_value meant)
+unfolding value_fault_in
+tells_fault evals.Undefined meant is = same_value_fault meant ∙ ap (with_fault value_fault_in) is
+tells_fault evals.WrongType meant is = same_value_fault meant ∙ ap (with_fault value_fault_in) is
+tells_fault evals.Overflow meant is = same_value_fault meant ∙ ap (with_fault value_fault_in) is
+tells_fault evals.DivisionByZero meant is = same_value_fault meant ∙ ap (with_fault value_fault_in) is
+tells_fault evals.Exponent meant is = same_value_fault meant ∙ ap (with_fault value_fault_in) is
+tells_fault evals.Count meant is = same_value_fault meant ∙ ap (with_fault value_fault_in) is
+tells_fault evals.Shape meant is = same_value_fault meant ∙ ap (with_fault value_fault_in) is
+tells_fault evals.Memory meant is = tt
+
 module _ {R : Type 0} {G : Ghosts R} where
+  -- what `?` gives where an expression had a fault
+  pub unvalued : {A : Type 0} (a : Run R G) (fault : EvalFault) (q : Result A CommandFailure) (f : History → Result A ValueFault) → IsSound a → IsErr q × IsErrAnd q (λ e. e ≡ failure_of fault) → Gives {X = A} (Err fault) (f a.store) → Performs a a q (evaluate f)
+  unvalued a fault (Ok x) f sound is gives = let e : true ≡ false = sym is.0 in cc
+  unvalued a fault (Err e) f sound is gives = answers_as (ap Err is.1) (evaluated a (Err (failure_of fault)) f sound (tells_fault fault (f a.store) gives))
+
+  -- and where its answer stands for something
+  pub unvalued_answering : {A B : Type 0} (a : Run R G) (fault : EvalFault) (g : A → B) (q : Result A CommandFailure) (f : History → Result B ValueFault) → IsSound a → IsErr q × IsErrAnd q (λ e. e ≡ failure_of fault) → Gives {X = B} (Err fault) (f a.store)
+      → Performs a a (answering g q) (evaluate f)
+  unvalued_answering a fault g (Ok x) f sound is gives = let e : true ≡ false = sym is.0 in cc
+  unvalued_answering a fault g (Err e) f sound is gives = answers_as (ap Err is.1) (evaluated a (Err (failure_of fault)) f sound (tells_fault fault (f a.store) gives))
+
   -- a test that was answered
   pub answered : (a : Run R G) (now : Cursor R G) (t : TestTree) (b : Bool) → ReadsOn a.cursor now → now.fault ≡ None → ((d : TestData) → IsConsistentWith d (state_of now) → Answers (Ok b) (truth t a.store d now.spot.offset))
       → Performs a (with_cursor a now) (Ok b) (answer t)

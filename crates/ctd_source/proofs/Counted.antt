@@ -1,5 +1,5 @@
 -- The spot after many bytes, by their newlines and the last of them.
-use Rattle.std.proofs.Common.{◌≡◌, ℕ, suc, ◌+◌, ◌-◌, ◌<◌, Bool, true, false, List, [], ◌∷◌, ◌++◌, length, take, drop, get_or, refl, ap, sym, ◌∙◌, arith, length-drop}
+use Rattle.std.proofs.Common.{◌≡◌, ℕ, suc, ◌+◌, ◌-◌, ◌<◌, ◌≤◌, Bool, true, false, List, [], ◌∷◌, ◌++◌, length, take, drop, get_or, refl, ap, sym, ◌∙◌, arith, length-drop}
 use Rattle.std.specs.Prelude.{count_by}
 use Rattle.std.specs.List.{fold}
 use Rattle.std.proofs.lemmas.List.Sums.{fold-append}
@@ -88,3 +88,22 @@ column_in_line s (x ∷ xs) none = column_by (is_newline x) s x xs refl none (λ
 -- with none, by their count
 pub spot_in_line : (s : Spot) (xs : List ℕ) (n : ℕ) → length xs ≡ n → count_by is_newline xs ≡ 0 → record { line = s.line; column = s.column + n; offset = s.offset + n } ≡ fold spot_after s xs
 spot_in_line s xs n len none = same_spot _ _ (omega (arith, fold_line s xs, none)) (omega (arith, column_in_line s xs none, len)) (omega (arith, fold_offset s xs, len))
+
+-- The same of a spot that runs on: its column counts from where the line began.
+pub runs_no_newline : (line from offset : ℕ) (xs : List ℕ) → from ≤ offset → Nowhere (Passes (is_byte 10) xs) 0 (length xs)
+    → record { line = line; column = offset + length xs - from + 1; offset = offset + length xs } ≡ fold spot_after (record { line = line; column = offset - from + 1; offset = offset }) xs
+runs_no_newline line from offset xs begun none =
+    let s : Spot = record { line = line; column = offset - from + 1; offset = offset } in
+    same_spot _ _ refl (omega (arith, begun)) refl ∙ spot_no_newline s xs none
+
+pub runs_last_newline : (line from offset : ℕ) (xs : List ℕ) (k lines : ℕ) → NoneAfter (Passes (is_byte 10) xs) 0 (length xs) k → Passes (is_byte 10) xs k → lines ≡ count_by is_newline xs
+    → record { line = line + lines; column = offset + length xs - (offset + k + 1) + 1; offset = offset + length xs } ≡ fold spot_after (record { line = line; column = offset - from + 1; offset = offset }) xs
+runs_last_newline line from offset xs k lines none is counted =
+    let s : Spot = record { line = line; column = offset - from + 1; offset = offset } in
+    same_spot _ _ refl (omega (arith, none.high)) refl ∙ spot_last_newline s xs k lines none is counted
+
+pub runs_in_line : (line from offset : ℕ) (xs : List ℕ) (n : ℕ) → from ≤ offset → length xs ≡ n → count_by is_newline xs ≡ 0
+    → record { line = line; column = offset + n - from + 1; offset = offset + n } ≡ fold spot_after (record { line = line; column = offset - from + 1; offset = offset }) xs
+runs_in_line line from offset xs n begun len none =
+    let s : Spot = record { line = line; column = offset - from + 1; offset = offset } in
+    same_spot _ _ refl (omega (arith, begun)) refl ∙ spot_in_line s xs n len none

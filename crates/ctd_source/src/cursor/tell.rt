@@ -11,15 +11,31 @@ impl<'d, R: Source> Cursor<'d, R> {
 
     /// The first of the bytes that are held, as many as lie in one piece and before the limit: these may be looked at
     /// one after the other with no read. There are some, where any is held and the next one lies before the limit.
+    #[inline]
     pub fn held_run(&self) -> &[u8]
         ensures front { take (length result.now) (state_of self.now).held ≡ result.now }
         ensures held { length result.now ≤ length (state_of self.now).held }
         ensures within { 0 < length result.now → (state_of self.now).spot.offset + length result.now ≤ (state_of self.now).limit }
         ensures some { 0 < length (state_of self.now).held → (state_of self.now).spot.offset < (state_of self.now).limit → 0 < length result.now }
     {
-        let (front, back) = self.window.as_slices();
-        let run = if front.is_empty() { back } else { front };
-        let before_limit = self.limit.saturating_sub(self.spot.offset);
+        if self.spot.offset() < self.clear_to {
+            self.window.pieces().0
+        } else {
+            self.run_before_limit()
+        }
+    }
+
+    /// The same, where some of the bytes that are held may pass the limit.
+    #[cold]
+    #[inline(never)]
+    fn run_before_limit(&self) -> &[u8]
+        ensures front { take (length result.now) (state_of self.now).held ≡ result.now }
+        ensures held { length result.now ≤ length (state_of self.now).held }
+        ensures within { 0 < length result.now → (state_of self.now).spot.offset + length result.now ≤ (state_of self.now).limit }
+        ensures some { 0 < length (state_of self.now).held → (state_of self.now).spot.offset < (state_of self.now).limit → 0 < length result.now }
+    {
+        let (run, _) = self.window.pieces();
+        let before_limit = self.limit.saturating_sub(self.spot.offset());
         match usize::try_from(before_limit) {
             Ok(most) if most < run.len() => &run[..most],
             _ => run,
@@ -44,10 +60,11 @@ impl<'d, R: Source> Cursor<'d, R> {
     }
 
     /// The spot of the next byte: line and column from 1, the column in bytes.
+    #[inline(always)]
     pub fn spot(&self) -> Spot
         ensures { result ≡ (state_of self.now).spot }
     {
-        self.spot
+        self.spot.spot()
     }
 
     /// What was seen of the source's end.

@@ -1,4 +1,4 @@
-use Rattle.std.proofs.Common.{◌≡◌, ℕ, List, [], ◌++◌, Option, ap, map, subst}
+use Rattle.std.proofs.Common.{◌≡◌, ℕ, List, [], ◌∷◌, ◌++◌, Option, ap, sym, ◌∙◌, map, subst}
 use Rattle.std.specs.Global.{Box}
 use Rattle.ctd_token.specs.declared.text.Place.{Place}
 use Rattle.ctd_syntax.specs.declared.tree.Action.{Action}
@@ -6,13 +6,14 @@ use Rattle.ctd_syntax.specs.declared.tree.Action.TheBlock.{back-Action-Rep-1}
 use Rattle.ctd_syntax.specs.declared.tree.Command.{Command}
 use Rattle.ctd_syntax.specs.declared.tree.PatternLiteral.{PatternLiteral}
 use Rattle.ctd_syntax.specs.Numbering.{command_literals, separator_literals}
-use Rattle.ctd_syntax.specs.Tree.{Separator}
+use Rattle.ctd_syntax.specs.Tree.{Separator, VarTree, CommandList}
+use Rattle.ctd_check.specs.Loops.{Guard, loop_of, turn}
 use Rattle.ctd_syntax.specs.View.{action_tree, separator, boxed_separator}
 use Rattle.ctd_syntax.proofs.Trees.{held_separator}
 use Rattle.ctd_check.specs.Known.{AreAmong}
 use Rattle.ctd_syntax.specs.View.{assignment}
 use Rattle.ctd_check.specs.Effect.{set, unset_all}
-use Rattle.ctd_check.proofs.Acts.{performs_answering, performs_as, answers_as}
+use Rattle.ctd_check.proofs.Acts.{performs_answering, performs_as, answers_as, given_as}
 use Rattle.ctd_check.proofs.machine.Run.start.Goals as goal
 
 pub returns-in-Space-clause-performs : goal.returns-in-Space-clause-performs
@@ -60,3 +61,13 @@ returns-in-Rep-clause-known g c = c.repeat.ensures.known c.args.matchers.now (am
 
 pub returns-in-RepI-clause-known : goal.returns-in-RepI-clause-known
 returns-in-RepI-clause-known g c = c.repeat-in-RepI.ensures.known c.args.matchers.now (among_boxed c.args.matchers.now c.in-RepI.between _ (among_of c.args.matchers.now _ _ c.args.command.now.place c.in-RepI.is c.requires.known))
+
+-- a loop whose separator stands in its box
+loop_boxed : (place : Place) (guard : Guard) (counter : Option VarTree) (body : CommandList) (between : Option (Box Command)) → turn (loop_of place guard counter (boxed_separator between) body) 0 ∷ [] ≡ turn (loop_of place guard counter (separator (back-Action-Rep-1 between)) body) 0 ∷ []
+loop_boxed place guard counter body between = ap (λ s. turn (loop_of place guard counter s body) 0 ∷ []) (sym (held_separator between))
+
+pub returns-in-While-clause-performs : goal.returns-in-While-clause-performs
+returns-in-While-clause-performs g c = rw c.in-While.is (given_as c.args.self.now _ _ (c.loop_frame.ensures.tasks ∙ loop_boxed _ _ _ _ c.in-While.between) c.requires.sound)
+
+pub returns-in-WhileI-clause-performs : goal.returns-in-WhileI-clause-performs
+returns-in-WhileI-clause-performs g c = rw c.in-WhileI.is (given_as c.args.self.now _ _ (c.loop_frame-in-WhileI.ensures.tasks ∙ loop_boxed _ _ _ _ c.in-WhileI.between) c.requires.sound)
