@@ -21,4 +21,5 @@ pub mod Skipping
 pub mod Stacks
 pub mod Strings
 pub mod Telling
+pub mod Setting
 pub mod Windows

@@ -23,7 +23,7 @@ use Rattle.ctd_check.specs.declared.outcome.Fault.TheVariants.{Undefined, WrongT
 use Rattle.ctd_check.specs.State.{State, done, faulty, proceed, told, evaluate, fault_of_value, fault_of_truth, fault_of_look}
 use Rattle.ctd_check.specs.Effect.{answer}
 use Rattle.ctd_check.specs.Failures.{test_failure, failure_of}
-use Rattle.ctd_check.specs.Performs.{Does, Tells, answering, state, IsSound, Performs}
+use Rattle.ctd_check.specs.Performs.{Does, Tells, state, IsSound, Performs}
 use Rattle.ctd_check.proofs.Acts.{with_cursor, answers_as, evaluated}
 
 -- a value and then what is made of it
@@ -93,7 +93,7 @@ same_value_fault (Err faults.Exponent) = refl
 same_value_fault (Err faults.Count) = refl
 same_value_fault (Err faults.Shape) = refl
 
-tells_fault : {A : Type 0} (fault : EvalFault) (meant : Result A ValueFault) → Gives {X = A} (Err fault) meant → Tells {A = A} (Err (failure_of fault)) (with_fault fault_of_value meant)
+pub tells_fault : {A : Type 0} (fault : EvalFault) (meant : Result A ValueFault) → Gives {X = A} (Err fault) meant → Tells {A = A} (Err (failure_of fault)) (with_fault fault_of_value meant)
 unfolding value_fault_in
 tells_fault evals.Undefined meant is = same_value_fault meant ∙ ap (with_fault value_fault_in) is
 tells_fault evals.WrongType meant is = same_value_fault meant ∙ ap (with_fault value_fault_in) is
@@ -109,12 +109,6 @@ module _ {R : Type 0} {G : Ghosts R} where
   pub unvalued : {A : Type 0} (a : Run R G) (fault : EvalFault) (q : Result A CommandFailure) (f : History → Result A ValueFault) → IsSound a → IsErr q × IsErrAnd q (λ e. e ≡ failure_of fault) → Gives {X = A} (Err fault) (f a.store) → Performs a a q (evaluate f)
   unvalued a fault (Ok x) f sound is gives = let e : true ≡ false = sym is.0 in cc
   unvalued a fault (Err e) f sound is gives = answers_as (ap Err is.1) (evaluated a (Err (failure_of fault)) f sound (tells_fault fault (f a.store) gives))
-
-  -- and where its answer stands for something
-  pub unvalued_answering : {A B : Type 0} (a : Run R G) (fault : EvalFault) (g : A → B) (q : Result A CommandFailure) (f : History → Result B ValueFault) → IsSound a → IsErr q × IsErrAnd q (λ e. e ≡ failure_of fault) → Gives {X = B} (Err fault) (f a.store)
-      → Performs a a (answering g q) (evaluate f)
-  unvalued_answering a fault g (Ok x) f sound is gives = let e : true ≡ false = sym is.0 in cc
-  unvalued_answering a fault g (Err e) f sound is gives = answers_as (ap Err is.1) (evaluated a (Err (failure_of fault)) f sound (tells_fault fault (f a.store) gives))
 
   -- a test that was answered
   pub answered : (a : Run R G) (now : Cursor R G) (t : TestTree) (b : Bool) → ReadsOn a.cursor now → now.fault ≡ None → ((d : TestData) → IsConsistentWith d (state_of now) → Answers (Ok b) (truth t a.store d now.spot.offset))
