@@ -1,7 +1,8 @@
 -- A string that is passed in parts.
 use Rattle.std.specs.Prelude.{⊤}
-use Rattle.std.proofs.Common.{◌≡◌, ◌<◌, ◌≤◌, ℕ, ◌+◌, Bool, true, false, nat_eq, List, [], ◌∷◌, ◌++◌, length, take, drop, refl, ap, sym, ◌∙◌, subst, arith, length-append, length-take, Option, Some, None, Result, Ok, Err, cond, if◌then◌else◌, IsOk}
+use Rattle.std.proofs.Common.{◌≡◌, ◌<◌, ◌≤◌, ℕ, ◌+◌, Bool, true, false, nat_eq, List, [], ◌∷◌, ◌++◌, length, take, drop, refl, ap, sym, ◌∙◌, subst, arith, length-append, length-take, length-drop, min, Option, Some, None, Result, Ok, Err, cond, if◌then◌else◌, IsOk}
 use Rattle.std.specs.List.{common_prefix_len}
+use Rattle.std.proofs.lemmas.List.Sums.{common_prefix_len-le}
 use Rattle.std.proofs.lemmas.Bool.Decides.{nat_tests}
 use Rattle.std.proofs.lemmas.List.{take-append-drop}
 use Rattle.ctd_source.specs.declared.spot.LookFault.{LookFault}
@@ -24,6 +25,18 @@ front_both (c ∷ cs) a b =
     let more = front_both cs a b in
     let first : cond (nat_eq c c) (1 + common_prefix_len nat_eq (cs ++ a) (cs ++ b)) 0 ≡ 1 + common_prefix_len nat_eq (cs ++ a) (cs ++ b) = ap (λ t. cond t (1 + common_prefix_len nat_eq (cs ++ a) (cs ++ b)) 0) (same_byte c) in
     first ∙ omega (arith, more)
+
+-- where one is all of the front of the other, all of it agrees
+pub all_agree : (m : ℕ) (wanted bytes : List ℕ) → m ≡ min (length wanted) (length bytes) → take m wanted ≡ take m bytes → m ≡ common_prefix_len nat_eq wanted bytes
+all_agree m wanted bytes is same =
+    let a = drop m wanted in
+    let b = drop m bytes in
+    let le = common_prefix_len-le nat_eq a b in
+    let split : common_prefix_len nat_eq wanted bytes ≡ length (take m wanted) + common_prefix_len nat_eq a b =
+    ap (λ xs. common_prefix_len nat_eq xs bytes) (sym (take-append-drop m wanted))
+    ∙ ap (common_prefix_len nat_eq (take m wanted ++ a)) (sym (take-append-drop m bytes) ∙ ap (λ front. front ++ b) (sym same))
+    ∙ front_both (take m wanted) a b in
+    omega (arith, split, le.0, le.1, length-take m wanted, length-drop m wanted, length-drop m bytes, is)
 
 -- a comparison by how many bytes agree, and whether these are all
 abbrev by_count : TestData → State → ℕ → Bool → Effect ⊤

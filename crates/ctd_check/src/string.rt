@@ -14,8 +14,20 @@ use crate::outcome::Reason;
 use ctd_source::{Cursor, LookFault, Source};
 use ctd_syntax::Expr;
 
-/// How many bytes at the front of two lists agree.
+/// How many bytes at the front of two lists agree. Most often one of them is all of the front of the other.
 fn common_len(wanted: &[u8], bytes: &[u8]) -> usize
+    ensures { result ≡ common_prefix_len nat_eq wanted.now bytes.now }
+{
+    let most = wanted.len().min(bytes.len());
+    if wanted[..most] == bytes[..most] {
+        most
+    } else {
+        first_difference(wanted, bytes)
+    }
+}
+
+/// The same, by a look at each byte.
+fn first_difference(wanted: &[u8], bytes: &[u8]) -> usize
     ensures { result ≡ common_prefix_len nat_eq wanted.now bytes.now }
 {
     let most = wanted.len().min(bytes.len());

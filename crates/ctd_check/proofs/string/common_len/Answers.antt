@@ -1,11 +1,7 @@
-use Rattle.std.proofs.Common.{drop, nat_eq, arith, length-drop}
-use Rattle.std.proofs.lemmas.List.Sums.{common_prefix_len-le}
+use Rattle.std.proofs.lemmas.Bool.Decides.{Decides-eqb}
+use Rattle.std.proofs.lemmas.Slice.Eq.{slice_eq-Decides}
+use Rattle.ctd_check.proofs.Strings.{all_agree}
 use Rattle.ctd_check.proofs.string.common_len.Goals as goal
 
-pub returns : goal.returns
-returns c =
-    let n = c.loop-count.count in
-    let wanted = c.args.wanted.now in
-    let bytes = c.args.bytes.now in
-    let le = common_prefix_len-le nat_eq (drop n wanted) (drop n bytes) in
-    omega (arith, c.loop-count.invariant.agree, c.loop-count.invariant.within, c.loop-count-test.false, c.min-most.ensures, le.0, le.1, length-drop n wanted, length-drop n bytes)
+pub returns-then-eq : goal.returns-then-eq
+returns-then-eq c = all_agree c.min-most.result c.args.wanted.now c.args.bytes.now c.min-most.ensures ((slice_eq-Decides Decides-eqb _ _ c.eq.result c.eq.ensures).0 c.if-eq.true)

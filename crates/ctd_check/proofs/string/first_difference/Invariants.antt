@@ -1,6 +1,6 @@
 use Rattle.std.proofs.Common.{◌≡◌, ◌≤◌, ◌+◌, ◌-◌, drop, nat_eq}
 use Rattle.std.specs.List.{common_prefix_len}
-use Rattle.ctd_check.proofs.string.common_len.Given as goal
+use Rattle.ctd_check.proofs.string.first_difference.Given as goal
 
 abbrev pub invariant-loop-count : goal.invariant-loop-count
 invariant-loop-count l = record {
