@@ -2,7 +2,7 @@
 
 use ctd_source::Plain;
 use ctd_syntax::{Action, Presets, Program, parse};
-use ctd_value::{EvalFault, Store, TestFault, eval, holds, locate};
+use ctd_value::{EvalFault, Store, TestFault, holds, set_expression};
 use std::alloc::Global;
 use std::io::{self, Error, ErrorKind};
 
@@ -70,9 +70,7 @@ fn run(alloc: Global, program: &Program, store: &mut Store) -> Result<bool, Test
         match &command.action {
             Action::Set(assignments) => {
                 for a in assignments.as_slice() {
-                    let value = eval(alloc, &a.value, store)?;
-                    let key = locate(alloc, &a.target, store)?;
-                    store.assign(key, value)?;
+                    set_expression(alloc, &a.target, &a.value, store)?;
                 }
             }
             Action::Assert(t) => {

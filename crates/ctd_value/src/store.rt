@@ -160,7 +160,7 @@ impl Store {
 
     /// Gives a name a value at an index list, as `assign` does; takes no memory for a name that was assigned to before.
     #[inline(always)]
-    pub fn assign_at(
+    pub(crate) fn assign_at(
         &mut self,
         name: &Name,
         indices: Vec<Value>,

@@ -11,7 +11,7 @@ mod unique;
 
 use ctd_source::{LookFault, Next, Plain};
 use ctd_syntax::{Action, Assignment, Name, Presets, Program, parse};
-use ctd_value::{EvalFault, Key, Store, TestFault, Value, eval, holds, locate};
+use ctd_value::{EvalFault, Key, Store, TestFault, Value, holds, set_expression};
 use std::alloc::{AllocError, Global};
 use std::process::Abort;
 use std::test::Fail;
@@ -54,9 +54,7 @@ fn run<N: Next>(alloc: Global, program: &Program, store: &mut Store, next: &mut 
         match &command.action {
             Action::Set(assignments) => {
                 for a in assignments.as_slice() {
-                    let value = eval(alloc, &a.value, store)?;
-                    let key = locate(alloc, &a.target, store)?;
-                    store.assign(key, value)?;
+                    set_expression(alloc, &a.target, &a.value, store)?;
                 }
             }
             Action::Unset(names) => {

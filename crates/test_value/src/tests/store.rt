@@ -1,8 +1,8 @@
 //! Calls of the store.
 
-use super::{first_name, key, store_of};
+use super::{first_assignment, first_name, key, store_of};
 use ctd_syntax::{Bytes, Name, parse};
-use ctd_value::{EntryRef, Store, Value};
+use ctd_value::{EntryRef, Store, Value, set_expression, set_number, set_variable};
 use std::alloc::Global;
 use std::process::Abort;
 use std::test::Fail;
@@ -96,6 +96,34 @@ fn a_preset_stays(rt: HostRuntime) -> Result<(), Fail> {
     )?;
     assert_eq!(rt; count_of_entries(alloc, &store, "UNSET(n)")?, 1);
     Ok(())
+}
+
+/// Sets the variable that a text assigns to, where b is 7, in three ways: to 4, to a string, and to what the text says.
+fn set_in(alloc: Global, store: &mut Store, text: &str, way: usize) -> Result<(), Fail> {
+    let program = parse(alloc, text.as_bytes())?;
+    let a = first_assignment(&program)?;
+    match way {
+        0 => set_number(alloc, &a.target, 4, store)?,
+        1 => set_variable(alloc, &a.target, Value::Text(Bytes::copy(alloc, b"x")?), store)?,
+        _ => set_expression(alloc, &a.target, &a.value, store)?,
+    }
+    Ok(())
+}
+
+#[test]
+fn variables_are_set_at_their_indices(rt: HostRuntime) -> Result<(), Fail> {
+    let alloc = rt.alloc();
+    let mut store = store_of(alloc, "b=7")?;
+    for text in ["SET(a=b+2)", "SET(a[0]=b+2)", "SET(a[b-6,1]=b+2)"] {
+        set_in(alloc, &mut store, text, 0)?;
+    }
+    let set: [Row; 3] = [(b"a", &[], Some(4)), (b"a", &[0], Some(4)), (b"a", &[1, 1], Some(4))];
+    judged(&rt, alloc, &store, &set)?;
+    set_in(alloc, &mut store, "SET(a[0]=b+2)", 1)?;
+    set_in(alloc, &mut store, "SET(a[1]=b+2)", 2)?;
+    set_in(alloc, &mut store, "SET(b=0)", 0)?;
+    let again: [Row; 4] = [(b"a", &[], Some(4)), (b"a", &[0], None), (b"a", &[1], Some(9)), (b"b", &[], Some(7))];
+    judged(&rt, alloc, &store, &again)
 }
 
 /// Whether these entries are one, at one number as its index and with this value.
