@@ -48,12 +48,7 @@ pub fn set_number(alloc: Global, v: &Var, n: i128, store: &mut Store) -> Result<
 
 /// Evaluates an expression and then the indices of a variable, which gets the value; a pinned variable stays as it is. After a
 /// fault the variables are as they were.
-pub fn set_expression(
-    alloc: Global,
-    v: &Var,
-    e: &Expr,
-    store: &mut Store,
-) -> Result<(), EvalFault>
+pub fn set_expression(alloc: Global, v: &Var, e: &Expr, store: &mut Store) -> Result<(), EvalFault>
     ensures value { Gives (map_ok (λ _. store.new) result) (with_expression (var_tree v.now) (expr_tree e.now) store.old) }
     ensures err { OnErr result (store.new ≡ store.old) }
     ensures no_count { result ≢ Err EvalFault.Count }

@@ -104,7 +104,12 @@ fn set_in(alloc: Global, store: &mut Store, text: &str, way: usize) -> Result<()
     let a = first_assignment(&program)?;
     match way {
         0 => set_number(alloc, &a.target, 4, store)?,
-        1 => set_variable(alloc, &a.target, Value::Text(Bytes::copy(alloc, b"x")?), store)?,
+        1 => set_variable(
+            alloc,
+            &a.target,
+            Value::Text(Bytes::copy(alloc, b"x")?),
+            store,
+        )?,
         _ => set_expression(alloc, &a.target, &a.value, store)?,
     }
     Ok(())
@@ -117,12 +122,21 @@ fn variables_are_set_at_their_indices(rt: HostRuntime) -> Result<(), Fail> {
     for text in ["SET(a=b+2)", "SET(a[0]=b+2)", "SET(a[b-6,1]=b+2)"] {
         set_in(alloc, &mut store, text, 0)?;
     }
-    let set: [Row; 3] = [(b"a", &[], Some(4)), (b"a", &[0], Some(4)), (b"a", &[1, 1], Some(4))];
+    let set: [Row; 3] = [
+        (b"a", &[], Some(4)),
+        (b"a", &[0], Some(4)),
+        (b"a", &[1, 1], Some(4)),
+    ];
     judged(&rt, alloc, &store, &set)?;
     set_in(alloc, &mut store, "SET(a[0]=b+2)", 1)?;
     set_in(alloc, &mut store, "SET(a[1]=b+2)", 2)?;
     set_in(alloc, &mut store, "SET(b=0)", 0)?;
-    let again: [Row; 4] = [(b"a", &[], Some(4)), (b"a", &[0], None), (b"a", &[1], Some(9)), (b"b", &[], Some(7))];
+    let again: [Row; 4] = [
+        (b"a", &[], Some(4)),
+        (b"a", &[0], None),
+        (b"a", &[1], Some(9)),
+        (b"b", &[], Some(7)),
+    ];
     judged(&rt, alloc, &store, &again)
 }
 
