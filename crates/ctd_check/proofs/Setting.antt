@@ -1,5 +1,5 @@
 -- Variables that get values, as what they mean for a run.
-use Rattle.std.proofs.Common.{◌≡◌, true, false, refl, ap, sym, ◌∙◌, Result, Ok, Err}
+use Rattle.std.proofs.Common.{◌≡◌, true, false, refl, ap, sym, Result, Ok, Err}
 use Rattle.std.specs.Prelude.{⊤}
 use Rattle.std.specs.Result.{IsErr, IsErrAnd}
 use Rattle.ctd_source.specs.declared.source.Source.{Ghosts}
@@ -15,7 +15,7 @@ use Rattle.ctd_value.specs.Val.{val, key}
 use Rattle.ctd_check.specs.declared.machine.Run.{Run}
 use Rattle.ctd_check.specs.declared.failure.CommandFailure.{CommandFailure}
 use Rattle.ctd_check.specs.declared.failure.CommandFailure.TheVariants.{Rejected, Stopped, Memory}
-use Rattle.ctd_check.specs.State.{State, Effect, done, faulty, proceed, told, fault_of_value}
+use Rattle.ctd_check.specs.State.{State, Effect, done, proceed, told, fault_of_value}
 use Rattle.ctd_check.specs.Effect.{set_to, give_value}
 use Rattle.ctd_check.specs.Failures.{failure_of}
 use Rattle.ctd_check.specs.Performs.{Does, Tells, IsSound, state, Performs}

@@ -12,6 +12,7 @@ pub mod OutcomeText
 pub mod Passing
 pub mod Pending
 pub mod Performs
+pub mod Opening
 pub mod Regex
 pub mod Run
 pub mod Summaries

@@ -1,5 +1,5 @@
 //! Commands: what each of them does, and the frame that it leaves to be done.
-ghost use Rattle.std.specs.Prelude.{◌≡◌, ◌≤◌, [], ℕ, List, None, Some};
+ghost use Rattle.std.specs.Prelude.{◌≡◌, ◌<◌, [], ℕ, List, None, Some, IfSome, IfNone};
 ghost use Rattle.ctd_syntax.specs.Tree.{blocks};
 ghost use Rattle.ctd_syntax.specs.View.{command_tree, test_tree, assignments_of, assignment};
 ghost use Rattle.ctd_syntax.specs.Numbering.{command_literals};
@@ -18,45 +18,53 @@ use ctd_pattern::Matcher;
 use ctd_source::Source;
 use ctd_syntax::{Action, Command, Test};
 
-/// A simple command leaves no frame.
-fn no_frame<'p>(answer: Result<(), CommandFailure>) -> Result<Option<Frame<'p>>, CommandFailure>
-    ensures tasks { answering left_tasks result ≡ answering (λ _. []) answer }
-    ensures room { (n : ℕ) → NeedsRoom result n }
-    ensures known { (patterns : List (List ℕ)) → LeavesKnown patterns result }
-{
-    match answer {
-        Ok(()) => Ok(None),
-        Err(failure) => Err(failure),
-    }
-}
-
 impl<'d, D: Source> Run<'d, D> {
-    /// Does a command whose step is paid.
-    pub(crate) fn start<'p>(
+    /// Does a command whose step is paid and in which no commands stand. Where some do, it does nothing and answers none.
+    #[inline]
+    pub(crate) fn act(
         &mut self,
-        command: &'p Command,
+        command: &Command,
         matchers: &mut [Matcher<'_>],
-    ) -> Result<Option<Frame<'p>>, CommandFailure>
+    ) -> Option<Result<(), CommandFailure>>
         requires sound { IsSound self.old }
         requires known { AreAmong matchers.old (command_literals (command_tree command.now)) }
-        ensures performs { Performs self.old self.new (answering left_tasks result) (act_of (command_tree command.now)) }
-        ensures room { NeedsRoom result (blocks (command_tree command.now)) }
-        ensures known { LeavesKnown matchers.old result }
+        ensures performs { IfSome result (λ answer. Performs self.old self.new (answering (λ _. []) answer) (act_of (command_tree command.now))) }
+        ensures none { IfNone result ((self.new ≡ self.old) × (0 < blocks (command_tree command.now))) }
         ensures kept { matchers.new ≡ matchers.old }
     {
         match &command.action {
-            Action::Space => no_frame(self.space()),
-            Action::Newline => no_frame(self.newline()),
-            Action::Eof => no_frame(self.end()),
-            Action::Int(low, high, var) => no_frame(self.int(low, high, var)),
-            Action::String(e) => no_frame(self.string(e)),
-            Action::Regex(literal, var) => no_frame(self.regex(literal, var, matchers)),
-            Action::Assert(t) => no_frame(self.assert(t)),
-            Action::Set(assignments) => no_frame(self.set(assignments.as_slice())),
+            Action::Space => Some(self.space()),
+            Action::Newline => Some(self.newline()),
+            Action::Eof => Some(self.end()),
+            Action::Int(low, high, var) => Some(self.int(low, high, var)),
+            Action::String(e) => Some(self.string(e)),
+            Action::Regex(literal, var) => Some(self.regex(literal, var, matchers)),
+            Action::Assert(t) => Some(self.assert(t)),
+            Action::Set(assignments) => Some(self.set(assignments.as_slice())),
             Action::Unset(names) => {
                 self.unset(names.as_slice());
-                Ok(None)
+                Some(Ok(()))
             }
+            Action::If(_, _, _) => None,
+            Action::Rep(_, _, _) => None,
+            Action::RepI(_, _, _, _) => None,
+            Action::While(_, _, _) => None,
+            Action::WhileI(_, _, _, _) => None,
+        }
+    }
+
+    /// Starts a command in which commands stand, whose step is paid: the frame that it leaves.
+    pub(crate) fn open<'p>(
+        &mut self,
+        command: &'p Command,
+    ) -> Result<Option<Frame<'p>>, CommandFailure>
+        requires sound { IsSound self.old }
+        requires block { 0 < blocks (command_tree command.now) }
+        ensures performs { Performs self.old self.new (answering left_tasks result) (act_of (command_tree command.now)) }
+        ensures room { NeedsRoom result (blocks (command_tree command.now)) }
+        ensures known { (patterns : List (List ℕ)) → AreAmong patterns (command_literals (command_tree command.now)) → LeavesKnown patterns result }
+    {
+        match &command.action {
             Action::If(t, then_do, else_do) => self.choose(t, then_do, else_do),
             Action::Rep(count, between, body) => {
                 self.repeat(command.place, count, None, between, body)
@@ -78,6 +86,15 @@ impl<'d, D: Source> Run<'d, D> {
                 between,
                 body,
             ))),
+            Action::Space => unreachable!(),
+            Action::Newline => unreachable!(),
+            Action::Eof => unreachable!(),
+            Action::Int(_, _, _) => unreachable!(),
+            Action::String(_) => unreachable!(),
+            Action::Regex(_, _) => unreachable!(),
+            Action::Assert(_) => unreachable!(),
+            Action::Set(_) => unreachable!(),
+            Action::Unset(_) => unreachable!(),
         }
     }
 

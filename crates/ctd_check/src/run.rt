@@ -1,15 +1,17 @@
 //! The run of a program: its tasks one after the other, each for one step.
-ghost use Rattle.std.specs.Prelude.{◌≡◌, ◌≤◌, ◌<◌, ◌+◌, ◌*◌, ◌∷◌, [], length, is_some, true, OnOk, IfSome, Some};
+ghost use Rattle.std.specs.Prelude.{◌≡◌, ◌≤◌, ◌<◌, ◌+◌, ◌*◌, ◌^◌, ◌∷◌, [], length, is_some, true, OnOk, IfSome, Some};
 ghost use Rattle.ctd_syntax.specs.Tree.{blocks};
+ghost use Rattle.ctd_syntax.specs.Numbering.{command_literals};
 ghost use Rattle.ctd_syntax.specs.View.{command_tree};
 ghost use Rattle.ctd_check.specs.Known.{AreKnown};
 ghost use Rattle.ctd_check.specs.Loops.{start, separated};
 ghost use Rattle.ctd_check.specs.Pending.{to_do, top_lap, lap_blocks, separator_in, separator_tasks, IsListDone};
 ghost use Rattle.ctd_check.specs.Performs.{IsSound, Advances, Ends, EndsAs, state};
-ghost use Rattle.ctd_check.specs.Run.{run_from};
+ghost use Rattle.ctd_check.specs.Opening.{Opens};
+ghost use Rattle.ctd_check.specs.Run.{act_of, run_from};
 
 use crate::agenda::{Agenda, out_of_steps};
-use crate::failure::Halt;
+use crate::failure::{CommandFailure, Halt};
 use crate::frame::Lap;
 use crate::machine::Run;
 use crate::outcome::Site;
@@ -36,12 +38,38 @@ fn begin<'p, D: Source>(
     let spot = run.cursor.spot();
     let command_site = Site::At(command.place);
     agenda.pay(spot, command_site)?;
-    match run.start(command, matchers) {
+    match run.act(command, matchers) {
+        Some(Ok(())) => Ok(()),
+        Some(Err(failure)) => Err(failure.halt(spot, command_site)),
+        None => match open(command, run, agenda) {
+            Ok(()) => Ok(()),
+            Err(failure) => Err(failure.halt(spot, command_site)),
+        },
+    }
+}
+
+/// Starts a command in which commands stand, and puts the frame that it leaves on top. A function of its own, so that no other
+/// command has to make room for a frame.
+#[inline(never)]
+fn open<'p, D: Source>(
+    command: &'p Command,
+    run: &mut Run<'_, D>,
+    agenda: &mut Agenda<'p>,
+) -> Result<(), CommandFailure>
+    requires sound { IsSound run.old }
+    requires block { 0 < blocks (command_tree command.now) }
+    requires room { length agenda.old.frames.items + blocks (command_tree command.now) ≤ 201 }
+    requires bound { agenda.old.left + 1 ≤ 2 ^ 64 }
+    ensures left { agenda.new.left ≡ agenda.old.left }
+    ensures len { length agenda.new.frames.items ≤ length agenda.old.frames.items + 1 }
+    ensures opens { Opens run.old run.new agenda.old agenda.new (command_literals (command_tree command.now)) result (act_of (command_tree command.now)) }
+{
+    match run.open(command) {
         Ok(frame) => {
             agenda.leave(frame);
             Ok(())
         }
-        Err(failure) => Err(failure.halt(spot, command_site)),
+        Err(failure) => Err(failure),
     }
 }
 
