@@ -1,7 +1,5 @@
 -- The number of a few digits, one after the other.
-use Rattle.std.proofs.Common.{◌≡◌, ◌<◌, ◌≤◌, ℕ, ◌+◌, ◌-◌, ◌*◌, ◌^◌, ◌&&◌, true, false, cond, List, [], ◌∷◌, ◌++◌, length, take, drop, refl, ap, sym, ◌∙◌, subst, arith, append_assoc, length-append, add-one}
-use Rattle.std.specs.Prelude.{slice_index_or}
-use Rattle.std.proofs.lemmas.List.{take_all}
+use Rattle.std.proofs.Common.{◌≡◌, ◌<◌, ◌≤◌, ℕ, ◌+◌, ◌-◌, ◌*◌, ◌^◌, ◌&&◌, true, false, cond, List, [], ◌∷◌, ◌++◌, length, refl, ap, sym, ◌∙◌, subst, arith, append_assoc, length-append, add-one}
 use Rattle.std.specs.List.{take_while, prefix_len, list_all}
 use Rattle.std.specs.Char.{is_ascii_digit}
 use Rattle.std.proofs.lemmas.List.Folds.{list_all-append}
@@ -18,11 +16,6 @@ pub record HasRead (bytes rest : List ℕ) (number : ℕ) : Type 0 where
   pub digits : list_all is_ascii_digit front ≡ true
   pub number_is : number ≡ decimal front
   pub small : number < 10 ^ length front
-
--- the first byte and the others
-pub first_and_others : (rest : List ℕ) → 1 ≤ length rest → rest ≡ slice_index_or rest 0 0 ∷ take (length rest - 1) (drop 1 rest)
-first_and_others [] some = absurd (omega arith)
-first_and_others (x ∷ xs) some = ap (λ ys. x ∷ ys) (sym (take_all (length (x ∷ xs) - 1) xs (omega arith)))
 
 -- none yet
 pub read_none : (bytes : List ℕ) → HasRead bytes bytes 0

@@ -20,6 +20,7 @@ use Rattle.ctd_check.specs.declared.failure.CommandFailure.TheVariants.{Rejected
 use Rattle.ctd_check.specs.declared.failure.Halt.{Halt}
 use Rattle.ctd_check.specs.declared.failure.Halt.TheVariants as halts
 use Rattle.ctd_check.specs.declared.outcome.Outcome.TheVariants as outcomes
+use Rattle.ctd_check.specs.declared.outcome.Fault.TheVariants.{StepLimit}
 use Rattle.ctd_source.specs.Received.{AdvancesSuchThat}
 use Rattle.std.specs.Prelude.{⊤}
 use Rattle.ctd_check.specs.State.{State, Effect}
@@ -30,6 +31,7 @@ use Rattle.ctd_check.specs.declared.outcome.Mode.{Mode}
 use Rattle.ctd_check.specs.declared.outcome.Checked.{Checked}
 use Rattle.ctd_syntax.specs.declared.preset.Preset.{Preset}
 use Rattle.ctd_check.specs.Failures.{halt_of, at_limit, Concludes}
+use Rattle.ctd_check.specs.Opening.{halting}
 use Rattle.ctd_check.specs.Pending.{to_do}
 use Rattle.ctd_check.specs.Performs.{Does, ContinuesWith, state, Performs, Advances, Ends, EndsAs}
 
@@ -122,6 +124,22 @@ module _ {R : Type 0} {G : Ghosts R} where
       → Advances {A = Unit {0}} old old left (t ∷ rest) agenda q
   task_unpaid old t left spot halt rest agenda (Ok x) q none none' there is = let e : true ≡ false = sym q.0 in cc
   task_unpaid old t left spot halt rest agenda (Err e) q none none' there is = record { sound = tt; goes = unpaid_goes old t left agenda.left spot e rest (to_do agenda.frames.items) none none' there (q.1 ∙ is) }
+
+  -- what `?` gives in both cases
+  pub task_stopped : (old new : Run R G) (t : Task) (left : ℕ) (spot : Spot) (site : Site) (failure : CommandFailure) (rest : List Task) (agenda : Agenda) (q : Result (Unit {0}) CommandFailure) → IsErr q × IsErrAnd q (λ e. e ≡ failure) → left ≡ agenda.left + 1 → spot ≡ old.cursor.spot → site ≡ site_of t → Performs {A = List Task} old new (Err failure) (perform t)
+      → Advances {A = Unit {0}} old new left (t ∷ rest) agenda (halting spot site q)
+  task_stopped old new t left spot site failure rest agenda (Ok x) q one there at p = let e : true ≡ false = sym q.0 in cc
+  task_stopped old new t left spot site failure rest agenda (Err e) q one there at p = task_failed old new t left spot (halt_of spot site e) failure rest agenda one there (ap (halt_of spot site) q.1 ∙ ap (λ s. halt_of spot s failure) at) p
+
+  pub task_not_paid : (old : Run R G) (t : Task) (left : ℕ) (spot : Spot) (site : Site) (failure : CommandFailure) (rest : List Task) (agenda : Agenda) (q : Result (Unit {0}) CommandFailure) → IsErr q × IsErrAnd q (λ e. e ≡ failure) → failure ≡ Stopped StepLimit → left ≡ 0 → agenda.left ≡ 0 → spot ≡ old.cursor.spot → site ≡ site_of t
+      → Advances {A = Unit {0}} old old left (t ∷ rest) agenda (halting spot site q)
+  task_not_paid old t left spot site failure rest agenda (Ok x) q limit none none' there at = let e : true ≡ false = sym q.0 in cc
+  task_not_paid old t left spot site failure rest agenda (Err e) q limit none none' there at =
+      task_unpaid old t left spot (halt_of spot site e) rest agenda (Err (halt_of spot site e)) (refl, refl) none none' there (ap (halt_of spot site) (q.1 ∙ limit) ∙ ap (λ s. halts.Ended (at_limit spot s)) at)
+
+  -- under its name the halt of a failure
+  pub halted_as : {old new : Run R G} {left : ℕ} {before : List Task} {agenda : Agenda} {halt : Halt} (spot there : Spot) (site : Site) (failure : CommandFailure) → halt ≡ halt_of spot site failure → spot ≡ there → Advances {A = Unit {0}} old new left before agenda (Err (halt_of there site failure)) → Advances {A = Unit {0}} old new left before agenda (Err halt)
+  halted_as {old = old} {new = new} {left = left} {before = before} {agenda = agenda} spot there site failure is same p = let P : Halt → Type 0 = λ h. Advances {A = Unit {0}} old new left before agenda (Err h) in subst P (sym (is ∙ ap (λ s. halt_of s site failure) same)) p
 
   -- the same at the end of the program
   pub ends_done : (old new : Run R G) (t : Task) (left left' : ℕ) (before : List Task) → left ≡ left' + 1 → before ≡ t ∷ [] → Performs old new (Ok []) (perform t) → Ends {A = Unit {0}} old new left before left' (Ok tt)

@@ -1,19 +1,36 @@
 -- A string that is passed in parts.
 use Rattle.std.specs.Prelude.{⊤}
-use Rattle.std.proofs.Common.{◌≡◌, ◌<◌, ◌≤◌, ℕ, ◌+◌, Bool, true, false, nat_eq, List, [], ◌∷◌, ◌++◌, length, take, drop, refl, ap, sym, ◌∙◌, subst, arith, length-append, length-take, length-drop, min, Option, Some, None, Result, Ok, Err, cond, if◌then◌else◌, IsOk}
+use Rattle.std.proofs.Common.{◌≡◌, ◌<◌, ◌≤◌, ℕ, ◌+◌, Bool, true, false, OnOk, nat_eq, List, [], ◌∷◌, ◌++◌, length, take, drop, refl, ap, sym, ◌∙◌, subst, arith, length-append, length-take, length-drop, min, Option, Some, None, Result, Ok, Err, cond, if◌then◌else◌, IsOk}
 use Rattle.std.specs.List.{common_prefix_len}
 use Rattle.std.proofs.lemmas.List.Sums.{common_prefix_len-le}
 use Rattle.std.proofs.lemmas.Bool.Decides.{nat_tests}
 use Rattle.std.proofs.lemmas.List.{take-append-drop}
+use Rattle.ctd_source.specs.declared.cursor.Cursor.{Cursor}
+use Rattle.ctd_source.specs.declared.source.Source.{Ghosts}
 use Rattle.ctd_source.specs.declared.spot.LookFault.{LookFault}
+use Rattle.ctd_source.specs.Received.{AdvancesSuchThat}
+use Rattle.ctd_source.proofs.AdvanceLemmas.{advances_so}
+use Rattle.std.specs.Result.{IsErr, IsErrAnd}
 use Rattle.ctd_source.specs.TestData.{TestData, next_byte, visible}
 use Rattle.ctd_source.proofs.Visible.{seen_fault, seen_end}
 use Rattle.ctd_value.specs.Fault.{with_fault}
+use Rattle.ctd_value.specs.Store.{History}
+use Rattle.ctd_check.specs.declared.failure.CommandFailure.{CommandFailure}
+use Rattle.ctd_check.specs.declared.failure.CommandFailure.TheVariants.{Stopped}
+use Rattle.ctd_check.specs.declared.outcome.Mode.{Mode}
 use Rattle.ctd_check.specs.declared.outcome.Reason.TheVariants.{StringMismatch}
-use Rattle.ctd_check.specs.State.{State, Effect, done, rejected, faulty, proceed, give, told, fault_of_look}
+use Rattle.ctd_check.specs.State.{State, Effect, Act, done, rejected, faulty, proceed, give, told, fault_of_look}
 use Rattle.ctd_check.specs.Effect.{differ, compare, match_bytes}
 use Rattle.ctd_check.specs.Passing.{PassesFront, PassesSome}
+use Rattle.ctd_check.specs.Alone.{DoesAlone}
+use Rattle.ctd_check.specs.Performs.{Does, Performs}
+use Rattle.ctd_check.specs.declared.machine.Run.{Run}
+use Rattle.ctd_check.proofs.Acts.{with_cursor}
 use Rattle.ctd_check.proofs.Lists.{no_bytes}
+
+-- a state that stands there
+abbrev pub at_offset : ℕ → History → Mode → State
+at_offset p store mode = record { offset = p; store = store; mode = mode }
 
 same_byte : (c : ℕ) → nat_eq c c ≡ true
 same_byte c = grind (arith, nat_tests)
@@ -110,3 +127,17 @@ front_ended wanted d p q same next = record {
   seen = is_ok (next_byte d p) None next;
   differs = λ _. ap (common_prefix_len nat_eq wanted) (seen_end d p next) ∙ no_bytes wanted;
 }
+
+-- what is left of a thing is done, so the thing is
+pub does_after : {A : Type 0} (r : Result A CommandFailure) (s : State) (whole rest : Effect A) → whole ≡ rest → Does r s rest → Does r s whole
+does_after {A} r s whole rest same is = let P : Effect A → Type 0 = λ e. Does r s e in subst P (sym same) is
+
+-- what a fault of a look gives by `?`
+pub stopped_alone : {A : Type 0} (fault : LookFault) (q : Result A CommandFailure) → IsErr q × IsErrAnd q (λ e. e ≡ Stopped (fault_of_look fault)) → (s : State) (effect : Effect A) → effect ≡ faulty (fault_of_look fault) s.offset → Does q s effect
+stopped_alone fault (Ok x) is s effect same = let e : true ≡ false = sym is.0 in cc
+stopped_alone {A} fault (Err e) is s effect same = let P : CommandFailure → Type 0 = λ f. Does {A = A} (Err f) s effect in subst P (sym is.1) same
+
+module _ {R : Type 0} {G : Ghosts R} where
+  -- what was done over the cursor alone
+  pub done_alone : {A : Type 0} (a : Run R G) (now : Cursor R G) (r : Result A CommandFailure) (act : Act A) → OnOk r (now.fault ≡ None) → AdvancesSuchThat a.cursor now (λ d. DoesAlone d a.cursor.spot.offset now.spot.offset r act) → Performs a (with_cursor a now) r act
+  done_alone a now r act sound goes = record { sound = sound; goes = advances_so goes (λ d _ e. e a.store a.mode) }

@@ -14,23 +14,17 @@ use Rattle.std.specs.Result.{IsErr, IsErrAnd}
 use Rattle.ctd_check.specs.declared.failure.CommandFailure.{CommandFailure}
 use Rattle.ctd_value.specs.declared.fault.TestFault.{TestFault}
 use Rattle.ctd_value.specs.declared.fault.TestFault.TheVariants as tests
-use Rattle.ctd_value.specs.Fault.{ValueFault, TruthFault, with_fault, eval_fault, test_fault, Answers, Gives, ◌>>=◌}
+use Rattle.ctd_value.specs.Fault.{ValueFault, TruthFault, with_fault, eval_fault, test_fault, Answers, Gives}
 use Rattle.ctd_value.specs.Fault as faults
 use Rattle.ctd_value.specs.Truth.{truth}
 use Rattle.ctd_check.specs.declared.machine.Run.{Run}
 use Rattle.ctd_check.specs.declared.outcome.Fault.{Fault}
 use Rattle.ctd_check.specs.declared.outcome.Fault.TheVariants.{Undefined, WrongType, Overflow, DivisionByZero, Exponent, Count, Shape, StepLimit}
-use Rattle.ctd_check.specs.State.{State, done, faulty, proceed, told, evaluate, fault_of_value, fault_of_truth, fault_of_look}
+use Rattle.ctd_check.specs.State.{State, done, faulty, told, evaluate, fault_of_value, fault_of_truth, fault_of_look}
 use Rattle.ctd_check.specs.Effect.{answer}
 use Rattle.ctd_check.specs.Failures.{test_failure, failure_of}
 use Rattle.ctd_check.specs.Performs.{Does, Tells, state, IsSound, Performs}
 use Rattle.ctd_check.proofs.Acts.{with_cursor, answers_as, evaluated}
-
--- a value and then what is made of it
-pub told_both : {A B : Type 0} (r : Result A ValueFault) (f : A → Result B ValueFault) (s : State)
-    → proceed (told (with_fault fault_of_value r) s) (λ x t. told (with_fault fault_of_value (f x)) t) ≡ told (with_fault fault_of_value (r >>= f)) s
-told_both (Ok x) f s = refl
-told_both (Err e) f s = refl
 
 -- the fault of a test that had one, other than want of memory
 fault_in : TestFault → Fault

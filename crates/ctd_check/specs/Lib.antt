@@ -1,3 +1,4 @@
+pub mod Alone
 pub mod Blanks
 pub mod Checks
 pub mod Effect

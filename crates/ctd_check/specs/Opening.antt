@@ -1,15 +1,24 @@
--- What the start of a command in which commands stand ensures.
-use Rattle.std.specs.Prelude.{◌≡◌, ℕ, List, ◌++◌, Result, OnOk}
+-- What the start of a command ensures.
+use Rattle.std.specs.Prelude.{◌≡◌, ℕ, List, ◌++◌, Result, Ok, Err, OnOk}
 use Rattle.ctd_source.specs.declared.source.Source.{Ghosts}
+use Rattle.ctd_source.specs.declared.spot.Spot.{Spot}
 use Rattle.ctd_syntax.specs.declared.tree.PatternLiteral.{PatternLiteral}
 use Rattle.ctd_check.specs.declared.agenda.Agenda.{Agenda}
 use Rattle.ctd_check.specs.declared.machine.Run.{Run}
 use Rattle.ctd_check.specs.declared.failure.CommandFailure.{CommandFailure}
+use Rattle.ctd_check.specs.declared.failure.Halt.{Halt}
+use Rattle.ctd_check.specs.declared.outcome.Site.{Site}
+use Rattle.ctd_check.specs.Failures.{halt_of}
 use Rattle.ctd_check.specs.Known.{AreAmong, AreKnown}
 use Rattle.ctd_check.specs.Loops.{Task}
 use Rattle.ctd_check.specs.Pending.{to_do}
 use Rattle.ctd_check.specs.Performs.{Performs, answering}
 use Rattle.ctd_check.specs.State.{Act}
+
+-- how a run goes on or ends by the answer of a command that began at this spot and stands at this site
+abbrev pub halting : Spot → Site → Result (Unit {0}) CommandFailure → Result (Unit {0}) Halt
+halting spot place (Ok x) = Ok x
+halting spot place (Err failure) = Err (halt_of spot place failure)
 
 module _ {R : Type 0} {G : Ghosts R} where
   -- a command with these literals did this, and what it leaves is to be done before all else

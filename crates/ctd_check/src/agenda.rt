@@ -3,17 +3,14 @@ ghost use Rattle.std.specs.Prelude.{◌≡◌, ℕ, ◌≤◌, ◌<◌, ◌+◌,
 ghost use Rattle.std.specs.Option.{option_copied};
 ghost use Rattle.ctd_syntax.specs.Tree.{blocks, list_blocks};
 ghost use Rattle.ctd_syntax.specs.View.{command_tree, command_trees};
-ghost use Rattle.ctd_check.specs.declared.failure.Halt.TheVariants.{Ended};
 ghost use Rattle.ctd_check.specs.Loops.{start, tasks, finish};
 ghost use Rattle.ctd_check.specs.declared.frame.Lap.{Lap};
 ghost use Rattle.ctd_check.specs.Pending.{Fits, fits_prop, to_do, top_lap, frame_tasks, left_tasks, round_tasks, lap_blocks, frame_blocks, lap_turn, IsAtTurn, IsListDone, IsWithin};
-ghost use Rattle.ctd_check.specs.Failures.{at_limit};
 
-use crate::failure::Halt;
+use crate::failure::CommandFailure;
 use crate::frame::{Frame, Lap};
-use crate::outcome::{Fault, Outcome, Site};
+use crate::outcome::Fault;
 use arrayvec::ArrayVec;
-use ctd_source::Spot;
 use ctd_syntax::Command;
 
 /// The program's list, and 200 blocks in one another.
@@ -25,17 +22,6 @@ pub(crate) struct Agenda<'p> {
     frames: ArrayVec<Frame<'p>, MOST_FRAMES>,
     left: u64,
     ghost fits: { Fits left frames.items } by { fits_prop left frames.items },
-}
-
-/// How a run ends that has no step left for a task that begins at this spot and stands at this site.
-pub(crate) fn out_of_steps(spot: Spot, site: Site) -> Halt
-    ensures { result ≡ Ended (at_limit spot site) }
-{
-    Halt::Ended(Outcome::Stopped {
-        spot,
-        place: site,
-        fault: Fault::StepLimit,
-    })
 }
 
 /// Takes the next command of the last frame, where its list has one.
@@ -91,13 +77,13 @@ impl<'p> Agenda<'p> {
         self.left
     }
 
-    /// Pays a step, or tells how the run ends where none is left.
-    pub(crate) fn pay(&mut self, spot: Spot, site: Site) -> Result<(), Halt>
+    /// Pays a step; where none is left, it is StepLimit.
+    pub(crate) fn pay(&mut self) -> Result<(), CommandFailure>
         ensures frames { self.new.frames ≡ self.old.frames }
         ensures bound { self.new.left + 1 ≤ 2 ^ 64 }
         ensures spent { self.new.left ≤ self.old.left }
         ensures paid { OnOk result (self.old.left ≡ self.new.left + 1) }
-        ensures limit { IfErr result (λ halt. halt ≡ Ended (at_limit spot site)) }
+        ensures limit { IfErr result (λ failure. failure ≡ CommandFailure.Stopped Fault.StepLimit) }
         ensures none { IfErr result (λ _. (self.old.left ≡ 0) × (self.new.left ≡ 0)) }
     {
         match self.left.checked_sub(1) {
@@ -105,7 +91,7 @@ impl<'p> Agenda<'p> {
                 self.left = rest;
                 Ok(())
             }
-            None => Err(out_of_steps(spot, site)),
+            None => Err(CommandFailure::Stopped(Fault::StepLimit)),
         }
     }
 

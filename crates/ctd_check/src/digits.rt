@@ -28,22 +28,25 @@ const BEYOND: u128 = 0x8000_0000_0000_0000_0000_0000_0000_0001;
 /// How many digits have a number of 64 bits, whichever they are.
 pub(crate) const FEW: usize = 19;
 
-/// The number of the digits that a few bytes begin with, and the bytes behind them.
-fn number_in_front(few: &[u8]) -> (u64, &[u8])
+/// The number of the digits that a few bytes begin with, and how many they are. A function of its own: within another, the compiler keeps
+/// three counters of the digits.
+#[inline(never)]
+fn number_in_front(few: &[u8]) -> (u64, usize)
     requires { length few.now ≤ FEW }
     ensures number { result.0 ≡ decimal (take_while is_ascii_digit few.now) }
-    ensures rest { length few.now ≡ prefix_len is_ascii_digit few.now + length result.1.now }
+    ensures count { result.1 ≡ prefix_len is_ascii_digit few.now }
 {
-    let mut rest = few;
     let mut number = 0;
-    while let [byte, tail @ ..] = rest {
+    let mut count = 0;
+    while count < few.len() {
+        let byte = few[count];
         if !byte.is_ascii_digit() {
             break;
         }
-        number = number * 10 + (*byte - b'0') as u64;
-        rest = tail;
+        number = number * 10 + (byte - b'0') as u64;
+        count += 1;
     }
-    (number, rest)
+    (number, count)
 }
 
 /// The size that a further digit makes.
@@ -105,8 +108,7 @@ impl DigitSummary {
         ensures count { result.1 ≡ prefix_len is_ascii_digit few.now }
         ensures seen { Summarizes result.0 (take result.1 few.now) }
     {
-        let (number, rest) = number_in_front(few);
-        let count = few.len() - rest.len();
+        let (number, count) = number_in_front(few);
         let digits = DigitSummary {
             count: count.min(2) as u8,
             is_zero_first: matches!(few, [b'0', ..]),

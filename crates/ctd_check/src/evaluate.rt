@@ -1,27 +1,17 @@
 //! Expressions, variables and tests, as the commands of a run use them.
 ghost use Rattle.ctd_syntax.specs.View.{expr_tree, var_tree, test_tree, target};
-ghost use Rattle.ctd_value.specs.Fault.{with_fault};
-ghost use Rattle.ctd_value.specs.Val.{val, key, count, number, number_of, text, text_of};
-ghost use Rattle.ctd_check.specs.State.{evaluate, fault_of_value};
+ghost use Rattle.ctd_value.specs.Val.{key, count, number_of};
+ghost use Rattle.ctd_check.specs.State.{evaluate};
 ghost use Rattle.ctd_check.specs.Effect.{set_to, keep, answer};
-ghost use Rattle.ctd_check.specs.Performs.{IsSound, Performs, Tells, answering};
+ghost use Rattle.ctd_check.specs.Performs.{IsSound, Performs};
 
 use crate::failure::CommandFailure;
 use crate::machine::Run;
-use crate::outcome::Fault;
 use ctd_source::Source;
-use ctd_syntax::{Bytes, Expr, Test, Var};
-use ctd_value::{Value, count_of, eval, holds, set_number, set_variable};
+use ctd_syntax::{Expr, Test, Var};
+use ctd_value::{Value, count_of, holds, number_of, set_number, set_variable};
 
 impl<'d, D: Source> Run<'d, D> {
-    /// The value of an expression.
-    pub(crate) fn value(&self, e: &Expr) -> Result<Value, CommandFailure>
-        requires sound { IsSound self.now }
-        ensures performs { Performs self.now self.now result (evaluate (val (expr_tree e.now))) }
-    {
-        Ok(eval(self.alloc, e, &self.store)?)
-    }
-
     /// The value of an expression that has to be a number; a numeral, as most bounds are, is one.
     pub(crate) fn number(&self, e: &Expr) -> Result<i128, CommandFailure>
         requires sound { IsSound self.now }
@@ -30,17 +20,7 @@ impl<'d, D: Source> Run<'d, D> {
         if let Expr::Numeral(n) = e {
             return Ok(*n);
         }
-        let value = self.value(e)?;
-        number_in(value)
-    }
-
-    /// The value of an expression that has to be a string.
-    pub(crate) fn text(&self, e: &Expr) -> Result<Bytes, CommandFailure>
-        requires sound { IsSound self.now }
-        ensures performs { Performs self.now self.now result (evaluate (text_of (expr_tree e.now))) }
-    {
-        let value = self.value(e)?;
-        text_in(value)
+        Ok(number_of(self.alloc, e, &self.store)?)
     }
 
     /// How often a loop runs.
@@ -89,25 +69,5 @@ impl<'d, D: Source> Run<'d, D> {
             Ok(answer) => Ok(answer),
             Err(fault) => Err(CommandFailure::from(fault)),
         }
-    }
-}
-
-/// The number of a value; a string is WrongType.
-fn number_in(value: Value) -> Result<i128, CommandFailure>
-    ensures tells { Tells result (with_fault fault_of_value (number value)) }
-{
-    match value {
-        Value::Int(n) => Ok(n),
-        Value::Text(_) => Err(CommandFailure::Stopped(Fault::WrongType)),
-    }
-}
-
-/// The bytes of a value; a number is WrongType.
-fn text_in(value: Value) -> Result<Bytes, CommandFailure>
-    ensures tells { Tells result (with_fault fault_of_value (text value)) }
-{
-    match value {
-        Value::Int(_) => Err(CommandFailure::Stopped(Fault::WrongType)),
-        Value::Text(bytes) => Ok(bytes),
     }
 }

@@ -1,5 +1,6 @@
 //! The run of a program: its tasks one after the other, each for one step.
 ghost use Rattle.std.specs.Prelude.{◌≡◌, ◌≤◌, ◌<◌, ◌+◌, ◌*◌, ◌^◌, ◌∷◌, [], length, is_some, true, OnOk, IfSome, Some};
+ghost use Rattle.ctd_source.specs.CursorState.{state_of};
 ghost use Rattle.ctd_syntax.specs.Tree.{blocks};
 ghost use Rattle.ctd_syntax.specs.Numbering.{command_literals};
 ghost use Rattle.ctd_syntax.specs.View.{command_tree};
@@ -7,44 +8,43 @@ ghost use Rattle.ctd_check.specs.Known.{AreKnown};
 ghost use Rattle.ctd_check.specs.Loops.{start, separated};
 ghost use Rattle.ctd_check.specs.Pending.{to_do, top_lap, lap_blocks, separator_in, separator_tasks, IsListDone};
 ghost use Rattle.ctd_check.specs.Performs.{IsSound, Advances, Ends, EndsAs, state};
-ghost use Rattle.ctd_check.specs.Opening.{Opens};
+ghost use Rattle.ctd_check.specs.Opening.{Opens, halting};
 ghost use Rattle.ctd_check.specs.Run.{act_of, run_from};
 
-use crate::agenda::{Agenda, out_of_steps};
+use crate::agenda::Agenda;
 use crate::failure::{CommandFailure, Halt};
 use crate::frame::Lap;
 use crate::machine::Run;
-use crate::outcome::Site;
+use crate::outcome::{Fault, Site};
 use ctd_pattern::Matcher;
 use ctd_source::Source;
 use ctd_syntax::Command;
 
-/// Starts a command.
+/// Pays for a command and starts it. It answers a failure, which takes less room than a halt: this is done in each step.
+#[inline(never)]
 fn begin<'p, D: Source>(
     command: &'p Command,
     run: &mut Run<'_, D>,
     agenda: &mut Agenda<'p>,
     matchers: &mut [Matcher<'_>],
-) -> Result<(), Halt>
+) -> Result<(), CommandFailure>
     requires sound { IsSound run.old }
     requires room { length agenda.old.frames.items + blocks (command_tree command.now) ≤ 201 }
     requires known { AreKnown matchers.old (start (command_tree command.now) ∷ to_do agenda.old.frames.items) }
     ensures spent { agenda.new.left ≤ agenda.old.left }
     ensures less { OnOk result (2 * agenda.new.left + length agenda.new.frames.items < 2 * agenda.old.left + length agenda.old.frames.items) }
-    ensures advances { Advances run.old run.new agenda.old.left (start (command_tree command.now) ∷ to_do agenda.old.frames.items) agenda.new result }
+    ensures advances { Advances run.old run.new agenda.old.left (start (command_tree command.now) ∷ to_do agenda.old.frames.items) agenda.new (halting (state_of run.old.cursor).spot (Site.At command.now.place) result) }
     ensures known { OnOk result (AreKnown matchers.new (to_do agenda.new.frames.items)) }
     ensures kept { matchers.new ≡ matchers.old }
 {
-    let spot = run.cursor.spot();
-    let command_site = Site::At(command.place);
-    agenda.pay(spot, command_site)?;
+    agenda.pay()?;
     match run.act(command, matchers) {
         Some(Ok(())) => Ok(()),
-        Some(Err(failure)) => Err(failure.halt(spot, command_site)),
-        None => match open(command, run, agenda) {
-            Ok(()) => Ok(()),
-            Err(failure) => Err(failure.halt(spot, command_site)),
-        },
+        Some(Err(failure)) => Err(failure),
+        None => {
+            open(command, run, agenda)?;
+            Ok(())
+        }
     }
 }
 
@@ -106,14 +106,20 @@ fn begin_turn<D: Source>(
         unreachable!();
     };
     if agenda.left() == 0 {
-        return Err(out_of_steps(spot, Site::At(lap.place)));
+        return Err(CommandFailure::Stopped(Fault::StepLimit).halt(spot, Site::At(lap.place)));
     }
     let separator = separator_before(lap);
     match run.take_turn(lap) {
         Ok(true) => {
             agenda.go_round();
             match separator {
-                Some(command) => begin(command, run, agenda, matchers),
+                Some(command) => {
+                    let spot = run.cursor.spot();
+                    match begin(command, run, agenda, matchers) {
+                        Ok(()) => Ok(()),
+                        Err(failure) => Err(failure.halt(spot, Site::At(command.place))),
+                    }
+                }
                 None => Ok(()),
             }
         }
@@ -137,7 +143,9 @@ fn conclude<D: Source>(run: &mut Run<'_, D>, agenda: &mut Agenda<'_>) -> Result<
     ensures ends { Ends run.old run.new agenda.old.left (to_do agenda.old.frames.items) agenda.new.left result }
 {
     let spot = run.cursor.spot();
-    agenda.pay(spot, Site::Finish)?;
+    if let Err(failure) = agenda.pay() {
+        return Err(failure.halt(spot, Site::Finish));
+    }
     match run.end() {
         Ok(()) => Ok(()),
         Err(failure) => Err(failure.halt(spot, Site::Finish)),
@@ -157,8 +165,11 @@ fn run_tasks<D: Source>(
 {
     loop {
         if let Some(command) = agenda.next_command() {
-            begin(command, run, agenda, matchers)?;
-            continue;
+            let spot = run.cursor.spot();
+            match begin(command, run, agenda, matchers) {
+                Ok(()) => continue,
+                Err(failure) => return Err(failure.halt(spot, Site::At(command.place))),
+            }
         }
         if agenda.has_loop() {
             begin_turn(run, agenda, matchers)?;

@@ -5,6 +5,7 @@ ghost use Rattle.ctd_source.specs.CursorState.{state_of};
 ghost use Rattle.ctd_source.specs.Received.{AdvancesSuchThat};
 ghost use Rattle.ctd_syntax.specs.View.{expr_tree};
 ghost use Rattle.ctd_check.specs.Effect.{string, match_bytes};
+ghost use Rattle.ctd_check.specs.Alone.{DoesAlone};
 ghost use Rattle.ctd_check.specs.Passing.{PassesSome};
 ghost use Rattle.ctd_check.specs.Performs.{IsSound, Performs};
 
@@ -13,6 +14,7 @@ use crate::machine::Run;
 use crate::outcome::Reason;
 use ctd_source::{Cursor, LookFault, Source};
 use ctd_syntax::Expr;
+use ctd_value::text_of;
 
 /// How many bytes at the front of two lists agree. Most often one of them is all of the front of the other.
 fn common_len(wanted: &[u8], bytes: &[u8]) -> usize
@@ -67,34 +69,30 @@ fn pass_front<D: Source>(wanted: &[u8], cursor: &mut Cursor<'_, D>) -> Result<us
     }
 }
 
+/// Passes these bytes, a run of held bytes at a time.
+fn match_bytes<D: Source>(bytes: &[u8], cursor: &mut Cursor<'_, D>) -> Result<(), CommandFailure>
+    requires sound { (state_of cursor.old).fault ≡ None }
+    ensures sound { OnOk result ((state_of cursor.new).fault ≡ None) }
+    ensures matches { AdvancesSuchThat cursor.old cursor.new (λ d. DoesAlone d (state_of cursor.old).spot.offset (state_of cursor.new).spot.offset result (match_bytes bytes.now)) }
+{
+    let mut rest = bytes;
+    while !rest.is_empty() {
+        let count = pass_front(rest, cursor)?;
+        if count == 0 {
+            return Err(CommandFailure::Rejected(Reason::StringMismatch));
+        }
+        rest = rest_after(rest, count);
+    }
+    Ok(())
+}
+
 impl<'d, D: Source> Run<'d, D> {
-    /// STRING: evaluates a string, then passes its bytes. A literal is compared where it stands.
+    /// STRING: evaluates a string, then passes its bytes. They are compared where they stand.
     pub(crate) fn string(&mut self, e: &Expr) -> Result<(), CommandFailure>
         requires sound { IsSound self.old }
         ensures performs { Performs self.old self.new result (string (expr_tree e.now)) }
     {
-        match e {
-            Expr::Text(bytes) => self.match_bytes(bytes.as_slice()),
-            _ => {
-                let text = self.text(e)?;
-                self.match_bytes(text.as_slice())
-            }
-        }
-    }
-
-    /// Passes these bytes, a run of held bytes at a time.
-    fn match_bytes(&mut self, bytes: &[u8]) -> Result<(), CommandFailure>
-        requires sound { IsSound self.old }
-        ensures performs { Performs self.old self.new result (match_bytes bytes.now) }
-    {
-        let mut rest = bytes;
-        while !rest.is_empty() {
-            let count = pass_front(rest, &mut self.cursor)?;
-            if count == 0 {
-                return Err(CommandFailure::Rejected(Reason::StringMismatch));
-            }
-            rest = rest_after(rest, count);
-        }
-        Ok(())
+        let bytes = text_of(self.alloc, e, &self.store)?;
+        match_bytes(bytes, &mut self.cursor)
     }
 }

@@ -19,7 +19,7 @@ mod variables;
 
 pub use assign::{set_expression, set_number, set_variable};
 pub use condition::holds;
-pub use expression::{count_of, eval, locate};
+pub use expression::{count_of, eval, locate, number_of, text_of};
 pub use fault::{EvalFault, TestFault};
 pub use laws::{
     assignment_sets_one_key, presets_give_first_values, unset_clears_one_name,

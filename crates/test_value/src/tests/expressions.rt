@@ -5,7 +5,7 @@ use super::{
     numbers, store_of, value_told,
 };
 use ctd_syntax::{Bytes, parse};
-use ctd_value::{EvalFault, Key, Value, count_of, eval, locate};
+use ctd_value::{EvalFault, Key, Value, count_of, eval, locate, number_of, text_of};
 use std::alloc::Global;
 use std::test::Fail;
 
@@ -143,6 +143,50 @@ fn a_string_is_copied(rt: HostRuntime) -> Result<(), Fail> {
     let wanted = Value::Text(Bytes::copy(rt.alloc(), b"a,b")?);
     let found = value_in(rt.alloc(), "s=\"a,b\"", "SET(x=((s)))")?;
     assert_eq!(rt; found, Ok(wanted));
+    Ok(())
+}
+
+/// Expressions that have to be numbers, with these, where s is a,b.
+const NUMBERS: [(&str, Result<i128, EvalFault>); 5] = [
+    ("SET(x=-7)", Ok(-7)),
+    (
+        "SET(x=9223372036854775807+1)",
+        Ok(9_223_372_036_854_775_808),
+    ),
+    ("SET(x=s)", Err(EvalFault::WrongType)),
+    ("SET(x=2^127)", Err(EvalFault::Overflow)),
+    ("SET(x=y)", Err(EvalFault::Undefined)),
+];
+
+#[test]
+fn numbers_of_expressions(rt: HostRuntime) -> Result<(), Fail> {
+    let store = store_of(rt.alloc(), "s=\"a,b\"")?;
+    for (text, wanted) in NUMBERS {
+        let program = parse(rt.alloc(), text.as_bytes())?;
+        let assignment = first_assignment(&program)?;
+        let found = value_told(number_of(rt.alloc(), &assignment.value, &store))?;
+        assert_eq!(rt; found, wanted, "at {text:?}");
+    }
+    Ok(())
+}
+
+/// Expressions that have to be strings, with their bytes, where s is a,b.
+const TEXTS: [(&str, Result<&[u8], EvalFault>); 4] = [
+    ("SET(x=\"a\\n\")", Ok(b"a\n")),
+    ("SET(x=s)", Ok(b"a,b")),
+    ("SET(x=7)", Err(EvalFault::WrongType)),
+    ("SET(x=y)", Err(EvalFault::Undefined)),
+];
+
+#[test]
+fn texts_where_they_stand(rt: HostRuntime) -> Result<(), Fail> {
+    let store = store_of(rt.alloc(), "s=\"a,b\"")?;
+    for (text, wanted) in TEXTS {
+        let program = parse(rt.alloc(), text.as_bytes())?;
+        let assignment = first_assignment(&program)?;
+        let found = value_told(text_of(rt.alloc(), &assignment.value, &store))?;
+        assert_eq!(rt; found, wanted, "at {text:?}");
+    }
     Ok(())
 }
 

@@ -5,7 +5,7 @@ use Rattle.ctd_check.specs.Pending.{to_do, loop_in, separator_in}
 use Rattle.ctd_check.proofs.Acts.{answers_as, performs_answering}
 use Rattle.ctd_check.proofs.Knowing.{among_front, known_as, known_separated, known_turn}
 use Rattle.ctd_check.proofs.Rounds.{at_turn, to_do_at}
-use Rattle.ctd_check.proofs.Running.{advances_as, task_done, task_failed, task_unpaid, task_then, turn_left}
+use Rattle.ctd_check.proofs.Running.{advances_as, halted_as, task_done, task_failed, task_unpaid, task_then, turn_left}
 use Rattle.ctd_check.proofs.run.begin_turn.Goals as goal
 
 pub returns-then-left-eq0-clause-advances : goal.returns-then-left-eq0-clause-advances
@@ -15,7 +15,7 @@ returns-then-left-eq0-clause-advances g c =
     let at = at_turn frames lap (sym c.in-Some.ensures.value) c.requires.done in
     let none = sym c.left.ensures ∙ c.if-left-eq0.true in
     advances_as (to_do_at frames lap at)
-    (task_unpaid c.args.run.now (turn (loop_in lap) lap.turn) _ c.spot-spot.result c.out_of_steps.result (to_do at.below) c.args.agenda.now (Err c.out_of_steps.result) (refl, refl) none none c.spot-spot.ensures c.out_of_steps.ensures)
+    (task_unpaid c.args.run.now (turn (loop_in lap) lap.turn) _ c.spot-spot.result c.halt.result (to_do at.below) c.args.agenda.now (Err c.halt.result) (refl, refl) none none c.spot-spot.ensures c.halt.ensures)
 
 pub begin-requires-clause-known : goal.begin-requires-clause-known
 begin-requires-clause-known g c =
@@ -28,17 +28,29 @@ begin-requires-clause-known g c =
     let before = known_as ps ps _ _ refl (sym c.in-Some-separator.ensures.tasks) (known_separated ps lap.turn (separator_in lap.between) (among_front ps (separator_literals loop.between) (literals loop.body) known.0)) in
     (before.0, known_as ps ps _ _ refl (c.go_round.ensures.to_do lap at) (known_turn ps loop lap.turn (lap.turn + 1) (to_do at.below) known))
 
-pub returns-in-Some-separator-clause-advances : goal.returns-in-Some-separator-clause-advances
-returns-in-Some-separator-clause-advances g c =
+pub returns-in-Ok-clause-advances : goal.returns-in-Ok-clause-advances
+returns-in-Ok-clause-advances g c =
     let frames = c.args.agenda.now.frames.items in
     let lap = c.in-Some.lap.now in
     let loop = loop_in lap in
     let k = lap.turn in
     let at = at_turn frames lap (sym c.in-Some.ensures.value) c.requires.done in
     advances_as (to_do_at frames lap at)
-    (task_then c.args.run.now c.take_turn.new.self c.begin.new.run (turn loop k) _ c.go_round.new.self.left (turn_tasks loop k) (to_do at.below) _ c.begin.new.agenda c.begin.result c.go_round.ensures.paid
+    (task_then c.args.run.now c.take_turn.new.self c.begin.new.run (turn loop k) _ c.go_round.new.self.left (turn_tasks loop k) (to_do at.below) _ c.begin.new.agenda (Ok tt) c.go_round.ensures.paid
     (ap (λ ts. ts ++ to_do c.go_round.new.self.frames.items) (sym c.in-Some-separator.ensures.tasks) ∙ turn_left (separated k (separator_in lap.between)) _ _ _ _ _ (ap (turn loop) (add-one k)) (c.go_round.ensures.to_do lap at))
-    (answers_as (ap (λ b. Ok (if b then turn_tasks loop k else [])) (sym c.in-Ok-true.field-0-test)) (performs_answering (λ b. if b then turn_tasks loop k else []) c.in-Ok-true.ensures.performs)) c.begin.ensures.advances)
+    (answers_as (ap (λ b. Ok (if b then turn_tasks loop k else [])) (sym c.in-Ok-true.field-0-test)) (performs_answering (λ b. if b then turn_tasks loop k else []) c.in-Ok-true.ensures.performs)) c.in-Ok.ensures.advances)
+
+pub returns-in-Err-begin-clause-advances : goal.returns-in-Err-begin-clause-advances
+returns-in-Err-begin-clause-advances g c =
+    let frames = c.args.agenda.now.frames.items in
+    let lap = c.in-Some.lap.now in
+    let loop = loop_in lap in
+    let k = lap.turn in
+    let at = at_turn frames lap (sym c.in-Some.ensures.value) c.requires.done in
+    advances_as (to_do_at frames lap at)
+    (task_then c.args.run.now c.take_turn.new.self c.begin.new.run (turn loop k) _ c.go_round.new.self.left (turn_tasks loop k) (to_do at.below) _ c.begin.new.agenda (Err c.halt-in-Err-begin.result) c.go_round.ensures.paid
+    (ap (λ ts. ts ++ to_do c.go_round.new.self.frames.items) (sym c.in-Some-separator.ensures.tasks) ∙ turn_left (separated k (separator_in lap.between)) _ _ _ _ _ (ap (turn loop) (add-one k)) (c.go_round.ensures.to_do lap at))
+    (answers_as (ap (λ b. Ok (if b then turn_tasks loop k else [])) (sym c.in-Ok-true.field-0-test)) (performs_answering (λ b. if b then turn_tasks loop k else []) c.in-Ok-true.ensures.performs)) (halted_as _ _ _ _ c.halt-in-Err-begin.ensures c.spot-spot-in-Some-separator.ensures c.in-Err-begin.ensures.advances))
 
 pub returns-in-None-clause-advances : goal.returns-in-None-clause-advances
 returns-in-None-clause-advances g c =

@@ -1,4 +1,4 @@
-use Rattle.std.proofs.Common.{◌∷◌, arith, ap, sym, ◌∙◌, refl}
+use Rattle.std.proofs.Common.{◌∷◌, arith, ap, sym, ◌∙◌, refl, Err}
 use Rattle.ctd_source.proofs.AdvanceLemmas.{advances_so, advances_both}
 use Rattle.ctd_syntax.specs.View.{command_tree}
 use Rattle.ctd_check.specs.Loops.{start}
@@ -6,21 +6,22 @@ use Rattle.ctd_check.specs.Run.{run}
 use Rattle.ctd_check.specs.Pending.{to_do}
 use Rattle.ctd_check.specs.Performs.{state}
 use Rattle.ctd_check.proofs.Knowing.{known_as}
-use Rattle.ctd_check.proofs.Running.{follows_as, ends_early}
+use Rattle.ctd_check.proofs.Running.{follows_as, ends_early, halted_as}
 use Rattle.ctd_check.proofs.run.run_tasks.Goals as goal
 
-pub loop-command-preserved-in-Some : goal.loop-command-preserved-in-Some
-loop-command-preserved-in-Some g c = record {
-  sound = c.in_ok-begin.ensures.advances.sound;
-  known = c.in_ok-begin.ensures.known;
-  spent = omega (arith, c.loop-command.invariant.spent, c.in_ok-begin.ensures.spent, c.in-Some.ensures.left);
-  goes = advances_so (advances_both c.loop-command.invariant.goes c.in_ok-begin.ensures.advances.goes)
+pub loop-command-preserved-in-Ok : goal.loop-command-preserved-in-Ok
+loop-command-preserved-in-Ok g c = record {
+  sound = c.in-Ok.ensures.advances.sound;
+  known = c.in-Ok.ensures.known;
+  spent = omega (arith, c.loop-command.invariant.spent, c.in-Ok.ensures.spent, c.in-Some.ensures.left);
+  goes = advances_so (advances_both c.loop-command.invariant.goes c.in-Ok.ensures.advances.goes)
       (λ d _ e. e.0 ∙ ap (λ ts. run d c.loop-command.agenda.left ts (state c.loop-command.run)) c.in-Some.ensures.to_do ∙ ap (λ n. run d n (start (command_tree c.in-Some.command.now) ∷ to_do c.next_command.new.self.frames.items) (state c.loop-command.run)) (sym c.in-Some.ensures.left) ∙ e.1);
 }
 
-pub returns-in_err-begin-clause-ends : goal.returns-in_err-begin-clause-ends
-returns-in_err-begin-clause-ends g c =
-    ends_early c.args.run.now c.loop-command.run c.begin.new.run _ c.loop-command.agenda.left c.next_command.new.self.left _ _ _ c.begin.new.agenda c.in_err-begin.field-0.0 c.from_residual.result c.from_residual.ensures c.loop-command.invariant.goes c.in-Some.ensures.left c.in-Some.ensures.to_do c.in_err-begin.ensures.advances
+pub returns-in-Err-clause-ends : goal.returns-in-Err-clause-ends
+returns-in-Err-clause-ends g c =
+    ends_early c.args.run.now c.loop-command.run c.begin.new.run _ c.loop-command.agenda.left c.next_command.new.self.left _ _ _ c.begin.new.agenda c.halt.result (Err c.halt.result) (refl, refl) c.loop-command.invariant.goes c.in-Some.ensures.left c.in-Some.ensures.to_do
+    (halted_as _ _ _ _ c.halt.ensures c.spot-spot.ensures c.in-Err.ensures.advances)
 
 pub loop-command-preserved-then-has_loop : goal.loop-command-preserved-then-has_loop
 loop-command-preserved-then-has_loop g c = record {
@@ -33,7 +34,7 @@ loop-command-preserved-then-has_loop g c = record {
 
 pub returns-in_err-begin_turn-clause-ends : goal.returns-in_err-begin_turn-clause-ends
 returns-in_err-begin_turn-clause-ends g c =
-    ends_early c.args.run.now c.loop-command.run c.begin_turn.new.run _ c.loop-command.agenda.left c.next_command.new.self.left _ _ _ c.begin_turn.new.agenda c.in_err-begin_turn.field-0.0 c.from_residual-in_err-begin_turn.result c.from_residual-in_err-begin_turn.ensures c.loop-command.invariant.goes
+    ends_early c.args.run.now c.loop-command.run c.begin_turn.new.run _ c.loop-command.agenda.left c.next_command.new.self.left _ _ _ c.begin_turn.new.agenda c.in_err-begin_turn.field-0.0 c.from_residual.result c.from_residual.ensures c.loop-command.invariant.goes
     c.in_default.ensures.left (ap to_do (sym c.in_default.ensures.none.0)) c.in_err-begin_turn.ensures.advances
 
 pub loop-command-preserved : goal.loop-command-preserved
