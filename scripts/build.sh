@@ -1,10 +1,10 @@
 #!/usr/bin/env bash
-# Proves and compiles the checker, crate by crate from the lowest up, and says on standard error what it does.
+# Proves and compiles the checker, each crate once those below it are proved, and says on standard error what it does.
 set -eu
 top=$(cd "$(dirname "${BASH_SOURCE[0]}")/.." && pwd)
 program=checktestdata
-log=$(mktemp)
-trap 'rm -f "$log"' EXIT
+logs=$(mktemp -d)
+trap 'rm -rf "$logs"' EXIT
 
 # The libraries of each crate, by crates.txt.
 declare -A libraries
@@ -25,21 +25,36 @@ visit() {
 
 # Runs a command of rt in a crate; what it prints is shown only where it fails.
 quietly() {
-    (cd "$top/crates/$1" && "${@:2}" </dev/null >"$log" 2>&1)
+    (cd "$top/crates/$1" && "${@:2}" </dev/null >"$logs/$1" 2>&1)
+}
+
+# Proves a library once those below it are proved.
+prove() {
+    local library
+    for library in ${libraries[$1]}; do
+        [[ ! -v libraries[$library] ]] || until [ -e "$logs/$library.proved" ]; do
+            [ ! -e "$logs/failed" ] || return 0
+            sleep 0.2
+        done
+    done
+    echo "proving $1" >&2
+    if quietly "$1" rt lib; then
+        touch "$logs/$1.proved"
+    else
+        touch "$logs/failed"
+        cat "$logs/$1"
+    fi
 }
 
 visit "$program"
 rm -f "$top/crates/$program/out/$program"
-number=0
 for crate in "${order[@]}"; do
-    number=$((number + 1))
-    printf 'proving %s (%s of %s)\n' "$crate" "$number" "${#order[@]}" >&2
-    if [ "$crate" = "$program" ]; then
-        # rt has no command that builds a program and does not run it; with no words the checker only tells how to call it
-        quietly "$crate" rt run || true
-        [ -x "$top/crates/$crate/out/$crate" ] || { cat "$log" >&2; exit 1; }
-    else
-        quietly "$crate" rt lib || { cat "$log" >&2; exit 1; }
-    fi
+    [ "$crate" = "$program" ] || prove "$crate" &
 done
+wait
+[ ! -e "$logs/failed" ] || exit 1
+echo "compiling $program" >&2
+# rt has no command that builds a program and does not run it; with no words the checker only tells how to call it
+quietly "$program" rt run || true
+[ -x "$top/crates/$program/out/$program" ] || { cat "$logs/$program"; exit 1; }
 printf 'built in %s min %s s\n' $((SECONDS / 60)) $((SECONDS % 60)) >&2
