@@ -4,7 +4,19 @@ set -eu
 top=$(cd "$(dirname "${BASH_SOURCE[0]}")/.." && pwd)
 program=checktestdata
 logs=$(mktemp -d)
-trap 'rm -rf "$logs"' EXIT
+
+# Each background job gets a process group of its own, so that what it started ends with it.
+set -m
+finish() {
+    local job
+    for job in $(jobs -pr); do
+        kill -- "-$job" 2>/dev/null || true
+    done
+    rm -rf "$logs"
+}
+trap finish EXIT
+trap 'exit 130' INT
+trap 'exit 143' TERM
 
 # The libraries of each crate, by crates.txt.
 declare -A libraries
@@ -42,7 +54,7 @@ prove() {
         touch "$logs/$1.proved"
     else
         touch "$logs/failed"
-        cat "$logs/$1"
+        cat "$logs/$1" >&2
     fi
 }
 
@@ -56,5 +68,5 @@ wait
 echo "compiling $program" >&2
 # rt has no command that builds a program and does not run it; with no words the checker only tells how to call it
 quietly "$program" rt run || true
-[ -x "$top/crates/$program/out/$program" ] || { cat "$logs/$program"; exit 1; }
+[ -x "$top/crates/$program/out/$program" ] || { cat "$logs/$program" >&2; exit 1; }
 printf 'built in %s min %s s\n' $((SECONDS / 60)) $((SECONDS % 60)) >&2
