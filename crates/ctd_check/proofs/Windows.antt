@@ -1,31 +1,32 @@
 -- A match at the start of the window.
 use Rattle.std.specs.Prelude.{⊤}
-use Rattle.std.proofs.Common.{◌≡◌, ◌≤◌, ℕ, true, false, List, length, take, refl, ap, sym, ◌∙◌, subst, arith, length-take, Option, None, Some, Result, Ok, Err, IfOk, IfSome, Bor}
-use Rattle.std.specs.Result.{IsErr, IsErrAnd}
+use Rattle.std.proofs.Common.{◌≡◌, ◌≤◌, ℕ, List, length, take, refl, ap, sym, ◌∙◌, subst, arith, length-take, Option, None, Some, Result, Ok, Err, IfOk, IfSome, Bor}
 use Rattle.ctd_source.specs.declared.limits.TheConstants.{WINDOW}
 use Rattle.ctd_source.specs.declared.source.Source.{Ghosts}
 use Rattle.ctd_source.specs.declared.cursor.Cursor.{Cursor}
 use Rattle.ctd_source.specs.declared.spot.LookFault.{LookFault}
 use Rattle.ctd_source.specs.Received.{AdvancesSuchThat}
-use Rattle.ctd_source.specs.CursorState.{GivesWindow}
+use Rattle.ctd_source.specs.CursorState.{GivesWindow, MovesPast}
 use Rattle.ctd_source.specs.TestData.{TestData, look}
 use Rattle.ctd_source.proofs.AdvanceLemmas.{advances_so, advances_nowhere, advances_reading}
 use Rattle.ctd_pattern.specs.Pattern.{length_at_start}
 use Rattle.ctd_value.specs.Fault.{with_fault}
 use Rattle.ctd_check.specs.declared.machine.Run.{Run}
 use Rattle.ctd_check.specs.declared.failure.CommandFailure.{CommandFailure}
-use Rattle.ctd_check.specs.declared.failure.CommandFailure.TheVariants.{Memory}
 use Rattle.ctd_check.specs.State.{State, Effect, Act, done, rejected, faulty, proceed, ◌>>=◌, give, pass, told, fault_of_look, see_window}
 use Rattle.ctd_check.specs.Performs.{Does, AlwaysDoes, state, IsSound, Performs}
 use Rattle.ctd_check.specs.Regex.{shorter_match, matched, matched_len, regex}
-use Rattle.ctd_check.proofs.Acts.{does_early, always, answers_as, with_cursor}
+use Rattle.ctd_check.proofs.Acts.{does_early, always, and_then, given, passed, performs_as, with_cursor}
 
 -- the length of a match that is cut out of its window
 cut_len : (n : ℕ) (window : List ℕ) → n ≤ length window → length (take n window) ≡ n
 cut_len n window within = omega (arith, length-take n window)
 
+taken_len : (n : ℕ) (found : Option ℕ) (window : List ℕ) → IfSome found (λ k. k ≤ length window) → found ≡ Some n → length (take n window) ≡ n
+taken_len n found window within is = let P : Option ℕ → Type 0 = λ o. IfSome o (λ k. k ≤ length window) in cut_len n window (subst P is within)
+
 len_done : (n : ℕ) (found : Option ℕ) (window : List ℕ) (s : State) → IfSome found (λ k. k ≤ length window) → found ≡ Some n → done (length (take n window)) s ≡ done n s
-len_done n found window s within is = let P : Option ℕ → Type 0 = λ o. IfSome o (λ k. k ≤ length window) in ap (λ k. done k s) (cut_len n window (subst P is within))
+len_done n found window s within is = ap (λ k. done k s) (taken_len n found window within is)
 
 len_does : (r : Result ℕ CommandFailure) (found : Option ℕ) (window : List ℕ) (d : TestData) (s : State) → AlwaysDoes r (shorter_match found) → IfOk r (λ n. found ≡ Some n) → IfSome found (λ k. k ≤ length window)
     → Does r s (proceed (proceed (shorter_match found d s) (λ n t. done (take n window) t)) (λ bytes t. done (length bytes) t))
@@ -47,11 +48,6 @@ module _ {R : Type 0} {G : Ghosts R} where
   -- what looks at no data
   pub doing : {A : Type 0} (a : Run R G) (r : Result A CommandFailure) (m : Act A) → IsSound a → AlwaysDoes r m → Performs a a r m
   doing a r m sound does = record { sound = always r sound; goes = advances_so (advances_nowhere a.cursor) (λ d _ _. does d (state a)) }
-
-  -- if memory ran out, nothing is said of what was done
-  pub forgotten : {A : Type 0} {a b : Run R G} {P : TestData → Type 0} (q : Result A CommandFailure) (m : Act A) → IsErr q × IsErrAnd q (λ e. e ≡ Memory) → AdvancesSuchThat a.cursor b.cursor P → Performs a b q m
-  forgotten (Ok x) m is goes = let e : true ≡ false = sym is.0 in cc
-  forgotten (Err e) m is goes = answers_as (ap Err is.1) (record { sound = tt; goes = advances_so goes (λ d _ _. tt) })
 
   -- what a window gives under another name of its answer
   pub gives_as : (old new : Cursor R G) (r q : Result (Bor (List ℕ)) LookFault) → r ≡ q → GivesWindow old new r → GivesWindow old new q
@@ -93,3 +89,14 @@ module _ {R : Type 0} {G : Ghosts R} where
         let Q : Option ℕ → Type 0 = λ o. Does r b (proceed (proceed (shorter_match o d b) (λ n t. done (take n window.now) t)) (λ bytes t. done (length bytes) t)) in
         subst P (sym (ap after e)) (subst Q found_is (len_does r found window.now d b does is within)));
   }
+
+  -- what is done with a match once it is passed
+  pub with_match : {r : Result ⊤ CommandFailure} {c : Run R G} (f : List ℕ → Act ⊤) (a : Run R G) (now past : Cursor R G) (window : Bor (List ℕ)) (literal : List ℕ) (found : Option ℕ) (n : ℕ) → IsSound a → GivesWindow a.cursor now (Ok window) → found ≡ length_at_start literal window.now
+      → AlwaysDoes (Ok n) (shorter_match found) → found ≡ Some n → IfSome found (λ k. k ≤ length window.now) → MovesPast n now past
+      → (IsSound (with_cursor a past) → Performs (with_cursor a past) c r (f (take n window.now))) → Performs a c r (matched literal >>= λ bytes. (pass (length bytes) >>= λ _. f bytes))
+  with_match f a now past window literal found n sound w found_is does is within moves next =
+      let b = with_cursor a now in
+      let seen = windowed a now window sound w in
+      let m = and_then {m = see_window} _ seen (and_then _ (performs_as (λ d s. ap (λ l. shorter_match l d s) found_is) (doing b (Ok n) (shorter_match found) seen.sound does)) (given b (take n window.now) seen.sound)) in
+      let p = performs_as (λ d s. ap (λ k. pass k d s) (sym (taken_len n found window.now within is))) (passed n b past seen.sound moves) in
+      and_then {m = matched literal} _ m (and_then (λ _. f (take n window.now)) p (next p.sound))

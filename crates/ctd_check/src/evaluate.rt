@@ -1,5 +1,6 @@
 //! Expressions, variables and tests, as the commands of a run use them.
 ghost use Rattle.ctd_syntax.specs.View.{expr_tree, var_tree, test_tree, target};
+ghost use Rattle.ctd_value.specs.declared.value.Value.TheVariants as values;
 ghost use Rattle.ctd_value.specs.Val.{key, count, number_of};
 ghost use Rattle.ctd_check.specs.State.{evaluate};
 ghost use Rattle.ctd_check.specs.Effect.{set_to, keep, answer};
@@ -9,17 +10,27 @@ use crate::failure::CommandFailure;
 use crate::machine::Run;
 use ctd_source::Source;
 use ctd_syntax::{Expr, Test, Var};
-use ctd_value::{Value, count_of, holds, number_of, set_number, set_variable};
+use ctd_value::{count_of, holds, number_of, set_number};
 
 impl<'d, D: Source> Run<'d, D> {
     /// The value of an expression that has to be a number; a numeral, as most bounds are, is one.
+    #[inline(always)]
     pub(crate) fn number(&self, e: &Expr) -> Result<i128, CommandFailure>
         requires sound { IsSound self.now }
         ensures performs { Performs self.now self.now result (evaluate (number_of (expr_tree e.now))) }
     {
-        if let Expr::Numeral(n) = e {
-            return Ok(*n);
+        match e {
+            Expr::Numeral(n) => Ok(*n),
+            _ => self.any_number(e),
         }
+    }
+
+    /// The same of any expression.
+    #[inline(never)]
+    fn any_number(&self, e: &Expr) -> Result<i128, CommandFailure>
+        requires sound { IsSound self.now }
+        ensures performs { Performs self.now self.now result (evaluate (number_of (expr_tree e.now))) }
+    {
         Ok(number_of(self.alloc, e, &self.store)?)
     }
 
@@ -31,19 +42,10 @@ impl<'d, D: Source> Run<'d, D> {
         Ok(count_of(self.alloc, e, &self.store)?)
     }
 
-    /// Gives a variable a value, once its indices are evaluated.
-    pub(crate) fn set_to(&mut self, v: &Var, value: Value) -> Result<(), CommandFailure>
-        requires sound { IsSound self.old }
-        ensures performs { Performs self.old self.new result (set_to (var_tree v.now) value) }
-    {
-        set_variable(self.alloc, v, value, &mut self.store)?;
-        Ok(())
-    }
-
     /// Gives a variable a number, once its indices are evaluated.
     pub(crate) fn set_to_number(&mut self, v: &Var, n: i128) -> Result<(), CommandFailure>
         requires sound { IsSound self.old }
-        ensures performs { Performs self.old self.new result (set_to (var_tree v.now) (Value.Int n)) }
+        ensures performs { Performs self.old self.new result (set_to (var_tree v.now) (values.Int n)) }
     {
         set_number(self.alloc, v, n, &mut self.store)?;
         Ok(())
@@ -52,7 +54,7 @@ impl<'d, D: Source> Run<'d, D> {
     /// Gives a target, where there is one, an integer.
     pub(crate) fn keep(&mut self, v: &Option<Var>, n: i128) -> Result<(), CommandFailure>
         requires sound { IsSound self.old }
-        ensures performs { Performs self.old self.new result (keep (target v.now) (Value.Int n)) }
+        ensures performs { Performs self.old self.new result (keep (target v.now) (values.Int n)) }
     {
         match v {
             Some(v) => self.set_to_number(v, n),

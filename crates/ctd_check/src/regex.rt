@@ -2,9 +2,9 @@
 ghost use Rattle.std.specs.Prelude.{◌≡◌, ◌≤◌, length, slice_get, Some, IfOk};
 ghost use Rattle.ctd_source.specs.CursorState.{state_of};
 ghost use Rattle.ctd_pattern.specs.Pattern.{length_at_start};
-ghost use Rattle.ctd_syntax.specs.View.{target};
+ghost use Rattle.ctd_syntax.specs.View.{target, var_tree};
 ghost use Rattle.ctd_check.specs.Known.{IsAmong};
-ghost use Rattle.ctd_check.specs.Regex.{matched, matched_len, regex, shorter_match};
+ghost use Rattle.ctd_check.specs.Regex.{matched_len, regex, shorter_match};
 ghost use Rattle.ctd_check.specs.Performs.{IsSound, Performs, AlwaysDoes};
 
 use crate::failure::CommandFailure;
@@ -12,8 +12,8 @@ use crate::machine::Run;
 use crate::outcome::{Fault, Reason};
 use ctd_pattern::Matcher;
 use ctd_source::{Source, WINDOW};
-use ctd_syntax::{Bytes, PatternLiteral, Var};
-use ctd_value::Value;
+use ctd_syntax::{PatternLiteral, Var};
+use ctd_value::set_text;
 
 /// The length of a match, unless it fills the window.
 fn shorter_match(length: Option<usize>) -> Result<usize, CommandFailure>
@@ -42,11 +42,7 @@ impl<'d, D: Source> Run<'d, D> {
     {
         let matcher = &mut matchers[literal.number];
         match var {
-            Some(v) => {
-                let bytes = self.matched_bytes(matcher)?;
-                self.pass_many(bytes.as_slice().len());
-                self.set_to(v, Value::Text(bytes))
-            }
+            Some(v) => self.keep_match(v, matcher),
             None => {
                 let n = self.matched_len(matcher)?;
                 self.pass_many(n);
@@ -55,20 +51,23 @@ impl<'d, D: Source> Run<'d, D> {
         }
     }
 
-    /// A copy of the bytes that a pattern matches at the start of the window.
-    fn matched_bytes(&mut self, matcher: &mut Matcher<'_>) -> Result<Bytes, CommandFailure>
+    /// Passes the match at the start of the window and keeps it in a variable. It is copied from where it stands, so it is passed
+    /// behind that; a fault of the variable comes after both. A function of its own, so that no other command makes room for it.
+    #[inline(never)]
+    fn keep_match(&mut self, v: &Var, matcher: &mut Matcher<'_>) -> Result<(), CommandFailure>
         requires sound { IsSound self.old }
-        ensures performs { Performs self.old self.new result (matched matcher.old) }
-        ensures held { IfOk result (λ bytes. length bytes ≤ length (state_of self.new.cursor).held) }
+        ensures performs { Performs self.old self.new result (regex matcher.old (Some (var_tree v.now))) }
         ensures kept { matcher.new ≡ matcher.old }
     {
-        let alloc = self.alloc;
         let window = self.cursor.window()?;
         let n = shorter_match(matcher.match_length(window))?;
-        Ok(Bytes::copy(alloc, &window[..n])?)
+        let set = set_text(self.alloc, v, &window[..n], &mut self.store);
+        self.cursor.take_many(n);
+        set?;
+        Ok(())
     }
 
-    /// How many they are.
+    /// How many bytes a pattern matches at the start of the window.
     fn matched_len(&mut self, matcher: &mut Matcher<'_>) -> Result<usize, CommandFailure>
         requires sound { IsSound self.old }
         ensures performs { Performs self.old self.new result (matched_len matcher.old) }

@@ -389,6 +389,16 @@ fn bytes_and_names(rt: HostRuntime) -> Result<(), Fail> {
 }
 
 #[test]
+fn bytes_are_written_over_where_they_have_room(rt: HostRuntime) -> Result<(), Fail> {
+    let mut bytes = Bytes::copy(rt.alloc(), b"long")?;
+    assert!(rt; bytes.overwrite(b"ab"));
+    assert_eq!(rt; bytes.as_slice(), b"ab".as_slice());
+    assert!(rt; !bytes.overwrite(&[b'x'; 4096]));
+    assert_eq!(rt; bytes.as_slice(), b"ab".as_slice());
+    Ok(())
+}
+
+#[test]
 fn numbers_of_the_kinds(rt: HostRuntime) {
     let kinds = [
         LoadKind::ProgramTooLong,

@@ -1,6 +1,6 @@
 //! Places in a program, strings of bytes, and names.
 
-ghost use Rattle.std.specs.Prelude.{◌≡◌, List, ℕ, IfOk};
+ghost use Rattle.std.specs.Prelude.{◌≡◌, ◌≤◌, List, ℕ, length, true, false, IfOk};
 
 use std::alloc::{AllocError, Global};
 use std::marker::Model;
@@ -45,6 +45,20 @@ impl Bytes {
         ensures whole { result.now ≡ self.now }
     {
         self.items.as_slice()
+    }
+
+    /// Puts other bytes in place of these, where there is room for them without more memory, and tells whether it did; else all
+    /// is as it was. There is room for as many as these are.
+    pub fn overwrite(&mut self, bytes: &[u8]) -> bool
+        ensures done { result ≡ true → self.new ≡ bytes.now }
+        ensures stays { result ≡ false → self.new ≡ self.old }
+        ensures fits { length bytes.now ≤ length self.old → result ≡ true }
+    {
+        if self.items.capacity() < bytes.len() {
+            return false;
+        }
+        self.items.clear();
+        self.items.extend_from_slice(bytes).is_ok()
     }
 }
 

@@ -3,26 +3,22 @@
 ghost use Rattle.std.specs.Prelude.{◌≡◌, ◌≢◌, true, false, pos, Ok, Err, OnErr, IfSome};
 ghost use Rattle.ctd_syntax.specs.View.{expr_tree, var_tree};
 ghost use Rattle.ctd_value.specs.Fault.{Gives};
-ghost use Rattle.ctd_value.specs.Lending.{map_ok};
+ghost use Rattle.ctd_value.specs.Lending.{map_ok, value_lent};
 ghost use Rattle.ctd_value.specs.Val.{val};
 ghost use Rattle.ctd_value.specs.Setting.{with_variable, with_expression};
 ghost use Rattle.ctd_value.specs.declared.value.Value.TheVariants as values;
 
 use crate::expression::{eval, index_values, small};
 use crate::fault::EvalFault;
+use crate::lent::Lent;
 use crate::store::Store;
 use crate::value::Value;
-use ctd_syntax::{Expr, Var};
+use ctd_syntax::{Bytes, Expr, Var};
 use std::alloc::Global;
 
 /// Gives a variable a value, once its indices are evaluated; a pinned variable stays as it is. After a fault the variables
 /// are as they were.
-pub fn set_variable(
-    alloc: Global,
-    v: &Var,
-    value: Value,
-    store: &mut Store,
-) -> Result<(), EvalFault>
+fn set_variable(alloc: Global, v: &Var, value: Value, store: &mut Store) -> Result<(), EvalFault>
     ensures value { Gives (map_ok (λ _. store.new) result) (with_variable (var_tree v.now) value store.old) }
     ensures err { OnErr result (store.new ≡ store.old) }
     ensures no_count { result ≢ Err EvalFault.Count }
@@ -33,6 +29,21 @@ pub fn set_variable(
     Ok(())
 }
 
+/// Gives a variable a string, once its indices are evaluated; a pinned variable stays as it is. After a fault the variables
+/// are as they were. The bytes are copied, where they fit into the room of the string that the variable has.
+pub fn set_text(alloc: Global, v: &Var, bytes: &[u8], store: &mut Store) -> Result<(), EvalFault>
+    ensures value { Gives (map_ok (λ _. store.new) result) (with_variable (var_tree v.now) (values.Text bytes.now) store.old) }
+    ensures err { OnErr result (store.new ≡ store.old) }
+    ensures no_count { result ≢ Err EvalFault.Count }
+    ensures no_shape { result ≢ Err EvalFault.Shape }
+{
+    if overwrite(v, Lent::Text(bytes), store) {
+        return Ok(());
+    }
+    let value = Value::Text(Bytes::copy(alloc, bytes)?);
+    set_variable(alloc, v, value, store)
+}
+
 /// The same of a number.
 pub fn set_number(alloc: Global, v: &Var, n: i128, store: &mut Store) -> Result<(), EvalFault>
     ensures value { Gives (map_ok (λ _. store.new) result) (with_variable (var_tree v.now) (values.Int n) store.old) }
@@ -40,7 +51,21 @@ pub fn set_number(alloc: Global, v: &Var, n: i128, store: &mut Store) -> Result<
     ensures no_count { result ≢ Err EvalFault.Count }
     ensures no_shape { result ≢ Err EvalFault.Shape }
 {
-    if set_small(alloc, v, n, store) {
+    if overwrite(v, Lent::Int(n), store) {
+        return Ok(());
+    }
+    set_any_number(alloc, v, n, store)
+}
+
+/// The same of any variable. A function of its own, so that a variable without indices need not make room for what it does.
+#[inline(never)]
+fn set_any_number(alloc: Global, v: &Var, n: i128, store: &mut Store) -> Result<(), EvalFault>
+    ensures value { Gives (map_ok (λ _. store.new) result) (with_variable (var_tree v.now) (values.Int n) store.old) }
+    ensures err { OnErr result (store.new ≡ store.old) }
+    ensures no_count { result ≢ Err EvalFault.Count }
+    ensures no_shape { result ≢ Err EvalFault.Shape }
+{
+    if set_in_row(v, n, store) {
         return Ok(());
     }
     set_variable(alloc, v, Value::Int(n), store)
@@ -72,17 +97,24 @@ fn set_any(alloc: Global, v: &Var, e: &Expr, store: &mut Store) -> Result<(), Ev
     set_variable(alloc, v, value, store)
 }
 
-/// Gives a variable with at most one index a number, where that takes no list of indices, and tells whether it did; else all
-/// is as it was, and nothing is said.
+/// Puts a value in place of one of its kind that a variable without indices has, where that takes no memory, and tells whether
+/// it did; else all is as it was, and nothing is said.
 #[inline(always)]
-fn set_small(alloc: Global, v: &Var, n: i128, store: &mut Store) -> bool
+fn overwrite(v: &Var, value: Lent<'_>, store: &mut Store) -> bool
+    ensures done { result ≡ true → with_variable (var_tree v.now) (value_lent value.entry) store.old ≡ Ok store.new }
+    ensures stays { result ≡ false → store.new ≡ store.old }
+{
+    v.indices.as_slice().is_empty() && store.overwrite(&v.name, value)
+}
+
+/// Gives a variable with one index a number, where that takes no list of indices, and tells whether it did; else all is as it
+/// was, and nothing is said.
+#[inline(always)]
+fn set_in_row(v: &Var, n: i128, store: &mut Store) -> bool
     ensures done { result ≡ true → with_variable (var_tree v.now) (values.Int n) store.old ≡ Ok store.new }
     ensures stays { result ≡ false → store.new ≡ store.old }
 {
     match v.indices.as_slice() {
-        [] => store
-            .assign_at(&v.name, Vec::new(alloc), Value::Int(n))
-            .is_ok(),
         [index] => match small_index(index, store) {
             Some(number) => store.assign_in_row(&v.name, number, Value::Int(n)),
             None => false,

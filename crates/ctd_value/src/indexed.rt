@@ -1,6 +1,6 @@
 //! Index lists with their values: a row of values for the numbers from 0 or 1 on, and an ordered map for all others.
 
-ghost use Rattle.std.specs.Prelude.{◌≡◌, ◌≢◌, ℕ, suc, pos, ◌+◌, ◌<◌, ◌≤◌, length, take, drop, [], ◌∷◌, ◌++◌, map, not, ◌&&◌, true, false, IfOk, OnOk, OnErr};
+ghost use Rattle.std.specs.Prelude.{◌≡◌, ◌≢◌, ℕ, suc, pos, ◌+◌, ◌<◌, ◌≤◌, length, take, drop, [], ◌∷◌, ◌++◌, map, not, ◌&&◌, true, false, Some, IfOk, OnOk, OnErr};
 ghost use Rattle.std.specs.List.{IsDistinct, list_any};
 ghost use Rattle.std.specs.Option.{option_copied, unwrap_or, IfSome, IfNone};
 ghost use Rattle.std.specs.FinMap.{find, put};
@@ -71,6 +71,19 @@ impl Indexed {
         match slot_below(self.base, self.dense.len(), indices) {
             Some(at) => Some(&self.dense[at]),
             None => self.rest.get(indices),
+        }
+    }
+
+    /// The value at a number, where it stands in the row; none says nothing.
+    #[inline(always)]
+    pub(crate) fn in_row(&self, number: usize) -> Option<&Value>
+        ensures value { IfSome result (λ x. find values_cmp (slot number) self.now ≡ Some x.now) }
+    {
+        let at = number.checked_sub(self.base)?;
+        if at < self.dense.len() {
+            Some(&self.dense[at])
+        } else {
+            None
         }
     }
 

@@ -17,7 +17,7 @@ mod unique;
 mod value;
 mod variables;
 
-pub use assign::{set_expression, set_number, set_variable};
+pub use assign::{set_expression, set_number, set_text};
 pub use condition::holds;
 pub use expression::{count_of, eval, locate, number_of, text_of};
 pub use fault::{EvalFault, TestFault};

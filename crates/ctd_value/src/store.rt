@@ -106,6 +106,18 @@ impl Store {
         }
     }
 
+    /// The value of a name at a number, where nothing is pinned and no search is needed; none says nothing.
+    #[inline(always)]
+    pub(crate) fn in_row(&self, name: &Name, number: usize) -> Option<&Value>
+        ensures value { IfSome result (λ x. value_at self.now (record { name = name.now; indices = slot number }) ≡ Some x.now) }
+    {
+        if self.pins.is_empty() {
+            self.assigned.in_row(name, number)
+        } else {
+            None
+        }
+    }
+
     /// The values of a name, where nothing is pinned and they are a row alone; none says nothing.
     #[inline(always)]
     pub(crate) fn row(&self, name: &Name) -> Option<Row<'_>>
@@ -184,6 +196,16 @@ impl Store {
         ensures stays { result ≡ false → self.new ≡ self.old }
     {
         self.pins.is_empty() && self.assigned.insert_in_row(name, number, value)
+    }
+
+    /// Puts a value in place of one of its kind that a name has without indices, where nothing is pinned and that takes neither a
+    /// search nor memory, and tells whether it did; else all is as it was, and nothing is said.
+    #[inline(always)]
+    pub(crate) fn overwrite(&mut self, name: &Name, value: Lent<'_>) -> bool
+        ensures done { result ≡ true → self.new ≡ assign self.old (record { name = name.now; indices = [] }) (value_lent value.entry) }
+        ensures stays { result ≡ false → self.new ≡ self.old }
+    {
+        self.pins.is_empty() && self.assigned.overwrite(name, value)
     }
 
     /// Whether a preset pins a name at some indices.

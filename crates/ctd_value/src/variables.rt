@@ -92,6 +92,16 @@ impl Variables {
         self.list[at].array.alone()
     }
 
+    /// The value of a name at a number, where the hint of the name leads to its array and the number to a place in its row;
+    /// none says nothing.
+    #[inline(always)]
+    pub(crate) fn in_row(&self, name: &Name, number: usize) -> Option<&Value>
+        ensures value { IfSome result (λ x. find values_cmp (slot number) (array_of name.now self.now) ≡ Some x.now) }
+    {
+        let at = hinted_position(&self.list, &self.positions, name)?;
+        self.list[at].array.in_row(number)
+    }
+
     /// Gives a name a value at an index list; after an error all is as it was. Takes no memory for a name that had a value
     /// before.
     #[inline(always)]
@@ -119,6 +129,19 @@ impl Variables {
     {
         match hinted_position(&self.list, &self.positions, name) {
             Some(at) => self.list[at].array.insert_in_row(number, value),
+            None => false,
+        }
+    }
+
+    /// Puts a value in place of one of its kind that a name has without indices, where the hint of the name leads to its array and
+    /// no memory is needed, and tells whether it did; else all is as it was, and nothing is said.
+    #[inline(always)]
+    pub(crate) fn overwrite(&mut self, name: &Name, value: Lent<'_>) -> bool
+        ensures done { result ≡ true → self.new ≡ with_value (record { name = name.now; indices = [] }) (value_lent value.entry) self.old }
+        ensures stays { result ≡ false → self.new ≡ self.old }
+    {
+        match hinted_position(&self.list, &self.positions, name) {
+            Some(at) => self.list[at].array.overwrite(value),
             None => false,
         }
     }
@@ -294,6 +317,14 @@ impl Array {
         }
     }
 
+    /// The value at a number, where it stands in the row; none says nothing.
+    #[inline(always)]
+    fn in_row(&self, number: usize) -> Option<&Value>
+        ensures value { IfSome result (λ x. find values_cmp (slot number) self.now ≡ Some x.now) }
+    {
+        self.indexed.in_row(number)
+    }
+
     /// The value at an index list. Allocates nothing.
     pub(crate) fn get(&self, indices: &[Value]) -> Option<&Value>
         ensures value { option_copied result ≡ find values_cmp indices.now self.now }
@@ -326,6 +357,19 @@ impl Array {
         ensures stays { result ≡ false → self.new ≡ self.old }
     {
         self.indexed.insert_in_row(number, value)
+    }
+
+    /// Puts a value in place of the one without indices, where that is of its kind and no memory is needed, and tells whether it
+    /// did; else all is as it was, and nothing is said.
+    #[inline(always)]
+    fn overwrite(&mut self, value: Lent<'_>) -> bool
+        ensures done { result ≡ true → self.new ≡ put values_cmp [] (value_lent value.entry) self.old }
+        ensures stays { result ≡ false → self.new ≡ self.old }
+    {
+        let Some(alone) = &mut self.alone else {
+            return false;
+        };
+        value.replaces(alone)
     }
 
     /// Removes all values.

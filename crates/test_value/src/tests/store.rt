@@ -2,7 +2,7 @@
 
 use super::{first_assignment, first_name, key, store_of};
 use ctd_syntax::{Bytes, Name, parse};
-use ctd_value::{EntryRef, Store, Value, set_expression, set_number, set_variable};
+use ctd_value::{EntryRef, Key, Store, Value, set_expression, set_number, set_text};
 use std::alloc::Global;
 use std::process::Abort;
 use std::test::Fail;
@@ -104,12 +104,7 @@ fn set_in(alloc: Global, store: &mut Store, text: &str, way: usize) -> Result<()
     let a = first_assignment(&program)?;
     match way {
         0 => set_number(alloc, &a.target, 4, store)?,
-        1 => set_variable(
-            alloc,
-            &a.target,
-            Value::Text(Bytes::copy(alloc, b"x")?),
-            store,
-        )?,
+        1 => set_text(alloc, &a.target, b"x", store)?,
         _ => set_expression(alloc, &a.target, &a.value, store)?,
     }
     Ok(())
@@ -246,5 +241,28 @@ fn refused_assignments(rt: HostRuntime) -> Result<(), Fail> {
         assert!(rt; is_kept(rt.alloc(), &mut store, n)?, "at {n}");
     }
     assert_eq!(rt; number_at(rt.alloc(), &store, b"n", &[])?, Some(5));
+    Ok(())
+}
+
+/// Whether a key has a string of these bytes.
+fn is_text(store: &Store, key: &Key, bytes: &[u8]) -> bool {
+    match store.get(key) {
+        Some(Value::Text(text)) => text.as_slice() == bytes,
+        _ => false,
+    }
+}
+
+#[test]
+fn texts_are_set_over_one_another(rt: HostRuntime) -> Result<(), Fail> {
+    let alloc = rt.alloc();
+    let mut store = store_of(alloc, "")?;
+    let program = parse(alloc, b"SET(s=1)")?;
+    let s = &first_assignment(&program)?.target;
+    let key = key(alloc, b"s", &[])?;
+    set_text(alloc, s, b"long", &mut store)?;
+    set_text(alloc, s, b"ab", &mut store)?;
+    assert!(rt; is_text(&store, &key, b"ab"));
+    set_text(alloc, s, b"longer than both", &mut store)?;
+    assert!(rt; is_text(&store, &key, b"longer than both"));
     Ok(())
 }

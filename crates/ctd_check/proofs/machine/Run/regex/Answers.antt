@@ -1,8 +1,6 @@
-use Rattle.std.proofs.Common.{ap, length, get_or}
+use Rattle.std.proofs.Common.{ap, get_or}
 use Rattle.std.specs.Prelude.{⊤}
-use Rattle.ctd_syntax.specs.View.{target, var_tree}
-use Rattle.ctd_value.specs.declared.value.Value.TheVariants.{Text}
-use Rattle.ctd_check.specs.Effect.{set_to}
+use Rattle.ctd_syntax.specs.View.{target}
 use Rattle.ctd_check.specs.State.{◌>>=◌, give, pass}
 use Rattle.ctd_check.specs.Regex.{regex}
 use Rattle.ctd_check.proofs.Acts.{and_then, early_by, given, performs_as}
@@ -10,26 +8,20 @@ use Rattle.ctd_check.proofs.Knowing.{at_number}
 use Rattle.ctd_check.proofs.Windows.{counted_first}
 use Rattle.ctd_check.proofs.machine.Run.regex.Goals as goal
 
-pub returns-in_err-bytes-in-Some-clause-performs : goal.returns-in_err-bytes-in-Some-clause-performs
-returns-in_err-bytes-in-Some-clause-performs g c =
+pub returns-in-Some-clause-performs : goal.returns-in-Some-clause-performs
+returns-in-Some-clause-performs g c =
     let same = at_number c.args.matchers.now c.args.literal.now c.index-matchers-literal.result c.requires.known in
-    performs_as (λ d s. ap (λ l. regex l (target c.args.var.now) d s) same) (early_by _ _ c.from_residual.ensures c.in_err-bytes-in-Some.ensures.performs)
-
-pub returns-in_ok-bytes-in-Some-clause-performs : goal.returns-in_ok-bytes-in-Some-clause-performs
-returns-in_ok-bytes-in-Some-clause-performs g c =
-    let same = at_number c.args.matchers.now c.args.literal.now c.index-matchers-literal.result c.requires.known in
-    performs_as (λ d s. ap (λ l. regex l (target c.args.var.now) d s) same)
-    (rw c.in-Some.is (and_then _ c.in_ok-bytes-in-Some.ensures.performs (and_then (λ _. set_to (var_tree c.in-Some.v) (Text c.in_ok-bytes-in-Some.bytes)) (performs_as (λ d s. ap (λ xs. pass (length xs) d s) c.as_slice.ensures.whole) c.pass_many.ensures.performs) c.set_to.ensures.performs)))
+    performs_as (λ d s. ap (λ l. regex l (target c.args.var.now) d s) same) (rw c.in-Some.is c.keep_match.ensures.performs)
 
 pub returns-in_err-n-in-None-clause-performs : goal.returns-in_err-n-in-None-clause-performs
 returns-in_err-n-in-None-clause-performs g c =
     let same = at_number c.args.matchers.now c.args.literal.now c.index-matchers-literal.result c.requires.known in
     performs_as (λ d s. ap (λ l. regex l (target c.args.var.now) d s) same)
-    (rw c.in-None.is (performs_as (counted_first (get_or c.args.matchers.now c.args.literal.now.number c.index-matchers-literal.result)) (early_by {B = ⊤} (λ n. pass n >>= λ _. give tt) _ c.from_residual-in_err-n-in-None.ensures c.in_err-n-in-None.ensures.performs)))
+    (rw c.in-None.is (performs_as (counted_first (get_or c.args.matchers.now c.args.literal.now.number c.index-matchers-literal.result)) (early_by {B = ⊤} (λ n. pass n >>= λ _. give tt) _ c.from_residual.ensures c.in_err-n-in-None.ensures.performs)))
 
 pub returns-in_ok-n-in-None-clause-performs : goal.returns-in_ok-n-in-None-clause-performs
 returns-in_ok-n-in-None-clause-performs g c =
     let same = at_number c.args.matchers.now c.args.literal.now c.index-matchers-literal.result c.requires.known in
     performs_as (λ d s. ap (λ l. regex l (target c.args.var.now) d s) same)
     (rw c.in-None.is (performs_as (counted_first (get_or c.args.matchers.now c.args.literal.now.number c.index-matchers-literal.result))
-    (and_then {B = ⊤} (λ n. pass n >>= λ _. give tt) c.in_ok-n-in-None.ensures.performs (and_then {B = ⊤} (λ _. give tt) c.pass_many-in-None.ensures.performs (given c.pass_many-in-None.new.self tt c.pass_many-in-None.ensures.performs.sound)))))
+    (and_then {B = ⊤} (λ n. pass n >>= λ _. give tt) c.in_ok-n-in-None.ensures.performs (and_then {B = ⊤} (λ _. give tt) c.pass_many.ensures.performs (given c.pass_many.new.self tt c.pass_many.ensures.performs.sound)))))

@@ -1,0 +1,13 @@
+use Rattle.std.proofs.Common.{[], Some, ap, ◌∙◌}
+use Rattle.std.specs.FinMap.{put}
+use Rattle.ctd_value.specs.Lending.{value_lent}
+use Rattle.ctd_value.specs.Order.{values_cmp}
+use Rattle.ctd_value.specs.Store.{with_alone}
+use Rattle.ctd_value.proofs.Alone.{written_alone}
+use Rattle.ctd_value.proofs.variables.Array.overwrite.Goals as goal
+
+pub returns-clause-done : goal.returns-clause-done
+returns-clause-done c is =
+    ap (λ v. with_alone (Some v) c.self.inside.indexed) (c.replaces.ensures.done is)
+    ∙ written_alone (value_lent c.args.value) c.self.inside.alone c.self.inside.indexed c.self.invariant
+    ∙ ap (put values_cmp [] (value_lent c.args.value)) c.self.view_is
