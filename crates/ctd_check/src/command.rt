@@ -54,6 +54,7 @@ impl<'d, D: Source> Run<'d, D> {
     }
 
     /// Starts a command in which commands stand, whose step is paid: the frame that it leaves.
+    #[inline(always)]
     pub(crate) fn open<'p>(
         &mut self,
         command: &'p Command,

@@ -1,6 +1,8 @@
 //! Expressions, variables and tests, as the commands of a run use them.
+ghost use Rattle.std.specs.Prelude.{◌≡◌, Ok, IfSome};
 ghost use Rattle.ctd_syntax.specs.View.{expr_tree, var_tree, test_tree, target};
 ghost use Rattle.ctd_value.specs.declared.value.Value.TheVariants as values;
+ghost use Rattle.ctd_value.specs.Store.{History};
 ghost use Rattle.ctd_value.specs.Val.{key, count, number_of};
 ghost use Rattle.ctd_check.specs.State.{evaluate};
 ghost use Rattle.ctd_check.specs.Effect.{set_to, keep, answer};
@@ -12,16 +14,31 @@ use ctd_source::Source;
 use ctd_syntax::{Expr, Test, Var};
 use ctd_value::{count_of, holds, number_of, set_number};
 
+/// The number that a literal is, behind a minus or none; of all else nothing is said.
+#[inline(always)]
+fn literal(e: &Expr) -> Option<i128>
+    ensures value { IfSome result (λ n. (store : History) → number_of (expr_tree e.now) store ≡ Ok n) }
+{
+    match e {
+        Expr::Numeral(n) => Some(*n),
+        Expr::Minus(size) => match &**size {
+            Expr::Numeral(n) => n.checked_neg(),
+            _ => None,
+        },
+        _ => None,
+    }
+}
+
 impl<'d, D: Source> Run<'d, D> {
-    /// The value of an expression that has to be a number; a numeral, as most bounds are, is one.
+    /// The value of an expression that has to be a number. Most bounds are literals, which need no call.
     #[inline(always)]
     pub(crate) fn number(&self, e: &Expr) -> Result<i128, CommandFailure>
         requires sound { IsSound self.now }
         ensures performs { Performs self.now self.now result (evaluate (number_of (expr_tree e.now))) }
     {
-        match e {
-            Expr::Numeral(n) => Ok(*n),
-            _ => self.any_number(e),
+        match literal(e) {
+            Some(n) => Ok(n),
+            None => self.any_number(e),
         }
     }
 

@@ -25,6 +25,7 @@ fn unbox(between: &Option<Box<Command>>) -> Option<&Command>
 }
 
 /// The frame of a loop before its first turn.
+#[inline(always)]
 pub(crate) fn loop_frame<'p>(
     place: Place,
     guard: Guard<'p>,
@@ -65,6 +66,7 @@ fn list_frame(commands: &Commands) -> Frame<'_>
 
 impl<'d, D: Source> Run<'d, D> {
     /// IF: one of two lists is left to be done.
+    #[inline(always)]
     pub(crate) fn choose<'p>(
         &mut self,
         t: &Test,
@@ -83,6 +85,7 @@ impl<'d, D: Source> Run<'d, D> {
     }
 
     /// REP and REPI: the loop is left to be done.
+    #[inline(always)]
     pub(crate) fn repeat<'p>(
         &mut self,
         place: Place,

@@ -8,7 +8,7 @@ ghost use Rattle.ctd_value.specs.Val.{val};
 ghost use Rattle.ctd_value.specs.Setting.{with_variable, with_expression};
 ghost use Rattle.ctd_value.specs.declared.value.Value.TheVariants as values;
 
-use crate::expression::{eval, index_values, small};
+use crate::expression::{eval, index_values, row_number, small};
 use crate::fault::EvalFault;
 use crate::lent::Lent;
 use crate::store::Store;
@@ -128,5 +128,5 @@ fn set_in_row(v: &Var, n: i128, store: &mut Store) -> bool
 fn small_index(e: &Expr, store: &Store) -> Option<usize>
     ensures value { IfSome result (λ number. val (expr_tree e.now) store.now ≡ Ok (values.Int (pos number))) }
 {
-    usize::try_from(small(e, store)?).ok()
+    row_number(small(e, store)?)
 }

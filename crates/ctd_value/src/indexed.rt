@@ -234,6 +234,7 @@ pub(crate) fn shows(
 }
 
 /// Gives a slot of a list a value, where one past its end is a slot too; after an error all is as it was.
+#[inline(always)]
 fn write(values: &mut Vec<Value>, at: usize, value: Value) -> Result<(), AllocError>
     requires { at ≤ length values.old.items }
     ensures ok { OnOk result (values.new.items ≡ take at values.old.items ++ value ∷ drop (suc at) values.old.items) }

@@ -219,9 +219,23 @@ fn has_name(list: &[NamedArray], at: usize, name: &Name) -> bool
     }
 }
 
-/// Whether two names are the same. Names are short, so no call is made.
+/// Whether two names are the same. Most have one letter, for which no loop is needed.
 #[inline(always)]
 fn is_same_name(a: &[u8], b: &[u8]) -> bool
+    ensures value { IsTrue result ↔ (a.now ≡ b.now) }
+{
+    match a {
+        [x] => match b {
+            [y] => x == y,
+            _ => false,
+        },
+        _ => are_same_bytes(a, b),
+    }
+}
+
+/// Whether some bytes are the same. They are few, so no call is made.
+#[inline(always)]
+fn are_same_bytes(a: &[u8], b: &[u8]) -> bool
     ensures value { IsTrue result ↔ (a.now ≡ b.now) }
 {
     if a.len() != b.len() {
