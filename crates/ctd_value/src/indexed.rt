@@ -1,6 +1,6 @@
 //! Index lists with their values: a row of values for the numbers from 0 or 1 on, and an ordered map for all others.
 
-ghost use Rattle.std.specs.Prelude.{◌≡◌, ◌≢◌, ℕ, suc, pos, ◌+◌, ◌<◌, ◌≤◌, length, take, drop, [], ◌∷◌, ◌++◌, map, not, ◌&&◌, true, false, Some, IfOk, OnOk, OnErr};
+ghost use Rattle.std.specs.Prelude.{◌≡◌, ◌≢◌, ℕ, suc, pos, ◌+◌, ◌<◌, ◌≤◌, length, take, drop, [], ◌∷◌, ◌++◌, map, not, ◌&&◌, true, false, Some, IfOk, OnOk, OnErr, vec_len, vec_capacity};
 ghost use Rattle.std.specs.List.{IsDistinct, list_any};
 ghost use Rattle.std.specs.Option.{option_copied, unwrap_or, IfSome, IfNone};
 ghost use Rattle.std.specs.FinMap.{find, put};
@@ -243,9 +243,21 @@ fn write(values: &mut Vec<Value>, at: usize, value: Value) -> Result<(), AllocEr
     if at < values.len() {
         drop(replace(&mut values[at], value));
     } else {
-        values.push(value)?;
+        if values.len() >= values.capacity() {
+            grow(values)?;
+        }
+        values.push_reserved(value);
     }
     Ok(())
+}
+
+/// Makes room for one more value; the values stay. A function of its own, so that a list with room pays nothing for it.
+#[inline(never)]
+fn grow(values: &mut Vec<Value>) -> Result<(), AllocError>
+    ensures items { values.new.items ≡ values.old.items }
+    ensures room { OnOk result (vec_len values.new < vec_capacity values.new) }
+{
+    values.reserve(1)
 }
 
 /// Removes all values of a row; if it has much room, also that.
