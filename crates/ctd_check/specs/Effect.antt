@@ -1,7 +1,7 @@
 -- What each simple command does.
-use Rattle.std.specs.Prelude.{ℕ, Bool, false, nat_eq, ⊤, List, [], ◌∷◌, length, fold, ℤ, Option, Some, None, Result, Ok, Err, if◌then◌else◌}
+use Rattle.std.specs.Prelude.{ℕ, Bool, nat_eq, ⊤, List, [], ◌∷◌, length, fold, ℤ, Option, Some, None, Result, Ok, Err, if◌then◌else◌}
 use Rattle.std.specs.List.{common_prefix_len}
-use Rattle.ctd_source.specs.TestData.{visible}
+use Rattle.ctd_source.specs.TestData.{visible, is_byte}
 use Rattle.ctd_syntax.specs.Tree.{ExprTree, VarTree, TestTree}
 use Rattle.ctd_value.specs.declared.value.Value.{Value}
 use Rattle.ctd_value.specs.declared.value.Value.TheVariants as values
@@ -14,11 +14,6 @@ use Rattle.ctd_check.specs.declared.outcome.Reason.{Reason}
 use Rattle.ctd_check.specs.declared.outcome.Reason.TheVariants.{ExpectedEof, StringMismatch, AssertFailed}
 use Rattle.ctd_check.specs.Integer.{prefix_len_of, judge, is_minus, digits_of}
 use Rattle.ctd_check.specs.State.{Act, done, ◌>>=◌, give, reject, pass, told, evaluate, see_next, fault_of_truth}
-
--- whether the next byte is this one
-abbrev pub is_byte : ℕ → Option ℕ → Bool
-is_byte c None = false
-is_byte c (Some b) = nat_eq b c
 
 -- this byte, and else the reason
 abbrev pub one_byte : ℕ → Reason → Act ⊤
