@@ -1,5 +1,5 @@
 //! STRING: the bytes of a string.
-ghost use Rattle.std.specs.Prelude.{◌≡◌, ◌≤◌, nat_eq, length, drop, None, OnOk, IfOk};
+ghost use Rattle.std.specs.Prelude.{◌≡◌, ◌≤◌, ◌<◌, nat_eq, length, take, drop, None, OnOk, IfOk};
 ghost use Rattle.std.specs.List.{common_prefix_len};
 ghost use Rattle.ctd_source.specs.CursorState.{state_of};
 ghost use Rattle.ctd_source.specs.Received.{AdvancesSuchThat};
@@ -51,7 +51,19 @@ fn rest_after(bytes: &[u8], count: usize) -> &[u8]
     &bytes[count..]
 }
 
-/// Passes as many of the wanted bytes as come next and are held; tells how many.
+/// How many bytes are compared before their lines are counted: so few that they are near by when they are counted.
+const STRETCH: usize = 16_384;
+
+/// The first bytes, as many as are compared at once.
+fn stretch(bytes: &[u8]) -> &[u8]
+    ensures front { take (length result.now) bytes.now ≡ result.now }
+    ensures within { length result.now ≤ length bytes.now }
+    ensures some { 0 < length bytes.now → 0 < length result.now }
+{
+    &bytes[..bytes.len().min(STRETCH)]
+}
+
+/// Passes as many of the wanted bytes as come next and are held, a stretch of them at most; tells how many.
 fn pass_front<D: Source>(wanted: &[u8], cursor: &mut Cursor<'_, D>) -> Result<usize, LookFault>
     requires sound { (state_of cursor.old).fault ≡ None }
     ensures sound { OnOk result ((state_of cursor.new).fault ≡ None) }
@@ -60,7 +72,7 @@ fn pass_front<D: Source>(wanted: &[u8], cursor: &mut Cursor<'_, D>) -> Result<us
 {
     match cursor.look() {
         Ok(Some(_byte)) => {
-            let count = common_len(wanted, cursor.held_run());
+            let count = common_len(wanted, stretch(cursor.held_run()));
             cursor.take_many(count);
             Ok(count)
         }

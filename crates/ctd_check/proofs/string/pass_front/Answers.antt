@@ -1,6 +1,7 @@
 use Rattle.std.proofs.Common.{◌≡◌, ◌≤◌, ◌<◌, ℕ, ◌+◌, ◌++◌, length, take, nat_eq, Option, Ok, Some, ap, sym, ◌∙◌, arith, subst, IfSome}
 use Rattle.std.specs.Prelude.{slice_get}
 use Rattle.std.specs.List.{common_prefix_len}
+use Rattle.std.proofs.lemmas.List.{take-take}
 use Rattle.std.proofs.lemmas.List.Sums.{common_prefix_len-le}
 use Rattle.ctd_source.specs.CursorState.{state_of}
 use Rattle.ctd_source.specs.TestData.{visible}
@@ -13,17 +14,21 @@ use Rattle.ctd_check.proofs.Strings.{front_passed, front_ended}
 use Rattle.ctd_check.proofs.string.pass_front.Goals as goal
 
 pub take_many-requires : goal.take_many-requires
-take_many-requires g c = let le = common_prefix_len-le nat_eq c.args.wanted.now c.held_run.result.now in omega (arith, c.common_len-count.ensures, le.1, c.held_run.ensures.held)
+take_many-requires g c = let le = common_prefix_len-le nat_eq c.args.wanted.now c.stretch.result.now in omega (arith, c.common_len-count.ensures, le.1, c.stretch.ensures.within, c.held_run.ensures.held)
 
 pub returns-in-Ok-Some-clause-within : goal.returns-in-Ok-Some-clause-within
-returns-in-Ok-Some-clause-within g c = let le = common_prefix_len-le nat_eq c.args.wanted.now c.held_run.result.now in omega (arith, c.common_len-count.ensures, le.0)
+returns-in-Ok-Some-clause-within g c = let le = common_prefix_len-le nat_eq c.args.wanted.now c.stretch.result.now in omega (arith, c.common_len-count.ensures, le.0)
 
 pub returns-in-Ok-Some-clause-passes : goal.returns-in-Ok-Some-clause-passes
 returns-in-Ok-Some-clause-passes g c =
     let s = c.look.new.self in
     let t = c.take_many.new.self in
     let wanted = c.args.wanted.now in
-    let run = c.held_run.result.now in
+    let run = c.stretch.result.now in
+    let held = (state_of s).held in
+    let front_held : take (length run) held ≡ run = sym (take-take (length run) (length c.held_run.result.now) held c.stretch.ensures.within) ∙ ap (take (length run)) c.held_run.ensures.front ∙ c.stretch.ensures.front in
+    let most : length run ≤ length held = omega (arith, c.stretch.ensures.within, c.held_run.ensures.held) in
+    let before : 0 < length run → s.spot.offset + length run ≤ s.limit = λ some. (let whole = c.held_run.ensures.within (omega (arith, some, c.stretch.ensures.within)) in omega (arith, whole, c.stretch.ensures.within)) in
     let count = c.common_len-count.result in
     let r = c.in-Ok-Some.ensures.reads in
     let m = c.take_many.ensures.moves in
@@ -32,8 +37,8 @@ returns-in-Ok-Some-clause-passes g c =
     let within : count ≤ length run = omega (arith, c.common_len-count.ensures, le.1) in
     let first : slice_get (state_of s).held 0 ≡ Some c.in-Ok-Some._byte = sym c.in-Ok-Some.ensures.held ∙ c.in-Ok-Some.field-0-is in
     let below : s.spot.offset < s.limit = (let P : Option ℕ → Type 0 = λ o. IfSome o (λ _. s.spot.offset < s.limit) in subst P c.in-Ok-Some.field-0-is c.in-Ok-Some.ensures.within) in
-    let some : 0 < length run = c.held_run.ensures.some (some_held (state_of s).held c.in-Ok-Some._byte first) below in
-    let seen = advances_so (advances_moving count s t m) (λ d stand _. run_seen d (state_of s) run count t.spot.offset stand.before s.counted within c.held_run.ensures.front c.held_run.ensures.held c.held_run.ensures.within m.offset) in
+    let some : 0 < length run = c.stretch.ensures.some (c.held_run.ensures.some (some_held (state_of s).held c.in-Ok-Some._byte first) below) in
+    let seen = advances_so (advances_moving count s t m) (λ d stand _. run_seen d (state_of s) run count t.spot.offset stand.before s.counted within front_held most before m.offset) in
     let front : take count run ≡ take count wanted = ap (λ k. take k run) c.common_len-count.ensures ∙ sym (same_front wanted run) ∙ ap (λ k. take k wanted) (sym c.common_len-count.ensures) in
     advances_so (advances_both (advances_looking c.args.cursor.now s _ r (c.in-Ok-Some.ensures.answer c.requires.sound)) seen)
     (λ d _ e.
@@ -41,7 +46,7 @@ returns-in-Ok-Some-clause-passes g c =
     front_passed wanted d c.args.cursor.now.spot.offset t.spot.offset count c.in-Ok-Some._byte (m.offset ∙ ap (λ p. p + count) same)
     (ap (visible d) (sym same) ∙ e.1.1 ∙ ap (λ xs. xs ++ visible d t.spot.offset) front) next
     (λ none. ap (common_prefix_len nat_eq wanted) (seen_byte d c.args.cursor.now.spot.offset c.in-Ok-Some._byte next)
-    ∙ first_differs wanted run (state_of s).held (visible d (c.args.cursor.now.spot.offset + 1)) c.in-Ok-Some._byte c.held_run.ensures.front some first (sym c.common_len-count.ensures ∙ none)))
+    ∙ first_differs wanted run (state_of s).held (visible d (c.args.cursor.now.spot.offset + 1)) c.in-Ok-Some._byte front_held some first (sym c.common_len-count.ensures ∙ none)))
 
 pub returns-in-Ok-None-clause-passes : goal.returns-in-Ok-None-clause-passes
 returns-in-Ok-None-clause-passes g c =
