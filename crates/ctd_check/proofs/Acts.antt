@@ -1,24 +1,24 @@
 -- What is done one after the other.
-use Rattle.std.proofs.Common.{arith, ◌≡◌, ◌≢◌, ℕ, nat_eq, true, false, refl, ap, sym, ◌∙◌, subst, Option, None, Result, Ok, Err, OnOk}
-use Rattle.std.proofs.lemmas.Bool.Decides.{nat_tests}
+use Rattle.std.proofs.Common.{◌≡◌, ℕ, true, false, refl, ap, sym, ◌∙◌, subst, Option, None, Result, Ok, Err, OnOk}
+use Rattle.std.specs.Prelude.{⊤, if◌then◌else◌}
 use Rattle.std.specs.Result.{IsErr, IsErrAnd}
 use Rattle.ctd_source.specs.declared.source.Source.{Ghosts}
 use Rattle.ctd_source.specs.declared.cursor.Cursor.{Cursor}
 use Rattle.ctd_source.specs.declared.spot.LookFault.{LookFault}
-use Rattle.ctd_source.specs.TestData.{TestData, look, first_of}
+use Rattle.ctd_source.specs.TestData.{TestData, look, first_of, is_byte}
 use Rattle.ctd_source.specs.Consistency.{IsConsistentWith}
-use Rattle.ctd_source.specs.CursorState.{state_of, ReadsOn, MovesPast}
+use Rattle.ctd_source.specs.CursorState.{state_of, ReadsOn, MovesPast, GivesByte, PassesIfEqual, whether_byte}
 use Rattle.ctd_source.specs.Received.{AdvancesSuchThat}
 use Rattle.ctd_source.proofs.AdvanceLemmas.{advances_so, advances_both, advances_nowhere, advances_looking, advances_moving}
 use Rattle.ctd_value.specs.Fault.{ValueFault, with_fault}
 use Rattle.ctd_value.specs.declared.value.Value.{Value}
 use Rattle.ctd_value.specs.Store.{History, Key, assign}
-use Rattle.ctd_check.specs.Effect.{assign_key}
+use Rattle.ctd_check.specs.Effect.{assign_key, one_byte}
 use Rattle.ctd_check.specs.declared.machine.Run.{Run}
 use Rattle.ctd_check.specs.declared.outcome.Reason.{Reason}
 use Rattle.ctd_check.specs.declared.outcome.Fault.{Fault}
 use Rattle.ctd_check.specs.declared.failure.CommandFailure.{CommandFailure}
-use Rattle.ctd_check.specs.declared.failure.CommandFailure.TheVariants.{Rejected, Stopped, Memory}
+use Rattle.ctd_check.specs.declared.failure.Failure.TheVariants.{Rejected, Stopped, Memory}
 use Rattle.ctd_check.specs.State.{State, Effect, Act, done, faulty, proceed, ◌>>=◌, give, reject, told, evaluate, fault_of_value, fault_of_look, see_next, pass}
 use Rattle.ctd_check.specs.Performs.{Does, Tells, answering, state, IsSound, Performs}
 
@@ -37,13 +37,6 @@ does_told (Err Memory) meant s is = tt
 pub always : {A : Type 0} {P : Type 0} (r : Result A CommandFailure) → P → OnOk r P
 always (Ok x) p = p
 always (Err e) p = tt
-
--- another byte is not the one that is wanted
-pub byte_differs : (wanted byte : ℕ) → byte ≢ wanted → nat_eq byte wanted ≡ false
-byte_differs wanted byte other = grind (arith, nat_tests)
-
-pub byte_is : (wanted byte : ℕ) → byte ≡ wanted → nat_eq byte wanted ≡ true
-byte_is wanted byte same = grind (arith, nat_tests)
 
 does_answering : {A B : Type 0} (g : A → B) (r : Result A CommandFailure) (s : State) (e : Effect A) → Does r s e → Does (answering g r) s (proceed e (λ x t. done (g x) t))
 does_answering g (Ok x) s e is = ap (λ y. proceed y (λ z t. done (g z) t)) is
@@ -161,6 +154,44 @@ module _ {R : Type 0} {G : Ghosts R} where
     sound = m.fault ∙ sound;
     goes = advances_so (advances_moving n a.cursor now m) (λ d _ _. ap (λ p. done tt (record { offset = p; store = a.store; mode = a.mode })) (sym m.offset));
   }
+
+  -- where the next byte is the one that is wanted, it is passed
+  wanted_by : (wanted : ℕ) (reason : Reason) (a : Run R G) (seen now : Cursor R G) (next : Result (Option ℕ) LookFault) → IsSound a → GivesByte a.cursor seen next → Ok true ≡ whether_byte wanted next → MovesPast 1 seen now
+      → Performs a (with_cursor a now) (Ok tt) (one_byte wanted reason)
+  wanted_by wanted reason a seen now (Ok byte) sound looks is moves =
+      let wanted_is : is_byte wanted byte ≡ true = cc in
+      and_then (λ next. if is_byte wanted next then pass 1 else reject reason) (looked a seen byte looks.reads looks.fault (looks.answer sound)) (rw wanted_is (passed 1 (with_cursor a seen) now looks.fault moves))
+  wanted_by wanted reason a seen now (Err fault) sound looks is moves = cc
+
+  pub wanted_passed : (wanted : ℕ) (reason : Reason) (a : Run R G) (now : Cursor R G) → IsSound a → PassesIfEqual wanted a.cursor now (Ok true) → Performs a (with_cursor a now) (Ok tt) (one_byte wanted reason)
+  wanted_passed wanted reason a now sound p = wanted_by wanted reason a p.looked now p.next sound p.looks p.answer (p.moves refl)
+
+  -- and where it is not, the data are rejected
+  other_by : (wanted : ℕ) (reason : Reason) (a : Run R G) (seen : Cursor R G) (next : Result (Option ℕ) LookFault) → IsSound a → GivesByte a.cursor seen next → Ok false ≡ whether_byte wanted next
+      → Performs {A = ⊤} a (with_cursor a seen) (Err (Rejected reason)) (one_byte wanted reason)
+  other_by wanted reason a seen (Ok byte) sound looks is =
+      let other : is_byte wanted byte ≡ false = cc in
+      and_then (λ next. if is_byte wanted next then pass 1 else reject reason) (looked a seen byte looks.reads looks.fault (looks.answer sound)) (rw other (rejecting (with_cursor a seen) reason))
+  other_by wanted reason a seen (Err fault) sound looks is = cc
+
+  pub other_rejected : (wanted : ℕ) (reason : Reason) (a : Run R G) (now : Cursor R G) → IsSound a → PassesIfEqual wanted a.cursor now (Ok false) → Performs {A = ⊤} a (with_cursor a now) (Err (Rejected reason)) (one_byte wanted reason)
+  other_rejected wanted reason a now sound p =
+      let P : Cursor R G → Type 0 = λ c. Performs {A = ⊤} a (with_cursor a c) (Err (Rejected reason)) (one_byte wanted reason) in
+      subst P (sym (p.stays (λ e. cc))) (other_by wanted reason a p.looked p.next sound p.looks p.answer)
+
+  -- a fault in its place
+  unseen_by : (wanted : ℕ) (reason : Reason) (a : Run R G) (seen : Cursor R G) (fault : LookFault) (failure : CommandFailure) (next : Result (Option ℕ) LookFault) → IsSound a → failure ≡ Stopped (fault_of_look fault) → GivesByte a.cursor seen next → Err fault ≡ whether_byte wanted next
+      → Performs {A = ⊤} a (with_cursor a seen) (Err failure) (one_byte wanted reason)
+  unseen_by wanted reason a seen fault failure (Ok byte) sound stops looks is = cc
+  unseen_by wanted reason a seen fault failure (Err other) sound stops looks is =
+      let same : fault ≡ other = cc in
+      early {B = ⊤} (λ next. if is_byte wanted next then pass 1 else reject reason) (looked_faulty a seen other failure looks.reads (stops ∙ ap (λ f. Stopped (fault_of_look f)) same) (looks.answer sound))
+
+  pub byte_unseen : (wanted : ℕ) (reason : Reason) (a : Run R G) (now : Cursor R G) (fault : LookFault) (failure : CommandFailure) → IsSound a → failure ≡ Stopped (fault_of_look fault) → PassesIfEqual wanted a.cursor now (Err fault)
+      → Performs {A = ⊤} a (with_cursor a now) (Err failure) (one_byte wanted reason)
+  byte_unseen wanted reason a now fault failure sound stops p =
+      let P : Cursor R G → Type 0 = λ c. Performs {A = ⊤} a (with_cursor a c) (Err failure) (one_byte wanted reason) in
+      subst P (sym (p.stays (λ e. cc))) (unseen_by wanted reason a p.looked fault failure p.next sound stops p.looks p.answer)
 
   -- a key gets a value
   pub assigning : (a : Run R G) (store : History) (k : Key) (value : Value) → IsSound a → store ≡ assign a.store k value → Performs a (record { alloc = a.alloc; cursor = a.cursor; store = store; mode = a.mode }) (Ok tt) (assign_key k value)

@@ -1,5 +1,5 @@
 -- What is to be done finds its patterns.
-use Rattle.std.proofs.Common.{◌≡◌, ◌<◌, ◌+◌, ℕ, zero, suc, arith, refl, ap, append_assoc, length-append, List, [], ◌∷◌, ◌++◌, length, get_or, Some, sym, ◌∙◌, subst}
+use Rattle.std.proofs.Common.{◌≡◌, ◌<◌, ◌+◌, Result, Ok, Err, OnOk, ℕ, zero, suc, arith, refl, ap, append_assoc, length-append, List, [], ◌∷◌, ◌++◌, length, get_or, Some, sym, ◌∙◌, subst}
 use Rattle.std.specs.Prelude.{slice_get}
 use Rattle.std.specs.List.{range_with_len}
 use Rattle.std.proofs.lemmas.Option.{slice_get_within, slice_get-get_or}
@@ -45,6 +45,11 @@ known_as ps qs ts us same is h =
     let P : List (List ℕ) → Type 0 = λ x. AreKnown x us in
     let Q : List Task → Type 0 = λ x. AreKnown ps x in
     subst P (sym same) (subst Q (sym is) h)
+
+-- what a command leaves, before the rest
+pub known_opened : {A E : Type 0} (ps : List (List ℕ)) (r : Result A E) (more rest all : List Task) → OnOk r (all ≡ more ++ rest) → OnOk r (AreKnown ps more) → AreKnown ps rest → OnOk r (AreKnown ps all)
+known_opened ps (Ok x) more rest all is known before = known_as ps ps (more ++ rest) all refl is (known_append ps more rest known before)
+known_opened ps (Err e) more rest all is known before = tt
 
 -- what stands at a literal's number is its pattern
 pub at_number : (ps : List (List ℕ)) (l : PatternLiteral) (d : List ℕ) → IsAmong ps l → get_or ps l.number d ≡ l.bytes

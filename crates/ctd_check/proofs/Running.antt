@@ -16,7 +16,7 @@ use Rattle.ctd_check.specs.declared.machine.Run.{Run}
 use Rattle.ctd_check.specs.declared.outcome.Site.{Site}
 use Rattle.ctd_check.specs.declared.outcome.Site.TheVariants.{Start, At}
 use Rattle.ctd_check.specs.declared.failure.CommandFailure.{CommandFailure}
-use Rattle.ctd_check.specs.declared.failure.CommandFailure.TheVariants.{Rejected, Stopped, Memory}
+use Rattle.ctd_check.specs.declared.failure.Failure.TheVariants.{Rejected, Stopped, Memory}
 use Rattle.ctd_check.specs.declared.failure.Halt.{Halt}
 use Rattle.ctd_check.specs.declared.failure.Halt.TheVariants as halts
 use Rattle.ctd_check.specs.declared.outcome.Outcome.TheVariants as outcomes
@@ -31,9 +31,10 @@ use Rattle.ctd_check.specs.declared.outcome.Mode.{Mode}
 use Rattle.ctd_check.specs.declared.outcome.Checked.{Checked}
 use Rattle.ctd_syntax.specs.declared.preset.Preset.{Preset}
 use Rattle.ctd_check.specs.Failures.{halt_of, at_limit, Concludes}
-use Rattle.ctd_check.specs.Opening.{halting}
+use Rattle.ctd_check.specs.Opening.{halting, Opens}
+use Rattle.ctd_syntax.specs.declared.tree.PatternLiteral.{PatternLiteral}
 use Rattle.ctd_check.specs.Pending.{to_do}
-use Rattle.ctd_check.specs.Performs.{Does, ContinuesWith, state, Performs, Advances, Ends, EndsAs}
+use Rattle.ctd_check.specs.Performs.{Does, ContinuesWith, answering, state, Performs, Advances, Ends, EndsAs}
 
 -- a command has its own place
 pub place_is : (a : Action) (place : Place) → place_of (action_tree a place) ≡ place
@@ -125,12 +126,21 @@ module _ {R : Type 0} {G : Ghosts R} where
   task_unpaid old t left spot halt rest agenda (Ok x) q none none' there is = let e : true ≡ false = sym q.0 in cc
   task_unpaid old t left spot halt rest agenda (Err e) q none none' there is = record { sound = tt; goes = unpaid_goes old t left agenda.left spot e rest (to_do agenda.frames.items) none none' there (q.1 ∙ is) }
 
-  -- what `?` gives in both cases
-  pub task_stopped : (old new : Run R G) (t : Task) (left : ℕ) (spot : Spot) (site : Site) (failure : CommandFailure) (rest : List Task) (agenda : Agenda) (q : Result (Unit {0}) CommandFailure) → IsErr q × IsErrAnd q (λ e. e ≡ failure) → left ≡ agenda.left + 1 → spot ≡ old.cursor.spot → site ≡ site_of t → Performs {A = List Task} old new (Err failure) (perform t)
-      → Advances {A = Unit {0}} old new left (t ∷ rest) agenda (halting spot site q)
-  task_stopped old new t left spot site failure rest agenda (Ok x) q one there at p = let e : true ≡ false = sym q.0 in cc
-  task_stopped old new t left spot site failure rest agenda (Err e) q one there at p = task_failed old new t left spot (halt_of spot site e) failure rest agenda one there (ap (halt_of spot site) q.1 ∙ ap (λ s. halt_of spot s failure) at) p
+  -- a command that stands in no other, by its answer
+  pub task_does : (old new : Run R G) (t : Task) (left left' : ℕ) (rest : List Task) (agenda : Agenda) (spot : Spot) (site : Site) (r : Result (Unit {0}) CommandFailure) → left ≡ left' + 1 → agenda.left ≡ left' → to_do agenda.frames.items ≡ rest → spot ≡ old.cursor.spot → site ≡ site_of t → Performs {A = List Task} old new (answering (λ _. []) r) (perform t)
+      → Advances {A = Unit {0}} old new left (t ∷ rest) agenda (halting spot site r)
+  task_does old new t left left' rest agenda spot site (Ok x) one same is there at p = task_done old new t left left' [] rest agenda one same is p
+  task_does old new t left left' rest agenda spot site (Err failure) one same is there at p =
+      task_failed old new t left spot (halt_of spot site failure) failure rest agenda (one ∙ ap (λ n. n + 1) (sym same)) there (ap (λ s. halt_of spot s failure) at) p
 
+  -- a command in which commands stand, by its answer
+  pub task_opens : (old new : Run R G) (t : Task) (left left' : ℕ) (rest : List Task) (from to : Agenda) (of : List PatternLiteral) (spot : Spot) (site : Site) (r : Result (Unit {0}) CommandFailure) → left ≡ left' + 1 → to.left ≡ left' → to_do from.frames.items ≡ rest → spot ≡ old.cursor.spot → site ≡ site_of t
+      → Opens old new from to of r (perform t) → Advances {A = Unit {0}} old new left (t ∷ rest) to (halting spot site r)
+  task_opens old new t left left' rest from to of spot site (Ok x) one same is there at opens = task_done old new t left left' opens.more rest to one same (opens.comes_first ∙ ap (λ ts. opens.more ++ ts) is) opens.performs
+  task_opens old new t left left' rest from to of spot site (Err failure) one same is there at opens =
+      task_failed old new t left spot (halt_of spot site failure) failure rest to (one ∙ ap (λ n. n + 1) (sym same)) there (ap (λ s. halt_of spot s failure) at) opens.performs
+
+  -- the same with no step left
   pub task_not_paid : (old : Run R G) (t : Task) (left : ℕ) (spot : Spot) (site : Site) (failure : CommandFailure) (rest : List Task) (agenda : Agenda) (q : Result (Unit {0}) CommandFailure) → IsErr q × IsErrAnd q (λ e. e ≡ failure) → failure ≡ Stopped StepLimit → left ≡ 0 → agenda.left ≡ 0 → spot ≡ old.cursor.spot → site ≡ site_of t
       → Advances {A = Unit {0}} old old left (t ∷ rest) agenda (halting spot site q)
   task_not_paid old t left spot site failure rest agenda (Ok x) q limit none none' there at = let e : true ≡ false = sym q.0 in cc

@@ -14,7 +14,7 @@ use Rattle.ctd_value.specs.Store.{History, Key, assign}
 use Rattle.ctd_value.specs.Val.{val, key}
 use Rattle.ctd_check.specs.declared.machine.Run.{Run}
 use Rattle.ctd_check.specs.declared.failure.CommandFailure.{CommandFailure}
-use Rattle.ctd_check.specs.declared.failure.CommandFailure.TheVariants.{Rejected, Stopped, Memory}
+use Rattle.ctd_check.specs.declared.failure.Failure.TheVariants.{Rejected, Stopped, Memory}
 use Rattle.ctd_check.specs.State.{State, Effect, done, proceed, told, fault_of_value}
 use Rattle.ctd_check.specs.Effect.{set_to, give_value}
 use Rattle.ctd_check.specs.Failures.{failure_of}

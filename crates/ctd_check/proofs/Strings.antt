@@ -16,7 +16,7 @@ use Rattle.ctd_source.proofs.Visible.{seen_fault, seen_end}
 use Rattle.ctd_value.specs.Fault.{with_fault}
 use Rattle.ctd_value.specs.Store.{History}
 use Rattle.ctd_check.specs.declared.failure.CommandFailure.{CommandFailure}
-use Rattle.ctd_check.specs.declared.failure.CommandFailure.TheVariants.{Stopped}
+use Rattle.ctd_check.specs.declared.failure.Failure.TheVariants.{Stopped}
 use Rattle.ctd_check.specs.declared.outcome.Mode.{Mode}
 use Rattle.ctd_check.specs.declared.outcome.Reason.TheVariants.{StringMismatch}
 use Rattle.ctd_check.specs.State.{State, Effect, Act, done, rejected, faulty, proceed, give, told, fault_of_look}

@@ -6,7 +6,7 @@ use Rattle.ctd_value.specs.declared.fault.TestFault.{TestFault}
 use Rattle.ctd_value.specs.declared.fault.TestFault.TheVariants as tests
 use Rattle.ctd_check.specs.declared.outcome.Fault.TheVariants.{Undefined, WrongType, Overflow, DivisionByZero, Exponent, Count, Shape, StepLimit}
 use Rattle.ctd_check.specs.declared.failure.CommandFailure.{CommandFailure}
-use Rattle.ctd_check.specs.declared.failure.CommandFailure.TheVariants.{Rejected, Stopped, Memory}
+use Rattle.ctd_check.specs.declared.failure.Failure.TheVariants.{Rejected, Stopped, Memory}
 use Rattle.ctd_source.specs.declared.spot.Spot.{Spot}
 use Rattle.ctd_check.specs.declared.outcome.Site.{Site}
 use Rattle.ctd_check.specs.declared.outcome.Outcome.{Outcome}

@@ -3,6 +3,7 @@ pub mod Blanks
 pub mod Checks
 pub mod Effect
 pub mod Failures
+pub mod FailureCodes
 pub mod Integer
 pub mod Known
 pub mod Laws

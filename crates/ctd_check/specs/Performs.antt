@@ -9,7 +9,7 @@ use Rattle.ctd_check.specs.Pending.{to_do, IsWithin}
 use Rattle.ctd_check.specs.declared.machine.Run.{Run}
 use Rattle.ctd_check.specs.declared.outcome.Fault.{Fault}
 use Rattle.ctd_check.specs.declared.failure.CommandFailure.{CommandFailure}
-use Rattle.ctd_check.specs.declared.failure.CommandFailure.TheVariants.{Rejected, Stopped, Memory}
+use Rattle.ctd_check.specs.declared.failure.Failure.TheVariants.{Rejected, Stopped, Memory}
 use Rattle.ctd_check.specs.declared.failure.Halt.{Halt}
 use Rattle.ctd_check.specs.declared.failure.Halt.TheVariants as halts
 use Rattle.ctd_check.specs.State.{State, Effect, Act, done, rejected, faulty}

@@ -7,7 +7,7 @@ ghost use Rattle.ctd_check.specs.Loops.{start, tasks, finish};
 ghost use Rattle.ctd_check.specs.declared.frame.Lap.{Lap};
 ghost use Rattle.ctd_check.specs.Pending.{Fits, fits_prop, to_do, top_lap, frame_tasks, left_tasks, round_tasks, lap_blocks, frame_blocks, lap_turn, IsAtTurn, IsListDone, IsWithin};
 
-use crate::failure::CommandFailure;
+use crate::failure::{CommandFailure, Failure};
 use crate::frame::{Frame, Lap};
 use crate::outcome::Fault;
 use arrayvec::ArrayVec;
@@ -83,7 +83,7 @@ impl<'p> Agenda<'p> {
         ensures bound { self.new.left + 1 ≤ 2 ^ 64 }
         ensures spent { self.new.left ≤ self.old.left }
         ensures paid { OnOk result (self.old.left ≡ self.new.left + 1) }
-        ensures limit { IfErr result (λ failure. failure ≡ CommandFailure.Stopped Fault.StepLimit) }
+        ensures limit { IfErr result (λ failure. failure ≡ Failure.Stopped Fault.StepLimit) }
         ensures none { IfErr result (λ _. (self.old.left ≡ 0) × (self.new.left ≡ 0)) }
     {
         match self.left.checked_sub(1) {
@@ -91,7 +91,7 @@ impl<'p> Agenda<'p> {
                 self.left = rest;
                 Ok(())
             }
-            None => Err(CommandFailure::Stopped(Fault::StepLimit)),
+            None => Err(CommandFailure::stopped(Fault::StepLimit)),
         }
     }
 

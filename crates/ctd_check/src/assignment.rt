@@ -22,6 +22,7 @@ fn unset_names(names: &[Name], store: &mut Store)
 
 impl<'d, D: Source> Run<'d, D> {
     /// SET: one assignment after the other.
+    #[inline(never)]
     pub(crate) fn set(&mut self, assignments: &[Assignment]) -> Result<(), CommandFailure>
         requires sound { IsSound self.old }
         ensures performs { Performs self.old self.new result (set (map assignment assignments.now)) }
@@ -42,6 +43,7 @@ impl<'d, D: Source> Run<'d, D> {
     }
 
     /// UNSET: each name loses all that was assigned to it.
+    #[inline(never)]
     pub(crate) fn unset(&mut self, names: &[Name])
         requires sound { IsSound self.old }
         ensures performs { Performs self.old self.new (Ok tt) (unset_all names.now) }

@@ -82,6 +82,7 @@ impl<'d, D: Source> Run<'d, D> {
     }
 
     /// Passes one or more blanks.
+    #[inline(never)]
     pub(crate) fn some_blanks(&mut self) -> Result<(), CommandFailure>
         requires sound { IsSound self.old }
         ensures performs { Performs self.old self.new result some_blanks }
@@ -112,11 +113,11 @@ impl<'d, D: Source> Run<'d, D> {
         match self.next()? {
             Some(byte) => {
                 if !is_blank(byte) {
-                    return Err(CommandFailure::Rejected(Reason::ExpectedSpace));
+                    return Err(CommandFailure::rejected(Reason::ExpectedSpace));
                 }
                 self.any_blanks()
             }
-            None => Err(CommandFailure::Rejected(Reason::ExpectedSpace)),
+            None => Err(CommandFailure::rejected(Reason::ExpectedSpace)),
         }
     }
 

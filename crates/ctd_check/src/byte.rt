@@ -10,6 +10,7 @@ use ctd_source::Source;
 
 impl<'d, D: Source> Run<'d, D> {
     /// SPACE.
+    #[inline(never)]
     pub(crate) fn space(&mut self) -> Result<(), CommandFailure>
         requires sound { IsSound self.old }
         ensures performs { Performs self.old self.new result space }
@@ -21,6 +22,7 @@ impl<'d, D: Source> Run<'d, D> {
     }
 
     /// NEWLINE.
+    #[inline(never)]
     pub(crate) fn newline(&mut self) -> Result<(), CommandFailure>
         requires sound { IsSound self.old }
         ensures performs { Performs self.old self.new result newline }
@@ -43,6 +45,7 @@ impl<'d, D: Source> Run<'d, D> {
     }
 
     /// A line feed with the blanks around it.
+    #[inline(never)]
     fn newline_between_blanks(&mut self) -> Result<(), CommandFailure>
         requires sound { IsSound self.old }
         ensures performs { Performs self.old self.new result newline_between_blanks }
@@ -67,15 +70,10 @@ impl<'d, D: Source> Run<'d, D> {
         requires sound { IsSound self.old }
         ensures performs { Performs self.old self.new result (one_byte wanted reason) }
     {
-        match self.next()? {
-            Some(byte) => {
-                if byte != wanted {
-                    return Err(CommandFailure::Rejected(reason));
-                }
-                self.pass_one();
-                Ok(())
-            }
-            None => Err(CommandFailure::Rejected(reason)),
+        match self.cursor.pass_if_eq(wanted) {
+            Ok(true) => Ok(()),
+            Ok(false) => Err(CommandFailure::rejected(reason)),
+            Err(fault) => Err(CommandFailure::from(fault)),
         }
     }
 
@@ -86,7 +84,7 @@ impl<'d, D: Source> Run<'d, D> {
     {
         match self.next()? {
             None => Ok(()),
-            Some(_byte) => Err(CommandFailure::Rejected(Reason::ExpectedEof)),
+            Some(_byte) => Err(CommandFailure::rejected(Reason::ExpectedEof)),
         }
     }
 }

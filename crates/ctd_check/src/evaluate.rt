@@ -80,6 +80,7 @@ impl<'d, D: Source> Run<'d, D> {
     }
 
     /// Whether a test is true.
+    #[inline(always)]
     pub(crate) fn answer(&mut self, t: &Test) -> Result<bool, CommandFailure>
         requires sound { IsSound self.old }
         ensures performs { Performs self.old self.new result (answer (test_tree t.now)) }

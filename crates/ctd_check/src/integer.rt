@@ -95,6 +95,7 @@ fn pass_digits<D: Source>(
 
 impl<'d, D: Source> Run<'d, D> {
     /// INT: evaluates both bounds, then passes an integer between them and keeps it in its variable, if there is one.
+    #[inline(never)]
     pub(crate) fn int(
         &mut self,
         low: &Expr,
@@ -144,7 +145,7 @@ impl<'d, D: Source> Run<'d, D> {
         pass_digits(&mut digits, &mut self.cursor)?;
         match digits.judge(least, most, is_negative) {
             Ok(n) => Ok(n),
-            Err(reason) => Err(CommandFailure::Rejected(reason)),
+            Err(reason) => Err(CommandFailure::rejected(reason)),
         }
     }
 }

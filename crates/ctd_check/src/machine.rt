@@ -33,16 +33,6 @@ impl<'d, D: Source> Run<'d, D> {
         }
     }
 
-    /// Passes a byte that is held.
-    #[inline]
-    pub(crate) fn pass_one(&mut self)
-        requires sound { IsSound self.old }
-        requires held { 0 < length (state_of self.old.cursor).held }
-        ensures performs { Performs self.old self.new (Ok tt) (pass 1) }
-    {
-        self.cursor.take();
-    }
-
     /// Passes `n` held bytes.
     pub(crate) fn pass_many(&mut self, n: usize)
         requires sound { IsSound self.old }

@@ -21,14 +21,15 @@ fn shorter_match(length: Option<usize>) -> Result<usize, CommandFailure>
     ensures same { IfOk result (λ n. length ≡ Some n) }
 {
     match length {
-        Some(n) if n == WINDOW => Err(CommandFailure::Stopped(Fault::MatchTooLong)),
+        Some(n) if n == WINDOW => Err(CommandFailure::stopped(Fault::MatchTooLong)),
         Some(n) => Ok(n),
-        None => Err(CommandFailure::Rejected(Reason::RegexMismatch)),
+        None => Err(CommandFailure::rejected(Reason::RegexMismatch)),
     }
 }
 
 impl<'d, D: Source> Run<'d, D> {
     /// REGEX: passes the match at the start of the window, and keeps it in its variable, if there is one.
+    #[inline(never)]
     pub(crate) fn regex(
         &mut self,
         literal: &PatternLiteral,

@@ -12,6 +12,7 @@ ghost use Rattle.ctd_check.specs.Opening.{Opens, halting};
 ghost use Rattle.ctd_check.specs.Run.{act_of, run_from};
 
 use crate::agenda::Agenda;
+use crate::command::is_block;
 use crate::failure::{CommandFailure, Halt};
 use crate::frame::Lap;
 use crate::machine::Run;
@@ -20,8 +21,8 @@ use ctd_pattern::Matcher;
 use ctd_source::Source;
 use ctd_syntax::Command;
 
-/// Pays for a command and starts it. It answers a failure, which takes less room than a halt: this is done in each step.
-#[inline(never)]
+/// Pays for a command and starts it. It answers a failure, which stands in registers; a halt would not.
+#[inline(always)]
 fn begin<'p, D: Source>(
     command: &'p Command,
     run: &mut Run<'_, D>,
@@ -38,13 +39,10 @@ fn begin<'p, D: Source>(
     ensures kept { matchers.new ≡ matchers.old }
 {
     agenda.pay()?;
-    match run.act(command, matchers) {
-        Some(Ok(())) => Ok(()),
-        Some(Err(failure)) => Err(failure),
-        None => {
-            open(command, run, agenda)?;
-            Ok(())
-        }
+    if is_block(command) {
+        open(command, run, agenda)
+    } else {
+        run.act(command, matchers)
     }
 }
 
@@ -106,7 +104,7 @@ fn begin_turn<D: Source>(
         unreachable!();
     };
     if agenda.left() == 0 {
-        return Err(CommandFailure::Stopped(Fault::StepLimit).halt(spot, Site::At(lap.place)));
+        return Err(CommandFailure::stopped(Fault::StepLimit).halt(spot, Site::At(lap.place)));
     }
     let separator = separator_before(lap);
     match run.take_turn(lap) {

@@ -91,7 +91,7 @@ fn match_bytes<D: Source>(bytes: &[u8], cursor: &mut Cursor<'_, D>) -> Result<()
     while !rest.is_empty() {
         let count = pass_front(rest, cursor)?;
         if count == 0 {
-            return Err(CommandFailure::Rejected(Reason::StringMismatch));
+            return Err(CommandFailure::rejected(Reason::StringMismatch));
         }
         rest = rest_after(rest, count);
     }
@@ -100,6 +100,7 @@ fn match_bytes<D: Source>(bytes: &[u8], cursor: &mut Cursor<'_, D>) -> Result<()
 
 impl<'d, D: Source> Run<'d, D> {
     /// STRING: evaluates a string, then passes its bytes. They are compared where they stand.
+    #[inline(never)]
     pub(crate) fn string(&mut self, e: &Expr) -> Result<(), CommandFailure>
         requires sound { IsSound self.old }
         ensures performs { Performs self.old self.new result (string (expr_tree e.now)) }

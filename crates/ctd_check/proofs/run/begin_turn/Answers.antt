@@ -1,5 +1,7 @@
 use Rattle.std.proofs.Common.{◌+◌, ◌++◌, [], ap, sym, ◌∙◌, add-one, refl, Ok, Err, if◌then◌else◌}
 use Rattle.ctd_syntax.specs.Numbering.{literals, separator_literals}
+use Rattle.ctd_check.specs.declared.outcome.Site.TheVariants.{At}
+use Rattle.ctd_check.specs.Failures.{halt_of}
 use Rattle.ctd_check.specs.Loops.{turn, turn_tasks, separated}
 use Rattle.ctd_check.specs.Pending.{to_do, loop_in, separator_in}
 use Rattle.ctd_check.proofs.Acts.{answers_as, performs_answering}
@@ -15,7 +17,7 @@ returns-then-left-eq0-clause-advances g c =
     let at = at_turn frames lap (sym c.in-Some.ensures.value) c.requires.done in
     let none = sym c.left.ensures ∙ c.if-left-eq0.true in
     advances_as (to_do_at frames lap at)
-    (task_unpaid c.args.run.now (turn (loop_in lap) lap.turn) _ c.spot-spot.result c.halt.result (to_do at.below) c.args.agenda.now (Err c.halt.result) (refl, refl) none none c.spot-spot.ensures c.halt.ensures)
+    (task_unpaid c.args.run.now (turn (loop_in lap) lap.turn) _ c.spot-spot.result c.halt.result (to_do at.below) c.args.agenda.now (Err c.halt.result) (refl, refl) none none c.spot-spot.ensures (c.halt.ensures ∙ ap (halt_of c.spot-spot.result (At lap.place)) c.stopped.ensures))
 
 pub begin-requires-clause-known : goal.begin-requires-clause-known
 begin-requires-clause-known g c =

@@ -27,7 +27,7 @@ returns-then-count-eq0-clause-matches g c =
     let p = c.loop-rest.cursor.spot.offset in
     let q = c.pass_front.new.cursor.spot.offset in
     advances_so (advances_both c.loop-rest.invariant.goes c.in_ok-count.ensures.passes)
-    (λ d _ e store mode. e.0 store mode ∙ (let P : ℕ → Type 0 = λ n. PassesFront rest d p q n in string_differs d (at_offset p store mode) rest q some (subst P c.if-count-eq0.true e.1)))
+    (λ d _ e store mode. rw c.rejected.ensures (e.0 store mode ∙ (let P : ℕ → Type 0 = λ n. PassesFront rest d p q n in string_differs d (at_offset p store mode) rest q some (subst P c.if-count-eq0.true e.1))))
 
 pub loop-rest-preserved : goal.loop-rest-preserved
 loop-rest-preserved g c =

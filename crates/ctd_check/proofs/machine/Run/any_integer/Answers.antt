@@ -1,4 +1,4 @@
-use Rattle.std.proofs.Common.{[], ap, sym, ◌∙◌, Ok, rules}
+use Rattle.std.proofs.Common.{[], ap, sym, ◌∙◌, Ok, Err, rules}
 use Rattle.std.proofs.lemmas.Int.{to_z-of_z}
 use Rattle.std.specs.Int.{w128}
 use Rattle.ctd_source.proofs.AdvanceLemmas.{advances_so, advances_both}
@@ -36,7 +36,7 @@ returns-in-Ok g c = record {
 
 pub returns-in-Err : goal.returns-in-Err
 returns-in-Err g c = record {
-  performs = record {
+  performs = answers_as (ap Err c.rejected.ensures) (record {
     sound = tt;
     goes = advances_so (advances_both c.in_ok-is_negative.ensures.passes c.in_ok-pass_digits.ensures.passes)
         (λ d _ e.
@@ -44,5 +44,5 @@ returns-in-Err g c = record {
         let is = simp (to_z-of_z w128 c.args.least c.ranges.least, to_z-of_z w128 c.args.most c.ranges.most) at (c.in-Err.ensures e.1.row.row (e.1.row.seen [] c.none-digits.ensures)) in
         integer_judged c.args.least c.args.most d (state c.args.self.now) _ c.in_ok-is_negative.is_negative _ whole e.1.stop
         ∙ ap (λ r. decide r d (record { offset = c.pass_digits.new.cursor.spot.offset; store = c.args.self.now.store; mode = c.args.self.now.mode })) (sym is));
-  };
+  });
 }

@@ -6,7 +6,7 @@ pub returns-in_err-answer : goal.returns-in_err-answer
 returns-in_err-answer g c = record { performs = early_by _ _ c.from_residual.ensures c.in_err-answer.ensures.performs }
 
 pub returns-then-not-branch : goal.returns-then-not-branch
-returns-then-not-branch g c = record { performs = and_then _ c.in_ok-answer.ensures.performs (rw c.if-not-branch.true (rejecting c.answer.new.self AssertFailed)) }
+returns-then-not-branch g c = record { performs = and_then _ c.in_ok-answer.ensures.performs (rw (c.if-not-branch.true, c.rejected.ensures) (rejecting c.answer.new.self AssertFailed)) }
 
 pub returns : goal.returns
 returns g c = record { performs = and_then _ c.in_ok-answer.ensures.performs (rw c.if-not-branch.false (given c.answer.new.self tt c.in_ok-answer.ensures.performs.sound)) }

@@ -9,4 +9,4 @@ pub returns-in-None : goal.returns-in-None
 returns-in-None g c = record { performs = and_then _ c.in_ok-next.ensures.performs (rw c.in-None.is (given c.next.new.self tt c.in_ok-next.ensures.performs.sound)) }
 
 pub returns-in-Some : goal.returns-in-Some
-returns-in-Some g c = record { performs = and_then _ c.in_ok-next.ensures.performs (rw c.in-Some.is (rejecting c.next.new.self ExpectedEof)) }
+returns-in-Some g c = record { performs = and_then _ c.in_ok-next.ensures.performs (rw (c.in-Some.is, c.rejected.ensures) (rejecting c.next.new.self ExpectedEof)) }
