@@ -4,3 +4,4 @@ pub mod Form
 pub mod FaultText
 pub mod Scanning
 pub mod Lexing
+pub mod ShortNames

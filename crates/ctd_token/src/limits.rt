@@ -6,3 +6,6 @@ pub const PROGRAM_LIMIT: usize = 1_048_576;
 /// The greatest weight that the tokens of a program may reach: what is counted are the brackets and
 /// blocks that are open, and the operators inside each of them.
 pub const NESTING_LIMIT: u32 = 200;
+
+/// The code that no name has.
+pub(crate) const NO_CODE: u64 = u64::MAX;

@@ -388,6 +388,40 @@ fn bytes_and_names(rt: HostRuntime) -> Result<(), Fail> {
     Ok(())
 }
 
+/// Whether each of some names is the same as a name, told by their codes.
+fn same_as(alloc: Global, name: &[u8], others: &[&[u8]]) -> Result<String, Fail> {
+    let name = Name::copy(alloc, name)?;
+    let mut told = String::new(alloc);
+    for other in others {
+        let other = Name::numbered(alloc, other, 3)?;
+        told.push(if name.is_same_short(&other) { 'y' } else { 'n' })?;
+    }
+    Ok(told)
+}
+
+#[test]
+fn short_names_are_compared_by_their_codes(rt: HostRuntime) -> Result<(), Fail> {
+    let others: [&[u8]; 6] = [
+        b"n1",
+        b"1n",
+        b"n",
+        b"n11",
+        b"\xff\xff\xff\xff\xff\xff\xff",
+        b"",
+    ];
+    assert_eq!(rt; same_as(rt.alloc(), b"n1", &others)?.as_str(), "ynnnnn");
+    assert_eq!(rt;
+        same_as(rt.alloc(), b"\xff\xff\xff\xff\xff\xff\xff", &others)?.as_str(),
+        "nnnnyn"
+    );
+    // Of long names nothing is told, nor of the name of no bytes.
+    assert_eq!(rt;
+        same_as(rt.alloc(), b"vertices", &[b"vertices", b"", b"edges"])?.as_str(),
+        "nnn"
+    );
+    Ok(())
+}
+
 #[test]
 fn bytes_are_written_over_where_they_have_room(rt: HostRuntime) -> Result<(), Fail> {
     let mut bytes = Bytes::copy(rt.alloc(), b"long")?;

@@ -1,7 +1,10 @@
 //! Places in a program, strings of bytes, and names.
 
-ghost use Rattle.std.specs.Prelude.{◌≡◌, ◌≤◌, List, ℕ, length, true, false, IfOk};
+ghost use Rattle.std.specs.Prelude.{◌≡◌, ◌≢◌, ◌≤◌, List, ℕ, length, true, false, IfOk, IfSome};
+ghost use Rattle.ctd_token.specs.ShortNames.{name_code, AreCodes};
+ghost use Rattle.ctd_token.specs.declared.limits.TheConstants.{NO_CODE};
 
+use crate::limits::NO_CODE;
 use std::alloc::{AllocError, Global};
 use std::marker::Model;
 
@@ -62,21 +65,90 @@ impl Bytes {
     }
 }
 
+/// The numbers by which short names are compared, without a look at their bytes.
+#[derive(Clone, Copy, Debug)]
+struct Codes {
+    /// That of the name; 0 where the name is long.
+    own: u64,
+    /// That which the same name has; `NO_CODE`, which no name has, where the name is long.
+    wanted: u64,
+}
+
+/// How many bytes a short name has at most.
+const SHORT: usize = 7;
+
+/// The code of some bytes, where it has 64 bits.
+fn code_of(bytes: &[u8]) -> Option<u64>
+    ensures { IfSome result (λ code. code ≡ name_code bytes.now) }
+{
+    match bytes {
+        [] => Some(0),
+        [first, rest @ ..] => code_of(rest)?
+            .checked_mul(257)?
+            .checked_add(u64::from(*first) + 1),
+    }
+}
+
+/// The code of a short name, where it is not one of the two that stand for none.
+fn short_code(bytes: &[u8]) -> Option<u64>
+    ensures { IfSome result (λ code. (code ≡ name_code bytes.now) × (code ≢ 0) × (code ≢ NO_CODE)) }
+{
+    if bytes.len() > SHORT {
+        return None;
+    }
+    match code_of(bytes)? {
+        0 | NO_CODE => None,
+        code => Some(code),
+    }
+}
+
+/// The codes of a name.
+fn codes_of(bytes: &[u8]) -> Codes
+    ensures { AreCodes result.own result.wanted bytes.now }
+{
+    match short_code(bytes) {
+        Some(code) => Codes {
+            own: code,
+            wanted: code,
+        },
+        None => Codes {
+            own: 0,
+            wanted: NO_CODE,
+        },
+    }
+}
+
+/// Whether a name has the code that another wants: then they are the same.
+#[inline(always)]
+fn is_wanted(codes: Codes, bytes: &[u8], others: Codes, other_bytes: &[u8]) -> bool
+    requires codes { AreCodes codes.own codes.wanted bytes.now }
+    requires others { AreCodes others.own others.wanted other_bytes.now }
+    ensures same { result ≡ true → bytes.now ≡ other_bytes.now }
+{
+    codes.own == others.wanted
+}
+
 /// The name of a variable, which contracts see as the list of its bytes.
 #[derive(Debug, Drop)]
 pub struct Name {
     bytes: Bytes,
+    codes: Codes,
     // Of this no contract says anything.
     number: u32,
 }
 
-// The number of a name that was given none.
+/// The number of a name that was given none.
 const NO_NUMBER: u32 = u32::MAX;
 
 impl Model for Name {
+    ghost use Rattle.std.specs.Prelude.{List, ℕ};
+    ghost use Rattle.ctd_token.specs.ShortNames.{AreCodes};
+
     ghost Value = { List ℕ };
 
     ghost view = { λ n. n.bytes };
+
+    ghost invariant = { λ n. AreCodes n.codes.own n.codes.wanted n.bytes };
 }
 
 impl Name {
@@ -91,16 +163,23 @@ impl Name {
     pub fn numbered(alloc: Global, bytes: &[u8], number: u32) -> Result<Name, AllocError>
         ensures equal { IfOk result (λ copied. copied ≡ bytes.now) }
     {
+        let codes = codes_of(bytes);
         let bytes = Bytes::copy(alloc, bytes)?;
-        Ok(Name { bytes, number })
+        Ok(Name {
+            bytes,
+            codes,
+            number,
+        })
     }
 
     /// The name of these bytes, which are not copied.
     pub fn from_vec(bytes: Vec<u8>) -> Name
         ensures equal { result ≡ bytes.items }
     {
+        let codes = codes_of(&bytes);
         Name {
             bytes: Bytes::from_vec(bytes),
+            codes,
             number: NO_NUMBER,
         }
     }
@@ -110,6 +189,14 @@ impl Name {
         ensures whole { result.now ≡ self.now }
     {
         self.bytes.as_slice()
+    }
+
+    /// Whether another name is the same, told without a look at the bytes where both are short; else it is false, which says nothing.
+    #[inline(always)]
+    pub fn is_same_short(&self, other: &Name) -> bool
+        ensures same { result ≡ true → self.now ≡ other.now }
+    {
+        is_wanted(self.codes, self.as_slice(), other.codes, other.as_slice())
     }
 
     /// The number that the name was given, or one that no name is given. It is a hint for those who look names up: equal names
