@@ -74,6 +74,32 @@ impl Held {
         }
     }
 
+    /// The first of them, as many as lie in one piece: some, where there are any.
+    #[inline(always)]
+    pub(crate) fn run(&self) -> &[u8]
+        ensures front { take (length result.now) self.now.items ≡ result.now }
+        ensures within { length result.now ≤ length self.now.items }
+        ensures some { 0 < length self.now.items → 0 < length result.now }
+    {
+        let (front, _) = self.ring.as_slices();
+        if self.passed < front.len() {
+            &front[self.passed..]
+        } else {
+            self.second_run()
+        }
+    }
+
+    /// The same, where the first piece of the ring is passed. A function of its own, since mostly there is no need to find the second.
+    #[cold]
+    #[inline(never)]
+    fn second_run(&self) -> &[u8]
+        ensures front { take (length result.now) self.now.items ≡ result.now }
+        ensures within { length result.now ≤ length self.now.items }
+        ensures some { 0 < length self.now.items → 0 < length result.now }
+    {
+        self.pieces().0
+    }
+
     /// Passes the first `n`.
     #[inline(always)]
     pub(crate) fn pass(&mut self, n: usize)
@@ -85,6 +111,23 @@ impl Held {
 
     /// Moves a spot past the first `n`.
     pub(crate) fn lead(&self, n: usize, spot: &mut RunningSpot)
+        requires within { n ≤ length self.now.items }
+        requires fits { (spot.old.line + n < 2 ^ 63) × (spot.old.offset + n < 2 ^ 63) }
+        ensures value { spot.new ≡ fold spot_after spot.old (take n self.now.items) }
+        ensures line { spot.new.line ≤ spot.old.line + n }
+        ensures offset { spot.new.offset ≡ spot.old.offset + n }
+    {
+        let run = self.run();
+        if n <= run.len() {
+            spot.pass_all(&run[..n]);
+        } else {
+            self.lead_through(n, spot);
+        }
+    }
+
+    /// The same, through both pieces of the ring.
+    #[inline(never)]
+    fn lead_through(&self, n: usize, spot: &mut RunningSpot)
         requires within { n ≤ length self.now.items }
         requires fits { (spot.old.line + n < 2 ^ 63) × (spot.old.offset + n < 2 ^ 63) }
         ensures value { spot.new ≡ fold spot_after spot.old (take n self.now.items) }

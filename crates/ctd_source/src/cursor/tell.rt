@@ -19,7 +19,7 @@ impl<'d, R: Source> Cursor<'d, R> {
         ensures some { 0 < length (state_of self.now).held → (state_of self.now).spot.offset < (state_of self.now).limit → 0 < length result.now }
     {
         if self.spot.offset() < self.clear_to {
-            self.window.pieces().0
+            self.window.run()
         } else {
             self.run_before_limit()
         }
@@ -34,7 +34,7 @@ impl<'d, R: Source> Cursor<'d, R> {
         ensures within { 0 < length result.now → (state_of self.now).spot.offset + length result.now ≤ (state_of self.now).limit }
         ensures some { 0 < length (state_of self.now).held → (state_of self.now).spot.offset < (state_of self.now).limit → 0 < length result.now }
     {
-        let (run, _) = self.window.pieces();
+        let run = self.window.run();
         let before_limit = self.limit.saturating_sub(self.spot.offset());
         match usize::try_from(before_limit) {
             Ok(most) if most < run.len() => &run[..most],
