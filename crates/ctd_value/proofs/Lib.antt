@@ -16,3 +16,4 @@ pub mod Small
 pub mod ListTraversal
 pub mod StoreLaws
 pub mod Telling
+mod Texts

@@ -17,14 +17,14 @@ use Rattle.ctd_value.specs.Store.{Array, Variables, Positions, array_of, with_ar
 use Rattle.ctd_value.proofs.Laid.{left_of, right_of}
 
 -- two names are one or two
-same_as : (q k : List ℕ) → same_bytes q k ≡ true → q ≡ k
+pub same_as : (q k : List ℕ) → same_bytes q k ≡ true → q ≡ k
 same_as q k = elim (bytes_cmp q k) as (λ o. bytes_cmp q k ≡ o → is_eq o ≡ true → q ≡ k) [
   | Less ↦ λ _ never. cc
   | Equal ↦ λ e _. exact_bytes q k e
   | Greater ↦ λ _ never. cc
 ] refl
 
-itself : (k : List ℕ) → same_bytes k k ≡ true
+pub itself : (k : List ℕ) → same_bytes k k ≡ true
 itself k = ap is_eq (tied_itself nat_list_cmp_total k)
 
 differs : (q k : List ℕ) → q ≢ k → same_bytes q k ≡ false

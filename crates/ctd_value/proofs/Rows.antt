@@ -1,6 +1,6 @@
 -- Values at numbers that follow one another, and nothing else: their entries, their shape and their tuples.
-use Rattle.std.proofs.Common.{◌≡◌, ◌<◌, ℕ, suc, Bool, true, cond, ◌&&◌, List, [], ◌∷◌, ◌++◌, length, map, Option, Some, None, is_some, Ok, Err, if◌then◌else◌, refl, ap, sym, ◌∙◌, arith}
-use Rattle.std.specs.List.{zip, cons_option}
+use Rattle.std.proofs.Common.{◌≡◌, ◌<◌, ℕ, suc, Bool, true, cond, ◌&&◌, ◌||◌, List, [], ◌∷◌, ◌++◌, length, map, Option, Some, None, is_some, Ok, Err, if◌then◌else◌, refl, ap, sym, ◌∙◌, arith}
+use Rattle.std.specs.List.{list_any, zip, cons_option}
 use Rattle.std.specs.Option.{IfSome}
 use Rattle.std.specs.FinMap.{find, put}
 use Rattle.std.specs.FinMap.Entries.{find-put}
@@ -22,6 +22,14 @@ numbered n (x ∷ xs) = (slot n, x) ∷ numbered (suc n) xs
 pub laid_alone : (n : ℕ) (xs : List Value) → laid n xs [] ≡ numbered n xs
 laid_alone n [] = refl
 laid_alone n (x ∷ xs) = laid_before n x xs [] tt ∙ ap (λ r. (slot n, x) ∷ r) (laid_alone (suc n) xs)
+
+any_numbered : (F : Value → Bool) (n : ℕ) (xs : List Value) → list_any (λ e. F e.1) (numbered n xs) ≡ list_any F xs
+any_numbered F n [] = refl
+any_numbered F n (x ∷ xs) = ap (λ b. F x || b) (any_numbered F (suc n) xs)
+
+-- some entry of a row has a value of a kind just where one of its values is of it
+pub any_in_row : (F : Value → Bool) (n : ℕ) (xs : List Value) → list_any (λ e. F e.1) (laid n xs []) ≡ list_any F xs
+any_in_row F n xs = ap (list_any (λ e. F e.1)) (laid_alone n xs) ∙ any_numbered F n xs
 
 -- an array has these values at the numbers from n on
 abbrev pub Found : Array → ℕ → List Value → Type 0

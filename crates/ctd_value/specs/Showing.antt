@@ -23,7 +23,7 @@ values_seen lent = map (λ v. v.now) lent
 
 -- the names of arrays, with what the arrays are
 abbrev pub arrays_seen : List NamedArray → Variables
-arrays_seen list = map (λ n. (n.name.items, n.array)) list
+arrays_seen list = map (λ n. (n.name, n.array)) list
 
 -- the entries of an array at whose index lists another has no value
 abbrev pub not_among : Array → Array → Array

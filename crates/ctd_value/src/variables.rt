@@ -22,7 +22,7 @@ use std::mem::replace;
 /// A name with its array, which has no entries where the name has no values.
 #[derive(Debug, Drop)]
 struct NamedArray {
-    name: Vec<u8>,
+    name: Name,
     array: Array,
 }
 
@@ -185,68 +185,54 @@ fn position(list: &[NamedArray], positions: &Positions, name: &Name) -> Option<u
     }
 }
 
-/// Where a name stands in a list, where its hint leads there; none says nothing.
+/// Where a short name stands in a list, where its hint leads there; none says nothing.
 #[inline(always)]
 fn hinted_position(list: &[NamedArray], positions: &Positions, name: &Name) -> Option<usize>
     ensures found { IfSome result (λ at. name_at (arrays_seen list.now) at ≡ Some name.now) }
 {
     match positions.hint(name) {
-        Some(at) if has_name(list, at, name) => Some(at),
+        Some(at) if has_short_name(list, at, name) => Some(at),
         _ => None,
     }
 }
 
-/// Where a name stands in a list, by a search. A function of its own, so that its registers are saved only where it is needed.
+/// Where a name stands in a list, by its bytes: where its hint leads, or else by a search. A function of its own, so that its
+/// registers are saved only where it is needed.
 #[inline(never)]
 fn searched_position(list: &[NamedArray], positions: &Positions, name: &Name) -> Option<usize>
     ensures found { IfSome result (λ at. name_at (arrays_seen list.now) at ≡ Some name.now) }
     ensures none { IfNone result ((at : ℕ) → find bytes_cmp name.now positions.now ≡ Some at → name_at (arrays_seen list.now) at ≢ Some name.now) }
 {
+    if let Some(at) = positions.hint(name) {
+        if has_name(list, at, name) {
+            return Some(at);
+        }
+    }
     match positions.get(name) {
         Some(at) if has_name(list, at, name) => Some(at),
         _ => None,
     }
 }
 
-/// Whether a name stands at a position of a list.
+/// Whether a short name stands at a position of a list; false says nothing.
 #[inline(always)]
-fn has_name(list: &[NamedArray], at: usize, name: &Name) -> bool
-    ensures value { IsTrue result ↔ (name_at (arrays_seen list.now) at ≡ Some name.now) }
+fn has_short_name(list: &[NamedArray], at: usize, name: &Name) -> bool
+    ensures there { result ≡ true → name_at (arrays_seen list.now) at ≡ Some name.now }
 {
     match list.get(at) {
-        Some(named) => is_same_name(&named.name, name.as_slice()),
+        Some(named) => named.name.is_same_short(name),
         None => false,
     }
 }
 
-/// Whether two names are the same. Most have one letter, for which no loop is needed.
-#[inline(always)]
-fn is_same_name(a: &[u8], b: &[u8]) -> bool
-    ensures value { IsTrue result ↔ (a.now ≡ b.now) }
+/// Whether a name stands at a position of a list.
+fn has_name(list: &[NamedArray], at: usize, name: &Name) -> bool
+    ensures value { IsTrue result ↔ (name_at (arrays_seen list.now) at ≡ Some name.now) }
 {
-    match a {
-        [x] => match b {
-            [y] => x == y,
-            _ => false,
-        },
-        _ => are_same_bytes(a, b),
+    match list.get(at) {
+        Some(named) => named.name.as_slice() == name.as_slice(),
+        None => false,
     }
-}
-
-/// Whether some bytes are the same. They are few, so no call is made.
-#[inline(always)]
-fn are_same_bytes(a: &[u8], b: &[u8]) -> bool
-    ensures value { IsTrue result ↔ (a.now ≡ b.now) }
-{
-    if a.len() != b.len() {
-        return false;
-    }
-    for i in 0..a.len() {
-        if a[i] != b[i] {
-            return false;
-        }
-    }
-    true
 }
 
 /// Adds a name with a single value; after an error the list and the positions are as they were.
@@ -263,11 +249,14 @@ fn add_name(
 {
     // A store keeps no allocator, so the indices tell where memory comes from.
     let alloc = *indices.allocator();
-    let bytes = name.as_slice().to_vec(alloc)?;
+    let copied = Name::copy(alloc, name.as_slice())?;
     let array = Array::of_one(indices, value)?;
     list.reserve(1)?;
     positions.insert(alloc, name, list.len())?;
-    list.push_reserved(NamedArray { name: bytes, array });
+    list.push_reserved(NamedArray {
+        name: copied,
+        array,
+    });
     Ok(())
 }
 
