@@ -1,11 +1,11 @@
 -- Faults of values and tests, as what they mean for a run.
-use Rattle.std.proofs.Common.{◌≡◌, Bool, true, false, refl, ap, sym, ◌∙◌, subst, Result, Ok, Err, None}
+use Rattle.std.proofs.Common.{◌≡◌, ℕ, Bool, true, false, refl, ap, sym, ◌∙◌, subst, Result, Ok, Err, None}
 use Rattle.ctd_source.specs.declared.source.Source.{Ghosts}
 use Rattle.ctd_source.specs.declared.cursor.Cursor.{Cursor}
 use Rattle.ctd_source.specs.Consistency.{IsConsistentWith}
 use Rattle.ctd_source.specs.CursorState.{state_of, ReadsOn}
 use Rattle.ctd_source.specs.TestData.{TestData}
-use Rattle.ctd_source.proofs.AdvanceLemmas.{advances_so, advances_reading}
+use Rattle.ctd_source.proofs.AdvanceLemmas.{advances_so, advances_nowhere, advances_reading}
 use Rattle.ctd_syntax.specs.Tree.{TestTree}
 use Rattle.ctd_value.specs.declared.fault.EvalFault.{EvalFault}
 use Rattle.ctd_value.specs.declared.fault.EvalFault.TheVariants as evals
@@ -103,6 +103,10 @@ module _ {R : Type 0} {G : Ghosts R} where
   pub unvalued : {A : Type 0} (a : Run R G) (fault : EvalFault) (q : Result A CommandFailure) (f : History → Result A ValueFault) → IsSound a → IsErr q × IsErrAnd q (λ e. e ≡ failure_of fault) → Gives {X = A} (Err fault) (f a.store) → Performs a a q (evaluate f)
   unvalued a fault (Ok x) f sound is gives = let e : true ≡ false = sym is.0 in cc
   unvalued a fault (Err e) f sound is gives = answers_as (ap Err is.1) (evaluated a (Err (failure_of fault)) f sound (tells_fault fault (f a.store) gives))
+
+  -- a test whose answer no data change
+  pub answered_at_once : (a : Run R G) (t : TestTree) (b : Bool) → IsSound a → ((d : TestData) (p : ℕ) → truth t a.store d p ≡ Ok b) → Performs a a (Ok b) (answer t)
+  answered_at_once a t b sound known = record { sound = sound; goes = advances_so (advances_nowhere a.cursor) (λ d _ _. ap (λ r. told (with_fault fault_of_truth r) (state a)) (known d (state a).offset)) }
 
   -- a test that was answered
   pub answered : (a : Run R G) (now : Cursor R G) (t : TestTree) (b : Bool) → ReadsOn a.cursor now → now.fault ≡ None → ((d : TestData) → IsConsistentWith d (state_of now) → Answers (Ok b) (truth t a.store d now.spot.offset))

@@ -2,7 +2,6 @@
 ghost use Rattle.std.specs.Prelude.{◌≡◌, Ok, IfSome};
 ghost use Rattle.ctd_syntax.specs.View.{expr_tree, var_tree, test_tree, target};
 ghost use Rattle.ctd_value.specs.declared.value.Value.TheVariants as values;
-ghost use Rattle.ctd_value.specs.Store.{History};
 ghost use Rattle.ctd_value.specs.Val.{key, count, number_of};
 ghost use Rattle.ctd_check.specs.State.{evaluate};
 ghost use Rattle.ctd_check.specs.Effect.{set_to, keep, answer};
@@ -12,43 +11,25 @@ use crate::failure::CommandFailure;
 use crate::machine::Run;
 use ctd_source::Source;
 use ctd_syntax::{Expr, Test, Var};
-use ctd_value::{count_of, holds, number_of, set_number};
-
-/// The number that a literal is, behind a minus or none; of all else nothing is said.
-#[inline(always)]
-fn literal(e: &Expr) -> Option<i128>
-    ensures value { IfSome result (λ n. (store : History) → number_of (expr_tree e.now) store ≡ Ok n) }
-{
-    match e {
-        Expr::Numeral(n) => Some(*n),
-        Expr::Minus(size) => match &**size {
-            Expr::Numeral(n) => n.checked_neg(),
-            _ => None,
-        },
-        _ => None,
-    }
-}
+use ctd_value::{count_of, holds, number_of, set_number, small_number, truth_at_hand};
 
 impl<'d, D: Source> Run<'d, D> {
-    /// The value of an expression that has to be a number. Most bounds are literals, which need no call.
-    #[inline(always)]
+    /// The value of an expression that has to be a number.
+    #[inline(never)]
     pub(crate) fn number(&self, e: &Expr) -> Result<i128, CommandFailure>
         requires sound { IsSound self.now }
         ensures performs { Performs self.now self.now result (evaluate (number_of (expr_tree e.now))) }
     {
-        match literal(e) {
-            Some(n) => Ok(n),
-            None => self.any_number(e),
-        }
+        Ok(number_of(self.alloc, e, &self.store)?)
     }
 
-    /// The same of any expression.
-    #[inline(never)]
-    fn any_number(&self, e: &Expr) -> Result<i128, CommandFailure>
+    /// The same, where it has 64 bits; none says nothing.
+    #[inline(always)]
+    pub(crate) fn small_number(&self, e: &Expr) -> Option<i128>
         requires sound { IsSound self.now }
-        ensures performs { Performs self.now self.now result (evaluate (number_of (expr_tree e.now))) }
+        ensures performs { IfSome result (λ n. Performs self.now self.now (Ok n) (evaluate (number_of (expr_tree e.now)))) }
     {
-        Ok(number_of(self.alloc, e, &self.store)?)
+        Some(i128::from(small_number(e, &self.store)?))
     }
 
     /// How often a loop runs.
@@ -82,6 +63,18 @@ impl<'d, D: Source> Run<'d, D> {
     /// Whether a test is true.
     #[inline(always)]
     pub(crate) fn answer(&mut self, t: &Test) -> Result<bool, CommandFailure>
+        requires sound { IsSound self.old }
+        ensures performs { Performs self.old self.new result (answer (test_tree t.now)) }
+    {
+        match truth_at_hand(t, &self.store) {
+            Some(answer) => Ok(answer),
+            None => self.any_answer(t),
+        }
+    }
+
+    /// The same of any test. A function of its own, so that a test whose answer is at hand need not make room for it.
+    #[inline(never)]
+    fn any_answer(&mut self, t: &Test) -> Result<bool, CommandFailure>
         requires sound { IsSound self.old }
         ensures performs { Performs self.old self.new result (answer (test_tree t.now)) }
     {

@@ -105,21 +105,28 @@ impl<'d, D: Source> Run<'d, D> {
         requires sound { IsSound self.old }
         ensures performs { Performs self.old self.new result (int (expr_tree low.now) (expr_tree high.now) (target var.now)) }
     {
-        let least = self.number(low)?;
-        let most = self.number(high)?;
-        let n = self.integer(least, most)?;
-        self.keep(var, n)
+        let Some(least) = self.small_number(low) else {
+            return self.any_int(low, high, var);
+        };
+        let Some(most) = self.small_number(high) else {
+            return self.any_int(low, high, var);
+        };
+        match self.held_integer(least, most) {
+            Some(n) => self.keep(var, n),
+            None => self.any_int(low, high, var),
+        }
     }
 
-    /// Passes the longest prefix of the form of an integer and judges it.
-    fn integer(&mut self, least: i128, most: i128) -> Result<i128, CommandFailure>
+    /// The same of any bounds and any integer. A function of its own, so that what is at hand need not make room for it.
+    #[inline(never)]
+    fn any_int(&mut self, low: &Expr, high: &Expr, var: &Option<Var>) -> Result<(), CommandFailure>
         requires sound { IsSound self.old }
-        ensures performs { Performs self.old self.new result (integer least most) }
+        ensures performs { Performs self.old self.new result (int (expr_tree low.now) (expr_tree high.now) (target var.now)) }
     {
-        match self.held_integer(least, most) {
-            Some(n) => Ok(n),
-            None => self.any_integer(least, most),
-        }
+        let least = self.number(low)?;
+        let most = self.number(high)?;
+        let n = self.any_integer(least, most)?;
+        self.keep(var, n)
     }
 
     /// Passes an integer that is held whole, has few digits and is accepted, where one is next. It leaves all as it is where
@@ -135,7 +142,6 @@ impl<'d, D: Source> Run<'d, D> {
     }
 
     /// Passes the longest prefix of the form of an integer, of any length and however it is held, and judges it.
-    #[inline(never)]
     fn any_integer(&mut self, least: i128, most: i128) -> Result<i128, CommandFailure>
         requires sound { IsSound self.old }
         ensures performs { Performs self.old self.new result (integer least most) }

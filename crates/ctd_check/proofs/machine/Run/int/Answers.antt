@@ -1,22 +1,19 @@
-use Rattle.std.proofs.Common.{rules}
+use Rattle.std.proofs.Common.{rules, subst, sym}
 use Rattle.std.proofs.lemmas.Int.{to_z-of_z}
 use Rattle.std.specs.Int.{w128}
-use Rattle.ctd_check.proofs.Acts.{and_then, early_by}
+use Rattle.ctd_syntax.specs.View.{expr_tree, target}
+use Rattle.ctd_check.specs.Effect.{int}
+use Rattle.ctd_check.specs.Performs.{Performs}
+use Rattle.ctd_check.proofs.Acts.{and_then}
 use Rattle.ctd_check.proofs.machine.Run.int.Goals as goal
 
-pub returns-in_err-least : goal.returns-in_err-least
-returns-in_err-least g c = record { performs = early_by _ _ c.from_residual.ensures c.in_err-least.ensures.performs }
+pub returns-in-Some-held_integer : goal.returns-in-Some-held_integer
+returns-in-Some-held_integer g c =
+    let read = simp (to_z-of_z w128 c.in-Some.least (search rules), to_z-of_z w128 c.in-Some-small_number.most (search rules)) at c.in-Some-held_integer.ensures.performs in
+    let kept = simp (to_z-of_z w128 c.in-Some-held_integer.n (search rules)) at c.keep.ensures.performs in
+    record { performs = and_then _ c.in-Some.ensures.performs (and_then _ c.in-Some-small_number.ensures.performs (and_then _ read kept)) }
 
-pub returns-in_err-most : goal.returns-in_err-most
-returns-in_err-most g c = record { performs = and_then _ c.in_ok-least.ensures.performs (early_by _ _ c.from_residual-in_err-most.ensures c.in_err-most.ensures.performs) }
-
-pub returns-in_err-n : goal.returns-in_err-n
-returns-in_err-n g c =
-    let read = simp (to_z-of_z w128 c.in_ok-least.least (search rules), to_z-of_z w128 c.in_ok-most.most (search rules)) at c.in_err-n.ensures.performs in
-    record { performs = and_then _ c.in_ok-least.ensures.performs (and_then _ c.in_ok-most.ensures.performs (early_by _ _ c.from_residual-in_err-n.ensures read)) }
-
-pub returns : goal.returns
-returns g c =
-    let read = simp (to_z-of_z w128 c.in_ok-least.least (search rules), to_z-of_z w128 c.in_ok-most.most (search rules)) at c.in_ok-n.ensures.performs in
-    let kept = simp (to_z-of_z w128 c.in_ok-n.n (search rules)) at c.keep.ensures.performs in
-    record { performs = and_then _ c.in_ok-least.ensures.performs (and_then _ c.in_ok-most.ensures.performs (and_then _ read kept)) }
+pub returns-in-None : goal.returns-in-None
+returns-in-None g c = record {
+  performs = subst (λ a. Performs a c.any_int-in-None.new.self c.any_int-in-None.result (int (expr_tree c.args.low.now) (expr_tree c.args.high.now) (target c.args.var.now))) c.in-None.ensures.stays c.any_int-in-None.ensures.performs;
+}
