@@ -1,7 +1,5 @@
 //! Worked rows on values, the store, expressions and tests, with answers worked out by hand from the language.
 
-ghost use Rattle.std.specs.Prelude.{◌≤◌, ◌^◌};
-
 mod conditions;
 mod expressions;
 mod memory;
@@ -95,28 +93,28 @@ fn store_of(alloc: Global, pinned: &str) -> Result<Store, Fail> {
     Ok(Store::new(alloc, &presets)?)
 }
 
-/// What a program answers at some bytes, behind which a read may fail.
-fn answer_over(
-    alloc: Global,
-    text: &str,
-    bytes: &[u8],
-    broken: bool,
-    limit: u64,
-) -> Result<Answer, Fail>
-    requires { limit ≤ 2 ^ 62 }
-{
-    let program = parse(alloc, text.as_bytes())?;
-    let mut store = store_of(alloc, "")?;
-    let mut data = Plain::new(bytes, broken, limit);
-    Ok(truth_told(run(alloc, &program, &mut store, &mut data))?)
+/// Runs a program so many times, with a reader that fails at once, so that each look would be told. False where an assertion
+/// fails, which ends the runs.
+fn run_times(alloc: Global, program: &Program, store: &mut Store, times: u32) -> Answer {
+    let mut data = Plain::new(b"", true, 10);
+    for _ in 0..times {
+        if !run(alloc, program, store, &mut data)? {
+            return Ok(false);
+        }
+    }
+    Ok(true)
 }
 
-/// What a program answers over no data and with a reader that fails at once, so that each look would be told.
-fn answer(alloc: Global, pinned: &str, text: &str) -> Result<Answer, Fail> {
+/// What a program answers that is run so many times over a store.
+fn answer_in(alloc: Global, store: &mut Store, text: &str, times: u32) -> Result<Answer, Fail> {
     let program = parse(alloc, text.as_bytes())?;
+    Ok(truth_told(run_times(alloc, &program, store, times))?)
+}
+
+/// What a program answers that is run once, where some variables are pinned.
+fn answer(alloc: Global, pinned: &str, text: &str) -> Result<Answer, Fail> {
     let mut store = store_of(alloc, pinned)?;
-    let mut data = Plain::new(b"", true, 10);
-    Ok(truth_told(run(alloc, &program, &mut store, &mut data))?)
+    answer_in(alloc, &mut store, text, 1)
 }
 
 /// The first line of a text that answers otherwise than wanted. Each line is a program of its own, over no data.
@@ -144,25 +142,6 @@ fn judged(rt: &impl Abort, alloc: Global, rows: &[Row]) -> Result<(), Fail> {
         assert_eq!(rt; found, None);
     }
     Ok(())
-}
-
-/// What a program answers where a[0], a[1] and so on up to a count are their own indices, and i is the count.
-fn grown(alloc: Global, count: u32, text: &str) -> Result<Answer, Fail> {
-    let grow = parse(alloc, b"SET(a[i]=i,i=i+1)")?;
-    let program = parse(alloc, text.as_bytes())?;
-    let mut store = store_of(alloc, "")?;
-    let mut data = Plain::new(b"", true, 10);
-    let begin = parse(alloc, b"SET(i=0)")?;
-    let mut answer = run(alloc, &begin, &mut store, &mut data);
-    for _ in 0..count {
-        if answer == Ok(true) {
-            answer = run(alloc, &grow, &mut store, &mut data);
-        }
-    }
-    if answer == Ok(true) {
-        answer = run(alloc, &program, &mut store, &mut data);
-    }
-    Ok(truth_told(answer)?)
 }
 
 /// Some numbers as values.

@@ -1,8 +1,14 @@
 //! Tests: comparisons, short circuits, the next byte, and what is among the values of a name.
 
+ghost use Rattle.std.specs.Prelude.{◌≤◌, ◌^◌};
+
 use super::{
-    Answer, DATA_TOO_LONG, DIVISION_BY_ZERO, READ, Row, UNDEFINED, WRONG_TYPE, answer_over, judged,
+    Answer, DATA_TOO_LONG, DIVISION_BY_ZERO, READ, Row, UNDEFINED, WRONG_TYPE, judged, run,
+    store_of, truth_told,
 };
+use ctd_source::Plain;
+use ctd_syntax::parse;
+use std::alloc::Global;
 use std::test::Fail;
 
 /// Comparisons that hold.
@@ -105,6 +111,22 @@ fn short_circuits(rt: HostRuntime) -> Result<(), Fail> {
     judged(&rt, rt.alloc(), &SHORT_CIRCUITS)
 }
 
+/// What a program answers at some bytes, behind which a read may fail.
+fn answer_over(
+    alloc: Global,
+    text: &str,
+    bytes: &[u8],
+    broken: bool,
+    limit: u64,
+) -> Result<Answer, Fail>
+    requires { limit ≤ 2 ^ 62 }
+{
+    let program = parse(alloc, text.as_bytes())?;
+    let mut store = store_of(alloc, "")?;
+    let mut data = Plain::new(bytes, broken, limit);
+    Ok(truth_told(run(alloc, &program, &mut store, &mut data))?)
+}
+
 /// A test, the bytes that it is asked at, whether a read fails behind them, the limit, and what it says.
 type Look = (&'static str, &'static [u8], bool, u8, Answer);
 
@@ -125,9 +147,9 @@ const LOOKS: [Look; 12] = [
 
 #[test]
 fn the_next_byte(rt: HostRuntime) -> Result<(), Fail> {
-    for (text, bytes, broken, limit, wanted) in LOOKS {
-        let found = answer_over(rt.alloc(), text, bytes, broken, u64::from(limit))?;
-        assert_eq!(rt; found, wanted, "at {text:?} {bytes:?}");
+    for (text, bytes, broken, limit, wanted) in &LOOKS {
+        let found = answer_over(rt.alloc(), text, bytes, *broken, u64::from(*limit))?;
+        assert_eq!(rt; found, *wanted, "at {text:?} {bytes:?}");
     }
     Ok(())
 }

@@ -4,9 +4,10 @@ use super::{
     DIVISION_BY_ZERO, EXPONENT, OVERFLOW, Row, UNDEFINED, WRONG_TYPE, first_assignment, judged,
     numbers, store_of, value_told,
 };
-use ctd_syntax::{Bytes, parse};
-use ctd_value::{EvalFault, Key, Value, count_of, eval, locate, number_of, text_of};
+use ctd_syntax::parse;
+use ctd_value::{EvalFault, Key, Store, Value, count_of, eval, locate, number_of, text_of};
 use std::alloc::Global;
+use std::process::Abort;
 use std::test::Fail;
 
 /// What expressions are worth: division truncates, a remainder has the dividend's sign, operators go from left to right but
@@ -123,26 +124,34 @@ fn first_faults(rt: HostRuntime) -> Result<(), Fail> {
     judged(&rt, rt.alloc(), &FIRST_FAULTS)
 }
 
-/// The value of an expression that a text assigns.
-fn value_in(alloc: Global, pinned: &str, text: &str) -> Result<Result<Value, EvalFault>, Fail> {
-    let store = store_of(alloc, pinned)?;
+/// The value of the expression that a text assigns.
+fn value_in(alloc: Global, store: &Store, text: &str) -> Result<Value, Fail> {
     let program = parse(alloc, text.as_bytes())?;
-    let assignment = first_assignment(&program)?;
-    Ok(value_told(eval(alloc, &assignment.value, &store))?)
+    let a = first_assignment(&program)?;
+    Ok(value_told(eval(alloc, &a.value, store))??)
 }
 
 #[test]
 fn a_number(rt: HostRuntime) -> Result<(), Fail> {
-    let found = value_in(rt.alloc(), "", "SET(x=7%-2)")?;
-    assert_eq!(rt; found, Ok(Value::Int(1)));
+    let store = store_of(rt.alloc(), "")?;
+    let found = value_in(rt.alloc(), &store, "SET(x=7%-2)")?;
+    assert!(rt; matches!(&found, Value::Int(1)));
     Ok(())
+}
+
+/// Whether a value is a string of these bytes.
+fn is_text(value: &Value, bytes: &[u8]) -> bool {
+    match value {
+        Value::Text(text) => text.as_slice() == bytes,
+        Value::Int(_) => false,
+    }
 }
 
 #[test]
 fn a_string_is_copied(rt: HostRuntime) -> Result<(), Fail> {
-    let wanted = Value::Text(Bytes::copy(rt.alloc(), b"a,b")?);
-    let found = value_in(rt.alloc(), "s=\"a,b\"", "SET(x=((s)))")?;
-    assert_eq!(rt; found, Ok(wanted));
+    let store = store_of(rt.alloc(), "s=\"a,b\"")?;
+    let found = value_in(rt.alloc(), &store, "SET(x=((s)))")?;
+    assert!(rt; is_text(&found, b"a,b"));
     Ok(())
 }
 
@@ -158,16 +167,26 @@ const NUMBERS: [(&str, Result<i128, EvalFault>); 5] = [
     ("SET(x=y)", Err(EvalFault::Undefined)),
 ];
 
+/// The number of the expression that a text assigns.
+fn number_in(alloc: Global, store: &Store, text: &str) -> Result<Result<i128, EvalFault>, Fail> {
+    let program = parse(alloc, text.as_bytes())?;
+    let a = first_assignment(&program)?;
+    Ok(value_told(number_of(alloc, &a.value, store))?)
+}
+
+/// Whether the expressions have their numbers.
+fn numbers_are_judged(rt: &impl Abort, alloc: Global, store: &Store) -> Result<(), Fail> {
+    for (text, wanted) in &NUMBERS {
+        let found = number_in(alloc, store, text)?;
+        assert_eq!(rt; found, *wanted, "at {text:?}");
+    }
+    Ok(())
+}
+
 #[test]
 fn numbers_of_expressions(rt: HostRuntime) -> Result<(), Fail> {
     let store = store_of(rt.alloc(), "s=\"a,b\"")?;
-    for (text, wanted) in NUMBERS {
-        let program = parse(rt.alloc(), text.as_bytes())?;
-        let assignment = first_assignment(&program)?;
-        let found = value_told(number_of(rt.alloc(), &assignment.value, &store))?;
-        assert_eq!(rt; found, wanted, "at {text:?}");
-    }
-    Ok(())
+    numbers_are_judged(&rt, rt.alloc(), &store)
 }
 
 /// Expressions that have to be strings, with their bytes, where s is a,b.
@@ -178,16 +197,30 @@ const TEXTS: [(&str, Result<&[u8], EvalFault>); 4] = [
     ("SET(x=y)", Err(EvalFault::Undefined)),
 ];
 
+/// Whether the string of the expression that a text assigns is the wanted one, or its fault is.
+fn has_text(
+    alloc: Global,
+    store: &Store,
+    text: &str,
+    wanted: Result<&[u8], EvalFault>,
+) -> Result<bool, Fail> {
+    let program = parse(alloc, text.as_bytes())?;
+    let a = first_assignment(&program)?;
+    Ok(value_told(text_of(alloc, &a.value, store))? == wanted)
+}
+
+/// Whether the expressions have their strings.
+fn texts_are_judged(rt: &impl Abort, alloc: Global, store: &Store) -> Result<(), Fail> {
+    for (text, wanted) in &TEXTS {
+        assert!(rt; has_text(alloc, store, text, *wanted)?, "at {text:?}");
+    }
+    Ok(())
+}
+
 #[test]
 fn texts_where_they_stand(rt: HostRuntime) -> Result<(), Fail> {
     let store = store_of(rt.alloc(), "s=\"a,b\"")?;
-    for (text, wanted) in TEXTS {
-        let program = parse(rt.alloc(), text.as_bytes())?;
-        let assignment = first_assignment(&program)?;
-        let found = value_told(text_of(rt.alloc(), &assignment.value, &store))?;
-        assert_eq!(rt; found, wanted, "at {text:?}");
-    }
-    Ok(())
+    texts_are_judged(&rt, rt.alloc(), &store)
 }
 
 /// How often a loop of each assigned expression would run.
@@ -204,31 +237,35 @@ const COUNTS: [(&str, Result<u64, EvalFault>); 9] = [
 ];
 
 /// How often a loop would run of the expression that a text assigns.
-fn count_in(alloc: Global, text: &str) -> Result<Result<u64, EvalFault>, Fail> {
-    let store = store_of(alloc, "")?;
+fn count_in(alloc: Global, store: &Store, text: &str) -> Result<Result<u64, EvalFault>, Fail> {
     let program = parse(alloc, text.as_bytes())?;
-    let assignment = first_assignment(&program)?;
-    Ok(value_told(count_of(alloc, &assignment.value, &store))?)
+    let a = first_assignment(&program)?;
+    Ok(value_told(count_of(alloc, &a.value, store))?)
 }
 
-#[test]
-fn counts_of_loops(rt: HostRuntime) -> Result<(), Fail> {
-    for (text, wanted) in COUNTS {
-        let found = count_in(rt.alloc(), text)?;
-        assert_eq!(rt; found, wanted, "at {text:?}");
+/// Whether the expressions have their counts.
+fn counts_are_judged(rt: &impl Abort, alloc: Global, store: &Store) -> Result<(), Fail> {
+    for (text, wanted) in &COUNTS {
+        let found = count_in(alloc, store, text)?;
+        assert_eq!(rt; found, *wanted, "at {text:?}");
     }
     Ok(())
 }
 
-/// The key of the variable that a text assigns to, where b is 7.
-fn key_in(alloc: Global, text: &str) -> Result<Result<Key, EvalFault>, Fail> {
-    let store = store_of(alloc, "b=7")?;
-    let program = parse(alloc, text.as_bytes())?;
-    let assignment = first_assignment(&program)?;
-    Ok(value_told(locate(alloc, &assignment.target, &store))?)
+#[test]
+fn counts_of_loops(rt: HostRuntime) -> Result<(), Fail> {
+    let store = store_of(rt.alloc(), "")?;
+    counts_are_judged(&rt, rt.alloc(), &store)
 }
 
-/// The indices that each target has, all of them numbers.
+/// The key of the variable that a text assigns to.
+fn key_in(alloc: Global, store: &Store, text: &str) -> Result<Result<Key, EvalFault>, Fail> {
+    let program = parse(alloc, text.as_bytes())?;
+    let a = first_assignment(&program)?;
+    Ok(value_told(locate(alloc, &a.target, store))?)
+}
+
+/// The indices that each target has, all of them numbers, where b is 7.
 const INDICES: [(&str, &[i8]); 4] = [
     ("SET(a[1+1]=0)", &[2]),
     ("SET(a=0)", &[]),
@@ -236,15 +273,25 @@ const INDICES: [(&str, &[i8]); 4] = [
     ("SET(a[STRLEN(\"ab\")]=0)", &[2]),
 ];
 
-#[test]
-fn keys_of_variables(rt: HostRuntime) -> Result<(), Fail> {
-    for (text, wanted) in INDICES {
-        let key = key_in(rt.alloc(), text)??;
-        let indices = numbers(rt.alloc(), wanted)?;
-        assert_eq!(rt; key.name(), b"a".as_slice(), "at {text:?}");
-        assert_eq!(rt; key.indices(), indices.as_slice(), "at {text:?}");
+/// Whether the variable that a text assigns to has the name a and these numbers as its indices.
+fn has_indices(alloc: Global, store: &Store, text: &str, wanted: &[i8]) -> Result<bool, Fail> {
+    let wanted = numbers(alloc, wanted)?;
+    let key = key_in(alloc, store, text)??;
+    Ok(key.name() == b"a".as_slice() && key.indices() == wanted.as_slice())
+}
+
+/// Whether the variables have their keys.
+fn keys_are_judged(rt: &impl Abort, alloc: Global, store: &Store) -> Result<(), Fail> {
+    for (text, wanted) in &INDICES {
+        assert!(rt; has_indices(alloc, store, text, wanted)?, "at {text:?}");
     }
     Ok(())
+}
+
+#[test]
+fn keys_of_variables(rt: HostRuntime) -> Result<(), Fail> {
+    let store = store_of(rt.alloc(), "b=7")?;
+    keys_are_judged(&rt, rt.alloc(), &store)
 }
 
 /// Targets that have no key, since an index has no value.
@@ -254,20 +301,34 @@ const NO_KEYS: [(&str, EvalFault); 3] = [
     ("SET(a[-\"k\"]=0)", EvalFault::WrongType),
 ];
 
-#[test]
-fn indices_without_a_value(rt: HostRuntime) -> Result<(), Fail> {
-    for (text, wanted) in NO_KEYS {
-        let found = key_in(rt.alloc(), text)?.err();
-        assert_eq!(rt; found, Some(wanted), "at {text:?}");
+/// Whether the variables have no key, each for its fault.
+fn faults_are_judged(rt: &impl Abort, alloc: Global, store: &Store) -> Result<(), Fail> {
+    for (text, wanted) in &NO_KEYS {
+        let found = key_in(alloc, store, text)?.err();
+        assert_eq!(rt; found, Some(*wanted), "at {text:?}");
     }
     Ok(())
 }
 
 #[test]
+fn indices_without_a_value(rt: HostRuntime) -> Result<(), Fail> {
+    let store = store_of(rt.alloc(), "b=7")?;
+    faults_are_judged(&rt, rt.alloc(), &store)
+}
+
+/// Whether indices are a string of these bytes and a number.
+fn are_text_and_number(indices: &[Value], bytes: &[u8], n: i128) -> bool {
+    match indices {
+        [Value::Text(text), Value::Int(second)] => text.as_slice() == bytes && *second == n,
+        _ => false,
+    }
+}
+
+#[test]
 fn a_key_with_a_string(rt: HostRuntime) -> Result<(), Fail> {
-    let key = key_in(rt.alloc(), "SET(ab[\"k\",1]=0)")??;
-    let text = Value::Text(Bytes::copy(rt.alloc(), b"k")?);
+    let store = store_of(rt.alloc(), "b=7")?;
+    let key = key_in(rt.alloc(), &store, "SET(ab[\"k\",1]=0)")??;
     assert_eq!(rt; key.name(), b"ab".as_slice());
-    assert_eq!(rt; key.indices(), [text, Value::Int(1)].as_slice());
+    assert!(rt; are_text_and_number(key.indices(), b"k", 1));
     Ok(())
 }

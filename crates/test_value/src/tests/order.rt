@@ -6,6 +6,9 @@ use ctd_value::{Key, Value};
 use std::alloc::{AllocError, Global};
 use std::test::Fail;
 
+/// The name of a key, its numbers, and the string behind them, if there is one.
+type Row<'r> = (&'r [u8], &'r [i8], Option<&'r [u8]>);
+
 /// The key of a name and some numbers, behind which a string may stand.
 fn row(alloc: Global, name: &[u8], indices: &[i8], last: Option<&[u8]>) -> Result<Key, AllocError> {
     let mut values = numbers(alloc, indices)?;
@@ -13,6 +16,15 @@ fn row(alloc: Global, name: &[u8], indices: &[i8], last: Option<&[u8]>) -> Resul
         values.push(Value::Text(Bytes::copy(alloc, bytes)?))?;
     }
     Ok(Key::new(name.to_vec(alloc)?, values))
+}
+
+/// The keys of some rows.
+fn keys(alloc: Global, rows: &[Row]) -> Result<Vec<Key>, AllocError> {
+    let mut keys = Vec::new(alloc);
+    for (name, indices, last) in rows {
+        keys.push(row(alloc, name, indices, *last)?)?;
+    }
+    Ok(keys)
 }
 
 /// Whether each is less than those after it, greater than those before it, and equal to itself alone.
@@ -45,25 +57,23 @@ fn integers_come_before_strings(rt: HostRuntime) -> Result<(), Fail> {
     Ok(())
 }
 
+const ROWS: [Row; 11] = [
+    (b"a", &[], None),
+    (b"a", &[-3], None),
+    (b"a", &[2], None),
+    (b"a", &[2, 1], None),
+    (b"a", &[2], Some(b"")),
+    (b"a", &[10], None),
+    (b"a", &[10, -5], None),
+    (b"a", &[10], Some(b"b")),
+    (b"ab", &[], None),
+    (b"ab", &[-9], None),
+    (b"b", &[], None),
+];
+
 #[test]
 fn keys_go_by_name_and_then_by_index(rt: HostRuntime) -> Result<(), Fail> {
-    let rows: [(&[u8], &[i8], Option<&[u8]>); 11] = [
-        (b"a", &[], None),
-        (b"a", &[-3], None),
-        (b"a", &[2], None),
-        (b"a", &[2, 1], None),
-        (b"a", &[2], Some(b"")),
-        (b"a", &[10], None),
-        (b"a", &[10, -5], None),
-        (b"a", &[10], Some(b"b")),
-        (b"ab", &[], None),
-        (b"ab", &[-9], None),
-        (b"b", &[], None),
-    ];
-    let mut keys = Vec::new(rt.alloc());
-    for (name, indices, last) in rows {
-        keys.push(row(rt.alloc(), name, indices, last)?)?;
-    }
+    let keys = keys(rt.alloc(), &ROWS)?;
     assert!(rt; rises(&keys));
     Ok(())
 }

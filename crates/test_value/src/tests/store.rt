@@ -1,11 +1,19 @@
-//! Calls of the store.
+//! Calls of the store. What a test does with a store that it owns is a function of its own: no way out of that has to drop it.
 
 use super::{first_assignment, first_name, key, store_of};
-use ctd_syntax::{Bytes, Name, parse};
+use ctd_syntax::{Assignment, Bytes, Name, Var, parse};
 use ctd_value::{EntryRef, Key, Store, Value, set_expression, set_number, set_text};
-use std::alloc::Global;
+use std::alloc::{AllocError, Global};
 use std::process::Abort;
 use std::test::Fail;
+
+/// The number at a key; none where there is no value or a string.
+fn number_of_key(store: &Store, key: &Key) -> Option<i128> {
+    match store.get(key) {
+        Some(Value::Int(n)) => Some(*n),
+        _ => None,
+    }
+}
 
 /// The number at a name and some indices; none where there is no value or a string.
 fn number_at(
@@ -15,10 +23,7 @@ fn number_at(
     indices: &[i8],
 ) -> Result<Option<i128>, Fail> {
     let key = key(alloc, name, indices)?;
-    match store.get(&key) {
-        Some(Value::Int(n)) => Ok(Some(*n)),
-        _ => Ok(None),
-    }
+    Ok(number_of_key(store, &key))
 }
 
 /// The bytes of a name, some indices, and the number that stands there; none where there is no value.
@@ -45,173 +50,220 @@ fn assign(
     Ok(store.assign(key, Value::Int(n))?)
 }
 
-/// Unsets the name that a text unsets.
-fn unset(alloc: Global, store: &mut Store, text: &str) -> Result<(), Fail> {
-    let program = parse(alloc, text.as_bytes())?;
-    store.unset(first_name(&program)?);
-    Ok(())
-}
-
-/// How many entries the name has that a text unsets.
-fn count_of_entries(alloc: Global, store: &Store, text: &str) -> Result<usize, Fail> {
-    let program = parse(alloc, text.as_bytes())?;
-    Ok(store.entries(alloc, first_name(&program)?)?.len())
-}
+const PRESETS: [Row; 3] = [(b"n", &[], Some(4)), (b"n", &[4], None), (b"m", &[], None)];
 
 #[test]
 fn the_last_preset_of_a_name(rt: HostRuntime) -> Result<(), Fail> {
     let store = store_of(rt.alloc(), "s=\"a,b\",n=-3,n=4")?;
-    let rows: [Row; 3] = [(b"n", &[], Some(4)), (b"n", &[4], None), (b"m", &[], None)];
-    judged(&rt, rt.alloc(), &store, &rows)
+    judged(&rt, rt.alloc(), &store, &PRESETS)
+}
+
+/// Whether a key has a string of these bytes.
+fn is_text(store: &Store, key: &Key, bytes: &[u8]) -> bool {
+    match store.get(key) {
+        Some(Value::Text(text)) => text.as_slice() == bytes,
+        _ => false,
+    }
 }
 
 #[test]
 fn a_string_that_is_pinned(rt: HostRuntime) -> Result<(), Fail> {
-    let store = store_of(rt.alloc(), "s=\"a,b\"")?;
-    let text = Value::Text(Bytes::copy(rt.alloc(), b"a,b")?);
     let key = key(rt.alloc(), b"s", &[])?;
-    assert_eq!(rt; store.get(&key), Some(&text));
+    let store = store_of(rt.alloc(), "s=\"a,b\"")?;
+    assert!(rt; is_text(&store, &key, b"a,b"));
+    Ok(())
+}
+
+const PINNED_AND_ASSIGNED: [Row; 2] = [(b"n", &[], Some(5)), (b"n", &[1], Some(6))];
+
+const PINNED_ALONE: [Row; 2] = [(b"n", &[], Some(5)), (b"n", &[1], None)];
+
+/// Assigns to a preset n and beside it, and unsets n, in a store where n is pinned to 5.
+fn preset_stays(rt: &impl Abort, alloc: Global, store: &mut Store, n: &Name) -> Result<(), Fail> {
+    assign(alloc, store, b"n", &[], 9)?;
+    assign(alloc, store, b"n", &[1], 6)?;
+    judged(rt, alloc, store, &PINNED_AND_ASSIGNED)?;
+    assert_eq!(rt; store.entries(alloc, n)?.len(), 2);
+    store.unset(n);
+    judged(rt, alloc, store, &PINNED_ALONE)?;
+    assert_eq!(rt; store.entries(alloc, n)?.len(), 1);
     Ok(())
 }
 
 #[test]
 fn a_preset_stays(rt: HostRuntime) -> Result<(), Fail> {
-    let alloc = rt.alloc();
-    let mut store = store_of(alloc, "n=5")?;
-    assign(alloc, &mut store, b"n", &[], 9)?;
-    assign(alloc, &mut store, b"n", &[1], 6)?;
-    judged(
-        &rt,
-        alloc,
-        &store,
-        &[(b"n", &[], Some(5)), (b"n", &[1], Some(6))],
-    )?;
-    assert_eq!(rt; count_of_entries(alloc, &store, "UNSET(n)")?, 2);
-    unset(alloc, &mut store, "UNSET(n)")?;
-    judged(
-        &rt,
-        alloc,
-        &store,
-        &[(b"n", &[], Some(5)), (b"n", &[1], None)],
-    )?;
-    assert_eq!(rt; count_of_entries(alloc, &store, "UNSET(n)")?, 1);
+    let program = parse(rt.alloc(), b"UNSET(n)")?;
+    let n = first_name(&program)?;
+    let mut store = store_of(rt.alloc(), "n=5")?;
+    preset_stays(&rt, rt.alloc(), &mut store, n)
+}
+
+/// How a variable is set.
+#[derive(Clone, Copy)]
+enum Way {
+    /// To the number 4.
+    Number,
+    /// To the string x.
+    Text,
+    /// To what the assignment says.
+    Expression,
+}
+
+/// Sets the variable of an assignment.
+fn set(alloc: Global, store: &mut Store, a: &Assignment, way: Way) -> Result<(), Fail> {
+    match way {
+        Way::Number => set_number(alloc, &a.target, 4, store)?,
+        Way::Text => set_text(alloc, &a.target, b"x", store)?,
+        Way::Expression => set_expression(alloc, &a.target, &a.value, store)?,
+    }
     Ok(())
 }
 
-/// Sets the variable that a text assigns to, where b is 7, in three ways: to 4, to a string, and to what the text says.
-fn set_in(alloc: Global, store: &mut Store, text: &str, way: usize) -> Result<(), Fail> {
+/// Sets the variable that a text assigns to.
+fn set_in(alloc: Global, store: &mut Store, text: &str, way: Way) -> Result<(), Fail> {
     let program = parse(alloc, text.as_bytes())?;
-    let a = first_assignment(&program)?;
-    match way {
-        0 => set_number(alloc, &a.target, 4, store)?,
-        1 => set_text(alloc, &a.target, b"x", store)?,
-        _ => set_expression(alloc, &a.target, &a.value, store)?,
-    }
-    Ok(())
+    set(alloc, store, first_assignment(&program)?, way)
+}
+
+const SET_TO_NUMBERS: [Row; 3] = [
+    (b"a", &[], Some(4)),
+    (b"a", &[0], Some(4)),
+    (b"a", &[1, 1], Some(4)),
+];
+
+const SET_AGAIN: [Row; 4] = [
+    (b"a", &[], Some(4)),
+    (b"a", &[0], None),
+    (b"a", &[1], Some(9)),
+    (b"b", &[], Some(7)),
+];
+
+/// Sets variables in each way, in a store where b is pinned to 7.
+fn variables_are_set(rt: &impl Abort, alloc: Global, store: &mut Store) -> Result<(), Fail> {
+    set_in(alloc, store, "SET(a=b+2)", Way::Number)?;
+    set_in(alloc, store, "SET(a[0]=b+2)", Way::Number)?;
+    set_in(alloc, store, "SET(a[b-6,1]=b+2)", Way::Number)?;
+    judged(rt, alloc, store, &SET_TO_NUMBERS)?;
+    set_in(alloc, store, "SET(a[0]=b+2)", Way::Text)?;
+    set_in(alloc, store, "SET(a[1]=b+2)", Way::Expression)?;
+    set_in(alloc, store, "SET(b=0)", Way::Number)?;
+    judged(rt, alloc, store, &SET_AGAIN)
 }
 
 #[test]
 fn variables_are_set_at_their_indices(rt: HostRuntime) -> Result<(), Fail> {
-    let alloc = rt.alloc();
-    let mut store = store_of(alloc, "b=7")?;
-    for text in ["SET(a=b+2)", "SET(a[0]=b+2)", "SET(a[b-6,1]=b+2)"] {
-        set_in(alloc, &mut store, text, 0)?;
-    }
-    let set: [Row; 3] = [
-        (b"a", &[], Some(4)),
-        (b"a", &[0], Some(4)),
-        (b"a", &[1, 1], Some(4)),
-    ];
-    judged(&rt, alloc, &store, &set)?;
-    set_in(alloc, &mut store, "SET(a[0]=b+2)", 1)?;
-    set_in(alloc, &mut store, "SET(a[1]=b+2)", 2)?;
-    set_in(alloc, &mut store, "SET(b=0)", 0)?;
-    let again: [Row; 4] = [
-        (b"a", &[], Some(4)),
-        (b"a", &[0], None),
-        (b"a", &[1], Some(9)),
-        (b"b", &[], Some(7)),
-    ];
-    judged(&rt, alloc, &store, &again)
+    let mut store = store_of(rt.alloc(), "b=7")?;
+    variables_are_set(&rt, rt.alloc(), &mut store)
 }
 
-/// Whether these entries are one, at one number as its index and with this value.
-fn is_one_entry(entries: &[EntryRef<'_>], index: i128, value: &Value) -> bool {
-    match entries {
-        [entry] => entry.indices.as_slice() == [Value::Int(index)].as_slice()
-            && entry.value == value,
+/// Whether an entry has one number as its index.
+fn is_at(entry: &EntryRef<'_>, index: i128) -> bool {
+    match entry.indices.as_slice() {
+        [Value::Int(n)] => *n == index,
         _ => false,
     }
 }
 
-/// Whether the store has one entry of a name, at the index 1 and with a value, and none once the name is unset.
-fn is_there_until_unset(
+/// Whether these entries are one, at the index 1 and with a string of these bytes.
+fn is_one_text(entries: &[EntryRef<'_>], bytes: &[u8]) -> bool {
+    match entries {
+        [entry] => match entry.value {
+            Value::Text(text) => is_at(entry, 1) && text.as_slice() == bytes,
+            Value::Int(_) => false,
+        },
+        _ => false,
+    }
+}
+
+/// A copy of the string x.
+fn copied_x(alloc: Global) -> Result<Value, AllocError> {
+    Value::Text(Bytes::copy(alloc, b"x")?).copy(alloc)
+}
+
+/// Assigns the string x at the index 1 of the name a, whose one entry it then is, and unsets a, which then has none.
+fn entry_comes_and_goes(
+    rt: &impl Abort,
     alloc: Global,
     store: &mut Store,
     a: &Name,
-    x: &Value,
-) -> Result<bool, Fail> {
-    let is_there = is_one_entry(&store.entries(alloc, a)?, 1, x);
+) -> Result<(), Fail> {
+    store.assign(key(alloc, b"a", &[1])?, copied_x(alloc)?)?;
+    assert!(rt; is_one_text(&store.entries(alloc, a)?, b"x"));
     store.unset(a);
-    Ok(is_there && store.entries(alloc, a)?.is_empty())
+    assert!(rt; store.entries(alloc, a)?.is_empty());
+    judged(rt, alloc, store, &[(b"a", &[1], None)])
 }
 
 #[test]
 fn one_entry_and_none(rt: HostRuntime) -> Result<(), Fail> {
-    let alloc = rt.alloc();
-    let mut store = store_of(alloc, "")?;
-    let program = parse(alloc, b"UNSET(a)")?;
-    let x = Value::Text(Bytes::copy(alloc, b"x")?);
-    store.assign(key(alloc, b"a", &[1])?, x.copy(alloc)?)?;
-    assert!(rt; is_there_until_unset(alloc, &mut store, first_name(&program)?, &x)?);
-    judged(&rt, alloc, &store, &[(b"a", &[1], None)])
+    let program = parse(rt.alloc(), b"UNSET(a)")?;
+    let a = first_name(&program)?;
+    let mut store = store_of(rt.alloc(), "")?;
+    entry_comes_and_goes(&rt, rt.alloc(), &mut store, a)
 }
 
 /// How many of these entries have one number as their index.
 fn count_at(entries: &[EntryRef<'_>], index: i128) -> usize {
-    let sought = [Value::Int(index)];
-    entries
-        .iter()
-        .filter(|entry| entry.indices.as_slice() == sought.as_slice())
-        .count()
+    entries.iter().filter(|entry| is_at(entry, index)).count()
+}
+
+/// Assigns to the name a and to its indices from 1 to 3, to some of them more than once.
+fn assign_again(alloc: Global, store: &mut Store) -> Result<(), Fail> {
+    for index in &[3, 1, 2, 1, 3, 3] {
+        assign(alloc, store, b"a", &[*index], i128::from(*index))?;
+    }
+    assign(alloc, store, b"a", &[], 9)
+}
+
+/// These entries are four, of which one stands at each of 1, 2 and 3.
+fn entries_are_single(rt: &impl Abort, entries: &[EntryRef<'_>]) {
+    assert_eq!(rt; entries.len(), 4);
+    for index in [1, 2, 3] {
+        assert_eq!(rt; count_at(entries, index), 1, "at {index}");
+    }
 }
 
 /// A key that is assigned again, or pinned and assigned, is among the entries once.
 #[test]
 fn each_key_once(rt: HostRuntime) -> Result<(), Fail> {
-    let mut store = store_of(rt.alloc(), "a=1")?;
-    for index in [3, 1, 2, 1, 3, 3] {
-        assign(rt.alloc(), &mut store, b"a", &[index], i128::from(index))?;
-    }
-    assign(rt.alloc(), &mut store, b"a", &[], 9)?;
     let program = parse(rt.alloc(), b"UNSET(a)")?;
-    let entries = store.entries(rt.alloc(), first_name(&program)?)?;
-    assert_eq!(rt; entries.len(), 4);
-    for index in [1, 2, 3] {
-        assert_eq!(rt; count_at(&entries, index), 1, "at {index}");
+    let a = first_name(&program)?;
+    let mut store = store_of(rt.alloc(), "a=1")?;
+    assign_again(rt.alloc(), &mut store)?;
+    entries_are_single(&rt, &store.entries(rt.alloc(), a)?);
+    Ok(())
+}
+
+/// Assigns at some index lists of a and of ab.
+fn assign_to_two_names(alloc: Global, store: &mut Store) -> Result<(), Fail> {
+    let lists: [&[i8]; 4] = [&[], &[0], &[1, 2], &[-1]];
+    for indices in &lists {
+        assign(alloc, store, b"a", indices, 1)?;
+        assign(alloc, store, b"ab", indices, 2)?;
     }
     Ok(())
 }
 
+const ONE_NAME_IS_UNSET: [Row; 8] = [
+    (b"a", &[], None),
+    (b"ab", &[], Some(2)),
+    (b"a", &[0], None),
+    (b"ab", &[0], Some(2)),
+    (b"a", &[1, 2], None),
+    (b"ab", &[1, 2], Some(2)),
+    (b"a", &[-1], None),
+    (b"ab", &[-1], Some(2)),
+];
+
 /// What is unset goes at every index, and what has another name stays, also where that begins with this one.
 #[test]
 fn every_index_is_unset(rt: HostRuntime) -> Result<(), Fail> {
+    let program = parse(rt.alloc(), b"UNSET(a)")?;
+    let a = first_name(&program)?;
     let mut store = store_of(rt.alloc(), "")?;
-    let lists: [&[i8]; 4] = [&[], &[0], &[1, 2], &[-1]];
-    for indices in lists {
-        assign(rt.alloc(), &mut store, b"a", indices, 1)?;
-        assign(rt.alloc(), &mut store, b"ab", indices, 2)?;
-    }
-    unset(rt.alloc(), &mut store, "UNSET(a)")?;
-    for indices in lists {
-        judged(
-            &rt,
-            rt.alloc(),
-            &store,
-            &[(b"a", indices, None), (b"ab", indices, Some(2))],
-        )?;
-    }
-    Ok(())
+    assign_to_two_names(rt.alloc(), &mut store)?;
+    store.unset(a);
+    judged(&rt, rt.alloc(), &store, &ONE_NAME_IS_UNSET)
 }
 
 /// Assigns n at index n of a. Where that is refused, the store has to answer as before at every index so far; it is tried
@@ -233,36 +285,43 @@ fn is_kept(alloc: Global, store: &mut Store, n: i8) -> Result<bool, Fail> {
     Ok(number_at(alloc, store, b"a", &[n])? == Some(i128::from(n)))
 }
 
+/// Assigns at each index of a from 0 to 19.
+fn assignments_are_kept(rt: &impl Abort, alloc: Global, store: &mut Store) -> Result<(), Fail> {
+    for n in 0..20i8 {
+        assert!(rt; is_kept(alloc, store, n)?, "at {n}");
+    }
+    Ok(())
+}
+
 /// Under `rt try --test --fail-alloc N` an assignment is refused, and the store answers as before.
 #[test]
 fn refused_assignments(rt: HostRuntime) -> Result<(), Fail> {
     let mut store = store_of(rt.alloc(), "n=5")?;
-    for n in 0..20i8 {
-        assert!(rt; is_kept(rt.alloc(), &mut store, n)?, "at {n}");
-    }
-    assert_eq!(rt; number_at(rt.alloc(), &store, b"n", &[])?, Some(5));
-    Ok(())
+    assignments_are_kept(&rt, rt.alloc(), &mut store)?;
+    judged(&rt, rt.alloc(), &store, &[(b"n", &[], Some(5))])
 }
 
-/// Whether a key has a string of these bytes.
-fn is_text(store: &Store, key: &Key, bytes: &[u8]) -> bool {
-    match store.get(key) {
-        Some(Value::Text(text)) => text.as_slice() == bytes,
-        _ => false,
-    }
+/// Sets the string of a variable s, whose key is given, to a shorter one and to a longer one.
+fn texts_are_set(
+    rt: &impl Abort,
+    alloc: Global,
+    store: &mut Store,
+    s: &Var,
+    key: &Key,
+) -> Result<(), Fail> {
+    set_text(alloc, s, b"long", store)?;
+    set_text(alloc, s, b"ab", store)?;
+    assert!(rt; is_text(store, key, b"ab"));
+    set_text(alloc, s, b"longer than both", store)?;
+    assert!(rt; is_text(store, key, b"longer than both"));
+    Ok(())
 }
 
 #[test]
 fn texts_are_set_over_one_another(rt: HostRuntime) -> Result<(), Fail> {
-    let alloc = rt.alloc();
-    let mut store = store_of(alloc, "")?;
-    let program = parse(alloc, b"SET(s=1)")?;
+    let key = key(rt.alloc(), b"s", &[])?;
+    let program = parse(rt.alloc(), b"SET(s=1)")?;
     let s = &first_assignment(&program)?.target;
-    let key = key(alloc, b"s", &[])?;
-    set_text(alloc, s, b"long", &mut store)?;
-    set_text(alloc, s, b"ab", &mut store)?;
-    assert!(rt; is_text(&store, &key, b"ab"));
-    set_text(alloc, s, b"longer than both", &mut store)?;
-    assert!(rt; is_text(&store, &key, b"longer than both"));
-    Ok(())
+    let mut store = store_of(rt.alloc(), "")?;
+    texts_are_set(&rt, rt.alloc(), &mut store, s, &key)
 }

@@ -1,6 +1,8 @@
 //! UNIQUE over small and large arrays.
 
-use super::{Row, SHAPE, grown, judged};
+use super::{Answer, Row, SHAPE, answer_in, judged, store_of};
+use ctd_value::Store;
+use std::alloc::Global;
 use std::test::Fail;
 
 const DISTINCT: &str = r#"SET(a[0]=1,a[1]=1,a[2]=1,b[0]=2,b[1]=3,b[2]=4) ASSERT(UNIQUE(a,b))
@@ -57,13 +59,27 @@ fn arrays_with_a_preset(rt: HostRuntime) -> Result<(), Fail> {
     judged(&rt, rt.alloc(), &ARRAYS_WITH_A_PRESET)
 }
 
+/// What a program answers where a[0], a[1] and so on up to 50000 are their own indices, and i is that number.
+fn answer_when_grown(alloc: Global, store: &mut Store, text: &str) -> Result<Answer, Fail> {
+    let begun = answer_in(alloc, store, "SET(i=0)", 1)?;
+    let grown = answer_in(alloc, store, "SET(a[i]=i,i=i+1)", 50000)?;
+    if begun != Ok(true) || grown != Ok(true) {
+        return Err(Fail::new("the array does not grow"));
+    }
+    answer_in(alloc, store, text, 1)
+}
+
+/// The same in a store of its own.
+fn answer_of_large_array(alloc: Global, text: &str) -> Result<Answer, Fail> {
+    let mut store = store_of(alloc, "")?;
+    answer_when_grown(alloc, &mut store, text)
+}
+
 #[test]
 fn a_large_array(rt: HostRuntime) -> Result<(), Fail> {
-    let distinct = "ASSERT(i==50000 && UNIQUE(a))";
-    let found = grown(rt.alloc(), 50000, distinct)?;
+    let found = answer_of_large_array(rt.alloc(), "ASSERT(i==50000 && UNIQUE(a))")?;
     assert_eq!(rt; found, Ok(true));
-    let repeated = "SET(a[7]=8) ASSERT(UNIQUE(a))";
-    let found = grown(rt.alloc(), 50000, repeated)?;
+    let found = answer_of_large_array(rt.alloc(), "SET(a[7]=8) ASSERT(UNIQUE(a))")?;
     assert_eq!(rt; found, Ok(false));
     Ok(())
 }
