@@ -1,5 +1,6 @@
 //! Worked rows on values, the store, expressions and tests, with answers worked out by hand from the language.
 
+mod at_hand;
 mod conditions;
 mod expressions;
 mod memory;

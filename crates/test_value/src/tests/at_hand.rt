@@ -1,0 +1,109 @@
+//! What is at hand: answers that take no memory, no look at the data and no number of more than 64 bits.
+
+use super::store_of;
+use ctd_syntax::{Action, Assignment, Command, Program, Test, parse};
+use ctd_value::{set_expression, small_number, truth_at_hand};
+use std::alloc::Global;
+use std::test::Fail;
+
+/// What is assigned before each test: a number, a string, a row that rises, one that does not, one with a string in it, and a number
+/// whose name is long.
+const FILLING: &str = "SET(n=3,s=\"x\",a[0]=1,a[1]=2,b[0]=2,b[1]=2,c[0]=\"2\",c[1]=1,longnames=4)";
+
+/// The assignments of a program that begins with SET, and the test behind them.
+fn assignments_and_test(program: &Program) -> Result<(&[Assignment], &Test), Fail> {
+    if let [first, second] = program.commands() {
+        if let (Action::Set(assignments), Action::Assert(t)) = (&first.action, &second.action) {
+            return Ok((assignments.as_slice(), t));
+        }
+    }
+    Err(Fail::new("no test"))
+}
+
+/// The answer at hand to a test, once the variables have their values.
+fn truth_in(alloc: Global, test: &str) -> Result<Option<bool>, Fail> {
+    let text = format!(in alloc; "{FILLING} ASSERT({test})")?;
+    let program = parse(alloc, text.as_bytes())?;
+    let (assignments, t) = assignments_and_test(&program)?;
+    let mut store = store_of(alloc, "")?;
+    for a in assignments {
+        set_expression(alloc, &a.target, &a.value, &mut store)?;
+    }
+    Ok(truth_at_hand(t, &store))
+}
+
+/// Tests, and the answer at hand to each.
+const TRUTHS: [(&str, Option<bool>); 22] = [
+    ("n==3", Some(true)),
+    ("longnames!=4", Some(false)),
+    ("a[n-2]>a[0]&&!(n<0)", Some(true)),
+    ("1==2||a[1]<=1", Some(false)),
+    ("s==\"x\"", Some(true)),
+    ("s!=\"x\"", Some(false)),
+    ("\"x\"!=\"y\"", Some(true)),
+    ("\"\"<s", Some(true)),
+    ("s<=\"wz\"", Some(false)),
+    ("UNIQUE(a)", Some(true)),
+    ("UNIQUE(b)", None),
+    ("UNIQUE(a,b)", None),
+    ("INARRAY(2,a)", Some(true)),
+    ("INARRAY(3,a)||INARRAY(2,c)", Some(false)),
+    ("INARRAY(1,c)", Some(true)),
+    ("INARRAY(\"2\",c)", None),
+    ("n==s", None),
+    ("none==1", None),
+    ("9223372036854775808>0", None),
+    ("MATCH(\"a\")", None),
+    ("!ISEOF", None),
+    ("1==1||ISEOF", Some(true)),
+];
+
+#[test]
+fn truths_at_hand(rt: HostRuntime) -> Result<(), Fail> {
+    for (test, wanted) in &TRUTHS {
+        let found = truth_in(rt.alloc(), test)?;
+        assert_eq!(rt; found, *wanted, "at {test:?}");
+    }
+    Ok(())
+}
+
+/// The number of an expression, where it has 64 bits; the number of n is 3.
+fn number_in(alloc: Global, expression: &str) -> Result<Option<i64>, Fail> {
+    let text = format!(in alloc; "SET(n=3,x={expression})")?;
+    let program = parse(alloc, text.as_bytes())?;
+    let mut store = store_of(alloc, "")?;
+    if let [
+        Command {
+            action: Action::Set(assignments),
+            ..
+        },
+    ] = program.commands()
+    {
+        if let [n, x] = assignments.as_slice() {
+            set_expression(alloc, &n.target, &n.value, &mut store)?;
+            return Ok(small_number(&x.value, &store));
+        }
+    }
+    Err(Fail::new("no assignments"))
+}
+
+/// Expressions, and the number of each, where it has 64 bits.
+const NUMBERS: [(&str, Option<i64>); 8] = [
+    ("7", Some(7)),
+    ("-1000000", Some(-1_000_000)),
+    ("9223372036854775807", Some(i64::MAX)),
+    ("9223372036854775808", None),
+    ("-9223372036854775807-1", Some(i64::MIN)),
+    ("n*n-2", Some(7)),
+    ("\"7\"", None),
+    ("n/0", None),
+];
+
+#[test]
+fn numbers_of_64_bits(rt: HostRuntime) -> Result<(), Fail> {
+    for (expression, wanted) in &NUMBERS {
+        let found = number_in(rt.alloc(), expression)?;
+        assert_eq!(rt; found, *wanted, "at {expression:?}");
+    }
+    Ok(())
+}
