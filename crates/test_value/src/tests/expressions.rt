@@ -174,8 +174,8 @@ fn number_in(alloc: Global, store: &Store, text: &str) -> Result<Result<i128, Ev
     Ok(value_told(number_of(alloc, &a.value, store))?)
 }
 
-/// Whether the expressions have their numbers.
-fn numbers_are_judged(rt: &impl Abort, alloc: Global, store: &Store) -> Result<(), Fail> {
+/// Judges the number of each expression.
+fn judge_numbers(rt: &impl Abort, alloc: Global, store: &Store) -> Result<(), Fail> {
     for (text, wanted) in &NUMBERS {
         let found = number_in(alloc, store, text)?;
         assert_eq!(rt; found, *wanted, "at {text:?}");
@@ -186,7 +186,7 @@ fn numbers_are_judged(rt: &impl Abort, alloc: Global, store: &Store) -> Result<(
 #[test]
 fn numbers_of_expressions(rt: HostRuntime) -> Result<(), Fail> {
     let store = store_of(rt.alloc(), "s=\"a,b\"")?;
-    numbers_are_judged(&rt, rt.alloc(), &store)
+    judge_numbers(&rt, rt.alloc(), &store)
 }
 
 /// Expressions that have to be strings, with their bytes, where s is a,b.
@@ -209,8 +209,8 @@ fn has_text(
     Ok(value_told(text_of(alloc, &a.value, store))? == wanted)
 }
 
-/// Whether the expressions have their strings.
-fn texts_are_judged(rt: &impl Abort, alloc: Global, store: &Store) -> Result<(), Fail> {
+/// Judges the string of each expression.
+fn judge_texts(rt: &impl Abort, alloc: Global, store: &Store) -> Result<(), Fail> {
     for (text, wanted) in &TEXTS {
         assert!(rt; has_text(alloc, store, text, *wanted)?, "at {text:?}");
     }
@@ -220,7 +220,7 @@ fn texts_are_judged(rt: &impl Abort, alloc: Global, store: &Store) -> Result<(),
 #[test]
 fn texts_where_they_stand(rt: HostRuntime) -> Result<(), Fail> {
     let store = store_of(rt.alloc(), "s=\"a,b\"")?;
-    texts_are_judged(&rt, rt.alloc(), &store)
+    judge_texts(&rt, rt.alloc(), &store)
 }
 
 /// How often a loop of each assigned expression would run.
@@ -243,8 +243,8 @@ fn count_in(alloc: Global, store: &Store, text: &str) -> Result<Result<u64, Eval
     Ok(value_told(count_of(alloc, &a.value, store))?)
 }
 
-/// Whether the expressions have their counts.
-fn counts_are_judged(rt: &impl Abort, alloc: Global, store: &Store) -> Result<(), Fail> {
+/// Judges the count of each expression.
+fn judge_counts(rt: &impl Abort, alloc: Global, store: &Store) -> Result<(), Fail> {
     for (text, wanted) in &COUNTS {
         let found = count_in(alloc, store, text)?;
         assert_eq!(rt; found, *wanted, "at {text:?}");
@@ -255,7 +255,7 @@ fn counts_are_judged(rt: &impl Abort, alloc: Global, store: &Store) -> Result<()
 #[test]
 fn counts_of_loops(rt: HostRuntime) -> Result<(), Fail> {
     let store = store_of(rt.alloc(), "")?;
-    counts_are_judged(&rt, rt.alloc(), &store)
+    judge_counts(&rt, rt.alloc(), &store)
 }
 
 /// The key of the variable that a text assigns to.
@@ -280,8 +280,8 @@ fn has_indices(alloc: Global, store: &Store, text: &str, wanted: &[i8]) -> Resul
     Ok(key.name() == b"a".as_slice() && key.indices() == wanted.as_slice())
 }
 
-/// Whether the variables have their keys.
-fn keys_are_judged(rt: &impl Abort, alloc: Global, store: &Store) -> Result<(), Fail> {
+/// Judges the key of each variable.
+fn judge_keys(rt: &impl Abort, alloc: Global, store: &Store) -> Result<(), Fail> {
     for (text, wanted) in &INDICES {
         assert!(rt; has_indices(alloc, store, text, wanted)?, "at {text:?}");
     }
@@ -291,7 +291,7 @@ fn keys_are_judged(rt: &impl Abort, alloc: Global, store: &Store) -> Result<(), 
 #[test]
 fn keys_of_variables(rt: HostRuntime) -> Result<(), Fail> {
     let store = store_of(rt.alloc(), "b=7")?;
-    keys_are_judged(&rt, rt.alloc(), &store)
+    judge_keys(&rt, rt.alloc(), &store)
 }
 
 /// Targets that have no key, since an index has no value.
@@ -301,8 +301,8 @@ const NO_KEYS: [(&str, EvalFault); 3] = [
     ("SET(a[-\"k\"]=0)", EvalFault::WrongType),
 ];
 
-/// Whether the variables have no key, each for its fault.
-fn faults_are_judged(rt: &impl Abort, alloc: Global, store: &Store) -> Result<(), Fail> {
+/// Judges the fault for which each variable has no key.
+fn judge_faults(rt: &impl Abort, alloc: Global, store: &Store) -> Result<(), Fail> {
     for (text, wanted) in &NO_KEYS {
         let found = key_in(alloc, store, text)?.err();
         assert_eq!(rt; found, Some(*wanted), "at {text:?}");
@@ -313,7 +313,7 @@ fn faults_are_judged(rt: &impl Abort, alloc: Global, store: &Store) -> Result<()
 #[test]
 fn indices_without_a_value(rt: HostRuntime) -> Result<(), Fail> {
     let store = store_of(rt.alloc(), "b=7")?;
-    faults_are_judged(&rt, rt.alloc(), &store)
+    judge_faults(&rt, rt.alloc(), &store)
 }
 
 /// Whether indices are a string of these bytes and a number.

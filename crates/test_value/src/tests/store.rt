@@ -1,4 +1,5 @@
-//! Calls of the store. What a test does with a store that it owns is a function of its own: no way out of that has to drop it.
+//! Calls of the store. A test makes a store and lends it to a function that judges it. So a `?` of that function drops no
+//! store, which is proved in a fraction of the time.
 
 use super::{first_assignment, first_name, key, store_of};
 use ctd_syntax::{Assignment, Bytes, Name, Var, parse};
@@ -78,8 +79,8 @@ const PINNED_AND_ASSIGNED: [Row; 2] = [(b"n", &[], Some(5)), (b"n", &[1], Some(6
 
 const PINNED_ALONE: [Row; 2] = [(b"n", &[], Some(5)), (b"n", &[1], None)];
 
-/// Assigns to a preset n and beside it, and unsets n, in a store where n is pinned to 5.
-fn preset_stays(rt: &impl Abort, alloc: Global, store: &mut Store, n: &Name) -> Result<(), Fail> {
+/// Assigns to n and beside it, and unsets n, in a store where n is pinned to 5; judges what is there after each of the two.
+fn judge_preset(rt: &impl Abort, alloc: Global, store: &mut Store, n: &Name) -> Result<(), Fail> {
     assign(alloc, store, b"n", &[], 9)?;
     assign(alloc, store, b"n", &[1], 6)?;
     judged(rt, alloc, store, &PINNED_AND_ASSIGNED)?;
@@ -95,7 +96,7 @@ fn a_preset_stays(rt: HostRuntime) -> Result<(), Fail> {
     let program = parse(rt.alloc(), b"UNSET(n)")?;
     let n = first_name(&program)?;
     let mut store = store_of(rt.alloc(), "n=5")?;
-    preset_stays(&rt, rt.alloc(), &mut store, n)
+    judge_preset(&rt, rt.alloc(), &mut store, n)
 }
 
 /// How a variable is set.
@@ -138,8 +139,8 @@ const SET_AGAIN: [Row; 4] = [
     (b"b", &[], Some(7)),
 ];
 
-/// Sets variables in each way, in a store where b is pinned to 7.
-fn variables_are_set(rt: &impl Abort, alloc: Global, store: &mut Store) -> Result<(), Fail> {
+/// Sets variables in each way, in a store where b is pinned to 7, and judges what is there then.
+fn judge_variables(rt: &impl Abort, alloc: Global, store: &mut Store) -> Result<(), Fail> {
     set_in(alloc, store, "SET(a=b+2)", Way::Number)?;
     set_in(alloc, store, "SET(a[0]=b+2)", Way::Number)?;
     set_in(alloc, store, "SET(a[b-6,1]=b+2)", Way::Number)?;
@@ -153,7 +154,7 @@ fn variables_are_set(rt: &impl Abort, alloc: Global, store: &mut Store) -> Resul
 #[test]
 fn variables_are_set_at_their_indices(rt: HostRuntime) -> Result<(), Fail> {
     let mut store = store_of(rt.alloc(), "b=7")?;
-    variables_are_set(&rt, rt.alloc(), &mut store)
+    judge_variables(&rt, rt.alloc(), &mut store)
 }
 
 /// Whether an entry has one number as its index.
@@ -176,18 +177,13 @@ fn is_one_text(entries: &[EntryRef<'_>], bytes: &[u8]) -> bool {
 }
 
 /// A copy of the string x.
-fn copied_x(alloc: Global) -> Result<Value, AllocError> {
+fn copy_of_x(alloc: Global) -> Result<Value, AllocError> {
     Value::Text(Bytes::copy(alloc, b"x")?).copy(alloc)
 }
 
 /// Assigns the string x at the index 1 of the name a, whose one entry it then is, and unsets a, which then has none.
-fn entry_comes_and_goes(
-    rt: &impl Abort,
-    alloc: Global,
-    store: &mut Store,
-    a: &Name,
-) -> Result<(), Fail> {
-    store.assign(key(alloc, b"a", &[1])?, copied_x(alloc)?)?;
+fn judge_entry(rt: &impl Abort, alloc: Global, store: &mut Store, a: &Name) -> Result<(), Fail> {
+    store.assign(key(alloc, b"a", &[1])?, copy_of_x(alloc)?)?;
     assert!(rt; is_one_text(&store.entries(alloc, a)?, b"x"));
     store.unset(a);
     assert!(rt; store.entries(alloc, a)?.is_empty());
@@ -199,7 +195,7 @@ fn one_entry_and_none(rt: HostRuntime) -> Result<(), Fail> {
     let program = parse(rt.alloc(), b"UNSET(a)")?;
     let a = first_name(&program)?;
     let mut store = store_of(rt.alloc(), "")?;
-    entry_comes_and_goes(&rt, rt.alloc(), &mut store, a)
+    judge_entry(&rt, rt.alloc(), &mut store, a)
 }
 
 /// How many of these entries have one number as their index.
@@ -215,8 +211,8 @@ fn assign_again(alloc: Global, store: &mut Store) -> Result<(), Fail> {
     assign(alloc, store, b"a", &[], 9)
 }
 
-/// These entries are four, of which one stands at each of 1, 2 and 3.
-fn entries_are_single(rt: &impl Abort, entries: &[EntryRef<'_>]) {
+/// Judges that these entries are four, of which one stands at each of 1, 2 and 3.
+fn judge_entries(rt: &impl Abort, entries: &[EntryRef<'_>]) {
     assert_eq!(rt; entries.len(), 4);
     for index in [1, 2, 3] {
         assert_eq!(rt; count_at(entries, index), 1, "at {index}");
@@ -230,7 +226,7 @@ fn each_key_once(rt: HostRuntime) -> Result<(), Fail> {
     let a = first_name(&program)?;
     let mut store = store_of(rt.alloc(), "a=1")?;
     assign_again(rt.alloc(), &mut store)?;
-    entries_are_single(&rt, &store.entries(rt.alloc(), a)?);
+    judge_entries(&rt, &store.entries(rt.alloc(), a)?);
     Ok(())
 }
 
@@ -285,8 +281,8 @@ fn is_kept(alloc: Global, store: &mut Store, n: i8) -> Result<bool, Fail> {
     Ok(number_at(alloc, store, b"a", &[n])? == Some(i128::from(n)))
 }
 
-/// Assigns at each index of a from 0 to 19.
-fn assignments_are_kept(rt: &impl Abort, alloc: Global, store: &mut Store) -> Result<(), Fail> {
+/// Assigns at each index of a from 0 to 19, and judges each time that all is kept.
+fn judge_assignments(rt: &impl Abort, alloc: Global, store: &mut Store) -> Result<(), Fail> {
     for n in 0..20i8 {
         assert!(rt; is_kept(alloc, store, n)?, "at {n}");
     }
@@ -297,12 +293,12 @@ fn assignments_are_kept(rt: &impl Abort, alloc: Global, store: &mut Store) -> Re
 #[test]
 fn refused_assignments(rt: HostRuntime) -> Result<(), Fail> {
     let mut store = store_of(rt.alloc(), "n=5")?;
-    assignments_are_kept(&rt, rt.alloc(), &mut store)?;
+    judge_assignments(&rt, rt.alloc(), &mut store)?;
     judged(&rt, rt.alloc(), &store, &[(b"n", &[], Some(5))])
 }
 
-/// Sets the string of a variable s, whose key is given, to a shorter one and to a longer one.
-fn texts_are_set(
+/// Sets the string of a variable, whose key is given, to a shorter one and to a longer one, and judges each.
+fn judge_texts(
     rt: &impl Abort,
     alloc: Global,
     store: &mut Store,
@@ -323,5 +319,5 @@ fn texts_are_set_over_one_another(rt: HostRuntime) -> Result<(), Fail> {
     let program = parse(rt.alloc(), b"SET(s=1)")?;
     let s = &first_assignment(&program)?.target;
     let mut store = store_of(rt.alloc(), "")?;
-    texts_are_set(&rt, rt.alloc(), &mut store, s, &key)
+    judge_texts(&rt, rt.alloc(), &mut store, s, &key)
 }
