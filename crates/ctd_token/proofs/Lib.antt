@@ -7,3 +7,4 @@ pub mod Decided
 pub mod LiteralEnds
 pub mod Longest
 pub mod ShortNames
+pub mod Places

@@ -1,6 +1,6 @@
 //! From the text of a program to its tokens.
 
-ghost use Rattle.std.specs.Prelude.{ℕ, List, ◌≡◌, ◌≤◌, ◌<◌, ◌-◌, ◌+◌, ◌^◌, length, None, IfOk, IfErr, OnOk, IsErrAnd};
+ghost use Rattle.std.specs.Prelude.{ℕ, List, ◌≡◌, ◌≤◌, ◌<◌, ◌-◌, ◌+◌, ◌^◌, length, count_by, nat_eq, None, IfOk, IfErr, OnOk, IsErrAnd};
 ghost use Rattle.ctd_token.specs.Cut.{Cuts, Faults, place_at};
 ghost use Rattle.ctd_token.specs.Lexing.{IsLexFault};
 ghost use Rattle.ctd_token.specs.Scanning.{FaultWithin, IsPlaced};
@@ -12,6 +12,7 @@ use crate::limits::PROGRAM_LIMIT;
 use crate::scan::{gap_len, token_at};
 use crate::text::Place;
 use crate::token::{Token, TokenKind};
+use memchr::memrchr;
 use std::alloc::Global;
 
 /// The place of a later offset of a program's text, from the place of an earlier one. Offset 0 has line 1 and column 1,
@@ -23,17 +24,25 @@ pub fn advance(place: Place, text: &[u8], at: usize, to: usize) -> Place
     requires within { to ≤ length text.now }
     ensures there { result ≡ place_at text.now to }
 {
-    let mut line = place.line;
-    let mut column = place.column;
-    for i in at..to {
-        if text[i] == b'\n' {
-            line += 1;
-            column = 1;
-        } else {
-            column += 1;
-        }
+    let passed = &text[at..to];
+    match memrchr(b'\n', passed) {
+        None => Place {
+            line: place.line,
+            column: place.column + passed.len() as u32,
+        },
+        Some(last) => Place {
+            line: place.line + line_feeds(passed) as u32,
+            column: (passed.len() - last) as u32,
+        },
     }
-    Place { line, column }
+}
+
+// How many line feeds some bytes have.
+fn line_feeds(bytes: &[u8]) -> usize
+    ensures count { result ≡ count_by (λ b. nat_eq b 10) bytes.now }
+    ensures within { result ≤ length bytes.now }
+{
+    bytes.iter().filter(|b| **b == b'\n').count()
 }
 
 // The token of so many bytes at an offset, which has this place.

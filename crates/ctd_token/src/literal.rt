@@ -9,6 +9,7 @@ ghost use Rattle.ctd_token.specs.Scanning.{Scans, FaultWithin};
 use crate::fault::{LoadKind, TokenFault};
 use crate::text::Bytes;
 use crate::token::TokenKind;
+use memchr::memchr2;
 use std::alloc::Global;
 
 /// The next bytes of a literal: what they stand for, if anything, and how many they are.
@@ -35,10 +36,7 @@ fn plain_len(bytes: &[u8]) -> usize
     ensures value { result ≡ prefix_len is_plain bytes.now }
     ensures within { result ≤ length bytes.now }
 {
-    bytes
-        .iter()
-        .take_while(|b| **b != b'"' && **b != b'\\')
-        .count()
+    memchr2(b'"', b'\\', bytes).unwrap_or(bytes.len())
 }
 
 // A backslash and up to three octal digits.

@@ -68,6 +68,17 @@ fn set_any_number(alloc: Global, v: &Var, n: i128, store: &mut Store) -> Result<
     if set_in_row(v, n, store) {
         return Ok(());
     }
+    set_number_anywhere(alloc, v, n, store)
+}
+
+/// The same, by a list of indices.
+#[inline(never)]
+fn set_number_anywhere(alloc: Global, v: &Var, n: i128, store: &mut Store) -> Result<(), EvalFault>
+    ensures value { Gives (map_ok (λ _. store.new) result) (with_variable (var_tree v.now) (values.Int n) store.old) }
+    ensures err { OnErr result (store.new ≡ store.old) }
+    ensures no_count { result ≢ Err EvalFault.Count }
+    ensures no_shape { result ≢ Err EvalFault.Shape }
+{
     set_variable(alloc, v, Value::Int(n), store)
 }
 

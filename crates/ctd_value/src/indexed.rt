@@ -128,8 +128,8 @@ impl Indexed {
         ensures stays { result ≡ false → self.new ≡ self.old }
     {
         match number.checked_sub(self.base) {
-            Some(at) if at <= self.dense.len() => write(&mut self.dense, at, value).is_ok(),
-            _ => false,
+            Some(at) => write_in_room(&mut self.dense, at, value),
+            None => false,
         }
     }
 
@@ -249,6 +249,24 @@ fn write(values: &mut Vec<Value>, at: usize, value: Value) -> Result<(), AllocEr
         values.push_reserved(value);
     }
     Ok(())
+}
+
+/// The same, where there is room for it, and tells whether it did; else all is as it was.
+#[inline(always)]
+fn write_in_room(values: &mut Vec<Value>, at: usize, value: Value) -> bool
+    ensures within { result ≡ true → at ≤ length values.old.items }
+    ensures done { result ≡ true → values.new.items ≡ take at values.old.items ++ value ∷ drop (suc at) values.old.items }
+    ensures stays { result ≡ false → values.new.items ≡ values.old.items }
+{
+    if at < values.len() {
+        drop(replace(&mut values[at], value));
+        return true;
+    }
+    if at > values.len() || at >= values.capacity() {
+        return false;
+    }
+    values.push_reserved(value);
+    true
 }
 
 /// Makes room for one more value; the values stay. A function of its own, so that a list with room pays nothing for it.

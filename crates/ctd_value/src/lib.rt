@@ -19,7 +19,7 @@ mod variables;
 
 pub use assign::{set_expression, set_number, set_text};
 pub use condition::{holds, truth_at_hand};
-pub use expression::{count_of, eval, locate, number_of, small_number, text_of};
+pub use expression::{count_of, eval, locate, number_at_hand, number_of, text_of};
 pub use fault::{EvalFault, TestFault};
 pub use laws::{
     assignment_sets_one_key, presets_give_first_values, unset_clears_one_name,

@@ -2,7 +2,7 @@
 
 use super::store_of;
 use ctd_syntax::{Action, Assignment, Command, Program, Test, parse};
-use ctd_value::{set_expression, small_number, truth_at_hand};
+use ctd_value::{number_at_hand, set_expression, truth_at_hand};
 use std::alloc::Global;
 use std::test::Fail;
 
@@ -67,8 +67,8 @@ fn truths_at_hand(rt: HostRuntime) -> Result<(), Fail> {
     Ok(())
 }
 
-/// The number of an expression, where it has 64 bits; the number of n is 3.
-fn number_in(alloc: Global, expression: &str) -> Result<Option<i64>, Fail> {
+/// The number of an expression, where it is at hand; the number of n is 3.
+fn number_in(alloc: Global, expression: &str) -> Result<Option<i128>, Fail> {
     let text = format!(in alloc; "SET(n=3,x={expression})")?;
     let program = parse(alloc, text.as_bytes())?;
     let mut store = store_of(alloc, "")?;
@@ -81,26 +81,27 @@ fn number_in(alloc: Global, expression: &str) -> Result<Option<i64>, Fail> {
     {
         if let [n, x] = assignments.as_slice() {
             set_expression(alloc, &n.target, &n.value, &mut store)?;
-            return Ok(small_number(&x.value, &store));
+            return Ok(number_at_hand(&x.value, &store));
         }
     }
     Err(Fail::new("no assignments"))
 }
 
-/// Expressions, and the number of each, where it has 64 bits.
-const NUMBERS: [(&str, Option<i64>); 8] = [
+/// Expressions, and the number of each, where it is a literal or all numbers on the way to it have 64 bits.
+const NUMBERS: [(&str, Option<i128>); 9] = [
     ("7", Some(7)),
     ("-1000000", Some(-1_000_000)),
-    ("9223372036854775807", Some(i64::MAX)),
-    ("9223372036854775808", None),
-    ("-9223372036854775807-1", Some(i64::MIN)),
+    ("9223372036854775808", Some(9_223_372_036_854_775_808)),
+    ("9223372036854775807+1", None),
+    ("-9223372036854775807-1", Some(-9_223_372_036_854_775_808)),
+    ("-9223372036854775807-2", None),
     ("n*n-2", Some(7)),
     ("\"7\"", None),
     ("n/0", None),
 ];
 
 #[test]
-fn numbers_of_64_bits(rt: HostRuntime) -> Result<(), Fail> {
+fn numbers_at_hand(rt: HostRuntime) -> Result<(), Fail> {
     for (expression, wanted) in &NUMBERS {
         let found = number_in(rt.alloc(), expression)?;
         assert_eq!(rt; found, *wanted, "at {expression:?}");
