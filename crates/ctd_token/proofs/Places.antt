@@ -74,11 +74,11 @@ place_in_line text at to place here later within none =
     let long = length_between text at to later within in
     let sum : at + (to - at) ≡ to = omega arith in
     let moved = in_line text at (to - at) (omega arith) (λ j lt.
-        ap is_feed (sym (byte_between text at to j lt)) ∙ other (is_feed (get_or (between text at to) j 0)) (none j (omega arith) (omega (arith, long)))) in
+    ap is_feed (sym (byte_between text at to j lt)) ∙ other (is_feed (get_or (between text at to) j 0)) (none j (omega arith) (omega (arith, long)))) in
     let column : place.column + length (between text at to) ≡ (place_at text to).column =
-        omega (arith, ap (λ p. p.column) here, long, column_since text at, column_since text to, moved, ap (since text) sum) in
+    omega (arith, ap (λ p. p.column) here, long, column_since text at, column_since text to, moved, ap (since text) sum) in
     let line : place.line ≡ (place_at text to).line =
-        omega (arith, ap (λ p. p.line) here, feeds_between text at to later, none_counted (between text at to) none) in
+    omega (arith, ap (λ p. p.line) here, feeds_between text at to later, none_counted (between text at to) none) in
     λ i. record { line = line i; column = column i }
 
 -- where the last line feed between the two offsets is `last` bytes behind the first
@@ -94,14 +94,14 @@ place_behind_feed text at to last lines place here later within none is counted 
     let sum : at + last + 1 + n ≡ to = omega arith in
     let begun = behind_feed text (at + last) (omega arith) (ap is_feed (sym (byte_between text at to last inside)) ∙ is) in
     let moved = in_line text (at + last + 1) n (omega arith) (λ j lt.
-        let index : at + (last + 1 + j) ≡ at + last + 1 + j = omega arith in
-        ap (λ k. is_feed (get_or text k 0)) (sym index)
-        ∙ ap is_feed (sym (byte_between text at to (last + 1 + j) (omega arith)))
-        ∙ other (is_feed (get_or (between text at to) (last + 1 + j) 0)) (none.after (last + 1 + j) (omega arith) (omega (arith, long)))) in
+    let index : at + (last + 1 + j) ≡ at + last + 1 + j = omega arith in
+    ap (λ k. is_feed (get_or text k 0)) (sym index)
+    ∙ ap is_feed (sym (byte_between text at to (last + 1 + j) (omega arith)))
+    ∙ other (is_feed (get_or (between text at to) (last + 1 + j) 0)) (none.after (last + 1 + j) (omega arith) (omega (arith, long)))) in
     let column : length (between text at to) - last ≡ (place_at text to).column =
-        omega (arith, long, inside, column_since text to, moved, begun, ap (since text) sum) in
+    omega (arith, long, inside, column_since text to, moved, begun, ap (since text) sum) in
     let line : place.line + lines ≡ (place_at text to).line =
-        omega (arith, ap (λ p. p.line) here, counted, feeds_between text at to later) in
+    omega (arith, ap (λ p. p.line) here, counted, feeds_between text at to later) in
     λ i. record { line = line i; column = column i }
 
 plain_byte : (b : ℕ) → ¬ (is_byte2 34 92 b ≡ true) → is_plain b ≡ true
