@@ -1,5 +1,5 @@
 //! Commands: what each of them does, and the frame that it leaves to be done.
-ghost use Rattle.std.specs.Prelude.{◌≡◌, ◌<◌, [], ℕ, List, None, Some, true, false};
+ghost use Rattle.std.specs.Prelude.{◌≡◌, ◌<◌, [], ℕ, List, None, Some, IfSome, IfNone};
 ghost use Rattle.ctd_syntax.specs.Tree.{blocks};
 ghost use Rattle.ctd_syntax.specs.View.{command_tree, test_tree, assignments_of, assignment};
 ghost use Rattle.ctd_syntax.specs.Numbering.{command_literals};
@@ -18,62 +18,39 @@ use ctd_pattern::Matcher;
 use ctd_source::Source;
 use ctd_syntax::{Action, Command, Test};
 
-/// Whether commands stand in a command.
-#[inline(always)]
-pub(crate) fn is_block(command: &Command) -> bool
-    ensures some { result ≡ true → 0 < blocks (command_tree command.now) }
-    ensures none { result ≡ false → blocks (command_tree command.now) ≡ 0 }
-{
-    match &command.action {
-        Action::If(_, _, _) => true,
-        Action::Rep(_, _, _) => true,
-        Action::RepI(_, _, _, _) => true,
-        Action::While(_, _, _) => true,
-        Action::WhileI(_, _, _, _) => true,
-        Action::Space => false,
-        Action::Newline => false,
-        Action::Eof => false,
-        Action::Int(_, _, _) => false,
-        Action::String(_) => false,
-        Action::Regex(_, _) => false,
-        Action::Assert(_) => false,
-        Action::Set(_) => false,
-        Action::Unset(_) => false,
-    }
-}
-
 impl<'d, D: Source> Run<'d, D> {
-    /// Does a command whose step is paid and in which no commands stand.
+    /// Does a command whose step is paid, unless commands stand in it: then it answers none, and all is as it was.
     #[inline(always)]
     pub(crate) fn act(
         &mut self,
         command: &Command,
         matchers: &mut [Matcher<'_>],
-    ) -> Result<(), CommandFailure>
+    ) -> Option<Result<(), CommandFailure>>
         requires sound { IsSound self.old }
-        requires plain { blocks (command_tree command.now) ≡ 0 }
         requires known { AreAmong matchers.old (command_literals (command_tree command.now)) }
-        ensures performs { Performs self.old self.new (answering (λ _. []) result) (act_of (command_tree command.now)) }
+        ensures performs { IfSome result (λ done. Performs self.old self.new (answering (λ _. []) done) (act_of (command_tree command.now))) }
+        ensures block { IfNone result (0 < blocks (command_tree command.now)) }
+        ensures stays { IfNone result (self.new ≡ self.old) }
         ensures kept { matchers.new ≡ matchers.old }
     {
         match &command.action {
-            Action::Space => self.space(),
-            Action::Newline => self.newline(),
-            Action::Eof => self.end(),
-            Action::Int(low, high, var) => self.int(low, high, var),
-            Action::String(e) => self.string(e),
-            Action::Regex(literal, var) => self.regex(literal, var, matchers),
-            Action::Assert(t) => self.assert(t),
-            Action::Set(assignments) => self.set(assignments.as_slice()),
+            Action::Space => Some(self.space()),
+            Action::Newline => Some(self.newline()),
+            Action::Eof => Some(self.end()),
+            Action::Int(low, high, var) => Some(self.int(low, high, var)),
+            Action::String(e) => Some(self.string(e)),
+            Action::Regex(literal, var) => Some(self.regex(literal, var, matchers)),
+            Action::Assert(t) => Some(self.assert(t)),
+            Action::Set(assignments) => Some(self.set(assignments.as_slice())),
             Action::Unset(names) => {
                 self.unset(names.as_slice());
-                Ok(())
+                Some(Ok(()))
             }
-            Action::If(_, _, _) => unreachable!(),
-            Action::Rep(_, _, _) => unreachable!(),
-            Action::RepI(_, _, _, _) => unreachable!(),
-            Action::While(_, _, _) => unreachable!(),
-            Action::WhileI(_, _, _, _) => unreachable!(),
+            Action::If(_, _, _) => None,
+            Action::Rep(_, _, _) => None,
+            Action::RepI(_, _, _, _) => None,
+            Action::While(_, _, _) => None,
+            Action::WhileI(_, _, _, _) => None,
         }
     }
 
@@ -129,7 +106,19 @@ impl<'d, D: Source> Run<'d, D> {
         requires sound { IsSound self.old }
         ensures performs { Performs self.old self.new result (assert (test_tree t.now)) }
     {
-        if !self.answer(t)? {
+        match self.answer_at_hand(t) {
+            Some(true) => Ok(()),
+            _ => self.any_assert(t),
+        }
+    }
+
+    /// The same of any test. A function of its own, so that a test whose truth is at hand need not make room for it.
+    #[inline(never)]
+    fn any_assert(&mut self, t: &Test) -> Result<(), CommandFailure>
+        requires sound { IsSound self.old }
+        ensures performs { Performs self.old self.new result (assert (test_tree t.now)) }
+    {
+        if !self.any_answer(t)? {
             return Err(CommandFailure::rejected(Reason::AssertFailed));
         }
         Ok(())

@@ -11,7 +11,7 @@ use crate::failure::CommandFailure;
 use crate::machine::Run;
 use ctd_source::Source;
 use ctd_syntax::{Expr, Test, Var};
-use ctd_value::{count_of, holds, number_of, set_number, small_number, truth_at_hand};
+use ctd_value::{count_of, holds, number_at_hand, number_of, set_number, truth_at_hand};
 
 impl<'d, D: Source> Run<'d, D> {
     /// The value of an expression that has to be a number.
@@ -23,13 +23,13 @@ impl<'d, D: Source> Run<'d, D> {
         Ok(number_of(self.alloc, e, &self.store)?)
     }
 
-    /// The same, where it has 64 bits; none says nothing.
+    /// The same, where it is at hand; none says nothing.
     #[inline(always)]
-    pub(crate) fn small_number(&self, e: &Expr) -> Option<i128>
+    pub(crate) fn number_at_hand(&self, e: &Expr) -> Option<i128>
         requires sound { IsSound self.now }
         ensures performs { IfSome result (λ n. Performs self.now self.now (Ok n) (evaluate (number_of (expr_tree e.now)))) }
     {
-        Some(i128::from(small_number(e, &self.store)?))
+        number_at_hand(e, &self.store)
     }
 
     /// How often a loop runs.
@@ -66,15 +66,24 @@ impl<'d, D: Source> Run<'d, D> {
         requires sound { IsSound self.old }
         ensures performs { Performs self.old self.new result (answer (test_tree t.now)) }
     {
-        match truth_at_hand(t, &self.store) {
+        match self.answer_at_hand(t) {
             Some(answer) => Ok(answer),
             None => self.any_answer(t),
         }
     }
 
+    /// The same, where it is at hand; none says nothing.
+    #[inline(always)]
+    pub(crate) fn answer_at_hand(&self, t: &Test) -> Option<bool>
+        requires sound { IsSound self.now }
+        ensures performs { IfSome result (λ truth. Performs self.now self.now (Ok truth) (answer (test_tree t.now))) }
+    {
+        truth_at_hand(t, &self.store)
+    }
+
     /// The same of any test. A function of its own, so that a test whose answer is at hand need not make room for it.
     #[inline(never)]
-    fn any_answer(&mut self, t: &Test) -> Result<bool, CommandFailure>
+    pub(crate) fn any_answer(&mut self, t: &Test) -> Result<bool, CommandFailure>
         requires sound { IsSound self.old }
         ensures performs { Performs self.old self.new result (answer (test_tree t.now)) }
     {

@@ -105,10 +105,10 @@ impl<'d, D: Source> Run<'d, D> {
         requires sound { IsSound self.old }
         ensures performs { Performs self.old self.new result (int (expr_tree low.now) (expr_tree high.now) (target var.now)) }
     {
-        let Some(least) = self.small_number(low) else {
+        let Some(least) = self.number_at_hand(low) else {
             return self.any_int(low, high, var);
         };
-        let Some(most) = self.small_number(high) else {
+        let Some(most) = self.number_at_hand(high) else {
             return self.any_int(low, high, var);
         };
         match self.held_integer(least, most) {

@@ -12,7 +12,6 @@ ghost use Rattle.ctd_check.specs.Opening.{Opens, halting};
 ghost use Rattle.ctd_check.specs.Run.{act_of, run_from};
 
 use crate::agenda::Agenda;
-use crate::command::is_block;
 use crate::failure::{CommandFailure, Halt};
 use crate::frame::Lap;
 use crate::machine::Run;
@@ -39,10 +38,9 @@ fn begin<'p, D: Source>(
     ensures kept { matchers.new ≡ matchers.old }
 {
     agenda.pay()?;
-    if is_block(command) {
-        open(command, run, agenda)
-    } else {
-        run.act(command, matchers)
+    match run.act(command, matchers) {
+        Some(done) => done,
+        None => open(command, run, agenda),
     }
 }
 

@@ -1,12 +1,5 @@
-use Rattle.ctd_check.specs.declared.outcome.Reason.TheVariants.{AssertFailed}
-use Rattle.ctd_check.proofs.Acts.{and_then, early_by, given, rejecting}
+use Rattle.ctd_check.proofs.Acts.{and_then, given}
 use Rattle.ctd_check.proofs.machine.Run.assert.Goals as goal
 
-pub returns-in_err-answer : goal.returns-in_err-answer
-returns-in_err-answer g c = record { performs = early_by _ _ c.from_residual.ensures c.in_err-answer.ensures.performs }
-
-pub returns-then-not-branch : goal.returns-then-not-branch
-returns-then-not-branch g c = record { performs = and_then _ c.in_ok-answer.ensures.performs (rw (c.if-not-branch.true, c.rejected.ensures) (rejecting c.answer.new.self AssertFailed)) }
-
-pub returns : goal.returns
-returns g c = record { performs = and_then _ c.in_ok-answer.ensures.performs (rw c.if-not-branch.false (given c.answer.new.self tt c.in_ok-answer.ensures.performs.sound)) }
+pub returns-in-Some-true : goal.returns-in-Some-true
+returns-in-Some-true g c = record { performs = and_then _ c.in-Some-true.ensures.performs (rw c.in-Some-true.field-0-test (given c.args.self.now tt c.requires.sound)) }

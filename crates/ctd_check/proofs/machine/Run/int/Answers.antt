@@ -9,9 +9,9 @@ use Rattle.ctd_check.proofs.machine.Run.int.Goals as goal
 
 pub returns-in-Some-held_integer : goal.returns-in-Some-held_integer
 returns-in-Some-held_integer g c =
-    let read = simp (to_z-of_z w128 c.in-Some.least (search rules), to_z-of_z w128 c.in-Some-small_number.most (search rules)) at c.in-Some-held_integer.ensures.performs in
+    let read = simp (to_z-of_z w128 c.in-Some.least (search rules), to_z-of_z w128 c.in-Some-number_at_hand.most (search rules)) at c.in-Some-held_integer.ensures.performs in
     let kept = simp (to_z-of_z w128 c.in-Some-held_integer.n (search rules)) at c.keep.ensures.performs in
-    record { performs = and_then _ c.in-Some.ensures.performs (and_then _ c.in-Some-small_number.ensures.performs (and_then _ read kept)) }
+    record { performs = and_then _ c.in-Some.ensures.performs (and_then _ c.in-Some-number_at_hand.ensures.performs (and_then _ read kept)) }
 
 pub returns-in-None : goal.returns-in-None
 returns-in-None g c = record {
