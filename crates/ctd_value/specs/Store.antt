@@ -1,5 +1,5 @@
 -- What has been assigned and pinned, and what a variable stands for.
-use Rattle.std.specs.Prelude.{ℕ, suc, pos, ◌+◌, nat_eq, nat_lt, true, false, Bool, not, ◌&&◌, List, [], ◌∷◌, ◌++◌, filter, fold, map, is_some, slice_get, option_map, Option, Some, None, if◌then◌else◌}
+use Rattle.std.specs.Prelude.{◌≡◌, ℕ, ℤ, suc, pos, ◌+◌, nat_eq, nat_lt, true, false, Bool, not, ◌&&◌, List, [], ◌∷◌, ◌++◌, filter, fold, map, is_some, slice_get, option_map, Option, Some, None, IfSome, if◌then◌else◌}
 use Rattle.std.specs.Option.{option_or, unwrap_or}
 use Rattle.std.specs.FinMap.{find, put, is_sorted}
 use Rattle.std.specs.declared.cmp.Ordering.{Ordering}
@@ -42,6 +42,10 @@ with_alone (Some x) array = put values_cmp [] x array
 -- whether an array is in order and has no value without indices
 abbrev pub is_indexed : Array → Bool
 is_indexed array = is_sorted values_cmp array && not (is_some (find values_cmp [] array))
+
+-- a number that is kept beside a value, if there is one, is that value
+abbrev pub AgreesWith : Option ℤ → Option Value → Type 0
+AgreesWith small alone = IfSome small (λ n. alone ≡ Some (values.Int n))
 
 -- how the index list at a place from a number on stands to an index list, where there are so many; any further is after each
 abbrev pub order_of_slot : ℕ → ℕ → ℕ → List Value → Ordering

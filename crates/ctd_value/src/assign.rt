@@ -45,6 +45,7 @@ pub fn set_text(alloc: Global, v: &Var, bytes: &[u8], store: &mut Store) -> Resu
 }
 
 /// The same of a number.
+#[inline(always)]
 pub fn set_number(alloc: Global, v: &Var, n: i128, store: &mut Store) -> Result<(), EvalFault>
     ensures value { Gives (map_ok (λ _. store.new) result) (with_variable (var_tree v.now) (values.Int n) store.old) }
     ensures err { OnErr result (store.new ≡ store.old) }

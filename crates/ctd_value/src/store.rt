@@ -8,6 +8,7 @@ ghost use Rattle.ctd_value.specs.Lending.{value_lent};
 ghost use Rattle.ctd_value.specs.Order.{values_cmp, same_value};
 ghost use Rattle.ctd_value.specs.Store.{initial, slot, is_pinned, value_at, assign, unset, values_of, value_of, has_indices, laid};
 ghost use Rattle.ctd_value.specs.Showing.{entry, indices_of};
+ghost use Rattle.ctd_value.specs.declared.value.Value.TheVariants as values;
 
 use crate::indexed::Row;
 use crate::lent::Lent;
@@ -101,6 +102,19 @@ impl Store {
     {
         if self.pins.is_empty() {
             self.assigned.hinted(name)
+        } else {
+            None
+        }
+    }
+
+    /// The number of 64 bits that a name has without indices, where nothing is pinned and the name's hint leads to it; none says
+    /// nothing.
+    #[inline(always)]
+    pub(crate) fn small(&self, name: &Name) -> Option<i64>
+        ensures value { IfSome result (λ n. value_at self.now (record { name = name.now; indices = [] }) ≡ Some (values.Int n)) }
+    {
+        if self.pins.is_empty() {
+            self.assigned.small(name)
         } else {
             None
         }

@@ -8,6 +8,7 @@ ghost use Rattle.ctd_value.specs.Lending.{value_lent};
 ghost use Rattle.ctd_value.specs.Order.{bytes_cmp, values_cmp, same_bytes, same_value, same_values};
 ghost use Rattle.ctd_value.specs.Showing.{arrays_seen, entry, indices_of, not_among};
 ghost use Rattle.ctd_value.specs.Store.{array_of, name_at, slot, with_value, has_indices, index_lists, laid};
+ghost use Rattle.ctd_value.specs.declared.value.Value.TheVariants as values;
 
 use crate::indexed::{Indexed, Row, shows};
 use crate::lent::Lent;
@@ -90,6 +91,15 @@ impl Variables {
     {
         let at = hinted_position(&self.list, &self.positions, name)?;
         self.list[at].array.alone()
+    }
+
+    /// The number of 64 bits that a name has without indices, where the hint of the name leads to its array; none says nothing.
+    #[inline(always)]
+    pub(crate) fn small(&self, name: &Name) -> Option<i64>
+        ensures value { IfSome result (λ n. find values_cmp [] (array_of name.now self.now) ≡ Some (values.Int n)) }
+    {
+        let at = hinted_position(&self.list, &self.positions, name)?;
+        self.list[at].array.small()
     }
 
     /// The value of a name at a number, where the hint of the name leads to its array and the number to a place in its row;
@@ -265,19 +275,21 @@ fn add_name(
 pub(crate) struct Array {
     // The value without indices, which is asked for most.
     alone: Option<Value>,
+    // The same again, where it is a number of 64 bits, so that it is read without a test of its kind and its size.
+    small: Option<i64>,
     // The values at one index or more.
     indexed: Indexed,
 }
 
 impl Model for Array {
     ghost use Rattle.std.specs.Prelude.{T};
-    ghost use Rattle.ctd_value.specs.Store.{Array, with_alone, is_indexed};
+    ghost use Rattle.ctd_value.specs.Store.{Array, with_alone, is_indexed, AgreesWith};
 
     ghost Value = { Array };
 
     ghost view = { λ a. with_alone a.alone a.indexed };
 
-    ghost invariant = { λ a. T (is_indexed a.indexed) };
+    ghost invariant = { λ a. T (is_indexed a.indexed) × AgreesWith a.small a.alone };
 }
 
 impl Array {
@@ -297,6 +309,7 @@ impl Array {
     {
         Array {
             alone: None,
+            small: None,
             indexed: Indexed::new(alloc),
         }
     }
@@ -307,6 +320,14 @@ impl Array {
         ensures value { option_copied result ≡ find values_cmp [] self.now }
     {
         self.alone.as_ref()
+    }
+
+    /// The value without indices, where it is a number of 64 bits; none says nothing.
+    #[inline(always)]
+    fn small(&self) -> Option<i64>
+        ensures value { IfSome result (λ n. find values_cmp [] self.now ≡ Some (values.Int n)) }
+    {
+        self.small
     }
 
     /// The values, where they are a row alone; none says nothing.
@@ -346,6 +367,7 @@ impl Array {
         ensures err { OnErr result (self.new ≡ self.old) }
     {
         if indices.as_slice().is_empty() {
+            self.small = Lent::of(&value).small();
             set_alone(&mut self.alone, value);
             return Ok(());
         }
@@ -372,13 +394,18 @@ impl Array {
         let Some(alone) = &mut self.alone else {
             return false;
         };
-        value.replaces(alone)
+        if !value.replaces(alone) {
+            return false;
+        }
+        self.small = value.small();
+        true
     }
 
     /// Removes all values.
     fn clear(&mut self)
         ensures empty { self.new ≡ [] }
     {
+        self.small = None;
         drop(replace(&mut self.alone, None));
         self.indexed.clear();
     }

@@ -8,5 +8,5 @@ pub returns : goal.returns
 returns c = record {
   value = c.as_ref.ensures.value
       ∙ sym (ap (find values_cmp []) (sym c.self.view_is)
-      ∙ found_alone c.self.inside.alone c.self.inside.indexed c.self.invariant);
+      ∙ found_alone c.self.inside.alone c.self.inside.indexed c.self.invariant.0);
 }

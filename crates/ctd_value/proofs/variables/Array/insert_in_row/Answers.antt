@@ -7,10 +7,10 @@ use Rattle.ctd_value.proofs.Telling.{indexed_still}
 use Rattle.ctd_value.proofs.variables.Array.insert_in_row.Goals as goal
 
 pub invariant_of-self : goal.invariant_of-self
-invariant_of-self c = indexed_still c.insert_in_row.result _ c.args.value c.self.inside.indexed c.insert_in_row.new.self c.self.invariant c.insert_in_row.ensures.done c.insert_in_row.ensures.stays
+invariant_of-self c = (indexed_still c.insert_in_row.result _ c.args.value c.self.inside.indexed c.insert_in_row.new.self c.self.invariant.0 c.insert_in_row.ensures.done c.insert_in_row.ensures.stays, c.self.invariant.1)
 
 pub returns-clause-done : goal.returns-clause-done
 returns-clause-done c is =
     ap (with_alone c.self.inside.alone) (c.insert_in_row.ensures.done is)
-    ∙ written_indexed (slot c.args.number) c.args.value c.self.inside.alone c.self.inside.indexed tt c.self.invariant
+    ∙ written_indexed (slot c.args.number) c.args.value c.self.inside.alone c.self.inside.indexed tt c.self.invariant.0
     ∙ ap (put values_cmp (slot c.args.number) c.args.value) c.self.view_is

@@ -7,7 +7,7 @@ use Rattle.ctd_value.proofs.Alone.{written_alone}
 use Rattle.ctd_value.proofs.variables.Array.overwrite.Goals as goal
 
 pub returns-clause-done : goal.returns-clause-done
-returns-clause-done c is =
-    ap (λ v. with_alone (Some v) c.self.inside.indexed) (c.replaces.ensures.done is)
-    ∙ written_alone (value_lent c.args.value) c.self.inside.alone c.self.inside.indexed c.self.invariant
+returns-clause-done c _ =
+    ap (λ v. with_alone (Some v) c.self.inside.indexed) (c.replaces.ensures.done c.if-not-replaces.false)
+    ∙ written_alone (value_lent c.args.value) c.self.inside.alone c.self.inside.indexed c.self.invariant.0
     ∙ ap (put values_cmp [] (value_lent c.args.value)) c.self.view_is
