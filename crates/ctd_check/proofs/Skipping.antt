@@ -47,7 +47,7 @@ first_of_all p x xs ys true e all more =
     omega (arith, here, later)
 first_of_all p x xs ys false e all more = let never : false ≡ true = sym (ap (λ b. b && list_all p xs) e) ∙ all in cc
 
-pub all_first : (p : ℕ → Bool) (xs ys : List ℕ) → list_all p xs ≡ true → prefix_len p (xs ++ ys) ≡ length xs + prefix_len p ys
+all_first : (p : ℕ → Bool) (xs ys : List ℕ) → list_all p xs ≡ true → prefix_len p (xs ++ ys) ≡ length xs + prefix_len p ys
 all_first p [] ys h = omega arith
 all_first p (x ∷ xs) ys h = first_of_all p x xs ys (p x) refl h (λ rest. all_first p xs ys rest)
 

@@ -2,18 +2,20 @@
 use Rattle.std.specs.Prelude.{◌≡◌, ◌<◌, ℕ, ℤ, ◌+◌, Bool, true, false, nat_eq, List, ◌∷◌, ◌++◌, length, take, Option, Some, None, Result, Ok, Err, IsOk}
 use Rattle.std.specs.List.{list_all, prefix_len, common_prefix_len}
 use Rattle.std.specs.Char.{is_ascii_digit}
+use Rattle.std.specs.Option.{ok_or}
 use Rattle.ctd_source.specs.declared.spot.LookFault.{LookFault}
 use Rattle.ctd_source.specs.TestData.{TestData, next_byte, visible}
 use Rattle.ctd_check.specs.declared.digits.DigitSummary.{DigitSummary}
+use Rattle.ctd_check.specs.declared.outcome.Reason.TheVariants.{OutOfRange}
 use Rattle.ctd_check.specs.Blanks.{is_blank}
-use Rattle.ctd_check.specs.Integer.{is_minus, digits_of, prefix_len_of, judge}
+use Rattle.ctd_check.specs.Integer.{is_minus, digits_of, prefix_len_of, in_interval, judge}
 use Rattle.ctd_check.specs.Summaries.{Summarizes}
 
--- bytes begin with an integer that ends before they do and is accepted in the interval: its value and its length
-pub record IsInFront (least most : ℤ) (bytes : List ℕ) (value : ℤ) (size : ℕ) : Type 0 where
+-- bytes begin with an integer that ends before they do and has its form, so that its value alone is judged: its value and its length
+pub record IsInFront (bytes : List ℕ) (value : ℤ) (size : ℕ) : Type 0 where
   pub len : size ≡ prefix_len_of bytes
   pub ends : size < length bytes
-  pub judged : judge least most (is_minus bytes) (digits_of bytes) ≡ Ok value
+  pub judged : (least most : ℤ) → judge least most (is_minus bytes) (digits_of bytes) ≡ ok_or (in_interval least most value) OutOfRange
 
 -- from offset p to q a minus is passed, or none where none is next, or a look has a fault
 abbrev pub PassesMinus : TestData → (p q : ℕ) → Result Bool LookFault → Type 0

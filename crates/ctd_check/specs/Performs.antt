@@ -1,8 +1,10 @@
 -- What each method of a run ensures.
-use Rattle.std.specs.Prelude.{◌≡◌, ℕ, Option, None, Result, Ok, Err, OnOk, List, []}
+use Rattle.std.specs.Prelude.{◌≡◌, ℕ, true, ℤ, int_le, Option, None, Result, Ok, Err, OnOk, List, []}
 use Rattle.ctd_source.specs.declared.source.Source.{Ghosts}
 use Rattle.ctd_source.specs.TestData.{TestData}
 use Rattle.ctd_source.specs.Received.{AdvancesSuchThat}
+use Rattle.ctd_syntax.specs.Tree.{ExprTree}
+use Rattle.ctd_value.specs.Val.{number_of}
 use Rattle.ctd_check.specs.declared.agenda.Agenda.{Agenda}
 use Rattle.ctd_check.specs.declared.frame.Frame.{Frame}
 use Rattle.ctd_check.specs.Pending.{to_do, IsWithin}
@@ -12,7 +14,7 @@ use Rattle.ctd_check.specs.declared.failure.CommandFailure.{CommandFailure}
 use Rattle.ctd_check.specs.declared.failure.Failure.TheVariants.{Rejected, Stopped, Memory}
 use Rattle.ctd_check.specs.declared.failure.Halt.{Halt}
 use Rattle.ctd_check.specs.declared.failure.Halt.TheVariants as halts
-use Rattle.ctd_check.specs.State.{State, Effect, Act, done, rejected, faulty}
+use Rattle.ctd_check.specs.State.{State, Effect, Act, done, rejected, faulty, evaluate}
 use Rattle.ctd_check.specs.Loops.{Task}
 use Rattle.ctd_check.specs.Run.{Ended, stopped, run}
 
@@ -63,6 +65,15 @@ module _ {R : Type 0} {G : Ghosts R} where
   pub record Performs {A : Type 0} (old new : Run R G) (result : Result A CommandFailure) (act : Act A) : Type 0 where
     pub sound : OnOk result (IsSound new)
     pub goes : AdvancesSuchThat old.cursor new.cursor (λ d. Does result (state new) (act d (state old)))
+
+  -- these expressions are numbers, and the value lies between them
+  pub record IsBetween (r : Run R G) (value : ℤ) (low high : ExprTree) : Type 0 where
+    pub least : ℤ
+    pub most : ℤ
+    pub low_is : Performs r r (Ok least) (evaluate (number_of low))
+    pub high_is : Performs r r (Ok most) (evaluate (number_of high))
+    pub above : int_le least value ≡ true
+    pub below : int_le value most ≡ true
 
   -- for all these data, what was to be done with so many steps left is what is still to be done, or the run is over
   pub record Advances {A : Type 0} (old new : Run R G) (left : ℕ) (before : List Task) (agenda : Agenda) (result : Result A Halt) : Type 0 where

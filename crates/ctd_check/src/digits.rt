@@ -1,6 +1,6 @@
 //! The digits of an integer as they pass: what a judgement needs is kept, and no digit.
 
-ghost use Rattle.std.specs.Prelude.{◌≡◌, ◌≤◌, ◌<◌, ◌+◌, ◌-◌, ◌*◌, ◌^◌, ◌++◌, if◌then◌else◌, ◌∷◌, [], ℕ, List, length, take, min, IfSome, IfNone, true};
+ghost use Rattle.std.specs.Prelude.{◌≡◌, ◌≤◌, ◌<◌, ◌+◌, ◌-◌, ◌*◌, ◌^◌, ◌++◌, if◌then◌else◌, ◌∷◌, [], ℕ, List, length, take, min, IfSome, IfNone, true, false};
 ghost use Rattle.std.specs.List.{prefix_len, take_while};
 ghost use Rattle.std.specs.Char.{is_ascii_digit};
 ghost use Rattle.ctd_check.specs.Integer.{decimal, judge, signed, in_interval};
@@ -28,22 +28,53 @@ const BEYOND: u128 = 0x8000_0000_0000_0000_0000_0000_0000_0001;
 /// How many digits have a number of 64 bits, whichever they are.
 pub(crate) const FEW: usize = 19;
 
+/// The number that a further digit makes; none where the byte is no digit.
+#[inline(always)]
+fn with_digit(number: u64, byte: u8) -> Option<u64>
+    requires { number < 10 ^ 18 }
+    ensures digit { IfSome result (λ _. is_ascii_digit byte ≡ true) }
+    ensures number { IfSome result (λ n. n ≡ number * 10 + (byte - 48)) }
+    ensures none { IfNone result (is_ascii_digit byte ≡ false) }
+{
+    // What is below b'0' wraps to a number above 9: one test tells whether it is a digit.
+    let digit = u64::from(byte).wrapping_sub(48);
+    if digit > 9 {
+        return None;
+    }
+    Some(number * 10 + digit)
+}
+
 /// The number of the digits that a few bytes begin with, and how many they are. A function of its own: within another, the compiler keeps
-/// three counters of the digits.
+/// three counters of the digits. It takes four digits a turn, while there are four bytes.
 #[inline(never)]
-fn number_in_front(few: &[u8]) -> (u64, usize)
+pub(crate) fn number_in_front(few: &[u8]) -> (u64, usize)
     requires { length few.now ≤ FEW }
     ensures number { result.0 ≡ decimal (take_while is_ascii_digit few.now) }
     ensures count { result.1 ≡ prefix_len is_ascii_digit few.now }
 {
     let mut number = 0;
     let mut count = 0;
+    while few.len() - count >= 4 {
+        let Some(one) = with_digit(number, few[count]) else {
+            return (number, count);
+        };
+        let Some(two) = with_digit(one, few[count + 1]) else {
+            return (one, count + 1);
+        };
+        let Some(three) = with_digit(two, few[count + 2]) else {
+            return (two, count + 2);
+        };
+        let Some(four) = with_digit(three, few[count + 3]) else {
+            return (three, count + 3);
+        };
+        number = four;
+        count += 4;
+    }
     while count < few.len() {
-        let byte = few[count];
-        if !byte.is_ascii_digit() {
+        let Some(more) = with_digit(number, few[count]) else {
             break;
-        }
-        number = number * 10 + (byte - b'0') as u64;
+        };
+        number = more;
         count += 1;
     }
     (number, count)
@@ -100,21 +131,6 @@ impl DigitSummary {
             is_zero_first: false,
             size: 0,
         }
-    }
-
-    /// The digits that a few bytes begin with, and how many they are.
-    pub(crate) fn of_few(few: &[u8]) -> (DigitSummary, usize)
-        requires { length few.now ≤ FEW }
-        ensures count { result.1 ≡ prefix_len is_ascii_digit few.now }
-        ensures seen { Summarizes result.0 (take result.1 few.now) }
-    {
-        let (number, count) = number_in_front(few);
-        let digits = DigitSummary {
-            count: count.min(2) as u8,
-            is_zero_first: matches!(few, [b'0', ..]),
-            size: number as u128,
-        };
-        (digits, count)
     }
 
     /// One more digit.

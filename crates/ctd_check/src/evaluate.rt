@@ -41,6 +41,7 @@ impl<'d, D: Source> Run<'d, D> {
     }
 
     /// Gives a variable a number, once its indices are evaluated.
+    #[inline(always)]
     pub(crate) fn set_to_number(&mut self, v: &Var, n: i128) -> Result<(), CommandFailure>
         requires sound { IsSound self.old }
         ensures performs { Performs self.old self.new result (set_to (var_tree v.now) (values.Int n)) }

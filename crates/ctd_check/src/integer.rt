@@ -1,14 +1,14 @@
 //! INT: an integer of any length, in an interval.
-ghost use Rattle.std.specs.Prelude.{◌≡◌, OnOk, IfSome, IfNone, None, Ok};
+ghost use Rattle.std.specs.Prelude.{◌≡◌, OnOk, IfSome, None, true};
 ghost use Rattle.ctd_source.specs.CursorState.{state_of};
 ghost use Rattle.ctd_source.specs.Received.{AdvancesSuchThat};
 ghost use Rattle.ctd_syntax.specs.View.{expr_tree, target};
 ghost use Rattle.ctd_check.specs.Effect.{int, integer};
-ghost use Rattle.ctd_check.specs.Integer.{is_minus};
+ghost use Rattle.ctd_check.specs.Integer.{is_minus, signed};
 ghost use Rattle.ctd_check.specs.Passing.{IsInFront, PassesMinus, PassesDigits};
-ghost use Rattle.ctd_check.specs.Performs.{IsSound, Performs};
+ghost use Rattle.ctd_check.specs.Performs.{IsSound, Performs, IsBetween};
 
-use crate::digits::{DigitSummary, FEW};
+use crate::digits::{DigitSummary, FEW, number_in_front};
 use crate::failure::CommandFailure;
 use crate::machine::Run;
 use ctd_source::{Cursor, LookFault, Source};
@@ -29,25 +29,34 @@ fn begins_with_minus(bytes: &[u8]) -> bool
     matches!(bytes, [b'-', ..])
 }
 
-/// The integer that some bytes begin with, where it has few digits, ends before the bytes do and is accepted.
-fn integer_in_front(bytes: &[u8], least: i128, most: i128) -> Option<Front>
-    ensures { IfSome result (λ front. IsInFront least most bytes.now front.value front.len) }
+/// The value of a sign and a size of 64 bits.
+#[inline(always)]
+fn signed(is_negative: bool, size: u64) -> i128
+    ensures { result ≡ signed is_negative size }
+{
+    let value = i128::from(size);
+    if is_negative { -value } else { value }
+}
+
+/// The integer that some bytes begin with, where it has few digits, ends before the bytes do and has its form.
+fn integer_in_front(bytes: &[u8]) -> Option<Front>
+    ensures { IfSome result (λ front. IsInFront bytes.now front.value front.len) }
 {
     let is_negative = begins_with_minus(bytes);
     let sign_len = usize::from(is_negative);
     let unsigned = &bytes[sign_len..];
     let few = &unsigned[..unsigned.len().min(FEW)];
-    let (digits, count) = DigitSummary::of_few(few);
-    if count == few.len() {
+    let (size, count) = number_in_front(few);
+    if count == few.len() || count == 0 {
         return None;
     }
-    match digits.judge(least, most, is_negative) {
-        Ok(value) => Some(Front {
-            value,
-            len: sign_len + count,
-        }),
-        Err(_reason) => None,
+    if few[0] == b'0' && (is_negative || count > 1) {
+        return None;
     }
+    Some(Front {
+        value: signed(is_negative, size),
+        len: sign_len + count,
+    })
 }
 
 /// Passes a minus, where one is next, and tells whether it was.
@@ -105,15 +114,28 @@ impl<'d, D: Source> Run<'d, D> {
         requires sound { IsSound self.old }
         ensures performs { Performs self.old self.new result (int (expr_tree low.now) (expr_tree high.now) (target var.now)) }
     {
-        let Some(least) = self.number_at_hand(low) else {
+        let Some(front) = integer_in_front(self.cursor.held_run()) else {
             return self.any_int(low, high, var);
         };
-        let Some(most) = self.number_at_hand(high) else {
+        if !self.is_between(front.value, low, high) {
             return self.any_int(low, high, var);
-        };
-        match self.held_integer(least, most) {
-            Some(n) => self.keep(var, n),
-            None => self.any_int(low, high, var),
+        }
+        self.cursor.take_in_line(front.len);
+        self.keep(var, front.value)
+    }
+
+    /// Whether both bounds are at hand and the value lies between them.
+    #[inline(always)]
+    fn is_between(&self, value: i128, low: &Expr, high: &Expr) -> bool
+        requires sound { IsSound self.now }
+        ensures { result ≡ true → IsBetween self.now value (expr_tree low.now) (expr_tree high.now) }
+    {
+        match self.number_at_hand(low) {
+            Some(least) if least <= value => match self.number_at_hand(high) {
+                Some(most) => value <= most,
+                None => false,
+            },
+            _ => false,
         }
     }
 
@@ -127,18 +149,6 @@ impl<'d, D: Source> Run<'d, D> {
         let most = self.number(high)?;
         let n = self.any_integer(least, most)?;
         self.keep(var, n)
-    }
-
-    /// Passes an integer that is held whole, has few digits and is accepted, where one is next. It leaves all as it is where
-    /// none is, and says nothing of what is next.
-    fn held_integer(&mut self, least: i128, most: i128) -> Option<i128>
-        requires sound { IsSound self.old }
-        ensures performs { IfSome result (λ n. Performs self.old self.new (Ok n) (integer least most)) }
-        ensures stays { IfNone result (self.new ≡ self.old) }
-    {
-        let front = integer_in_front(self.cursor.held_run(), least, most)?;
-        self.cursor.take_in_line(front.len);
-        Some(front.value)
     }
 
     /// Passes the longest prefix of the form of an integer, of any length and however it is held, and judges it.

@@ -1,19 +1,30 @@
-use Rattle.std.proofs.Common.{rules, subst}
+use Rattle.std.proofs.Common.{rules, refl, ◌∙◌, Ok}
 use Rattle.std.proofs.lemmas.Int.{to_z-of_z}
 use Rattle.std.specs.Int.{w128}
-use Rattle.ctd_syntax.specs.View.{expr_tree, target}
-use Rattle.ctd_check.specs.Effect.{int}
-use Rattle.ctd_check.specs.Performs.{Performs}
-use Rattle.ctd_check.proofs.Acts.{and_then}
+use Rattle.ctd_source.proofs.AdvanceLemmas.{advances_so, advances_moving}
+use Rattle.ctd_source.specs.CursorState.{state_of}
+use Rattle.ctd_check.specs.Effect.{integer}
+use Rattle.ctd_check.specs.Performs.{Performs, state}
+use Rattle.ctd_check.proofs.Acts.{and_then, with_cursor}
+use Rattle.ctd_check.proofs.HeldIntegers.{integer_in_line, front_read}
 use Rattle.ctd_check.proofs.machine.Run.int.Goals as goal
 
-pub returns-in-Some-held_integer : goal.returns-in-Some-held_integer
-returns-in-Some-held_integer g c =
-    let read = simp (to_z-of_z w128 c.in-Some.least (search rules), to_z-of_z w128 c.in-Some-number_at_hand.most (search rules)) at c.in-Some-held_integer.ensures.performs in
-    let kept = simp (to_z-of_z w128 c.in-Some-held_integer.n (search rules)) at c.keep.ensures.performs in
-    record { performs = and_then _ c.in-Some.ensures.performs (and_then _ c.in-Some-number_at_hand.ensures.performs (and_then _ read kept)) }
+pub take_in_line-requires-clause-in_line : goal.take_in_line-requires-clause-in_line
+take_in_line-requires-clause-in_line g c = integer_in_line c.held_run.result.now (state_of c.args.self.now.cursor).held _ c.in-Some.front.len c.held_run.ensures.front c.in-Some.ensures
 
-pub returns-in-None : goal.returns-in-None
-returns-in-None g c = record {
-  performs = subst (λ a. Performs a c.any_int-in-None.new.self c.any_int-in-None.result (int (expr_tree c.args.low.now) (expr_tree c.args.high.now) (target c.args.var.now))) c.in-None.ensures.stays c.any_int-in-None.ensures.performs;
-}
+pub returns : goal.returns
+returns g c =
+    let a = c.args.self.now.cursor in
+    let b = c.take_in_line.new.self in
+    let m = c.take_in_line.ensures.moves in
+    let run = c.held_run.result.now in
+    let front = c.in-Some.front in
+    let value = to_z-of_z w128 front.value (search rules) in
+    let between = simp value at (c.is_between.ensures c.if-not-is_between.false) in
+    let read : Performs c.args.self.now (with_cursor c.args.self.now b) (Ok front.value) (integer between.least between.most) = record {
+      sound = m.fault ∙ c.requires.sound;
+      goes = advances_so (advances_moving front.len a b m)
+          (λ d stand _. front_read between.least between.most run front.value front.len d (state c.args.self.now) (state_of a) (state_of b) c.in-Some.ensures between.above between.below stand.before stand.after a.counted b.counted c.held_run.ensures.front c.held_run.ensures.held c.held_run.ensures.within refl m.offset m.held m.limit);
+    } in
+    let kept = simp value at c.keep.ensures.performs in
+    record { performs = and_then _ between.low_is (and_then _ between.high_is (and_then _ read kept)) }
