@@ -41,7 +41,7 @@ const TRUTHS: [(&str, Option<bool>); 22] = [
     ("s==\"x\"", Some(true)),
     ("s!=\"x\"", Some(false)),
     ("\"x\"!=\"y\"", Some(true)),
-    ("\"\"<s", Some(true)),
+    ("\"\"<s", None),
     ("s<=\"wz\"", Some(false)),
     ("UNIQUE(a)", Some(true)),
     ("UNIQUE(b)", None),
