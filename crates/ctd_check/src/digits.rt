@@ -9,7 +9,7 @@ ghost use Rattle.ctd_check.specs.declared.digits.TheConstants.{FEW};
 use crate::outcome::Reason;
 
 /// What was seen of a row of digits.
-#[derive(Clone, Copy, Debug)]
+#[derive(Clone, Copy)]
 pub(crate) struct DigitSummary {
     /// How many there are: none, one or more.
     count: u8,

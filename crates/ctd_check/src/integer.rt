@@ -15,7 +15,7 @@ use ctd_source::{Cursor, LookFault, Source};
 use ctd_syntax::{Expr, Var};
 
 /// An integer at the front of some bytes.
-#[derive(Clone, Copy, Debug)]
+#[derive(Clone, Copy)]
 struct Front {
     value: i128,
     /// How many bytes it takes.

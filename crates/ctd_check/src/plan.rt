@@ -18,7 +18,7 @@ use std::alloc::{AllocError, Global};
 use std::marker::Model;
 
 /// A program that was read, ready for any number of checks, which contracts see as the list of its commands.
-#[derive(Debug, Drop)]
+#[derive(Drop)]
 pub struct Plan {
     program: Program,
     /// The patterns of its literals, in the order of the text, so that each stands at its literal's number.

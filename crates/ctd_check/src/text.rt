@@ -21,7 +21,7 @@ fn pull_behind<P: Source>(program: &mut P, room: &mut [u8], filled: usize) -> Re
 }
 
 /// What a room was filled with.
-#[derive(Clone, Copy, Debug)]
+#[derive(Clone, Copy)]
 pub(crate) struct Filled {
     /// How many bytes came.
     pub(crate) count: usize,

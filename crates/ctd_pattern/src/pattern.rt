@@ -22,7 +22,7 @@ pub enum PatternFault {
 }
 
 /// A built pattern, which contracts see as the bytes of its literal.
-#[derive(Debug, Drop)]
+#[derive(Drop)]
 pub struct Pattern {
     regex: Regex,
 }

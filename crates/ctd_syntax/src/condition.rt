@@ -20,7 +20,7 @@ use ctd_token::{Mark, Name};
 use std::alloc::Global;
 
 // What a token says of the parentheses that it stands in.
-#[derive(Clone, Copy, Debug, PartialEq, Eq)]
+#[derive(Clone, Copy)]
 enum TokenRole {
     // They hold a test.
     Tests,

@@ -16,7 +16,7 @@ use ctd_token::{Bytes, Mark, Name};
 use std::alloc::{AllocError, Global};
 
 // The operators that join two expressions.
-#[derive(Clone, Copy, Debug, PartialEq, Eq)]
+#[derive(Clone, Copy)]
 pub(crate) enum Operator {
     Add,
     Sub,

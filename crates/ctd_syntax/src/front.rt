@@ -11,7 +11,7 @@ use ctd_token::{Bytes, Mark, Place};
 use std::alloc::{AllocError, AllocFailed};
 
 /// Why there is no tree.
-#[derive(Clone, Copy, Debug, PartialEq, Eq)]
+#[derive(Clone, Copy)]
 pub(crate) enum ParseError {
     /// No tree is at the front; with the number of tokens left from the first that fits nowhere.
     Syntax(usize),

@@ -10,7 +10,7 @@ use ctd_token::{Mark, NESTING_LIMIT};
 use std::alloc::{AllocError, Global};
 
 // What a token does to the counters.
-#[derive(Clone, Copy, Debug, PartialEq, Eq)]
+#[derive(Clone, Copy)]
 enum Change {
     // A new innermost counter, 0.
     Opens,

@@ -9,21 +9,21 @@ use std::alloc::{AllocError, AllocFailed, Global};
 use std::marker::Model;
 
 /// A number or a string, as written.
-#[derive(Debug, Drop)]
+#[derive(Drop)]
 pub enum Literal {
     Int(i128),
     Text(Bytes),
 }
 
 /// The name of a variable and the value that stays with it.
-#[derive(Debug, Drop)]
+#[derive(Drop)]
 pub struct Preset {
     pub name: Name,
     pub value: Literal,
 }
 
 /// Presets in their order, which contracts see as the list of them; the last of a name counts.
-#[derive(Debug, Drop)]
+#[derive(Drop)]
 pub struct Presets {
     items: Vec<Preset>,
 }

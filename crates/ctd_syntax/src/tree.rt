@@ -8,7 +8,7 @@ use ctd_token::{Bytes, Name, Place};
 use std::marker::Model;
 
 /// An expression.
-#[derive(Debug, Drop)]
+#[derive(Drop)]
 #[cycle(expr)]
 pub enum Expr {
     /// A number as written.
@@ -36,7 +36,7 @@ pub enum Expr {
 }
 
 /// A variable: a name with its indices, of which an unindexed variable has none.
-#[derive(Debug, Drop)]
+#[derive(Drop)]
 #[cycle(expr)]
 pub struct Var {
     pub name: Name,
@@ -44,14 +44,14 @@ pub struct Var {
 }
 
 /// A list of expressions.
-#[derive(Debug, Drop)]
+#[derive(Drop)]
 #[cycle(expr)]
 pub struct Exprs {
     items: Vec<Expr>,
 }
 
 /// The six comparisons.
-#[derive(Clone, Copy, Debug, PartialEq, Eq)]
+#[derive(Clone, Copy)]
 pub enum Compare {
     Less,
     Greater,
@@ -62,13 +62,13 @@ pub enum Compare {
 }
 
 /// A list of names.
-#[derive(Debug, Drop)]
+#[derive(Drop)]
 pub struct Names {
     items: Vec<Name>,
 }
 
 /// A test.
-#[derive(Debug, Drop)]
+#[derive(Drop)]
 pub enum Test {
     /// `a || b`
     Or(Box<Test>, Box<Test>),
@@ -89,20 +89,20 @@ pub enum Test {
 }
 
 /// A variable and the expression whose value it gets.
-#[derive(Debug, Drop)]
+#[derive(Drop)]
 pub struct Assignment {
     pub target: Var,
     pub value: Expr,
 }
 
 /// A list of assignments.
-#[derive(Debug, Drop)]
+#[derive(Drop)]
 pub struct Assignments {
     items: Vec<Assignment>,
 }
 
 /// The literal of a REGEX.
-#[derive(Debug, Drop)]
+#[derive(Drop)]
 pub struct PatternLiteral {
     /// How many commands REGEX stand before its own in the text, so that the literals of a program are 0, 1, 2, ..
     pub number: usize,
@@ -112,7 +112,7 @@ pub struct PatternLiteral {
 }
 
 /// A command, with the place of its word.
-#[derive(Debug, Drop)]
+#[derive(Drop)]
 #[cycle(command)]
 pub struct Command {
     pub place: Place,
@@ -120,7 +120,7 @@ pub struct Command {
 }
 
 /// What a command does. The separator of a loop and the target of a command may be absent.
-#[derive(Debug, Drop)]
+#[derive(Drop)]
 #[cycle(command)]
 pub enum Action {
     /// `SPACE`
@@ -154,14 +154,14 @@ pub enum Action {
 }
 
 /// A list of commands.
-#[derive(Debug, Drop)]
+#[derive(Drop)]
 #[cycle(command)]
 pub struct Commands {
     items: Vec<Command>,
 }
 
 /// A program: a list of commands.
-#[derive(Debug, Drop)]
+#[derive(Drop)]
 pub struct Program {
     commands: Commands,
 }

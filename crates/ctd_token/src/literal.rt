@@ -13,7 +13,7 @@ use memchr::memchr2;
 use std::alloc::Global;
 
 /// The next bytes of a literal: what they stand for, if anything, and how many they are.
-#[derive(Clone, Copy, Debug, PartialEq, Eq)]
+#[derive(Clone, Copy)]
 struct LiteralPart {
     value: Option<u16>,
     length: usize,

@@ -8,6 +8,18 @@ use std::alloc::Global;
 use std::fmt::Write;
 use std::test::Fail;
 
+// The kind of a token; a string with its bytes.
+fn show_kind(shown: &mut String, kind: &TokenKind) -> Result<(), Fail> {
+    match kind {
+        TokenKind::Text(bytes) => write!(shown, "Text {:?}", bytes.as_slice())?,
+        TokenKind::Mark(mark) => write!(shown, "{mark:?}")?,
+        TokenKind::Numeral(n) => write!(shown, "{n}")?,
+        TokenKind::Word => shown.push_str("Word")?,
+        TokenKind::Name => shown.push_str("Name")?,
+    }
+    Ok(())
+}
+
 // What `tokens` answers for a text, written as the rows below write it: for each token its kind, its
 // span and its place, or the kind of the fault and its place.
 fn answer(alloc: Global, text: &[u8]) -> Result<String, Fail> {
@@ -18,13 +30,7 @@ fn answer(alloc: Global, text: &[u8]) -> Result<String, Fail> {
                 if !shown.is_empty() {
                     shown.push_str(", ")?;
                 }
-                match &token.kind {
-                    TokenKind::Text(bytes) => write!(shown, "Text {:?}", bytes.as_slice())?,
-                    TokenKind::Mark(mark) => write!(shown, "{mark:?}")?,
-                    TokenKind::Numeral(n) => write!(shown, "{n}")?,
-                    TokenKind::Word => shown.push_str("Word")?,
-                    TokenKind::Name => shown.push_str("Name")?,
-                }
+                show_kind(&mut shown, &token.kind)?;
                 write!(
                     shown,
                     " {}-{} {}:{}",
@@ -326,7 +332,10 @@ fn front(alloc: Global, bytes: &[u8]) -> Result<String, Fail> {
         return Ok(shown);
     }
     match crate::token_at(alloc, bytes) {
-        Ok((kind, len)) => write!(shown, "{kind:?} {len}")?,
+        Ok((kind, len)) => {
+            show_kind(&mut shown, &kind)?;
+            write!(shown, " {len}")?;
+        }
         Err(fault) => write!(shown, "{fault:?}")?,
     }
     Ok(shown)
@@ -335,8 +344,8 @@ fn front(alloc: Global, bytes: &[u8]) -> Result<String, Fail> {
 const FRONTS: [(&[u8], &str); 7] = [
     (b"INT(1", "Word 3"),
     (b"a1B", "Name 2"),
-    (b"12,", "Numeral(12) 2"),
-    (b"<=1", "Mark(AtMost) 2"),
+    (b"12,", "12 2"),
+    (b"<=1", "AtMost 2"),
     (b"\"a\\400\"b", "Wrong { kind: BadOctal, behind: 2 }"),
     (b" a", "Wrong { kind: BadByte, behind: 0 }"),
     (b"#a", "Wrong { kind: BadByte, behind: 0 }"),

@@ -16,7 +16,7 @@ pub struct Place {
 }
 
 /// A string of bytes of any values, which contracts see as the list of them.
-#[derive(Debug, Drop)]
+#[derive(Drop)]
 pub struct Bytes {
     items: Vec<u8>,
 }
@@ -66,7 +66,7 @@ impl Bytes {
 }
 
 /// The numbers by which short names are compared, without a look at their bytes.
-#[derive(Clone, Copy, Debug)]
+#[derive(Clone, Copy)]
 struct Codes {
     /// That of the name; 0 where the name is long.
     own: u64,
@@ -129,7 +129,7 @@ fn is_wanted(codes: Codes, bytes: &[u8], others: Codes, other_bytes: &[u8]) -> b
 }
 
 /// The name of a variable, which contracts see as the list of its bytes.
-#[derive(Debug, Drop)]
+#[derive(Drop)]
 pub struct Name {
     bytes: Bytes,
     codes: Codes,

@@ -50,7 +50,7 @@ pub enum Mark {
 }
 
 /// What a token is.
-#[derive(Debug, Drop)]
+#[derive(Drop)]
 pub enum TokenKind {
     /// A row of letters `A` to `Z`; its bytes are those of the token's span.
     Word,
@@ -65,7 +65,7 @@ pub enum TokenKind {
 
 /// A token with its span, the bytes of the text from offset `first` up to but not including offset
 /// `after`, and with the place of its first byte.
-#[derive(Debug, Drop)]
+#[derive(Drop)]
 pub struct Token {
     pub kind: TokenKind,
     pub first: u32,

@@ -23,7 +23,7 @@ use std::mem::replace;
 const ROOM_KEPT: usize = 64;
 
 /// Index lists with their values, each index list once, which contracts see as the list of them in order.
-#[derive(Debug, Drop)]
+#[derive(Drop)]
 pub(crate) struct Indexed {
     // The number of the first value of the row.
     base: usize,
@@ -33,7 +33,7 @@ pub(crate) struct Indexed {
 }
 
 /// Values at the numbers from a base on.
-#[derive(Clone, Copy, Debug)]
+#[derive(Clone, Copy)]
 pub(crate) struct Row<'s> {
     pub(crate) base: usize,
     pub(crate) values: &'s [Value],

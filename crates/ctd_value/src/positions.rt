@@ -10,7 +10,7 @@ use std::collections::BTreeMap;
 use std::marker::Model;
 
 /// Names with their positions, each name once, which contracts see as the list of them in the order of the names.
-#[derive(Debug, Drop)]
+#[derive(Drop)]
 pub(crate) struct Positions {
     by_name: BTreeMap<Vec<u8>, usize>,
     // At the number of a name, where its array may stand. Of this no contract says anything.

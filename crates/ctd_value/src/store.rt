@@ -19,7 +19,7 @@ use std::alloc::{AllocError, Global};
 use std::marker::Model;
 
 /// The variables with their values. A pinned variable keeps the value of its preset.
-#[derive(Debug, Drop)]
+#[derive(Drop)]
 pub struct Store {
     pins: Variables,
     assigned: Variables,
@@ -34,7 +34,7 @@ impl Model for Store {
 }
 
 /// The indices of an entry: a number that is stored nowhere, or a list where it stands.
-#[derive(Debug, Drop)]
+#[derive(Drop)]
 pub enum Indices<'s> {
     One([Value; 1]),
     Listed(&'s [Value]),
@@ -53,7 +53,7 @@ impl Indices<'_> {
 }
 
 /// The indices of an entry of a name, and its value.
-#[derive(Debug, Drop)]
+#[derive(Drop)]
 pub struct EntryRef<'s> {
     pub indices: Indices<'s>,
     pub value: &'s Value,

@@ -21,7 +21,7 @@ use std::marker::Model;
 use std::mem::replace;
 
 /// A name with its array, which has no entries where the name has no values.
-#[derive(Debug, Drop)]
+#[derive(Drop)]
 struct NamedArray {
     name: Name,
     array: Array,
@@ -29,7 +29,7 @@ struct NamedArray {
 
 /// Names with their arrays, each name once, which contracts see as the list of them in the order of the names, without those
 /// that have no entries.
-#[derive(Debug, Drop)]
+#[derive(Drop)]
 pub(crate) struct Variables {
     // Each name once, in the order in which they came.
     list: Vec<NamedArray>,
@@ -271,7 +271,7 @@ fn add_name(
 }
 
 /// Index lists with their values, each index list once, which contracts see as the list of them in order.
-#[derive(Debug, Drop)]
+#[derive(Drop)]
 pub(crate) struct Array {
     // The value without indices, which is asked for most.
     alone: Option<Value>,
