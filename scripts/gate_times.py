@@ -1,0 +1,74 @@
+#!/usr/bin/env python3
+"""Tells how many processor minutes a gate takes, by crate: scripts/gate_times.py [COMMAND..] (make test, where none is given).
+
+Runs the command, and reads once a second what each process of the prover has used so far. A process that ends between two looks loses
+at most that second."""
+import os
+import subprocess
+import sys
+import time
+from collections import defaultdict
+from dataclasses import dataclass
+from pathlib import Path
+
+TOP = Path(__file__).resolve().parent.parent
+TICKS = os.sysconf("SC_CLK_TCK")
+KINDS = ("library", "tests", "wrong bodies", "compiling")
+
+
+@dataclass
+class Process:
+    """A process of the prover: its crate, what it does there, its folder, and its processor seconds so far."""
+
+    crate: str
+    kind: str
+    folder: str
+    seconds: float
+
+
+def kind_of(words: list[str], folder: str) -> str:
+    if "rt-edit-" in folder:
+        return "wrong bodies"
+    if "--test" in words:
+        return "tests"
+    return "compiling" if "--crate-checked" in words else "library"
+
+
+def look(found: dict[tuple[str, str], Process]) -> None:
+    """Puts in what each process of the prover is and has used."""
+    for entry in Path("/proc").glob("[0-9]*"):
+        try:
+            words = (entry / "cmdline").read_bytes().decode().split("\0")
+            if not words[0].endswith("/rattle") or "--crate-name" not in words:
+                continue
+            fields = (entry / "stat").read_text().rpartition(")")[2].split()
+            folder = os.readlink(entry / "cwd")
+        except OSError:
+            continue
+        crate = words[words.index("--crate-name") + 1]
+        seconds = (int(fields[11]) + int(fields[12])) / TICKS
+        found[entry.name, fields[19]] = Process(crate, kind_of(words, folder), folder, seconds)
+
+
+def main() -> int:
+    found: dict[tuple[str, str], Process] = {}
+    start = time.monotonic()
+    running = subprocess.Popen(sys.argv[1:] or ["make", "--no-print-directory", "test"], cwd=TOP)
+    while running.poll() is None:
+        look(found)
+        time.sleep(1)
+    minutes: dict[tuple[str, str], float] = defaultdict(float)
+    folders: dict[str, set[str]] = defaultdict(set)
+    for process in found.values():
+        minutes[process.crate, process.kind] += process.seconds / 60
+        if process.kind == "wrong bodies":
+            folders[process.crate].add(process.folder)
+    print(f"{'crate':<16}" + "".join(f"{kind:>14}" for kind in KINDS) + f"{'their checks':>14}")
+    for crate in sorted({crate for crate, _ in minutes}):
+        print(f"{crate:<16}" + "".join(f"{minutes[crate, kind]:14.1f}" for kind in KINDS) + f"{len(folders[crate]):14}")
+    print(f"{sum(minutes.values()):.0f} processor minutes, {(time.monotonic() - start) / 60:.0f} minutes of the clock")
+    return running.returncode
+
+
+if __name__ == "__main__":
+    sys.exit(main())
