@@ -1,10 +1,14 @@
 //! Whitespace mode: what is skipped, and what is not.
 
-use crate::tests::readers::{AMPLE, Cut, Failing, plan_of};
-use crate::tests::rows::{Row, checked_in, judged_in, told};
-use ctd_check::{FromRead, Limits, Mode, Outcome, Presets, check};
-use std::io::Read;
+use crate::tests::rows::{ManyRow, PLAIN, Row, Terms, checked, judged, judged_many};
+use ctd_check::{Mode, Outcome};
 use std::test::Fail;
+
+/// The terms of whitespace mode.
+const BLANKS_OK: Terms<'static> = Terms {
+    mode: Mode::BlanksOk,
+    ..PLAIN
+};
 
 const BLANKS: [Row; 17] = [
     (
@@ -100,107 +104,92 @@ const BLANKS: [Row; 17] = [
 
 #[test]
 fn blanks_are_skipped_where_they_may_be(rt: HostRuntime) -> Result<(), Fail> {
-    judged_in(&rt, rt.alloc(), "", Mode::BlanksOk, &BLANKS)
+    judged(&rt, rt.alloc(), &BLANKS_OK, &BLANKS)
 }
+
+const HOWEVER_HELD: [Row; 1] = [(
+    "INT(0,9) SPACE INT(0,9) NEWLINE INT(0,9)",
+    " \t3 \x0B  4\r \n  5 ",
+    "ok",
+    6,
+    15,
+)];
 
 #[test]
 fn blanks_are_the_same_however_they_are_held(rt: HostRuntime) -> Result<(), Fail> {
-    let plan = plan_of(rt.alloc(), "INT(0,9) SPACE INT(0,9) NEWLINE INT(0,9)")?;
-    let presets = Presets::none(rt.alloc());
     for most in [1, 2, 3, 4, 100] {
-        let mut source = FromRead::new(Cut {
-            reader: b" \t3 \x0B  4\r \n  5 ".as_slice(),
-            most,
-        });
-        let found = check(
-            rt.alloc(),
-            &plan,
-            &presets,
-            &mut source,
-            AMPLE,
-            Mode::BlanksOk,
-        )?;
-        assert_eq!(rt; found.outcome, Outcome::Accepted, "{most} at once");
-        assert_eq!(rt; (found.steps, found.consumed), (6, 15), "{most} at once");
+        judged(&rt, rt.alloc(), &Terms { most, ..BLANKS_OK }, &HOWEVER_HELD)?;
     }
     Ok(())
 }
 
 #[test]
 fn each_byte_is_a_blank_or_not(rt: HostRuntime) -> Result<(), Fail> {
-    let plan = plan_of(rt.alloc(), "STRING(\"a\") SPACE")?;
-    let presets = Presets::none(rt.alloc());
     for byte in 0..=255 {
         let blank = matches!(byte, 0x20 | 0x09 | 0x0B | 0x0C | 0x0D);
-        let data = [b'a', byte];
-        let mut source = FromRead::new(data.as_slice());
-        let found = check(
-            rt.alloc(),
-            &plan,
-            &presets,
-            &mut source,
-            AMPLE,
-            Mode::BlanksOk,
-        )?;
+        let found = checked(rt.alloc(), &BLANKS_OK, "STRING(\"a\") SPACE", &[b'a', byte])?;
         assert_eq!(rt; found.outcome == Outcome::Accepted, blank, "{byte}");
     }
     Ok(())
 }
 
+const MANY_SKIPPED: [ManyRow; 1] = [(
+    "SPACE EOF",
+    70_000,
+    "line 1 column 70001: expected a space (program line 1 column 1)",
+    70_000,
+)];
+
+const MANY: [ManyRow; 1] = [(
+    "SPACE EOF",
+    70_000,
+    "line 1 column 2: expected end of file (program line 1 column 7)",
+    1,
+)];
+
 #[test]
 fn a_run_of_many_blanks(rt: HostRuntime) -> Result<(), Fail> {
-    let data = vec![in rt.alloc(); b' '; 70_000]?;
-    for (mode, answer) in [
-        (
-            Mode::BlanksOk,
-            "line 1 column 70001: expected a space (program line 1 column 1)",
-        ),
-        (
-            Mode::Exact,
-            "line 1 column 2: expected end of file (program line 1 column 7)",
-        ),
-    ] {
-        let found = checked_in(rt.alloc(), "SPACE EOF", &data, "", u64::MAX, mode)?;
-        let said = told(rt.alloc(), found.outcome)?;
-        assert_eq!(rt; said.as_str(), answer);
-    }
-    Ok(())
+    judged_many(&rt, rt.alloc(), &BLANKS_OK, b' ', &MANY_SKIPPED)?;
+    judged_many(&rt, rt.alloc(), &PLAIN, b' ', &MANY)
 }
+
+const UNPAID: [Row; 1] = [(
+    "",
+    "  ",
+    "line 1 column 3: step limit reached (program end)",
+    0,
+    2,
+)];
 
 #[test]
 fn no_step_is_paid_for_the_first_blanks(rt: HostRuntime) -> Result<(), Fail> {
-    let found = checked_in(rt.alloc(), "", b"  ", "", 0, Mode::BlanksOk)?;
-    let said = told(rt.alloc(), found.outcome)?;
-    assert_eq!(rt;
-        said.as_str(),
-        "line 1 column 3: step limit reached (program end)"
-    );
-    assert_eq!(rt; (found.steps, found.consumed), (0, 2));
-    Ok(())
+    let terms = Terms {
+        steps: 0,
+        ..BLANKS_OK
+    };
+    judged(&rt, rt.alloc(), &terms, &UNPAID)
 }
 
-// Blanks before a failed read, a limit of bytes, and the answer with the bytes consumed.
-const FAULTS: [(&str, &str, u64, &str, u64, u64); 5] = [
+const TOO_LONG: [Row; 1] = [(
+    "",
+    "   ",
+    "line 1 column 1: test data too long (program start)",
+    0,
+    2,
+)];
+
+// A read fails behind the data.
+const UNREAD: [Row; 4] = [
     (
         "",
         "  ",
-        100,
         "line 1 column 1: read failed (program start)",
-        0,
-        2,
-    ),
-    (
-        "",
-        "   ",
-        2,
-        "line 1 column 1: test data too long (program start)",
         0,
         2,
     ),
     (
         "STRING(\"a\") SPACE",
         "a  ",
-        100,
         "line 1 column 2: read failed (program line 1 column 13)",
         2,
         3,
@@ -208,7 +197,6 @@ const FAULTS: [(&str, &str, u64, &str, u64, u64); 5] = [
     (
         "STRING(\"a\") NEWLINE",
         "a \n ",
-        100,
         "line 1 column 2: read failed (program line 1 column 13)",
         2,
         4,
@@ -216,7 +204,6 @@ const FAULTS: [(&str, &str, u64, &str, u64, u64); 5] = [
     (
         "STRING(\"a\")",
         "a ",
-        100,
         "line 1 column 2: read failed (program end)",
         2,
         2,
@@ -225,20 +212,26 @@ const FAULTS: [(&str, &str, u64, &str, u64, u64); 5] = [
 
 #[test]
 fn a_fault_among_blanks(rt: HostRuntime) -> Result<(), Fail> {
-    let alloc = rt.alloc();
-    let presets = Presets::none(alloc);
-    for (program, data, bytes, answer, steps, consumed) in FAULTS {
-        let plan = plan_of(alloc, program)?;
-        let mut source = FromRead::new(data.as_bytes().chain(Failing));
-        let limits = Limits { bytes, ..AMPLE };
-        let found = check(alloc, &plan, &presets, &mut source, limits, Mode::BlanksOk)?;
-        let said = told(alloc, found.outcome)?;
-        assert_eq!(rt; said.as_str(), answer, "{program}");
-        assert_eq!(rt;
-            (found.steps, found.consumed),
-            (steps, consumed),
-            "{program}"
-        );
-    }
-    Ok(())
+    let failing = Terms {
+        fails: true,
+        ..BLANKS_OK
+    };
+    judged(
+        &rt,
+        rt.alloc(),
+        &Terms {
+            bytes: 2,
+            ..failing
+        },
+        &TOO_LONG,
+    )?;
+    judged(
+        &rt,
+        rt.alloc(),
+        &Terms {
+            bytes: 100,
+            ..failing
+        },
+        &UNREAD,
+    )
 }

@@ -1,6 +1,6 @@
 //! ASSERT and IF.
 
-use crate::tests::rows::{Row, judged};
+use crate::tests::rows::{PLAIN, Row, judged};
 use std::test::Fail;
 
 const ASSERTIONS: [Row; 12] = [
@@ -103,10 +103,10 @@ const CHOICES: [Row; 7] = [
 
 #[test]
 fn a_false_assertion_rejects_the_data(rt: HostRuntime) -> Result<(), Fail> {
-    judged(&rt, rt.alloc(), "", &ASSERTIONS)
+    judged(&rt, rt.alloc(), &PLAIN, &ASSERTIONS)
 }
 
 #[test]
 fn an_if_does_one_of_its_lists(rt: HostRuntime) -> Result<(), Fail> {
-    judged(&rt, rt.alloc(), "", &CHOICES)
+    judged(&rt, rt.alloc(), &PLAIN, &CHOICES)
 }

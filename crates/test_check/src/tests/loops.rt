@@ -1,8 +1,8 @@
 //! The four loops: turns, counters, separators, and what each of them costs.
 
-use crate::tests::readers::{AMPLE, Endless, check_with};
-use crate::tests::rows::{Row, checked, judged, told};
-use ctd_check::{Limits, Outcome, Seen};
+use crate::tests::readers::{AMPLE, Endless, after, check_with, column, stopped};
+use crate::tests::rows::{PLAIN, Row, Terms, judged};
+use ctd_check::{Checked, Fault, Limits, Seen};
 use std::test::Fail;
 
 // One step for the loop, one for each turn and one for the turn that is not begun.
@@ -140,118 +140,152 @@ const FAULTS: [Row; 7] = [
 
 #[test]
 fn loops_take_their_turns(rt: HostRuntime) -> Result<(), Fail> {
-    judged(&rt, rt.alloc(), "", &TURNS)
+    judged(&rt, rt.alloc(), &PLAIN, &TURNS)
 }
 
 #[test]
 fn a_separator_is_between_two_turns(rt: HostRuntime) -> Result<(), Fail> {
-    judged(&rt, rt.alloc(), "", &SEPARATORS)
+    judged(&rt, rt.alloc(), &PLAIN, &SEPARATORS)
 }
 
 #[test]
 fn a_turn_has_its_loops_place(rt: HostRuntime) -> Result<(), Fail> {
-    judged(&rt, rt.alloc(), "", &FAULTS)
+    judged(&rt, rt.alloc(), &PLAIN, &FAULTS)
 }
+
+const COUNTED: [Row; 1] = [(
+    "WHILEI(i,i<2) SPACE END",
+    "  ",
+    "line 1 column 3: expected a space (program line 1 column 15)",
+    7,
+    2,
+)];
 
 #[test]
 fn a_preset_counter_stays(rt: HostRuntime) -> Result<(), Fail> {
-    let row = (
-        "WHILEI(i,i<2) SPACE END",
-        "  ",
-        "line 1 column 3: expected a space (program line 1 column 15)",
-        7,
-        2,
-    );
-    judged(&rt, rt.alloc(), "i=1", &[row])
+    let terms = Terms {
+        presets: "i=1",
+        ..PLAIN
+    };
+    judged(&rt, rt.alloc(), &terms, &COUNTED)
 }
+
+// The same program and data, stopped after 0, 1, 2, .. steps.
+const PAID: [Row; 9] = [
+    (
+        "REPI(i,2,SPACE) INT(i,i) END",
+        "0 1",
+        "line 1 column 1: step limit reached (program line 1 column 1)",
+        0,
+        0,
+    ),
+    (
+        "REPI(i,2,SPACE) INT(i,i) END",
+        "0 1",
+        "line 1 column 1: step limit reached (program line 1 column 1)",
+        1,
+        0,
+    ),
+    (
+        "REPI(i,2,SPACE) INT(i,i) END",
+        "0 1",
+        "line 1 column 1: step limit reached (program line 1 column 17)",
+        2,
+        0,
+    ),
+    (
+        "REPI(i,2,SPACE) INT(i,i) END",
+        "0 1",
+        "line 1 column 2: step limit reached (program line 1 column 1)",
+        3,
+        1,
+    ),
+    (
+        "REPI(i,2,SPACE) INT(i,i) END",
+        "0 1",
+        "line 1 column 2: step limit reached (program line 1 column 10)",
+        4,
+        1,
+    ),
+    (
+        "REPI(i,2,SPACE) INT(i,i) END",
+        "0 1",
+        "line 1 column 3: step limit reached (program line 1 column 17)",
+        5,
+        2,
+    ),
+    (
+        "REPI(i,2,SPACE) INT(i,i) END",
+        "0 1",
+        "line 1 column 4: step limit reached (program line 1 column 1)",
+        6,
+        3,
+    ),
+    (
+        "REPI(i,2,SPACE) INT(i,i) END",
+        "0 1",
+        "line 1 column 4: step limit reached (program end)",
+        7,
+        3,
+    ),
+    ("REPI(i,2,SPACE) INT(i,i) END", "0 1", "ok", 8, 3),
+];
 
 #[test]
 fn each_step_is_paid_where_it_is_due(rt: HostRuntime) -> Result<(), Fail> {
-    let alloc = rt.alloc();
-    for (steps, answer, consumed) in [
-        (
-            0,
-            "line 1 column 1: step limit reached (program line 1 column 1)",
-            0,
-        ),
-        (
-            1,
-            "line 1 column 1: step limit reached (program line 1 column 1)",
-            0,
-        ),
-        (
-            2,
-            "line 1 column 1: step limit reached (program line 1 column 17)",
-            0,
-        ),
-        (
-            3,
-            "line 1 column 2: step limit reached (program line 1 column 1)",
-            1,
-        ),
-        (
-            4,
-            "line 1 column 2: step limit reached (program line 1 column 10)",
-            1,
-        ),
-        (
-            5,
-            "line 1 column 3: step limit reached (program line 1 column 17)",
-            2,
-        ),
-        (
-            6,
-            "line 1 column 4: step limit reached (program line 1 column 1)",
-            3,
-        ),
-        (7, "line 1 column 4: step limit reached (program end)", 3),
-        (8, "ok", 3),
-    ] {
-        let found = checked(alloc, "REPI(i,2,SPACE) INT(i,i) END", "0 1", "", steps)?;
-        assert_eq!(rt;
-            told(alloc, found.outcome)?.as_str(),
-            answer,
-            "{steps} steps"
-        );
-        assert_eq!(rt; found.steps, steps, "{steps} steps");
-        assert_eq!(rt; found.consumed, consumed, "{steps} steps");
+    for row in &PAID {
+        let terms = Terms {
+            steps: row.3,
+            ..PLAIN
+        };
+        judged(&rt, rt.alloc(), &terms, &[*row])?;
     }
     Ok(())
 }
 
-#[test]
-fn a_loop_that_never_ends_stops_at_its_limit(rt: HostRuntime) -> Result<(), Fail> {
-    let found = checked(rt.alloc(), "WHILE(1==1) END", "", "", 1_000)?;
-    assert_eq!(rt; found.steps, 1_000);
-    assert_eq!(rt;
-        told(rt.alloc(), found.outcome)?.as_str(),
-        "line 1 column 1: step limit reached (program line 1 column 1)"
-    );
-    Ok(())
-}
+const ENDLESS: [Row; 1] = [(
+    "WHILE(1==1) END",
+    "",
+    "line 1 column 1: step limit reached (program line 1 column 1)",
+    1_000,
+    0,
+)];
 
 #[test]
+fn a_loop_that_never_ends_stops_at_its_limit(rt: HostRuntime) -> Result<(), Fail> {
+    let terms = Terms {
+        steps: 1_000,
+        ..PLAIN
+    };
+    judged(&rt, rt.alloc(), &terms, &ENDLESS)
+}
+
+/// The loop costs a step, and each turn one for itself and one for its STRING.
+#[test]
 fn data_that_never_end_stop_a_loop_at_their_limit(rt: HostRuntime) -> Result<(), Fail> {
+    let program = "WHILE(1==1) STRING(\"1\") END";
     let limits = Limits {
         bytes: 1_000,
         ..AMPLE
     };
-    let found = check_with(rt.alloc(), "WHILE(1==1) STRING(\"1\") END", Endless, limits)?;
-    assert_eq!(rt;
-        told(rt.alloc(), found.outcome)?.as_str(),
-        "line 1 column 1001: test data too long (program line 1 column 13)"
-    );
-    assert_eq!(rt; found.steps, 2_003);
-    assert_eq!(rt; found.consumed, 1_000);
-    assert_eq!(rt; found.taken, 1_001);
-    assert_eq!(rt; found.seen, Seen::Going);
+    let found = check_with(rt.alloc(), program, Endless, limits)?;
+    let expected = Checked {
+        outcome: stopped(after(1_000), column(13), Fault::DataTooLong),
+        steps: 2_003,
+        consumed: 1_000,
+        taken: 1_001,
+        seen: Seen::Going,
+    };
+    assert_eq!(rt; found, expected);
     let limits = Limits {
         steps: 100_000,
         ..AMPLE
     };
-    let found = check_with(rt.alloc(), "WHILE(1==1) STRING(\"1\") END", Endless, limits)?;
-    assert!(rt; found.outcome != Outcome::Accepted);
-    assert_eq!(rt; found.steps, 100_000);
-    assert_eq!(rt; found.consumed, 49_999);
+    let found = check_with(rt.alloc(), program, Endless, limits)?;
+    let outcome = stopped(after(49_999), column(13), Fault::StepLimit);
+    assert_eq!(rt;
+        (found.outcome, found.steps, found.consumed),
+        (outcome, 100_000, 49_999)
+    );
     Ok(())
 }

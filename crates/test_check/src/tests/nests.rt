@@ -1,6 +1,7 @@
 //! Blocks in one another.
 
-use crate::tests::rows::{checked, told};
+use crate::tests::rows::{PLAIN, Row, accepted, judged};
+use std::alloc::Global;
 use std::test::Fail;
 
 // The words with which a block may begin, and how often what is in it is done.
@@ -25,49 +26,52 @@ const INNER: [(&str, &str); 6] = [
 #[test]
 fn each_block_runs_within_each(rt: HostRuntime) -> Result<(), Fail> {
     let alloc = rt.alloc();
-    for (outer, turns) in OUTER {
-        for (inner, more) in INNER {
+    for (outer, turns) in &OUTER {
+        for (inner, more) in &INNER {
             let program = format!(in alloc;
                 "SET(n=0) {outer} {inner} SET(n=n+1) END SET(m=n) END ASSERT(n=={turns}*{more} && m==n)"
             )?;
-            let found = checked(alloc, program.as_str(), "", "", u64::MAX)?;
-            assert_eq!(rt; told(alloc, found.outcome)?.as_str(), "ok", "{program}");
+            accepted(&rt, alloc, &program)?;
         }
     }
     Ok(())
 }
 
+const SEPARATORS: [(&str, &str); 5] = [
+    ("REP(3)", "3"),
+    ("REPI(j,3)", "3"),
+    ("WHILEI(j,j<3)", "3"),
+    ("IF(1==1)", "1"),
+    ("IF(1==2) ELSE", "1"),
+];
+
 #[test]
 fn a_block_may_be_a_separator(rt: HostRuntime) -> Result<(), Fail> {
     let alloc = rt.alloc();
-    for (inner, more) in [
-        ("REP(3)", "3"),
-        ("REPI(j,3)", "3"),
-        ("WHILEI(j,j<3)", "3"),
-        ("IF(1==1)", "1"),
-        ("IF(1==2) ELSE", "1"),
-    ] {
+    for (inner, more) in &SEPARATORS {
         let program = format!(in alloc;
             "SET(n=0) REPI(i,3,{inner} SET(n=n+1) END) ASSERT(n==i*{more}) END"
         )?;
-        let found = checked(alloc, program.as_str(), "", "", u64::MAX)?;
-        assert_eq!(rt; told(alloc, found.outcome)?.as_str(), "ok", "{program}");
+        accepted(&rt, alloc, &program)?;
     }
     Ok(())
 }
 
-#[test]
-fn blocks_nest_to_the_limit(rt: HostRuntime) -> Result<(), Fail> {
-    let alloc = rt.alloc();
+/// So many loops in one another.
+fn nested(alloc: Global, count: u32) -> Result<String, Fail> {
     let mut program = String::new(alloc);
-    for _ in 0..199 {
+    for _ in 0..count {
         program.push_str("REP(1) ")?;
     }
-    for _ in 0..199 {
+    for _ in 0..count {
         program.push_str("END ")?;
     }
-    let found = checked(alloc, program.as_str(), "", "", u64::MAX)?;
-    assert_eq!(rt; told(alloc, found.outcome)?.as_str(), "ok");
-    assert_eq!(rt; found.steps, 598);
-    Ok(())
+    Ok(program)
+}
+
+#[test]
+fn blocks_nest_to_the_limit(rt: HostRuntime) -> Result<(), Fail> {
+    let program = nested(rt.alloc(), 199)?;
+    let row: Row = (&program, "", "ok", 598, 0);
+    judged(&rt, rt.alloc(), &PLAIN, &[row])
 }

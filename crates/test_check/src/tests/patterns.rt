@@ -1,9 +1,8 @@
 //! REGEX: what its patterns match, and what is kept.
 
-use crate::tests::readers::{AMPLE, plan_of};
-use crate::tests::rows::{Row, checked_in, judged, told};
-use ctd_check::{FromRead, Mode, Outcome, Plan, Presets, check};
-use std::alloc::Global;
+use crate::tests::readers::{outcome_on, plan_of};
+use crate::tests::rows::{ManyRow, PLAIN, Row, Terms, checked, judged, judged_many};
+use ctd_check::Outcome;
 use std::test::Fail;
 
 const MISMATCH: &str =
@@ -75,17 +74,22 @@ const PATTERNS: [Row; 19] = [
 
 #[test]
 fn patterns_match_at_the_start(rt: HostRuntime) -> Result<(), Fail> {
-    judged(&rt, rt.alloc(), "", &PATTERNS)
+    judged(&rt, rt.alloc(), &PLAIN, &PATTERNS)
 }
+
+const PRESET: [Row; 1] = [("REGEX(\"a\",w) ASSERT(w==\"b\")", "a", "ok", 3, 1)];
 
 #[test]
 fn a_preset_stays_as_it_is(rt: HostRuntime) -> Result<(), Fail> {
-    let rows: [Row; 1] = [("REGEX(\"a\",w) ASSERT(w==\"b\")", "a", "ok", 3, 1)];
-    judged(&rt, rt.alloc(), "w=\"b\"", &rows)
+    let terms = Terms {
+        presets: "w=\"b\"",
+        ..PLAIN
+    };
+    judged(&rt, rt.alloc(), &terms, &PRESET)
 }
 
 // Literals of which a count is large, how many letters come, and the answer.
-const WINDOWS: [(&str, usize, &str, u64); 5] = [
+const WINDOWS: [ManyRow; 5] = [
     (
         "REGEX(\"a+\")",
         65_536,
@@ -110,50 +114,33 @@ const WINDOWS: [(&str, usize, &str, u64); 5] = [
 
 #[test]
 fn a_window_is_the_whole_text(rt: HostRuntime) -> Result<(), Fail> {
-    for (program, letters, answer, consumed) in WINDOWS {
-        let data = vec![in rt.alloc(); b'a'; letters]?;
-        let found = checked_in(rt.alloc(), program, &data, "", u64::MAX, Mode::Exact)?;
-        let said = told(rt.alloc(), found.outcome)?;
-        assert_eq!(rt; said.as_str(), answer, "{program}");
-        assert_eq!(rt; found.consumed, consumed, "{program}");
-    }
-    Ok(())
+    judged_many(&rt, rt.alloc(), &PLAIN, b'a', &WINDOWS)
 }
+
+const HIGH_BYTES: [(&str, &[u8]); 4] = [
+    ("REGEX(\"(?-u:[\\x80-\\xff])+\")", b"\x80\xff"),
+    ("REGEX(\"\\xe9\")", b"\xc3\xa9"),
+    ("REGEX(\"\\303\\251\")", b"\xc3\xa9"),
+    ("REGEX(\"(?-u:\\xff)\",b) ASSERT(b==\"\\377\")", b"\xff"),
+];
 
 #[test]
 fn bytes_above_127_are_matched(rt: HostRuntime) -> Result<(), Fail> {
-    for (program, data) in [
-        ("REGEX(\"(?-u:[\\x80-\\xff])+\")", b"\x80\xff".as_slice()),
-        ("REGEX(\"\\xe9\")", b"\xc3\xa9".as_slice()),
-        ("REGEX(\"\\303\\251\")", b"\xc3\xa9".as_slice()),
-        (
-            "REGEX(\"(?-u:\\xff)\",b) ASSERT(b==\"\\377\")",
-            b"\xff".as_slice(),
-        ),
-    ] {
-        let found = checked_in(rt.alloc(), program, data, "", u64::MAX, Mode::Exact)?;
+    for (program, data) in &HIGH_BYTES {
+        let found = checked(rt.alloc(), &PLAIN, program, data)?;
         assert_eq!(rt; found.outcome, Outcome::Accepted, "{program}");
     }
     Ok(())
 }
 
-/// Whether a plan accepts some data; none where memory runs out.
-fn accepts(alloc: Global, plan: &Plan, data: &str) -> Option<bool> {
-    let mut source = FromRead::new(data.as_bytes());
-    let presets = Presets::none(alloc);
-    let checked = check(alloc, plan, &presets, &mut source, AMPLE, Mode::Exact).ok()?;
-    Some(checked.outcome == Outcome::Accepted)
-}
-
 /// Under `rt try --test --fail-alloc N` one of the checks runs out of memory, and those after it answer as ever.
 #[test]
 fn a_plan_serves_any_number_of_checks(rt: HostRuntime) -> Result<(), Fail> {
-    let alloc = rt.alloc();
-    let plan = plan_of(alloc, "REGEX(\"[0-9]+\",n[1]) NEWLINE")?;
+    let plan = plan_of(rt.alloc(), "REGEX(\"[0-9]+\",n[1]) NEWLINE")?;
     let mut has_failed = false;
-    for (data, accepted) in [("12\n", true), ("x\n", false), ("3\n", true)] {
-        match accepts(alloc, &plan, data) {
-            Some(answer) => assert_eq!(rt; answer, accepted, "{data}"),
+    for (data, accepted) in &[("12\n", true), ("x\n", false), ("3\n", true)] {
+        match outcome_on(rt.alloc(), &plan, data) {
+            Some(outcome) => assert_eq!(rt; outcome == Outcome::Accepted, *accepted, "{data}"),
             None => {
                 assert!(rt; !has_failed, "{data}");
                 has_failed = true;

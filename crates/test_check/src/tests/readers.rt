@@ -79,6 +79,14 @@ pub fn check_with<R: Read + Drop>(
     Ok(checked)
 }
 
+/// How a check of some data by a plan ends; none where memory runs out.
+pub fn outcome_on(alloc: Global, plan: &Plan, data: &str) -> Option<Outcome> {
+    let mut source = FromRead::new(data.as_bytes());
+    let presets = Presets::none(alloc);
+    let checked = check(alloc, plan, &presets, &mut source, AMPLE, Mode::Exact).ok()?;
+    Some(checked.outcome)
+}
+
 /// The spot in the first line with so many bytes before it.
 pub fn after(offset: u32) -> Spot {
     let offset = offset as u64;

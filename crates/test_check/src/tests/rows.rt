@@ -1,16 +1,58 @@
 //! Rows of programs and data, with what a check of them finds.
 
-use crate::tests::readers::{AMPLE, plan_of};
+use crate::tests::readers::plan_of;
 use ctd_check::{Checked, FromRead, Limits, Mode, Outcome, Presets, check};
 use std::alloc::Global;
+use std::io::{Error, ErrorKind, Read};
 use std::process::Abort;
 use std::test::Fail;
 
 /// A program, its data, and what a check finds: its answer as text, the steps paid and the bytes consumed.
-pub type Row = (&'static str, &'static str, &'static str, u64, u64);
+pub type Row<'r> = (&'r str, &'r str, &'r str, u64, u64);
+
+/// What holds for all rows of a table: the presets, the mode and the limits of their checks, and how the data are held.
+#[derive(Clone, Copy)]
+pub struct Terms<'t> {
+    pub presets: &'t str,
+    pub mode: Mode,
+    pub steps: u64,
+    pub bytes: u32,
+    /// How many bytes of the data a read gives at most.
+    pub most: usize,
+    /// Whether a read fails behind the data.
+    pub fails: bool,
+}
+
+/// The terms that ask for nothing.
+pub const PLAIN: Terms<'static> = Terms {
+    presets: "",
+    mode: Mode::Exact,
+    steps: u64::MAX,
+    bytes: u32::MAX,
+    most: 1_000_000,
+    fails: false,
+};
+
+/// Data as the terms say that they are held.
+#[derive(Drop)]
+struct Held<'d> {
+    bytes: &'d [u8],
+    most: usize,
+    fails: bool,
+}
+
+impl Read for Held<'_> {
+    fn read(&mut self, buf: &mut [u8]) -> std::io::Result<usize> {
+        if self.bytes.is_empty() && self.fails {
+            return Err(Error::from(ErrorKind::Other));
+        }
+        let most = self.most.min(buf.len());
+        self.bytes.read(&mut buf[..most])
+    }
+}
 
 /// The answer of a check as the tool would write it.
-pub fn told(alloc: Global, outcome: Outcome) -> Result<String, Fail> {
+fn told(alloc: Global, outcome: Outcome) -> Result<String, Fail> {
     Ok(match outcome {
         Outcome::Accepted => format!(in alloc; "ok")?,
         Outcome::Rejected {
@@ -30,55 +72,78 @@ pub fn told(alloc: Global, outcome: Outcome) -> Result<String, Fail> {
     })
 }
 
-/// What a check of data finds in a mode, under presets and a limit of steps.
-pub fn checked_in(
-    alloc: Global,
-    program: &str,
-    data: &[u8],
-    presets: &str,
-    steps: u64,
-    mode: Mode,
-) -> Result<Checked, Fail> {
+/// What a check of data finds.
+pub fn checked(alloc: Global, terms: &Terms, program: &str, data: &[u8]) -> Result<Checked, Fail> {
     let plan = plan_of(alloc, program)?;
-    let presets = match Presets::read(alloc, presets) {
+    let presets = match Presets::read(alloc, terms.presets) {
         Ok(presets) => presets,
         Err(_fault) => Presets::none(alloc),
     };
-    let mut data = FromRead::new(data);
-    let limits = Limits { steps, ..AMPLE };
-    Ok(check(alloc, &plan, &presets, &mut data, limits, mode)?)
+    let mut data = FromRead::new(Held {
+        bytes: data,
+        most: terms.most,
+        fails: terms.fails,
+    });
+    let limits = Limits {
+        steps: terms.steps,
+        bytes: terms.bytes as u64,
+    };
+    Ok(check(alloc, &plan, &presets, &mut data, limits, terms.mode)?)
 }
 
-/// What a check of a text as data finds, under presets and a limit of steps.
-pub fn checked(
+/// What a check of one byte many times finds.
+pub fn checked_many(
     alloc: Global,
+    terms: &Terms,
     program: &str,
-    data: &str,
-    presets: &str,
-    steps: u64,
+    byte: u8,
+    count: usize,
 ) -> Result<Checked, Fail> {
-    checked_in(alloc, program, data.as_bytes(), presets, steps, Mode::Exact)
+    let data = vec![in alloc; byte; count]?;
+    checked(alloc, terms, program, &data)
 }
 
 /// Each row's check finds what the row says.
-pub fn judged(rt: &impl Abort, alloc: Global, presets: &str, rows: &[Row]) -> Result<(), Fail> {
-    judged_in(rt, alloc, presets, Mode::Exact, rows)
+pub fn judged(rt: &impl Abort, alloc: Global, terms: &Terms, rows: &[Row]) -> Result<(), Fail> {
+    for (program, data, answer, steps, consumed) in rows {
+        let found = checked(alloc, terms, program, data.as_bytes())?;
+        let said = told(alloc, found.outcome)?;
+        assert_eq!(rt;
+            (said.as_str(), found.steps, found.consumed),
+            (*answer, *steps, *consumed),
+            "{program}: {data}, {} at once",
+            terms.most
+        );
+    }
+    Ok(())
 }
 
-/// The same in a mode.
-pub fn judged_in(
+/// A program, how many times a byte comes, the answer as text and the bytes consumed.
+pub type ManyRow<'r> = (&'r str, usize, &'r str, u64);
+
+/// Each row's check finds what the row says where one byte comes many times.
+pub fn judged_many(
     rt: &impl Abort,
     alloc: Global,
-    presets: &str,
-    mode: Mode,
-    rows: &[Row],
+    terms: &Terms,
+    byte: u8,
+    rows: &[ManyRow],
 ) -> Result<(), Fail> {
-    for (program, data, answer, steps, consumed) in rows {
-        let found = checked_in(alloc, program, data.as_bytes(), presets, u64::MAX, mode)?;
+    for (program, count, answer, consumed) in rows {
+        let found = checked_many(alloc, terms, program, byte, *count)?;
         let said = told(alloc, found.outcome)?;
-        assert_eq!(rt; said.as_str(), *answer, "{program}");
-        assert_eq!(rt; found.steps, *steps, "{program}");
-        assert_eq!(rt; found.consumed, *consumed, "{program}");
+        assert_eq!(rt;
+            (said.as_str(), found.consumed),
+            (*answer, *consumed),
+            "{program}: {count}"
+        );
     }
+    Ok(())
+}
+
+/// A program accepts empty data.
+pub fn accepted(rt: &impl Abort, alloc: Global, program: &str) -> Result<(), Fail> {
+    let found = checked(alloc, &PLAIN, program, b"")?;
+    assert_eq!(rt; found.outcome, Outcome::Accepted, "{program}");
     Ok(())
 }

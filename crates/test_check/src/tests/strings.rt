@@ -1,9 +1,8 @@
 //! STRING: its bytes, however they come.
 
-use crate::tests::readers::{AMPLE, Cut, Failing, check_with};
-use crate::tests::rows::{Row, judged, told};
-use ctd_check::Limits;
-use std::io::Read;
+use crate::tests::rows::{PLAIN, Row, Terms, judged};
+use std::alloc::Global;
+use std::process::Abort;
 use std::test::Fail;
 
 const STRINGS: [Row; 9] = [
@@ -62,65 +61,74 @@ const STRINGS: [Row; 9] = [
 
 #[test]
 fn a_string_passes_its_bytes(rt: HostRuntime) -> Result<(), Fail> {
-    judged(&rt, rt.alloc(), "", &STRINGS)
+    judged(&rt, rt.alloc(), &PLAIN, &STRINGS)
+}
+
+/// So many letters.
+fn letters(alloc: Global, count: u32) -> Result<String, Fail> {
+    let mut text = String::new(alloc);
+    for _ in 0..count {
+        text.push('a')?;
+    }
+    Ok(text)
+}
+
+/// The checks of a string of 100,000 bytes on data which differ from it in their last byte, and on data which do not.
+fn long_judged(rt: &impl Abort, alloc: Global, front: &str, most: usize) -> Result<(), Fail> {
+    let mismatch = "line 1 column 1: string does not match (program line 1 column 1)";
+    let program = format!(in alloc; "STRING(\"{front}a\")")?;
+    let same = format!(in alloc; "{front}a")?;
+    let other = format!(in alloc; "{front}b")?;
+    let rows: [Row; 2] = [
+        (&program, &same, "ok", 2, 100_000),
+        (&program, &other, mismatch, 1, 99_999),
+    ];
+    judged(rt, alloc, &Terms { most, ..PLAIN }, &rows)
 }
 
 #[test]
 fn a_string_may_be_longer_than_a_window(rt: HostRuntime) -> Result<(), Fail> {
-    let alloc = rt.alloc();
-    let mut front = String::new(alloc);
-    for _ in 0..99_999 {
-        front.push('a')?;
-    }
-    let program = format!(in alloc; "STRING(\"{front}a\")")?;
-    let mismatch = "line 1 column 1: string does not match (program line 1 column 1)";
+    let front = letters(rt.alloc(), 99_999)?;
     for most in [1, 7, 65_535, 65_536, 100_000] {
-        for (last, answer, consumed) in [("a", "ok", 100_000), ("b", mismatch, 99_999)] {
-            let data = Cut {
-                reader: front.as_bytes().chain(last.as_bytes()),
-                most,
-            };
-            let found = check_with(alloc, program.as_str(), data, AMPLE)?;
-            assert_eq!(rt;
-                told(alloc, found.outcome)?.as_str(),
-                answer,
-                "{most} at once"
-            );
-            assert_eq!(rt; found.consumed, consumed, "{most} at once");
-        }
+        long_judged(&rt, rt.alloc(), &front, most)?;
     }
     Ok(())
 }
 
+// At most three bytes of data.
+const LIMITED: [Row; 3] = [
+    ("STRING(\"abc\")", "abc", "ok", 2, 3),
+    (
+        "STRING(\"abcd\")",
+        "abcd",
+        "line 1 column 1: test data too long (program line 1 column 1)",
+        1,
+        3,
+    ),
+    (
+        "STRING(\"abd\")",
+        "abcd",
+        "line 1 column 1: string does not match (program line 1 column 1)",
+        1,
+        2,
+    ),
+];
+
+// A read fails behind the data.
+const UNREAD: [Row; 1] = [(
+    "STRING(\"abc\")",
+    "ab",
+    "line 1 column 1: read failed (program line 1 column 1)",
+    1,
+    2,
+)];
+
 #[test]
 fn a_string_stops_at_the_limit_and_at_a_failed_read(rt: HostRuntime) -> Result<(), Fail> {
-    let alloc = rt.alloc();
-    for (program, data, answer, consumed) in [
-        ("STRING(\"abc\")", "abc", "ok", 3),
-        (
-            "STRING(\"abcd\")",
-            "abcd",
-            "line 1 column 1: test data too long (program line 1 column 1)",
-            3,
-        ),
-        (
-            "STRING(\"abd\")",
-            "abcd",
-            "line 1 column 1: string does not match (program line 1 column 1)",
-            2,
-        ),
-    ] {
-        let limits = Limits { bytes: 3, ..AMPLE };
-        let found = check_with(alloc, program, data.as_bytes(), limits)?;
-        assert_eq!(rt; told(alloc, found.outcome)?.as_str(), answer, "{program}");
-        assert_eq!(rt; found.consumed, consumed, "{program}");
-    }
-    let data: &[u8] = b"ab";
-    let found = check_with(alloc, "STRING(\"abc\")", data.chain(Failing), AMPLE)?;
-    assert_eq!(rt;
-        told(alloc, found.outcome)?.as_str(),
-        "line 1 column 1: read failed (program line 1 column 1)"
-    );
-    assert_eq!(rt; found.consumed, 2);
-    Ok(())
+    judged(&rt, rt.alloc(), &Terms { bytes: 3, ..PLAIN }, &LIMITED)?;
+    let failing = Terms {
+        fails: true,
+        ..PLAIN
+    };
+    judged(&rt, rt.alloc(), &failing, &UNREAD)
 }

@@ -1,6 +1,6 @@
 //! Variables: INT with bounds and a target, SET, UNSET, and presets.
 
-use crate::tests::rows::{Row, judged};
+use crate::tests::rows::{PLAIN, Row, Terms, judged};
 use std::test::Fail;
 
 const BOUNDS: [Row; 8] = [
@@ -136,20 +136,24 @@ const PINNED: [Row; 6] = [
 
 #[test]
 fn bounds_are_evaluated_from_left_to_right(rt: HostRuntime) -> Result<(), Fail> {
-    judged(&rt, rt.alloc(), "", &BOUNDS)
+    judged(&rt, rt.alloc(), &PLAIN, &BOUNDS)
 }
 
 #[test]
 fn an_integer_goes_to_its_variable(rt: HostRuntime) -> Result<(), Fail> {
-    judged(&rt, rt.alloc(), "", &TARGETS)
+    judged(&rt, rt.alloc(), &PLAIN, &TARGETS)
 }
 
 #[test]
 fn variables_are_set_and_unset(rt: HostRuntime) -> Result<(), Fail> {
-    judged(&rt, rt.alloc(), "", &ASSIGNMENTS)
+    judged(&rt, rt.alloc(), &PLAIN, &ASSIGNMENTS)
 }
 
 #[test]
 fn a_preset_keeps_its_value(rt: HostRuntime) -> Result<(), Fail> {
-    judged(&rt, rt.alloc(), "n=5", &PINNED)
+    let terms = Terms {
+        presets: "n=5",
+        ..PLAIN
+    };
+    judged(&rt, rt.alloc(), &terms, &PINNED)
 }
