@@ -8,6 +8,7 @@ use crate::tests::written::Written;
 use ctd_tool::{Files, ToWrite, run_words};
 use std::alloc::{AllocError, Global};
 use std::io::{Error, ErrorKind, Read, Result};
+use std::process::Abort;
 use std::test::Fail;
 
 /// An integer from 1 to 10, and the end of its line.
@@ -85,27 +86,33 @@ struct Answered {
 
 impl Answered {
     /// Whether these files were asked for and this was written.
-    fn is(&self, asked: &str, status: u8, out: &str, err: &str) -> bool {
+    fn is(self, asked: &str, status: u8, out: &str, err: &str) -> bool {
         self.asked.as_slice() == asked.as_bytes() && self.written.is(status, out, err)
     }
 }
 
+/// The files of these tests.
+const NAMED: [(&str, &str); 4] = [
+    ("p.ctd", LINE_OF_ONE),
+    ("broken.ctd", "INT("),
+    ("right.in", "5\n"),
+    ("wrong.in", "5"),
+];
+
 /// Answers a command line over the files of these tests, where reading the one of this name fails after its bytes.
-fn answer(alloc: Global, failing: &str, line: &str) -> std::result::Result<Answered, AllocError> {
-    let named = [
-        ("p.ctd", LINE_OF_ONE),
-        ("broken.ctd", "INT("),
-        ("right.in", "5\n"),
-        ("wrong.in", "5"),
-    ];
+fn answer(
+    alloc: Global,
+    failing: &str,
+    line: &str,
+    mut out: Clipped,
+) -> std::result::Result<Answered, AllocError> {
+    let words = words_of(alloc, line.as_bytes())?;
     let mut files = MemoryFiles {
-        named: &named,
+        named: &NAMED,
         input: "7",
         failing,
         asked: Vec::new(alloc),
     };
-    let words = words_of(alloc, line.as_bytes())?;
-    let mut out = Vec::new(alloc);
     let mut err = Vec::new(alloc);
     let ended = run_words(
         alloc,
@@ -115,138 +122,114 @@ fn answer(alloc: Global, failing: &str, line: &str) -> std::result::Result<Answe
         &mut ToWrite::new(&mut err),
     );
     let answer = Ok(ended.status);
+    let out = out.bytes;
     Ok(Answered {
         asked: files.asked,
         written: Written { answer, out, err },
     })
 }
 
-#[test]
-fn a_verdict_is_of_the_files_that_the_words_name(rt: HostRuntime) -> std::result::Result<(), Fail> {
-    let alloc = rt.alloc();
-    for (line, asked, out, status) in [
-        ("p.ctd right.in", "p.ctd;right.in;", "testdata ok!\n", 0),
-        (
-            "p.ctd wrong.in",
-            "p.ctd;wrong.in;",
-            "line 1 column 2: expected a newline (program line 1 column 11)\n",
-            1,
-        ),
-        (
-            "p.ctd",
-            "p.ctd;<input>;",
-            "line 1 column 2: expected a newline (program line 1 column 11)\n",
-            1,
-        ),
-        (
-            "p.ctd -",
-            "p.ctd;<input>;",
-            "line 1 column 2: expected a newline (program line 1 column 11)\n",
-            1,
-        ),
-    ] {
-        let answered = answer(alloc, "", line)?;
-        assert!(rt; answered.is(asked, status, out, ""), "{asked}");
+/// A command line, the files that it asks for, its status, and what it writes to both streams.
+type Row = (&'static str, &'static str, u8, &'static str, &'static str);
+
+/// Each command line asks for the files of its row and writes what the row says.
+fn judged(
+    rt: &impl Abort,
+    alloc: Global,
+    failing: &str,
+    rows: &[Row],
+) -> std::result::Result<(), Fail> {
+    for (line, asked, status, out, err) in rows {
+        let ample = Clipped::new(alloc, 1000, Refusal::Fails);
+        let answered = answer(alloc, failing, line, ample)?;
+        assert!(rt; answered.is(asked, *status, out, err), "{line}");
     }
     Ok(())
 }
 
+const WRONG: &str = "line 1 column 2: expected a newline (program line 1 column 11)\n";
+
+const VERDICTS: [Row; 4] = [
+    ("p.ctd right.in", "p.ctd;right.in;", 0, "testdata ok!\n", ""),
+    ("p.ctd wrong.in", "p.ctd;wrong.in;", 1, WRONG, ""),
+    ("p.ctd", "p.ctd;<input>;", 1, WRONG, ""),
+    ("p.ctd -", "p.ctd;<input>;", 1, WRONG, ""),
+];
+
+#[test]
+fn a_verdict_is_of_the_files_that_the_words_name(rt: HostRuntime) -> std::result::Result<(), Fail> {
+    judged(&rt, rt.alloc(), "", &VERDICTS)
+}
+
+const BAD_ARGUMENTS: &str = "checktestdata: bad arguments\nTry 'checktestdata --help'.\n";
+
+const REFUSED: [Row; 6] = [
+    (
+        "broken.ctd right.in",
+        "broken.ctd;right.in;",
+        2,
+        "",
+        "checktestdata: program line 1 column 5: syntax error\n",
+    ),
+    (
+        "none.ctd right.in",
+        "none.ctd;",
+        2,
+        "",
+        "checktestdata: cannot open none.ctd\n",
+    ),
+    (
+        "p.ctd none.in",
+        "p.ctd;none.in;",
+        2,
+        "",
+        "checktestdata: cannot open none.in\n",
+    ),
+    ("- right.in", "-;", 2, "", "checktestdata: cannot open -\n"),
+    ("", "", 2, "", BAD_ARGUMENTS),
+    ("p.ctd right.in more", "", 2, "", BAD_ARGUMENTS),
+];
+
 #[test]
 fn a_file_that_is_refused_is_told_by_its_name(rt: HostRuntime) -> std::result::Result<(), Fail> {
-    let alloc = rt.alloc();
-    for (line, asked, err) in [
-        (
-            "broken.ctd right.in",
-            "broken.ctd;right.in;",
-            "checktestdata: program line 1 column 5: syntax error\n",
-        ),
-        (
-            "none.ctd right.in",
-            "none.ctd;",
-            "checktestdata: cannot open none.ctd\n",
-        ),
-        (
-            "p.ctd none.in",
-            "p.ctd;none.in;",
-            "checktestdata: cannot open none.in\n",
-        ),
-        ("- right.in", "-;", "checktestdata: cannot open -\n"),
-        (
-            "",
-            "",
-            "checktestdata: bad arguments\nTry 'checktestdata --help'.\n",
-        ),
-        (
-            "p.ctd right.in more",
-            "",
-            "checktestdata: bad arguments\nTry 'checktestdata --help'.\n",
-        ),
-    ] {
-        let answered = answer(alloc, "", line)?;
-        assert!(rt; answered.is(asked, 2, "", err), "{err}");
-    }
-    Ok(())
+    judged(&rt, rt.alloc(), "", &REFUSED)
 }
+
+const NO_PROGRAM: &str = "checktestdata: cannot read program\n";
+
+const NO_DATA: &str = "checktestdata: line 1 column 1: read failed (program line 1 column 1)\n";
+
+// The file whose reading fails, and a command line.
+const FAILURES: [(&str, Row); 3] = [
+    (
+        "p.ctd",
+        ("p.ctd wrong.in", "p.ctd;wrong.in;", 2, "", NO_PROGRAM),
+    ),
+    (
+        "wrong.in",
+        ("p.ctd wrong.in", "p.ctd;wrong.in;", 2, "", NO_DATA),
+    ),
+    ("<input>", ("p.ctd", "p.ctd;<input>;", 2, "", NO_DATA)),
+];
 
 #[test]
 fn a_read_that_fails_once_is_told_of_its_own_file(
     rt: HostRuntime,
 ) -> std::result::Result<(), Fail> {
-    let alloc = rt.alloc();
-    for (failing, line, err) in [
-        (
-            "p.ctd",
-            "p.ctd wrong.in",
-            "checktestdata: cannot read program\n",
-        ),
-        (
-            "wrong.in",
-            "p.ctd wrong.in",
-            "checktestdata: line 1 column 1: read failed (program line 1 column 1)\n",
-        ),
-        (
-            "<input>",
-            "p.ctd",
-            "checktestdata: line 1 column 1: read failed (program line 1 column 1)\n",
-        ),
-    ] {
-        let Answered { written, .. } = answer(alloc, failing, line)?;
-        assert!(rt; written.is(2, "", err), "{failing}");
+    for (failing, row) in &FAILURES {
+        judged(&rt, rt.alloc(), failing, &[*row])?;
     }
     Ok(())
 }
 
 #[test]
 fn a_stream_that_fails_is_status_two(rt: HostRuntime) -> std::result::Result<(), Fail> {
-    let alloc = rt.alloc();
-    let named = [("p.ctd", LINE_OF_ONE), ("right.in", "5\n")];
-    for flush_fails in [false, true] {
-        let mut files = MemoryFiles {
-            named: &named,
-            input: "",
-            failing: "",
-            asked: Vec::new(alloc),
-        };
-        let words = words_of(alloc, b"p.ctd right.in")?;
-        let room = if flush_fails { 100 } else { 4 };
-        let mut out = Clipped::new(alloc, room, Refusal::Fails);
-        out.flush_fails = flush_fails;
-        let mut err = Vec::new(alloc);
-        let ended = run_words(
-            alloc,
-            words.as_slice(),
-            &mut files,
-            &mut ToWrite::new(&mut out),
-            &mut ToWrite::new(&mut err),
-        );
-        assert_eq!(rt; ended.status, 2);
-        let want = if flush_fails {
-            "testdata ok!\n"
-        } else {
-            "test"
-        };
-        assert_eq!(rt; out.bytes.as_slice(), want.as_bytes());
-        assert!(rt; err.is_empty());
-    }
+    let files = "p.ctd;right.in;";
+    let cut = Clipped::new(rt.alloc(), 4, Refusal::Fails);
+    let answered = answer(rt.alloc(), "", "p.ctd right.in", cut)?;
+    assert!(rt; answered.is(files, 2, "test", ""));
+    let unflushed = Clipped::never_flushed(rt.alloc(), 100);
+    let answered = answer(rt.alloc(), "", "p.ctd right.in", unflushed)?;
+    assert!(rt; answered.is(files, 2, "testdata ok!\n", ""));
     Ok(())
 }

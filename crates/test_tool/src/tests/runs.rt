@@ -36,8 +36,13 @@ impl Read for Watched<'_> {
     }
 }
 
-/// The settings of a run without options.
-fn plain(alloc: Global) -> std::result::Result<Setup, AllocError>
+/// The settings of a run with these limits.
+fn setup_of(
+    alloc: Global,
+    quiet: bool,
+    steps: u64,
+    bytes: u32,
+) -> std::result::Result<Setup, AllocError>
     ensures { IfOk result (λ setup. setup.limits.bytes ≤ 2 ^ 62) }
 {
     Ok(Setup {
@@ -45,12 +50,22 @@ fn plain(alloc: Global) -> std::result::Result<Setup, AllocError>
         testdata: None,
         presets: Presets::none(alloc),
         mode: Mode::Exact,
-        quiet: false,
+        quiet,
         limits: Limits {
-            steps: 10_000_000_000,
-            bytes: 1 << 40,
+            steps,
+            bytes: bytes as u64,
         },
     })
+}
+
+/// The steps that a run may pay without options.
+const STEPS: u64 = 10_000_000_000;
+
+/// The settings of a run without options, but for the limit of bytes, which is less and which no test of them reaches.
+fn plain(alloc: Global) -> std::result::Result<Setup, AllocError>
+    ensures { IfOk result (λ setup. setup.limits.bytes ≤ 2 ^ 62) }
+{
+    setup_of(alloc, false, STEPS, u32::MAX)
 }
 
 /// A run on two readers.
@@ -75,124 +90,148 @@ fn run<P: Read + Drop, D: Read + Drop>(
     Written { answer, out, err }
 }
 
+/// What is written of a run without options.
+fn plain_run<P: Read + Drop, D: Read + Drop>(
+    alloc: Global,
+    program: P,
+    testdata: D,
+) -> std::result::Result<Written, AllocError> {
+    let setup = plain(alloc)?;
+    Ok(run(alloc, &setup, program, testdata))
+}
+
+const VERDICTS: [(&str, &str, &str, u8); 10] = [
+    (LINE_OF_ONE, "5\n", "testdata ok!\n", 0),
+    ("", "", "testdata ok!\n", 0),
+    (
+        LINE_OF_ONE,
+        "5",
+        "line 1 column 2: expected a newline (program line 1 column 11)\n",
+        1,
+    ),
+    (
+        LINE_OF_ONE,
+        "05\n",
+        "line 1 column 1: integer with a leading zero (program line 1 column 1)\n",
+        1,
+    ),
+    (
+        LINE_OF_ONE,
+        "-0\n",
+        "line 1 column 1: integer with minus zero (program line 1 column 1)\n",
+        1,
+    ),
+    (
+        LINE_OF_ONE,
+        "-\n",
+        "line 1 column 1: expected an integer (program line 1 column 1)\n",
+        1,
+    ),
+    (
+        LINE_OF_ONE,
+        "99999999999999999999999999999999999999999999999999",
+        "line 1 column 1: value out of range (program line 1 column 1)\n",
+        1,
+    ),
+    (
+        "",
+        "x",
+        "line 1 column 1: expected end of file (program end)\n",
+        1,
+    ),
+    (
+        "WHILE(!MATCH(\"\\n\"),SPACE) INT(0,9) END NEWLINE",
+        "1 2 \n",
+        "line 1 column 5: expected an integer (program line 1 column 27)\n",
+        1,
+    ),
+    (
+        "REPI(i,3,SPACE) INT(0,9,a[i]) SPACE INT(0,9,b[i]) END ASSERT(UNIQUE(a,b))",
+        "1 2 1 3 1 4",
+        "testdata ok!\n",
+        0,
+    ),
+];
+
 #[test]
 fn a_verdict_goes_to_standard_output(rt: HostRuntime) -> std::result::Result<(), Fail> {
-    let alloc = rt.alloc();
-    let setup = plain(alloc)?;
-    for (program, data, text, status) in [
-        (LINE_OF_ONE, "5\n", "testdata ok!\n", 0),
-        ("", "", "testdata ok!\n", 0),
-        (
-            LINE_OF_ONE,
-            "5",
-            "line 1 column 2: expected a newline (program line 1 column 11)\n",
-            1,
-        ),
-        (
-            LINE_OF_ONE,
-            "05\n",
-            "line 1 column 1: integer with a leading zero (program line 1 column 1)\n",
-            1,
-        ),
-        (
-            LINE_OF_ONE,
-            "-0\n",
-            "line 1 column 1: integer with minus zero (program line 1 column 1)\n",
-            1,
-        ),
-        (
-            LINE_OF_ONE,
-            "-\n",
-            "line 1 column 1: expected an integer (program line 1 column 1)\n",
-            1,
-        ),
-        (
-            LINE_OF_ONE,
-            "99999999999999999999999999999999999999999999999999",
-            "line 1 column 1: value out of range (program line 1 column 1)\n",
-            1,
-        ),
-        (
-            "",
-            "x",
-            "line 1 column 1: expected end of file (program end)\n",
-            1,
-        ),
-        (
-            "WHILE(!MATCH(\"\\n\"),SPACE) INT(0,9) END NEWLINE",
-            "1 2 \n",
-            "line 1 column 5: expected an integer (program line 1 column 27)\n",
-            1,
-        ),
-        (
-            "REPI(i,3,SPACE) INT(0,9,a[i]) SPACE INT(0,9,b[i]) END ASSERT(UNIQUE(a,b))",
-            "1 2 1 3 1 4",
-            "testdata ok!\n",
-            0,
-        ),
-    ] {
-        let written = run(alloc, &setup, program.as_bytes(), data.as_bytes());
-        assert!(rt; written.is(status, text, ""), "{program} on {data}");
+    for (program, data, text, status) in &VERDICTS {
+        let written = plain_run(rt.alloc(), program.as_bytes(), data.as_bytes())?;
+        assert!(rt; written.is(*status, text, ""), "{program} on {data}");
     }
     Ok(())
 }
 
+/// What is written of a run without options on one byte many times.
+fn long_run(
+    alloc: Global,
+    program: &str,
+    byte: u8,
+    count: usize,
+) -> std::result::Result<Written, AllocError> {
+    let data = vec![in alloc; byte; count]?;
+    plain_run(alloc, program.as_bytes(), data.as_slice())
+}
+
+const LONG: [(&str, u8, &str); 2] = [
+    (
+        "INT(0,9)",
+        b'1',
+        "line 1 column 1: value out of range (program line 1 column 1)\n",
+    ),
+    (
+        "SPACE EOF",
+        b' ',
+        "line 1 column 2: expected end of file (program line 1 column 7)\n",
+    ),
+];
+
 #[test]
 fn long_data_are_passed_a_window_at_a_time(rt: HostRuntime) -> std::result::Result<(), Fail> {
-    let alloc = rt.alloc();
-    let setup = plain(alloc)?;
-    for (program, byte, text) in [
-        (
-            "INT(0,9)",
-            b'1',
-            "line 1 column 1: value out of range (program line 1 column 1)\n",
-        ),
-        (
-            "SPACE EOF",
-            b' ',
-            "line 1 column 2: expected end of file (program line 1 column 7)\n",
-        ),
-    ] {
-        let data = vec![in alloc; byte; 70_000]?;
-        let written = run(alloc, &setup, program.as_bytes(), data.as_slice());
+    for (program, byte, text) in &LONG {
+        let written = long_run(rt.alloc(), program, *byte, 70_000)?;
         assert!(rt; written.is(1, text, ""), "{program}");
     }
     Ok(())
 }
 
+/// What is written of a run under limits.
+fn limited_run(
+    alloc: Global,
+    quiet: bool,
+    steps: u64,
+    bytes: u32,
+) -> std::result::Result<Written, AllocError> {
+    let setup = setup_of(alloc, quiet, steps, bytes)?;
+    let data: &[u8] = b"5\n";
+    Ok(run(alloc, &setup, LINE_OF_ONE.as_bytes(), data))
+}
+
+const STOPPED: [(u64, u32, &str); 3] = [
+    (
+        0,
+        100,
+        "checktestdata: line 1 column 1: step limit reached (program line 1 column 1)\n",
+    ),
+    (
+        2,
+        100,
+        "checktestdata: line 2 column 1: step limit reached (program end)\n",
+    ),
+    (
+        100,
+        1,
+        "checktestdata: line 1 column 1: test data too long (program line 1 column 1)\n",
+    ),
+];
+
 #[test]
 fn a_run_without_a_verdict_goes_to_standard_error(
     rt: HostRuntime,
 ) -> std::result::Result<(), Fail> {
-    let alloc = rt.alloc();
-    for (steps, bytes, text) in [
-        (
-            0,
-            100u32,
-            "checktestdata: line 1 column 1: step limit reached (program line 1 column 1)\n",
-        ),
-        (
-            2,
-            100,
-            "checktestdata: line 2 column 1: step limit reached (program end)\n",
-        ),
-        (
-            100,
-            1,
-            "checktestdata: line 1 column 1: test data too long (program line 1 column 1)\n",
-        ),
-    ] {
-        let limits = Limits {
-            steps,
-            bytes: bytes as u64,
-        };
+    for (steps, bytes, text) in &STOPPED {
         for quiet in [false, true] {
-            let setup = Setup {
-                limits,
-                quiet,
-                ..plain(alloc)?
-            };
-            let written = run(alloc, &setup, LINE_OF_ONE.as_bytes(), b"5\n".as_slice());
+            let written = limited_run(rt.alloc(), quiet, *steps, *bytes)?;
             assert!(rt; written.is(2, "", text), "{text}");
         }
     }
@@ -203,84 +242,94 @@ fn a_run_without_a_verdict_goes_to_standard_error(
 fn a_failed_read_of_the_data_counts_where_it_is_needed(
     rt: HostRuntime,
 ) -> std::result::Result<(), Fail> {
-    let alloc = rt.alloc();
-    let setup = plain(alloc)?;
     let program: &[u8] = b"INT(0,9) SPACE";
-    let data: &[u8] = b"12 ";
-    let written = run(alloc, &setup, program, data.chain(Failing));
-    let text = "line 1 column 1: value out of range (program line 1 column 1)\n";
-    assert!(rt; written.is(1, text, ""));
-    let data: &[u8] = b"12";
-    let written = run(alloc, &setup, program, data.chain(Failing));
-    let text = "checktestdata: line 1 column 1: read failed (program line 1 column 1)\n";
-    assert!(rt; written.is(2, "", text));
+    let out = "line 1 column 1: value out of range (program line 1 column 1)\n";
+    let err = "checktestdata: line 1 column 1: read failed (program line 1 column 1)\n";
+    for (data, status, out, err) in &[("12 ", 1, out, ""), ("12", 2, "", err)] {
+        let written = plain_run(rt.alloc(), program, data.as_bytes().chain(Failing))?;
+        assert!(rt; written.is(*status, out, err), "{data}");
+    }
     Ok(())
+}
+
+/// What is written of a run without options, and whether it reads its data.
+fn watched_run<P: Read + Drop>(
+    alloc: Global,
+    program: P,
+) -> std::result::Result<(Written, bool), AllocError> {
+    let mut is_read = false;
+    let data = Watched {
+        is_read: &mut is_read,
+    };
+    let written = plain_run(alloc, program, data)?;
+    Ok((written, is_read))
 }
 
 #[test]
 fn a_program_that_is_not_read_leaves_the_data_alone(
     rt: HostRuntime,
 ) -> std::result::Result<(), Fail> {
-    let alloc = rt.alloc();
-    let setup = plain(alloc)?;
-    let mut is_read = false;
-    let data = Watched {
-        is_read: &mut is_read,
-    };
-    let written = run(alloc, &setup, b"SPACE(".as_slice(), data);
-    assert!(rt;
-        written.is(
-            2,
-            "",
-            "checktestdata: program line 1 column 6: syntax error\n"
-        )
-    );
+    let (written, is_read) = watched_run(rt.alloc(), b"SPACE(".as_slice())?;
+    let text = "checktestdata: program line 1 column 6: syntax error\n";
+    assert!(rt; written.is(2, "", text) && !is_read);
     let program = LINE_OF_ONE.as_bytes();
     for n in 0..=program.len() {
-        let data = Watched {
-            is_read: &mut is_read,
-        };
-        let written = run(alloc, &setup, program[..n].chain(Failing), data);
+        let (written, is_read) = watched_run(rt.alloc(), program[..n].chain(Failing))?;
         let text = "checktestdata: cannot read program\n";
-        assert!(rt; written.is(2, "", text), "after {n} bytes");
+        assert!(rt; written.is(2, "", text) && !is_read, "after {n} bytes");
     }
-    assert!(rt; !is_read);
     Ok(())
+}
+
+/// What is written of runs on a program of so many spaces and no data.
+fn spaces_run(alloc: Global, count: usize) -> std::result::Result<Written, AllocError> {
+    let program = vec![in alloc; b' '; count]?;
+    plain_run(alloc, program.as_slice(), b"".as_slice())
 }
 
 #[test]
 fn a_program_of_the_limit_is_run_and_a_longer_one_is_not(
     rt: HostRuntime,
 ) -> std::result::Result<(), Fail> {
-    let alloc = rt.alloc();
-    let setup = plain(alloc)?;
-    let spaces = vec![in alloc; b' '; 1_048_577]?;
-    let written = run(alloc, &setup, &spaces[1..], b"".as_slice());
+    let written = spaces_run(rt.alloc(), 1_048_576)?;
     assert!(rt; written.is(0, "testdata ok!\n", ""));
-    let written = run(alloc, &setup, spaces.as_slice(), b"".as_slice());
+    let written = spaces_run(rt.alloc(), 1_048_577)?;
     assert!(rt; written.is(2, "", "checktestdata: program too long\n"));
     Ok(())
+}
+
+/// What a run answers and writes to two writers.
+fn clipped_run(
+    alloc: Global,
+    quiet: bool,
+    data: &str,
+    mut out: Clipped,
+    mut err: Clipped,
+) -> std::result::Result<Written, AllocError> {
+    let setup = setup_of(alloc, quiet, STEPS, u32::MAX)?;
+    let answer = run_tool(
+        alloc,
+        &setup,
+        &mut FromRead::new(LINE_OF_ONE.as_bytes()),
+        &mut FromRead::new(data.as_bytes()),
+        &mut ToWrite::new(&mut out),
+        &mut ToWrite::new(&mut err),
+    );
+    Ok(Written {
+        answer,
+        out: out.bytes,
+        err: err.bytes,
+    })
 }
 
 #[test]
 fn a_quiet_run_writes_no_verdict(rt: HostRuntime) -> std::result::Result<(), Fail> {
     let alloc = rt.alloc();
-    let setup = Setup {
-        quiet: true,
-        ..plain(alloc)?
-    };
-    for (data, status) in [("5\n", 0), ("5", 1)] {
-        let mut out = Clipped::never_flushed(alloc, 0);
-        let mut err = Clipped::never_flushed(alloc, 0);
-        let answer = run_tool(
-            alloc,
-            &setup,
-            &mut FromRead::new(LINE_OF_ONE.as_bytes()),
-            &mut FromRead::new(data.as_bytes()),
-            &mut ToWrite::new(&mut out),
-            &mut ToWrite::new(&mut err),
-        );
-        assert_eq!(rt; answer, Ok(status));
+    for (data, status) in &[("5\n", 0), ("5", 1)] {
+        let out = Clipped::never_flushed(alloc, 0);
+        let err = Clipped::never_flushed(alloc, 0);
+        let written = clipped_run(alloc, true, data, out, err)?;
+        assert!(rt; written.is(*status, "", ""), "{status}");
     }
     Ok(())
 }
@@ -289,20 +338,9 @@ fn a_quiet_run_writes_no_verdict(rt: HostRuntime) -> std::result::Result<(), Fai
 fn a_verdict_that_is_not_taken_whole_is_no_success(
     rt: HostRuntime,
 ) -> std::result::Result<(), Fail> {
-    let alloc = rt.alloc();
-    let setup = plain(alloc)?;
-    let mut out = Clipped::new(alloc, 4, Refusal::Fails);
-    let mut err = Vec::new(alloc);
-    let answer = run_tool(
-        alloc,
-        &setup,
-        &mut FromRead::new(LINE_OF_ONE.as_bytes()),
-        &mut FromRead::new(b"5\n".as_slice()),
-        &mut ToWrite::new(&mut out),
-        &mut ToWrite::new(&mut err),
-    );
-    assert_eq!(rt; answer, Err(ToolFault::Write));
-    assert_eq!(rt; out.bytes.as_slice(), b"test".as_slice());
-    assert!(rt; err.is_empty());
+    let out = Clipped::new(rt.alloc(), 4, Refusal::Fails);
+    let err = Clipped::new(rt.alloc(), 1000, Refusal::Fails);
+    let written = clipped_run(rt.alloc(), false, "5\n", out, err)?;
+    assert!(rt; written.is_cut(ToolFault::Write, b"test", b""));
     Ok(())
 }

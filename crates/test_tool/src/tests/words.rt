@@ -1,7 +1,7 @@
 //! The words of the command line.
 
-use ctd_check::{Bytes, Mode};
-use ctd_syntax::Literal;
+use ctd_check::{Bytes, Limits, Mode};
+use ctd_syntax::{Literal, Preset};
 use ctd_tool::{Setup, UsageFault, settings};
 use std::alloc::{AllocError, Global};
 use std::process::Abort;
@@ -38,141 +38,236 @@ fn steps_of(rt: &(impl Abort + AllocGlobal), line: &[u8]) -> Result<u64, UsageFa
     Ok(setup.limits.steps)
 }
 
-/// The files of a setup, with a comma between the two; `-` for standard input.
-fn files_of<'s>(setup: &'s Setup) -> (&'s [u8], &'s [u8]) {
+/// The value of a preset.
+#[derive(Clone, Copy)]
+enum Pinned {
+    Number(i128),
+    Text(&'static str),
+}
+
+impl Pinned {
+    /// Whether a preset has this value.
+    fn is_of(&self, preset: &Preset) -> bool {
+        match (&preset.value, self) {
+            (Literal::Int(found), Pinned::Number(wanted)) => found == wanted,
+            (Literal::Text(found), Pinned::Text(wanted)) => found.as_slice() == wanted.as_bytes(),
+            (Literal::Int(_), Pinned::Text(_)) | (Literal::Text(_), Pinned::Number(_)) => false,
+        }
+    }
+}
+
+/// What the words of a line ask for; the data are `-` for standard input.
+#[derive(Clone, Copy)]
+struct Wanted {
+    program: &'static str,
+    testdata: &'static str,
+    presets: &'static [Pinned],
+    mode: Mode,
+    quiet: bool,
+    limits: Limits,
+}
+
+/// What a program's file alone asks for.
+const PLAIN: Wanted = Wanted {
+    program: "p.ctd",
+    testdata: "-",
+    presets: &[],
+    mode: Mode::Exact,
+    quiet: false,
+    limits: Limits {
+        steps: 10_000_000_000,
+        bytes: 1_099_511_627_776,
+    },
+};
+
+/// Whether presets have these values in order.
+fn are_pinned(pins: &[Preset], presets: &[Pinned]) -> bool {
+    if pins.len() != presets.len() {
+        return false;
+    }
+    for (pin, preset) in pins.iter().zip(presets) {
+        if !preset.is_of(pin) {
+            return false;
+        }
+    }
+    true
+}
+
+/// Whether settings are these.
+fn is_setup(setup: &Setup, wanted: &Wanted) -> bool {
     let testdata = match &setup.testdata {
         Some(name) => name.as_slice(),
         None => b"-",
     };
-    (setup.program.as_slice(), testdata)
+    setup.program.as_slice() == wanted.program.as_bytes()
+        && testdata == wanted.testdata.as_bytes()
+        && are_pinned(setup.presets.pins(), wanted.presets)
+        && (setup.mode, setup.quiet, setup.limits) == (wanted.mode, wanted.quiet, wanted.limits)
 }
+
+/// Whether the words of a line ask for this.
+fn asks_for(
+    rt: &(impl Abort + AllocGlobal),
+    line: &str,
+    wanted: &Wanted,
+) -> Result<bool, UsageFault> {
+    let setup = asked(rt, line.as_bytes())?;
+    Ok(is_setup(&setup, wanted))
+}
+
+/// The words of each line ask for what stands beside them.
+fn judged(rt: &(impl Abort + AllocGlobal), rows: &[(&str, Wanted)]) -> Result<(), Fail> {
+    for (line, wanted) in rows {
+        let is = asks_for(rt, line, wanted).ok().ok_or("refused")?;
+        assert!(rt; is, "{line}");
+    }
+    Ok(())
+}
+
+const FILES: [(&str, Wanted); 4] = [
+    (
+        "p.ctd d.in",
+        Wanted {
+            testdata: "d.in",
+            ..PLAIN
+        },
+    ),
+    ("p.ctd -", PLAIN),
+    ("p.ctd", PLAIN),
+    (
+        "-- p.ctd -q",
+        Wanted {
+            testdata: "-q",
+            ..PLAIN
+        },
+    ),
+];
 
 #[test]
 fn one_or_two_files_are_named(rt: HostRuntime) -> Result<(), Fail> {
-    for (line, testdata) in [
-        ("p.ctd d.in", "d.in"),
-        ("p.ctd -", "-"),
-        ("p.ctd", "-"),
-        ("-- p.ctd -q", "-q"),
-    ] {
-        let setup = asked(&rt, line.as_bytes()).ok().ok_or("refused")?;
-        let files = files_of(&setup);
-        assert_eq!(rt; files.0, b"p.ctd".as_slice());
-        assert_eq!(rt; files.1, testdata.as_bytes());
-    }
-    Ok(())
+    judged(&rt, &FILES)
 }
 
 #[test]
 fn files_alone_ask_for_nothing_else(rt: HostRuntime) -> Result<(), Fail> {
-    let setup = asked(&rt, b"p.ctd").ok().ok_or("refused")?;
-    assert_eq!(rt; setup.mode, Mode::Exact);
-    assert!(rt; !setup.quiet);
-    assert!(rt; setup.presets.pins().is_empty());
-    assert_eq!(rt; setup.limits.steps, 10_000_000_000);
-    assert_eq!(rt; setup.limits.bytes, 1_099_511_627_776);
-    Ok(())
+    judged(&rt, &[("p.ctd", PLAIN)])
 }
+
+const QUIET: Wanted = Wanted {
+    quiet: true,
+    ..PLAIN
+};
+
+const BOTH_FLAGS: Wanted = Wanted {
+    testdata: "d.in",
+    mode: Mode::BlanksOk,
+    ..QUIET
+};
+
+const BLANKS_OK: Wanted = Wanted {
+    mode: Mode::BlanksOk,
+    ..PLAIN
+};
+
+const FLAGS: [(&str, Wanted); 5] = [
+    ("-wq p.ctd d.in", BOTH_FLAGS),
+    ("p.ctd -q d.in -w", BOTH_FLAGS),
+    ("--quiet --whitespace-ok p.ctd d.in", BOTH_FLAGS),
+    ("-q p.ctd", QUIET),
+    ("p.ctd -w", BLANKS_OK),
+];
 
 #[test]
 fn flags_may_stand_anywhere_and_together(rt: HostRuntime) -> Result<(), Fail> {
-    for (line, mode, quiet) in [
-        ("-wq p.ctd d.in", Mode::BlanksOk, true),
-        ("p.ctd -q d.in -w", Mode::BlanksOk, true),
-        ("--quiet --whitespace-ok p.ctd d.in", Mode::BlanksOk, true),
-        ("-q p.ctd", Mode::Exact, true),
-        ("p.ctd -w", Mode::BlanksOk, false),
-    ] {
-        let setup = asked(&rt, line.as_bytes()).ok().ok_or("refused")?;
-        assert_eq!(rt; setup.program.as_slice(), b"p.ctd".as_slice());
-        assert_eq!(rt; setup.mode, mode);
-        assert_eq!(rt; setup.quiet, quiet);
-    }
-    Ok(())
+    judged(&rt, &FLAGS)
 }
+
+const TWO_PRESETS: Wanted = Wanted {
+    presets: &[Pinned::Number(5), Pinned::Number(-3)],
+    ..PLAIN
+};
+
+const DEFINITIONS: [(&str, Wanted); 4] = [
+    ("-D n=5,m=-3 p.ctd", TWO_PRESETS),
+    ("-Dn=5,m=-3 p.ctd", TWO_PRESETS),
+    ("--define=n=5,m=-3 p.ctd", TWO_PRESETS),
+    ("p.ctd --define n=5,m=-3", TWO_PRESETS),
+];
 
 #[test]
 fn presets_are_read_in_order(rt: HostRuntime) -> Result<(), Fail> {
-    for line in [
-        "-D n=5,m=-3 p.ctd",
-        "-Dn=5,m=-3 p.ctd",
-        "--define=n=5,m=-3 p.ctd",
-        "p.ctd --define n=5,m=-3",
-    ] {
-        let setup = asked(&rt, line.as_bytes()).ok().ok_or("refused")?;
-        let [first, second] = setup.presets.pins() else {
-            return Err(Fail::from("not two presets"));
-        };
-        assert!(rt; matches!(first.value, Literal::Int(5)), "{line}");
-        assert!(rt; matches!(second.value, Literal::Int(-3)), "{line}");
-    }
-    Ok(())
+    judged(&rt, &DEFINITIONS)
 }
+
+const OPTIONS: [(&str, Wanted); 1] = [(
+    "--define=s=\"a,b\" --max-steps=7 p.ctd d.in",
+    Wanted {
+        testdata: "d.in",
+        presets: &[Pinned::Text("a,b")],
+        limits: Limits {
+            steps: 7,
+            bytes: 1_099_511_627_776,
+        },
+        ..PLAIN
+    },
+)];
 
 #[test]
 fn all_options_at_once(rt: HostRuntime) -> Result<(), Fail> {
-    let line = b"--define=s=\"a,b\" --max-steps=7 p.ctd d.in";
-    let setup = asked(&rt, line).ok().ok_or("refused")?;
-    let pin = setup.presets.pins().first().ok_or("no preset")?;
-    let text = match &pin.value {
-        Literal::Int(_) => b"an integer".as_slice(),
-        Literal::Text(bytes) => bytes.as_slice(),
-    };
-    assert_eq!(rt; text, b"a,b".as_slice());
-    assert_eq!(rt; setup.limits.steps, 7);
-    assert_eq!(rt; files_of(&setup).1, b"d.in".as_slice());
-    Ok(())
+    judged(&rt, &OPTIONS)
 }
+
+const STEPS: [(&str, Result<u64, UsageFault>); 10] = [
+    ("--max-steps=7 p.ctd", Ok(7)),
+    ("--max-steps=007 p.ctd", Ok(7)),
+    ("--max-steps 0 p.ctd", Ok(0)),
+    ("--max-steps=18446744073709551615 p.ctd", Ok(u64::MAX)),
+    (
+        "--max-steps=18446744073709551616 p.ctd",
+        Err(UsageFault::BadSteps),
+    ),
+    ("--max-steps= p.ctd", Err(UsageFault::BadSteps)),
+    ("--max-steps=x p.ctd", Err(UsageFault::BadSteps)),
+    ("--max-steps x p.ctd", Err(UsageFault::BadSteps)),
+    ("--max-steps=+7 p.ctd", Err(UsageFault::BadSteps)),
+    ("--max-steps=-7 p.ctd", Err(UsageFault::BadSteps)),
+];
 
 #[test]
 fn the_step_limit_is_a_number_of_64_bits(rt: HostRuntime) {
-    for (line, limit) in [
-        ("--max-steps=7 p.ctd", 7),
-        ("--max-steps=007 p.ctd", 7),
-        ("--max-steps 0 p.ctd", 0),
-        ("--max-steps=18446744073709551615 p.ctd", u64::MAX),
-    ] {
-        assert_eq!(rt; steps_of(&rt, line.as_bytes()), Ok(limit), "{line}");
-    }
-    for line in [
-        "--max-steps=18446744073709551616 p.ctd",
-        "--max-steps= p.ctd",
-        "--max-steps=x p.ctd",
-        "--max-steps x p.ctd",
-        "--max-steps=+7 p.ctd",
-        "--max-steps=-7 p.ctd",
-    ] {
-        let found = steps_of(&rt, line.as_bytes());
-        assert_eq!(rt; found, Err(UsageFault::BadSteps), "{line}");
+    for (line, limit) in &STEPS {
+        assert_eq!(rt; steps_of(&rt, line.as_bytes()), *limit, "{line}");
     }
 }
 
+const FAULTS: [(&str, UsageFault); 20] = [
+    ("", UsageFault::Words),
+    ("p d e", UsageFault::Words),
+    ("-x p", UsageFault::Words),
+    ("-p n=5 p", UsageFault::Words),
+    ("--preset=n=5 p", UsageFault::Words),
+    ("-q -q p", UsageFault::Words),
+    ("-Dn=1 -Dn=2 p", UsageFault::Words),
+    ("p -D", UsageFault::Words),
+    ("-q=1 p", UsageFault::Words),
+    ("-h", UsageFault::Help),
+    ("--help", UsageFault::Help),
+    ("-V", UsageFault::Version),
+    ("--version", UsageFault::Version),
+    ("-g p", UsageFault::Generate),
+    ("--generate p", UsageFault::Generate),
+    ("-D n p", UsageFault::BadPreset),
+    ("-D  p", UsageFault::BadPreset),
+    // the earlier of two faults is told: Words, Generate, the presets, the steps
+    ("-g -Dn --max-steps=x", UsageFault::Words),
+    ("--max-steps=x -Dn -g p", UsageFault::Generate),
+    ("--max-steps=x -Dn p", UsageFault::BadPreset),
+];
+
 #[test]
 fn each_fault_of_the_words(rt: HostRuntime) {
-    for (line, fault) in [
-        ("", UsageFault::Words),
-        ("p d e", UsageFault::Words),
-        ("-x p", UsageFault::Words),
-        ("-p n=5 p", UsageFault::Words),
-        ("--preset=n=5 p", UsageFault::Words),
-        ("-q -q p", UsageFault::Words),
-        ("-Dn=1 -Dn=2 p", UsageFault::Words),
-        ("p -D", UsageFault::Words),
-        ("-q=1 p", UsageFault::Words),
-        ("-h", UsageFault::Help),
-        ("--help", UsageFault::Help),
-        ("-V", UsageFault::Version),
-        ("--version", UsageFault::Version),
-        ("-g p", UsageFault::Generate),
-        ("--generate p", UsageFault::Generate),
-        ("-D n p", UsageFault::BadPreset),
-        ("-D  p", UsageFault::BadPreset),
-        // the earlier of two faults is told: Words, Generate, the presets, the steps
-        ("-g -Dn --max-steps=x", UsageFault::Words),
-        ("--max-steps=x -Dn -g p", UsageFault::Generate),
-        ("--max-steps=x -Dn p", UsageFault::BadPreset),
-    ] {
-        assert_eq!(rt; fault_of(&rt, line.as_bytes()), Some(fault), "{line}");
+    for (line, fault) in &FAULTS {
+        assert_eq!(rt; fault_of(&rt, line.as_bytes()), Some(*fault), "{line}");
     }
 }
 

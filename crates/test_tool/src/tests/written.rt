@@ -12,12 +12,12 @@ pub struct Written {
 
 impl Written {
     /// Whether this status was answered and these texts were written.
-    pub fn is(&self, status: u8, out: &str, err: &str) -> bool {
+    pub fn is(self, status: u8, out: &str, err: &str) -> bool {
         self.answer == Ok(status) && self.has(out.as_bytes(), err.as_bytes())
     }
 
     /// Whether this fault was answered and these bytes were written.
-    pub fn is_cut(&self, fault: ToolFault, out: &[u8], err: &[u8]) -> bool {
+    pub fn is_cut(self, fault: ToolFault, out: &[u8], err: &[u8]) -> bool {
         self.answer == Err(fault) && self.has(out, err)
     }
 
