@@ -6,7 +6,8 @@ use ctd_tool::{
     ToWrite, ToolFault, UsageFault, report_usage, write_cannot_open, write_load_fault,
     write_outcome,
 };
-use std::alloc::Global;
+use std::alloc::{AllocError, Global};
+use std::process::Abort;
 use std::test::Fail;
 
 const SPOT: Spot = Spot {
@@ -66,36 +67,69 @@ fn accepted_data_are_ok(rt: HostRuntime) {
 }
 
 const REASONS: [(u8, Reason, &str); 10] = [
-    (1, Reason::ExpectedSpace, "expected a space"),
-    (2, Reason::ExpectedNewline, "expected a newline"),
-    (3, Reason::ExpectedEof, "expected end of file"),
-    (4, Reason::ExpectedInt, "expected an integer"),
-    (5, Reason::LeadingZero, "integer with a leading zero"),
-    (6, Reason::MinusZero, "integer with minus zero"),
-    (7, Reason::OutOfRange, "value out of range"),
-    (8, Reason::StringMismatch, "string does not match"),
+    (
+        1,
+        Reason::ExpectedSpace,
+        "line 3 column 70001: expected a space (program line 12 column 405)\n",
+    ),
+    (
+        2,
+        Reason::ExpectedNewline,
+        "line 3 column 70001: expected a newline (program line 12 column 405)\n",
+    ),
+    (
+        3,
+        Reason::ExpectedEof,
+        "line 3 column 70001: expected end of file (program line 12 column 405)\n",
+    ),
+    (
+        4,
+        Reason::ExpectedInt,
+        "line 3 column 70001: expected an integer (program line 12 column 405)\n",
+    ),
+    (
+        5,
+        Reason::LeadingZero,
+        "line 3 column 70001: integer with a leading zero (program line 12 column 405)\n",
+    ),
+    (
+        6,
+        Reason::MinusZero,
+        "line 3 column 70001: integer with minus zero (program line 12 column 405)\n",
+    ),
+    (
+        7,
+        Reason::OutOfRange,
+        "line 3 column 70001: value out of range (program line 12 column 405)\n",
+    ),
+    (
+        8,
+        Reason::StringMismatch,
+        "line 3 column 70001: string does not match (program line 12 column 405)\n",
+    ),
     (
         9,
         Reason::RegexMismatch,
-        "regular expression does not match",
+        "line 3 column 70001: regular expression does not match (program line 12 column 405)\n",
     ),
-    (10, Reason::AssertFailed, "assertion failed"),
+    (
+        10,
+        Reason::AssertFailed,
+        "line 3 column 70001: assertion failed (program line 12 column 405)\n",
+    ),
 ];
 
 #[test]
-fn each_reason_has_its_number_and_text(rt: HostRuntime) -> Result<(), Fail> {
-    let alloc = rt.alloc();
+fn each_reason_has_its_number_and_text(rt: HostRuntime) {
     for (number, reason, text) in &REASONS {
         let outcome = Outcome::Rejected {
             spot: SPOT,
             place: Site::At(PLACE),
             reason: *reason,
         };
-        let want = format!(in alloc; "line 3 column 70001: {text} (program line 12 column 405)\n")?;
-        let is = outcome_written(alloc, &outcome, false).is(1, &want, "");
+        let is = outcome_written(rt.alloc(), &outcome, false).is(1, text, "");
         assert_eq!(rt; (is, *reason as u8), (true, *number), "{text}");
     }
-    Ok(())
 }
 
 const SITES: [(Site, &str); 3] = [
@@ -118,49 +152,95 @@ const FAULTS: [(u8, Fault, &str); 11] = [
     (11, Fault::Read, "read failed"),
 ];
 
+/// Whether a stop at this place writes this text and site, and no verdict.
+fn is_stop_written(
+    alloc: Global,
+    place: Site,
+    fault: Fault,
+    text: &str,
+    site: &str,
+) -> Result<bool, AllocError> {
+    let outcome = Outcome::Stopped {
+        spot: SPOT,
+        place,
+        fault,
+    };
+    let err = format!(in alloc; "checktestdata: line 3 column 70001: {text} ({site})\n")?;
+    Ok(outcome_written(alloc, &outcome, true).is(2, "", &err))
+}
+
 #[test]
 fn each_fault_has_its_number_and_text(rt: HostRuntime) -> Result<(), Fail> {
-    let alloc = rt.alloc();
     for (number, fault, text) in &FAULTS {
         for (place, site) in &SITES {
-            let outcome = Outcome::Stopped {
-                spot: SPOT,
-                place: *place,
-                fault: *fault,
-            };
-            let want = format!(in alloc; "checktestdata: line 3 column 70001: {text} ({site})\n")?;
-            let written = outcome_written(alloc, &outcome, true);
-            assert!(rt; written.is(2, "", &want), "{text}");
+            let is = is_stop_written(rt.alloc(), *place, *fault, text, site)?;
+            assert_eq!(rt; (is, *fault as u8), (true, *number), "{text} ({site})");
         }
-        assert_eq!(rt; *fault as u8, *number, "{text}");
     }
     Ok(())
 }
 
-const LOAD_KINDS: [(u8, LoadKind, &str); 8] = [
-    (2, LoadKind::BadByte, "unexpected byte"),
-    (3, LoadKind::UnfinishedString, "unfinished string"),
-    (4, LoadKind::BadOctal, "octal escape above 255"),
-    (5, LoadKind::NumberTooLarge, "number too large"),
-    (6, LoadKind::NotInProfile, "not in this profile"),
-    (7, LoadKind::TooDeep, "nested too deeply"),
-    (8, LoadKind::Syntax, "syntax error"),
-    (9, LoadKind::BadPattern, "bad pattern"),
+/// The number of a fault's kind, the kind, and the text of the fault.
+type LoadRow = (u8, LoadKind, &'static str);
+
+/// Each fault at this place has the number and text of its row.
+fn load_faults_judged(rt: &impl Abort, alloc: Global, place: Option<Place>, rows: &[LoadRow]) {
+    for (number, kind, text) in rows {
+        let fault = LoadFault { kind: *kind, place };
+        let is = load_fault_written(alloc, &fault).is(2, "", text);
+        assert_eq!(rt; (is, *kind as u8), (true, *number), "{text}");
+    }
+}
+
+const LOAD_KINDS: [LoadRow; 8] = [
+    (
+        2,
+        LoadKind::BadByte,
+        "checktestdata: program line 12 column 405: unexpected byte\n",
+    ),
+    (
+        3,
+        LoadKind::UnfinishedString,
+        "checktestdata: program line 12 column 405: unfinished string\n",
+    ),
+    (
+        4,
+        LoadKind::BadOctal,
+        "checktestdata: program line 12 column 405: octal escape above 255\n",
+    ),
+    (
+        5,
+        LoadKind::NumberTooLarge,
+        "checktestdata: program line 12 column 405: number too large\n",
+    ),
+    (
+        6,
+        LoadKind::NotInProfile,
+        "checktestdata: program line 12 column 405: not in this profile\n",
+    ),
+    (
+        7,
+        LoadKind::TooDeep,
+        "checktestdata: program line 12 column 405: nested too deeply\n",
+    ),
+    (
+        8,
+        LoadKind::Syntax,
+        "checktestdata: program line 12 column 405: syntax error\n",
+    ),
+    (
+        9,
+        LoadKind::BadPattern,
+        "checktestdata: program line 12 column 405: bad pattern\n",
+    ),
 ];
 
 #[test]
-fn each_fault_of_a_program_has_its_number_and_text(rt: HostRuntime) -> Result<(), Fail> {
-    let alloc = rt.alloc();
-    for (number, kind, text) in &LOAD_KINDS {
-        let place = Some(PLACE);
-        let want = format!(in alloc; "checktestdata: program line 12 column 405: {text}\n")?;
-        let is = load_fault_written(alloc, &LoadFault { kind: *kind, place }).is(2, "", &want);
-        assert_eq!(rt; (is, *kind as u8), (true, *number), "{text}");
-    }
-    Ok(())
+fn each_fault_of_a_program_has_its_number_and_text(rt: HostRuntime) {
+    load_faults_judged(&rt, rt.alloc(), Some(PLACE), &LOAD_KINDS);
 }
 
-const NO_PLACE: [(u8, LoadKind, &str); 2] = [
+const NO_PLACE: [LoadRow; 2] = [
     (
         1,
         LoadKind::ProgramTooLong,
@@ -171,12 +251,7 @@ const NO_PLACE: [(u8, LoadKind, &str); 2] = [
 
 #[test]
 fn a_program_that_is_not_there_whole_has_no_place(rt: HostRuntime) {
-    let alloc = rt.alloc();
-    for (number, kind, want) in &NO_PLACE {
-        let place = None;
-        let is = load_fault_written(alloc, &LoadFault { kind: *kind, place }).is(2, "", want);
-        assert_eq!(rt; (is, *kind as u8), (true, *number), "{want}");
-    }
+    load_faults_judged(&rt, rt.alloc(), None, &NO_PLACE);
 }
 
 #[test]
@@ -190,29 +265,43 @@ fn want_of_memory_in_a_program_is_no_report(rt: HostRuntime) {
     assert_eq!(rt; LoadKind::Memory as u8, 11);
 }
 
-const USAGE: [(u8, UsageFault, &str); 5] = [
+/// The number of words that give no settings, why they give none, and what is written of them.
+type UsageRow = (u8, UsageFault, &'static str, &'static str);
+
+/// Words that give no settings have the number, status and texts of their row.
+fn usage_judged(rt: &impl Abort, alloc: Global, status: u8, rows: &[UsageRow]) {
+    for (number, fault, out, err) in rows {
+        let is = usage_written(alloc, fault).is(status, out, err);
+        assert_eq!(rt; (is, *fault as u8), (true, *number), "{out}{err}");
+    }
+}
+
+const USAGE: [UsageRow; 5] = [
     (
         1,
         UsageFault::Words,
+        "",
         "checktestdata: bad arguments\nTry 'checktestdata --help'.\n",
     ),
-    (2, UsageFault::BadSteps, "checktestdata: bad step limit\n"),
-    (3, UsageFault::BadPreset, "checktestdata: bad preset\n"),
+    (
+        2,
+        UsageFault::BadSteps,
+        "",
+        "checktestdata: bad step limit\n",
+    ),
+    (3, UsageFault::BadPreset, "", "checktestdata: bad preset\n"),
     (
         4,
         UsageFault::Generate,
+        "",
         "checktestdata: generating test data is not supported\n",
     ),
-    (7, UsageFault::Memory, "checktestdata: out of memory\n"),
+    (7, UsageFault::Memory, "", "checktestdata: out of memory\n"),
 ];
 
 #[test]
 fn each_fault_of_the_words_has_its_number_and_text(rt: HostRuntime) {
-    let alloc = rt.alloc();
-    for (number, fault, want) in &USAGE {
-        let is = usage_written(alloc, fault).is(2, "", want);
-        assert_eq!(rt; (is, *fault as u8), (true, *number), "{want}");
-    }
+    usage_judged(&rt, rt.alloc(), 2, &USAGE);
 }
 
 const HELP: &str = "Usage: checktestdata [OPTION]... PROGRAM [TESTDATA]\n\
@@ -227,16 +316,14 @@ const HELP: &str = "Usage: checktestdata [OPTION]... PROGRAM [TESTDATA]\n\
 
 const VERSION: &str = "checktestdata 1.0 (whole-number profile)\n";
 
+const NO_FAULTS: [UsageRow; 2] = [
+    (5, UsageFault::Help, HELP, ""),
+    (6, UsageFault::Version, VERSION, ""),
+];
+
 #[test]
 fn the_help_and_the_version_are_no_faults(rt: HostRuntime) {
-    let alloc = rt.alloc();
-    for (number, fault, want) in &[
-        (5, UsageFault::Help, HELP),
-        (6, UsageFault::Version, VERSION),
-    ] {
-        let is = usage_written(alloc, fault).is(0, want, "");
-        assert_eq!(rt; (is, *fault as u8), (true, *number), "{want}");
-    }
+    usage_judged(&rt, rt.alloc(), 0, &NO_FAULTS);
 }
 
 #[test]
