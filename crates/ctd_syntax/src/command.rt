@@ -29,8 +29,13 @@ fn upper_bound<'t>(
     ensures shorter { IfOk result (λ x. length x.1.now ≤ length tokens.now) }
 {
     let (high, rest) = expr(alloc, tokens)?;
-    let (target, rest) = target_end(alloc, rest)?;
-    Ok(((high, target), rest))
+    match target_end(alloc, rest) {
+        Ok((target, rest)) => Ok(((high, target), rest)),
+        Err(fault) => {
+            drop(high);
+            Err(fault)
+        }
+    }
 }
 
 // What stands behind INT.
@@ -147,8 +152,13 @@ fn rep_tail<'t>(
     ensures shorter { IfOk result (λ x. length x.1.now ≤ length tokens.now) }
 {
     let (count, rest) = expr(alloc, tokens)?;
-    let (end, rest) = loop_end(alloc, rest)?;
-    Ok(((count, end), rest))
+    match loop_end(alloc, rest) {
+        Ok((end, rest)) => Ok(((count, end), rest)),
+        Err(fault) => {
+            drop(count);
+            Err(fault)
+        }
+    }
 }
 
 // The test of a loop, and how it goes on.
@@ -161,8 +171,13 @@ fn while_tail<'t>(
     ensures shorter { IfOk result (λ x. length x.1.now ≤ length tokens.now) }
 {
     let (condition, rest) = test(alloc, None, tokens)?;
-    let (end, rest) = loop_end(alloc, rest)?;
-    Ok(((condition, end), rest))
+    match loop_end(alloc, rest) {
+        Ok((end, rest)) => Ok(((condition, end), rest)),
+        Err(fault) => {
+            drop(condition);
+            Err(fault)
+        }
+    }
 }
 
 // What stands behind REP.
@@ -275,9 +290,17 @@ fn if_command<'t>(
 {
     let after = after_open(tokens)?;
     let (condition, rest) = test_before(alloc, Mark::Close, None, after)?;
-    let ((then_do, else_do), rest) = branches(alloc, rest)?;
-    let action = Action::If(condition, then_do, else_do);
-    Ok((Command { place, action }, rest))
+    match branches(alloc, rest) {
+        Ok((blocks, rest)) => {
+            let (then_do, else_do) = blocks;
+            let action = Action::If(condition, then_do, else_do);
+            Ok((Command { place, action }, rest))
+        }
+        Err(fault) => {
+            drop(condition);
+            Err(fault)
+        }
+    }
 }
 
 // A command and the parenthesis behind it.

@@ -179,7 +179,10 @@ fn left_side<'t>(
     let (left, rest) = expr(alloc, tokens)?;
     match compare_at(rest) {
         Some((by, after)) => Ok(((left, by), after)),
-        None => Err(ParseError::Syntax(rest.len())),
+        None => {
+            drop(left);
+            Err(ParseError::Syntax(rest.len()))
+        }
     }
 }
 
@@ -192,8 +195,13 @@ fn comparison<'t>(
     ensures shorter { IfOk result (λ x. length x.1.now ≤ length tokens.now) }
 {
     let ((left, by), rest) = left_side(alloc, tokens)?;
-    let (right, rest) = expr(alloc, rest)?;
-    Ok((Test::Compare(by, left, right), rest))
+    match expr(alloc, rest) {
+        Ok((right, rest)) => Ok((Test::Compare(by, left, right), rest)),
+        Err(fault) => {
+            drop(left);
+            Err(fault)
+        }
+    }
 }
 
 // What stands behind MATCH.
@@ -249,8 +257,13 @@ fn in_array<'t>(
 {
     let after = after_open(tokens)?;
     let (operand, rest) = expr_before(alloc, Mark::Comma, after)?;
-    let (name, rest) = last_name(alloc, rest)?;
-    Ok((Test::InArray(operand, name), rest))
+    match last_name(alloc, rest) {
+        Ok((name, rest)) => Ok((Test::InArray(operand, name), rest)),
+        Err(fault) => {
+            drop(operand);
+            Err(fault)
+        }
+    }
 }
 
 // What stands behind the word of a test.

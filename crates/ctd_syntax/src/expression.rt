@@ -129,9 +129,10 @@ fn power<'t>(
     let (base, rest) = atom(alloc, tokens)?;
     match after_mark(Mark::Caret, rest) {
         Some(after) => {
-            let (exponent, rest) = exponent(alloc, after)?;
             let base = Box::new(alloc, base)?;
-            Ok((Expr::Pow(base, Box::new(alloc, exponent)?), rest))
+            let (exponent, rest) = exponent(alloc, after)?;
+            let exponent = Box::new(alloc, exponent)?;
+            Ok((Expr::Pow(base, exponent), rest))
         }
         None => Ok((base, rest)),
     }

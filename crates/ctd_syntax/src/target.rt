@@ -62,8 +62,13 @@ fn one_assignment<'t>(
     ensures shorter { IfOk result (λ x. length x.1.now ≤ length tokens.now) }
 {
     let (target, rest) = target_before(alloc, Mark::Assign, tokens)?;
-    let (value, rest) = expr(alloc, rest)?;
-    Ok((Assignment { target, value }, rest))
+    match expr(alloc, rest) {
+        Ok((value, rest)) => Ok((Assignment { target, value }, rest)),
+        Err(fault) => {
+            drop(target);
+            Err(fault)
+        }
+    }
 }
 
 /// The assignments at the front, with commas between them, and the parenthesis behind them, and

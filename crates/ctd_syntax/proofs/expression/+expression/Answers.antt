@@ -149,8 +149,8 @@ power-returns-in_err-base-clause-tree t c = refused_exit IsAtom IsPower (ends 4)
 pub power-returns-in_err-exponent-in-Some-clause-tree : goal.power-returns-in_err-exponent-in-Some-clause-tree
 power-returns-in_err-exponent-in-Some-clause-tree t c = refused_exit IsExponent IsPower (ends 3) (ends 3) _ (map lexeme c.in-Some.after.now) (map lexeme c.args.tokens.now) _ c.from_residual-in_err-exponent-in-Some.result c.from_residual-in_err-exponent-in-Some.ensures.1 (power_none (map lexeme c.args.tokens.now) (map lexeme c.in_ok-base.rest.now) (map lexeme c.in-Some.after.now) _ c.in_ok-base.ensures.tree c.in-Some.ensures.found) c.in_err-exponent-in-Some.ensures.tree
 
-pub power-returns-in_ok-new-in-Some-clause-tree : goal.power-returns-in_ok-new-in-Some-clause-tree
-power-returns-in_ok-new-in-Some-clause-tree t c = rw (c.in_ok-base-in-Some.ensures.ok, c.in_ok-new-in-Some.ensures.ok) (power_reads (map lexeme c.args.tokens.now) (map lexeme c.in_ok-base.rest.now) (map lexeme c.in-Some.after.now) _ _ _ c.in_ok-base.ensures.tree c.in-Some.ensures.found c.in_ok-exponent-in-Some.ensures.tree)
+pub power-returns-in_ok-exponent-in-Some-2-clause-tree : goal.power-returns-in_ok-exponent-in-Some-2-clause-tree
+power-returns-in_ok-exponent-in-Some-2-clause-tree t c = rw (c.in_ok-base-in-Some.ensures.ok, c.in_ok-exponent-in-Some-2.ensures.ok) (power_reads (map lexeme c.args.tokens.now) (map lexeme c.in_ok-base.rest.now) (map lexeme c.in-Some.after.now) _ _ _ c.in_ok-base.ensures.tree c.in-Some.ensures.found c.in_ok-exponent-in-Some.ensures.tree)
 
 pub power-returns-in-None-clause-tree : goal.power-returns-in-None-clause-tree
 power-returns-in-None-clause-tree t c = atom_is_power (map lexeme c.args.tokens.now) (map lexeme c.in_ok-base.rest.now) _ c.in_ok-base.ensures.tree c.in-None.ensures.none
