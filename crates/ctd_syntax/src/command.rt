@@ -49,9 +49,17 @@ fn int<'t>(
 {
     let after = after_open(tokens)?;
     let (low, rest) = expr_before(alloc, Mark::Comma, after)?;
-    let ((high, target), rest) = upper_bound(alloc, rest)?;
-    let action = Action::Int(low, high, target);
-    Ok((Command { place, action }, rest))
+    match upper_bound(alloc, rest) {
+        Ok((upper, rest)) => {
+            let (high, target) = upper;
+            let action = Action::Int(low, high, target);
+            Ok((Command { place, action }, rest))
+        }
+        Err(fault) => {
+            drop(low);
+            Err(fault)
+        }
+    }
 }
 
 // What stands behind STRING.

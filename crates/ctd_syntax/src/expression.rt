@@ -77,9 +77,16 @@ pub(crate) fn expr<'t>(
 {
     let (mut left, mut rest) = product(alloc, tokens)?;
     while let Some((operator, after)) = sum_operator(rest) {
-        let (right, after) = product(alloc, after)?;
-        left = join(alloc, operator, left, right)?;
-        rest = after;
+        match product(alloc, after) {
+            Ok((right, after)) => {
+                left = join(alloc, operator, left, right)?;
+                rest = after;
+            }
+            Err(fault) => {
+                drop(left);
+                return Err(fault);
+            }
+        }
     }
     Ok((left, rest))
 }
@@ -94,9 +101,16 @@ fn product<'t>(
 {
     let (mut left, mut rest) = signed(alloc, tokens)?;
     while let Some((operator, after)) = product_operator(rest) {
-        let (right, after) = signed(alloc, after)?;
-        left = join(alloc, operator, left, right)?;
-        rest = after;
+        match signed(alloc, after) {
+            Ok((right, after)) => {
+                left = join(alloc, operator, left, right)?;
+                rest = after;
+            }
+            Err(fault) => {
+                drop(left);
+                return Err(fault);
+            }
+        }
     }
     Ok((left, rest))
 }

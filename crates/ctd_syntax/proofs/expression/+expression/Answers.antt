@@ -8,7 +8,7 @@ use Rattle.ctd_syntax.specs.Levels.{ends}
 use Rattle.ctd_token.specs.declared.token.Mark.TheVariants.{Open, Close, CloseIndex}
 use Rattle.ctd_syntax.proofs.Chains.{start, no_start, finish, next, no_next}
 use Rattle.ctd_syntax.proofs.Levels.{sums, products}
-use Rattle.ctd_syntax.proofs.Fronts.{reads_as, refused_exit, before_reads}
+use Rattle.ctd_syntax.proofs.Fronts.{reads_as, refused_as, refused_exit, before_reads}
 use Rattle.ctd_syntax.proofs.Rows.{index_list, list_of, list_view, lists_none, lists_start, lists_next, lists_no_next, lists_end, lists_unclosed}
 use Rattle.ctd_syntax.proofs.Atoms.{minus_reads, minus_none, power_is_signed, no_power_signed, power_reads, power_none, atom_is_power, no_atom_power, negative_reads, negative_none, power_is_exponent, no_power_exponent, numeral_reads, text_reads, variable_reads, variable_none, variable_plain, variable_indexed, variable_bad_index, not_strlen_begins, strlen_reads, strlen_none, group_reads, group_none, not_open_begins, no_atom}
 use Rattle.ctd_syntax.specs.Tree
@@ -119,11 +119,11 @@ expr-returns-in_err-left-clause-tree t c = refused_exit IsProduct IsExpr (ends 2
 pub expr-loop-operator-init : goal.expr-loop-operator-init
 expr-loop-operator-init t c = record { partly = start sums (map lexeme c.args.tokens.now) _ (map lexeme c.in_ok-left.rest.now) c.in_ok-left.ensures.tree; shorter = c.in_ok-left.ensures.shorter }
 
-pub expr-returns-in_err-right-clause-tree : goal.expr-returns-in_err-right-clause-tree
-expr-returns-in_err-right-clause-tree t c = refused_exit IsProduct IsExpr (ends 2) (ends 1) _ (map lexeme c.in-Some.after.now) (map lexeme c.args.tokens.now) _ c.from_residual-in_err-right.result c.from_residual-in_err-right.ensures.1 (no_next sums (map lexeme c.args.tokens.now) _ (map lexeme c.loop-operator.rest.now) (map lexeme c.in-Some.after.now) _ c.loop-operator.invariant.partly c.in-Some.ensures.operator) c.in_err-right.ensures.tree
+pub expr-returns-in-Err-clause-tree : goal.expr-returns-in-Err-clause-tree
+expr-returns-in-Err-clause-tree t c = refused_as IsProduct IsExpr (ends 2) (ends 1) (map lexeme c.in-Some.after.now) (map lexeme c.args.tokens.now) c.in-Err.fault (no_next sums (map lexeme c.args.tokens.now) _ (map lexeme c.loop-operator.rest.now) (map lexeme c.in-Some.after.now) _ c.loop-operator.invariant.partly c.in-Some.ensures.operator) c.in-Err.ensures.tree
 
 pub expr-loop-operator-preserved : goal.expr-loop-operator-preserved
-expr-loop-operator-preserved t c = record { partly = rw c.in_ok-left-2.ensures (next sums (map lexeme c.args.tokens.now) _ _ (map lexeme c.loop-operator.rest.now) (map lexeme c.in-Some.after.now) (map lexeme c.in_ok-right.after.now) _ c.loop-operator.invariant.partly c.in-Some.ensures.operator c.in_ok-right.ensures.tree); shorter = omega (arith, c.loop-operator.invariant.shorter, c.in-Some.ensures.shorter, c.in_ok-right.ensures.shorter) }
+expr-loop-operator-preserved t c = record { partly = rw c.in_ok-left-in-Ok.ensures (next sums (map lexeme c.args.tokens.now) _ _ (map lexeme c.loop-operator.rest.now) (map lexeme c.in-Some.after.now) (map lexeme c.in-Ok.after.now) _ c.loop-operator.invariant.partly c.in-Some.ensures.operator c.in-Ok.ensures.tree); shorter = omega (arith, c.loop-operator.invariant.shorter, c.in-Some.ensures.shorter, c.in-Ok.ensures.shorter) }
 
 pub expr-returns-clause-tree : goal.expr-returns-clause-tree
 expr-returns-clause-tree t c = finish sums (map lexeme c.args.tokens.now) _ (map lexeme c.loop-operator.rest.now) c.loop-operator.invariant.partly c.in_default.ensures.operator
@@ -134,11 +134,11 @@ product-returns-in_err-left-clause-tree t c = refused_exit IsSigned IsProduct (e
 pub product-loop-operator-init : goal.product-loop-operator-init
 product-loop-operator-init t c = record { partly = start products (map lexeme c.args.tokens.now) _ (map lexeme c.in_ok-left.rest.now) c.in_ok-left.ensures.tree; shorter = c.in_ok-left.ensures.shorter }
 
-pub product-returns-in_err-right-clause-tree : goal.product-returns-in_err-right-clause-tree
-product-returns-in_err-right-clause-tree t c = refused_exit IsSigned IsProduct (ends 3) (ends 2) _ (map lexeme c.in-Some.after.now) (map lexeme c.args.tokens.now) _ c.from_residual-in_err-right.result c.from_residual-in_err-right.ensures.1 (no_next products (map lexeme c.args.tokens.now) _ (map lexeme c.loop-operator.rest.now) (map lexeme c.in-Some.after.now) _ c.loop-operator.invariant.partly c.in-Some.ensures.operator) c.in_err-right.ensures.tree
+pub product-returns-in-Err-clause-tree : goal.product-returns-in-Err-clause-tree
+product-returns-in-Err-clause-tree t c = refused_as IsSigned IsProduct (ends 3) (ends 2) (map lexeme c.in-Some.after.now) (map lexeme c.args.tokens.now) c.in-Err.fault (no_next products (map lexeme c.args.tokens.now) _ (map lexeme c.loop-operator.rest.now) (map lexeme c.in-Some.after.now) _ c.loop-operator.invariant.partly c.in-Some.ensures.operator) c.in-Err.ensures.tree
 
 pub product-loop-operator-preserved : goal.product-loop-operator-preserved
-product-loop-operator-preserved t c = record { partly = rw c.in_ok-left-2.ensures (next products (map lexeme c.args.tokens.now) _ _ (map lexeme c.loop-operator.rest.now) (map lexeme c.in-Some.after.now) (map lexeme c.in_ok-right.after.now) _ c.loop-operator.invariant.partly c.in-Some.ensures.operator c.in_ok-right.ensures.tree); shorter = omega (arith, c.loop-operator.invariant.shorter, c.in-Some.ensures.shorter, c.in_ok-right.ensures.shorter) }
+product-loop-operator-preserved t c = record { partly = rw c.in_ok-left-in-Ok.ensures (next products (map lexeme c.args.tokens.now) _ _ (map lexeme c.loop-operator.rest.now) (map lexeme c.in-Some.after.now) (map lexeme c.in-Ok.after.now) _ c.loop-operator.invariant.partly c.in-Some.ensures.operator c.in-Ok.ensures.tree); shorter = omega (arith, c.loop-operator.invariant.shorter, c.in-Some.ensures.shorter, c.in-Ok.ensures.shorter) }
 
 pub product-returns-clause-tree : goal.product-returns-clause-tree
 product-returns-clause-tree t c = finish products (map lexeme c.args.tokens.now) _ (map lexeme c.loop-operator.rest.now) c.loop-operator.invariant.partly c.in_default.ensures.operator
