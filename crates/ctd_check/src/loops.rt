@@ -1,11 +1,11 @@
 //! IF and the loops: the frames that they leave to be done, and the turns of a loop.
-ghost use Rattle.std.specs.Prelude.{◌≡◌, ℕ, List, ◌+◌, ◌∷◌, ◌++◌, [], max, Some, pos};
+ghost use Rattle.std.specs.Prelude.{◌≡◌, ℕ, List, ◌+◌, ◌≤◌, ◌∷◌, ◌++◌, [], max, Some, pos};
 ghost use Rattle.ctd_syntax.specs.Numbering.{literals, separator_literals};
 ghost use Rattle.ctd_syntax.specs.Tree.{list_blocks, separator_blocks};
 ghost use Rattle.ctd_syntax.specs.View.{expr_tree, test_tree, command_list, boxed_separator};
 ghost use Rattle.ctd_check.specs.Known.{AreAmong, LeavesKnown};
 ghost use Rattle.ctd_check.specs.Loops.{tasks, loop_of, turn, take_turn, count_turn, goes_on, repeat, choice};
-ghost use Rattle.ctd_check.specs.Pending.{frame_tasks, separator_in, frame_blocks, lap_turn, guard_in, counter_in, loop_in, left_tasks};
+ghost use Rattle.ctd_check.specs.Pending.{frame_tasks, separator_in, frame_blocks, lap_turn, guard_in, counter_in, loop_in, left_tasks, IsWithin};
 ghost use Rattle.ctd_check.specs.Performs.{IsSound, Performs, NeedsRoom, answering};
 
 use crate::failure::CommandFailure;
@@ -52,15 +52,14 @@ pub(crate) fn loop_frame<'p>(
     }
 }
 
-/// The frame of a list.
-fn list_frame(commands: &Commands) -> Frame<'_>
-    ensures tasks { frame_tasks result ≡ tasks (command_list commands.now) ++ [] }
-    ensures blocks { frame_blocks result ≡ list_blocks (command_list commands.now) }
-    ensures turn { lap_turn result.lap ≡ 0 }
+/// The frame of a list; none where it has no commands.
+fn list_frame(commands: &Commands) -> Option<Frame<'_>>
+    ensures tasks { left_tasks result ≡ tasks (command_list commands.now) }
+    ensures within { (most : ℕ) → list_blocks (command_list commands.now) ≤ most → IsWithin result (1 + most) }
 {
-    Frame {
-        rest: commands.as_slice(),
-        lap: None,
+    match commands.as_slice() {
+        [] => None,
+        rest => Some(Frame { rest, lap: None }),
     }
 }
 
@@ -79,9 +78,9 @@ impl<'d, D: Source> Run<'d, D> {
         ensures known { (patterns : List (List ℕ)) → AreAmong patterns (literals (command_list then_do.now) ++ literals (command_list else_do.now)) → LeavesKnown patterns result }
     {
         if self.answer(t)? {
-            return Ok(Some(list_frame(then_do)));
+            return Ok(list_frame(then_do));
         }
-        Ok(Some(list_frame(else_do)))
+        Ok(list_frame(else_do))
     }
 
     /// REP and REPI: the loop is left to be done.

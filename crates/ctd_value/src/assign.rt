@@ -1,14 +1,13 @@
 //! Values for variables (checktestdata language specification, SET).
 
-ghost use Rattle.std.specs.Prelude.{◌≡◌, ◌≢◌, true, false, pos, Ok, Err, OnErr, IfSome};
+ghost use Rattle.std.specs.Prelude.{◌≡◌, ◌≢◌, true, false, Ok, Err, OnErr};
 ghost use Rattle.ctd_syntax.specs.View.{expr_tree, var_tree};
 ghost use Rattle.ctd_value.specs.Fault.{Gives};
 ghost use Rattle.ctd_value.specs.Lending.{map_ok, value_lent};
-ghost use Rattle.ctd_value.specs.Val.{val};
 ghost use Rattle.ctd_value.specs.Setting.{with_variable, with_expression};
 ghost use Rattle.ctd_value.specs.declared.value.Value.TheVariants as values;
 
-use crate::expression::{eval, index_values, row_number, small};
+use crate::expression::{eval, index_values, plain_number, small};
 use crate::fault::EvalFault;
 use crate::lent::Lent;
 use crate::store::Store;
@@ -61,6 +60,20 @@ pub fn set_number(alloc: Global, v: &Var, n: i128, store: &mut Store) -> Result<
 /// The same of any variable. A function of its own, so that a variable without indices need not make room for what it does.
 #[inline(never)]
 fn set_any_number(alloc: Global, v: &Var, n: i128, store: &mut Store) -> Result<(), EvalFault>
+    ensures value { Gives (map_ok (λ _. store.new) result) (with_variable (var_tree v.now) (values.Int n) store.old) }
+    ensures err { OnErr result (store.new ≡ store.old) }
+    ensures no_count { result ≢ Err EvalFault.Count }
+    ensures no_shape { result ≢ Err EvalFault.Shape }
+{
+    if set_at_variable(v, n, store) {
+        return Ok(());
+    }
+    set_indexed_number(alloc, v, n, store)
+}
+
+/// The same, where the index may take a call.
+#[inline(never)]
+fn set_indexed_number(alloc: Global, v: &Var, n: i128, store: &mut Store) -> Result<(), EvalFault>
     ensures value { Gives (map_ok (λ _. store.new) result) (with_variable (var_tree v.now) (values.Int n) store.old) }
     ensures err { OnErr result (store.new ≡ store.old) }
     ensures no_count { result ≢ Err EvalFault.Count }
@@ -127,18 +140,29 @@ fn set_in_row(v: &Var, n: i128, store: &mut Store) -> bool
     ensures stays { result ≡ false → store.new ≡ store.old }
 {
     match v.indices.as_slice() {
-        [index] => match small_index(index, store) {
-            Some(number) => store.assign_in_row(&v.name, number, Value::Int(n)),
-            None => false,
+        [index] => match small(index, store) {
+            Some(number) if number >= 0 => {
+                store.assign_in_row(&v.name, number as usize, Value::Int(n))
+            }
+            _ => false,
         },
         _ => false,
     }
 }
 
-/// The value of an expression, where it is a number that an index of a row may be.
+/// The same of an index that is a variable, which takes no call.
 #[inline(always)]
-fn small_index(e: &Expr, store: &Store) -> Option<usize>
-    ensures value { IfSome result (λ number. val (expr_tree e.now) store.now ≡ Ok (values.Int (pos number))) }
+fn set_at_variable(v: &Var, n: i128, store: &mut Store) -> bool
+    ensures done { result ≡ true → with_variable (var_tree v.now) (values.Int n) store.old ≡ Ok store.new }
+    ensures stays { result ≡ false → store.new ≡ store.old }
 {
-    row_number(small(e, store)?)
+    match v.indices.as_slice() {
+        [index] => match plain_number(index, store) {
+            Some(number) if number >= 0 => {
+                store.assign_in_row(&v.name, number as usize, Value::Int(n))
+            }
+            _ => false,
+        },
+        _ => false,
+    }
 }

@@ -79,7 +79,10 @@ impl Indexed {
     pub(crate) fn in_row(&self, number: usize) -> Option<&Value>
         ensures value { IfSome result (λ x. find values_cmp (slot number) self.now ≡ Some x.now) }
     {
-        let at = number.checked_sub(self.base)?;
+        if number < self.base {
+            return None;
+        }
+        let at = number - self.base;
         if at < self.dense.len() {
             Some(&self.dense[at])
         } else {
@@ -127,10 +130,11 @@ impl Indexed {
         ensures done { result ≡ true → self.new ≡ put values_cmp (slot number) value self.old }
         ensures stays { result ≡ false → self.new ≡ self.old }
     {
-        match number.checked_sub(self.base) {
-            Some(at) => write_in_room(&mut self.dense, at, value),
-            None => false,
+        if number < self.base {
+            return false;
         }
+        let at = number - self.base;
+        write_in_room(&mut self.dense, at, value)
     }
 
     /// Removes all values; a short row keeps its room for the next ones.

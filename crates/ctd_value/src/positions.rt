@@ -9,12 +9,20 @@ use std::alloc::{AllocError, Global};
 use std::collections::BTreeMap;
 use std::marker::Model;
 
+/// For how many numbers of names the near hints are: all numbers of a byte.
+const NEAR: usize = 256;
+
+/// Where there is no near hint.
+const NOWHERE: u32 = u32::MAX;
+
 /// Names with their positions, each name once, which contracts see as the list of them in the order of the names.
 #[derive(Drop)]
 pub(crate) struct Positions {
     by_name: BTreeMap<Vec<u8>, usize>,
     // At the number of a name, where its array may stand. Of this no contract says anything.
     hints: Vec<usize>,
+    // The same of the first numbers, by their last byte, where no bound is asked for.
+    near_hints: [u32; NEAR],
 }
 
 impl Model for Positions {
@@ -34,12 +42,19 @@ impl Positions {
         Positions {
             by_name: BTreeMap::new(alloc),
             hints: Vec::new(alloc),
+            near_hints: [NOWHERE; NEAR],
         }
     }
 
     /// A position where the array of a name may stand, found without a search.
     pub(crate) fn hint(&self, name: &Name) -> Option<usize> {
         self.hints.get(name.number() as usize).copied()
+    }
+
+    /// The same for the first names, at once; for any other, one that is of no use.
+    #[inline(always)]
+    pub(crate) fn near_hint(&self, name: &Name) -> usize {
+        self.near_hints[name.number() as usize % NEAR] as usize
     }
 
     /// The position of a name, if it has one. Allocates nothing.
@@ -60,6 +75,7 @@ impl Positions {
         ensures err { OnErr result (self.new ≡ self.old) }
     {
         set_hint(&mut self.hints, name.number() as usize, position)?;
+        set_near_hint(&mut self.near_hints, name.number() as usize, position);
         let bytes = name.as_slice().to_vec(alloc)?;
         self.by_name.insert(bytes, position)?;
         Ok(())
@@ -75,4 +91,11 @@ fn set_hint(hints: &mut Vec<usize>, number: usize, position: usize) -> Result<()
         hints[number] = position;
     }
     Ok(())
+}
+
+/// Sets the near hint of one of the first numbers; for any other there is none.
+fn set_near_hint(near_hints: &mut [u32; NEAR], number: usize, position: usize) {
+    if number < NEAR {
+        near_hints[number] = u32::try_from(position).unwrap_or(NOWHERE);
+    }
 }

@@ -195,14 +195,16 @@ fn position(list: &[NamedArray], positions: &Positions, name: &Name) -> Option<u
     }
 }
 
-/// Where a short name stands in a list, where its hint leads there; none says nothing.
+/// Where a short name stands in a list, where its near hint leads there; none says nothing.
 #[inline(always)]
 fn hinted_position(list: &[NamedArray], positions: &Positions, name: &Name) -> Option<usize>
     ensures found { IfSome result (λ at. name_at (arrays_seen list.now) at ≡ Some name.now) }
 {
-    match positions.hint(name) {
-        Some(at) if has_short_name(list, at, name) => Some(at),
-        _ => None,
+    let at = positions.near_hint(name);
+    if has_short_name(list, at, name) {
+        Some(at)
+    } else {
+        None
     }
 }
 
