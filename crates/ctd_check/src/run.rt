@@ -18,7 +18,7 @@ use crate::machine::Run;
 use crate::outcome::{Fault, Site};
 use ctd_pattern::Matcher;
 use ctd_source::Source;
-use ctd_syntax::Command;
+use ctd_syntax::{Action, Command};
 
 /// Pays for a command and starts it. It answers a failure, which stands in registers; a halt would not.
 #[inline(always)]
@@ -48,6 +48,46 @@ fn begin<'p, D: Source>(
 /// command has to make room for a frame.
 #[inline(never)]
 fn open<'p, D: Source>(
+    command: &'p Command,
+    run: &mut Run<'_, D>,
+    agenda: &mut Agenda<'p>,
+) -> Result<(), CommandFailure>
+    requires sound { IsSound run.old }
+    requires block { 0 < blocks (command_tree command.now) }
+    requires room { length agenda.old.frames.items + blocks (command_tree command.now) ≤ 201 }
+    requires bound { agenda.old.left + 1 ≤ 2 ^ 64 }
+    ensures left { agenda.new.left ≡ agenda.old.left }
+    ensures len { length agenda.new.frames.items ≤ length agenda.old.frames.items + 1 }
+    ensures opens { Opens run.old run.new agenda.old agenda.new (command_literals (command_tree command.now)) result (act_of (command_tree command.now)) }
+{
+    if matches!(command.action, Action::If(_, _, _)) {
+        open_here(command, run, agenda)
+    } else {
+        open_loop(command, run, agenda)
+    }
+}
+
+/// The same of a loop. A function of its own, so that IF has no more to do than its own frame takes.
+#[inline(never)]
+fn open_loop<'p, D: Source>(
+    command: &'p Command,
+    run: &mut Run<'_, D>,
+    agenda: &mut Agenda<'p>,
+) -> Result<(), CommandFailure>
+    requires sound { IsSound run.old }
+    requires block { 0 < blocks (command_tree command.now) }
+    requires room { length agenda.old.frames.items + blocks (command_tree command.now) ≤ 201 }
+    requires bound { agenda.old.left + 1 ≤ 2 ^ 64 }
+    ensures left { agenda.new.left ≡ agenda.old.left }
+    ensures len { length agenda.new.frames.items ≤ length agenda.old.frames.items + 1 }
+    ensures opens { Opens run.old run.new agenda.old agenda.new (command_literals (command_tree command.now)) result (act_of (command_tree command.now)) }
+{
+    open_here(command, run, agenda)
+}
+
+/// The same of either, where it is called.
+#[inline(always)]
+fn open_here<'p, D: Source>(
     command: &'p Command,
     run: &mut Run<'_, D>,
     agenda: &mut Agenda<'p>,

@@ -1,6 +1,6 @@
 use Rattle.std.proofs.Common.{[]}
 use Rattle.ctd_check.specs.Pending.{left_tasks}
-use Rattle.ctd_check.proofs.run.open.Goals as goal
+use Rattle.ctd_check.proofs.run.open_here.Goals as goal
 
 pub returns-in-Ok-clause-opens : goal.returns-in-Ok-clause-opens
 returns-in-Ok-clause-opens g c = record { more = left_tasks c.in-Ok.frame; performs = c.in-Ok.ensures.performs; comes_first = c.leave.ensures.to_do; known = c.in-Ok.ensures.known }
