@@ -9,11 +9,11 @@ use std::alloc::{AllocError, Global};
 use std::collections::BTreeMap;
 use std::marker::Model;
 
-/// For how many numbers of names the near hints are: all numbers of a byte.
-const NEAR: usize = 256;
+/// For how many numbers of names there are near hints.
+const NEAR: usize = 1024;
 
 /// Where there is no near hint.
-const NOWHERE: u32 = u32::MAX;
+const NOWHERE: u16 = u16::MAX;
 
 /// Names with their positions, each name once, which contracts see as the list of them in the order of the names.
 #[derive(Drop)]
@@ -21,8 +21,8 @@ pub(crate) struct Positions {
     by_name: BTreeMap<Vec<u8>, usize>,
     // At the number of a name, where its array may stand. Of this no contract says anything.
     hints: Vec<usize>,
-    // The same of the first numbers, by their last byte, where no bound is asked for.
-    near_hints: [u32; NEAR],
+    // The same of the first numbers, where no bound is asked for. Most programs have no other names.
+    near_hints: [u16; NEAR],
 }
 
 impl Model for Positions {
@@ -51,7 +51,7 @@ impl Positions {
         self.hints.get(name.number() as usize).copied()
     }
 
-    /// The same for the first names, at once; for any other, one that is of no use.
+    /// The same of the first names, in fewer steps; of any other it is where one of the first stands.
     #[inline(always)]
     pub(crate) fn near_hint(&self, name: &Name) -> usize {
         self.near_hints[name.number() as usize % NEAR] as usize
@@ -94,8 +94,8 @@ fn set_hint(hints: &mut Vec<usize>, number: usize, position: usize) -> Result<()
 }
 
 /// Sets the near hint of one of the first numbers; for any other there is none.
-fn set_near_hint(near_hints: &mut [u32; NEAR], number: usize, position: usize) {
+fn set_near_hint(near_hints: &mut [u16; NEAR], number: usize, position: usize) {
     if number < NEAR {
-        near_hints[number] = u32::try_from(position).unwrap_or(NOWHERE);
+        near_hints[number] = u16::try_from(position).unwrap_or(NOWHERE);
     }
 }
