@@ -152,6 +152,7 @@ impl Held {
         self.ring.truncate_front(left);
         self.mirror.pass(self.passed);
         self.passed = 0;
+        self.mirror.keep_up(left, bytes);
         self.ring.fill_from_slice(bytes);
     }
 
