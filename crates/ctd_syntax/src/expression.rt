@@ -287,7 +287,7 @@ fn indices<'t>(
     ensures tree { FindsTree (IsBefore Mark.CloseIndex IsExprs) Always (λ x. (expr_list (exprs_of x.0), map lexeme x.1.now)) result (map lexeme tokens.now) }
     ensures shorter { IfOk result (λ x. length x.1.now ≤ length tokens.now) }
 {
-    let mut items = Vec::new(alloc);
+    let mut items = Vec::with_capacity(alloc, 1)?;
     let (first, mut rest) = expr(alloc, tokens)?;
     items.push(first)?;
     while let Some(after) = after_mark(Mark::Comma, rest) {

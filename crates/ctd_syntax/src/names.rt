@@ -20,7 +20,7 @@ pub(crate) fn names<'t>(
     ensures tree { FindsTree (IsBefore Mark.Close IsNames) Always (λ x. (names_of x.0, map lexeme x.1.now)) result (map lexeme tokens.now) }
     ensures shorter { IfOk result (λ x. length x.1.now ≤ length tokens.now) }
 {
-    let mut items = Vec::new(alloc);
+    let mut items = Vec::with_capacity(alloc, 1)?;
     let Some((first, number, mut rest)) = name_at(tokens) else {
         return Err(ParseError::Syntax(tokens.len()));
     };

@@ -96,7 +96,7 @@ pub(crate) fn parser_tokens<'t>(
 ) -> Result<Vec<ParserToken<'t>>, AllocError>
     ensures { IfOk result (λ ps. map lexeme ps.items ≡ lexemes text.now tokens.now) }
 {
-    let mut parser_tokens = Vec::new(alloc);
+    let mut parser_tokens = Vec::with_capacity(alloc, tokens.len())?;
     let mut before = 0;
     let mut numbers = BTreeMap::new(alloc);
     for token in tokens {

@@ -80,7 +80,7 @@ pub(crate) fn assignments<'t>(
     ensures tree { FindsTree (IsBefore Mark.Close IsAssignments) Always (λ x. (map assignment (assignments_of x.0), map lexeme x.1.now)) result (map lexeme tokens.now) }
     ensures shorter { IfOk result (λ x. length x.1.now ≤ length tokens.now) }
 {
-    let mut items = Vec::new(alloc);
+    let mut items = Vec::with_capacity(alloc, 1)?;
     let (first, mut rest) = one_assignment(alloc, tokens)?;
     items.push(first)?;
     while let Some(after) = after_mark(Mark::Comma, rest) {

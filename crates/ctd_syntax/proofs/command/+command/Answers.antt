@@ -102,10 +102,10 @@ pub command-returns-in-Some-clause-tree : goal.command-returns-in-Some-clause-tr
 command-returns-in-Some-clause-tree t c = reads_as (IsCommandRest c.in-Some.word c.in-Some.place) IsCommand Always Always _ (map lexeme c.in-Some.rest.now) (map lexeme c.args.tokens.now) c.command_rest.result (command_reads (map lexeme c.args.tokens.now) (map lexeme c.in-Some.rest.now) c.in-Some.word c.in-Some.place c.in-Some.ensures.found) (command_none (map lexeme c.args.tokens.now) (map lexeme c.in-Some.rest.now) c.in-Some.word c.in-Some.place c.in-Some.ensures.found) c.command_rest.ensures.tree
 
 pub commands-loop-word-init : goal.commands-loop-word-init
-commands-loop-word-init t c = record { part = rw (c.split_at.ensures.back, c.new-items.ensures.items) (commands_start (map lexeme c.args.tokens.now)); shorter = rw c.split_at.ensures.back (omega arith) }
+commands-loop-word-init t c = record { part = rw (c.split_at.ensures.back, c.in_ok-items.ensures.items) (commands_start (map lexeme c.args.tokens.now)); shorter = rw c.split_at.ensures.back (omega arith) }
 
 pub commands-returns-in_err-next-clause-tree : goal.commands-returns-in_err-next-clause-tree
-commands-returns-in_err-next-clause-tree t c = refused_exit (IsCommandRest c.in-Some.word c.in-Some.place) IsCommands Always CommandsEnd _ (map lexeme c.in-Some.after.now) (map lexeme c.args.tokens.now) _ c.from_residual.result c.from_residual.ensures.1 (λ not. commands_no_next (map lexeme c.args.tokens.now) (map lexeme c.loop-word.rest.now) _ c.loop-word.invariant.part (begins_at (map lexeme c.loop-word.rest.now) (map lexeme c.in-Some.after.now) c.in-Some.word c.in-Some.place c.in-Some.ensures.found c.in-Some.ensures.word) (command_none (map lexeme c.loop-word.rest.now) (map lexeme c.in-Some.after.now) c.in-Some.word c.in-Some.place c.in-Some.ensures.found not)) c.in_err-next.ensures.tree
+commands-returns-in_err-next-clause-tree t c = refused_exit (IsCommandRest c.in-Some.word c.in-Some.place) IsCommands Always CommandsEnd _ (map lexeme c.in-Some.after.now) (map lexeme c.args.tokens.now) _ c.from_residual-in_err-next.result c.from_residual-in_err-next.ensures.1 (λ not. commands_no_next (map lexeme c.args.tokens.now) (map lexeme c.loop-word.rest.now) _ c.loop-word.invariant.part (begins_at (map lexeme c.loop-word.rest.now) (map lexeme c.in-Some.after.now) c.in-Some.word c.in-Some.place c.in-Some.ensures.found c.in-Some.ensures.word) (command_none (map lexeme c.loop-word.rest.now) (map lexeme c.in-Some.after.now) c.in-Some.word c.in-Some.place c.in-Some.ensures.found not)) c.in_err-next.ensures.tree
 
 pub commands-loop-word-preserved : goal.commands-loop-word-preserved
 commands-loop-word-preserved t c = record { part = rw (ap command_trees c.in_ok-push.ensures.items ∙ trees_then c.loop-word.items.items c.in_ok-next.next) (commands_next (map lexeme c.args.tokens.now) (map lexeme c.loop-word.rest.now) (map lexeme c.in_ok-next.after.now) _ _ c.loop-word.invariant.part (begins_at (map lexeme c.loop-word.rest.now) (map lexeme c.in-Some.after.now) c.in-Some.word c.in-Some.place c.in-Some.ensures.found c.in-Some.ensures.word) (command_reads (map lexeme c.loop-word.rest.now) (map lexeme c.in-Some.after.now) c.in-Some.word c.in-Some.place c.in-Some.ensures.found _ _ c.in_ok-next.ensures.tree)); shorter = omega (arith, c.loop-word.invariant.shorter, c.in-Some.ensures.shorter, c.in_ok-next.ensures.shorter) }

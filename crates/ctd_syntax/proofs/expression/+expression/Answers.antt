@@ -56,11 +56,11 @@ variable-returns-in-None-clause-tree t c =
     rw (c.in_ok-name.ensures.equal, is) (variable_plain (map lexeme c.args.tokens.now) (map lexeme c.in-Some.rest.now) c.in-Some.name.now c.in-Some.ensures.found c.in-None.ensures.none)
 
 pub indices-returns-in_err-first-clause-tree : goal.indices-returns-in_err-first-clause-tree
-indices-returns-in_err-first-clause-tree t c = refused_exit IsExpr (IsBefore CloseIndex IsExprs) (ends 1) Always _ (map lexeme c.args.tokens.now) (map lexeme c.args.tokens.now) _ c.from_residual.result c.from_residual.ensures.1 (lists_none index_list (map lexeme c.args.tokens.now)) c.in_err-first.ensures.tree
+indices-returns-in_err-first-clause-tree t c = refused_exit IsExpr (IsBefore CloseIndex IsExprs) (ends 1) Always _ (map lexeme c.args.tokens.now) (map lexeme c.args.tokens.now) _ c.from_residual-in_err-first.result c.from_residual-in_err-first.ensures.1 (lists_none index_list (map lexeme c.args.tokens.now)) c.in_err-first.ensures.tree
 
 pub indices-loop-after-init : goal.indices-loop-after-init
 indices-loop-after-init t c =
-    let is : map expr_tree c.push.new.self.items ≡ expr_tree c.in_ok-first.first ∷ [] = ap (map expr_tree) (c.in_ok-push.ensures.items ∙ ap (λ l. l ++ c.in_ok-first.first ∷ []) c.new-items.ensures.items) in
+    let is : map expr_tree c.push.new.self.items ≡ expr_tree c.in_ok-first.first ∷ [] = ap (map expr_tree) (c.in_ok-push.ensures.items ∙ ap (λ l. l ++ c.in_ok-first.first ∷ []) c.in_ok-items.ensures.items) in
     record { partly = rw is (lists_start index_list (map lexeme c.args.tokens.now) (map lexeme c.in_ok-first.rest.now) _ c.in_ok-first.ensures.tree); shorter = c.in_ok-first.ensures.shorter }
 
 pub indices-returns-in_err-next-clause-tree : goal.indices-returns-in_err-next-clause-tree

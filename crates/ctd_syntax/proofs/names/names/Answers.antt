@@ -7,7 +7,7 @@ use Rattle.ctd_syntax.proofs.names.names.Goals as goal
 
 pub loop-after-init : goal.loop-after-init
 loop-after-init c =
-    let is : c.push.new.self.items ≡ c.in-Some.first.now ∷ [] = c.in_ok-push.ensures.items ∙ ap (λ l. l ++ c.in_ok-numbered.field-0 ∷ []) c.new-items.ensures.items ∙ ap (λ x. x ∷ []) c.in_ok-numbered.ensures.equal in
+    let is : c.push.new.self.items ≡ c.in-Some.first.now ∷ [] = c.in_ok-push.ensures.items ∙ ap (λ l. l ++ c.in_ok-numbered.field-0 ∷ []) c.in_ok-items.ensures.items ∙ ap (λ x. x ∷ []) c.in_ok-numbered.ensures.equal in
     record { partly = rw is (lists_start name_list (map lexeme c.args.tokens.now) (map lexeme c.in-Some.rest.now) c.in-Some.first.now (name_found (map lexeme c.args.tokens.now) (map lexeme c.in-Some.rest.now) c.in-Some.first.now c.in-Some.ensures.found)); shorter = omega (arith, c.in-Some.ensures.shorter) }
 
 pub returns-in_default-name_at-clause-tree : goal.returns-in_default-name_at-clause-tree

@@ -12,11 +12,11 @@ use Rattle.ctd_syntax.proofs.Rows.{lists_none, lists_start, lists_next, lists_no
 use Rattle.ctd_syntax.proofs.target.assignments.Goals as goal
 
 pub returns-in_err-first-clause-tree : goal.returns-in_err-first-clause-tree
-returns-in_err-first-clause-tree c = refused_exit IsAssignment (IsBefore Close IsAssignments) (ends 1) Always _ (map lexeme c.args.tokens.now) (map lexeme c.args.tokens.now) _ c.from_residual.result c.from_residual.ensures.1 (lists_none assignment_list (map lexeme c.args.tokens.now)) c.in_err-first.ensures.tree
+returns-in_err-first-clause-tree c = refused_exit IsAssignment (IsBefore Close IsAssignments) (ends 1) Always _ (map lexeme c.args.tokens.now) (map lexeme c.args.tokens.now) _ c.from_residual-in_err-first.result c.from_residual-in_err-first.ensures.1 (lists_none assignment_list (map lexeme c.args.tokens.now)) c.in_err-first.ensures.tree
 
 pub loop-after-init : goal.loop-after-init
 loop-after-init c =
-    let is : map assignment c.push.new.self.items ≡ assignment c.in_ok-first.first ∷ [] = ap (map assignment) (c.in_ok-push.ensures.items ∙ ap (λ l. l ++ c.in_ok-first.first ∷ []) c.new-items.ensures.items) in
+    let is : map assignment c.push.new.self.items ≡ assignment c.in_ok-first.first ∷ [] = ap (map assignment) (c.in_ok-push.ensures.items ∙ ap (λ l. l ++ c.in_ok-first.first ∷ []) c.in_ok-items.ensures.items) in
     record { partly = rw is (lists_start assignment_list (map lexeme c.args.tokens.now) (map lexeme c.in_ok-first.rest.now) _ c.in_ok-first.ensures.tree); shorter = c.in_ok-first.ensures.shorter }
 
 pub returns-in_err-next-clause-tree : goal.returns-in_err-next-clause-tree
