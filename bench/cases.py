@@ -66,6 +66,8 @@ TOKENS = b"""WHILE(!ISEOF)
 END
 """
 
+BRANCH = b"IF(k<0) INT(1,n,a[i]) SPACE ASSERT(a[i]>a[i-1]) NEWLINE END\n"
+
 
 @dataclass
 class Case:
@@ -219,6 +221,11 @@ def tokens(files: Files, scale: float, rng: random.Random) -> None:
         data.write("".join(word + "\n" for word in rng.choices(pool, k=max(1, int(1_000_000 * scale)))).encode())
 
 
+def program(files: Files, scale: float, _rng: random.Random) -> None:
+    """A program of a megabyte, of which nearly nothing is run, and no data."""
+    files.start(b"SET(k=0)\n" + BRANCH * max(1, int(1_000_000 * scale) // len(BRANCH))).close()
+
+
 CASES = [
     Case("integers", integers, 2.0, 6),
     Case("graph", graph, 3.0, 90),
@@ -233,6 +240,7 @@ CASES = [
     Case("tree", tree, None, 100),
     Case("permutation", permutation, None, 100),
     Case("tokens", tokens, None, 6),
+    Case("program", program, None, 20),
 ]
 
 
