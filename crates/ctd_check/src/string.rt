@@ -1,8 +1,10 @@
 //! STRING: the bytes of a string.
-ghost use Rattle.std.specs.Prelude.{◌≡◌, ◌≤◌, ◌<◌, nat_eq, length, take, drop, None, OnOk, IfOk};
+ghost use Rattle.std.specs.Prelude.{◌≡◌, ◌≤◌, ◌<◌, nat_eq, true, length, take, drop, count_by, None, OnOk, IfOk};
 ghost use Rattle.std.specs.List.{common_prefix_len};
-ghost use Rattle.ctd_source.specs.CursorState.{state_of};
+ghost use Rattle.ctd_source.specs.Consistency.{IsBounded};
+ghost use Rattle.ctd_source.specs.CursorState.{state_of, MovesPast};
 ghost use Rattle.ctd_source.specs.Received.{AdvancesSuchThat};
+ghost use Rattle.ctd_source.specs.TestData.{is_newline};
 ghost use Rattle.ctd_syntax.specs.View.{expr_tree};
 ghost use Rattle.ctd_check.specs.Effect.{string, match_bytes};
 ghost use Rattle.ctd_check.specs.Alone.{DoesAlone};
@@ -16,19 +18,48 @@ use ctd_source::{Cursor, LookFault, Source};
 use ctd_syntax::Expr;
 use ctd_value::text_of;
 
+/// How many bytes at the front of two lists agree.
+#[derive(Clone, Copy)]
+struct CommonFront {
+    len: usize,
+    /// Whether it is known that none of them ends a line.
+    is_in_line: bool,
+}
+
+/// Whether two lists are the same, and no line ends in them: one pass tells both.
+fn agree_in_line(wanted: &[u8], bytes: &[u8]) -> bool
+    requires { length wanted.now ≡ length bytes.now }
+    ensures same { result ≡ true → wanted.now ≡ bytes.now }
+    ensures in_line { result ≡ true → count_by is_newline bytes.now ≡ 0 }
+{
+    let mut agree = true;
+    for i in 0..bytes.len() {
+        agree &= (wanted[i] == bytes[i]) & (bytes[i] != b'\n');
+    }
+    agree
+}
+
 /// How many bytes at the front of two lists agree. Most often one of them is all of the front of the other.
-fn common_len(wanted: &[u8], bytes: &[u8]) -> usize
-    ensures { result ≡ common_prefix_len nat_eq wanted.now bytes.now }
+fn common_front(wanted: &[u8], bytes: &[u8]) -> CommonFront
+    ensures len { result.len ≡ common_prefix_len nat_eq wanted.now bytes.now }
+    ensures in_line { result.is_in_line ≡ true → count_by is_newline (take result.len bytes.now) ≡ 0 }
 {
     let most = wanted.len().min(bytes.len());
-    if wanted[..most] == bytes[..most] {
-        most
-    } else {
-        first_difference(wanted, bytes)
+    let (wanted_front, bytes_front) = (&wanted[..most], &bytes[..most]);
+    let is_in_line = agree_in_line(wanted_front, bytes_front);
+    if is_in_line || wanted_front == bytes_front {
+        return CommonFront {
+            len: most,
+            is_in_line,
+        };
+    }
+    CommonFront {
+        len: first_difference(wanted, bytes),
+        is_in_line: false,
     }
 }
 
-/// The same, by a look at each byte.
+/// The same number, by a look at each byte.
 fn first_difference(wanted: &[u8], bytes: &[u8]) -> usize
     ensures { result ≡ common_prefix_len nat_eq wanted.now bytes.now }
 {
@@ -51,7 +82,7 @@ fn rest_after(bytes: &[u8], count: usize) -> &[u8]
     &bytes[count..]
 }
 
-/// How many bytes are compared before their lines are counted: so few that they are near by when they are counted.
+/// How many bytes are compared at once: so few that they are near by when their lines are counted.
 const STRETCH: usize = 16_384;
 
 /// The first bytes, as many as are compared at once.
@@ -63,6 +94,20 @@ fn stretch(bytes: &[u8]) -> &[u8]
     &bytes[..bytes.len().min(STRETCH)]
 }
 
+/// Passes the bytes that agree. Where none of them ends a line, there is no look for lines.
+fn pass_agreed<D: Source>(front: CommonFront, cursor: &mut Cursor<'_, D>)
+    requires held { front.len ≤ length (state_of cursor.old).held }
+    requires in_line { front.is_in_line ≡ true → count_by is_newline (take front.len (state_of cursor.old).held) ≡ 0 }
+    ensures moves { MovesPast front.len cursor.old cursor.new }
+    ensures bounded { IsBounded (state_of cursor.new) }
+{
+    if front.is_in_line {
+        cursor.take_in_line(front.len);
+    } else {
+        cursor.take_many(front.len);
+    }
+}
+
 /// Passes as many of the wanted bytes as come next and are held, a stretch of them at most; tells how many.
 fn pass_front<D: Source>(wanted: &[u8], cursor: &mut Cursor<'_, D>) -> Result<usize, LookFault>
     requires sound { (state_of cursor.old).fault ≡ None }
@@ -72,9 +117,9 @@ fn pass_front<D: Source>(wanted: &[u8], cursor: &mut Cursor<'_, D>) -> Result<us
 {
     match cursor.look() {
         Ok(Some(_byte)) => {
-            let count = common_len(wanted, stretch(cursor.held_run()));
-            cursor.take_many(count);
-            Ok(count)
+            let front = common_front(wanted, stretch(cursor.held_run()));
+            pass_agreed(front, cursor);
+            Ok(front.len)
         }
         Ok(None) => Ok(0),
         Err(fault) => Err(fault),
