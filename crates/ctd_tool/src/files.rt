@@ -12,8 +12,8 @@ use ctd_check::{FromRead, Source};
 use std::alloc::Global;
 use std::io::{BufReader, Read};
 
-/// The bytes of the buffer between a file and what reads it, so that small reads are no system calls.
-const BUFFER: usize = 65_536;
+/// The bytes of the buffer between a file and what reads it, so that small reads are no system calls; greater ones go past it.
+const BUFFER: usize = 16_384;
 
 /// Opens files. Code that is generic over it can show which files it opened, and in which order.
 pub trait Files {
