@@ -32,15 +32,29 @@ while IFS=: read -r crate rest; do
     libraries[${crate%% *}]=$rest
 done < <(sed -e 's/#.*//' -e '/^ *$/d' "$top/crates.txt")
 
-# The crates that a crate stands on, and then the crate itself.
+# The crates that a crate stands on, and then the crate itself; and how many of these stand on each other.
 order=()
+declare -A depth
 visit() {
     local library
-    [[ -v libraries[$1] && " ${order[*]-} " != *" $1 "* ]] || return 0
+    [[ -v libraries[$1] && ! -v depth[$1] ]] || return 0
+    depth[$1]=1
     for library in ${libraries[$1]}; do
         visit "$library"
+        [[ ! -v depth[$library] ]] || ((depth[$library] < depth[$1])) || depth[$1]=$((depth[$library] + 1))
     done
     order+=("$1")
+}
+
+# The longest chain of crates that wait for one another. All others have time, and take what it leaves of the processors.
+chain=" "
+follow() {
+    local library next=
+    chain+="$1 "
+    for library in ${libraries[$1]}; do
+        [[ ! -v depth[$library] ]] || ((depth[$library] + 1 < depth[$1])) || next=$library
+    done
+    [ -z "$next" ] || follow "$next"
 }
 
 # Where a crate is built: a library, or the object file of the program.
@@ -52,7 +66,7 @@ built() {
 
 # Whether a crate is built, and nothing that it is made of is newer.
 is_built() {
-    local library made_of=("$kit/KIT-ID" "$top/crates/$1/"{src,specs,proofs})
+    local library made_of=("$kit/bin/rattle" "$top/crates/$1/"{src,specs,proofs})
     for library in ${libraries[$1]}; do
         [[ ! -v libraries[$library] ]] || made_of+=("$(built "$library")")
     done
@@ -61,7 +75,8 @@ is_built() {
 
 # Proves a crate and builds it: crate, root file, words of rattle. What rattle prints is shown only where it fails.
 build() {
-    local crate=$1 root=$2 library
+    local crate=$1 root=$2 library niceness=0
+    [[ $chain == *" $crate "* ]] || niceness=19
     local words=(--crate-name "$crate" --extern "std=$kit/rlibs/std.rlib" -L "dependency=$kit/rlibs")
     for library in ${libraries[$crate]}; do
         if [[ -v libraries[$library] ]]; then
@@ -75,7 +90,7 @@ build() {
     done
     words+=(--antt-project "$kit/rattle/logic/antt-project.json" --logic-built "$kit/logic_built" --jobs "$(nproc)")
     mkdir -p "$(dirname "$(built "$crate")")"
-    (cd "$top/crates/$crate" && "$kit/bin/rattle" build "$root" "${words[@]}" "${@:3}" -o "$(built "$crate")") </dev/null >"$logs/$crate" 2>&1
+    (cd "$top/crates/$crate" && nice -n "$niceness" "$kit/bin/rattle" build "$root" "${words[@]}" "${@:3}" -o "$(built "$crate")") </dev/null >"$logs/$crate" 2>&1
 }
 
 # Proves a library once those below it are proved.
@@ -107,6 +122,7 @@ compile() {
 }
 
 visit "$program"
+follow "$program"
 checker=$top/crates/$program/out/$program
 rm -f "$checker"
 for crate in "${order[@]}"; do
