@@ -115,10 +115,9 @@ prove() {
 
 # Proves the program, compiles it and links it.
 compile() {
-    local c_library="$kit/c/lib"
     build "$program" src/main.rt --toolchain "$kit/toolchain" &&
         "$kit/bin/rattle-link" --target x86_64-unknown-linux-gnu --toolchain "$kit/toolchain" -o "$1" \
-            "$(built "$program")" "${c_library}os_c.a" "${c_library}libc_c.a" >>"$logs/$program" 2>&1
+            "$(built "$program")" "$kit/c/libos_c.a" "$kit/c/liblibc_c.a" >>"$logs/$program" 2>&1
 }
 
 visit "$program"
