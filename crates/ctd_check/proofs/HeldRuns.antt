@@ -1,5 +1,5 @@
 -- A run of held bytes, and a row of bytes that ends within it.
-use Rattle.std.proofs.Common.{◌≡◌, ◌<◌, ◌≤◌, ℕ, suc, ◌+◌, ◌&&◌, Bool, true, false, cond, List, [], ◌∷◌, ◌++◌, length, take, refl, ap, sym, ◌∙◌, arith, Ok}
+use Rattle.std.proofs.Common.{◌≡◌, ◌<◌, ◌≤◌, ℕ, suc, ◌+◌, ◌&&◌, Bool, true, false, cond, List, [], ◌∷◌, ◌++◌, length, take, refl, ap, sym, ◌∙◌, arith, Ok, Some}
 use Rattle.std.specs.Prelude.{count_by, slice_get}
 use Rattle.std.specs.List.{take_while, prefix_len, list_all}
 use Rattle.std.proofs.lemmas.Grind.{common_steps}
@@ -46,3 +46,9 @@ run_front run held n within front = sym (take-take n (length run) held within) �
 -- a byte that is held before the limit is looked at
 pub held_next : (d : TestData) (s : CursorState) → IsConsistentWith d s → s.taken ≡ s.spot.offset + length s.held → 0 < length s.held → s.spot.offset < s.limit → next_byte d s.spot.offset ≡ Ok (slice_get (take 1 s.held) 0)
 held_next d s h counted some within = sym (ap first_of (look_found d s 1 h counted (omega (arith, some)) (omega (arith, within))))
+
+-- the first byte of a run is the first that is held
+pub first_held : (run held : List ℕ) (byte : ℕ) → take (length run) held ≡ run → slice_get run 0 ≡ Some byte → slice_get (take 1 held) 0 ≡ Some byte
+first_held [] held byte front first = cc
+first_held (x ∷ xs) [] byte front first = cc
+first_held (x ∷ xs) (h ∷ hs) byte front first = let same : h ≡ x = cc in ap Some same ∙ first

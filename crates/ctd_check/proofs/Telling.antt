@@ -1,10 +1,11 @@
 -- Faults of values and tests, as what they mean for a run.
-use Rattle.std.proofs.Common.{◌≡◌, ℕ, Bool, true, false, refl, ap, sym, ◌∙◌, subst, Result, Ok, Err, None}
+use Rattle.std.proofs.Common.{◌≡◌, ◌<◌, ◌≤◌, ℕ, ◌+◌, Bool, true, false, List, length, take, refl, ap, sym, ◌∙◌, subst, arith, Result, Ok, Err, Some, None}
+use Rattle.std.specs.Prelude.{slice_get}
 use Rattle.ctd_source.specs.declared.source.Source.{Ghosts}
 use Rattle.ctd_source.specs.declared.cursor.Cursor.{Cursor}
 use Rattle.ctd_source.specs.Consistency.{IsConsistentWith}
 use Rattle.ctd_source.specs.CursorState.{state_of, ReadsOn}
-use Rattle.ctd_source.specs.TestData.{TestData}
+use Rattle.ctd_source.specs.TestData.{TestData, next_byte}
 use Rattle.ctd_source.proofs.AdvanceLemmas.{advances_so, advances_nowhere, advances_reading}
 use Rattle.ctd_syntax.specs.Tree.{TestTree}
 use Rattle.ctd_value.specs.declared.fault.EvalFault.{EvalFault}
@@ -25,6 +26,8 @@ use Rattle.ctd_check.specs.Effect.{answer}
 use Rattle.ctd_check.specs.Failures.{test_failure, failure_of}
 use Rattle.ctd_check.specs.Performs.{Does, Tells, state, IsSound, Performs}
 use Rattle.ctd_check.proofs.Acts.{with_cursor, answers_as, evaluated}
+use Rattle.ctd_check.proofs.DigitRuns.{some_held}
+use Rattle.ctd_check.proofs.HeldRuns.{first_held, held_next}
 
 -- the fault of a test that had one, other than want of memory
 fault_in : TestFault → Fault
@@ -107,6 +110,19 @@ module _ {R : Type 0} {G : Ghosts R} where
   -- a test whose answer no data change
   pub answered_at_once : (a : Run R G) (t : TestTree) (b : Bool) → IsSound a → ((d : TestData) (p : ℕ) → truth t a.store d p ≡ Ok b) → Performs a a (Ok b) (answer t)
   answered_at_once a t b sound known = record { sound = sound; goes = advances_so (advances_nowhere a.cursor) (λ d _ _. ap (λ r. told (with_fault fault_of_truth r) (state a)) (known d (state a).offset)) }
+
+  -- a test whose answer the first byte of a run that is held tells
+  pub answered_in_front : (a : Run R G) (t : TestTree) (b : Bool) (byte : ℕ) (run : List ℕ) → IsSound a → slice_get run 0 ≡ Some byte → take (length run) (state_of a.cursor).held ≡ run
+      → length run ≤ length (state_of a.cursor).held → (0 < length run → (state_of a.cursor).spot.offset + length run ≤ (state_of a.cursor).limit)
+      → ((h : History) (d : TestData) (p : ℕ) → next_byte d p ≡ Ok (Some byte) → truth t h d p ≡ Ok b) → Performs a a (Ok b) (answer t)
+  answered_in_front a t b byte run sound first front held within known =
+    let some : 0 < length run = some_held run byte first in
+    record {
+      sound = sound;
+      goes = advances_so (advances_nowhere a.cursor) (λ d stand _.
+          let next = held_next d (state_of a.cursor) stand.before a.cursor.counted (omega (arith, some, held)) (omega (arith, some, within some)) in
+          ap (λ r. told (with_fault fault_of_truth r) (state a)) (known a.store d (state a).offset (next ∙ ap Ok (first_held run (state_of a.cursor).held byte front first))));
+    }
 
   -- a test that was answered
   pub answered : (a : Run R G) (now : Cursor R G) (t : TestTree) (b : Bool) → ReadsOn a.cursor now → now.fault ≡ None → ((d : TestData) → IsConsistentWith d (state_of now) → Answers (Ok b) (truth t a.store d now.spot.offset))

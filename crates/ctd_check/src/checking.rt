@@ -12,9 +12,8 @@ use crate::machine::Run;
 use crate::outcome::{Checked, Limits, Mode, Outcome};
 use crate::plan::Plan;
 use crate::run::run_program;
-use ctd_source::{Cursor, Source};
+use ctd_source::Source;
 use ctd_syntax::Presets;
-use ctd_value::Store;
 use std::alloc::{AllocError, Global};
 
 /// The outcome of a run that came to its end; the error is for a run that ran out of memory, and for no other.
@@ -51,25 +50,21 @@ pub fn check<D: Source>(
     ensures within { IfOk result (λ checked. checked.taken ≤ limits.bytes + 1) }
     ensures bounded { IfOk result (λ checked. checked.steps ≤ limits.steps) }
 {
-    let store = Store::new(alloc, presets)?;
     let mut matchers = plan.matchers(alloc)?;
-    let cursor = Cursor::start(alloc, testdata, limits.bytes)?;
-    let mut run = Run {
-        alloc,
-        cursor,
-        store,
-        mode,
-    };
+    let mut run = Run::new(alloc, presets, testdata, limits.bytes, mode)?;
     let mut agenda = Agenda::new(plan.commands(), limits.steps);
     let ended = run_program(&mut run, &mut agenda, &mut matchers);
+    drop(matchers);
+    let consumed = run.cursor.spot().offset;
+    let taken = run.cursor.taken();
+    let seen = run.cursor.seen();
+    let _source = run.into_source();
     let outcome = outcome_of(ended)?;
-    let checked = Checked {
+    Ok(Checked {
         outcome,
         steps: limits.steps - agenda.left(),
-        consumed: run.cursor.spot().offset,
-        taken: run.cursor.taken(),
-        seen: run.cursor.seen(),
-    };
-    let _source = run.into_source();
-    Ok(checked)
+        consumed,
+        taken,
+        seen,
+    })
 }

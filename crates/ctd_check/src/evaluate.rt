@@ -11,7 +11,9 @@ use crate::failure::CommandFailure;
 use crate::machine::Run;
 use ctd_source::Source;
 use ctd_syntax::{Expr, Test, Var};
-use ctd_value::{count_of, holds, number_at_hand, number_of, set_number, truth_at_hand};
+use ctd_value::{
+    count_of, holds, number_at_hand, number_of, set_number, truth_at_hand, truth_in_front_of,
+};
 
 impl<'d, D: Source> Run<'d, D> {
     /// The value of an expression that has to be a number.
@@ -82,9 +84,31 @@ impl<'d, D: Source> Run<'d, D> {
         truth_at_hand(t, &self.store)
     }
 
-    /// The same of any test. A function of its own, so that a test whose answer is at hand need not make room for it.
+    /// The same of any test, which may ask for the next byte.
     #[inline(never)]
     pub(crate) fn any_answer(&mut self, t: &Test) -> Result<bool, CommandFailure>
+        requires sound { IsSound self.old }
+        ensures performs { Performs self.old self.new result (answer (test_tree t.now)) }
+    {
+        match self.answer_in_front(t) {
+            Some(answer) => Ok(answer),
+            None => self.answer_by_parts(t),
+        }
+    }
+
+    /// The same, where the next byte is held and tells; none says nothing.
+    #[inline(always)]
+    fn answer_in_front(&self, t: &Test) -> Option<bool>
+        requires sound { IsSound self.now }
+        ensures performs { IfSome result (λ truth. Performs self.now self.now (Ok truth) (answer (test_tree t.now))) }
+    {
+        let byte = self.cursor.held_run().first()?;
+        truth_in_front_of(*byte, t)
+    }
+
+    /// The same of any test. A function of its own, so that a test whose answer is at hand need not make room for it.
+    #[inline(never)]
+    fn answer_by_parts(&mut self, t: &Test) -> Result<bool, CommandFailure>
         requires sound { IsSound self.old }
         ensures performs { Performs self.old self.new result (answer (test_tree t.now)) }
     {

@@ -1,14 +1,19 @@
 //! The state of a run: where the data are read, and the variables.
-ghost use Rattle.std.specs.Prelude.{◌≡◌, ◌<◌, ◌≤◌, length, Ok, Err, IfOk, IfSome};
+ghost use Rattle.std.specs.Prelude.{◌≡◌, ◌<◌, ◌≤◌, ◌^◌, length, Ok, Err, IfOk, IfSome};
+ghost use Rattle.ctd_source.specs.declared.source.Seen.TheVariants.{Going};
+ghost use Rattle.ctd_source.specs.Consistency.{IsAtStart, IsConsistentWith};
 ghost use Rattle.ctd_source.specs.CursorState.{state_of, source as source_now, Borrows};
+ghost use Rattle.ctd_source.specs.TestData.{TestData};
+ghost use Rattle.ctd_value.specs.Store.{initial};
 ghost use Rattle.ctd_check.specs.State.{see_next, pass, reject};
 ghost use Rattle.ctd_check.specs.Performs.{IsSound, Performs};
 
 use crate::failure::CommandFailure;
 use crate::outcome::Mode;
 use ctd_source::{Cursor, Source};
+use ctd_syntax::Presets;
 use ctd_value::Store;
-use std::alloc::Global;
+use std::alloc::{AllocError, Global};
 
 /// The state of a run. Its commands are methods, each in the file of its kind.
 #[derive(Drop)]
@@ -20,6 +25,33 @@ pub(crate) struct Run<'d, D: Source> {
 }
 
 impl<'d, D: Source> Run<'d, D> {
+    /// A run before its first byte, for data of at most `limit` bytes, with the presets pinned.
+    pub(crate) fn new(
+        alloc: Global,
+        presets: &Presets,
+        testdata: &'d mut D,
+        limit: u64,
+        mode: Mode,
+    ) -> Result<Run<'d, D>, AllocError>
+        requires going { D.seen testdata.old ≡ Going }
+        requires limit { limit ≤ 2 ^ 62 }
+        ensures borrows { IfOk result (λ run. Borrows run.cursor testdata.entry) }
+        ensures source { IfOk result (λ run. source_now run.cursor ≡ testdata.old) }
+        ensures begins { IfOk result (λ run. IsAtStart limit (state_of run.cursor)) }
+        ensures stands { IfOk result (λ run. (d : TestData) → d.limit ≡ limit → IsConsistentWith d (state_of run.cursor)) }
+        ensures pins { IfOk result (λ run. run.store ≡ initial presets.now) }
+        ensures mode { IfOk result (λ run. run.mode ≡ mode) }
+    {
+        let store = Store::new(alloc, presets)?;
+        let cursor = Cursor::start(alloc, testdata, limit)?;
+        Ok(Run {
+            alloc,
+            cursor,
+            store,
+            mode,
+        })
+    }
+
     /// The next byte, or none at the end.
     #[inline]
     pub(crate) fn next(&mut self) -> Result<Option<u8>, CommandFailure>

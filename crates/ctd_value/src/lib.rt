@@ -18,7 +18,7 @@ mod value;
 mod variables;
 
 pub use assign::{set_expression, set_number, set_text};
-pub use condition::{holds, truth_at_hand};
+pub use condition::{holds, truth_at_hand, truth_in_front_of};
 pub use expression::{count_of, eval, locate, number_at_hand, number_of, text_of};
 pub use fault::{EvalFault, TestFault};
 pub use laws::{

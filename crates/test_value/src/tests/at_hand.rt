@@ -2,7 +2,7 @@
 
 use super::store_of;
 use ctd_syntax::{Action, Assignment, Command, Program, Test, parse};
-use ctd_value::{number_at_hand, set_expression, truth_at_hand};
+use ctd_value::{number_at_hand, set_expression, truth_at_hand, truth_in_front_of};
 use std::alloc::Global;
 use std::test::Fail;
 
@@ -65,6 +65,46 @@ const TRUTHS: [(&str, Option<bool>); 24] = [
 fn truths_at_hand(rt: HostRuntime) -> Result<(), Fail> {
     for (test, wanted) in &TRUTHS {
         let found = truth_in(rt.alloc(), test)?;
+        assert_eq!(rt; found, *wanted, "at {test:?}");
+    }
+    Ok(())
+}
+
+/// The answer to a test that this byte tells.
+fn truth_told_by(alloc: Global, byte: u8, test: &str) -> Result<Option<bool>, Fail> {
+    let text = format!(in alloc; "ASSERT({test})")?;
+    let program = parse(alloc, text.as_bytes())?;
+    if let [
+        Command {
+            action: Action::Assert(t),
+            ..
+        },
+    ] = program.commands()
+    {
+        return Ok(truth_in_front_of(byte, t));
+    }
+    Err(Fail::new("no test"))
+}
+
+/// Tests in front of a b, and the answer to each that this byte tells.
+const TRUTHS_IN_FRONT_OF_B: [(&str, Option<bool>); 11] = [
+    ("MATCH(\"abc\")", Some(true)),
+    ("MATCH(\"ac\")", Some(false)),
+    ("MATCH(\"\")", Some(false)),
+    ("!MATCH(\"b\")", Some(false)),
+    ("!MATCH(\"a\")", Some(true)),
+    ("ISEOF", Some(false)),
+    ("!ISEOF", Some(true)),
+    ("!!ISEOF", None),
+    ("MATCH(s)", None),
+    ("MATCH(\"b\")&&ISEOF", None),
+    ("1==1", None),
+];
+
+#[test]
+fn truths_in_front_of_a_byte(rt: HostRuntime) -> Result<(), Fail> {
+    for (test, wanted) in &TRUTHS_IN_FRONT_OF_B {
+        let found = truth_told_by(rt.alloc(), b'b', test)?;
         assert_eq!(rt; found, *wanted, "at {test:?}");
     }
     Ok(())

@@ -2,7 +2,7 @@ use Rattle.std.proofs.Common.{ap, Err}
 use Rattle.ctd_syntax.specs.View.{test_tree}
 use Rattle.ctd_check.proofs.Acts.{answers_as}
 use Rattle.ctd_check.proofs.Telling.{answered, unanswered}
-use Rattle.ctd_check.proofs.machine.Run.any_answer.Goals as goal
+use Rattle.ctd_check.proofs.machine.Run.answer_by_parts.Goals as goal
 
 pub returns-in-Ok : goal.returns-in-Ok
 returns-in-Ok g c = record { performs = answered c.args.self.now c.holds.new.next (test_tree c.args.t.now) c.in-Ok.answer c.in-Ok.ensures.reads (c.in-Ok.ensures.sound c.requires.sound) (c.in-Ok.ensures.answer c.requires.sound) }
