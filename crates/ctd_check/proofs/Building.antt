@@ -5,7 +5,7 @@ use Rattle.std.proofs.lemmas.List.Elements.{All-push}
 use Rattle.ctd_pattern.specs.Pattern.{IsPattern}
 use Rattle.ctd_token.specs.declared.fault.LoadFault.{LoadFault}
 use Rattle.ctd_token.specs.declared.fault.LoadKind.TheVariants.{BadPattern}
-use Rattle.ctd_syntax.specs.declared.tree.PatternLiteral.{PatternLiteral}
+use Rattle.ctd_tree.specs.declared.tree.PatternLiteral.{PatternLiteral}
 use Rattle.ctd_check.specs.Known.{texts_of}
 use Rattle.ctd_check.specs.Literals.{literals_at}
 use Rattle.ctd_check.specs.Loading.{ArePatterns, IsBadPattern}

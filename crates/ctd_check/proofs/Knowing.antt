@@ -3,10 +3,10 @@ use Rattle.std.proofs.Common.{◌≡◌, ◌<◌, ◌+◌, Result, Ok, Err, OnOk
 use Rattle.std.specs.Prelude.{slice_get}
 use Rattle.std.specs.List.{range_with_len}
 use Rattle.std.proofs.lemmas.Option.{slice_get_within, slice_get-get_or}
-use Rattle.ctd_syntax.specs.declared.tree.PatternLiteral.{PatternLiteral}
+use Rattle.ctd_tree.specs.declared.tree.PatternLiteral.{PatternLiteral}
 use Rattle.ctd_syntax.specs.Numbering.{command_literals, separator_literals, literals, numbers_of}
-use Rattle.ctd_syntax.specs.Tree
-use Rattle.ctd_syntax.specs.Tree.{CommandList, Separator}
+use Rattle.ctd_tree.specs.Tree
+use Rattle.ctd_tree.specs.Tree.{CommandList, Separator}
 use Rattle.ctd_check.specs.Known.{IsAmong, AreAmong, AreKnown, texts_of}
 use Rattle.ctd_check.specs.Loops.{Task, Loop, turn, tasks, separated}
 

@@ -1,13 +1,13 @@
 -- The literals of a program, part by part.
 use Rattle.std.proofs.Common.{◌≡◌, ◌<◌, ◌+◌, ℕ, List, ◌++◌, length, drop, get_or, Option, Result, Ok, Err, OnOk, sym, ap, ◌∙◌, append_assoc}
 use Rattle.std.specs.Global.{Box}
-use Rattle.ctd_syntax.specs.declared.tree.Command.{Command}
-use Rattle.ctd_syntax.specs.declared.tree.Commands.{Commands}
-use Rattle.ctd_syntax.specs.declared.tree.PatternLiteral.{PatternLiteral}
-use Rattle.ctd_syntax.specs.declared.tree.Action.TheBlock.{back-Action-Rep-1}
+use Rattle.ctd_tree.specs.declared.tree.Command.{Command}
+use Rattle.ctd_tree.specs.declared.tree.Commands.{Commands}
+use Rattle.ctd_tree.specs.declared.tree.PatternLiteral.{PatternLiteral}
+use Rattle.ctd_tree.specs.declared.tree.Action.TheBlock.{back-Action-Rep-1}
 use Rattle.ctd_syntax.specs.Numbering.{command_literals, separator_literals, literals}
-use Rattle.ctd_syntax.specs.View.{command_tree, command_trees, command_list, commands_of, separator, boxed_separator}
-use Rattle.ctd_syntax.proofs.Trees.{list_commands, held_separator}
+use Rattle.ctd_tree.specs.View.{command_tree, command_trees, command_list, commands_of, separator, boxed_separator}
+use Rattle.ctd_tree.proofs.Trees.{list_commands, held_separator}
 use Rattle.ctd_check.proofs.Lists.{left_at}
 
 -- one command of a list more

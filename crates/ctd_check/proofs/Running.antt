@@ -6,11 +6,11 @@ use Rattle.ctd_source.specs.declared.spot.Spot.{Spot}
 use Rattle.ctd_source.specs.TestData.{TestData, spot_at}
 use Rattle.ctd_source.proofs.AdvanceLemmas.{advances_so, advances_both, advances_nowhere}
 use Rattle.ctd_token.specs.declared.text.Place.{Place}
-use Rattle.ctd_syntax.specs.declared.tree.Action.{Action}
-use Rattle.ctd_syntax.specs.declared.tree.Action.TheVariants.{Space, Newline, Eof, Int, String, Regex, Assert, Set, Unset, Rep', RepI', While', WhileI', If}
-use Rattle.ctd_syntax.specs.declared.tree.Command.{Command}
-use Rattle.ctd_syntax.specs.Tree.{place_of, CommandList}
-use Rattle.ctd_syntax.specs.View.{action_tree, command_tree}
+use Rattle.ctd_tree.specs.declared.tree.Action.{Action}
+use Rattle.ctd_tree.specs.declared.tree.Action.TheVariants.{Space, Newline, Eof, Int, String, Regex, Assert, Set, Unset, Rep', RepI', While', WhileI', If}
+use Rattle.ctd_tree.specs.declared.tree.Command.{Command}
+use Rattle.ctd_tree.specs.Tree.{place_of, CommandList}
+use Rattle.ctd_tree.specs.View.{action_tree, command_tree}
 use Rattle.ctd_check.specs.declared.agenda.Agenda.{Agenda}
 use Rattle.ctd_check.specs.declared.machine.Run.{Run}
 use Rattle.ctd_check.specs.declared.outcome.Site.{Site}
@@ -29,10 +29,10 @@ use Rattle.ctd_check.specs.Loops.{Task, start, finish, tasks}
 use Rattle.ctd_check.specs.Run.{Ended, stopped, site_of, perform, resume, run, run_from, with_steps, meaning, Finds, at_start}
 use Rattle.ctd_check.specs.declared.outcome.Mode.{Mode}
 use Rattle.ctd_check.specs.declared.outcome.Checked.{Checked}
-use Rattle.ctd_syntax.specs.declared.preset.Preset.{Preset}
+use Rattle.ctd_tree.specs.declared.preset.Preset.{Preset}
 use Rattle.ctd_check.specs.Failures.{halt_of, at_limit, Concludes}
 use Rattle.ctd_check.specs.Opening.{halting, Opens}
-use Rattle.ctd_syntax.specs.declared.tree.PatternLiteral.{PatternLiteral}
+use Rattle.ctd_tree.specs.declared.tree.PatternLiteral.{PatternLiteral}
 use Rattle.ctd_check.specs.Pending.{to_do}
 use Rattle.ctd_check.specs.Performs.{Does, ContinuesWith, answering, state, Performs, Advances, Ends, EndsAs}
 

@@ -5,7 +5,7 @@ use Rattle.std.specs.Result.{IsErr, IsErrAnd}
 use Rattle.ctd_source.specs.declared.source.Source.{Ghosts}
 use Rattle.ctd_source.specs.TestData.{TestData}
 use Rattle.ctd_source.proofs.AdvanceLemmas.{advances_so, advances_nowhere}
-use Rattle.ctd_syntax.specs.Tree.{ExprTree, VarTree}
+use Rattle.ctd_tree.specs.Tree.{ExprTree, VarTree}
 use Rattle.ctd_value.specs.declared.fault.EvalFault.{EvalFault}
 use Rattle.ctd_value.specs.declared.value.Value.{Value}
 use Rattle.ctd_value.specs.Fault.{ValueFault, with_fault, Gives, ◌>>=◌}

@@ -1,6 +1,6 @@
 -- What is to be done finds its patterns by their numbers.
 use Rattle.std.specs.Prelude.{◌≡◌, ℕ, List, [], ◌∷◌, ◌++◌, map, slice_get, Some, Option, Result, Ok, Err}
-use Rattle.ctd_syntax.specs.declared.tree.PatternLiteral.{PatternLiteral}
+use Rattle.ctd_tree.specs.declared.tree.PatternLiteral.{PatternLiteral}
 use Rattle.ctd_syntax.specs.Numbering.{command_literals, separator_literals, literals}
 use Rattle.ctd_check.specs.declared.frame.Frame.{Frame}
 use Rattle.ctd_check.specs.declared.failure.CommandFailure.{CommandFailure}

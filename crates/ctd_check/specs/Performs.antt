@@ -3,7 +3,7 @@ use Rattle.std.specs.Prelude.{◌≡◌, ℕ, true, ℤ, int_le, Option, None, R
 use Rattle.ctd_source.specs.declared.source.Source.{Ghosts}
 use Rattle.ctd_source.specs.TestData.{TestData}
 use Rattle.ctd_source.specs.Received.{AdvancesSuchThat}
-use Rattle.ctd_syntax.specs.Tree.{ExprTree}
+use Rattle.ctd_tree.specs.Tree.{ExprTree}
 use Rattle.ctd_value.specs.Val.{number_of}
 use Rattle.ctd_check.specs.declared.agenda.Agenda.{Agenda}
 use Rattle.ctd_check.specs.declared.frame.Frame.{Frame}

@@ -2,7 +2,7 @@
 use Rattle.std.specs.Prelude.{ℕ, nat_eq, ⊤, List, length, take, Option, Some, None, if◌then◌else◌}
 use Rattle.ctd_source.specs.declared.limits.TheConstants.{WINDOW}
 use Rattle.ctd_pattern.specs.Pattern.{length_at_start}
-use Rattle.ctd_syntax.specs.Tree.{VarTree}
+use Rattle.ctd_tree.specs.Tree.{VarTree}
 use Rattle.ctd_value.specs.declared.value.Value.TheVariants as values
 use Rattle.ctd_check.specs.declared.outcome.Reason.TheVariants.{RegexMismatch}
 use Rattle.ctd_check.specs.declared.outcome.Fault.TheVariants.{MatchTooLong}

@@ -1,9 +1,9 @@
 -- The run of a program as a list of tasks, one step for each.
 use Rattle.std.specs.Prelude.{◌≡◌, ℕ, zero, suc, ◌-◌, ⊤, List, [], ◌∷◌, ◌++◌, Some, None}
 use Rattle.ctd_source.specs.TestData.{TestData, spot_at}
-use Rattle.ctd_syntax.specs.declared.preset.Preset.{Preset}
-use Rattle.ctd_syntax.specs.Tree
-use Rattle.ctd_syntax.specs.Tree.{CommandTree, CommandList, place_of}
+use Rattle.ctd_tree.specs.declared.preset.Preset.{Preset}
+use Rattle.ctd_tree.specs.Tree
+use Rattle.ctd_tree.specs.Tree.{CommandTree, CommandList, place_of}
 use Rattle.ctd_value.specs.Store.{initial}
 use Rattle.ctd_check.specs.declared.outcome.Mode.{Mode}
 use Rattle.ctd_check.specs.declared.outcome.Site.{Site}

@@ -1,6 +1,6 @@
 //! SET and UNSET.
 ghost use Rattle.std.specs.Prelude.{◌≡◌, fold, map, Ok};
-ghost use Rattle.ctd_syntax.specs.View.{assignment};
+ghost use Rattle.ctd_tree.specs.View.{assignment};
 ghost use Rattle.ctd_value.specs.Store.{unset};
 ghost use Rattle.ctd_check.specs.Effect.{give_value, set, unset_all};
 ghost use Rattle.ctd_check.specs.Performs.{IsSound, Performs};

@@ -1,7 +1,7 @@
 //! The check of data against a program.
 ghost use Rattle.std.specs.Prelude.{◌≡◌, ◌+◌, ◌≤◌, ◌^◌, Err, IfOk, OnErr};
 ghost use Rattle.ctd_source.specs.declared.source.Seen.TheVariants.{Going};
-ghost use Rattle.ctd_syntax.specs.View.{command_trees};
+ghost use Rattle.ctd_tree.specs.View.{command_trees};
 ghost use Rattle.ctd_check.specs.Run.{meaning};
 ghost use Rattle.ctd_check.specs.Checks.{FindsMeaning, IsAhead};
 ghost use Rattle.ctd_check.specs.Failures.{Concludes};

@@ -1,7 +1,7 @@
 //! Commands: what each of them does, and the frame that it leaves to be done.
 ghost use Rattle.std.specs.Prelude.{◌≡◌, ◌<◌, [], ℕ, List, None, Some, IfSome, IfNone};
-ghost use Rattle.ctd_syntax.specs.Tree.{blocks};
-ghost use Rattle.ctd_syntax.specs.View.{command_tree, test_tree, assignments_of, assignment};
+ghost use Rattle.ctd_tree.specs.Tree.{blocks};
+ghost use Rattle.ctd_tree.specs.View.{command_tree, test_tree, assignments_of, assignment};
 ghost use Rattle.ctd_syntax.specs.Numbering.{command_literals};
 ghost use Rattle.ctd_check.specs.Effect.{assert};
 ghost use Rattle.ctd_check.specs.Known.{AreAmong, LeavesKnown};

@@ -1,6 +1,6 @@
 //! Expressions, variables and tests, as the commands of a run use them.
 ghost use Rattle.std.specs.Prelude.{◌≡◌, Ok, IfSome};
-ghost use Rattle.ctd_syntax.specs.View.{expr_tree, var_tree, test_tree, target};
+ghost use Rattle.ctd_tree.specs.View.{expr_tree, var_tree, test_tree, target};
 ghost use Rattle.ctd_value.specs.declared.value.Value.TheVariants as values;
 ghost use Rattle.ctd_value.specs.Val.{key, count, number_of};
 ghost use Rattle.ctd_check.specs.State.{evaluate};

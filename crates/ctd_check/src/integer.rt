@@ -2,7 +2,7 @@
 ghost use Rattle.std.specs.Prelude.{◌≡◌, OnOk, IfSome, None, true};
 ghost use Rattle.ctd_source.specs.CursorState.{state_of};
 ghost use Rattle.ctd_source.specs.Received.{AdvancesSuchThat};
-ghost use Rattle.ctd_syntax.specs.View.{expr_tree, target};
+ghost use Rattle.ctd_tree.specs.View.{expr_tree, target};
 ghost use Rattle.ctd_check.specs.Effect.{int, integer};
 ghost use Rattle.ctd_check.specs.Integer.{is_minus, signed};
 ghost use Rattle.ctd_check.specs.Passing.{IsInFront, PassesMinus, PassesDigits};

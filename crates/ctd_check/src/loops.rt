@@ -1,8 +1,8 @@
 //! IF and the loops: the frames that they leave to be done, and the turns of a loop.
 ghost use Rattle.std.specs.Prelude.{◌≡◌, ℕ, List, ◌+◌, ◌≤◌, ◌∷◌, ◌++◌, [], max, Some, pos};
 ghost use Rattle.ctd_syntax.specs.Numbering.{literals, separator_literals};
-ghost use Rattle.ctd_syntax.specs.Tree.{list_blocks, separator_blocks};
-ghost use Rattle.ctd_syntax.specs.View.{expr_tree, test_tree, command_list, boxed_separator};
+ghost use Rattle.ctd_tree.specs.Tree.{list_blocks, separator_blocks};
+ghost use Rattle.ctd_tree.specs.View.{expr_tree, test_tree, command_list, boxed_separator};
 ghost use Rattle.ctd_check.specs.Known.{AreAmong, LeavesKnown};
 ghost use Rattle.ctd_check.specs.Loops.{tasks, loop_of, turn, take_turn, count_turn, goes_on, repeat, choice};
 ghost use Rattle.ctd_check.specs.Pending.{frame_tasks, separator_in, frame_blocks, lap_turn, guard_in, counter_in, loop_in, left_tasks, IsWithin};

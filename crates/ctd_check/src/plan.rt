@@ -2,8 +2,8 @@
 ghost use Rattle.std.specs.Prelude.{◌≡◌, ◌≢◌, ◌≤◌, None, Some, length, IfOk, IfErr};
 ghost use Rattle.ctd_source.specs.declared.source.Seen.TheVariants.{Going};
 ghost use Rattle.ctd_token.specs.declared.limits.TheConstants.{PROGRAM_LIMIT};
-ghost use Rattle.ctd_syntax.specs.Tree.{list_blocks};
-ghost use Rattle.ctd_syntax.specs.View.{command_trees};
+ghost use Rattle.ctd_tree.specs.Tree.{list_blocks};
+ghost use Rattle.ctd_tree.specs.View.{command_trees};
 ghost use Rattle.ctd_syntax.specs.Numbering.{IsNumbered, literals};
 ghost use Rattle.ctd_check.specs.Known.{texts_of};
 ghost use Rattle.ctd_check.specs.Literals.{literals_at};
@@ -31,8 +31,8 @@ pub struct Plan {
 impl Model for Plan {
     ghost use Rattle.std.specs.Prelude.{List};
     ghost use Rattle.std.specs.Coded.{codes};
-    ghost use Rattle.ctd_syntax.specs.declared.tree.Command.{Command};
-    ghost use Rattle.ctd_syntax.specs.contracts.tree.Command as c;
+    ghost use Rattle.ctd_tree.specs.declared.tree.Command.{Command};
+    ghost use Rattle.ctd_tree.specs.contracts.tree.Command as c;
 
     ghost Value = { List Command };
 

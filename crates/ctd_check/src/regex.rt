@@ -2,7 +2,7 @@
 ghost use Rattle.std.specs.Prelude.{◌≡◌, ◌≤◌, length, slice_get, Some, IfOk};
 ghost use Rattle.ctd_source.specs.CursorState.{state_of};
 ghost use Rattle.ctd_pattern.specs.Pattern.{length_at_start};
-ghost use Rattle.ctd_syntax.specs.View.{target, var_tree};
+ghost use Rattle.ctd_tree.specs.View.{target, var_tree};
 ghost use Rattle.ctd_check.specs.Known.{IsAmong};
 ghost use Rattle.ctd_check.specs.Regex.{matched_len, regex, shorter_match};
 ghost use Rattle.ctd_check.specs.Performs.{IsSound, Performs, AlwaysDoes};

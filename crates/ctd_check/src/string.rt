@@ -5,7 +5,7 @@ ghost use Rattle.ctd_source.specs.Consistency.{IsBounded};
 ghost use Rattle.ctd_source.specs.CursorState.{state_of, MovesPast};
 ghost use Rattle.ctd_source.specs.Received.{AdvancesSuchThat};
 ghost use Rattle.ctd_source.specs.TestData.{is_newline};
-ghost use Rattle.ctd_syntax.specs.View.{expr_tree};
+ghost use Rattle.ctd_tree.specs.View.{expr_tree};
 ghost use Rattle.ctd_check.specs.Effect.{string, match_bytes};
 ghost use Rattle.ctd_check.specs.Alone.{DoesAlone};
 ghost use Rattle.ctd_check.specs.Passing.{PassesSome};

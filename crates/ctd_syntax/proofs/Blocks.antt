@@ -2,7 +2,7 @@
 use Rattle.std.proofs.Common.{◌≡◌, ℕ, suc, ◌+◌, ◌≤◌, max, List, [], ◌∷◌, ◌++◌, length, sum, Option, Some, None, option_map, if◌then◌else◌, Bool, true, false, nat_lt, ltb-false, refl, sym, subst, append_assoc, append-nil, arith}
 use Rattle.std.proofs.Math.Nat.{max-zero, zero-max}
 use Rattle.ctd_syntax.specs.Lexeme.{Lexeme, mark, keyword}
-use Rattle.ctd_syntax.specs.Tree.{ExprTree, ExprList, VarTree, TestTree, CommandTree, CommandList, Separator, blocks, separator_blocks, list_blocks}
+use Rattle.ctd_tree.specs.Tree.{ExprTree, ExprList, VarTree, TestTree, CommandTree, CommandList, Separator, blocks, separator_blocks, list_blocks}
 use Rattle.ctd_syntax.specs.Grammar
 use Rattle.ctd_syntax.specs.Grammar.{IsExpr, IsProduct, IsSigned, IsPower, IsExponent, IsAtom, IsVariable, IsExprs, IsNames, IsTest, IsBoth, IsNegated, IsSimpleTest, IsTargetEnd, IsAssignments, IsCommand, IsRepeated, IsBranches, IsCommands, compare_mark}
 use Rattle.ctd_syntax.specs.Nesting.{change_of, word_change, step, start, weight, too_deep}
@@ -10,8 +10,8 @@ use Rattle.ctd_token.specs.declared.text.Place.{Place}
 use Rattle.ctd_token.specs.declared.limits.TheConstants.{NESTING_LIMIT}
 use Rattle.ctd_syntax.specs.declared.nesting.Change.TheVariants.{Opens, Closes, Keeps}
 use Rattle.ctd_token.specs.declared.token.Mark.TheVariants.{Open, Close, OpenIndex, CloseIndex, Comma, Assign, Plus, Minus, Times, Divide, Percent, Caret, Bang, OrOr, AndAnd}
-use Rattle.ctd_syntax.specs.declared.tree.Compare.{Compare}
-use Rattle.ctd_syntax.specs.declared.tree.Compare.TheVariants.{Less, Greater, AtMost, AtLeast, Equal, Unequal}
+use Rattle.ctd_tree.specs.declared.tree.Compare.{Compare}
+use Rattle.ctd_tree.specs.declared.tree.Compare.TheVariants.{Less, Greater, AtMost, AtLeast, Equal, Unequal}
 use Rattle.ctd_syntax.specs.declared.keyword.Keyword.{Keyword}
 use Rattle.ctd_syntax.specs.declared.keyword.Keyword.TheVariants as words
 

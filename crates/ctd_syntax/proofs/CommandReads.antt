@@ -1,8 +1,9 @@
 -- A command is told by its word, and a list of commands ends where no word of a command follows.
 use Rattle.std.proofs.Common.{◌≡◌, inl, inr, ℕ, List, [], ◌∷◌, ◌++◌, true, false, Option, refl, sym, ap, ◌∙◌, subst, append_assoc, append-nil, arith}
 use Rattle.ctd_syntax.specs.Lexeme.{Lexeme, mark, keyword}
-use Rattle.ctd_syntax.specs.Tree
-use Rattle.ctd_syntax.specs.Tree.{ExprTree, VarTree, TestTree, CommandTree, CommandList, Separator}
+use Rattle.ctd_tree.proofs.Trees.{joined}
+use Rattle.ctd_tree.specs.Tree
+use Rattle.ctd_tree.specs.Tree.{ExprTree, VarTree, TestTree, CommandTree, CommandList, Separator}
 use Rattle.ctd_syntax.specs.Grammar
 use Rattle.ctd_syntax.specs.Grammar.{IsExpr, IsTest, IsTarget, IsTargetEnd, IsCommand, IsCommands, IsRepeated, IsBranches}
 use Rattle.ctd_syntax.specs.Front.{Found, NotFound, Always, IsBefore, IsAfter, IsBuilt, IsPair, Spelling, Following}
@@ -190,11 +191,6 @@ no_such_command tokens k at other ts us v split h w = no_command k at ts v other
 -- a word of a command begins one
 pub begins_at : (tokens r : List Lexeme) (k : Keyword) (at : Place) → tokens ≡ keyword k at ∷ r → is_command_word k ≡ true → command_begins tokens ≡ true
 begins_at tokens r k at e word = ap command_begins e ∙ word
-
--- the commands of one list and then of another
-abbrev pub joined : CommandList → CommandList → CommandList
-joined Tree.done b = b
-joined (Tree.then c rest) b = Tree.then c (joined rest b)
 
 joined_done : (a : CommandList) → joined a Tree.done ≡ a
 joined_done Tree.done = refl

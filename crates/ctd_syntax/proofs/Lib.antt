@@ -1,8 +1,3 @@
-pub mod TokenFronts
-pub mod LiteralFronts
-pub mod PresetTexts
-pub mod PresetLists
-pub mod Trees
 pub mod Chains
 pub mod Fronts
 pub mod Levels

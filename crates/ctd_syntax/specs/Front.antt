@@ -8,7 +8,7 @@ use Rattle.ctd_syntax.specs.declared.keyword.Keyword.{Keyword}
 use Rattle.ctd_token.specs.declared.text.Place.{Place}
 use Rattle.ctd_token.specs.declared.token.Mark.{Mark}
 use Rattle.ctd_token.specs.declared.token.Mark.TheVariants.{Assign}
-use Rattle.ctd_syntax.specs.Tree.{ExprTree, VarTree}
+use Rattle.ctd_tree.specs.Tree.{ExprTree, VarTree}
 use Rattle.ctd_syntax.specs.Grammar.{IsExpr, IsTarget}
 use Rattle.ctd_syntax.specs.Lexeme.{Lexeme, mark}
 

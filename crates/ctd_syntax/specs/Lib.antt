@@ -1,8 +1,4 @@
 pub mod Lexeme
-pub mod Presets
-pub mod PresetFront
-pub mod Tree
-pub mod View
 pub mod Grammar
 pub mod Nesting
 pub mod Numbering

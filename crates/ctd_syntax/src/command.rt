@@ -3,7 +3,7 @@
 
 ghost use Rattle.std.specs.Prelude.{◌≡◌, ◌≤◌, ◌<◌, ◌∷◌, true, false, length, map, IfOk, IfSome, IfNone};
 ghost use Rattle.ctd_syntax.specs.Lexeme;
-ghost use Rattle.ctd_syntax.specs.View.{boxed_separator, command_list, command_tree, expr_tree, target, test_tree};
+ghost use Rattle.ctd_tree.specs.View.{boxed_separator, command_list, command_tree, expr_tree, target, test_tree};
 ghost use Rattle.ctd_syntax.specs.Grammar.{IsExpr, IsTest, IsTargetEnd, IsCommand, IsCommands};
 ghost use Rattle.ctd_syntax.specs.Front.{FindsTree, Always, IsBefore, IsPair, lexeme};
 ghost use Rattle.ctd_syntax.specs.Levels.{ends};
@@ -16,7 +16,7 @@ use crate::keyword::Keyword;
 use crate::names::names;
 use crate::parser_token::ParserToken;
 use crate::target::{assignments, target_before, target_end};
-use crate::tree::{Action, Command, Commands, Expr, PatternLiteral, Test, Var};
+use ctd_tree::{Action, Command, Commands, Expr, PatternLiteral, Test, Var};
 use ctd_token::{Bytes, Mark, Place};
 use std::alloc::Global;
 

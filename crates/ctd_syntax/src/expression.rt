@@ -2,7 +2,7 @@
 //! A tree that is not wanted is given to `drop` explicitly: an implicit drop is unfolded variant by variant in the proof.
 
 ghost use Rattle.std.specs.Prelude.{◌≡◌, ◌≤◌, ◌<◌, length, map, IfOk, IfSome};
-ghost use Rattle.ctd_syntax.specs.View.{expr_tree, expr_list, exprs_of, var_tree};
+ghost use Rattle.ctd_tree.specs.View.{expr_tree, expr_list, exprs_of, var_tree};
 ghost use Rattle.ctd_syntax.specs.Grammar.{IsExpr, IsProduct, IsSigned, IsPower, IsExponent, IsAtom, IsExprs, IsTarget};
 ghost use Rattle.ctd_syntax.specs.Front.{FindsTree, Always, IsBefore, StartsWith, lexeme};
 ghost use Rattle.ctd_syntax.specs.Levels.{binding, ends, sum_operator, product_operator, join};
@@ -11,7 +11,7 @@ ghost use Rattle.ctd_syntax.specs.Lexeme;
 use crate::front::{ParseError, after_mark, name_at};
 use crate::keyword::Keyword;
 use crate::parser_token::ParserToken;
-use crate::tree::{Expr, Exprs, Var};
+use ctd_tree::{Expr, Exprs, Var};
 use ctd_token::{Bytes, Mark, Name};
 use std::alloc::{AllocError, Global};
 

@@ -3,13 +3,13 @@
 ghost use Rattle.std.specs.Prelude.{ℕ, ◌≡◌, ◌≤◌, ◌<◌, List, None, length, IfOk, IfErr, IsErrAnd, IsSome};
 ghost use Rattle.ctd_syntax.specs.Numbering.{IsNumbered};
 ghost use Rattle.ctd_syntax.specs.Reading.{IsCut, IsFault, Parses};
-ghost use Rattle.ctd_syntax.specs.View.{command_trees};
+ghost use Rattle.ctd_tree.specs.View.{command_trees};
 
 use crate::command::commands;
 use crate::front::ParseError;
 use crate::nesting::first_too_deep;
 use crate::parser_token::parser_tokens;
-use crate::tree::Program;
+use ctd_tree::Program;
 use ctd_token::{LoadFault, LoadKind, PROGRAM_LIMIT, Place, Token, advance, tokens};
 use std::alloc::Global;
 

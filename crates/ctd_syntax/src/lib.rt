@@ -1,5 +1,5 @@
-//! The checktestdata language: the trees of programs, and the values of presets. It passes on the tokens, places and
-//! faults of `ctd_token`.
+//! From the text of a program to its tree. It passes on the tokens, places and faults of `ctd_token`, and the trees and presets of
+//! `ctd_tree`.
 #![tactic(auto)]
 
 mod command;
@@ -11,19 +11,15 @@ mod keyword;
 mod names;
 mod nesting;
 mod parser_token;
-mod preset;
-mod preset_text;
 mod target;
-mod tree;
 
 pub use ctd_token::{
     Bytes, LoadFault, LoadKind, Mark, NESTING_LIMIT, Name, PROGRAM_LIMIT, Place, Token, TokenKind,
     tokens, tokens_are_longest, tokens_are_unique,
 };
+pub use ctd_tree::{
+    Action, Assignment, Assignments, Command, Commands, Compare, Expr, Exprs, Literal, Names,
+    PatternLiteral, Preset, PresetFault, Presets, Program, Test, Var,
+};
 pub use grammar::parse;
 pub use keyword::Keyword;
-pub use preset::{Literal, Preset, PresetFault, Presets};
-pub use tree::{
-    Action, Assignment, Assignments, Command, Commands, Compare, Expr, Exprs, Names,
-    PatternLiteral, Program, Test, Var,
-};

@@ -1,13 +1,13 @@
 //! From tokens to lists of names (checktestdata language specification, grammar).
 
 ghost use Rattle.std.specs.Prelude.{◌≤◌, length, map, IfOk};
-ghost use Rattle.ctd_syntax.specs.View.{names_of};
+ghost use Rattle.ctd_tree.specs.View.{names_of};
 ghost use Rattle.ctd_syntax.specs.Grammar.{IsNames};
 ghost use Rattle.ctd_syntax.specs.Front.{FindsTree, Always, IsBefore, lexeme};
 
 use crate::front::{ParseError, after_mark, name_at};
 use crate::parser_token::ParserToken;
-use crate::tree::Names;
+use ctd_tree::Names;
 use ctd_token::{Mark, Name};
 use std::alloc::Global;
 

@@ -3,7 +3,7 @@
 
 ghost use Rattle.std.specs.Prelude.{◌≡◌, ◌≤◌, length, map, IfOk};
 ghost use Rattle.ctd_syntax.specs.Lexeme;
-ghost use Rattle.ctd_syntax.specs.View.{assignment, assignments_of, target, var_tree};
+ghost use Rattle.ctd_tree.specs.View.{assignment, assignments_of, target, var_tree};
 ghost use Rattle.ctd_syntax.specs.Grammar.{IsTarget, IsTargetEnd, IsAssignments};
 ghost use Rattle.ctd_syntax.specs.Front.{FindsTree, Always, IsAssignment, IsBefore, lexeme};
 ghost use Rattle.ctd_syntax.specs.Levels.{binding, ends};
@@ -11,7 +11,7 @@ ghost use Rattle.ctd_syntax.specs.Levels.{binding, ends};
 use crate::expression::{expr, variable};
 use crate::front::{ParseError, after_mark};
 use crate::parser_token::ParserToken;
-use crate::tree::{Assignment, Assignments, Var};
+use ctd_tree::{Assignment, Assignments, Var};
 use ctd_token::Mark;
 use std::alloc::Global;
 

@@ -5,7 +5,7 @@ use Rattle.ctd_source.specs.TestData.{TestData}
 use Rattle.ctd_source.specs.Agreement.{Agrees}
 use Rattle.ctd_source.specs.CursorState.{Gave}
 use Rattle.ctd_token.specs.declared.fault.LoadFault.{LoadFault}
-use Rattle.ctd_syntax.specs.Tree.{CommandList}
+use Rattle.ctd_tree.specs.Tree.{CommandList}
 use Rattle.ctd_check.specs.Loading.{Loads, MayFail}
 use Rattle.ctd_check.specs.Run.{meaning}
 use Rattle.ctd_tool.specs.declared.setup.Setup.{Setup}

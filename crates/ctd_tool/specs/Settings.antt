@@ -5,8 +5,8 @@ use Rattle.std.specs.Str.Parse.{digits_value}
 use Rattle.clap.specs.Words.{Text}
 use Rattle.ctd_check.specs.declared.outcome.Mode.{Mode}
 use Rattle.ctd_check.specs.declared.outcome.Mode.TheVariants.{Exact, BlanksOk}
-use Rattle.ctd_syntax.specs.Presets.{ArePresets}
-use Rattle.ctd_syntax.specs.declared.preset.Preset.{Preset}
+use Rattle.ctd_tree.specs.Presets.{ArePresets}
+use Rattle.ctd_tree.specs.declared.preset.Preset.{Preset}
 use Rattle.ctd_tool.specs.Usage.{IsStepNumber, IsTaken, flag_in, value_in}
 use Rattle.ctd_tool.specs.declared.setup.Setup.{Setup}
 

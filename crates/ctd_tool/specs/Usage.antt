@@ -6,8 +6,8 @@ use Rattle.std.specs.Str.Parse.{IsNumeral, digits_value}
 use Rattle.clap.specs.Words.{IsAmong, Kinds, Row, Text, fault_of, first_of, matches_of}
 use Rattle.clap.specs.declared.error.ErrorKind.{ErrorKind}
 use Rattle.clap.specs.declared.error.ErrorKind.TheVariants.{DisplayHelp, DisplayVersion, OutOfMemory}
-use Rattle.ctd_syntax.specs.Presets.{ArePresets}
-use Rattle.ctd_syntax.specs.declared.preset.Preset.{Preset}
+use Rattle.ctd_tree.specs.Presets.{ArePresets}
+use Rattle.ctd_tree.specs.declared.preset.Preset.{Preset}
 use Rattle.ctd_tool.specs.CommandLine.{checker}
 use Rattle.ctd_tool.specs.declared.setup.UsageFault.{UsageFault}
 use Rattle.ctd_tool.specs.declared.setup.UsageFault.TheVariants as fault

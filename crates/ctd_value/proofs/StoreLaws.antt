@@ -8,7 +8,7 @@ use Rattle.std.specs.Map.{lookup}
 use Rattle.std.specs.Option.{option_or, unwrap_or}
 use Rattle.std.proofs.lemmas.Map.Lookups.{exact_bytes}
 use Rattle.std.proofs.lemmas.Map.Views.{tells_apart, Contains-from_lookup, lookup-from_Contains}
-use Rattle.ctd_syntax.specs.declared.preset.Preset.{Preset}
+use Rattle.ctd_tree.specs.declared.preset.Preset.{Preset}
 use Rattle.ctd_value.specs.declared.value.Value.{Value}
 use Rattle.ctd_value.specs.Order.{bytes_cmp, values_cmp, same_bytes, same_values}
 use Rattle.ctd_value.specs.OrderLaws.{values_total, values_equiv, exact_lists}

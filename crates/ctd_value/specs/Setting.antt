@@ -1,6 +1,6 @@
 -- What the variables are once one of them has a value, or the first fault.
 use Rattle.std.specs.Prelude.{Result, Ok}
-use Rattle.ctd_syntax.specs.Tree.{ExprTree, VarTree}
+use Rattle.ctd_tree.specs.Tree.{ExprTree, VarTree}
 use Rattle.ctd_value.specs.declared.value.Value.{Value}
 use Rattle.ctd_value.specs.Fault.{ValueFault, ◌>>=◌}
 use Rattle.ctd_value.specs.Store.{History, assign}

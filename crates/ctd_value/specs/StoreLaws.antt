@@ -1,7 +1,7 @@
 -- What the store's definitions say of each key, for every history: the laws that `laws.rt` states.
 use Rattle.std.specs.Prelude.{◌≡◌, ◌≢◌, ◌↔◌, ℕ, List, [], ◌∷◌, Option, Some, None, Contains, AllPairs, IsTrue, IsFalse, if◌then◌else◌}
 use Rattle.std.specs.Option.{option_or}
-use Rattle.ctd_syntax.specs.declared.preset.Preset.{Preset}
+use Rattle.ctd_tree.specs.declared.preset.Preset.{Preset}
 use Rattle.ctd_value.specs.declared.value.Value.{Value}
 use Rattle.ctd_value.specs.Order.{same_bytes}
 use Rattle.ctd_value.specs.Store.{Key, History, value_of, value_in, is_pinned, value_at, initial, assign, unset, values_of, index_lists}

@@ -1,7 +1,7 @@
 //! Values for variables (checktestdata language specification, SET).
 
 ghost use Rattle.std.specs.Prelude.{◌≡◌, ◌≢◌, true, false, Ok, Err, OnErr};
-ghost use Rattle.ctd_syntax.specs.View.{expr_tree, var_tree};
+ghost use Rattle.ctd_tree.specs.View.{expr_tree, var_tree};
 ghost use Rattle.ctd_value.specs.Fault.{Gives};
 ghost use Rattle.ctd_value.specs.Lending.{map_ok, value_lent};
 ghost use Rattle.ctd_value.specs.Setting.{with_variable, with_expression};
@@ -12,7 +12,8 @@ use crate::fault::EvalFault;
 use crate::lent::Lent;
 use crate::store::Store;
 use crate::value::Value;
-use ctd_syntax::{Bytes, Expr, Var};
+use ctd_token::Bytes;
+use ctd_tree::{Expr, Var};
 use std::alloc::Global;
 
 /// Gives a variable a value, once its indices are evaluated; a pinned variable stays as it is. After a fault the variables

@@ -4,7 +4,7 @@ ghost use Rattle.std.specs.Prelude.{◌≡◌, [], OnOk, OnErr};
 ghost use Rattle.std.specs.FinMap.{find, put};
 ghost use Rattle.ctd_value.specs.Order.{bytes_cmp};
 
-use ctd_syntax::{Name, PROGRAM_LIMIT};
+use ctd_token::{Name, PROGRAM_LIMIT};
 use std::alloc::{AllocError, Global};
 use std::collections::BTreeMap;
 use std::marker::Model;

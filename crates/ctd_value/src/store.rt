@@ -14,7 +14,8 @@ use crate::indexed::Row;
 use crate::lent::Lent;
 use crate::value::{Key, Value};
 use crate::variables::{Variables, has_value};
-use ctd_syntax::{Bytes, Literal, Name, Preset, Presets};
+use ctd_token::{Bytes, Name};
+use ctd_tree::{Literal, Preset, Presets};
 use std::alloc::{AllocError, Global};
 use std::marker::Model;
 

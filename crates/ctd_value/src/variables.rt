@@ -15,7 +15,7 @@ use crate::lent::Lent;
 use crate::positions::Positions;
 use crate::store::{EntryRef, Indices};
 use crate::value::Value;
-use ctd_syntax::Name;
+use ctd_token::Name;
 use std::alloc::{AllocError, Global};
 use std::marker::Model;
 use std::mem::replace;

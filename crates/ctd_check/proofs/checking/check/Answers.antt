@@ -1,5 +1,5 @@
 use Rattle.std.proofs.Common.{◌-◌, ◌++◌, ◌∷◌, [], ap, ◌∙◌, sym, rules}
-use Rattle.ctd_syntax.specs.View.{command_trees}
+use Rattle.ctd_tree.specs.View.{command_trees}
 use Rattle.ctd_value.specs.Store.{initial}
 use Rattle.ctd_check.specs.Loops.{tasks, finish}
 use Rattle.ctd_check.specs.Pending.{to_do}

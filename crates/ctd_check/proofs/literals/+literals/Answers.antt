@@ -1,6 +1,6 @@
 use Rattle.std.proofs.Common.{◌++◌, ap, ap₂, sym, ◌∙◌}
 use Rattle.ctd_syntax.specs.Numbering.{command_literals, separator_literals, literals}
-use Rattle.ctd_syntax.specs.View.{action_tree, boxed_separator, command_trees}
+use Rattle.ctd_tree.specs.View.{action_tree, boxed_separator, command_trees}
 use Rattle.ctd_check.proofs.Listing.{literals_of_block, literals_of_loop, listed_both}
 use Rattle.ctd_check.proofs.literals.+literals.Goals as goal
 

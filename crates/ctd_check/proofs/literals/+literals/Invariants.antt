@@ -1,6 +1,6 @@
 use Rattle.std.proofs.Common.{◌≡◌, ◌++◌, drop}
 use Rattle.ctd_syntax.specs.Numbering.{literals}
-use Rattle.ctd_syntax.specs.View.{command_trees}
+use Rattle.ctd_tree.specs.View.{command_trees}
 use Rattle.ctd_check.specs.Literals.{literals_at}
 use Rattle.ctd_check.proofs.literals.+literals.Given as goal
 

@@ -1,5 +1,5 @@
 use Rattle.std.proofs.Common.{List, ap, ◌∙◌, subst, IfOk}
-use Rattle.ctd_syntax.specs.declared.tree.PatternLiteral.{PatternLiteral}
+use Rattle.ctd_tree.specs.declared.tree.PatternLiteral.{PatternLiteral}
 use Rattle.ctd_check.specs.Literals.{literals_at}
 use Rattle.ctd_check.specs.Loading.{ArePatterns}
 use Rattle.ctd_check.proofs.plan.patterns_in.Goals as goal

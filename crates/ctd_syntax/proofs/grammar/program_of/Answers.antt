@@ -5,8 +5,8 @@ use Rattle.ctd_syntax.specs.Grammar.{IsCommands}
 use Rattle.ctd_syntax.specs.CommandWords.{CommandsEnd}
 use Rattle.ctd_syntax.specs.Nesting.{start, too_deep}
 use Rattle.ctd_syntax.specs.Reading.{Parses}
-use Rattle.ctd_syntax.specs.View.{command_list, command_trees}
-use Rattle.ctd_syntax.proofs.Trees.{list_commands}
+use Rattle.ctd_tree.specs.View.{command_list, command_trees}
+use Rattle.ctd_tree.proofs.Trees.{list_commands}
 use Rattle.ctd_syntax.proofs.Numbers.{reads_numbered}
 use Rattle.ctd_syntax.proofs.Parsing.{parsed, left_over, unspelled, no_program, nothing, something}
 use Rattle.ctd_syntax.proofs.grammar.program_of.Goals as goal

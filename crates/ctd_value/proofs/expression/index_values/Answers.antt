@@ -1,6 +1,6 @@
 use Rattle.std.proofs.Common.{ap, ◌∙◌, Err}
 use Rattle.std.proofs.lemmas.Result.{err_from_is_err_and}
-use Rattle.ctd_syntax.specs.View.{expr_list}
+use Rattle.ctd_tree.specs.View.{expr_list}
 use Rattle.ctd_value.specs.Val.{vals}
 use Rattle.ctd_value.proofs.Ordinary.{values_are, no_count, no_shape}
 use Rattle.ctd_value.proofs.expression.index_values.Goals as goal

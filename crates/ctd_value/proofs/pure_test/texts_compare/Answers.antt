@@ -3,7 +3,7 @@ use Rattle.std.proofs.Math.Dec.{eqb}
 use Rattle.std.proofs.lemmas.Bool.Decides.{Decides-eqb}
 use Rattle.std.proofs.lemmas.Slice.Eq.{slice_eq-Decides}
 use lib.Pointwise.{pointwise}
-use Rattle.ctd_syntax.specs.View.{expr_tree}
+use Rattle.ctd_tree.specs.View.{expr_tree}
 use Rattle.ctd_value.specs.Order.{bytes_cmp}
 use Rattle.ctd_value.specs.Truth.{holds_by}
 use Rattle.ctd_value.specs.Val.{val}

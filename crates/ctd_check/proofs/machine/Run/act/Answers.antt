@@ -1,5 +1,5 @@
 use Rattle.std.proofs.Common.{[], ap, map}
-use Rattle.ctd_syntax.specs.View.{assignment}
+use Rattle.ctd_tree.specs.View.{assignment}
 use Rattle.ctd_check.specs.Effect.{set, unset_all}
 use Rattle.ctd_check.proofs.Acts.{performs_answering, performs_as}
 use Rattle.ctd_check.proofs.machine.Run.act.Goals as goal

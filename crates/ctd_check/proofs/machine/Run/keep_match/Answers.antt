@@ -1,5 +1,5 @@
 use Rattle.std.proofs.Common.{ap, refl, take, List, ℕ, Err}
-use Rattle.ctd_syntax.specs.View.{var_tree}
+use Rattle.ctd_tree.specs.View.{var_tree}
 use Rattle.ctd_value.specs.declared.value.Value.TheVariants.{Text}
 use Rattle.ctd_check.specs.Effect.{set_to}
 use Rattle.ctd_check.specs.Regex.{matched, shorter_match}

@@ -1,15 +1,15 @@
 use Rattle.std.proofs.Common.{◌≡◌, ℕ, List, [], ◌∷◌, ◌++◌, Option, ap, sym, ◌∙◌, subst}
 use Rattle.std.specs.Global.{Box}
 use Rattle.ctd_token.specs.declared.text.Place.{Place}
-use Rattle.ctd_syntax.specs.declared.tree.Action.{Action}
-use Rattle.ctd_syntax.specs.declared.tree.Action.TheBlock.{back-Action-Rep-1}
-use Rattle.ctd_syntax.specs.declared.tree.Command.{Command}
-use Rattle.ctd_syntax.specs.declared.tree.PatternLiteral.{PatternLiteral}
+use Rattle.ctd_tree.specs.declared.tree.Action.{Action}
+use Rattle.ctd_tree.specs.declared.tree.Action.TheBlock.{back-Action-Rep-1}
+use Rattle.ctd_tree.specs.declared.tree.Command.{Command}
+use Rattle.ctd_tree.specs.declared.tree.PatternLiteral.{PatternLiteral}
 use Rattle.ctd_syntax.specs.Numbering.{command_literals, separator_literals}
-use Rattle.ctd_syntax.specs.Tree.{Separator, VarTree, CommandList}
+use Rattle.ctd_tree.specs.Tree.{Separator, VarTree, CommandList}
 use Rattle.ctd_check.specs.Loops.{Guard, loop_of, turn}
-use Rattle.ctd_syntax.specs.View.{action_tree, separator, boxed_separator}
-use Rattle.ctd_syntax.proofs.Trees.{held_separator}
+use Rattle.ctd_tree.specs.View.{action_tree, separator, boxed_separator}
+use Rattle.ctd_tree.proofs.Trees.{held_separator}
 use Rattle.ctd_check.specs.Known.{AreAmong}
 use Rattle.ctd_check.proofs.Acts.{given_as}
 use Rattle.ctd_check.proofs.machine.Run.open.Goals as goal

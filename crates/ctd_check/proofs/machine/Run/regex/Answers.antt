@@ -1,6 +1,6 @@
 use Rattle.std.proofs.Common.{ap, get_or}
 use Rattle.std.specs.Prelude.{⊤}
-use Rattle.ctd_syntax.specs.View.{target}
+use Rattle.ctd_tree.specs.View.{target}
 use Rattle.ctd_check.specs.State.{◌>>=◌, give, pass}
 use Rattle.ctd_check.specs.Regex.{regex}
 use Rattle.ctd_check.proofs.Acts.{and_then, early_by, given, performs_as}

@@ -1,7 +1,7 @@
 use Rattle.std.proofs.Common.{◌+◌, drop, map, ap, ◌∙◌, arith}
 use Rattle.std.proofs.lemmas.List.{drop_all}
 use Rattle.ctd_source.proofs.AdvanceLemmas.{advances_so, advances_both}
-use Rattle.ctd_syntax.specs.View.{assignment}
+use Rattle.ctd_tree.specs.View.{assignment}
 use Rattle.ctd_check.specs.State.{proceed}
 use Rattle.ctd_check.specs.Effect.{set}
 use Rattle.ctd_check.specs.Performs.{state}

@@ -1,6 +1,6 @@
 use Rattle.std.proofs.Common.{◌≡◌, drop, map}
 use Rattle.ctd_source.specs.Received.{AdvancesSuchThat}
-use Rattle.ctd_syntax.specs.View.{assignment}
+use Rattle.ctd_tree.specs.View.{assignment}
 use Rattle.ctd_check.specs.Effect.{set}
 use Rattle.ctd_check.specs.Performs.{IsSound, state}
 use Rattle.ctd_check.proofs.machine.Run.set.Given as goal

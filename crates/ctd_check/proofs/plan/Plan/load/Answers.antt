@@ -1,4 +1,4 @@
-use Rattle.ctd_syntax.specs.View.{command_trees}
+use Rattle.ctd_tree.specs.View.{command_trees}
 use Rattle.ctd_check.proofs.Loads.{wants_memory}
 use Rattle.ctd_check.proofs.plan.Plan.load.Goals as goal
 

@@ -1,6 +1,6 @@
 use Rattle.std.proofs.Common.{◌∙◌, Result, Ok, Err, IfOk}
 use Rattle.ctd_syntax.specs.Numbering.{literals}
-use Rattle.ctd_syntax.specs.View.{command_trees}
+use Rattle.ctd_tree.specs.View.{command_trees}
 use Rattle.ctd_check.proofs.Knowing.{numbered_among}
 use Rattle.ctd_check.proofs.plan.Plan.matchers.Goals as goal
 

@@ -1,6 +1,6 @@
 use Rattle.std.proofs.Common.{subst}
 use Rattle.ctd_syntax.specs.Numbering.{literals}
-use Rattle.ctd_syntax.specs.View.{command_trees}
+use Rattle.ctd_tree.specs.View.{command_trees}
 use Rattle.ctd_check.specs.Loading.{ArePatterns}
 use Rattle.ctd_check.proofs.plan.Plan.read.Goals as goal
 

@@ -3,10 +3,10 @@ use Rattle.std.proofs.Common.{◌≡◌, ℕ, ◌+◌, ◌-◌, ◌<◌, ◌≤�
 use Rattle.std.proofs.lemmas.List.{take-append-drop, take_all, take_rest, at_drop_more, get_or-drop}
 use Rattle.std.proofs.Math.Seq.{get_or-append_seam, drop-append-add}
 use Rattle.std.proofs.lemmas.Option.{none-some}
-use Rattle.ctd_syntax.specs.declared.preset.Preset.{Preset}
-use Rattle.ctd_syntax.specs.Presets.{IsPreset, one, more, ArePresets}
-use Rattle.ctd_syntax.specs.PresetFront.{preset_at}
-use Rattle.ctd_syntax.proofs.PresetTexts.{same_some, preset_first, preset_spells}
+use Rattle.ctd_tree.specs.declared.preset.Preset.{Preset}
+use Rattle.ctd_tree.specs.Presets.{IsPreset, one, more, ArePresets}
+use Rattle.ctd_tree.specs.PresetFront.{preset_at}
+use Rattle.ctd_tree.proofs.PresetTexts.{same_some, preset_first, preset_spells}
 
 -- the text is one preset, or presets stand behind a comma after its first
 abbrev EndsOrContinues : List ℕ → ℕ → Type 0

@@ -2,7 +2,7 @@
 //! (checktestdata language specification, grammar). Each list in a tree is a small type of its own.
 
 ghost use Rattle.std.specs.Prelude.{◌≡◌};
-ghost use Rattle.ctd_syntax.specs.View.{commands_of};
+ghost use Rattle.ctd_tree.specs.View.{commands_of};
 
 use ctd_token::{Bytes, Name, Place};
 use std::marker::Model;
@@ -169,9 +169,9 @@ pub struct Program {
 impl Model for Program {
     ghost use Rattle.std.specs.Prelude.{List};
     ghost use Rattle.std.specs.Coded.{codes};
-    ghost use Rattle.ctd_syntax.specs.declared.tree.Command.{Command};
-    ghost use Rattle.ctd_syntax.specs.contracts.tree.Command as c;
-    ghost use Rattle.ctd_syntax.specs.View.{commands_of};
+    ghost use Rattle.ctd_tree.specs.declared.tree.Command.{Command};
+    ghost use Rattle.ctd_tree.specs.contracts.tree.Command as c;
+    ghost use Rattle.ctd_tree.specs.View.{commands_of};
 
     ghost Value = { List Command };
 
@@ -181,10 +181,10 @@ impl Model for Program {
 }
 
 impl Exprs {
-    ghost use Rattle.ctd_syntax.specs.View.{exprs_of};
+    ghost use Rattle.ctd_tree.specs.View.{exprs_of};
 
     /// A list with these expressions, which takes no memory.
-    pub(crate) fn from_vec(items: Vec<Expr>) -> Exprs
+    pub fn from_vec(items: Vec<Expr>) -> Exprs
         ensures { exprs_of result ≡ items.items }
     {
         Exprs { items }
@@ -199,10 +199,10 @@ impl Exprs {
 }
 
 impl Names {
-    ghost use Rattle.ctd_syntax.specs.View.{names_of};
+    ghost use Rattle.ctd_tree.specs.View.{names_of};
 
     /// A list with these names, which takes no memory.
-    pub(crate) fn from_vec(items: Vec<Name>) -> Names
+    pub fn from_vec(items: Vec<Name>) -> Names
         ensures { names_of result ≡ items.items }
     {
         Names { items }
@@ -217,10 +217,10 @@ impl Names {
 }
 
 impl Assignments {
-    ghost use Rattle.ctd_syntax.specs.View.{assignments_of};
+    ghost use Rattle.ctd_tree.specs.View.{assignments_of};
 
     /// A list with these assignments, which takes no memory.
-    pub(crate) fn from_vec(items: Vec<Assignment>) -> Assignments
+    pub fn from_vec(items: Vec<Assignment>) -> Assignments
         ensures { assignments_of result ≡ items.items }
     {
         Assignments { items }
@@ -236,7 +236,7 @@ impl Assignments {
 
 impl Commands {
     /// A list with these commands, which takes no memory.
-    pub(crate) fn from_vec(items: Vec<Command>) -> Commands
+    pub fn from_vec(items: Vec<Command>) -> Commands
         ensures { commands_of result ≡ items.items }
     {
         Commands { items }
@@ -252,7 +252,7 @@ impl Commands {
 
 impl Program {
     /// A program of these commands.
-    pub(crate) fn new(commands: Commands) -> Program
+    pub fn new(commands: Commands) -> Program
         ensures { result ≡ commands_of commands }
     {
         Program { commands }

@@ -1,6 +1,6 @@
 use Rattle.std.proofs.Common.{◌-◌, length}
-use Rattle.ctd_syntax.proofs.PresetLists.{ReadUpTo}
-use Rattle.ctd_syntax.proofs.preset_text.presets.Given as goal
+use Rattle.ctd_tree.proofs.PresetLists.{ReadUpTo}
+use Rattle.ctd_tree.proofs.preset_text.presets.Given as goal
 
 abbrev pub invariant-loop-found : goal.invariant-loop-found
 invariant-loop-found l = ReadUpTo l.text l.found.items l.at

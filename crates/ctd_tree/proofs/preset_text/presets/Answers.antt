@@ -1,10 +1,10 @@
 use Rattle.std.proofs.Common.{◌≡◌, ℕ, ◌+◌, ◌-◌, ◌∷◌, [], ◌++◌, Err, take, drop, length, sym, ◌∙◌, subst, refl, arith}
-use Rattle.ctd_syntax.specs.declared.preset.PresetFault.TheVariants.{BadPreset}
-use Rattle.ctd_syntax.specs.declared.preset.Preset.{Preset}
-use Rattle.ctd_syntax.specs.Presets.{ArePresets}
-use Rattle.ctd_syntax.specs.PresetFront.{IsFound, preset_at}
-use Rattle.ctd_syntax.proofs.PresetLists.{ReadUpTo, none_there, no_comma, last, on, same_list}
-use Rattle.ctd_syntax.proofs.preset_text.presets.Goals as goal
+use Rattle.ctd_tree.specs.declared.preset.PresetFault.TheVariants.{BadPreset}
+use Rattle.ctd_tree.specs.declared.preset.Preset.{Preset}
+use Rattle.ctd_tree.specs.Presets.{ArePresets}
+use Rattle.ctd_tree.specs.PresetFront.{IsFound, preset_at}
+use Rattle.ctd_tree.proofs.PresetLists.{ReadUpTo, none_there, no_comma, last, on, same_list}
+use Rattle.ctd_tree.proofs.preset_text.presets.Goals as goal
 
 pub returns-in_err-preset-clause-refused : goal.returns-in_err-preset-clause-refused
 returns-in_err-preset-clause-refused c is =

@@ -1,8 +1,8 @@
 -- The trees of programs, apart from where they lie in memory.
 use Rattle.std.specs.Prelude.{ℕ, ℤ, List, ◌+◌, max, Option}
 use Rattle.ctd_token.specs.declared.text.Place.{Place}
-use Rattle.ctd_syntax.specs.declared.tree.Compare.{Compare}
-use Rattle.ctd_syntax.specs.declared.tree.PatternLiteral.{PatternLiteral}
+use Rattle.ctd_tree.specs.declared.tree.Compare.{Compare}
+use Rattle.ctd_tree.specs.declared.tree.PatternLiteral.{PatternLiteral}
 
 -- an expression, and a list of them
 mutual

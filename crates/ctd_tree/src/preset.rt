@@ -1,7 +1,7 @@
 //! The values that a caller gives to variables before a check begins.
 
 ghost use Rattle.std.specs.Prelude.{◌≡◌, [], List, Err, IfOk};
-ghost use Rattle.ctd_syntax.specs.Presets.{ArePresets};
+ghost use Rattle.ctd_tree.specs.Presets.{ArePresets};
 
 use crate::preset_text::presets;
 use ctd_token::{Bytes, Name, TokenFault};
@@ -30,7 +30,7 @@ pub struct Presets {
 
 impl Model for Presets {
     ghost use Rattle.std.specs.Prelude.{List};
-    ghost use Rattle.ctd_syntax.specs.declared.preset.Preset.{Preset};
+    ghost use Rattle.ctd_tree.specs.declared.preset.Preset.{Preset};
 
     ghost Value = { List Preset };
 
@@ -84,7 +84,7 @@ pub enum PresetFault {
 
 impl From<TokenFault> for PresetFault {
     ghost use Rattle.std.specs.Prelude.{◌≡◌};
-    ghost use Rattle.ctd_syntax.specs.PresetFront.{fault_of};
+    ghost use Rattle.ctd_tree.specs.PresetFront.{fault_of};
 
     ghost from_gives = { λ fault e. e ≡ fault_of fault };
 
@@ -98,7 +98,7 @@ impl From<TokenFault> for PresetFault {
 
 impl From<AllocError> for PresetFault {
     ghost use Rattle.std.specs.Prelude.{◌≡◌};
-    ghost use Rattle.ctd_syntax.specs.declared.preset.PresetFault.TheVariants.{Memory};
+    ghost use Rattle.ctd_tree.specs.declared.preset.PresetFault.TheVariants.{Memory};
 
     ghost from_gives = { λ _ e. e ≡ Memory };
 
@@ -109,7 +109,7 @@ impl From<AllocError> for PresetFault {
 
 impl<T: Drop> From<AllocFailed<T>> for PresetFault {
     ghost use Rattle.std.specs.Prelude.{◌≡◌};
-    ghost use Rattle.ctd_syntax.specs.declared.preset.PresetFault.TheVariants.{Memory};
+    ghost use Rattle.ctd_tree.specs.declared.preset.PresetFault.TheVariants.{Memory};
 
     ghost from_gives = { λ _ e. e ≡ Memory };
 

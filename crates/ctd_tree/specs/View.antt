@@ -1,22 +1,22 @@
 -- The pure trees that the trees of the code stand for, apart from where these lie in memory.
 use Rattle.std.specs.Prelude.{ℕ, List, [], ◌∷◌, map, Option, Some, None}
 use Rattle.std.specs.Global.{Box}
-use Rattle.ctd_syntax.specs.Tree
-use Rattle.ctd_syntax.specs.Tree.{ExprTree, ExprList, VarTree, TestTree, CommandTree, CommandList, Separator}
+use Rattle.ctd_tree.specs.Tree
+use Rattle.ctd_tree.specs.Tree.{ExprTree, ExprList, VarTree, TestTree, CommandTree, CommandList, Separator}
 use Rattle.ctd_token.specs.declared.text.Place.{Place}
-use Rattle.ctd_syntax.specs.declared.tree.Expr.{Expr, Row_of-Expr, end_of-Expr, more_of-Expr}
-use Rattle.ctd_syntax.specs.declared.tree.Expr.TheVariants.{Numeral, Text, Var', Strlen', Minus', Add', Sub', Mul', Div', Rem', Pow'}
-use Rattle.ctd_syntax.specs.declared.tree.Var.{Var}
-use Rattle.ctd_syntax.specs.declared.tree.Exprs.{Exprs}
-use Rattle.ctd_syntax.specs.declared.tree.Names.{Names}
-use Rattle.ctd_syntax.specs.declared.tree.Test.{Test}
-use Rattle.ctd_syntax.specs.declared.tree.Test.TheVariants.{Or', And', Not', Compare, Match, IsEof, Unique, InArray}
-use Rattle.ctd_syntax.specs.declared.tree.Assignment.{Assignment}
-use Rattle.ctd_syntax.specs.declared.tree.Assignments.{Assignments}
-use Rattle.ctd_syntax.specs.declared.tree.Action.{Action, Held-Action-Rep-1, None', Some'}
-use Rattle.ctd_syntax.specs.declared.tree.Action.TheVariants.{Space, Newline, Eof, Int, String, Regex, Assert, Set, Unset, Rep', RepI', While', WhileI', If}
-use Rattle.ctd_syntax.specs.declared.tree.Command.{Command}
-use Rattle.ctd_syntax.specs.declared.tree.Commands.{Commands, Commands', out-Commands, Row_of-Command, end_of-Command, more_of-Command}
+use Rattle.ctd_tree.specs.declared.tree.Expr.{Expr, Row_of-Expr, end_of-Expr, more_of-Expr}
+use Rattle.ctd_tree.specs.declared.tree.Expr.TheVariants.{Numeral, Text, Var', Strlen', Minus', Add', Sub', Mul', Div', Rem', Pow'}
+use Rattle.ctd_tree.specs.declared.tree.Var.{Var}
+use Rattle.ctd_tree.specs.declared.tree.Exprs.{Exprs}
+use Rattle.ctd_tree.specs.declared.tree.Names.{Names}
+use Rattle.ctd_tree.specs.declared.tree.Test.{Test}
+use Rattle.ctd_tree.specs.declared.tree.Test.TheVariants.{Or', And', Not', Compare, Match, IsEof, Unique, InArray}
+use Rattle.ctd_tree.specs.declared.tree.Assignment.{Assignment}
+use Rattle.ctd_tree.specs.declared.tree.Assignments.{Assignments}
+use Rattle.ctd_tree.specs.declared.tree.Action.{Action, Held-Action-Rep-1, None', Some'}
+use Rattle.ctd_tree.specs.declared.tree.Action.TheVariants.{Space, Newline, Eof, Int, String, Regex, Assert, Set, Unset, Rep', RepI', While', WhileI', If}
+use Rattle.ctd_tree.specs.declared.tree.Command.{Command}
+use Rattle.ctd_tree.specs.declared.tree.Commands.{Commands, Commands', out-Commands, Row_of-Command, end_of-Command, more_of-Command}
 
 -- the elements of each list of a tree
 abbrev pub exprs_of : Exprs → List Expr

@@ -7,8 +7,8 @@ use Rattle.ctd_token.specs.declared.token.TokenKind.TheVariants as tokens
 use Rattle.ctd_token.specs.declared.fault.LoadKind.TheVariants.{UnfinishedString, BadOctal}
 use Rattle.ctd_token.specs.Literal.{LiteralPart, literal_part, is_octal, octal, octal_len, octal_escape, escape, after_backslash, part_at, Closed, closed_here, one_later, with_part, literal}
 use Rattle.ctd_token.specs.Cut.{wrong, closed_text, text_at, token_at}
-use Rattle.ctd_syntax.specs.Presets.{IsToken}
-use Rattle.ctd_syntax.proofs.TokenFronts.{same_found, known_of, no_token}
+use Rattle.ctd_tree.specs.Presets.{IsToken}
+use Rattle.ctd_tree.proofs.TokenFronts.{same_found, known_of, no_token}
 use Rattle.ctd_token.proofs.TokenFaults.{token_some}
 
 pub of_some : {A B : Type 0} (f : A → B) (o : Option A) (y : B) → option_map f o ≡ Some y → (x : A) × (o ≡ Some x) × (f x ≡ y)

@@ -1,11 +1,11 @@
 use Rattle.std.proofs.Common.{◌≡◌, ℕ, ◌+◌, List, Ok, Some, ap, ◌∙◌, sym, subst}
 use Rattle.ctd_token.specs.declared.token.TokenKind.TheVariants as tokens
-use Rattle.ctd_syntax.specs.declared.preset.Literal.TheVariants as literals
+use Rattle.ctd_tree.specs.declared.preset.Literal.TheVariants as literals
 use Rattle.ctd_token.specs.Cut.{token_at}
-use Rattle.ctd_syntax.specs.PresetFront.{IsFound, negated}
-use Rattle.ctd_syntax.proofs.TokenFronts.{numeral_value, negative_fits, negative_is, not_negated}
-use Rattle.ctd_syntax.proofs.preset_text.negative_at.Goals.{in-Numeral, in_default}
-use Rattle.ctd_syntax.proofs.preset_text.negative_at.Goals as goal
+use Rattle.ctd_tree.specs.PresetFront.{IsFound, negated}
+use Rattle.ctd_tree.proofs.TokenFronts.{numeral_value, negative_fits, negative_is, not_negated}
+use Rattle.ctd_tree.proofs.preset_text.negative_at.Goals.{in-Numeral, in_default}
+use Rattle.ctd_tree.proofs.preset_text.negative_at.Goals as goal
 
 pub overflow_sub-result : goal.overflow_sub-result
 overflow_sub-result c =

@@ -1,10 +1,10 @@
 -- What stands at the front of a text of presets, and its length.
 use Rattle.std.specs.Prelude.{◌≡◌, ℕ, ◌+◌, nat_eq, if◌then◌else◌, List, [], ◌∷◌, length, take, drop, neg_ℤ, Option, Some, None, option_map, Result, Ok, Err}
-use Rattle.ctd_syntax.specs.declared.preset.Literal.{Literal}
-use Rattle.ctd_syntax.specs.declared.preset.Literal.TheVariants as literals
-use Rattle.ctd_syntax.specs.declared.preset.Preset.{Preset}
-use Rattle.ctd_syntax.specs.declared.preset.PresetFault.{PresetFault}
-use Rattle.ctd_syntax.specs.declared.preset.PresetFault.TheVariants.{BadPreset, Memory}
+use Rattle.ctd_tree.specs.declared.preset.Literal.{Literal}
+use Rattle.ctd_tree.specs.declared.preset.Literal.TheVariants as literals
+use Rattle.ctd_tree.specs.declared.preset.Preset.{Preset}
+use Rattle.ctd_tree.specs.declared.preset.PresetFault.{PresetFault}
+use Rattle.ctd_tree.specs.declared.preset.PresetFault.TheVariants.{BadPreset, Memory}
 use Rattle.ctd_token.specs.declared.fault.TokenFault.{TokenFault}
 use Rattle.ctd_token.specs.declared.fault.TokenFault.TheVariants as scanning
 use Rattle.ctd_token.specs.declared.token.TokenKind.TheVariants as tokens

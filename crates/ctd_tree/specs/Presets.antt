@@ -1,8 +1,8 @@
 -- Which texts spell which presets.
 use Rattle.std.specs.Prelude.{◌≡◌, ℕ, ℤ, List, [], ◌∷◌, ◌++◌, length, neg_ℤ, Ok}
-use Rattle.ctd_syntax.specs.declared.preset.Literal.{Literal}
-use Rattle.ctd_syntax.specs.declared.preset.Literal.TheVariants as literals
-use Rattle.ctd_syntax.specs.declared.preset.Preset.{Preset}
+use Rattle.ctd_tree.specs.declared.preset.Literal.{Literal}
+use Rattle.ctd_tree.specs.declared.preset.Literal.TheVariants as literals
+use Rattle.ctd_tree.specs.declared.preset.Preset.{Preset}
 use Rattle.ctd_token.specs.declared.token.TokenKind.{TokenKind}
 use Rattle.ctd_token.specs.declared.token.TokenKind.TheVariants as tokens
 use Rattle.ctd_token.specs.Cut.{token_at}

@@ -2,10 +2,10 @@
 //! specification.
 
 ghost use Rattle.std.specs.Prelude.{◌≡◌, ◌+◌, ◌≤◌, ◌<◌, List, length, Err, IfOk};
-ghost use Rattle.ctd_syntax.specs.Presets.{ArePresets};
+ghost use Rattle.ctd_tree.specs.Presets.{ArePresets};
 ghost use Rattle.ctd_token.specs.Cut.{token_at};
-ghost use Rattle.ctd_syntax.specs.PresetFront.{IsFound, negated, literal_at, preset_at};
-ghost use Rattle.ctd_syntax.specs.declared.preset.Preset.{Preset};
+ghost use Rattle.ctd_tree.specs.PresetFront.{IsFound, negated, literal_at, preset_at};
+ghost use Rattle.ctd_tree.specs.declared.preset.Preset.{Preset};
 
 use crate::preset::{Literal, Preset, PresetFault};
 use ctd_token::{Name, TokenKind, token_at};

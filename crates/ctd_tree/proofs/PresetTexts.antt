@@ -5,16 +5,16 @@ use Rattle.std.specs.Option.{option_map}
 use Rattle.std.specs.List.{prefix_len}
 use Rattle.std.proofs.lemmas.List.{take-append-drop}
 use Rattle.std.proofs.Math.Seq.{take-append_seam, drop-append_seam, take-append-add}
-use Rattle.ctd_syntax.specs.declared.preset.Literal.{Literal}
-use Rattle.ctd_syntax.specs.declared.preset.Literal.TheVariants as literals
-use Rattle.ctd_syntax.specs.declared.preset.Preset.{Preset}
+use Rattle.ctd_tree.specs.declared.preset.Literal.{Literal}
+use Rattle.ctd_tree.specs.declared.preset.Literal.TheVariants as literals
+use Rattle.ctd_tree.specs.declared.preset.Preset.{Preset}
 use Rattle.ctd_token.specs.declared.token.TokenKind.{TokenKind}
 use Rattle.ctd_token.specs.declared.token.TokenKind.TheVariants as tokens
 use Rattle.ctd_token.specs.Cut.{TokenOrFault, is_digit, fraction_begins, token_at}
-use Rattle.ctd_syntax.specs.Presets.{IsToken, IsPresetValue, number, negative, string, IsPreset, preset}
-use Rattle.ctd_syntax.specs.PresetFront.{plain, negated, literal_at, valued, behind_name, named, preset_at}
-use Rattle.ctd_syntax.proofs.TokenFronts.{known_of, no_token, name_front, name_alone, numeral_front, numeral_alone}
-use Rattle.ctd_syntax.proofs.LiteralFronts.{of_some, text_front, text_alone}
+use Rattle.ctd_tree.specs.Presets.{IsToken, IsPresetValue, number, negative, string, IsPreset, preset}
+use Rattle.ctd_tree.specs.PresetFront.{plain, negated, literal_at, valued, behind_name, named, preset_at}
+use Rattle.ctd_tree.proofs.TokenFronts.{known_of, no_token, name_front, name_alone, numeral_front, numeral_alone}
+use Rattle.ctd_tree.proofs.LiteralFronts.{of_some, text_front, text_alone}
 
 -- the end of the text, or a comma
 abbrev pub IsEnd : List ℕ → Type 0

@@ -1,0 +1,5 @@
+pub mod Trees
+pub mod TokenFronts
+pub mod LiteralFronts
+pub mod PresetTexts
+pub mod PresetLists

@@ -1,0 +1,12 @@
+//! What the checktestdata language speaks of: the trees of programs, and the presets of variables.
+#![tactic(auto)]
+
+mod preset;
+mod preset_text;
+mod tree;
+
+pub use preset::{Literal, Preset, PresetFault, Presets};
+pub use tree::{
+    Action, Assignment, Assignments, Command, Commands, Compare, Expr, Exprs, Names,
+    PatternLiteral, Program, Test, Var,
+};
