@@ -46,15 +46,14 @@ visit() {
     order+=("$1")
 }
 
-# The longest chain of crates that wait for one another. All others have time, and take what it leaves of the processors.
-chain=" "
+# The longest chains of crates that wait for one another. All others have time, and take what these leave of the processors.
+chains=" "
 follow() {
-    local library next=
-    chain+="$1 "
+    local library
+    chains+="$1 "
     for library in ${libraries[$1]}; do
-        [[ ! -v depth[$library] ]] || ((depth[$library] + 1 < depth[$1])) || next=$library
+        [[ ! -v depth[$library] ]] || ((depth[$library] + 1 < depth[$1])) || follow "$library"
     done
-    [ -z "$next" ] || follow "$next"
 }
 
 # Where a crate is built: a library, or the object file of the program.
@@ -76,7 +75,7 @@ is_built() {
 # Proves a crate and builds it: crate, root file, words of rattle. What rattle prints is shown only where it fails.
 build() {
     local crate=$1 root=$2 library niceness=0
-    [[ $chain == *" $crate "* ]] || niceness=19
+    [[ $chains == *" $crate "* ]] || niceness=19
     local words=(--crate-name "$crate" --extern "std=$kit/rlibs/std.rlib" -L "dependency=$kit/rlibs")
     for library in ${libraries[$crate]}; do
         if [[ -v libraries[$library] ]]; then
