@@ -46,13 +46,17 @@ visit() {
     order+=("$1")
 }
 
-# The longest chains of crates that wait for one another. All others have time, and take what these leave of the processors.
-chains=" "
-follow() {
-    local library
-    chains+="$1 "
-    for library in ${libraries[$1]}; do
-        [[ ! -v depth[$library] ]] || ((depth[$library] + 1 < depth[$1])) || follow "$library"
+# How many crates one after the other are proved before a crate is wanted, at the least. What is wanted late takes what the others leave of
+# the processors.
+declare -A slack
+leave_time() {
+    local crate library
+    for crate in "${order[@]}"; do
+        for library in ${libraries[$crate]}; do
+            [[ -v depth[$library] ]] || continue
+            local between=$((depth[$crate] - 1 - depth[$library]))
+            [[ -v slack[$library] ]] && ((slack[$library] <= between)) || slack[$library]=$between
+        done
     done
 }
 
@@ -75,7 +79,7 @@ is_built() {
 # Proves a crate and builds it: crate, root file, words of rattle. What rattle prints is shown only where it fails.
 build() {
     local crate=$1 root=$2 library niceness=0
-    [[ $chains == *" $crate "* ]] || niceness=19
+    ((${slack[$crate]:-0} < 2)) || niceness=19
     local words=(--crate-name "$crate" --extern "std=$kit/rlibs/std.rlib" -L "dependency=$kit/rlibs")
     for library in ${libraries[$crate]}; do
         if [[ -v libraries[$library] ]]; then
@@ -120,7 +124,7 @@ compile() {
 }
 
 visit "$program"
-follow "$program"
+leave_time
 checker=$top/crates/$program/out/$program
 rm -f "$checker"
 for crate in "${order[@]}"; do
