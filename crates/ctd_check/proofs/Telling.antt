@@ -116,13 +116,13 @@ module _ {R : Type 0} {G : Ghosts R} where
       → length run ≤ length (state_of a.cursor).held → (0 < length run → (state_of a.cursor).spot.offset + length run ≤ (state_of a.cursor).limit)
       → ((h : History) (d : TestData) (p : ℕ) → next_byte d p ≡ Ok (Some byte) → truth t h d p ≡ Ok b) → Performs a a (Ok b) (answer t)
   answered_in_front a t b byte run sound first front held within known =
-    let some : 0 < length run = some_held run byte first in
-    record {
-      sound = sound;
-      goes = advances_so (advances_nowhere a.cursor) (λ d stand _.
-          let next = held_next d (state_of a.cursor) stand.before a.cursor.counted (omega (arith, some, held)) (omega (arith, some, within some)) in
-          ap (λ r. told (with_fault fault_of_truth r) (state a)) (known a.store d (state a).offset (next ∙ ap Ok (first_held run (state_of a.cursor).held byte front first))));
-    }
+      let some : 0 < length run = some_held run byte first in
+      record {
+        sound = sound;
+        goes = advances_so (advances_nowhere a.cursor) (λ d stand _.
+            let next = held_next d (state_of a.cursor) stand.before a.cursor.counted (omega (arith, some, held)) (omega (arith, some, within some)) in
+            ap (λ r. told (with_fault fault_of_truth r) (state a)) (known a.store d (state a).offset (next ∙ ap Ok (first_held run (state_of a.cursor).held byte front first))));
+      }
 
   -- a test that was answered
   pub answered : (a : Run R G) (now : Cursor R G) (t : TestTree) (b : Bool) → ReadsOn a.cursor now → now.fault ≡ None → ((d : TestData) → IsConsistentWith d (state_of now) → Answers (Ok b) (truth t a.store d now.spot.offset))

@@ -16,8 +16,8 @@ use crate::keyword::Keyword;
 use crate::names::names;
 use crate::parser_token::ParserToken;
 use crate::target::{assignments, target_before, target_end};
-use ctd_tree::{Action, Command, Commands, Expr, PatternLiteral, Test, Var};
 use ctd_token::{Bytes, Mark, Place};
+use ctd_tree::{Action, Command, Commands, Expr, PatternLiteral, Test, Var};
 use std::alloc::Global;
 
 // The upper bound of INT and its target.

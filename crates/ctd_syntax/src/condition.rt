@@ -15,8 +15,8 @@ use crate::front::{ParseError, after_mark, after_open, name_at};
 use crate::keyword::Keyword;
 use crate::names::names;
 use crate::parser_token::ParserToken;
-use ctd_tree::{Compare, Expr, Test};
 use ctd_token::{Mark, Name};
+use ctd_tree::{Compare, Expr, Test};
 use std::alloc::Global;
 
 // What a token says of the parentheses that it stands in.

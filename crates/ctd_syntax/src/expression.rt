@@ -11,8 +11,8 @@ ghost use Rattle.ctd_syntax.specs.Lexeme;
 use crate::front::{ParseError, after_mark, name_at};
 use crate::keyword::Keyword;
 use crate::parser_token::ParserToken;
-use ctd_tree::{Expr, Exprs, Var};
 use ctd_token::{Bytes, Mark, Name};
+use ctd_tree::{Expr, Exprs, Var};
 use std::alloc::{AllocError, Global};
 
 // The operators that join two expressions.

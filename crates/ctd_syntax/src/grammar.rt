@@ -9,8 +9,8 @@ use crate::command::commands;
 use crate::front::ParseError;
 use crate::nesting::first_too_deep;
 use crate::parser_token::parser_tokens;
-use ctd_tree::Program;
 use ctd_token::{LoadFault, LoadKind, PROGRAM_LIMIT, Place, Token, advance, tokens};
+use ctd_tree::Program;
 use std::alloc::Global;
 
 // The place of the first of the last `left` tokens, or the end of the text.
