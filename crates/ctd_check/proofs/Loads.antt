@@ -1,15 +1,19 @@
--- Loading that was refused memory before its first read.
-use Rattle.std.proofs.Common.{◌≡◌, ◌≢◌, [], refl, ap, arith, None, Result, Ok, Err, IfErr}
+-- Loading that was refused memory.
+use Rattle.std.proofs.Common.{◌≡◌, ◌≢◌, ◌≤◌, ◌+◌, ℕ, List, length, ap, None, Result, Ok, Err, IfErr}
 use Rattle.std.specs.Result.{IsErr, IsErrAnd}
 use Rattle.ctd_token.specs.declared.fault.LoadFault.{LoadFault}
+use Rattle.ctd_token.specs.declared.limits.TheConstants.{PROGRAM_LIMIT}
 use Rattle.ctd_source.specs.declared.source.Source.{Ghosts}
-use Rattle.ctd_source.specs.ReadingOn.{gave_nothing}
+use Rattle.ctd_source.specs.CursorState.{Gave}
 use Rattle.ctd_token.specs.declared.fault.LoadKind.TheVariants.{Memory}
 use Rattle.ctd_tree.specs.Tree.{CommandList}
 use Rattle.ctd_check.specs.Loading.{LoadsFrom}
 
-pub wants_memory : {V R : Type 0} (tree_of : V → CommandList) (G : Ghosts R) (old : R) → LoadsFrom tree_of G old old (Err (record { kind = Memory; place = None }))
-wants_memory tree_of G old = record { bytes = []; gave = gave_nothing old; short = omega arith; answer = λ other. absurd (other refl) }
+-- nothing is said of the text, whatever came of it
+pub wants_memory : {V R : Type 0} (tree_of : V → CommandList) (G : Ghosts R) (old new : R) (q : Result V LoadFault) → IsErr q × IsErrAnd q (λ e. e ≡ record { kind = Memory; place = None })
+    → (bytes : List ℕ) × (length bytes ≤ PROGRAM_LIMIT + 1) × Gave G old new bytes → LoadsFrom tree_of G old new q
+wants_memory tree_of G old new (Ok x) is came = absurd is.1
+wants_memory tree_of G old new (Err e) is (bytes, short, gave) = record { bytes = bytes; gave = gave; short = short; answer = λ other. absurd (other (ap (λ f. f.kind) is.1)) }
 
 -- want of memory is no bad pattern
 pub memory_alone : {A : Type 0} (P : LoadFault → Type 0) (q : Result A LoadFault) → IsErr q × IsErrAnd q (λ e. e ≡ record { kind = Memory; place = None }) → IfErr q (λ f. f.kind ≢ Memory → P f)

@@ -10,7 +10,7 @@ ghost use Rattle.ctd_check.specs.Literals.{literals_at};
 ghost use Rattle.ctd_check.specs.Loading.{ArePatterns, IsBadPattern};
 
 use crate::literals::literals_of;
-use crate::text::fill;
+use crate::text::receive;
 use ctd_pattern::{Matcher, Pattern, PatternFault};
 use ctd_source::Source;
 use ctd_syntax::{Command, LoadFault, LoadKind, PROGRAM_LIMIT, PatternLiteral, Program, parse};
@@ -39,13 +39,6 @@ impl Model for Plan {
     ghost coded = { Prim.hlevel (codes, c.the_row.coded) };
 
     ghost view = { λ p. p.program };
-}
-
-/// Room for so many bytes.
-fn room_for(alloc: Global, count: usize) -> Result<Vec<u8>, AllocError>
-    ensures { IfOk result (λ room. length room.items ≡ count) }
-{
-    vec![in alloc; 0; count]
 }
 
 /// The fault of a literal of which no pattern was built.
@@ -145,25 +138,19 @@ impl Plan {
         ensures loads { LoadsFrom command_trees P.Source program.old program.new result }
         ensures memory { IfErr result (λ fault. fault.kind ≡ LoadKind.Memory → fault.place ≡ None) }
     {
-        let Ok(mut room) = room_for(alloc, PROGRAM_LIMIT + 1) else {
-            return Err(LoadFault {
-                kind: LoadKind::Memory,
-                place: None,
-            });
-        };
-        let filled = fill(program, &mut room);
-        if filled.count > PROGRAM_LIMIT {
+        let text = receive(alloc, program, PROGRAM_LIMIT + 1)?;
+        if text.bytes.len() > PROGRAM_LIMIT {
             return Err(LoadFault {
                 kind: LoadKind::ProgramTooLong,
                 place: None,
             });
         }
-        if filled.failed {
+        if text.failed {
             return Err(LoadFault {
                 kind: LoadKind::Read,
                 place: None,
             });
         }
-        Plan::read(alloc, &room[..filled.count])
+        Plan::read(alloc, &text.bytes)
     }
 }
