@@ -11,9 +11,8 @@ use Rattle.ctd_source.specs.CursorState.{state_of, ReadsOn, MovesPast, GivesByte
 use Rattle.ctd_source.specs.Received.{AdvancesSuchThat}
 use Rattle.ctd_source.proofs.AdvanceLemmas.{advances_so, advances_both, advances_nowhere, advances_looking, advances_moving}
 use Rattle.ctd_value.specs.Fault.{ValueFault, with_fault}
-use Rattle.ctd_value.specs.declared.value.Value.{Value}
-use Rattle.ctd_value.specs.Store.{History, Key, assign}
-use Rattle.ctd_check.specs.Effect.{assign_key, one_byte}
+use Rattle.ctd_value.specs.Store.{History}
+use Rattle.ctd_check.specs.Effect.{one_byte}
 use Rattle.ctd_check.specs.declared.machine.Run.{Run}
 use Rattle.ctd_check.specs.declared.outcome.Reason.{Reason}
 use Rattle.ctd_check.specs.declared.outcome.Fault.{Fault}
@@ -192,10 +191,3 @@ module _ {R : Type 0} {G : Ghosts R} where
   byte_unseen wanted reason a now fault failure sound stops p =
       let P : Cursor R G → Type 0 = λ c. Performs {A = ⊤} a (with_cursor a c) (Err failure) (one_byte wanted reason) in
       subst P (sym (p.stays (λ e. cc))) (unseen_by wanted reason a p.looked fault failure p.next sound stops p.looks p.answer)
-
-  -- a key gets a value
-  pub assigning : (a : Run R G) (store : History) (k : Key) (value : Value) → IsSound a → store ≡ assign a.store k value → Performs a (record { alloc = a.alloc; cursor = a.cursor; store = store; mode = a.mode }) (Ok tt) (assign_key k value)
-  assigning a store k value sound is = record {
-    sound = sound;
-    goes = advances_so (advances_nowhere a.cursor) (λ d _ _. ap (λ h. done tt (record { offset = a.cursor.spot.offset; store = h; mode = a.mode })) (sym is));
-  }

@@ -1,22 +1,13 @@
 -- The literals of a program, part by part.
-use Rattle.std.proofs.Common.{◌≡◌, ◌<◌, ◌+◌, ℕ, List, ◌++◌, length, drop, get_or, Option, Result, Ok, Err, OnOk, sym, ap, ◌∙◌, append_assoc}
+use Rattle.std.proofs.Common.{◌≡◌, List, ◌++◌, Option, Result, Ok, Err, OnOk, sym, ap, ◌∙◌, append_assoc}
 use Rattle.std.specs.Global.{Box}
 use Rattle.ctd_tree.specs.declared.tree.Command.{Command}
 use Rattle.ctd_tree.specs.declared.tree.Commands.{Commands}
 use Rattle.ctd_tree.specs.declared.tree.PatternLiteral.{PatternLiteral}
 use Rattle.ctd_tree.specs.declared.tree.Action.TheBlock.{back-Action-Rep-1}
-use Rattle.ctd_syntax.specs.Numbering.{command_literals, separator_literals, literals}
-use Rattle.ctd_tree.specs.View.{command_tree, command_trees, command_list, commands_of, separator, boxed_separator}
+use Rattle.ctd_syntax.specs.Numbering.{separator_literals, literals}
+use Rattle.ctd_tree.specs.View.{command_trees, command_list, commands_of, separator, boxed_separator}
 use Rattle.ctd_tree.proofs.Trees.{list_commands, held_separator}
-use Rattle.ctd_check.proofs.Lists.{left_at}
-
--- one command of a list more
-pub one_listed : (cs : List Command) (i : ℕ) (c : Command) (found more whole : List PatternLiteral) → i < length cs → c ≡ get_or cs i c → more ≡ found ++ command_literals (command_tree c) → found ++ literals (command_trees (drop i cs)) ≡ whole
-    → more ++ literals (command_trees (drop (i + 1) cs)) ≡ whole
-one_listed cs i c found more whole within is here so_far =
-    ap (λ l. l ++ literals (command_trees (drop (i + 1) cs))) here
-    ∙ append_assoc found (command_literals (command_tree c)) (literals (command_trees (drop (i + 1) cs)))
-    ∙ ap (λ l. found ++ literals (command_trees l)) (sym (left_at cs i c within is)) ∙ so_far
 
 -- the list of a block
 pub literals_of_block : (block : Commands) (cs : List Command) → cs ≡ commands_of block → literals (command_trees cs) ≡ literals (command_list block)

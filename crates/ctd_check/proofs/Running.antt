@@ -179,10 +179,6 @@ module _ {R : Type 0} {G : Ghosts R} where
       let P : Halt → Type 0 = λ h. Ends {A = Unit {0}} a c left before agenda.left (Err h) in
       subst P (sym q.1) (record { sound = tt; goes = advances_so (advances_both goes p.goes) (λ d _ f. halted d halt agenda.left (to_do agenda.frames.items) [] (state c) _ _ (f.0 ∙ ap (λ ts. run d left' ts (state b)) is ∙ ap (λ n. run d n split (state b)) (sym same)) f.1) })
 
-  -- one step of the run and then more
-  pub goes_further : {A : Type 0} {a b c : Run R G} {left : ℕ} {before : List Task} {agenda : Agenda} {now : ℕ} {r : Result A Halt} → Advances {A = Unit {0}} a b left before agenda (Ok tt) → Ends b c agenda.left (to_do agenda.frames.items) now r → Ends a c left before now r
-  goes_further {a = a} {b = b} {c = c} {left = left} {before = before} {agenda = agenda} {now = now} {r = r} p q = record { sound = q.sound; goes = advances_so (advances_both p.goes q.goes) (λ d _ e. follows_as d r now [] (state c) _ _ e.0 e.1) }
-
   -- what stands before the first command, and then the tasks
   pub start_done : (a b c : Run R G) (n left' : ℕ) (ts : List Task) (r : Result (Unit {0}) Halt) → Performs {A = ⊤} a b (Ok tt) first_skip → Ends b c n ts left' r → EndsAs a c (λ d. run_from d n ts (state a)) left' r
   start_done a b c n left' ts r p q = record {

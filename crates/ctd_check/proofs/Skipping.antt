@@ -3,7 +3,7 @@ use Rattle.std.specs.Prelude.{⊤}
 use Rattle.std.proofs.Common.{◌≡◌, ◌<◌, ◌≤◌, ℕ, ◌+◌, ◌&&◌, Bool, true, false, cond, List, [], ◌∷◌, ◌++◌, length, take, drop, get_or, refl, ap, sym, ◌∙◌, subst, arith, Option, Some, None, Result, Ok, Err, IsOk}
 use Rattle.std.specs.Prelude.{slice_get}
 use Rattle.std.specs.List.{list_all, prefix_len}
-use Rattle.std.proofs.lemmas.List.{at_drop_more, drop_all}
+use Rattle.std.proofs.lemmas.List.{at_drop_more}
 use Rattle.ctd_source.specs.declared.spot.LookFault.{LookFault}
 use Rattle.ctd_source.specs.TestData.{TestData, next_byte, visible}
 use Rattle.ctd_source.proofs.Visible.{seen_byte, seen_end, seen_fault}
@@ -29,12 +29,6 @@ pub row_ends : (p : ℕ → Bool) (xs : List ℕ) (i k x : ℕ) → i < length x
 row_ends p xs i k x within is fails before =
     let here : prefix_len p (drop i xs) ≡ 0 =
     ap (prefix_len p) (at_drop_more (λ l. l) xs i x within ∙ ap (λ y. y ∷ drop (i + 1) xs) (sym is)) ∙ ap (λ b. cond b (1 + prefix_len p (drop (i + 1) xs)) 0) fails in
-    omega (arith, before, here)
-
--- or at the end
-pub row_whole : (p : ℕ → Bool) (xs : List ℕ) (i k : ℕ) → length xs ≤ i → k ≡ i + prefix_len p (drop i xs) → k ≡ i
-row_whole p xs i k past before =
-    let here : prefix_len p (drop i xs) ≡ 0 = ap (prefix_len p) (drop_all i xs past) in
     omega (arith, before, here)
 
 -- blanks in front of others

@@ -1,7 +1,7 @@
 -- Digits that pass one after the other.
 use Rattle.std.proofs.Common.{◌≡◌, ℕ, ◌+◌, ◌-◌, ◌*◌, ◌^◌, ◌<◌, ◌&&◌, ◌||◌, Bool, true, false, List, [], ◌∷◌, ◌++◌, length, take, get_or, min, nat_eq, refl, ap, sym, ◌∙◌, subst, arith, length-append, append_assoc}
 use Rattle.std.proofs.lemmas.Bool.Decides.{nat_tests}
-use Rattle.std.proofs.lemmas.List.{take_more, append-nil}
+use Rattle.std.proofs.lemmas.List.{take_more}
 use Rattle.ctd_check.specs.declared.digits.DigitSummary.{DigitSummary}
 use Rattle.ctd_check.specs.Integer.{decimal, is_zero_first}
 use Rattle.ctd_check.specs.Summaries.{Summarizes}
@@ -24,9 +24,6 @@ summary_more old new digits d count zero size s = record {
   zero = zero ∙ ap (λ z. z || (nat_eq old.count 0 && nat_eq d 48)) s.zero ∙ ap (λ n. is_zero_first digits || (nat_eq n 0 && nat_eq d 48)) s.count ∙ zero_more digits d;
   size = size ∙ grown_once old.size (decimal digits) (d - 48) s.size ∙ ap (λ n. min n (2 ^ 127 + 1)) (sym (decimal-append digits d));
 }
-
-pub summary_none : (s : DigitSummary) (digits bytes : List ℕ) → Summarizes s digits → Summarizes s (digits ++ take 0 bytes)
-summary_none s digits bytes seen = let P : List ℕ → Type 0 = λ xs. Summarizes s xs in subst P (sym (append-nil digits)) seen
 
 pub summary_step : (s : DigitSummary) (digits bytes : List ℕ) (i : ℕ) → i < length bytes → Summarizes s ((digits ++ take i bytes) ++ get_or bytes i 0 ∷ []) → Summarizes s (digits ++ take (i + 1) bytes)
 summary_step s digits bytes i within seen =

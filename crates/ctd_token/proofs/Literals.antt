@@ -222,13 +222,6 @@ finish bytes values bad at r none lt quote =
     let whole : c.values ≡ values = append-nil r.before ∙ r.same none in
     read ∙ ap (text_of c) clean ∙ ap (λ v. Ok (tokens.Text v, at + 1)) whole
 
--- the closing quote, where one was
-pub finish_bad : (bytes values : List ℕ) (bad : Option ℕ) (at n : ℕ) → Reading bytes values bad at → bad ≡ Some n → at < length bytes → get_or bytes at 0 ≡ 34 → text_at (literal 0 (drop 1 bytes)) ≡ wrong BadOctal n
-finish_bad bytes values bad at n r some lt quote =
-    let c : Closed = joined r.before bad at closed_here in
-    let read = text_read (literal 0 (drop 1 bytes)) c (after_quote bytes ∙ r.rest ∙ ap (option_map (joined r.before bad at)) (closing bytes at lt quote)) in
-    read ∙ ap (text_of c) (or_none bad ∙ some)
-
 -- the end of the bytes
 pub unclosed : (bytes values : List ℕ) (bad : Option ℕ) (at : ℕ) → Reading bytes values bad at → length bytes ≤ at → text_at (literal 0 (drop 1 bytes)) ≡ wrong UnfinishedString 0
 unclosed bytes values bad at r past =

@@ -1,5 +1,5 @@
 -- The numbers that digits spell.
-use Rattle.std.proofs.Common.{◌≡◌, ℕ, zero, suc, ◌+◌, ◌-◌, ◌*◌, ◌^◌, ◌≤◌, ◌<◌, List, [], ◌∷◌, ◌++◌, length, take, get_or, true, Bool, cond, ap, ◌∙◌, arith, add-one, get_or-take, length-append, length-take-le}
+use Rattle.std.proofs.Common.{◌≡◌, ℕ, zero, suc, ◌+◌, ◌-◌, ◌*◌, ◌^◌, ◌≤◌, ◌<◌, List, [], ◌∷◌, ◌++◌, length, take, get_or, true, ap, ◌∙◌, arith, add-one, get_or-take, length-append, length-take-le}
 use Rattle.std.specs.List.{prefix_len}
 use Rattle.std.proofs.Math.Nat.{mul_assoc, mul-le-mul_left, pow-suc, pow-le-pow_right}
 use Rattle.std.proofs.lemmas.List.{length-take, take_more}
@@ -36,10 +36,3 @@ digits_alone n bs is k d lt =
     let within : n ≤ length bs = omega (arith, is, prefix_len-le-length is_digit bs) in
     let below : k < n = omega (arith, lt, length-take-le n bs within) in
     ap is_digit (get_or-take n bs k d below) ∙ prefix_len_passes is_digit bs k d (omega (arith, below, is))
-
--- a row whose first byte belongs to it isn't empty
-pub run_within : (p : ℕ → Bool) (bs : List ℕ) (n : ℕ) → 0 < length bs → p (get_or bs 0 0) ≡ true → n ≡ prefix_len p bs → (0 < n) × (n ≤ length bs)
-run_within p [] n some first is = absurd (omega (arith, some))
-run_within p (b ∷ bs) n some first is =
-    let counted : n ≡ 1 + prefix_len p bs = is ∙ ap (λ x. cond x (1 + prefix_len p bs) 0) first in
-    (omega (arith, counted), omega (arith, is, prefix_len-le-length p (b ∷ bs)))

@@ -1,14 +1,10 @@
 -- What follows from a call that tells whether it was done.
-use Rattle.std.proofs.Common.{◌≡◌, Bool, true, false, T, ◌∷◌, [], Result, Ok, Err, OnOk, is_ok, subst, sym}
+use Rattle.std.proofs.Common.{◌≡◌, Bool, true, false, T, ◌∷◌, [], subst, sym}
 use Rattle.std.specs.FinMap.{put}
 use Rattle.ctd_value.specs.declared.value.Value.{Value}
 use Rattle.ctd_value.specs.Order.{values_cmp}
 use Rattle.ctd_value.specs.Store.{Array, is_indexed}
 use Rattle.ctd_value.proofs.Alone.{still_indexed}
-
-pub where_ok : {A E P : Type 0} (r : Result A E) → is_ok r ≡ true → OnOk r P → P
-where_ok (Ok x) is p = p
-where_ok (Err e) is p = cc
 
 -- an array with indices alone is one still, whether a value was written at an index or not
 pub indexed_still : (b : Bool) (i : Value) (v : Value) (old new : Array) → T (is_indexed old) → (b ≡ true → new ≡ put values_cmp (i ∷ []) v old) → (b ≡ false → new ≡ old) → T (is_indexed new)
