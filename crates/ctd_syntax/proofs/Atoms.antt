@@ -30,9 +30,6 @@ variable_head : (t : Lexeme) (r ts us : List Lexeme) (n : List ℕ) (l : ExprLis
 variable_head t r ts us n l e unindexed = cc
 variable_head t r ts us n l e (indexed i) = cc
 
-name_starts : (tokens r ts us : List Lexeme) (t : Lexeme) (v : VarTree) → tokens ≡ t ∷ r → tokens ≡ ts ++ us → IsTarget ts v → Lexeme.name v.name ≡ t
-name_starts tokens r ts us t v e split w = variable_head t r ts us v.name v.indices (sym e ∙ split) w
-
 open_goes_on : (us s : List Lexeme) → ends 4 us → us ≡ mark OpenIndex ∷ s → ⊥
 open_goes_on us s h e = let lt : 4 < 4 = subst (ends 4) e h in omega (arith, lt)
 
@@ -71,13 +68,6 @@ variable_bad_index tokens r s b e o not ts us u split h w = elim (variable_at b 
   | inl same ↦ open_goes_on us s h (same.2 ∙ o)
   | inr i ↦ not i.0 us u.indices (same_rest o i.1) tt i.3
 ]
-
-pub no_name : (tokens : List Lexeme) → ((b : List ℕ) (ts : List Lexeme) → tokens ≡ Lexeme.name b ∷ ts → ⊥) → NotFound IsTarget (ends 4) tokens
-no_name tokens none ts us u split h w = begins_not ts us u.name u.indices split w
-  where
-    begins_not : (ts us : List Lexeme) (n : List ℕ) (l : ExprList) → tokens ≡ ts ++ us → IsVariable ts n l → ⊥
-    begins_not ts us n l e unindexed = none n us e
-    begins_not ts us n l e (indexed {ts = vs} i) = none n (mark OpenIndex ∷ (vs ++ mark CloseIndex ∷ []) ++ us) e
 
 -- what an atom is, by its first token
 abbrev AtomAt : Lexeme → List Lexeme → ExprTree → List Lexeme → Type 0
@@ -273,10 +263,6 @@ strlen_none tokens r s at e o not ts us u split h w =
     let k : s ≡ i.0 ++ us = cc in
     not i.0 us i.1 k tt i.4
 
-pub strlen_not_open : (tokens r : List Lexeme) (at : Place) → tokens ≡ keyword Strlen at ∷ r → ((s : List Lexeme) → r ≡ mark Open ∷ s → ⊥) → NotFound IsAtom (ends 4) tokens
-strlen_not_open tokens r at e none ts us u split h w =
-    let i = atom_at (keyword Strlen at) r ts us u (sym e ∙ split) w in none (i.0 ++ us) i.2
-
 pub group_reads : (tokens r : List Lexeme) → tokens ≡ mark Open ∷ r → (a : ExprTree) (after : List Lexeme) → Found (IsBefore Close IsExpr) Always r a after → Found IsAtom (ends 4) tokens a after
 group_reads tokens r e a after f = record {
   front = mark Open ∷ f.front;
@@ -307,20 +293,6 @@ begins _ r us u i = absurd i
 
 pub no_atom : (tokens r : List Lexeme) (t : Lexeme) → tokens ≡ t ∷ r → begins_atom t ≡ false → NotFound IsAtom (ends 4) tokens
 no_atom tokens r t e f ts us u split h w = let b = begins t r us u (atom_at t r ts us u (sym e ∙ split) w) in absurd (cc)
-
-pub no_tokens : (tokens : List Lexeme) → tokens ≡ [] → NotFound IsAtom (ends 4) tokens
-no_tokens tokens e ts us u split h w = ends_before ts us u (sym e ∙ split) w
-  where
-    no_variable : (ts us : List Lexeme) (n : List ℕ) (l : ExprList) → [] ≡ ts ++ us → IsVariable ts n l → ⊥
-    no_variable ts us n l e unindexed = cc
-    no_variable ts us n l e (indexed i) = cc
-
-    ends_before : (ts us : List Lexeme) (u : ExprTree) → [] ≡ ts ++ us → IsAtom ts u → ⊥
-    ends_before ts us u e numeral = cc
-    ends_before ts us u e text = cc
-    ends_before ts us u e (variable i) = no_variable ts us _ _ e i
-    ends_before ts us u e (strlen i) = cc
-    ends_before ts us u e (group i) = cc
 
 pub not_open_begins : (m : Mark) → (m ≡ Open → ⊥) → begins_atom (mark m) ≡ false
 not_open_begins Open h = absurd (h refl)

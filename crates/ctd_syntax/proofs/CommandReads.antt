@@ -3,9 +3,9 @@ use Rattle.std.proofs.Common.{◌≡◌, inl, inr, ℕ, List, [], ◌∷◌, ◌
 use Rattle.ctd_syntax.specs.Lexeme.{Lexeme, mark, keyword}
 use Rattle.ctd_tree.proofs.Trees.{joined}
 use Rattle.ctd_tree.specs.Tree
-use Rattle.ctd_tree.specs.Tree.{ExprTree, VarTree, TestTree, CommandTree, CommandList, Separator}
+use Rattle.ctd_tree.specs.Tree.{VarTree, CommandTree, CommandList, Separator}
 use Rattle.ctd_syntax.specs.Grammar
-use Rattle.ctd_syntax.specs.Grammar.{IsExpr, IsTest, IsTarget, IsTargetEnd, IsCommand, IsCommands, IsRepeated, IsBranches}
+use Rattle.ctd_syntax.specs.Grammar.{IsTargetEnd, IsCommand, IsCommands, IsRepeated, IsBranches}
 use Rattle.ctd_syntax.specs.Front.{Found, NotFound, Always, IsBefore, IsAfter, IsBuilt, IsPair, Spelling, Following}
 use Rattle.ctd_syntax.specs.Levels.{ends}
 use Rattle.ctd_syntax.specs.Tests.{test_ends}
@@ -60,9 +60,6 @@ pattern_found tokens rest bytes at e = record {
   where
     same_text : {bytes : List ℕ} {at : Place} {rest us : List Lexeme} {u : List ℕ × Place} → Lexeme.text bytes at ∷ rest ≡ Lexeme.text u.0 u.1 ∷ us → (u ≡ (bytes, at)) × (us ≡ rest)
     same_text {bytes} {at} {rest} {us} {u} e = let a : u.0 ≡ bytes = cc in let p : u.1 ≡ at = cc in let b : us ≡ rest = cc in (ap (λ x. (x, u.1)) a ∙ ap (λ x. (bytes, x)) p, b)
-
-pub pattern_none : (tokens : List Lexeme) → ((bytes : List ℕ) (at : Place) (ts : List Lexeme) → tokens ≡ Lexeme.text bytes at ∷ ts → ⊥) → NotFound IsPatternText Always tokens
-pattern_none tokens none ts us u split h w = none u.0 u.1 us (split ∙ ap (λ l. l ++ us) w)
 
 -- the end of a loop as the grammar has it, and back
 loop_end_from : (ts : List Lexeme) (between : Separator) (body : CommandList) → IsRepeated ts between body → IsLoopEnd ts (between, body)
@@ -163,30 +160,6 @@ command_reads tokens r k at e u after f = record {
 
 pub command_none : (tokens r : List Lexeme) (k : Keyword) (at : Place) → tokens ≡ keyword k at ∷ r → NotFound (IsCommandRest k at) Always r → NotFound IsCommand Always tokens
 command_none tokens r k at e not ts us v split h w = let i = begins_worded tokens r ts us k at v e split w in not i.0 us v i.1 tt i.2
-
-pub no_word : (tokens : List Lexeme) → ((k : Keyword) (at : Place) (ts : List Lexeme) → tokens ≡ keyword k at ∷ ts → ⊥) → NotFound IsCommand Always tokens
-no_word tokens none ts us v split h w = let is = worded ts v w in none is.0 is.1 (is.2 ++ us) (split ∙ ap (λ l. l ++ us) is.3)
-
--- no command stands behind another word
-pub no_such_command : (tokens : List Lexeme) (k : Keyword) (at : Place) → is_command_word k ≡ false → NotFound (IsCommandRest k at) Always tokens
-no_such_command tokens k at other ts us v split h w = no_command k at ts v other w
-  where
-    no_command : (k : Keyword) (at : Place) (ts : List Lexeme) (v : CommandTree) → is_command_word k ≡ false → IsCommandRest k at ts v → ⊥
-    no_command words.Space at ts v e w = cc
-    no_command words.Newline at ts v e w = cc
-    no_command words.Eof at ts v e w = cc
-    no_command words.Int at ts v e w = cc
-    no_command words.String at ts v e w = cc
-    no_command (words.Regex number) at ts v e w = cc
-    no_command words.Assert at ts v e w = cc
-    no_command words.Set at ts v e w = cc
-    no_command words.Unset at ts v e w = cc
-    no_command words.Rep at ts v e w = cc
-    no_command words.RepI at ts v e w = cc
-    no_command words.While at ts v e w = cc
-    no_command words.WhileI at ts v e w = cc
-    no_command words.If at ts v e w = cc
-    no_command _ at ts v e w = w
 
 -- a word of a command begins one
 pub begins_at : (tokens r : List Lexeme) (k : Keyword) (at : Place) → tokens ≡ keyword k at ∷ r → is_command_word k ≡ true → command_begins tokens ≡ true
@@ -316,13 +289,6 @@ loop_end_no_separated tokens r e not ts us u split h w = separated_none ts us u 
         let tail : r ≡ vs ++ us = cc in
         not vs us (d, u.1) tail tt i
 
-pub no_loop_end : (tokens : List Lexeme) → ((r : List Lexeme) → tokens ≡ mark Close ∷ r → ⊥) → ((r : List Lexeme) → tokens ≡ mark Comma ∷ r → ⊥) → NotFound IsLoopEnd Always tokens
-no_loop_end tokens no_close no_comma ts us u split h w = neither w
-  where
-    neither : IsLoopEnd ts u → ⊥
-    neither (inl (none, (vs, is, i))) = no_close (vs ++ us) (split ∙ ap (λ l. l ++ us) is)
-    neither (inr (d, some, (vs, is, i))) = no_comma (vs ++ us) (split ∙ ap (λ l. l ++ us) is)
-
 -- the end of an IF
 pub branch_ended : (tokens r : List Lexeme) (at : Place) → tokens ≡ keyword words.End at ∷ r → Found IsBranchEnd Always tokens Tree.done r
 branch_ended tokens r at e = record {
@@ -363,10 +329,3 @@ branch_no_block tokens r at e not ts us u split h w = block_none ts us u (sym e 
         let whole : keyword words.Else at ∷ r ≡ keyword words.Else place ∷ (vs ++ us) = split ∙ ap (λ l. l ++ us) is in
         let tail : r ≡ vs ++ us = cc in
         not vs us u tail tt i
-
-pub no_branch_end : (tokens : List Lexeme) → ((at : Place) (r : List Lexeme) → tokens ≡ keyword words.End at ∷ r → ⊥) → ((at : Place) (r : List Lexeme) → tokens ≡ keyword words.Else at ∷ r → ⊥) → NotFound IsBranchEnd Always tokens
-no_branch_end tokens no_end no_else ts us u split h w = neither w
-  where
-    neither : IsBranchEnd ts u → ⊥
-    neither (inl (place, is, tree)) = no_end place us (split ∙ ap (λ l. l ++ us) is)
-    neither (inr (place, vs, is, i)) = no_else place (vs ++ us) (split ∙ ap (λ l. l ++ us) is)

@@ -67,18 +67,6 @@ left_reads tokens rest r a by f e =
           (ap (λ x. (x, u.1)) same.0 ∙ ap (λ x. (a, x)) by_is, tail);
     }
 
-pub left_none : (tokens rest : List Lexeme) (a : ExprTree) → Found IsExpr (ends 1) tokens a rest → operator_at compare_operator rest ≡ None → NotFound IsLeft Always tokens
-left_none tokens rest a f e ts us u split h w =
-    let same = f.only w.0 (mark (compare_mark u.1) ∷ us) u.0 (left_split tokens ts us w.0 u.1 split w.1) (compare_binds u.1) w.2 in
-    let found : operator_at compare_operator rest ≡ Some (u.1, us) = ap (operator_at compare_operator) (sym same.1) ∙ ap (λ x. after_operator x us) (is_compare u.1) in
-    absurd (cc)
-
-pub no_left : (tokens : List Lexeme) → NotFound IsExpr (ends 1) tokens → NotFound IsLeft Always tokens
-no_left tokens not ts us u split h w = not w.0 (mark (compare_mark u.1) ∷ us) u.0 (left_split tokens ts us w.0 u.1 split w.1) (compare_binds u.1) w.2
-
-of_compare : (ExprTree × Compare) × ExprTree → TestTree
-of_compare x = Tree.compare x.0.1 x.0.0 x.1
-
 pub compared_reads : (tokens rest after : List Lexeme) (x : ExprTree × Compare) (b : ExprTree) → Found IsLeft Always tokens x rest → Found IsExpr (ends 1) rest b after → Found IsCompared (ends 1) tokens (Tree.compare x.1 x.0 b) after
 compared_reads tokens rest after x b f g = built (λ x. Tree.compare x.0.1 x.0.0 x.1) (IsPair IsLeft IsExpr) (ends 1) tokens after (x, b) (pair_reads IsLeft IsExpr Always (ends 1) (λ vs us b i h. tt) tokens rest after x b f g)
 
@@ -126,10 +114,6 @@ in_array_no_name tokens r rest a e f not = not_built (λ x. Tree.in_array x.0 x.
 
 pub not_in_array : (tokens : List Lexeme) → ((r : List Lexeme) → tokens ≡ mark Open ∷ r → ⊥) → NotFound (IsTestCall InArray) Always tokens
 not_in_array tokens none = not_built (λ x. Tree.in_array x.0 x.1) (IsAfter Open Sought) Always tokens (not_after Sought Always Open tokens none)
-
--- ISEOF stands alone
-pub eof_reads : (tokens : List Lexeme) → Found (IsTestCall IsEof) Always tokens Tree.at_end tokens
-eof_reads tokens = record { front = []; split = refl; spells = (refl, refl); only = λ ts us u split h w. (w.1, sym (split ∙ ap (λ l. l ++ us) w.0)) }
 
 -- a name and the parenthesis behind it
 pub last_name_reads : (tokens rest r : List Lexeme) (n : List ℕ) → tokens ≡ Lexeme.name n ∷ rest → rest ≡ mark Close ∷ r → Found (IsBefore Close IsName) Always tokens n r

@@ -73,15 +73,6 @@ word_reads Spells Ends k ended tokens rest r a at f e = record {
       (same.0, tail);
 }
 
-pub word_none : {T : Type 0} (Spells : Spelling T) (Ends : Following) (k : Keyword) → ((at : Place) (us : List Lexeme) → Ends (keyword k at ∷ us)) → (tokens rest : List Lexeme) (a : T) → Found Spells Ends tokens a rest → ((at : Place) (r : List Lexeme) → rest ≡ keyword k at ∷ r → ⊥) → NotFound (IsBeforeWord k Spells) Always tokens
-word_none Spells Ends k ended tokens rest a f none ts us u split h w =
-    let same = f.only w.0 (keyword k w.1 ∷ us) u (split ∙ ap (λ l. l ++ us) w.2 ∙ append_assoc w.0 (keyword k w.1 ∷ []) us) (ended w.1 us) w.3 in
-    none w.1 us (sym same.1)
-
-pub none_word : {T : Type 0} (Spells : Spelling T) (Ends : Following) (k : Keyword) → ((at : Place) (us : List Lexeme) → Ends (keyword k at ∷ us)) → (tokens : List Lexeme) → NotFound Spells Ends tokens → NotFound (IsBeforeWord k Spells) Always tokens
-none_word Spells Ends k ended tokens not ts us u split h w =
-    not w.0 (keyword k w.1 ∷ us) u (split ∙ ap (λ l. l ++ us) w.2 ∙ append_assoc w.0 (keyword k w.1 ∷ []) us) (ended w.1 us) w.3
-
 -- the same tokens spell trees of another kind
 pub found_as : {T U : Type 0} (A : Spelling T) (B : Spelling U) (E : Following) (f : T → U) → ((ts : List Lexeme) (a : T) → A ts a → B ts (f a)) → ((ts : List Lexeme) (b : U) → B ts b → (a : T) × (f a ≡ b) × A ts a) → (tokens rest : List Lexeme) (a : T) → Found A E tokens a rest → Found B E tokens (f a) rest
 found_as A B E f to from tokens rest a found = record {

@@ -8,11 +8,10 @@ use Rattle.ctd_syntax.specs.Grammar.{IsCommands}
 use Rattle.ctd_syntax.specs.CommandWords.{CommandsEnd}
 use Rattle.ctd_syntax.specs.Nesting.{start, too_deep}
 use Rattle.ctd_syntax.specs.Reading.{IsCut, IsNoProgram, IsFault, Parses, Spells, lexemes}
-use Rattle.ctd_token.specs.Lexing.{IsLexFault}
 use Rattle.ctd_token.specs.declared.text.Place.{Place}
 use Rattle.ctd_token.specs.declared.token.Token.{Token}
 use Rattle.ctd_token.specs.declared.fault.LoadKind.{LoadKind}
-use Rattle.ctd_token.specs.declared.fault.LoadKind.TheVariants.{ProgramTooLong, BadByte, UnfinishedString, BadOctal, NumberTooLarge, NotInProfile, TooDeep, Syntax, BadPattern, Read, Memory}
+use Rattle.ctd_token.specs.declared.fault.LoadKind.TheVariants.{Syntax}
 use Rattle.ctd_token.proofs.UniqueTokens.{same_cut}
 use Rattle.ctd_syntax.proofs.Blocks.{blocks_within}
 
@@ -40,20 +39,6 @@ left_over program ts tree t after rest f some other w =
 -- and where no commands are read
 pub unspelled : (program : List ℕ) (ts : List Token) → NotFound IsCommands CommandsEnd (lexemes program ts) → (other : CommandList) → ¬ (Spells program ts other)
 unspelled program ts not other w = not (lexemes program ts) [] other (sym (append-nil (lexemes program ts))) refl w
-
--- a fault of a text's tokens is one of the text
-pub token_fault : (program : List ℕ) (kind : LoadKind) (place : Option Place) → IsLexFault program kind place → IsFault program kind place
-token_fault program ProgramTooLong place f = f
-token_fault program BadByte place f = f
-token_fault program UnfinishedString place f = f
-token_fault program BadOctal place f = f
-token_fault program NumberTooLarge place f = f
-token_fault program NotInProfile place f = f
-token_fault program TooDeep place f = absurd f
-token_fault program Syntax place f = absurd f
-token_fault program BadPattern place f = f
-token_fault program Read place f = f
-token_fault program Memory place f = f
 
 -- a text that spells no program has the fault Syntax, at some place
 pub no_program : (program : List ℕ) (ts : List Token) (kind : LoadKind) (place : Option Place) → IsCut program ts → too_deep start (lexemes program ts) ≡ None → ((tree : CommandList) → ¬ (Spells program ts tree)) → kind ≡ Syntax → IsSome place → IsFault program kind place

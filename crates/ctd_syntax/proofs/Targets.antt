@@ -58,13 +58,6 @@ end_none tokens r e not ts us u split h w = elim (end_as ts u w) [
       not i.2.0 us i.0 (sym tail) tt i.2.2
 ]
 
-pub no_end : (tokens : List Lexeme) → ((r : List Lexeme) → tokens ≡ mark Close ∷ r → ⊥) → ((r : List Lexeme) → tokens ≡ mark Comma ∷ r → ⊥) → NotFound IsTargetEnd Always tokens
-unfolding EndAs
-no_end tokens open_end comma ts us u split h w = elim (end_as ts u w) [
-  | inl i ↦ open_end us (split ∙ ap (λ l. l ++ us) i.0)
-  | inr i ↦ comma (i.2.0 ++ us) (split ∙ ap (λ l. l ++ us) i.2.1)
-]
-
 -- one assignment
 pub assignment_reads : (tokens rest after : List Lexeme) (v : VarTree) (e : ExprTree) → Found (IsBefore Assign IsTarget) Always tokens v rest → Found IsExpr (ends 1) rest e after → Found IsAssignment (ends 1) tokens (v, e) after
 assignment_reads tokens rest after v e f g = pair_reads (IsBefore Assign IsTarget) IsExpr Always (ends 1) (λ vs us b i h. tt) tokens rest after v e f g
