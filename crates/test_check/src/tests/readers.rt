@@ -12,7 +12,7 @@ use std::test::Fail;
 
 /// A reader that fails.
 #[derive(Drop)]
-pub struct Failing;
+pub(crate) struct Failing;
 
 impl Read for Failing {
     fn read(&mut self, _buf: &mut [u8]) -> Result<usize> {
@@ -22,7 +22,7 @@ impl Read for Failing {
 
 /// A reader that gives ones and never ends.
 #[derive(Drop)]
-pub struct Endless;
+pub(crate) struct Endless;
 
 impl Read for Endless {
     fn read(&mut self, buf: &mut [u8]) -> Result<usize> {
@@ -33,9 +33,9 @@ impl Read for Endless {
 
 /// A reader that gives at most `most` bytes at once.
 #[derive(Drop)]
-pub struct Cut<R> {
-    pub reader: R,
-    pub most: usize,
+pub(crate) struct Cut<R> {
+    pub(crate) reader: R,
+    pub(crate) most: usize,
 }
 
 impl<R: Read> Read for Cut<R> {
@@ -46,19 +46,19 @@ impl<R: Read> Read for Cut<R> {
 }
 
 /// Limits that no test reaches.
-pub const AMPLE: Limits = Limits {
+pub(crate) const AMPLE: Limits = Limits {
     steps: u64::MAX,
     bytes: 1 << 62,
 };
 
 /// The plan of a text.
-pub fn plan_of(alloc: Global, program: &str) -> std::result::Result<Plan, Fail> {
+pub(crate) fn plan_of(alloc: Global, program: &str) -> std::result::Result<Plan, Fail> {
     let plan = Plan::load(alloc, &mut FromRead::new(program.as_bytes()));
     Ok(plan.ok().ok_or("the program is refused")?)
 }
 
 /// What a check of a reader's data finds.
-pub fn check_with<R: Read + Drop>(
+pub(crate) fn check_with<R: Read + Drop>(
     alloc: Global,
     program: &str,
     data: R,
@@ -80,7 +80,7 @@ pub fn check_with<R: Read + Drop>(
 }
 
 /// How a check of some data by a plan ends; none where memory runs out.
-pub fn outcome_on(alloc: Global, plan: &Plan, data: &str) -> Option<Outcome> {
+pub(crate) fn outcome_on(alloc: Global, plan: &Plan, data: &str) -> Option<Outcome> {
     let mut source = FromRead::new(data.as_bytes());
     let presets = Presets::none(alloc);
     let checked = check(alloc, plan, &presets, &mut source, AMPLE, Mode::Exact).ok()?;
@@ -88,7 +88,7 @@ pub fn outcome_on(alloc: Global, plan: &Plan, data: &str) -> Option<Outcome> {
 }
 
 /// The spot in the first line with so many bytes before it.
-pub fn after(offset: u32) -> Spot {
+pub(crate) fn after(offset: u32) -> Spot {
     let offset = offset as u64;
     Spot {
         line: 1,
@@ -98,12 +98,12 @@ pub fn after(offset: u32) -> Spot {
 }
 
 /// The site of a command in the program's first line.
-pub fn column(column: u32) -> Site {
+pub(crate) fn column(column: u32) -> Site {
     Site::At(Place { line: 1, column })
 }
 
 /// The verdict that the data do not match.
-pub fn rejected(spot: Spot, place: Site, reason: Reason) -> Outcome {
+pub(crate) fn rejected(spot: Spot, place: Site, reason: Reason) -> Outcome {
     Outcome::Rejected {
         spot,
         place,
@@ -112,6 +112,6 @@ pub fn rejected(spot: Spot, place: Site, reason: Reason) -> Outcome {
 }
 
 /// The end without a verdict.
-pub fn stopped(spot: Spot, place: Site, fault: Fault) -> Outcome {
+pub(crate) fn stopped(spot: Spot, place: Site, fault: Fault) -> Outcome {
     Outcome::Stopped { spot, place, fault }
 }

@@ -8,23 +8,23 @@ use std::process::Abort;
 use std::test::Fail;
 
 /// A program, its data, and what a check finds: its answer as text, the steps paid and the bytes consumed.
-pub type Row<'r> = (&'r str, &'r str, &'r str, u64, u64);
+pub(crate) type Row<'r> = (&'r str, &'r str, &'r str, u64, u64);
 
 /// What holds for all rows of a table: the presets, the mode and the limits of their checks, and how the data are held.
 #[derive(Clone, Copy)]
-pub struct Terms<'t> {
-    pub presets: &'t str,
-    pub mode: Mode,
-    pub steps: u64,
-    pub bytes: u32,
+pub(crate) struct Terms<'t> {
+    pub(crate) presets: &'t str,
+    pub(crate) mode: Mode,
+    pub(crate) steps: u64,
+    pub(crate) bytes: u32,
     /// How many bytes of the data a read gives at most.
-    pub most: usize,
+    pub(crate) most: usize,
     /// Whether a read fails behind the data.
-    pub fails: bool,
+    pub(crate) fails: bool,
 }
 
 /// The terms that ask for nothing.
-pub const PLAIN: Terms<'static> = Terms {
+pub(crate) const PLAIN: Terms<'static> = Terms {
     presets: "",
     mode: Mode::Exact,
     steps: u64::MAX,
@@ -73,7 +73,12 @@ fn told(alloc: Global, outcome: Outcome) -> Result<String, Fail> {
 }
 
 /// What a check of data finds.
-pub fn checked(alloc: Global, terms: &Terms, program: &str, data: &[u8]) -> Result<Checked, Fail> {
+pub(crate) fn checked(
+    alloc: Global,
+    terms: &Terms,
+    program: &str,
+    data: &[u8],
+) -> Result<Checked, Fail> {
     let plan = plan_of(alloc, program)?;
     let presets = match Presets::read(alloc, terms.presets) {
         Ok(presets) => presets,
@@ -92,7 +97,7 @@ pub fn checked(alloc: Global, terms: &Terms, program: &str, data: &[u8]) -> Resu
 }
 
 /// What a check of one byte many times finds.
-pub fn checked_many(
+pub(crate) fn checked_many(
     alloc: Global,
     terms: &Terms,
     program: &str,
@@ -104,7 +109,12 @@ pub fn checked_many(
 }
 
 /// Each row's check finds what the row says.
-pub fn judged(rt: &impl Abort, alloc: Global, terms: &Terms, rows: &[Row]) -> Result<(), Fail> {
+pub(crate) fn judged(
+    rt: &impl Abort,
+    alloc: Global,
+    terms: &Terms,
+    rows: &[Row],
+) -> Result<(), Fail> {
     for (program, data, answer, steps, consumed) in rows {
         let found = checked(alloc, terms, program, data.as_bytes())?;
         let said = told(alloc, found.outcome)?;
@@ -119,10 +129,10 @@ pub fn judged(rt: &impl Abort, alloc: Global, terms: &Terms, rows: &[Row]) -> Re
 }
 
 /// A program, how many times a byte comes, the answer as text and the bytes consumed.
-pub type ManyRow<'r> = (&'r str, usize, &'r str, u64);
+pub(crate) type ManyRow<'r> = (&'r str, usize, &'r str, u64);
 
 /// Each row's check finds what the row says where one byte comes many times.
-pub fn judged_many(
+pub(crate) fn judged_many(
     rt: &impl Abort,
     alloc: Global,
     terms: &Terms,
@@ -142,7 +152,7 @@ pub fn judged_many(
 }
 
 /// A program accepts empty data.
-pub fn accepted(rt: &impl Abort, alloc: Global, program: &str) -> Result<(), Fail> {
+pub(crate) fn accepted(rt: &impl Abort, alloc: Global, program: &str) -> Result<(), Fail> {
     let found = checked(alloc, &PLAIN, program, b"")?;
     assert_eq!(rt; found.outcome, Outcome::Accepted, "{program}");
     Ok(())

@@ -5,7 +5,7 @@ use std::io::{Error, ErrorKind, Result, Write};
 
 /// How a writer refuses bytes.
 #[derive(Clone, Copy, PartialEq, Eq, Debug)]
-pub enum Refusal {
+pub(crate) enum Refusal {
     /// It answers an error.
     Fails,
     /// It takes no bytes.
@@ -14,16 +14,16 @@ pub enum Refusal {
 
 /// Takes at most three bytes at a time and `room` of them in all, and refuses what is more.
 #[derive(Drop)]
-pub struct Clipped {
-    pub bytes: Vec<u8>,
-    pub room: usize,
-    pub refusal: Refusal,
-    pub flush_fails: bool,
+pub(crate) struct Clipped {
+    pub(crate) bytes: Vec<u8>,
+    pub(crate) room: usize,
+    pub(crate) refusal: Refusal,
+    pub(crate) flush_fails: bool,
 }
 
 impl Clipped {
     /// A writer whose flush works.
-    pub fn new(alloc: Global, room: usize, refusal: Refusal) -> Clipped {
+    pub(crate) fn new(alloc: Global, room: usize, refusal: Refusal) -> Clipped {
         Clipped {
             bytes: Vec::new(alloc),
             room,
@@ -33,7 +33,7 @@ impl Clipped {
     }
 
     /// A writer whose flush fails.
-    pub fn never_flushed(alloc: Global, room: usize) -> Clipped {
+    pub(crate) fn never_flushed(alloc: Global, room: usize) -> Clipped {
         Clipped {
             flush_fails: true,
             ..Clipped::new(alloc, room, Refusal::Fails)

@@ -15,7 +15,7 @@ fn asked(rt: &(impl Abort + AllocGlobal), line: &[u8]) -> Result<Setup, UsageFau
 }
 
 /// The words of a line, each as bytes, behind the program's own name.
-pub fn words_of(alloc: Global, line: &[u8]) -> Result<Vec<Bytes>, AllocError> {
+pub(crate) fn words_of(alloc: Global, line: &[u8]) -> Result<Vec<Bytes>, AllocError> {
     let mut list = Vec::new(alloc);
     list.push(Bytes::copy(alloc, b"checktestdata")?)?;
     if line.is_empty() {
