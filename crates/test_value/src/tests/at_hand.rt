@@ -6,10 +6,10 @@ use ctd_value::{number_at_hand, set_expression, truth_at_hand, truth_in_front_of
 use std::alloc::Global;
 use std::test::Fail;
 
-/// What is assigned before each test: two numbers, a string, a row that rises, one that does not, one with a string in it, and a number
-/// whose name is long.
+/// What is assigned before each test: two numbers, a string, a row that rises, one that does not, one with a string in it, a number
+/// whose name is long, and two numbers at two indices.
 const FILLING: &str =
-    "SET(n=3,k=0,s=\"x\",a[0]=1,a[1]=2,b[0]=2,b[1]=2,c[0]=\"2\",c[1]=1,longnames=4)";
+    "SET(n=3,k=0,s=\"x\",a[0]=1,a[1]=2,b[0]=2,b[1]=2,c[0]=\"2\",c[1]=1,longnames=4,g[1,2]=5,g[2,1]=6)";
 
 /// The assignments of a program that begins with SET, and the test behind them.
 fn assignments_and_test(program: &Program) -> Result<(&[Assignment], &Test), Fail> {
@@ -34,12 +34,15 @@ fn truth_in(alloc: Global, test: &str) -> Result<Option<bool>, Fail> {
 }
 
 /// Tests, and the answer at hand to each.
-const TRUTHS: [(&str, Option<bool>); 24] = [
+const TRUTHS: [(&str, Option<bool>); 27] = [
     ("n==3", Some(true)),
     ("longnames!=4", Some(false)),
     ("a[n-2]>a[0]&&!(n<0)", Some(true)),
     ("a[k+1]==2", Some(true)),
     ("a[k-1]==2", None),
+    ("g[1,n-1]==5", Some(true)),
+    ("g[2,1]<g[1,2]", Some(false)),
+    ("g[1,1]==5", None),
     ("1==2||a[1]<=1", Some(false)),
     ("s==\"x\"", Some(true)),
     ("s!=\"x\"", Some(false)),
