@@ -1,6 +1,6 @@
 #!/usr/bin/env bash
-# Rebuilds every proof and test from scratch (rt ci), then runs the program that this built as a process.
-# The last line counts what passed and failed in both.
+# Rebuilds every proof and test from scratch (rt ci), then runs the program that this built as a process, at last with allocations failing.
+# The last line counts what passed and failed in all.
 set -u
 cd "$(dirname "${BASH_SOURCE[0]}")/.."
 log=$(mktemp)
@@ -25,6 +25,7 @@ count() {
 count rt ci
 if [ "$failed" -eq 0 ]; then
     count tests/process.sh
+    count tests/allocations.py
 fi
 printf '%s passed, %s failed\n' "$passed" "$failed"
 [ "$failed" -eq 0 ]

@@ -1,0 +1,116 @@
+#!/usr/bin/env python3
+"""Runs the built checker again and again, with one allocation failing after the other, and then with all from it on.
+
+Each run has to end as if none had failed, or with `out of memory` on standard error, nothing on standard output and status 2. The last line
+counts the command lines of which each run did so, as passed, and the others. usage: tests/allocations.py [PROGRAM]"""
+import os
+import subprocess
+import sys
+import tempfile
+from dataclasses import dataclass
+from pathlib import Path
+
+HERE = Path(__file__).resolve().parent
+TOP = HERE.parent
+OUT_OF_MEMORY = (2, b"", b"checktestdata: out of memory\n")
+
+# Every kind of command, of test, of value and of index: variables, rows, other arrays, long strings, loops and presets.
+PROGRAM = rb"""
+INT(1,10,n) NEWLINE
+REPI(i,n,NEWLINE)
+  INT(1,1000,a[i]) SPACE INT(0,9,b[i,i+1]) SPACE REGEX("[a-z]+",s[i]) SPACE STRING("x" ) REGEX("[a-z]*\\.",t)
+END
+NEWLINE
+ASSERT(UNIQUE(a) && UNIQUE(s) && UNIQUE(a,s) && UNIQUE(b))
+ASSERT(INARRAY(5,a) && !INARRAY("none",s))
+IF(MATCH("q") && n>2) STRING("q") ELSE STRING(s[0]) END NEWLINE
+SET(k="key",l[k,1]=n^70,l["other"]=l[k,1]-1,l[-5]=t) ASSERT(l["other"]<l[k,1] && STRLEN(l[-5])==STRLEN(t)) UNSET(l)
+WHILEI(m,!ISEOF)
+  INT(-170141183460469231731687303715884105727,170141183460469231731687303715884105727,big[n]) NEWLINE SET(n=n+1)
+END
+"""
+RIGHT = b"3\n5 4 abc xq.\n12 5 defghijklmnopqrstuvwxyzabcdefgh xlonger.\n7 6 ghi x.\nq\n123456789012345678901234567890\n-5\n"
+LONG_LINE = b"REGEX(\"([a-z]+ )*\",line) REGEX(\"[0-9]\",digit) NEWLINE"
+
+
+@dataclass(frozen=True)
+class Run:
+    """What a run left: its status and both streams; and how often it asked for memory."""
+
+    answer: tuple[int, bytes, bytes]
+    asked: int
+
+
+class Checker:
+    """The built checker, with a library preloaded that lets allocations fail."""
+
+    def __init__(self, program: Path, folder: Path) -> None:
+        self.program = program
+        self.told = folder / "told"
+        self.library = folder / "failing_allocation.so"
+        subprocess.run(["cc", "-O2", "-shared", "-fPIC", "-o", self.library, HERE / "failing_allocation.c"], check=True)
+
+    def run(self, words: list[str], first: int, goes_on: bool) -> Run:
+        """A run in which the allocation of this number fails, counted from 1, or none for 0."""
+        preloaded = {"LD_PRELOAD": str(self.library), "FAILS": str(first), "FAILS_TOLD": str(self.told)}
+        if goes_on:
+            preloaded["FAILS_ON"] = "1"
+        ended = subprocess.run(
+            [self.program, *words], stdin=subprocess.DEVNULL, capture_output=True, env={**os.environ, **preloaded}, check=False
+        )
+        return Run((ended.returncode, ended.stdout, ended.stderr), int(self.told.read_text()))
+
+    def faults(self, words: list[str]) -> list[str]:
+        """What the runs of these words did that they should not."""
+        wanted = self.run(words, 0, False)
+        faults = [] if wanted.asked > 1 else [f"asked for memory {wanted.asked} times"]
+        for goes_on in (False, True):
+            for first in range(1, wanted.asked + 1):
+                answer = self.run(words, first, goes_on).answer
+                if answer not in (wanted.answer, OUT_OF_MEMORY):
+                    faults.append(f"allocation {first}{' and all after it' if goes_on else ''}: {answer}")
+        return faults
+
+
+def command_lines(folder: Path) -> dict[str, list[str]]:
+    """Command lines by what they do."""
+    files = {"p.ctd": PROGRAM, "right.in": RIGHT, "wrong.in": RIGHT.replace(b"-5", b"-05"), "open.ctd": b"INT(1,10", "bad.ctd": b'REGEX("(")'}
+    files |= {"long.ctd": LONG_LINE, "long.in": b"word " * 10_000 + b"7\n"}
+    for name, content in files.items():
+        (folder / name).write_bytes(content)
+    paths = {name: str(folder / name) for name in files}
+    return {
+        "data that fit": [paths["p.ctd"], paths["right.in"]],
+        "data that do not fit": [paths["p.ctd"], paths["wrong.in"]],
+        "data that fit but for blanks": ["-w", paths["p.ctd"], paths["right.in"]],
+        "presets, quietly": ["-q", "-D", 'n=3,k="another",u=-7', paths["p.ctd"], paths["right.in"]],
+        "a match of many windows": [paths["long.ctd"], paths["long.in"]],
+        "a program that breaks off": [paths["open.ctd"], paths["right.in"]],
+        "a bad pattern": [paths["bad.ctd"], paths["right.in"]],
+        "a program that is not there": [str(folder / "none.ctd"), paths["right.in"]],
+        "data that are not there": [paths["p.ctd"], str(folder / "none.in")],
+        "a bad preset": ["-D", "n", paths["p.ctd"], paths["right.in"]],
+        "help": ["--help"],
+        "an option that is not known": ["--lines"],
+    }
+
+
+def main() -> int:
+    built = TOP / "crates/checktestdata/out/checktestdata"
+    program = Path(sys.argv[1]).resolve() if len(sys.argv) > 1 else built
+    failed = 0
+    with tempfile.TemporaryDirectory() as name:
+        folder = Path(name)
+        checker = Checker(program, folder)
+        lines = command_lines(folder)
+        for what, words in lines.items():
+            faults = checker.faults(words)
+            failed += bool(faults)
+            for fault in faults:
+                print(f"allocations: {what}: {fault}")
+    print(f"{len(lines) - failed} passed, {failed} failed")
+    return 1 if failed else 0
+
+
+if __name__ == "__main__":
+    sys.exit(main())
