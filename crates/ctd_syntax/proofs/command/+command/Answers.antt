@@ -111,7 +111,7 @@ pub commands-loop-word-preserved : goal.commands-loop-word-preserved
 commands-loop-word-preserved t c = record { part = rw (ap command_trees c.in_ok-push.ensures.items ∙ trees_then c.loop-word.items.items c.in_ok-next.next) (commands_next (map lexeme c.args.tokens.now) (map lexeme c.loop-word.rest.now) (map lexeme c.in_ok-next.after.now) _ _ c.loop-word.invariant.part (begins_at (map lexeme c.loop-word.rest.now) (map lexeme c.in-Some.after.now) c.in-Some.word c.in-Some.place c.in-Some.ensures.found c.in-Some.ensures.word) (command_reads (map lexeme c.loop-word.rest.now) (map lexeme c.in-Some.after.now) c.in-Some.word c.in-Some.place c.in-Some.ensures.found _ _ c.in_ok-next.ensures.tree)); shorter = omega (arith, c.loop-word.invariant.shorter, c.in-Some.ensures.shorter, c.in_ok-next.ensures.shorter) }
 
 pub commands-returns-clause-tree : goal.commands-returns-clause-tree
-commands-returns-clause-tree t c = rw (list_commands c.from_vec.result ∙ ap command_trees c.from_vec.ensures) (commands_end (map lexeme c.args.tokens.now) (map lexeme c.loop-word.rest.now) _ c.loop-word.invariant.part c.in_default.ensures.none)
+commands-returns-clause-tree t c = rw (list_commands c.from_vec.result ∙ ap command_trees (c.from_vec.ensures ∙ c.shrink_to_fit.ensures.items)) (commands_end (map lexeme c.args.tokens.now) (map lexeme c.loop-word.rest.now) _ c.loop-word.invariant.part c.in_default.ensures.none)
 
 pub loop_end-returns-in_err-body-clause-tree : goal.loop_end-returns-in_err-body-clause-tree
 loop_end-returns-in_err-body-clause-tree t c = refused_exit IsBlock IsLoopEnd Always Always _ (map lexeme c.in-Some.rest.now) (map lexeme c.args.tokens.now) _ c.from_residual.result c.from_residual.ensures.1 (loop_end_no_block (map lexeme c.args.tokens.now) (map lexeme c.in-Some.rest.now) c.in-Some.ensures.found) c.in_err-body.ensures.tree
