@@ -18,7 +18,7 @@ OUT_OF_MEMORY = (2, b"", b"checktestdata: out of memory\n")
 PROGRAM = rb"""
 INT(1,10,n) NEWLINE
 REPI(i,n,NEWLINE)
-  INT(1,1000,a[i]) SPACE INT(0,9,b[i,i+1]) SPACE REGEX("[a-z]+",s[i]) SPACE STRING("x" ) REGEX("[a-z]*\\.",t)
+  INT(1,1000,a[i]) SPACE INT(0,9,b[i,i+1]) SPACE REGEX("[a-z]+",s[i]) SPACE STRING("x") REGEX("[a-z]*\\.",t)
 END
 NEWLINE
 ASSERT(UNIQUE(a) && UNIQUE(s) && UNIQUE(a,s) && UNIQUE(b))
@@ -30,7 +30,7 @@ WHILEI(m,!ISEOF)
 END
 """
 RIGHT = b"3\n5 4 abc xq.\n12 5 defghijklmnopqrstuvwxyzabcdefgh xlonger.\n7 6 ghi x.\nq\n123456789012345678901234567890\n-5\n"
-LONG_LINE = b"REGEX(\"([a-z]+ )*\",line) REGEX(\"[0-9]\",digit) NEWLINE"
+LONG_LINE = b'REGEX("([a-z]+ )*",line) REGEX("[0-9]",digit) NEWLINE'
 
 
 @dataclass(frozen=True)
@@ -55,27 +55,38 @@ class Checker:
         preloaded = {"LD_PRELOAD": str(self.library), "FAILS": str(first), "FAILS_TOLD": str(self.told)}
         if goes_on:
             preloaded["FAILS_ON"] = "1"
+        self.told.unlink(missing_ok=True)
         ended = subprocess.run(
             [self.program, *words], stdin=subprocess.DEVNULL, capture_output=True, env={**os.environ, **preloaded}, check=False
         )
-        return Run((ended.returncode, ended.stdout, ended.stderr), int(self.told.read_text()))
+        asked = int(self.told.read_text()) if self.told.exists() else 0
+        return Run((ended.returncode, ended.stdout, ended.stderr), asked)
 
     def faults(self, words: list[str]) -> list[str]:
         """What the runs of these words did that they should not."""
         wanted = self.run(words, 0, False)
-        faults = [] if wanted.asked > 1 else [f"asked for memory {wanted.asked} times"]
+        faults = []
+        ran_out = 0
         for goes_on in (False, True):
             for first in range(1, wanted.asked + 1):
                 answer = self.run(words, first, goes_on).answer
+                ran_out += answer == OUT_OF_MEMORY
                 if answer not in (wanted.answer, OUT_OF_MEMORY):
                     faults.append(f"allocation {first}{' and all after it' if goes_on else ''}: {answer}")
-        return faults
+        return faults if ran_out else [*faults, f"never out of memory, though asked for {wanted.asked} times"]
 
 
 def command_lines(folder: Path) -> dict[str, list[str]]:
     """Command lines by what they do."""
-    files = {"p.ctd": PROGRAM, "right.in": RIGHT, "wrong.in": RIGHT.replace(b"-5", b"-05"), "open.ctd": b"INT(1,10", "bad.ctd": b'REGEX("(")'}
-    files |= {"long.ctd": LONG_LINE, "long.in": b"word " * 10_000 + b"7\n"}
+    files = {
+        "p.ctd": PROGRAM,
+        "right.in": RIGHT,
+        "wrong.in": RIGHT.replace(b"-5", b"-05"),
+        "long.ctd": LONG_LINE,
+        "long.in": b"word " * 10_000 + b"7\n",
+        "open.ctd": b"INT(1,10",
+        "bad.ctd": b'REGEX("(")',
+    }
     for name, content in files.items():
         (folder / name).write_bytes(content)
     paths = {name: str(folder / name) for name in files}
