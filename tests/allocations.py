@@ -14,7 +14,7 @@ HERE = Path(__file__).resolve().parent
 TOP = HERE.parent
 OUT_OF_MEMORY = (2, b"", b"checktestdata: out of memory\n")
 
-# Every kind of command, of test, of value and of index: variables, rows, other arrays, long strings, loops and presets.
+# What asks for memory: variables of every shape, matches that are kept, large numbers, tests over arrays, and loops.
 PROGRAM = rb"""
 INT(1,10,n) NEWLINE
 REPI(i,n,NEWLINE)
@@ -82,6 +82,7 @@ def command_lines(folder: Path) -> dict[str, list[str]]:
         "p.ctd": PROGRAM,
         "right.in": RIGHT,
         "wrong.in": RIGHT.replace(b"-5", b"-05"),
+        "blanks.in": RIGHT.replace(b"5 4", b" 5 \t 4"),
         "long.ctd": LONG_LINE,
         "long.in": b"word " * 10_000 + b"7\n",
         "open.ctd": b"INT(1,10",
@@ -93,9 +94,9 @@ def command_lines(folder: Path) -> dict[str, list[str]]:
     return {
         "data that fit": [paths["p.ctd"], paths["right.in"]],
         "data that do not fit": [paths["p.ctd"], paths["wrong.in"]],
-        "data that fit but for blanks": ["-w", paths["p.ctd"], paths["right.in"]],
+        "data that fit but for blanks": ["-w", paths["p.ctd"], paths["blanks.in"]],
         "presets, quietly": ["-q", "-D", 'n=3,k="another",u=-7', paths["p.ctd"], paths["right.in"]],
-        "a match of many windows": [paths["long.ctd"], paths["long.in"]],
+        "a long match that is kept": [paths["long.ctd"], paths["long.in"]],
         "a program that breaks off": [paths["open.ctd"], paths["right.in"]],
         "a bad pattern": [paths["bad.ctd"], paths["right.in"]],
         "a program that is not there": [str(folder / "none.ctd"), paths["right.in"]],
