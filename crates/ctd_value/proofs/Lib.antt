@@ -17,3 +17,4 @@ pub mod ListTraversal
 pub mod StoreLaws
 pub mod Telling
 mod Texts
+pub mod Gridded

@@ -29,6 +29,10 @@ Array = List (List Value × Value)
 abbrev pub slot : ℕ → List Value
 slot n = values.Int (pos n) ∷ []
 
+-- the index list that is two numbers
+abbrev pub cell : ℕ → ℕ → List Value
+cell m n = values.Int (pos m) ∷ values.Int (pos n) ∷ []
+
 -- an array, with values at the numbers from n on laid over it
 abbrev pub laid : ℕ → List Value → Array → Array
 laid n [] array = array

@@ -80,7 +80,7 @@ fn set_indexed_number(alloc: Global, v: &Var, n: i128, store: &mut Store) -> Res
     ensures no_count { result ≢ Err EvalFault.Count }
     ensures no_shape { result ≢ Err EvalFault.Shape }
 {
-    if set_in_row(v, n, store) {
+    if set_in_row(v, n, store) || set_in_grid(v, n, store) {
         return Ok(());
     }
     set_number_anywhere(alloc, v, n, store)
@@ -144,6 +144,23 @@ fn set_in_row(v: &Var, n: i128, store: &mut Store) -> bool
         [index] => match small(index, store) {
             Some(number) if number >= 0 => {
                 store.assign_in_row(&v.name, number as usize, Value::Int(n))
+            }
+            _ => false,
+        },
+        _ => false,
+    }
+}
+
+/// The same of two indices and a grid.
+#[inline(always)]
+fn set_in_grid(v: &Var, n: i128, store: &mut Store) -> bool
+    ensures done { result ≡ true → with_variable (var_tree v.now) (values.Int n) store.old ≡ Ok store.new }
+    ensures stays { result ≡ false → store.new ≡ store.old }
+{
+    match v.indices.as_slice() {
+        [row, column] => match (small(row, store), small(column, store)) {
+            (Some(row), Some(column)) if row >= 0 && column >= 0 => {
+                store.assign_in_grid(&v.name, row as usize, column as usize, Value::Int(n))
             }
             _ => false,
         },

@@ -1,55 +1,44 @@
-//! Index lists with their values: a row of values for the numbers from 0 or 1 on, and an ordered map for all others.
+//! Index lists with their values: a grid where the indices are two numbers, and else a row and a map.
 
-ghost use Rattle.std.specs.Prelude.{◌≡◌, ◌≢◌, ℕ, suc, pos, ◌+◌, ◌<◌, ◌≤◌, length, take, drop, [], ◌∷◌, ◌++◌, map, not, ◌&&◌, true, false, Some, IfOk, OnOk, OnErr, vec_len, vec_capacity};
+ghost use Rattle.std.specs.Prelude.{◌≡◌, ◌++◌, [], map, true, false, Some, None, Ok, IfOk, OnOk, OnErr};
 ghost use Rattle.std.specs.List.{IsDistinct, list_any};
-ghost use Rattle.std.specs.Option.{option_copied, unwrap_or, IfSome, IfNone};
+ghost use Rattle.std.specs.Option.{option_copied, unwrap_or, IfSome};
 ghost use Rattle.std.specs.FinMap.{find, put};
 ghost use Rattle.ctd_value.specs.Lending.{value_lent};
 ghost use Rattle.ctd_value.specs.Order.{values_cmp, same_value, same_values};
-ghost use Rattle.ctd_value.specs.Showing.{entry, indices_of, not_among};
-ghost use Rattle.ctd_value.specs.Store.{has_indices, index_lists, laid, slot, order_of_slot};
+ghost use Rattle.ctd_value.specs.Showing.{entry, not_among};
+ghost use Rattle.ctd_value.specs.Store.{cell, index_lists, laid, slot};
 
+use crate::grid::Grid;
 use crate::lent::Lent;
-use crate::store::{EntryRef, Indices};
+use crate::row_and_map::{Row, RowAndMap};
+use crate::store::EntryRef;
 use crate::value::Value;
-use crate::variables::{Array, has_indices, with_entry};
+use crate::variables::Array;
 use std::alloc::{AllocError, Global};
-use std::cmp::Ordering;
-use std::collections::BTreeMap;
 use std::marker::Model;
 use std::mem::replace;
 
-/// How many values the room is for that a row may keep while it has none.
-const ROOM_KEPT: usize = 64;
+/// The two forms. An array becomes a grid by its first value, and ceases to be one by the first that has no place in it.
+#[derive(Drop)]
+enum Form {
+    Plain(RowAndMap),
+    Grid(Grid),
+}
 
 /// Index lists with their values, each index list once, which contracts see as the list of them in order.
 #[derive(Drop)]
 pub(crate) struct Indexed {
-    // The number of the first value of the row.
-    base: usize,
-    // The values of the numbers from there on; what stands here hides what `rest` has there.
-    dense: Vec<Value>,
-    rest: BTreeMap<Vec<Value>, Value>,
-}
-
-/// Values at the numbers from a base on.
-#[derive(Clone, Copy)]
-pub(crate) struct Row<'s> {
-    pub(crate) base: usize,
-    pub(crate) values: &'s [Value],
+    form: Form,
 }
 
 impl Model for Indexed {
-    ghost use Rattle.std.specs.Prelude.{T, map};
-    ghost use Rattle.std.specs.FinMap.{is_sorted};
-    ghost use Rattle.ctd_value.specs.Order.{values_cmp};
-    ghost use Rattle.ctd_value.specs.Store.{Array, laid};
+    ghost use Rattle.ctd_value.specs.Showing.{formed};
+    ghost use Rattle.ctd_value.specs.Store.{Array};
 
     ghost Value = { Array };
 
-    ghost view = { λ a. laid a.base a.dense.items (map (λ e. (e.0.items, e.1)) a.rest.entries) };
-
-    ghost invariant = { λ a. T (is_sorted values_cmp (map (λ e. (e.0.items, e.1)) a.rest.entries)) };
+    ghost view = { λ a. formed a.form };
 }
 
 impl Indexed {
@@ -58,9 +47,7 @@ impl Indexed {
         ensures empty { result ≡ [] }
     {
         Indexed {
-            base: 0,
-            dense: Vec::new(alloc),
-            rest: BTreeMap::new(alloc),
+            form: Form::Plain(RowAndMap::new(alloc)),
         }
     }
 
@@ -68,9 +55,9 @@ impl Indexed {
     pub(crate) fn get(&self, indices: &[Value]) -> Option<&Value>
         ensures value { option_copied result ≡ find values_cmp indices.now self.now }
     {
-        match slot_below(self.base, self.dense.len(), indices) {
-            Some(at) => Some(&self.dense[at]),
-            None => self.rest.get(indices),
+        match &self.form {
+            Form::Plain(plain) => plain.get(indices),
+            Form::Grid(grid) => grid.get(indices),
         }
     }
 
@@ -79,14 +66,20 @@ impl Indexed {
     pub(crate) fn in_row(&self, number: usize) -> Option<&Value>
         ensures value { IfSome result (λ x. find values_cmp (slot number) self.now ≡ Some x.now) }
     {
-        if number < self.base {
-            return None;
+        match &self.form {
+            Form::Plain(plain) => plain.in_row(number),
+            Form::Grid(_) => None,
         }
-        let at = number - self.base;
-        if at < self.dense.len() {
-            Some(&self.dense[at])
-        } else {
-            None
+    }
+
+    /// The value at two numbers, where it stands in the grid; none says nothing.
+    #[inline(always)]
+    pub(crate) fn in_grid(&self, row: usize, column: usize) -> Option<&Value>
+        ensures value { IfSome result (λ x. find values_cmp (cell row column) self.now ≡ Some x.now) }
+    {
+        match &self.form {
+            Form::Plain(_) => None,
+            Form::Grid(grid) => grid.at(row, column),
         }
     }
 
@@ -95,13 +88,9 @@ impl Indexed {
     pub(crate) fn row(&self) -> Option<Row<'_>>
         ensures value { IfSome result (λ row. self.now ≡ laid row.base row.values.now []) }
     {
-        if self.rest.is_empty() {
-            Some(Row {
-                base: self.base,
-                values: &self.dense,
-            })
-        } else {
-            None
+        match &self.form {
+            Form::Plain(plain) => plain.row(),
+            Form::Grid(_) => None,
         }
     }
 
@@ -110,14 +99,58 @@ impl Indexed {
         ensures ok { OnOk result (self.new ≡ put values_cmp indices.items value self.old) }
         ensures err { OnErr result (self.new ≡ self.old) }
     {
-        self.base = base_for(self.base, self.dense.len(), &indices);
-        match slot_below(self.base, self.dense.len() + 1, &indices) {
-            Some(at) => {
-                drop(indices);
-                write(&mut self.dense, at, value)
+        let alloc = *indices.allocator();
+        let Some((row, column)) = cell_of(&indices) else {
+            return self.insert_elsewhere(alloc, indices, value);
+        };
+        match self.insert_at_cell(alloc, row, column, value)? {
+            None => Ok(()),
+            Some(value) => self.insert_elsewhere(alloc, indices, value),
+        }
+    }
+
+    /// Gives two numbers a value, where the values are a grid with a place for it, or there is none yet. Else the value is given
+    /// back, and all is as it was; so it is after an error.
+    fn insert_at_cell(
+        &mut self,
+        alloc: Global,
+        row: usize,
+        column: usize,
+        value: Value,
+    ) -> Result<Option<Value>, AllocError>
+        ensures done { result ≡ Ok None → self.new ≡ put values_cmp (cell row column) value self.old }
+        ensures given_back { IfOk result (λ back. IfSome back (λ v. (v ≡ value) × (self.new ≡ self.old))) }
+        ensures err { OnErr result (self.new ≡ self.old) }
+    {
+        match &mut self.form {
+            Form::Grid(grid) => grid.insert(alloc, row, column, value),
+            Form::Plain(plain) => {
+                if !plain.is_empty() {
+                    return Ok(Some(value));
+                }
+                let grid = Grid::of_one(alloc, row, column, value)?;
+                drop(replace(&mut self.form, Form::Grid(grid)));
+                Ok(None)
             }
-            None => {
-                self.rest.insert(indices, value)?;
+        }
+    }
+
+    /// Gives an index list a value in the row or the map, into which a grid is spread for it; after an error all is as it was.
+    fn insert_elsewhere(
+        &mut self,
+        alloc: Global,
+        indices: Vec<Value>,
+        value: Value,
+    ) -> Result<(), AllocError>
+        ensures ok { OnOk result (self.new ≡ put values_cmp indices.items value self.old) }
+        ensures err { OnErr result (self.new ≡ self.old) }
+    {
+        match &mut self.form {
+            Form::Plain(plain) => plain.insert(indices, value),
+            Form::Grid(grid) => {
+                let mut plain = grid.spread(alloc)?;
+                plain.insert(indices, value)?;
+                drop(replace(&mut self.form, Form::Plain(plain)));
                 Ok(())
             }
         }
@@ -130,222 +163,69 @@ impl Indexed {
         ensures done { result ≡ true → self.new ≡ put values_cmp (slot number) value self.old }
         ensures stays { result ≡ false → self.new ≡ self.old }
     {
-        if number < self.base {
-            return false;
+        match &mut self.form {
+            Form::Plain(plain) => plain.insert_in_row(number, value),
+            Form::Grid(_) => false,
         }
-        let at = number - self.base;
-        write_in_room(&mut self.dense, at, value)
+    }
+
+    /// Gives the index list of two numbers a value, where it has a place in the grid that takes no memory, and tells whether it
+    /// did; else all is as it was, and nothing is said.
+    #[inline(always)]
+    pub(crate) fn insert_in_grid(&mut self, row: usize, column: usize, value: Value) -> bool
+        ensures done { result ≡ true → self.new ≡ put values_cmp (cell row column) value self.old }
+        ensures stays { result ≡ false → self.new ≡ self.old }
+    {
+        match &mut self.form {
+            Form::Plain(_) => false,
+            Form::Grid(grid) => grid.insert_in_room(row, column, value),
+        }
     }
 
     /// Removes all values; a short row keeps its room for the next ones.
     pub(crate) fn clear(&mut self)
         ensures empty { self.new ≡ [] }
     {
-        clear_row(&mut self.dense);
-        self.rest.clear();
+        match &mut self.form {
+            Form::Plain(plain) => plain.clear(),
+            Form::Grid(grid) => grid.clear(),
+        }
     }
 
     /// Adds the entries to others, but for those at whose index lists the hidden array, if there is one, has a value.
     pub(crate) fn add_entries<'s>(
         &'s self,
         hidden: Option<&Array>,
-        mut entries: Vec<EntryRef<'s>>,
+        entries: Vec<EntryRef<'s>>,
     ) -> Result<Vec<EntryRef<'s>>, AllocError>
         ensures added { IfOk result (λ list. map entry list.items ≡ map entry entries.entry.items ++ not_among (unwrap_or (option_copied hidden.entry) []) self.now) }
         ensures once { IfOk result (λ _. IsDistinct same_values (index_lists self.now)) }
     {
-        let mut next = 0;
-        for (indices, value) in &self.rest {
-            let indices = indices.as_slice();
-            while order_of_slot(self.base, next, self.dense.len(), indices).is_lt() {
-                entries = with_entry(
-                    hidden,
-                    slot_indices(self.base, next),
-                    &self.dense[next],
-                    entries,
-                )?;
-                next += 1;
-            }
-            if order_of_slot(self.base, next, self.dense.len(), indices).is_eq() {
-                entries = with_entry(hidden, Indices::Listed(indices), &self.dense[next], entries)?;
-                next += 1;
-            } else {
-                entries = with_entry(hidden, Indices::Listed(indices), value, entries)?;
-            }
+        match &self.form {
+            Form::Plain(plain) => plain.add_entries(hidden, entries),
+            Form::Grid(grid) => grid.add_entries(hidden, entries),
         }
-        while next < self.dense.len() {
-            entries = with_entry(
-                hidden,
-                slot_indices(self.base, next),
-                &self.dense[next],
-                entries,
-            )?;
-            next += 1;
-        }
-        Ok(entries)
     }
 
     /// Whether a value is among those at whose index lists the hidden array, if there is one, has none. Allocates nothing.
     pub(crate) fn has_value(&self, hidden: Option<&Array>, value: Lent<'_>) -> bool
         ensures value { result ≡ list_any (λ e. same_value (value_lent value.entry) e.1) (not_among (unwrap_or (option_copied hidden.entry) []) self.now) }
     {
-        let mut next = 0;
-        for (indices, stored) in &self.rest {
-            let indices = indices.as_slice();
-            while order_of_slot(self.base, next, self.dense.len(), indices).is_lt() {
-                if shows_at(hidden, self.base, next, &self.dense[next], value) {
-                    return true;
-                }
-                next += 1;
-            }
-            if order_of_slot(self.base, next, self.dense.len(), indices).is_eq() {
-                if shows(hidden, indices, &self.dense[next], value) {
-                    return true;
-                }
-                next += 1;
-            } else if shows(hidden, indices, stored, value) {
-                return true;
-            }
+        match &self.form {
+            Form::Plain(plain) => plain.has_value(hidden, value),
+            Form::Grid(grid) => grid.has_value(hidden, value),
         }
-        while next < self.dense.len() {
-            if shows_at(hidden, self.base, next, &self.dense[next], value) {
-                return true;
-            }
-            next += 1;
-        }
-        false
     }
 }
 
-/// Whether a value is the one at a place from a base on, and the hidden array, if there is one, has none there.
-#[inline(always)]
-fn shows_at(hidden: Option<&Array>, base: usize, at: usize, stored: &Value, value: Lent<'_>) -> bool
-    ensures value { result ≡ (same_value (value_lent value.entry) stored.now && not (has_indices (unwrap_or (option_copied hidden.entry) []) (slot (base + at)))) }
-{
-    value.order(Lent::of(stored)).is_eq() && !has_indices(hidden, slot_indices(base, at).as_slice())
-}
-
-/// Whether a value is the one at an index list, and the hidden array, if there is one, has none there.
-pub(crate) fn shows(
-    hidden: Option<&Array>,
-    indices: &[Value],
-    stored: &Value,
-    value: Lent<'_>,
-) -> bool
-    ensures value { result ≡ (same_value (value_lent value.entry) stored.now && not (has_indices (unwrap_or (option_copied hidden.entry) []) indices.now)) }
-{
-    value.order(Lent::of(stored)).is_eq() && !has_indices(hidden, indices)
-}
-
-/// Gives a slot of a list a value, where one past its end is a slot too; after an error all is as it was.
-#[inline(always)]
-fn write(values: &mut Vec<Value>, at: usize, value: Value) -> Result<(), AllocError>
-    requires { at ≤ length values.old.items }
-    ensures ok { OnOk result (values.new.items ≡ take at values.old.items ++ value ∷ drop (suc at) values.old.items) }
-    ensures err { OnErr result (values.new.items ≡ values.old.items) }
-{
-    if at < values.len() {
-        drop(replace(&mut values[at], value));
-    } else {
-        if values.len() >= values.capacity() {
-            grow(values)?;
-        }
-        values.push_reserved(value);
-    }
-    Ok(())
-}
-
-/// The same, where there is room for it, and tells whether it did; else all is as it was.
-#[inline(always)]
-fn write_in_room(values: &mut Vec<Value>, at: usize, value: Value) -> bool
-    ensures within { result ≡ true → at ≤ length values.old.items }
-    ensures done { result ≡ true → values.new.items ≡ take at values.old.items ++ value ∷ drop (suc at) values.old.items }
-    ensures stays { result ≡ false → values.new.items ≡ values.old.items }
-{
-    if at < values.len() {
-        drop(replace(&mut values[at], value));
-        return true;
-    }
-    if at > values.len() || at >= values.capacity() {
-        return false;
-    }
-    values.push_reserved(value);
-    true
-}
-
-/// Makes room for one more value; the values stay. A function of its own, so that a list with room pays nothing for it.
-#[inline(never)]
-fn grow(values: &mut Vec<Value>) -> Result<(), AllocError>
-    ensures items { values.new.items ≡ values.old.items }
-    ensures room { OnOk result (vec_len values.new < vec_capacity values.new) }
-{
-    values.reserve(1)
-}
-
-/// Removes all values of a row; if it has much room, also that.
-fn clear_row(values: &mut Vec<Value>)
-    ensures empty { values.new.items ≡ [] }
-{
-    if values.capacity() <= ROOM_KEPT {
-        values.clear();
-    } else {
-        let empty = Vec::new(*values.allocator());
-        drop(replace(values, empty));
-    }
-}
-
-/// Where a row begins once an index list gets a value. A row with no values begins at 1 if that is the index list, and
-/// else at 0.
-fn base_for(base: usize, count: usize, indices: &[Value]) -> usize
-    ensures kept { 0 < count → result ≡ base }
-    ensures from_one { count ≡ 0 → indices.now ≡ slot 1 → result ≡ 1 }
-    ensures from_zero { count ≡ 0 → indices.now ≢ slot 1 → result ≡ 0 }
-{
-    if count > 0 {
-        return base;
-    }
-    match indices {
-        [Value::Int(1)] => 1,
-        _ => 0,
-    }
-}
-
-/// Where an index list stands from a base on, where it is a number below a bound there.
-fn slot_below(base: usize, bound: usize, indices: &[Value]) -> Option<usize>
-    ensures found { IfSome result (λ n. (n < bound) × (indices.now ≡ slot (base + n))) }
-    ensures none { IfNone result ((n : ℕ) → n < bound → indices.now ≢ slot (base + n)) }
+/// The two numbers that an index list is, where both are not below 0 and have 64 bits; none says nothing.
+fn cell_of(indices: &[Value]) -> Option<(usize, usize)>
+    ensures value { IfSome result (λ p. indices.now ≡ cell p.0 p.1) }
 {
     match indices {
-        [Value::Int(n)] => place_below(base, bound, *n),
+        [Value::Int(row), Value::Int(column)] => {
+            Some((usize::try_from(*row).ok()?, usize::try_from(*column).ok()?))
+        }
         _ => None,
-    }
-}
-
-/// Where a number stands from a base on, where it is below a bound there.
-fn place_below(base: usize, bound: usize, number: i128) -> Option<usize>
-    ensures found { IfSome result (λ n. (n < bound) × (number ≡ pos (base + n))) }
-    ensures none { IfNone result ((n : ℕ) → n < bound → number ≢ pos (base + n)) }
-{
-    match usize::try_from(number.checked_sub(base as i128)?) {
-        Ok(at) if at < bound => Some(at),
-        _ => None,
-    }
-}
-
-/// The index list at a place from a base on.
-fn slot_indices<'s>(base: usize, at: usize) -> Indices<'s>
-    ensures value { indices_of result ≡ slot (base + at) }
-{
-    Indices::One([Value::Int(base as i128 + at as i128)])
-}
-
-/// How the index list at a place from a base on stands to an index list; past the last place it is after each.
-fn order_of_slot(base: usize, at: usize, count: usize, indices: &[Value]) -> Ordering
-    ensures value { result ≡ order_of_slot base at count indices.now }
-{
-    if at < count {
-        slot_indices(base, at).as_slice().cmp(indices)
-    } else {
-        Ordering::Greater
     }
 }

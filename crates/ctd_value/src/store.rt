@@ -6,12 +6,12 @@ ghost use Rattle.std.specs.Option.{option_copied};
 ghost use Rattle.std.specs.FinMap.{find};
 ghost use Rattle.ctd_value.specs.Lending.{value_lent};
 ghost use Rattle.ctd_value.specs.Order.{values_cmp, same_value};
-ghost use Rattle.ctd_value.specs.Store.{initial, slot, is_pinned, value_at, assign, unset, values_of, value_of, has_indices, laid};
+ghost use Rattle.ctd_value.specs.Store.{cell, initial, slot, is_pinned, value_at, assign, unset, values_of, value_of, has_indices, laid};
 ghost use Rattle.ctd_value.specs.Showing.{entry, indices_of};
 ghost use Rattle.ctd_value.specs.declared.value.Value.TheVariants as values;
 
-use crate::indexed::Row;
 use crate::lent::Lent;
+use crate::row_and_map::Row;
 use crate::value::{Key, Value};
 use crate::variables::{Variables, has_value};
 use ctd_token::{Bytes, Name};
@@ -34,10 +34,11 @@ impl Model for Store {
     ghost view = { λ s. record { pins = s.pins; assigned = s.assigned } };
 }
 
-/// The indices of an entry: a number that is stored nowhere, or a list where it stands.
+/// The indices of an entry: one or two numbers that are stored nowhere, or a list where it stands.
 #[derive(Drop)]
 pub enum Indices<'s> {
     One([Value; 1]),
+    Two([Value; 2]),
     Listed(&'s [Value]),
 }
 
@@ -48,6 +49,7 @@ impl Indices<'_> {
     {
         match self {
             Indices::One(index) => index.as_slice(),
+            Indices::Two(indices) => indices.as_slice(),
             Indices::Listed(indices) => indices,
         }
     }
@@ -133,6 +135,18 @@ impl Store {
         }
     }
 
+    /// The value of a name at two numbers, where nothing is pinned and no search is needed; none says nothing.
+    #[inline(always)]
+    pub(crate) fn in_grid(&self, name: &Name, row: usize, column: usize) -> Option<&Value>
+        ensures value { IfSome result (λ x. value_at self.now (record { name = name.now; indices = cell row column }) ≡ Some x.now) }
+    {
+        if self.pins.is_empty() {
+            self.assigned.in_grid(name, row, column)
+        } else {
+            None
+        }
+    }
+
     /// The values of a name, where nothing is pinned and they are a row alone; none says nothing.
     #[inline(always)]
     pub(crate) fn row(&self, name: &Name) -> Option<Row<'_>>
@@ -211,6 +225,22 @@ impl Store {
         ensures stays { result ≡ false → self.new ≡ self.old }
     {
         self.pins.is_empty() && self.assigned.insert_in_row(name, number, value)
+    }
+
+    /// Gives a name a value at two numbers, where nothing is pinned and that takes neither a search nor memory, and tells whether
+    /// it did; else all is as it was, and nothing is said.
+    #[inline(always)]
+    pub(crate) fn assign_in_grid(
+        &mut self,
+        name: &Name,
+        row: usize,
+        column: usize,
+        value: Value,
+    ) -> bool
+        ensures done { result ≡ true → self.new ≡ assign self.old (record { name = name.now; indices = cell row column }) value }
+        ensures stays { result ≡ false → self.new ≡ self.old }
+    {
+        self.pins.is_empty() && self.assigned.insert_in_grid(name, row, column, value)
     }
 
     /// Puts a value in place of one of its kind that a name has without indices, where nothing is pinned and that takes neither a

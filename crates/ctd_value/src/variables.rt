@@ -7,12 +7,13 @@ ghost use Rattle.std.specs.FinMap.{find, put};
 ghost use Rattle.ctd_value.specs.Lending.{value_lent};
 ghost use Rattle.ctd_value.specs.Order.{bytes_cmp, values_cmp, same_bytes, same_value, same_values};
 ghost use Rattle.ctd_value.specs.Showing.{arrays_seen, entry, indices_of, not_among};
-ghost use Rattle.ctd_value.specs.Store.{array_of, name_at, slot, with_value, has_indices, index_lists, laid};
+ghost use Rattle.ctd_value.specs.Store.{array_of, cell, name_at, slot, with_value, has_indices, index_lists, laid};
 ghost use Rattle.ctd_value.specs.declared.value.Value.TheVariants as values;
 
-use crate::indexed::{Indexed, Row, shows};
+use crate::indexed::Indexed;
 use crate::lent::Lent;
 use crate::positions::Positions;
+use crate::row_and_map::{Row, shows};
 use crate::store::{EntryRef, Indices};
 use crate::value::Value;
 use ctd_token::Name;
@@ -112,6 +113,16 @@ impl Variables {
         self.list[at].array.in_row(number)
     }
 
+    /// The value of a name at two numbers, where the hint of the name leads to its array and the numbers to a place in its grid;
+    /// none says nothing.
+    #[inline(always)]
+    pub(crate) fn in_grid(&self, name: &Name, row: usize, column: usize) -> Option<&Value>
+        ensures value { IfSome result (λ x. find values_cmp (cell row column) (array_of name.now self.now) ≡ Some x.now) }
+    {
+        let at = hinted_position(&self.list, &self.positions, name)?;
+        self.list[at].array.in_grid(row, column)
+    }
+
     /// Gives a name a value at an index list; after an error all is as it was. Takes no memory for a name that had a value
     /// before.
     #[inline(always)]
@@ -139,6 +150,25 @@ impl Variables {
     {
         match hinted_position(&self.list, &self.positions, name) {
             Some(at) => self.list[at].array.insert_in_row(number, value),
+            None => false,
+        }
+    }
+
+    /// Gives a name a value at two numbers, where the hint of the name leads to its array and the numbers to a place in its grid,
+    /// and tells whether it did; else all is as it was, and nothing is said.
+    #[inline(always)]
+    pub(crate) fn insert_in_grid(
+        &mut self,
+        name: &Name,
+        row: usize,
+        column: usize,
+        value: Value,
+    ) -> bool
+        ensures done { result ≡ true → self.new ≡ with_value (record { name = name.now; indices = cell row column }) value self.old }
+        ensures stays { result ≡ false → self.new ≡ self.old }
+    {
+        match hinted_position(&self.list, &self.positions, name) {
+            Some(at) => self.list[at].array.insert_in_grid(row, column, value),
             None => false,
         }
     }
@@ -351,6 +381,14 @@ impl Array {
         self.indexed.in_row(number)
     }
 
+    /// The value at two numbers, where it stands in the grid; none says nothing.
+    #[inline(always)]
+    fn in_grid(&self, row: usize, column: usize) -> Option<&Value>
+        ensures value { IfSome result (λ x. find values_cmp (cell row column) self.now ≡ Some x.now) }
+    {
+        self.indexed.in_grid(row, column)
+    }
+
     /// The value at an index list. Allocates nothing.
     pub(crate) fn get(&self, indices: &[Value]) -> Option<&Value>
         ensures value { option_copied result ≡ find values_cmp indices.now self.now }
@@ -384,6 +422,15 @@ impl Array {
         ensures stays { result ≡ false → self.new ≡ self.old }
     {
         self.indexed.insert_in_row(number, value)
+    }
+
+    /// The same of the index list of two numbers and the grid.
+    #[inline(always)]
+    fn insert_in_grid(&mut self, row: usize, column: usize, value: Value) -> bool
+        ensures done { result ≡ true → self.new ≡ put values_cmp (cell row column) value self.old }
+        ensures stays { result ≡ false → self.new ≡ self.old }
+    {
+        self.indexed.insert_in_grid(row, column, value)
     }
 
     /// Puts a value in place of the one without indices, where that is of its kind and no memory is needed, and tells whether it

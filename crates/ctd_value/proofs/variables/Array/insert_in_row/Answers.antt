@@ -7,7 +7,7 @@ use Rattle.ctd_value.proofs.Telling.{indexed_still}
 use Rattle.ctd_value.proofs.variables.Array.insert_in_row.Goals as goal
 
 pub invariant_of-self : goal.invariant_of-self
-invariant_of-self c = (indexed_still c.insert_in_row.result _ c.args.value c.self.inside.indexed c.insert_in_row.new.self c.self.invariant.0 c.insert_in_row.ensures.done c.insert_in_row.ensures.stays, c.self.invariant.1)
+invariant_of-self c = (indexed_still c.insert_in_row.result _ _ c.args.value c.self.inside.indexed c.insert_in_row.new.self c.self.invariant.0 c.insert_in_row.ensures.done c.insert_in_row.ensures.stays, c.self.invariant.1)
 
 pub returns-clause-done : goal.returns-clause-done
 returns-clause-done c is =
