@@ -1,7 +1,7 @@
 -- Values at numbers that follow one another, and nothing else: their entries, their shape and their tuples.
 use Rattle.std.proofs.Common.{◌≡◌, ◌<◌, ℕ, suc, Bool, true, cond, ◌&&◌, ◌||◌, List, [], ◌∷◌, ◌++◌, length, map, Option, Some, None, is_some, Ok, Err, if◌then◌else◌, refl, ap, sym, ◌∙◌, arith}
 use Rattle.std.specs.List.{list_any, zip, cons_option}
-use Rattle.std.specs.Option.{IfSome}
+use Rattle.std.specs.Option.{IfSome, IfNone}
 use Rattle.std.specs.FinMap.{find, put}
 use Rattle.std.specs.FinMap.Entries.{find-put}
 use Rattle.ctd_value.specs.declared.value.Value.{Value}
@@ -105,6 +105,14 @@ whole_row h name pins assigned a n row view none there is =
     ∙ ap (λ ps. first_of_each (array_of name ps ++ array_of name assigned)) none
     ∙ ap first_of_each (sym there ∙ is)
     ∙ all_first (laid n row []) (laid_each_once n row [] tt)
+
+pub if_none_weaker : {X : Type 0} (o : Option X) (P Q : Type 0) → (P → Q) → IfNone o P → IfNone o Q
+if_none_weaker None P Q f h = f h
+if_none_weaker (Some x) P Q f h = tt
+
+pub if_none_both : {X : Type 0} (o : Option X) (P Q : Type 0) → IfNone o P → IfNone o Q → IfNone o (P × Q)
+if_none_both None P Q h k = (h, k)
+if_none_both (Some x) P Q h k = tt
 
 pub if_some_weaker : {X : Type 0} (o : Option X) (P Q : X → Type 0) → ((x : X) → P x → Q x) → IfSome o P → IfSome o Q
 if_some_weaker None P Q f h = tt

@@ -1,6 +1,6 @@
 //! Values for variables (checktestdata language specification, SET).
 
-ghost use Rattle.std.specs.Prelude.{◌≡◌, ◌≢◌, true, false, Ok, Err, OnErr};
+ghost use Rattle.std.specs.Prelude.{◌≡◌, ◌≢◌, true, false, Ok, Err, IfSome, IfNone, OnErr};
 ghost use Rattle.ctd_tree.specs.View.{expr_tree, var_tree};
 ghost use Rattle.ctd_value.specs.Fault.{Gives};
 ghost use Rattle.ctd_value.specs.Lending.{map_ok, value_lent};
@@ -18,7 +18,22 @@ use std::alloc::Global;
 
 /// Gives a variable a value, once its indices are evaluated; a pinned variable stays as it is. After a fault the variables
 /// are as they were.
+#[inline(never)]
 fn set_variable(alloc: Global, v: &Var, value: Value, store: &mut Store) -> Result<(), EvalFault>
+    ensures value { Gives (map_ok (λ _. store.new) result) (with_variable (var_tree v.now) value store.old) }
+    ensures err { OnErr result (store.new ≡ store.old) }
+    ensures no_count { result ≢ Err EvalFault.Count }
+    ensures no_shape { result ≢ Err EvalFault.Shape }
+{
+    match set_at_hand(v, value, store) {
+        None => Ok(()),
+        Some(value) => set_anywhere(alloc, v, value, store),
+    }
+}
+
+/// The same, by a list of indices.
+#[inline(never)]
+fn set_anywhere(alloc: Global, v: &Var, value: Value, store: &mut Store) -> Result<(), EvalFault>
     ensures value { Gives (map_ok (λ _. store.new) result) (with_variable (var_tree v.now) value store.old) }
     ensures err { OnErr result (store.new ≡ store.old) }
     ensures no_count { result ≢ Err EvalFault.Count }
@@ -69,31 +84,6 @@ fn set_any_number(alloc: Global, v: &Var, n: i128, store: &mut Store) -> Result<
     if set_at_variable(v, n, store) {
         return Ok(());
     }
-    set_indexed_number(alloc, v, n, store)
-}
-
-/// The same, where the index may take a call.
-#[inline(never)]
-fn set_indexed_number(alloc: Global, v: &Var, n: i128, store: &mut Store) -> Result<(), EvalFault>
-    ensures value { Gives (map_ok (λ _. store.new) result) (with_variable (var_tree v.now) (values.Int n) store.old) }
-    ensures err { OnErr result (store.new ≡ store.old) }
-    ensures no_count { result ≢ Err EvalFault.Count }
-    ensures no_shape { result ≢ Err EvalFault.Shape }
-{
-    if set_in_row(v, n, store) || set_in_grid(v, n, store) {
-        return Ok(());
-    }
-    set_number_anywhere(alloc, v, n, store)
-}
-
-/// The same, by a list of indices.
-#[inline(never)]
-fn set_number_anywhere(alloc: Global, v: &Var, n: i128, store: &mut Store) -> Result<(), EvalFault>
-    ensures value { Gives (map_ok (λ _. store.new) result) (with_variable (var_tree v.now) (values.Int n) store.old) }
-    ensures err { OnErr result (store.new ≡ store.old) }
-    ensures no_count { result ≢ Err EvalFault.Count }
-    ensures no_shape { result ≢ Err EvalFault.Shape }
-{
     set_variable(alloc, v, Value::Int(n), store)
 }
 
@@ -133,42 +123,30 @@ fn overwrite(v: &Var, value: Lent<'_>, store: &mut Store) -> bool
     v.indices.as_slice().is_empty() && store.overwrite(&v.name, value)
 }
 
-/// Gives a variable with one index a number, where that takes no list of indices, and tells whether it did; else all is as it
-/// was, and nothing is said.
+/// Gives a variable with one or two indices a value, where they are numbers and that takes no list of indices; else the value is given
+/// back, and all is as it was.
 #[inline(always)]
-fn set_in_row(v: &Var, n: i128, store: &mut Store) -> bool
-    ensures done { result ≡ true → with_variable (var_tree v.now) (values.Int n) store.old ≡ Ok store.new }
-    ensures stays { result ≡ false → store.new ≡ store.old }
+fn set_at_hand(v: &Var, value: Value, store: &mut Store) -> Option<Value>
+    ensures done { IfNone result (with_variable (var_tree v.now) value store.old ≡ Ok store.new) }
+    ensures given_back { IfSome result (λ x. (x ≡ value) × (store.new ≡ store.old)) }
 {
     match v.indices.as_slice() {
         [index] => match small(index, store) {
-            Some(number) if number >= 0 => {
-                store.assign_in_row(&v.name, number as usize, Value::Int(n))
-            }
-            _ => false,
+            Some(number) if number >= 0 => store.assign_in_row(&v.name, number as usize, value),
+            _ => Some(value),
         },
-        _ => false,
-    }
-}
-
-/// The same of two indices and a grid.
-#[inline(always)]
-fn set_in_grid(v: &Var, n: i128, store: &mut Store) -> bool
-    ensures done { result ≡ true → with_variable (var_tree v.now) (values.Int n) store.old ≡ Ok store.new }
-    ensures stays { result ≡ false → store.new ≡ store.old }
-{
-    match v.indices.as_slice() {
         [row, column] => match (small(row, store), small(column, store)) {
             (Some(row), Some(column)) if row >= 0 && column >= 0 => {
-                store.assign_in_grid(&v.name, row as usize, column as usize, Value::Int(n))
+                store.assign_in_grid(&v.name, row as usize, column as usize, value)
             }
-            _ => false,
+            _ => Some(value),
         },
-        _ => false,
+        _ => Some(value),
     }
 }
 
-/// The same of an index that is a variable, which takes no call.
+/// Gives a variable with one index a number, where the index is a variable, which takes no call, and the number has a place in the row;
+/// tells whether it did. Else all is as it was, and nothing is said.
 #[inline(always)]
 fn set_at_variable(v: &Var, n: i128, store: &mut Store) -> bool
     ensures done { result ≡ true → with_variable (var_tree v.now) (values.Int n) store.old ≡ Ok store.new }
@@ -176,9 +154,9 @@ fn set_at_variable(v: &Var, n: i128, store: &mut Store) -> bool
 {
     match v.indices.as_slice() {
         [index] => match plain_number(index, store) {
-            Some(number) if number >= 0 => {
-                store.assign_in_row(&v.name, number as usize, Value::Int(n))
-            }
+            Some(number) if number >= 0 => store
+                .assign_in_row(&v.name, number as usize, Value::Int(n))
+                .is_none(),
             _ => false,
         },
         _ => false,

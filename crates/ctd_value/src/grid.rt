@@ -117,22 +117,27 @@ impl Grid {
         Ok(None)
     }
 
-    /// The same, where that takes no memory, and tells whether it did; else all is as it was, and nothing is said.
+    /// The same, where that takes no memory and no new row.
     #[inline(always)]
-    pub(crate) fn insert_in_room(&mut self, row: usize, column: usize, value: Value) -> bool
-        ensures done { result ≡ true → self.new ≡ put values_cmp (cell row column) value self.old }
-        ensures stays { result ≡ false → self.new ≡ self.old }
+    pub(crate) fn insert_in_room(
+        &mut self,
+        row: usize,
+        column: usize,
+        value: Value,
+    ) -> Option<Value>
+        ensures done { IfNone result (self.new ≡ put values_cmp (cell row column) value self.old) }
+        ensures given_back { IfSome result (λ v. (v ≡ value) × (self.new ≡ self.old)) }
     {
         if row < self.base {
-            return false;
+            return Some(value);
         }
         let at = row - self.base;
         if at >= self.rows.len() {
-            return false;
+            return Some(value);
         }
         let first = self.rows[at].base;
         if column < first {
-            return false;
+            return Some(value);
         }
         write_in_room(&mut self.rows[at].values, column - first, value)
     }

@@ -2,7 +2,7 @@
 
 ghost use Rattle.std.specs.Prelude.{◌≡◌, ◌++◌, [], map, true, false, Some, None, Ok, IfOk, OnOk, OnErr};
 ghost use Rattle.std.specs.List.{IsDistinct, list_any};
-ghost use Rattle.std.specs.Option.{option_copied, unwrap_or, IfSome};
+ghost use Rattle.std.specs.Option.{option_copied, unwrap_or, IfSome, IfNone};
 ghost use Rattle.std.specs.FinMap.{find, put};
 ghost use Rattle.ctd_value.specs.Lending.{value_lent};
 ghost use Rattle.ctd_value.specs.Order.{values_cmp, same_value, same_values};
@@ -156,28 +156,32 @@ impl Indexed {
         }
     }
 
-    /// Gives the index list of a number a value, where it stands in the row or just behind it, and tells whether it did; else all
-    /// is as it was, and nothing is said.
+    /// Gives the index list of a number a value, where it stands in the row or just behind it and that takes no memory; else the
+    /// value is given back, and all is as it was.
     #[inline(always)]
-    pub(crate) fn insert_in_row(&mut self, number: usize, value: Value) -> bool
-        ensures done { result ≡ true → self.new ≡ put values_cmp (slot number) value self.old }
-        ensures stays { result ≡ false → self.new ≡ self.old }
+    pub(crate) fn insert_in_row(&mut self, number: usize, value: Value) -> Option<Value>
+        ensures done { IfNone result (self.new ≡ put values_cmp (slot number) value self.old) }
+        ensures given_back { IfSome result (λ v. (v ≡ value) × (self.new ≡ self.old)) }
     {
         match &mut self.form {
             Form::Plain(plain) => plain.insert_in_row(number, value),
-            Form::Grid(_) => false,
+            Form::Grid(_) => Some(value),
         }
     }
 
-    /// Gives the index list of two numbers a value, where it has a place in the grid that takes no memory, and tells whether it
-    /// did; else all is as it was, and nothing is said.
+    /// The same of the index list of two numbers and the grid.
     #[inline(always)]
-    pub(crate) fn insert_in_grid(&mut self, row: usize, column: usize, value: Value) -> bool
-        ensures done { result ≡ true → self.new ≡ put values_cmp (cell row column) value self.old }
-        ensures stays { result ≡ false → self.new ≡ self.old }
+    pub(crate) fn insert_in_grid(
+        &mut self,
+        row: usize,
+        column: usize,
+        value: Value,
+    ) -> Option<Value>
+        ensures done { IfNone result (self.new ≡ put values_cmp (cell row column) value self.old) }
+        ensures given_back { IfSome result (λ v. (v ≡ value) × (self.new ≡ self.old)) }
     {
         match &mut self.form {
-            Form::Plain(_) => false,
+            Form::Plain(_) => Some(value),
             Form::Grid(grid) => grid.insert_in_room(row, column, value),
         }
     }

@@ -130,15 +130,15 @@ impl RowAndMap {
         }
     }
 
-    /// Gives the index list of a number a value, where it stands in the row or just behind it, and tells whether it did; else all
-    /// is as it was, and nothing is said.
+    /// Gives the index list of a number a value, where it stands in the row or just behind it and that takes no memory; else the
+    /// value is given back, and all is as it was.
     #[inline(always)]
-    pub(crate) fn insert_in_row(&mut self, number: usize, value: Value) -> bool
-        ensures done { result ≡ true → self.new ≡ put values_cmp (slot number) value self.old }
-        ensures stays { result ≡ false → self.new ≡ self.old }
+    pub(crate) fn insert_in_row(&mut self, number: usize, value: Value) -> Option<Value>
+        ensures done { IfNone result (self.new ≡ put values_cmp (slot number) value self.old) }
+        ensures given_back { IfSome result (λ v. (v ≡ value) × (self.new ≡ self.old)) }
     {
         if number < self.base {
-            return false;
+            return Some(value);
         }
         let at = number - self.base;
         write_in_room(&mut self.dense, at, value)
@@ -262,22 +262,22 @@ pub(crate) fn write(values: &mut Vec<Value>, at: usize, value: Value) -> Result<
     Ok(())
 }
 
-/// The same, where there is room for it, and tells whether it did; else all is as it was.
+/// The same, where the slot is there or there is room for it; else the value is given back, and all is as it was.
 #[inline(always)]
-pub(crate) fn write_in_room(values: &mut Vec<Value>, at: usize, value: Value) -> bool
-    ensures within { result ≡ true → at ≤ length values.old.items }
-    ensures done { result ≡ true → values.new.items ≡ take at values.old.items ++ value ∷ drop (suc at) values.old.items }
-    ensures stays { result ≡ false → values.new.items ≡ values.old.items }
+pub(crate) fn write_in_room(values: &mut Vec<Value>, at: usize, value: Value) -> Option<Value>
+    ensures within { IfNone result (at ≤ length values.old.items) }
+    ensures done { IfNone result (values.new.items ≡ take at values.old.items ++ value ∷ drop (suc at) values.old.items) }
+    ensures given_back { IfSome result (λ v. (v ≡ value) × (values.new.items ≡ values.old.items)) }
 {
     if at < values.len() {
         drop(replace(&mut values[at], value));
-        return true;
+        return None;
     }
     if at > values.len() || at >= values.capacity() {
-        return false;
+        return Some(value);
     }
     values.push_reserved(value);
-    true
+    None
 }
 
 /// Makes room for one more value; the values stay. A function of its own, so that a list with room pays nothing for it.

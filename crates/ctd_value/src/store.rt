@@ -1,6 +1,6 @@
 //! The variables: what is pinned, and what is assigned.
 
-ghost use Rattle.std.specs.Prelude.{◌≡◌, ◌≢◌, [], true, false, Some, IfSome, IfOk, OnOk, OnErr, IsOk, IsTrue, IsPermutation, AllPairs, map};
+ghost use Rattle.std.specs.Prelude.{◌≡◌, ◌≢◌, [], true, false, Some, IfSome, IfNone, IfOk, OnOk, OnErr, IsOk, IsTrue, IsPermutation, AllPairs, map};
 ghost use Rattle.std.specs.List.{list_any};
 ghost use Rattle.std.specs.Option.{option_copied};
 ghost use Rattle.std.specs.FinMap.{find};
@@ -217,18 +217,26 @@ impl Store {
         Ok(())
     }
 
-    /// Gives a name a value at one number, where nothing is pinned and that takes no search, and tells whether it did; else all
-    /// is as it was, and nothing is said.
+    /// Gives a name a value at one number, where nothing is pinned and that takes neither a search nor memory; else the value is given
+    /// back, and all is as it was.
     #[inline(always)]
-    pub(crate) fn assign_in_row(&mut self, name: &Name, number: usize, value: Value) -> bool
-        ensures done { result ≡ true → self.new ≡ assign self.old (record { name = name.now; indices = slot number }) value }
-        ensures stays { result ≡ false → self.new ≡ self.old }
+    pub(crate) fn assign_in_row(
+        &mut self,
+        name: &Name,
+        number: usize,
+        value: Value,
+    ) -> Option<Value>
+        ensures done { IfNone result (self.new ≡ assign self.old (record { name = name.now; indices = slot number }) value) }
+        ensures given_back { IfSome result (λ v. (v ≡ value) × (self.new ≡ self.old)) }
     {
-        self.pins.is_empty() && self.assigned.insert_in_row(name, number, value)
+        if self.pins.is_empty() {
+            self.assigned.insert_in_row(name, number, value)
+        } else {
+            Some(value)
+        }
     }
 
-    /// Gives a name a value at two numbers, where nothing is pinned and that takes neither a search nor memory, and tells whether
-    /// it did; else all is as it was, and nothing is said.
+    /// The same of two numbers.
     #[inline(always)]
     pub(crate) fn assign_in_grid(
         &mut self,
@@ -236,11 +244,15 @@ impl Store {
         row: usize,
         column: usize,
         value: Value,
-    ) -> bool
-        ensures done { result ≡ true → self.new ≡ assign self.old (record { name = name.now; indices = cell row column }) value }
-        ensures stays { result ≡ false → self.new ≡ self.old }
+    ) -> Option<Value>
+        ensures done { IfNone result (self.new ≡ assign self.old (record { name = name.now; indices = cell row column }) value) }
+        ensures given_back { IfSome result (λ v. (v ≡ value) × (self.new ≡ self.old)) }
     {
-        self.pins.is_empty() && self.assigned.insert_in_grid(name, row, column, value)
+        if self.pins.is_empty() {
+            self.assigned.insert_in_grid(name, row, column, value)
+        } else {
+            Some(value)
+        }
     }
 
     /// Puts a value in place of one of its kind that a name has without indices, where nothing is pinned and that takes neither a

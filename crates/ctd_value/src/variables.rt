@@ -141,21 +141,25 @@ impl Variables {
         }
     }
 
-    /// Gives a name a value at one number, where the hint of the name leads to its array and the number to a place in its row,
-    /// and tells whether it did; else all is as it was, and nothing is said.
+    /// Gives a name a value at one number, where the hint of the name leads to its array and the number to a place in its row; else
+    /// the value is given back, and all is as it was.
     #[inline(always)]
-    pub(crate) fn insert_in_row(&mut self, name: &Name, number: usize, value: Value) -> bool
-        ensures done { result ≡ true → self.new ≡ with_value (record { name = name.now; indices = slot number }) value self.old }
-        ensures stays { result ≡ false → self.new ≡ self.old }
+    pub(crate) fn insert_in_row(
+        &mut self,
+        name: &Name,
+        number: usize,
+        value: Value,
+    ) -> Option<Value>
+        ensures done { IfNone result (self.new ≡ with_value (record { name = name.now; indices = slot number }) value self.old) }
+        ensures given_back { IfSome result (λ v. (v ≡ value) × (self.new ≡ self.old)) }
     {
         match hinted_position(&self.list, &self.positions, name) {
             Some(at) => self.list[at].array.insert_in_row(number, value),
-            None => false,
+            None => Some(value),
         }
     }
 
-    /// Gives a name a value at two numbers, where the hint of the name leads to its array and the numbers to a place in its grid,
-    /// and tells whether it did; else all is as it was, and nothing is said.
+    /// The same of two numbers and a grid.
     #[inline(always)]
     pub(crate) fn insert_in_grid(
         &mut self,
@@ -163,13 +167,13 @@ impl Variables {
         row: usize,
         column: usize,
         value: Value,
-    ) -> bool
-        ensures done { result ≡ true → self.new ≡ with_value (record { name = name.now; indices = cell row column }) value self.old }
-        ensures stays { result ≡ false → self.new ≡ self.old }
+    ) -> Option<Value>
+        ensures done { IfNone result (self.new ≡ with_value (record { name = name.now; indices = cell row column }) value self.old) }
+        ensures given_back { IfSome result (λ v. (v ≡ value) × (self.new ≡ self.old)) }
     {
         match hinted_position(&self.list, &self.positions, name) {
             Some(at) => self.list[at].array.insert_in_grid(row, column, value),
-            None => false,
+            None => Some(value),
         }
     }
 
@@ -414,21 +418,20 @@ impl Array {
         self.indexed.insert(indices, value)
     }
 
-    /// Gives the index list of a number a value, where it has a place in the row, and tells whether it did; else all is as it
-    /// was, and nothing is said.
+    /// Gives the index list of a number a value, where it has a place in the row; else the value is given back, and all is as it was.
     #[inline(always)]
-    pub(crate) fn insert_in_row(&mut self, number: usize, value: Value) -> bool
-        ensures done { result ≡ true → self.new ≡ put values_cmp (slot number) value self.old }
-        ensures stays { result ≡ false → self.new ≡ self.old }
+    fn insert_in_row(&mut self, number: usize, value: Value) -> Option<Value>
+        ensures done { IfNone result (self.new ≡ put values_cmp (slot number) value self.old) }
+        ensures given_back { IfSome result (λ v. (v ≡ value) × (self.new ≡ self.old)) }
     {
         self.indexed.insert_in_row(number, value)
     }
 
     /// The same of the index list of two numbers and the grid.
     #[inline(always)]
-    fn insert_in_grid(&mut self, row: usize, column: usize, value: Value) -> bool
-        ensures done { result ≡ true → self.new ≡ put values_cmp (cell row column) value self.old }
-        ensures stays { result ≡ false → self.new ≡ self.old }
+    fn insert_in_grid(&mut self, row: usize, column: usize, value: Value) -> Option<Value>
+        ensures done { IfNone result (self.new ≡ put values_cmp (cell row column) value self.old) }
+        ensures given_back { IfSome result (λ v. (v ≡ value) × (self.new ≡ self.old)) }
     {
         self.indexed.insert_in_grid(row, column, value)
     }

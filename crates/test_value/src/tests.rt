@@ -3,6 +3,7 @@
 mod at_hand;
 mod conditions;
 mod expressions;
+mod grids;
 mod memory;
 mod order;
 mod store;

@@ -5,10 +5,12 @@ use Rattle.ctd_value.specs.Order.{values_cmp}
 use Rattle.ctd_value.specs.Store.{slot, laid}
 use Rattle.ctd_value.proofs.Laid.{written_at}
 use Rattle.ctd_value.proofs.Maps.{seen}
+use Rattle.ctd_value.proofs.Rows.{if_none_weaker, if_none_both}
 use Rattle.ctd_value.proofs.row_and_map.RowAndMap.insert_in_row.Goals as goal
 
 pub returns-clause-done : goal.returns-clause-done
-returns-clause-done c is =
-    ap (λ xs. laid c.self.inside.base xs (seen (λ k. k.items) c.self.inside.rest.entries)) (c.write_in_room.ensures.done is)
-    ∙ written_at c.self.inside.base (slot c.args.number) (c.args.number - c.self.inside.base) c.self.inside.dense.items c.args.value (seen (λ k. k.items) c.self.inside.rest.entries) c.self.invariant (ap slot (omega (arith, c.if-number-self.false))) (c.write_in_room.ensures.within is)
-    ∙ ap (put values_cmp (slot c.args.number) c.args.value) c.self.view_is
+returns-clause-done c = if_none_weaker c.write_in_room.result _ _ (λ h.
+    ap (λ xs. laid c.self.inside.base xs (seen (λ k. k.items) c.self.inside.rest.entries)) h.1
+    ∙ written_at c.self.inside.base (slot c.args.number) (c.args.number - c.self.inside.base) c.self.inside.dense.items c.args.value (seen (λ k. k.items) c.self.inside.rest.entries) c.self.invariant (ap slot (omega (arith, c.if-number-self.false))) h.0
+    ∙ ap (put values_cmp (slot c.args.number) c.args.value) c.self.view_is)
+    (if_none_both c.write_in_room.result _ _ c.write_in_room.ensures.within c.write_in_room.ensures.done)
