@@ -46,6 +46,18 @@ REPI(y,h) REPI(x,w,SPACE) INT(0,9,g[y,x]) END NEWLINE END
 REPI(y,h) REPI(x,w) IF(y>0) ASSERT(g[y,x]+g[y-1,x]<=18) END END END
 """
 
+MAZE = b"""INT(1,1000,h) SPACE INT(1,1000,w) NEWLINE
+SET(walls=0)
+REPI(y,h) REPI(x,w) REGEX("[.#]",c[y,x]) END NEWLINE END
+REPI(y,h) REPI(x,w) IF(c[y,x]=="#") SET(walls=walls+1) END END END
+ASSERT(walls<=h*w)
+"""
+
+WORD_LIST = b"""INT(1,1000000,n) NEWLINE
+REPI(i,n) REGEX("[a-z]+",word[i]) NEWLINE END
+ASSERT(UNIQUE(word))
+"""
+
 NAMES = b"""INT(1,1000000,n) NEWLINE
 REP(n) REGEX("[a-z]+",name) SPACE INT(1,1000000,age[name]) NEWLINE ASSERT(age[name]>0) END
 """
@@ -193,6 +205,21 @@ def grid(files: Files, scale: float, rng: random.Random) -> None:
             data.write(" ".join(rng.choices("0123456789", k=side)).encode() + b"\n")
 
 
+def maze(files: Files, scale: float, rng: random.Random) -> None:
+    side = max(1, int(1000 * scale**0.5))
+    with files.start(MAZE) as data:
+        data.write(b"%d %d\n" % (side, side))
+        for _ in range(side):
+            data.write("".join(rng.choices(".#", k=side)).encode() + b"\n")
+
+
+def word_list(files: Files, scale: float, rng: random.Random) -> None:
+    n = max(1, int(300_000 * scale))
+    words = {"".join(rng.choices(string.ascii_lowercase, k=10)) for _ in range(n)}
+    with files.start(WORD_LIST) as data:
+        data.write(b"%d\n" % len(words) + "".join(word + "\n" for word in sorted(words, key=lambda word: word[::-1])).encode())
+
+
 def names(files: Files, scale: float, rng: random.Random) -> None:
     n = max(1, int(300_000 * scale))
     with files.start(NAMES) as data:
@@ -235,7 +262,9 @@ CASES = [
     Case("arithmetic", arithmetic, 10.0, 6),
     Case("blanks", blanks, 1.4, 6),
     Case("small-tests", small_tests, 4.2, 6),
-    Case("grid", grid, None, 300),
+    Case("grid", grid, None, 60),
+    Case("maze", maze, None, 100),
+    Case("word-list", word_list, None, 60),
     Case("names", names, None, 300),
     Case("tree", tree, None, 100),
     Case("permutation", permutation, None, 100),

@@ -30,6 +30,11 @@ WHILEI(m,!ISEOF)
 END
 """
 RIGHT = b"3\n5 4 abc xq.\n12 5 defghijklmnopqrstuvwxyzabcdefgh xlonger.\n7 6 ghi x.\nq\n123456789012345678901234567890\n-5\n"
+GRID = b"""REPI(i,3) REPI(j,4) REGEX("[.#]",g[i,j]) END NEWLINE END
+ASSERT(INARRAY("#",g) && g[1,0]=="#" && !UNIQUE(g))
+SET(g["corner"]=g[0,0]) ASSERT(g["corner"]==g[0,0] && g[1,0]=="#" && INARRAY("#",g))
+"""
+CELLS = b".#.#\n####\n....\n"
 LONG_LINE = b'REGEX("([a-z]+ )*",line) REGEX("[0-9]",digit) NEWLINE'
 
 
@@ -83,6 +88,8 @@ def command_lines(folder: Path) -> dict[str, list[str]]:
         "right.in": RIGHT,
         "wrong.in": RIGHT.replace(b"-5", b"-05"),
         "blanks.in": RIGHT.replace(b"5 4", b" 5 \t 4"),
+        "grid.ctd": GRID,
+        "grid.in": CELLS,
         "long.ctd": LONG_LINE,
         "long.in": b"word " * 10_000 + b"7\n",
         "open.ctd": b"INT(1,10",
@@ -96,6 +103,7 @@ def command_lines(folder: Path) -> dict[str, list[str]]:
         "data that do not fit": [paths["p.ctd"], paths["wrong.in"]],
         "data that fit but for blanks": ["-w", paths["p.ctd"], paths["blanks.in"]],
         "presets, quietly": ["-q", "-D", 'n=3,k="another",u=-7', paths["p.ctd"], paths["right.in"]],
+        "a grid that becomes a map": [paths["grid.ctd"], paths["grid.in"]],
         "a long match that is kept": [paths["long.ctd"], paths["long.in"]],
         "a program that breaks off": [paths["open.ctd"], paths["right.in"]],
         "a bad pattern": [paths["bad.ctd"], paths["right.in"]],

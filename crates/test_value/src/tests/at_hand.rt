@@ -7,9 +7,9 @@ use std::alloc::Global;
 use std::test::Fail;
 
 /// What is assigned before each test: two numbers, a string, a row that rises, one that does not, one with a string in it, a number
-/// whose name is long, and two numbers at two indices.
+/// whose name is long, two numbers at two indices, and a string there.
 const FILLING: &str =
-    "SET(n=3,k=0,s=\"x\",a[0]=1,a[1]=2,b[0]=2,b[1]=2,c[0]=\"2\",c[1]=1,longnames=4,g[1,2]=5,g[2,1]=6)";
+    "SET(n=3,k=0,s=\"x\",a[0]=1,a[1]=2,b[0]=2,b[1]=2,c[0]=\"2\",c[1]=1,longnames=4,g[1,2]=5,g[2,1]=6,w[1,0]=\"#\")";
 
 /// The assignments of a program that begins with SET, and the test behind them.
 fn assignments_and_test(program: &Program) -> Result<(&[Assignment], &Test), Fail> {
@@ -34,7 +34,7 @@ fn truth_in(alloc: Global, test: &str) -> Result<Option<bool>, Fail> {
 }
 
 /// Tests, and the answer at hand to each.
-const TRUTHS: [(&str, Option<bool>); 27] = [
+const TRUTHS: [(&str, Option<bool>); 31] = [
     ("n==3", Some(true)),
     ("longnames!=4", Some(false)),
     ("a[n-2]>a[0]&&!(n<0)", Some(true)),
@@ -49,6 +49,10 @@ const TRUTHS: [(&str, Option<bool>); 27] = [
     ("\"x\"!=\"y\"", Some(true)),
     ("\"\"<s", None),
     ("s<=\"wz\"", Some(false)),
+    ("c[k]==\"2\"", Some(true)),
+    ("w[1,k]!=\"#\"", Some(false)),
+    ("w[k,1]==\"#\"", None),
+    ("c[1]==\"2\"", None),
     ("UNIQUE(a)", Some(true)),
     ("UNIQUE(b)", None),
     ("UNIQUE(a,b)", None),

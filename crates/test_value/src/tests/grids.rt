@@ -3,7 +3,8 @@
 use super::{Row, SHAPE, UNDEFINED, judged};
 use std::test::Fail;
 
-const FILLED: &str = r#"SET(a[0,0]=1,a[0,1]=2,a[1,0]=3,a[1,1]=4) ASSERT(a[0,0]==1 && a[0,1]==2 && a[1,0]==3 && a[1,1]==4 && UNIQUE(a))
+const FILLED: &str =
+    r#"SET(a[0,0]=1,a[0,1]=2,a[1,0]=3,a[1,1]=4) ASSERT(a[0,0]==1 && a[0,1]==2 && a[1,0]==3 && a[1,1]==4 && UNIQUE(a))
 SET(a[1,1]=1,a[2,1]=2,a[1,2]=3,a[2,2]=4) ASSERT(a[1,1]==1 && a[2,1]==2 && a[1,2]==3 && a[2,2]==4 && UNIQUE(a))
 SET(a[1,2]=1,a[1,3]=2,a[2,3]=3) ASSERT(a[1,2]==1 && a[1,3]==2 && a[2,3]==3 && INARRAY(3,a) && !INARRAY(4,a))
 SET(a[7,9]=1,a[8,0]=2,a[7,10]=3) ASSERT(a[7,9]==1 && a[8,0]==2 && a[7,10]==3 && INARRAY(2,a))
@@ -13,7 +14,8 @@ SET(i=2,j=3,a[i,j]=1,a[i,j+1]=2,a[i+1,j]=a[i,j]+a[i,j+1]) ASSERT(a[2,3]==1 && a[
 SET(a[0,0]=2^100,a[0,1]=1) ASSERT(a[0,0]==2^100 && a[0,0]-1<2^100 && INARRAY(2^100,a))
 SET(a[0,0]=1,a[0,1]=2,b[0,0]=1,b[0,1]=1) ASSERT(UNIQUE(a,b) && UNIQUE(b,a) && UNIQUE(a))"#;
 
-const WITH_OTHERS: &str = r#"SET(a[0,0]=1,a[0,1]=2,a[5,5]=3,a[1]=4,a=5) ASSERT(a[0,0]==1 && a[0,1]==2 && a[5,5]==3 && a[1]==4 && a==5 && UNIQUE(a))
+const WITH_OTHERS: &str =
+    r#"SET(a[0,0]=1,a[0,1]=2,a[5,5]=3,a[1]=4,a=5) ASSERT(a[0,0]==1 && a[0,1]==2 && a[5,5]==3 && a[1]==4 && a==5 && UNIQUE(a))
 SET(a[0,0]="x",a[0,2]="y",a[0,1]="z") ASSERT(a[0,0]=="x" && a[0,1]=="z" && a[0,2]=="y" && UNIQUE(a))
 SET(a[1,0]=1,a[0,0]=2) ASSERT(a[1,0]==1 && a[0,0]==2)
 SET(a[0,1]=1,a[0,0]=2) ASSERT(a[0,1]==1 && a[0,0]==2)
