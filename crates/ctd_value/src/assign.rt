@@ -81,10 +81,10 @@ fn set_any_number(alloc: Global, v: &Var, n: i128, store: &mut Store) -> Result<
     ensures no_count { result ≢ Err EvalFault.Count }
     ensures no_shape { result ≢ Err EvalFault.Shape }
 {
-    if set_at_variable(v, n, store) {
+    if set_at_variable(v, n, store) || set_number_at_hand(v, n, store) {
         return Ok(());
     }
-    set_variable(alloc, v, Value::Int(n), store)
+    set_anywhere(alloc, v, Value::Int(n), store)
 }
 
 /// Evaluates an expression and then the indices of a variable, which gets the value; a pinned variable stays as it is. After a
@@ -143,6 +143,15 @@ fn set_at_hand(v: &Var, value: Value, store: &mut Store) -> Option<Value>
         },
         _ => Some(value),
     }
+}
+
+/// The same of a number, and tells whether it was done. A function of its own, so that the number stands in registers.
+#[inline(never)]
+fn set_number_at_hand(v: &Var, n: i128, store: &mut Store) -> bool
+    ensures done { result ≡ true → with_variable (var_tree v.now) (values.Int n) store.old ≡ Ok store.new }
+    ensures stays { result ≡ false → store.new ≡ store.old }
+{
+    set_at_hand(v, Value::Int(n), store).is_none()
 }
 
 /// Gives a variable with one index a number, where the index is a variable, which takes no call, and the number has a place in the row;

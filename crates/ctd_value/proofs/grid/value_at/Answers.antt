@@ -1,4 +1,4 @@
-use Rattle.std.proofs.Common.{refl, ap, ◌+◌, arith, pos, get_or}
+use Rattle.std.proofs.Common.{refl, ap, arith, pos}
 use Rattle.std.specs.Prelude.{◌-◌}
 use Rattle.ctd_value.proofs.Gridded.{found_in_columns}
 use Rattle.ctd_value.proofs.grid.value_at.Goals as goal

@@ -1,10 +1,10 @@
-use Rattle.std.proofs.Common.{◌≡◌, ◌<◌, rules, length, ap, sym, ◌∙◌, ◌+◌, refl, arith, pos, Some, None}
+use Rattle.std.proofs.Common.{rules, ap, sym, ◌∙◌, ◌+◌, arith}
 use Rattle.std.proofs.lemmas.Int.{to_z-of_z}
 use Rattle.std.specs.Int.{w128}
 use Rattle.std.specs.Option.{option_copied}
 use Rattle.std.specs.FinMap.{find}
 use Rattle.ctd_value.specs.Order.{values_cmp}
-use Rattle.ctd_value.proofs.Gridded.{pair, none_elsewhere, none_in_grid, found_in_grid, none_in_columns, found_in_columns}
+use Rattle.ctd_value.proofs.Gridded.{none_elsewhere, none_in_grid, found_in_grid, none_in_columns, found_in_columns}
 use Rattle.ctd_value.proofs.grid.Grid.get.Goals as goal
 
 pub returns-in_err-row : goal.returns-in_err-row

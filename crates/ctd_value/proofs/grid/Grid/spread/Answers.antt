@@ -1,4 +1,4 @@
-use Rattle.std.proofs.Common.{◌≡◌, ap, sym, ◌∙◌, ◌+◌, [], drop, arith}
+use Rattle.std.proofs.Common.{ap, sym, ◌∙◌, ◌+◌, drop, arith}
 use Rattle.ctd_value.specs.Grid.{cells, grid, put_each}
 use Rattle.ctd_value.proofs.Gridded.{grid_from, no_rows_from, put_each_append, put_each_sorted, sorted_grid}
 use Rattle.ctd_value.proofs.grid.Grid.spread.Goals as goal
