@@ -9,6 +9,7 @@ pub mod Maps
 pub mod Members
 pub mod Merged
 pub mod Named
+pub mod NamedAt
 pub mod Ordinary
 pub mod Powers
 pub mod Rows

@@ -1,29 +1,17 @@
-use Rattle.std.proofs.Common.{◌≡◌, ◌≢◌, T, List, [], Some, refl, ap, sym, subst, ◌∙◌}
-use Rattle.ctd_value.specs.declared.value.Value.{Value}
+use Rattle.std.proofs.Common.{[]}
 use Rattle.ctd_value.specs.Lending.{value_lent}
-use Rattle.ctd_value.specs.Showing.{arrays_seen}
-use Rattle.ctd_value.specs.Store.{in_order, name_at, have_positions}
-use Rattle.ctd_value.proofs.ArraysSeen.{array_here, written_here}
-use Rattle.ctd_value.proofs.Lookups.{put_in}
-use Rattle.ctd_value.proofs.Named.{array_at, written_at, positions_set, put_filled}
+use Rattle.ctd_value.proofs.NamedAt.{name_in, still_placed, value_written}
 use Rattle.ctd_value.proofs.variables.Variables.overwrite.Goals as goal
 
 pub invariant_of-self : goal.invariant_of-self
 invariant_of-self c =
     let items = c.self.inside.list.items in
-    let name : name_at (arrays_seen items) c.in-Some.at ≡ Some c.args.name.now = subst (λ l. name_at (arrays_seen l) c.in-Some.at ≡ Some c.args.name.now) c.deref.ensures.value c.in-Some.ensures.found in
-    subst (λ vs. T (have_positions 0 vs c.self.inside.positions)) (sym (written_here items c.in-Some.at c.args.name.now c.index_mut.result.now c.overwrite.new.self name c.index_mut.ensures.value))
-    (positions_set 0 c.in-Some.at (arrays_seen items) c.self.inside.positions c.args.name.now c.index_mut.result.now.array c.overwrite.new.self (array_here items c.in-Some.at c.args.name.now c.index_mut.result.now name c.index_mut.ensures.value) c.self.invariant)
+    let name = name_in c.deref.result.now items c.in-Some.at c.args.name.now c.deref.ensures.value c.in-Some.ensures.found in
+    still_placed items c.self.inside.positions c.in-Some.at c.args.name.now c.index_mut.result.now c.overwrite.new.self c.self.invariant name c.index_mut.ensures.value
 
 pub returns-in-Some-clause-done : goal.returns-in-Some-clause-done
 returns-in-Some-clause-done c is =
     let items = c.self.inside.list.items in
-    let indices : List Value = [] in
-    let name : name_at (arrays_seen items) c.in-Some.at ≡ Some c.args.name.now = subst (λ l. name_at (arrays_seen l) c.in-Some.at ≡ Some c.args.name.now) c.deref.ensures.value c.in-Some.ensures.found in
-    let here = array_here items c.in-Some.at c.args.name.now c.index_mut.result.now name c.index_mut.ensures.value in
-    let e = c.overwrite.ensures.done is in
-    ap in_order (written_here items c.in-Some.at c.args.name.now c.index_mut.result.now c.overwrite.new.self name c.index_mut.ensures.value)
-    ∙ written_at c.in-Some.at (arrays_seen items) c.self.inside.positions c.args.name.now c.index_mut.result.now.array c.overwrite.new.self
-    (subst (λ a. a ≢ []) (sym e) (put_filled indices (value_lent c.args.value) c.index_mut.result.now.array)) c.self.invariant here
-    ∙ put_in (record { name = c.args.name.now; indices = indices }) (value_lent c.args.value) c.args.self.now (in_order (arrays_seen items)) c.args.name.now indices c.index_mut.result.now.array c.overwrite.new.self
-    refl refl c.self.view_is (array_at c.in-Some.at (arrays_seen items) c.self.inside.positions c.args.name.now c.index_mut.result.now.array c.self.invariant here) e
+    let name = name_in c.deref.result.now items c.in-Some.at c.args.name.now c.deref.ensures.value c.in-Some.ensures.found in
+    value_written items c.self.inside.positions c.in-Some.at c.args.name.now c.index_mut.result.now c.overwrite.new.self c.args.self.now [] (value_lent c.args.value) c.self.invariant name c.index_mut.ensures.value c.self.view_is
+    (c.overwrite.ensures.done is)
