@@ -11,7 +11,7 @@ abbrev pub cells : ℕ → ℕ → List Value → Array
 cells row column [] = []
 cells row column (x ∷ xs) = (cell row column, x) ∷ cells row (suc column) xs
 
--- the values of rows, which have the numbers from one on
+-- the values of rows, the first of which has this number and each other the next
 abbrev pub grid : ℕ → List GridRow → Array
 grid row [] = []
 grid row (r ∷ rs) = cells row r.base r.values.items ++ grid (suc row) rs
