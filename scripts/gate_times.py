@@ -1,5 +1,6 @@
 #!/usr/bin/env python3
-"""Tells how many processor minutes a gate takes, by crate: scripts/gate_times.py [COMMAND..] (make test, where none is given).
+"""Tells how many processor minutes a gate takes, by crate, and its dearest wrong bodies: scripts/gate_times.py [COMMAND..] (make test, where
+none is given).
 
 Runs the command, and reads once a second what each process of the prover has used so far. A process that ends between two looks loses
 at most that second."""
@@ -14,15 +15,17 @@ from pathlib import Path
 TOP = Path(__file__).resolve().parent.parent
 TICKS = os.sysconf("SC_CLK_TCK")
 KINDS = ("library", "tests", "wrong bodies", "compiling")
+BODIES_SHOWN = 20
 
 
 @dataclass
 class Process:
-    """A process of the prover: its crate, what it does there, its folder, and its processor seconds so far."""
+    """A process of the prover: its crate, what it does there, its folder, its wrong body if it tries one, and its processor seconds so far."""
 
     crate: str
     kind: str
     folder: str
+    body: str | None
     seconds: float
 
 
@@ -34,6 +37,26 @@ def kind_of(words: list[str], folder: str) -> str:
     return "compiling" if "--crate-checked" in words else "library"
 
 
+def stands_in(edit: Path, folder: Path) -> bool:
+    """Whether the texts of a wrong body stand in a folder in place of those that it changes."""
+    path = None
+    for line in edit.read_text().splitlines():
+        key, _, text = line.partition(": ")
+        if key == "file":
+            path = folder / text.strip()
+        elif path and key in ("old", "new") and (text in path.read_text()) != (key == "new"):
+            return False
+    return path is not None
+
+
+def body_in(crate: str, folder: str) -> str | None:
+    """The wrong body that a folder has, if it has one."""
+    for edit in sorted((TOP / "crates" / crate / "must-fail").glob("*.edit")):
+        if stands_in(edit, Path(folder)):
+            return edit.stem
+    return None
+
+
 def look(found: dict[tuple[str, str], Process]) -> None:
     """Puts in what each process of the prover is and has used."""
     for entry in Path("/proc").glob("[0-9]*"):
@@ -43,11 +66,13 @@ def look(found: dict[tuple[str, str], Process]) -> None:
                 continue
             fields = (entry / "stat").read_text().rpartition(")")[2].split()
             folder = os.readlink(entry / "cwd")
+            crate = words[words.index("--crate-name") + 1]
+            seconds = (int(fields[11]) + int(fields[12])) / TICKS
+            kind, known = kind_of(words, folder), found.get((entry.name, fields[19]))
+            body = known.body if known else body_in(crate, folder) if kind == "wrong bodies" else None
         except OSError:
             continue
-        crate = words[words.index("--crate-name") + 1]
-        seconds = (int(fields[11]) + int(fields[12])) / TICKS
-        found[entry.name, fields[19]] = Process(crate, kind_of(words, folder), folder, seconds)
+        found[entry.name, fields[19]] = Process(crate, kind, folder, body, seconds)
 
 
 def main() -> int:
@@ -67,6 +92,10 @@ def main() -> int:
     for crate in sorted({crate for crate, _ in minutes}):
         print(f"{crate:<16}" + "".join(f"{minutes[crate, kind]:14.1f}" for kind in KINDS) + f"{len(folders[crate]):14}")
     print(f"{sum(minutes.values()):.0f} processor minutes, {(time.monotonic() - start) / 60:.0f} minutes of the clock")
+    print("the dearest wrong bodies, in processor seconds:")
+    bodies = sorted((it for it in found.values() if it.body), key=lambda it: -it.seconds)
+    for it in bodies[:BODIES_SHOWN]:
+        print(f"{it.seconds:8.0f}  {it.crate}/{it.body}")
     return running.returncode
 
 

@@ -1,40 +1,41 @@
 -- Tasks one after the other.
 use Rattle.std.proofs.Common.{arith, ◌≡◌, ℕ, suc, ◌+◌, ◌-◌, List, [], ◌∷◌, ◌++◌, refl, ap, sym, ◌∙◌, subst, append_assoc, Result, Ok, Err, true, false}
 use Rattle.std.specs.Result.{IsErr, IsErrAnd}
+use Rattle.std.specs.Prelude.{⊤}
 use Rattle.ctd_source.specs.declared.source.Source.{Ghosts}
 use Rattle.ctd_source.specs.declared.spot.Spot.{Spot}
 use Rattle.ctd_source.specs.TestData.{TestData, spot_at}
 use Rattle.ctd_source.proofs.AdvanceLemmas.{advances_so, advances_both, advances_nowhere}
+use Rattle.ctd_source.specs.Received.{AdvancesSuchThat}
 use Rattle.ctd_token.specs.declared.text.Place.{Place}
 use Rattle.ctd_tree.specs.declared.tree.Action.{Action}
 use Rattle.ctd_tree.specs.declared.tree.Action.TheVariants.{Space, Newline, Eof, Int, String, Regex, Assert, Set, Unset, Rep', RepI', While', WhileI', If}
 use Rattle.ctd_tree.specs.declared.tree.Command.{Command}
 use Rattle.ctd_tree.specs.Tree.{place_of, CommandList}
 use Rattle.ctd_tree.specs.View.{action_tree, command_tree}
+use Rattle.ctd_tree.specs.declared.preset.Preset.{Preset}
+use Rattle.ctd_tree.specs.declared.tree.PatternLiteral.{PatternLiteral}
+use Rattle.ctd_command.specs.declared.machine.Run.{Run}
+use Rattle.ctd_command.specs.declared.failure.CommandFailure.{CommandFailure}
+use Rattle.ctd_command.specs.declared.failure.Failure.TheVariants.{Rejected, Stopped, Memory}
+use Rattle.ctd_command.specs.declared.reason.Fault.TheVariants.{StepLimit}
+use Rattle.ctd_command.specs.State.{State, Effect}
+use Rattle.ctd_command.specs.Blanks.{first_skip}
+use Rattle.ctd_command.specs.declared.mode.Mode.{Mode}
+use Rattle.ctd_command.specs.Performs.{Does, answering, state, Performs}
 use Rattle.ctd_check.specs.declared.agenda.Agenda.{Agenda}
-use Rattle.ctd_check.specs.declared.machine.Run.{Run}
 use Rattle.ctd_check.specs.declared.outcome.Site.{Site}
 use Rattle.ctd_check.specs.declared.outcome.Site.TheVariants.{Start, At}
-use Rattle.ctd_check.specs.declared.failure.CommandFailure.{CommandFailure}
-use Rattle.ctd_check.specs.declared.failure.Failure.TheVariants.{Rejected, Stopped, Memory}
-use Rattle.ctd_check.specs.declared.failure.Halt.{Halt}
-use Rattle.ctd_check.specs.declared.failure.Halt.TheVariants as halts
+use Rattle.ctd_check.specs.declared.halt.Halt.{Halt}
+use Rattle.ctd_check.specs.declared.halt.Halt.TheVariants as halts
 use Rattle.ctd_check.specs.declared.outcome.Outcome.TheVariants as outcomes
-use Rattle.ctd_check.specs.declared.outcome.Fault.TheVariants.{StepLimit}
-use Rattle.ctd_source.specs.Received.{AdvancesSuchThat}
-use Rattle.std.specs.Prelude.{⊤}
-use Rattle.ctd_check.specs.State.{State, Effect}
-use Rattle.ctd_check.specs.Blanks.{first_skip}
 use Rattle.ctd_check.specs.Loops.{Task, start, finish, tasks}
 use Rattle.ctd_check.specs.Run.{Ended, stopped, site_of, perform, resume, run, run_from, with_steps, meaning, Finds, at_start}
-use Rattle.ctd_check.specs.declared.outcome.Mode.{Mode}
 use Rattle.ctd_check.specs.declared.outcome.Checked.{Checked}
-use Rattle.ctd_tree.specs.declared.preset.Preset.{Preset}
-use Rattle.ctd_check.specs.Failures.{halt_of, at_limit, Concludes}
+use Rattle.ctd_check.specs.Halts.{halt_of, at_limit, Concludes}
 use Rattle.ctd_check.specs.Opening.{halting, Opens}
-use Rattle.ctd_tree.specs.declared.tree.PatternLiteral.{PatternLiteral}
 use Rattle.ctd_check.specs.Pending.{to_do}
-use Rattle.ctd_check.specs.Performs.{Does, ContinuesWith, answering, state, Performs, Advances, Ends, EndsAs}
+use Rattle.ctd_check.specs.Advances.{ContinuesWith, Advances, Ends, EndsAs}
 
 -- a command has its own place
 pub place_is : (a : Action) (place : Place) → place_of (action_tree a place) ≡ place

@@ -1,24 +1,12 @@
 -- What is to be done finds its patterns by their numbers.
-use Rattle.std.specs.Prelude.{◌≡◌, ℕ, List, [], ◌∷◌, ◌++◌, map, slice_get, Some, Option, Result, Ok, Err}
+use Rattle.std.specs.Prelude.{ℕ, List, [], ◌∷◌, ◌++◌, Option, Result, Ok, Err}
 use Rattle.ctd_tree.specs.declared.tree.PatternLiteral.{PatternLiteral}
 use Rattle.ctd_syntax.specs.Numbering.{command_literals, separator_literals, literals}
+use Rattle.ctd_plan.specs.Numbered.{AreAmong}
+use Rattle.ctd_command.specs.declared.failure.CommandFailure.{CommandFailure}
 use Rattle.ctd_check.specs.declared.frame.Frame.{Frame}
-use Rattle.ctd_check.specs.declared.failure.CommandFailure.{CommandFailure}
 use Rattle.ctd_check.specs.Loops.{Task, start, turn, finish}
 use Rattle.ctd_check.specs.Pending.{left_tasks}
-
--- the bytes of some literals
-abbrev pub texts_of : List PatternLiteral → List (List ℕ)
-texts_of ls = map (λ l. l.bytes) ls
-
--- of these patterns, each seen as the bytes of its literal, that of a literal stands at its number
-abbrev pub IsAmong : List (List ℕ) → PatternLiteral → Type 0
-IsAmong patterns literal = slice_get patterns literal.number ≡ Some literal.bytes
-
--- those of all these literals do
-abbrev pub AreAmong : List (List ℕ) → List PatternLiteral → Type 0
-AreAmong patterns [] = Unit {0}
-AreAmong patterns (l ∷ ls) = IsAmong patterns l × AreAmong patterns ls
 
 -- the literals of a task
 abbrev pub task_literals : Task → List PatternLiteral

@@ -1,7 +1,7 @@
 -- Laws of the run.
 use Rattle.std.specs.Prelude.{◌≡◌, ℕ, List, ◌++◌}
 use Rattle.ctd_source.specs.TestData.{TestData}
-use Rattle.ctd_check.specs.State.{State}
+use Rattle.ctd_command.specs.State.{State}
 use Rattle.ctd_check.specs.Loops.{Task}
 use Rattle.ctd_check.specs.Run.{Ended, all_done, stopped, run}
 

@@ -3,17 +3,18 @@ use Rattle.std.specs.Prelude.{◌≡◌, ℕ, List, ◌++◌, Result, Ok, Err, O
 use Rattle.ctd_source.specs.declared.source.Source.{Ghosts}
 use Rattle.ctd_source.specs.declared.spot.Spot.{Spot}
 use Rattle.ctd_tree.specs.declared.tree.PatternLiteral.{PatternLiteral}
+use Rattle.ctd_plan.specs.Numbered.{AreAmong}
+use Rattle.ctd_command.specs.declared.machine.Run.{Run}
+use Rattle.ctd_command.specs.declared.failure.CommandFailure.{CommandFailure}
+use Rattle.ctd_command.specs.Performs.{Performs, answering}
+use Rattle.ctd_command.specs.State.{Act}
 use Rattle.ctd_check.specs.declared.agenda.Agenda.{Agenda}
-use Rattle.ctd_check.specs.declared.machine.Run.{Run}
-use Rattle.ctd_check.specs.declared.failure.CommandFailure.{CommandFailure}
-use Rattle.ctd_check.specs.declared.failure.Halt.{Halt}
+use Rattle.ctd_check.specs.declared.halt.Halt.{Halt}
 use Rattle.ctd_check.specs.declared.outcome.Site.{Site}
-use Rattle.ctd_check.specs.Failures.{halt_of}
-use Rattle.ctd_check.specs.Known.{AreAmong, AreKnown}
+use Rattle.ctd_check.specs.Halts.{halt_of}
+use Rattle.ctd_check.specs.Known.{AreKnown}
 use Rattle.ctd_check.specs.Loops.{Task}
 use Rattle.ctd_check.specs.Pending.{to_do}
-use Rattle.ctd_check.specs.Performs.{Performs, answering}
-use Rattle.ctd_check.specs.State.{Act}
 
 -- how a run goes on or ends by the answer of a command that began at this spot and stands at this site
 abbrev pub halting : Spot → Site → Result (Unit {0}) CommandFailure → Result (Unit {0}) Halt

@@ -7,10 +7,9 @@ ghost use Rattle.ctd_check.specs.Loops.{start, tasks, finish};
 ghost use Rattle.ctd_check.specs.declared.frame.Lap.{Lap};
 ghost use Rattle.ctd_check.specs.Pending.{Fits, fits_prop, to_do, top_lap, frame_tasks, left_tasks, round_tasks, lap_blocks, frame_blocks, lap_turn, IsAtTurn, IsListDone, IsWithin};
 
-use crate::failure::{CommandFailure, Failure};
 use crate::frame::{Frame, Lap};
-use crate::outcome::Fault;
 use arrayvec::ArrayVec;
+use ctd_command::{CommandFailure, Failure, Fault};
 use ctd_syntax::Command;
 
 /// The program's list, and 200 blocks in one another.

@@ -1,16 +1,17 @@
 //! IF and the loops: the frames that they leave to be done, and the turns of a loop.
-ghost use Rattle.std.specs.Prelude.{◌≡◌, ℕ, List, ◌+◌, ◌≤◌, ◌∷◌, ◌++◌, [], max, Some, pos};
-ghost use Rattle.ctd_syntax.specs.Numbering.{literals, separator_literals};
+ghost use Rattle.std.specs.Prelude.{◌≡◌, ℕ, List, ◌+◌, ◌≤◌, ◌∷◌, ◌++◌, [], max, Some};
 ghost use Rattle.ctd_tree.specs.Tree.{list_blocks, separator_blocks};
 ghost use Rattle.ctd_tree.specs.View.{expr_tree, test_tree, command_list, boxed_separator};
-ghost use Rattle.ctd_check.specs.Known.{AreAmong, LeavesKnown};
+ghost use Rattle.ctd_syntax.specs.Numbering.{literals, separator_literals};
+ghost use Rattle.ctd_plan.specs.Numbered.{AreAmong};
+ghost use Rattle.ctd_command.specs.Performs.{IsSound, Performs, answering};
+ghost use Rattle.ctd_check.specs.Known.{LeavesKnown};
 ghost use Rattle.ctd_check.specs.Loops.{tasks, loop_of, turn, take_turn, count_turn, goes_on, repeat, choice};
 ghost use Rattle.ctd_check.specs.Pending.{frame_tasks, separator_in, frame_blocks, lap_turn, guard_in, counter_in, loop_in, left_tasks, IsWithin};
-ghost use Rattle.ctd_check.specs.Performs.{IsSound, Performs, NeedsRoom, answering};
+ghost use Rattle.ctd_check.specs.Advances.{NeedsRoom};
 
-use crate::failure::CommandFailure;
 use crate::frame::{Frame, Guard, Lap};
-use crate::machine::Run;
+use ctd_command::{CommandFailure, Run};
 use ctd_source::Source;
 use ctd_syntax::{Command, Commands, Expr, Place, Test, Var};
 
@@ -63,74 +64,83 @@ fn list_frame(commands: &Commands) -> Option<Frame<'_>>
     }
 }
 
-impl<'d, D: Source> Run<'d, D> {
-    /// IF: one of two lists is left to be done.
-    #[inline(always)]
-    pub(crate) fn choose<'p>(
-        &mut self,
-        t: &Test,
-        then_do: &'p Commands,
-        else_do: &'p Commands,
-    ) -> Result<Option<Frame<'p>>, CommandFailure>
-        requires sound { IsSound self.old }
-        ensures performs { Performs self.old self.new (answering left_tasks result) (choice (test_tree t.now) (command_list then_do.now) (command_list else_do.now)) }
-        ensures room { NeedsRoom result (1 + max (list_blocks (command_list then_do.now)) (list_blocks (command_list else_do.now))) }
-        ensures known { (patterns : List (List ℕ)) → AreAmong patterns (literals (command_list then_do.now) ++ literals (command_list else_do.now)) → LeavesKnown patterns result }
-    {
-        if self.answer(t)? {
-            return Ok(list_frame(then_do));
-        }
-        Ok(list_frame(else_do))
+/// IF: one of two lists is left to be done.
+#[inline(always)]
+pub(crate) fn choose<'p, D: Source>(
+    run: &mut Run<'_, D>,
+    t: &Test,
+    then_do: &'p Commands,
+    else_do: &'p Commands,
+) -> Result<Option<Frame<'p>>, CommandFailure>
+    requires sound { IsSound run.old }
+    ensures performs { Performs run.old run.new (answering left_tasks result) (choice (test_tree t.now) (command_list then_do.now) (command_list else_do.now)) }
+    ensures room { NeedsRoom result (1 + max (list_blocks (command_list then_do.now)) (list_blocks (command_list else_do.now))) }
+    ensures known { (patterns : List (List ℕ)) → AreAmong patterns (literals (command_list then_do.now) ++ literals (command_list else_do.now)) → LeavesKnown patterns result }
+{
+    if run.answer(t)? {
+        return Ok(list_frame(then_do));
     }
+    Ok(list_frame(else_do))
+}
 
-    /// REP and REPI: the loop is left to be done.
-    #[inline(always)]
-    pub(crate) fn repeat<'p>(
-        &mut self,
-        place: Place,
-        count: &Expr,
-        counter: Option<&'p Var>,
-        between: &'p Option<Box<Command>>,
-        body: &'p Commands,
-    ) -> Result<Option<Frame<'p>>, CommandFailure>
-        requires sound { IsSound self.old }
-        ensures performs { Performs self.old self.new (answering left_tasks result) (repeat place (expr_tree count.now) (counter_in counter.entry) (boxed_separator between.now) (command_list body.now)) }
-        ensures room { NeedsRoom result (1 + max (separator_blocks (boxed_separator between.now)) (list_blocks (command_list body.now))) }
-        ensures known { (patterns : List (List ℕ)) → AreAmong patterns (separator_literals (boxed_separator between.now) ++ literals (command_list body.now)) → LeavesKnown patterns result }
-    {
-        let turns = self.count(count)?;
-        let frame = loop_frame(place, Guard::Times(turns), counter, between, body);
-        Ok(Some(frame))
-    }
+/// REP and REPI: the loop is left to be done.
+#[inline(always)]
+pub(crate) fn repeat<'p, D: Source>(
+    run: &mut Run<'_, D>,
+    place: Place,
+    count: &Expr,
+    counter: Option<&'p Var>,
+    between: &'p Option<Box<Command>>,
+    body: &'p Commands,
+) -> Result<Option<Frame<'p>>, CommandFailure>
+    requires sound { IsSound run.old }
+    ensures performs { Performs run.old run.new (answering left_tasks result) (repeat place (expr_tree count.now) (counter_in counter.entry) (boxed_separator between.now) (command_list body.now)) }
+    ensures room { NeedsRoom result (1 + max (separator_blocks (boxed_separator between.now)) (list_blocks (command_list body.now))) }
+    ensures known { (patterns : List (List ℕ)) → AreAmong patterns (separator_literals (boxed_separator between.now) ++ literals (command_list body.now)) → LeavesKnown patterns result }
+{
+    let turns = run.count(count)?;
+    let frame = loop_frame(place, Guard::Times(turns), counter, between, body);
+    Ok(Some(frame))
+}
 
-    /// Gives a counter, where there is one, the number of a turn.
-    fn count_turn(&mut self, counter: Option<&Var>, turn: u64) -> Result<(), CommandFailure>
-        requires sound { IsSound self.old }
-        ensures performs { Performs self.old self.new result (count_turn (counter_in counter.entry) turn) }
-    {
-        match counter {
-            Some(v) => self.set_to_number(v, i128::from(turn)),
-            None => Ok(()),
-        }
+/// Gives a counter, where there is one, the number of a turn.
+fn count_turn<D: Source>(
+    run: &mut Run<'_, D>,
+    counter: Option<&Var>,
+    turn: u64,
+) -> Result<(), CommandFailure>
+    requires sound { IsSound run.old }
+    ensures performs { Performs run.old run.new result (count_turn (counter_in counter.entry) turn) }
+{
+    match counter {
+        Some(v) => run.set_to_number(v, i128::from(turn)),
+        None => Ok(()),
     }
+}
 
-    /// Whether a loop goes on with a turn.
-    fn goes_on(&mut self, guard: Guard<'_>, turn: u64) -> Result<bool, CommandFailure>
-        requires sound { IsSound self.old }
-        ensures performs { Performs self.old self.new result (goes_on (guard_in guard.entry) turn) }
-    {
-        match guard {
-            Guard::Times(turns) => Ok(turn < turns),
-            Guard::While(t) => self.answer(t),
-        }
+/// Whether a loop goes on with a turn.
+fn goes_on<D: Source>(
+    run: &mut Run<'_, D>,
+    guard: Guard<'_>,
+    turn: u64,
+) -> Result<bool, CommandFailure>
+    requires sound { IsSound run.old }
+    ensures performs { Performs run.old run.new result (goes_on (guard_in guard.entry) turn) }
+{
+    match guard {
+        Guard::Times(turns) => Ok(turn < turns),
+        Guard::While(t) => run.answer(t),
     }
+}
 
-    /// First the counter of a turn, and then whether the loop goes on with it.
-    pub(crate) fn take_turn(&mut self, lap: &Lap<'_>) -> Result<bool, CommandFailure>
-        requires sound { IsSound self.old }
-        ensures performs { Performs self.old self.new result (take_turn (loop_in lap.now) lap.now.turn) }
-    {
-        self.count_turn(lap.counter, lap.turn)?;
-        self.goes_on(lap.guard, lap.turn)
-    }
+/// First the counter of a turn, and then whether the loop goes on with it.
+pub(crate) fn take_turn<D: Source>(
+    run: &mut Run<'_, D>,
+    lap: &Lap<'_>,
+) -> Result<bool, CommandFailure>
+    requires sound { IsSound run.old }
+    ensures performs { Performs run.old run.new result (take_turn (loop_in lap.now) lap.now.turn) }
+{
+    count_turn(run, lap.counter, lap.turn)?;
+    goes_on(run, lap.guard, lap.turn)
 }

@@ -2,20 +2,23 @@
 ghost use Rattle.std.specs.Prelude.{◌≡◌, ◌≤◌, ◌<◌, ◌+◌, ◌*◌, ◌^◌, ◌∷◌, [], length, is_some, true, OnOk, IfSome, Some};
 ghost use Rattle.ctd_source.specs.CursorState.{state_of};
 ghost use Rattle.ctd_tree.specs.Tree.{blocks};
-ghost use Rattle.ctd_syntax.specs.Numbering.{command_literals};
 ghost use Rattle.ctd_tree.specs.View.{command_tree};
+ghost use Rattle.ctd_syntax.specs.Numbering.{command_literals};
+ghost use Rattle.ctd_command.specs.Performs.{IsSound, state};
 ghost use Rattle.ctd_check.specs.Known.{AreKnown};
 ghost use Rattle.ctd_check.specs.Loops.{start, separated};
 ghost use Rattle.ctd_check.specs.Pending.{to_do, top_lap, lap_blocks, separator_in, separator_tasks, IsListDone};
-ghost use Rattle.ctd_check.specs.Performs.{IsSound, Advances, Ends, EndsAs, state};
+ghost use Rattle.ctd_check.specs.Advances.{Advances, Ends, EndsAs};
 ghost use Rattle.ctd_check.specs.Opening.{Opens, halting};
 ghost use Rattle.ctd_check.specs.Run.{act_of, run_from};
 
 use crate::agenda::Agenda;
-use crate::failure::{CommandFailure, Halt};
+use crate::command::{act, start_block};
 use crate::frame::Lap;
-use crate::machine::Run;
-use crate::outcome::{Fault, Site};
+use crate::halt::Halt;
+use crate::loops::take_turn;
+use crate::outcome::Site;
+use ctd_command::{CommandFailure, Fault, Run};
 use ctd_pattern::Matcher;
 use ctd_source::Source;
 use ctd_syntax::{Action, Command};
@@ -38,7 +41,7 @@ fn begin<'p, D: Source>(
     ensures kept { matchers.new ≡ matchers.old }
 {
     agenda.pay()?;
-    match run.act(command, matchers) {
+    match act(run, command, matchers) {
         Some(done) => done,
         None => open(command, run, agenda),
     }
@@ -100,7 +103,7 @@ fn open_here<'p, D: Source>(
     ensures len { length agenda.new.frames.items ≤ length agenda.old.frames.items + 1 }
     ensures opens { Opens run.old run.new agenda.old agenda.new (command_literals (command_tree command.now)) result (act_of (command_tree command.now)) }
 {
-    match run.open(command) {
+    match start_block(run, command) {
         Ok(frame) => {
             agenda.leave(frame);
             Ok(())
@@ -142,10 +145,14 @@ fn begin_turn<D: Source>(
         unreachable!();
     };
     if agenda.left() == 0 {
-        return Err(CommandFailure::stopped(Fault::StepLimit).halt(spot, Site::At(lap.place)));
+        return Err(Halt::of(
+            CommandFailure::stopped(Fault::StepLimit),
+            spot,
+            Site::At(lap.place),
+        ));
     }
     let separator = separator_before(lap);
-    match run.take_turn(lap) {
+    match take_turn(run, lap) {
         Ok(true) => {
             agenda.go_round();
             match separator {
@@ -153,7 +160,7 @@ fn begin_turn<D: Source>(
                     let spot = run.cursor.spot();
                     match begin(command, run, agenda, matchers) {
                         Ok(()) => Ok(()),
-                        Err(failure) => Err(failure.halt(spot, Site::At(command.place))),
+                        Err(failure) => Err(Halt::of(failure, spot, Site::At(command.place))),
                     }
                 }
                 None => Ok(()),
@@ -164,7 +171,7 @@ fn begin_turn<D: Source>(
             Ok(())
         }
         Err(failure) => {
-            let halt = failure.halt(spot, Site::At(lap.place));
+            let halt = Halt::of(failure, spot, Site::At(lap.place));
             agenda.end_loop();
             Err(halt)
         }
@@ -180,11 +187,11 @@ fn conclude<D: Source>(run: &mut Run<'_, D>, agenda: &mut Agenda<'_>) -> Result<
 {
     let spot = run.cursor.spot();
     if let Err(failure) = agenda.pay() {
-        return Err(failure.halt(spot, Site::Finish));
+        return Err(Halt::of(failure, spot, Site::Finish));
     }
     match run.end() {
         Ok(()) => Ok(()),
-        Err(failure) => Err(failure.halt(spot, Site::Finish)),
+        Err(failure) => Err(Halt::of(failure, spot, Site::Finish)),
     }
 }
 
@@ -204,7 +211,7 @@ fn run_tasks<D: Source>(
             let spot = run.cursor.spot();
             match begin(command, run, agenda, matchers) {
                 Ok(()) => continue,
-                Err(failure) => return Err(failure.halt(spot, Site::At(command.place))),
+                Err(failure) => return Err(Halt::of(failure, spot, Site::At(command.place))),
             }
         }
         if agenda.has_loop() {
@@ -231,6 +238,6 @@ pub(crate) fn run_program<D: Source>(
     let spot = run.cursor.spot();
     match run.first_skip() {
         Ok(()) => run_tasks(run, agenda, matchers),
-        Err(failure) => Err(failure.halt(spot, Site::Start)),
+        Err(failure) => Err(Halt::of(failure, spot, Site::Start)),
     }
 }

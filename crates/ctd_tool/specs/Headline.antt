@@ -6,7 +6,7 @@ use Rattle.ctd_source.specs.Agreement.{Agrees}
 use Rattle.ctd_source.specs.CursorState.{Gave}
 use Rattle.ctd_token.specs.declared.fault.LoadFault.{LoadFault}
 use Rattle.ctd_tree.specs.Tree.{CommandList}
-use Rattle.ctd_check.specs.Loading.{Loads, MayFail}
+use Rattle.ctd_plan.specs.Loading.{Loads, MayFail}
 use Rattle.ctd_check.specs.Run.{meaning}
 use Rattle.ctd_tool.specs.declared.setup.Setup.{Setup}
 use Rattle.ctd_tool.specs.Report.{Report, check_report, load_report}

@@ -3,7 +3,8 @@ use Rattle.std.specs.Prelude.{ℕ, Bool, List, [], ◌≡◌, ◌⊎◌, ◌++�
 use Rattle.ctd_source.specs.SpotText.{spot_text}
 use Rattle.ctd_token.specs.FaultText.{load_fault_text}
 use Rattle.ctd_token.specs.declared.fault.LoadFault.{LoadFault}
-use Rattle.ctd_check.specs.OutcomeText.{fault_text, reason_text, site_text}
+use Rattle.ctd_command.specs.ReasonText.{fault_text, reason_text}
+use Rattle.ctd_check.specs.OutcomeText.{site_text}
 use Rattle.ctd_check.specs.declared.outcome.Outcome.{Outcome}
 use Rattle.ctd_check.specs.declared.outcome.Outcome.TheVariants.{Accepted, Rejected, Stopped}
 use Rattle.ctd_tool.specs.declared.setup.UsageFault.{UsageFault}

@@ -1,12 +1,12 @@
 -- The settings that the words of the command line ask for.
+use Rattle.clap.specs.Words.{Text}
 use Rattle.std.specs.Prelude.{◌≡◌, ◌^◌, ℕ, Bool, false, List, [], Option, None, Some, codes, option_and_then, if◌then◌else◌}
 use Rattle.std.specs.Str.{bytes_eq}
 use Rattle.std.specs.Str.Parse.{digits_value}
-use Rattle.clap.specs.Words.{Text}
-use Rattle.ctd_check.specs.declared.outcome.Mode.{Mode}
-use Rattle.ctd_check.specs.declared.outcome.Mode.TheVariants.{Exact, BlanksOk}
 use Rattle.ctd_tree.specs.Presets.{ArePresets}
 use Rattle.ctd_tree.specs.declared.preset.Preset.{Preset}
+use Rattle.ctd_command.specs.declared.mode.Mode.{Mode}
+use Rattle.ctd_command.specs.declared.mode.Mode.TheVariants.{Exact, BlanksOk}
 use Rattle.ctd_tool.specs.Usage.{IsStepNumber, IsTaken, flag_in, value_in}
 use Rattle.ctd_tool.specs.declared.setup.Setup.{Setup}
 

@@ -1,21 +1,8 @@
-pub mod Alone
-pub mod ArraysSeen
 pub mod Distinct
-pub mod Firsts
 pub mod Giving
-pub mod Laid
-pub mod Lookups
-pub mod Maps
-pub mod Members
-pub mod Merged
-pub mod Named
-pub mod NamedAt
 pub mod Ordinary
 pub mod Powers
 pub mod Rows
 pub mod Small
 pub mod ListTraversal
-pub mod StoreLaws
-pub mod Telling
 mod Texts
-pub mod Gridded

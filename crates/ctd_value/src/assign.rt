@@ -2,16 +2,15 @@
 
 ghost use Rattle.std.specs.Prelude.{◌≡◌, ◌≢◌, true, false, Ok, Err, IfSome, IfNone, OnErr};
 ghost use Rattle.ctd_tree.specs.View.{expr_tree, var_tree};
+ghost use Rattle.ctd_store.specs.Lent.{value_lent};
+ghost use Rattle.ctd_store.specs.declared.value.Value.TheVariants as values;
 ghost use Rattle.ctd_value.specs.Fault.{Gives};
-ghost use Rattle.ctd_value.specs.Lending.{map_ok, value_lent};
+ghost use Rattle.ctd_value.specs.Lending.{map_ok};
 ghost use Rattle.ctd_value.specs.Setting.{with_variable, with_expression};
-ghost use Rattle.ctd_value.specs.declared.value.Value.TheVariants as values;
 
 use crate::expression::{eval, index_values, plain_number, small};
 use crate::fault::EvalFault;
-use crate::lent::Lent;
-use crate::store::Store;
-use crate::value::Value;
+use ctd_store::{Lent, Store, Value};
 use ctd_token::Bytes;
 use ctd_tree::{Expr, Var};
 use std::alloc::Global;

@@ -1,9 +1,9 @@
 use Rattle.std.proofs.Common.{◌-◌, ◌++◌, ◌∷◌, [], ap, ◌∙◌, sym, rules}
 use Rattle.ctd_tree.specs.View.{command_trees}
-use Rattle.ctd_value.specs.Store.{initial}
+use Rattle.ctd_store.specs.Store.{initial}
+use Rattle.ctd_command.specs.Performs.{state}
 use Rattle.ctd_check.specs.Loops.{tasks, finish}
 use Rattle.ctd_check.specs.Pending.{to_do}
-use Rattle.ctd_check.specs.Performs.{state}
 use Rattle.ctd_check.specs.Run.{run_from, at_start}
 use Rattle.ctd_check.proofs.Concluding.{found, given_count}
 use Rattle.ctd_check.proofs.Knowing.{known_append, known_as, known_tasks}

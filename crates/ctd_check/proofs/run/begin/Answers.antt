@@ -1,6 +1,6 @@
 use Rattle.std.proofs.Common.{ap, refl, sym, subst, OnOk}
-use Rattle.ctd_syntax.specs.Numbering.{command_literals}
 use Rattle.ctd_tree.specs.View.{command_tree}
+use Rattle.ctd_syntax.specs.Numbering.{command_literals}
 use Rattle.ctd_check.specs.declared.outcome.Site.TheVariants.{At}
 use Rattle.ctd_check.specs.Known.{AreKnown}
 use Rattle.ctd_check.specs.Loops.{start}
@@ -31,5 +31,5 @@ returns-in-None-clause-known g c =
 
 pub returns-in-Some-clause-advances : goal.returns-in-Some-clause-advances
 returns-in-Some-clause-advances g c =
-    task_does c.args.run.now c.act.new.self (start (command_tree c.args.command.now)) _ c.pay.new.self.left (to_do c.args.agenda.now.frames.items) c.pay.new.self c.args.run.now.cursor.spot (At c.args.command.now.place) c.in-Some.done
+    task_does c.args.run.now c.act.new.run (start (command_tree c.args.command.now)) _ c.pay.new.self.left (to_do c.args.agenda.now.frames.items) c.pay.new.self c.args.run.now.cursor.spot (At c.args.command.now.place) c.in-Some.done
     c.in_ok-pay.ensures.paid refl (ap (λ f. to_do f.items) c.in_ok-pay.ensures.frames) refl (site_is c.args.command.now) c.in-Some.ensures.performs

@@ -1,10 +1,10 @@
 use Rattle.std.proofs.Common.{◌+◌, ◌++◌, [], ap, sym, ◌∙◌, add-one, refl, Ok, Err, if◌then◌else◌}
 use Rattle.ctd_syntax.specs.Numbering.{literals, separator_literals}
+use Rattle.ctd_command.proofs.Acts.{answers_as, performs_answering}
 use Rattle.ctd_check.specs.declared.outcome.Site.TheVariants.{At}
-use Rattle.ctd_check.specs.Failures.{halt_of}
+use Rattle.ctd_check.specs.Halts.{halt_of}
 use Rattle.ctd_check.specs.Loops.{turn, turn_tasks, separated}
 use Rattle.ctd_check.specs.Pending.{to_do, loop_in, separator_in}
-use Rattle.ctd_check.proofs.Acts.{answers_as, performs_answering}
 use Rattle.ctd_check.proofs.Knowing.{among_front, known_as, known_separated, known_turn}
 use Rattle.ctd_check.proofs.Rounds.{at_turn, to_do_at}
 use Rattle.ctd_check.proofs.Running.{advances_as, halted_as, task_done, task_failed, task_unpaid, task_then, turn_left}
@@ -17,7 +17,7 @@ returns-then-left-eq0-clause-advances g c =
     let at = at_turn frames lap (sym c.in-Some.ensures.value) c.requires.done in
     let none = sym c.left.ensures ∙ c.if-left-eq0.true in
     advances_as (to_do_at frames lap at)
-    (task_unpaid c.args.run.now (turn (loop_in lap) lap.turn) _ c.spot-spot.result c.halt.result (to_do at.below) c.args.agenda.now (Err c.halt.result) (refl, refl) none none c.spot-spot.ensures (c.halt.ensures ∙ ap (halt_of c.spot-spot.result (At lap.place)) c.stopped.ensures))
+    (task_unpaid c.args.run.now (turn (loop_in lap) lap.turn) _ c.spot-spot.result c.of.result (to_do at.below) c.args.agenda.now (Err c.of.result) (refl, refl) none none c.spot-spot.ensures (c.of.ensures ∙ ap (halt_of c.spot-spot.result (At lap.place)) c.stopped.ensures))
 
 pub begin-requires-clause-known : goal.begin-requires-clause-known
 begin-requires-clause-known g c =
@@ -38,7 +38,7 @@ returns-in-Ok-clause-advances g c =
     let k = lap.turn in
     let at = at_turn frames lap (sym c.in-Some.ensures.value) c.requires.done in
     advances_as (to_do_at frames lap at)
-    (task_then c.args.run.now c.take_turn.new.self c.begin.new.run (turn loop k) _ c.go_round.new.self.left (turn_tasks loop k) (to_do at.below) _ c.begin.new.agenda (Ok tt) c.go_round.ensures.paid
+    (task_then c.args.run.now c.take_turn.new.run c.begin.new.run (turn loop k) _ c.go_round.new.self.left (turn_tasks loop k) (to_do at.below) _ c.begin.new.agenda (Ok tt) c.go_round.ensures.paid
     (ap (λ ts. ts ++ to_do c.go_round.new.self.frames.items) (sym c.in-Some-separator.ensures.tasks) ∙ turn_left (separated k (separator_in lap.between)) _ _ _ _ _ (ap (turn loop) (add-one k)) (c.go_round.ensures.to_do lap at))
     (answers_as (ap (λ b. Ok (if b then turn_tasks loop k else [])) (sym c.in-Ok-true.field-0-test)) (performs_answering (λ b. if b then turn_tasks loop k else []) c.in-Ok-true.ensures.performs)) c.in-Ok.ensures.advances)
 
@@ -50,9 +50,9 @@ returns-in-Err-begin-clause-advances g c =
     let k = lap.turn in
     let at = at_turn frames lap (sym c.in-Some.ensures.value) c.requires.done in
     advances_as (to_do_at frames lap at)
-    (task_then c.args.run.now c.take_turn.new.self c.begin.new.run (turn loop k) _ c.go_round.new.self.left (turn_tasks loop k) (to_do at.below) _ c.begin.new.agenda (Err c.halt-in-Err-begin.result) c.go_round.ensures.paid
+    (task_then c.args.run.now c.take_turn.new.run c.begin.new.run (turn loop k) _ c.go_round.new.self.left (turn_tasks loop k) (to_do at.below) _ c.begin.new.agenda (Err c.of-in-Err-begin.result) c.go_round.ensures.paid
     (ap (λ ts. ts ++ to_do c.go_round.new.self.frames.items) (sym c.in-Some-separator.ensures.tasks) ∙ turn_left (separated k (separator_in lap.between)) _ _ _ _ _ (ap (turn loop) (add-one k)) (c.go_round.ensures.to_do lap at))
-    (answers_as (ap (λ b. Ok (if b then turn_tasks loop k else [])) (sym c.in-Ok-true.field-0-test)) (performs_answering (λ b. if b then turn_tasks loop k else []) c.in-Ok-true.ensures.performs)) (halted_as _ _ _ _ c.halt-in-Err-begin.ensures c.spot-spot-in-Some-separator.ensures c.in-Err-begin.ensures.advances))
+    (answers_as (ap (λ b. Ok (if b then turn_tasks loop k else [])) (sym c.in-Ok-true.field-0-test)) (performs_answering (λ b. if b then turn_tasks loop k else []) c.in-Ok-true.ensures.performs)) (halted_as _ _ _ _ c.of-in-Err-begin.ensures c.spot-spot-in-Some-separator.ensures c.in-Err-begin.ensures.advances))
 
 pub returns-in-None-clause-advances : goal.returns-in-None-clause-advances
 returns-in-None-clause-advances g c =
@@ -62,7 +62,7 @@ returns-in-None-clause-advances g c =
     let k = lap.turn in
     let at = at_turn frames lap (sym c.in-Some.ensures.value) c.requires.done in
     advances_as (to_do_at frames lap at)
-    (task_done c.args.run.now c.take_turn.new.self (turn loop k) _ c.go_round.new.self.left (turn_tasks loop k) (to_do at.below) c.go_round.new.self c.go_round.ensures.paid refl
+    (task_done c.args.run.now c.take_turn.new.run (turn loop k) _ c.go_round.new.self.left (turn_tasks loop k) (to_do at.below) c.go_round.new.self c.go_round.ensures.paid refl
     (ap (λ ts. ts ++ to_do c.go_round.new.self.frames.items) (sym c.in-None.ensures.tasks) ∙ turn_left (separated k (separator_in lap.between)) _ _ _ _ _ (ap (turn loop) (add-one k)) (c.go_round.ensures.to_do lap at))
     (answers_as (ap (λ b. Ok (if b then turn_tasks loop k else [])) (sym c.in-Ok-true.field-0-test)) (performs_answering (λ b. if b then turn_tasks loop k else []) c.in-Ok-true.ensures.performs)))
 
@@ -83,7 +83,7 @@ returns-in-Ok-false-clause-advances g c =
     let k = lap.turn in
     let at = at_turn frames lap (sym c.in-Some.ensures.value) c.requires.done in
     advances_as (to_do_at frames lap at)
-    (task_done c.args.run.now c.take_turn.new.self (turn loop k) _ c.end_loop.new.self.left [] (to_do at.below) c.end_loop.new.self c.end_loop.ensures.paid refl (ap to_do (c.end_loop.ensures.frames lap at))
+    (task_done c.args.run.now c.take_turn.new.run (turn loop k) _ c.end_loop.new.self.left [] (to_do at.below) c.end_loop.new.self c.end_loop.ensures.paid refl (ap to_do (c.end_loop.ensures.frames lap at))
     (answers_as (ap (λ b. Ok (if b then turn_tasks loop k else [])) (sym c.in-Ok-false.field-0-test)) (performs_answering (λ b. if b then turn_tasks loop k else []) c.in-Ok-false.ensures.performs)))
 
 pub returns-in-Ok-false-clause-known : goal.returns-in-Ok-false-clause-known
@@ -102,5 +102,5 @@ returns-in-Err-clause-advances g c =
     let k = lap.turn in
     let at = at_turn frames lap (sym c.in-Some.ensures.value) c.requires.done in
     advances_as (to_do_at frames lap at)
-    (task_failed c.args.run.now c.take_turn.new.self (turn loop k) _ c.spot-spot.result c.halt-halt.result c.in-Err.failure (to_do at.below) c.end_loop-in-Err.new.self c.end_loop-in-Err.ensures.paid c.spot-spot.ensures c.halt-halt.ensures
+    (task_failed c.args.run.now c.take_turn.new.run (turn loop k) _ c.spot-spot.result c.of-halt.result c.in-Err.failure (to_do at.below) c.end_loop-in-Err.new.self c.end_loop-in-Err.ensures.paid c.spot-spot.ensures c.of-halt.ensures
     (performs_answering (λ b. if b then turn_tasks loop k else []) c.in-Err.ensures.performs))

@@ -5,4 +5,4 @@ pub returns-in-Ok-clause-ends : goal.returns-in-Ok-clause-ends
 returns-in-Ok-clause-ends g c = start_done c.args.run.now c.first_skip.new.self c.run_tasks.new.run _ _ _ c.run_tasks.result c.in-Ok.ensures.performs c.run_tasks.ensures.ends
 
 pub returns-in-Err-clause-ends : goal.returns-in-Err-clause-ends
-returns-in-Err-clause-ends g c = start_failed c.args.run.now c.first_skip.new.self _ _ c.spot-spot.result c.halt.result c.in-Err.failure c.spot-spot.ensures c.halt.ensures c.in-Err.ensures.performs
+returns-in-Err-clause-ends g c = start_failed c.args.run.now c.first_skip.new.self _ _ c.spot-spot.result c.of.result c.in-Err.failure c.spot-spot.ensures c.of.ensures c.in-Err.ensures.performs

@@ -1,10 +1,10 @@
 use Rattle.std.proofs.Common.{◌∷◌, arith, ap, sym, ◌∙◌, refl, Err}
 use Rattle.ctd_source.proofs.AdvanceLemmas.{advances_so, advances_both}
 use Rattle.ctd_tree.specs.View.{command_tree}
+use Rattle.ctd_command.specs.Performs.{state}
 use Rattle.ctd_check.specs.Loops.{start}
 use Rattle.ctd_check.specs.Run.{run}
 use Rattle.ctd_check.specs.Pending.{to_do}
-use Rattle.ctd_check.specs.Performs.{state}
 use Rattle.ctd_check.proofs.Knowing.{known_as}
 use Rattle.ctd_check.proofs.Running.{follows_as, ends_early, halted_as}
 use Rattle.ctd_check.proofs.run.run_tasks.Goals as goal
@@ -20,8 +20,8 @@ loop-command-preserved-in-Ok g c = record {
 
 pub returns-in-Err-clause-ends : goal.returns-in-Err-clause-ends
 returns-in-Err-clause-ends g c =
-    ends_early c.args.run.now c.loop-command.run c.begin.new.run _ c.loop-command.agenda.left c.next_command.new.self.left _ _ _ c.begin.new.agenda c.halt.result (Err c.halt.result) (refl, refl) c.loop-command.invariant.goes c.in-Some.ensures.left c.in-Some.ensures.to_do
-    (halted_as _ _ _ _ c.halt.ensures c.spot-spot.ensures c.in-Err.ensures.advances)
+    ends_early c.args.run.now c.loop-command.run c.begin.new.run _ c.loop-command.agenda.left c.next_command.new.self.left _ _ _ c.begin.new.agenda c.of.result (Err c.of.result) (refl, refl) c.loop-command.invariant.goes c.in-Some.ensures.left c.in-Some.ensures.to_do
+    (halted_as _ _ _ _ c.of.ensures c.spot-spot.ensures c.in-Err.ensures.advances)
 
 pub loop-command-preserved-then-has_loop : goal.loop-command-preserved-then-has_loop
 loop-command-preserved-then-has_loop g c = record {

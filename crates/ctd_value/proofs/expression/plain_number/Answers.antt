@@ -1,7 +1,7 @@
 use Rattle.std.proofs.Common.{◌≡◌, ◌<◌, length, [], Ok, IfSome, arith, subst, sym}
 use Rattle.std.proofs.lemmas.Bool.Decides.{nat_tests}
 use Rattle.ctd_tree.specs.View.{expr_tree}
-use Rattle.ctd_value.specs.declared.value.Value.TheVariants as values
+use Rattle.ctd_store.specs.declared.value.Value.TheVariants as values
 use Rattle.ctd_value.specs.Val.{val}
 use Rattle.ctd_value.proofs.Small.{known_at, of_none}
 use Rattle.ctd_value.proofs.expression.plain_number.Goals as goal

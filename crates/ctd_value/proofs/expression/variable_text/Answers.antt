@@ -1,6 +1,6 @@
 use Rattle.std.proofs.Common.{◌<◌, length, [], Ok, Some, ap, sym, ◌∙◌, arith}
 use Rattle.std.proofs.lemmas.Bool.Decides.{nat_tests}
-use Rattle.ctd_value.specs.declared.value.Value.TheVariants as values
+use Rattle.ctd_store.specs.declared.value.Value.TheVariants as values
 use Rattle.ctd_value.proofs.Small.{value_known, of_none}
 use Rattle.ctd_value.proofs.expression.variable_text.Goals as goal
 

@@ -1,7 +1,7 @@
 use Rattle.std.proofs.Common.{◌≡◌, drop}
 use Rattle.std.specs.List.{list_any}
-use Rattle.ctd_value.specs.declared.value.Value.TheVariants as values
-use Rattle.ctd_value.specs.Order.{same_value}
+use Rattle.ctd_store.specs.declared.value.Value.TheVariants as values
+use Rattle.ctd_store.specs.Order.{same_value}
 use Rattle.ctd_value.proofs.pure_test.has_number.Given as goal
 
 abbrev pub invariant-loop-value : goal.invariant-loop-value

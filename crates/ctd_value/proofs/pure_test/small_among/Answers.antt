@@ -2,11 +2,11 @@ use Rattle.std.proofs.Common.{◌∙◌, ap, sym, rules, Ok}
 use Rattle.std.proofs.lemmas.Int.{to_z-of_z}
 use mir.Syntax.{w64, w128}
 use Rattle.std.specs.List.{list_any}
-use Rattle.ctd_value.specs.declared.value.Value.TheVariants as values
-use Rattle.ctd_value.specs.Order.{same_value}
-use Rattle.ctd_value.specs.Store.{values_of}
+use Rattle.ctd_store.specs.declared.value.Value.TheVariants as values
+use Rattle.ctd_store.specs.Order.{same_value}
+use Rattle.ctd_store.specs.Store.{values_of}
+use Rattle.ctd_store.proofs.Rows.{any_in_row}
 use Rattle.ctd_value.specs.Testing.{among}
-use Rattle.ctd_value.proofs.Rows.{any_in_row}
 use Rattle.ctd_value.proofs.pure_test.small_among.Goals as goal
 
 pub returns : goal.returns

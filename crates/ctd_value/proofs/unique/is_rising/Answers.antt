@@ -1,6 +1,6 @@
 use Rattle.std.proofs.Common.{◌∙◌}
-use Rattle.ctd_value.specs.Order.{value_cmp}
-use Rattle.ctd_value.specs.OrderLaws.{value_total}
+use Rattle.ctd_store.specs.Order.{value_cmp}
+use Rattle.ctd_store.specs.OrderLaws.{value_total}
 use Rattle.ctd_value.proofs.Distinct.{rises, rising_distinct, none_rise, at_end}
 use Rattle.ctd_value.proofs.unique.is_rising.Goals as goal
 

@@ -1,8 +1,8 @@
 use Rattle.std.proofs.Common.{ℤ, map, take, ap, sym, ◌∙◌, ◌++◌, ◌∷◌, []}
 use Rattle.std.proofs.lemmas.List.{map-append}
 use Rattle.std.specs.List.{zip}
-use Rattle.ctd_value.specs.declared.value.Value.{Value}
-use Rattle.ctd_value.specs.declared.value.Value.TheVariants as values
+use Rattle.ctd_store.specs.declared.value.Value.{Value}
+use Rattle.ctd_store.specs.declared.value.Value.TheVariants as values
 use Rattle.ctd_value.proofs.Distinct.{zip_more}
 use Rattle.ctd_value.proofs.unique.number_pairs.Goals as goal
 

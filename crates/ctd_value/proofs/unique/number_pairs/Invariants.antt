@@ -1,6 +1,6 @@
 use Rattle.std.proofs.Common.{◌≡◌, map, take}
 use Rattle.std.specs.List.{zip}
-use Rattle.ctd_value.specs.declared.value.Value.TheVariants as values
+use Rattle.ctd_store.specs.declared.value.Value.TheVariants as values
 use Rattle.ctd_value.proofs.unique.number_pairs.Given as goal
 
 abbrev pub invariant-loop-i : goal.invariant-loop-i

@@ -1,5 +1,5 @@
 use Rattle.std.proofs.Common.{◌≡◌, map, take}
-use Rattle.ctd_value.specs.declared.value.Value.TheVariants as values
+use Rattle.ctd_store.specs.declared.value.Value.TheVariants as values
 use Rattle.ctd_value.proofs.unique.numbers_of.Given as goal
 
 abbrev pub invariant-loop-value : goal.invariant-loop-value

@@ -1,6 +1,6 @@
 use Rattle.std.proofs.Common.{Bor, map, ap, sym, ◌∙◌, ◌++◌, ◌∷◌, []}
 use Rattle.std.proofs.lemmas.List.{map-append}
-use Rattle.ctd_value.specs.declared.value.Value.{Value}
+use Rattle.ctd_store.specs.declared.value.Value.{Value}
 use Rattle.ctd_value.proofs.Distinct.{zip_more}
 use Rattle.ctd_value.proofs.unique.reference_pairs.Goals as goal
 

@@ -1,5 +1,5 @@
 use Rattle.std.proofs.Common.{◌≡◌, take}
-use Rattle.ctd_value.specs.Showing.{values_seen}
+use Rattle.ctd_store.specs.Showing.{values_seen}
 use Rattle.ctd_value.proofs.unique.references_to.Given as goal
 
 abbrev pub invariant-loop-value : goal.invariant-loop-value

@@ -1,0 +1,32 @@
+use Rattle.std.proofs.Common.{[], ap, map}
+use Rattle.ctd_tree.specs.View.{assignment}
+use Rattle.ctd_command.specs.Effect.{set, unset_all}
+use Rattle.ctd_command.proofs.Acts.{performs_answering, performs_as}
+use Rattle.ctd_check.proofs.command.act.Goals as goal
+
+pub returns-in-Space-clause-performs : goal.returns-in-Space-clause-performs
+returns-in-Space-clause-performs g c = rw c.in-Space.is (performs_answering (λ _. []) c.space.ensures.performs)
+
+pub returns-in-Newline-clause-performs : goal.returns-in-Newline-clause-performs
+returns-in-Newline-clause-performs g c = rw c.in-Newline.is (performs_answering (λ _. []) c.newline.ensures.performs)
+
+pub returns-in-Eof-clause-performs : goal.returns-in-Eof-clause-performs
+returns-in-Eof-clause-performs g c = rw c.in-Eof.is (performs_answering (λ _. []) c.end.ensures.performs)
+
+pub returns-in-Assert-clause-performs : goal.returns-in-Assert-clause-performs
+returns-in-Assert-clause-performs g c = rw c.in-Assert.is (performs_answering (λ _. []) c.assert.ensures.performs)
+
+pub returns-in-Int-clause-performs : goal.returns-in-Int-clause-performs
+returns-in-Int-clause-performs g c = rw c.in-Int.is (performs_answering (λ _. []) c.int.ensures.performs)
+
+pub returns-in-String-clause-performs : goal.returns-in-String-clause-performs
+returns-in-String-clause-performs g c = rw c.in-String.is (performs_answering (λ _. []) c.string.ensures.performs)
+
+pub returns-in-Regex-clause-performs : goal.returns-in-Regex-clause-performs
+returns-in-Regex-clause-performs g c = rw c.in-Regex.is (performs_answering (λ _. []) c.regex.ensures.performs)
+
+pub returns-in-Set-clause-performs : goal.returns-in-Set-clause-performs
+returns-in-Set-clause-performs g c = rw c.in-Set.is (performs_answering (λ _. []) (performs_as (λ d s. ap (λ xs. set (map assignment xs) d s) c.as_slice.ensures) c.set.ensures.performs))
+
+pub returns-in-Unset-clause-performs : goal.returns-in-Unset-clause-performs
+returns-in-Unset-clause-performs g c = rw c.in-Unset.is (performs_answering (λ _. []) (performs_as (λ d s. ap (λ xs. unset_all xs d s) c.as_slice-in-Unset.ensures) c.unset.ensures.performs))

@@ -1,0 +1,37 @@
+use Rattle.std.proofs.Common.{max, arith, refl}
+use Rattle.ctd_tree.specs.Tree.{list_blocks}
+use Rattle.ctd_tree.specs.View.{command_list}
+use Rattle.ctd_syntax.specs.Numbering.{literals}
+use Rattle.ctd_command.proofs.Acts.{and_then, early_answering, given_as}
+use Rattle.ctd_check.specs.Pending.{left_tasks}
+use Rattle.ctd_check.proofs.Knowing.{among_front, among_back, known_tasks, known_as}
+use Rattle.ctd_check.proofs.loops.choose.Goals as goal
+
+pub returns-in_err-answer-clause-performs : goal.returns-in_err-answer-clause-performs
+returns-in_err-answer-clause-performs g c = early_answering left_tasks _ _ c.from_residual.ensures c.in_err-answer.ensures.performs
+
+pub returns-then-branch-clause-performs : goal.returns-then-branch-clause-performs
+returns-then-branch-clause-performs g c =
+    and_then _ c.in_ok-answer.ensures.performs (rw c.if-branch.true (given_as c.answer.new.self _ _ c.list_frame.ensures.tasks c.in_ok-answer.ensures.performs.sound))
+
+pub returns-clause-performs : goal.returns-clause-performs
+returns-clause-performs g c =
+    and_then _ c.in_ok-answer.ensures.performs (rw c.if-branch.false (given_as c.answer.new.self _ _ c.list_frame-2.ensures.tasks c.in_ok-answer.ensures.performs.sound))
+
+pub returns-then-branch-clause-room : goal.returns-then-branch-clause-room
+returns-then-branch-clause-room g c =
+    c.list_frame.ensures.within (max (list_blocks (command_list c.args.then_do.now)) (list_blocks (command_list c.args.else_do.now))) (omega (arith))
+
+pub returns-clause-room : goal.returns-clause-room
+returns-clause-room g c =
+    c.list_frame-2.ensures.within (max (list_blocks (command_list c.args.then_do.now)) (list_blocks (command_list c.args.else_do.now))) (omega (arith))
+
+pub returns-then-branch-clause-known : goal.returns-then-branch-clause-known
+returns-then-branch-clause-known g c ps among =
+    known_as ps ps _ _ refl c.list_frame.ensures.tasks
+    (known_tasks ps (command_list c.args.then_do.now) (among_front ps (literals (command_list c.args.then_do.now)) (literals (command_list c.args.else_do.now)) among))
+
+pub returns-clause-known : goal.returns-clause-known
+returns-clause-known g c ps among =
+    known_as ps ps _ _ refl c.list_frame-2.ensures.tasks
+    (known_tasks ps (command_list c.args.else_do.now) (among_back ps (literals (command_list c.args.then_do.now)) (literals (command_list c.args.else_do.now)) among))

@@ -1,8 +1,0 @@
-use Rattle.ctd_check.proofs.Acts.{and_then, early_by}
-use Rattle.ctd_check.proofs.machine.Run.end_behind_blanks.Goals as goal
-
-pub returns-in_err-skip_blanks : goal.returns-in_err-skip_blanks
-returns-in_err-skip_blanks g c = record { performs = early_by _ _ c.from_residual.ensures c.in_err-skip_blanks.ensures.performs }
-
-pub returns : goal.returns
-returns g c = record { performs = and_then _ c.in_ok-skip_blanks.ensures.performs c.end_of_data.ensures.performs }

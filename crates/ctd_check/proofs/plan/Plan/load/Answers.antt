@@ -1,6 +1,0 @@
-use Rattle.ctd_tree.specs.View.{command_trees}
-use Rattle.ctd_check.proofs.Loads.{wants_memory}
-use Rattle.ctd_check.proofs.plan.Plan.load.Goals as goal
-
-pub returns-in_err-text-clause-loads : goal.returns-in_err-text-clause-loads
-returns-in_err-text-clause-loads g c = wants_memory command_trees g.P.Source c.args.program.now c.receive.new.program c.from_residual.result c.from_residual.ensures (c.in_err-text.ensures).memory

@@ -1,0 +1,15 @@
+pub mod Acts
+pub mod Decimal
+pub mod DigitRuns
+pub mod FewDigits
+pub mod HeldIntegers
+pub mod HeldBlanks
+pub mod HeldRuns
+pub mod Integers
+pub mod Lists
+pub mod SummaryLemmas
+pub mod Skipping
+pub mod Strings
+pub mod Telling
+pub mod Setting
+pub mod Windows

@@ -1,0 +1,14 @@
+use Rattle.std.proofs.Common.{◌≡◌, ◌-◌, ◌+◌, None}
+use Rattle.ctd_source.specs.CursorState.{state_of}
+use Rattle.ctd_source.specs.Received.{AdvancesSuchThat}
+use Rattle.ctd_command.specs.Passing.{PassesSomeBlanks}
+use Rattle.ctd_command.proofs.blanks.pass_blanks.Given as goal
+
+abbrev pub invariant-loop-byte : goal.invariant-loop-byte
+invariant-loop-byte g l = record {
+  sound : (state_of l.cursor).fault ≡ None;
+  goes : AdvancesSuchThat l.initial.cursor l.cursor (λ d. PassesSomeBlanks d (state_of l.initial.cursor).spot.offset (state_of l.cursor).spot.offset);
+}
+
+abbrev pub decreases-loop-byte : goal.decreases-loop-byte
+decreases-loop-byte g l = (state_of l.cursor).limit + 2 - (state_of l.cursor).spot.offset

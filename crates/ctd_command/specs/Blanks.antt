@@ -1,0 +1,84 @@
+-- The commands that skip blanks: SPACE, NEWLINE and EOF; and the start of the data.
+use Rattle.std.specs.Prelude.{ℕ, Bool, false, ◌||◌, nat_eq, ⊤, Option, Some, None, if◌then◌else◌}
+use Rattle.std.specs.List.{prefix_len}
+use Rattle.ctd_source.specs.TestData.{visible}
+use Rattle.ctd_command.specs.declared.mode.Mode.{Mode}
+use Rattle.ctd_command.specs.declared.mode.Mode.TheVariants.{Exact, BlanksOk}
+use Rattle.ctd_command.specs.declared.reason.Reason.TheVariants.{ExpectedSpace, ExpectedNewline}
+use Rattle.ctd_command.specs.State.{Act, ◌>>=◌, give, reject, pass, see_next}
+use Rattle.ctd_command.specs.Effect.{one_byte, eof}
+
+-- a blank is a space, a tab, a vertical tab, a form feed or a carriage return
+abbrev pub is_blank : ℕ → Bool
+is_blank b = nat_eq b 32 || nat_eq b 9 || nat_eq b 11 || nat_eq b 12 || nat_eq b 13
+
+-- whether a blank comes next
+abbrev pub blank_next : Option ℕ → Bool
+blank_next None = false
+blank_next (Some b) = is_blank b
+
+-- so many blanks are passed, up to another byte or the end
+abbrev pub skip_first : ℕ → Act ⊤
+skip_first n = do
+  _ ← pass n
+  _ ← see_next
+  give tt
+
+-- all blanks that come next
+abbrev pub skip_blanks : Act ⊤
+skip_blanks d s = skip_first (prefix_len is_blank (visible d s.offset)) d s
+
+-- one blank or more, as many as there are
+abbrev pub some_blanks : Act ⊤
+some_blanks = do
+  next ← see_next
+  if blank_next next then skip_blanks else reject ExpectedSpace
+
+-- a line feed with the blanks around it
+abbrev pub newline_between_blanks : Act ⊤
+newline_between_blanks = do
+  _ ← skip_blanks
+  _ ← one_byte 10 ExpectedNewline
+  skip_blanks
+
+-- the end of the data after blanks
+abbrev pub end_behind_blanks : Act ⊤
+end_behind_blanks = do
+  _ ← skip_blanks
+  eof
+
+-- what SPACE does in each mode
+abbrev pub space_in : Mode → Act ⊤
+space_in Exact = one_byte 32 ExpectedSpace
+space_in BlanksOk = some_blanks
+
+-- NEWLINE
+abbrev pub newline_in : Mode → Act ⊤
+newline_in Exact = one_byte 10 ExpectedNewline
+newline_in BlanksOk = newline_between_blanks
+
+-- EOF, and the end of a program
+abbrev pub end_in : Mode → Act ⊤
+end_in Exact = eof
+end_in BlanksOk = end_behind_blanks
+
+-- what is done before the first command
+abbrev pub start_in : Mode → Act ⊤
+start_in Exact = give tt
+start_in BlanksOk = skip_blanks
+
+-- the same in the mode of the run
+abbrev pub space : Act ⊤
+space d s = space_in s.mode d s
+
+-- a line feed
+abbrev pub newline : Act ⊤
+newline d s = newline_in s.mode d s
+
+-- the end of the data
+abbrev pub end : Act ⊤
+end d s = end_in s.mode d s
+
+-- the start of the data
+abbrev pub first_skip : Act ⊤
+first_skip d s = start_in s.mode d s

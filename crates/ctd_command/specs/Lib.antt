@@ -1,0 +1,12 @@
+pub mod State
+pub mod Effect
+pub mod Integer
+pub mod Blanks
+pub mod Regex
+pub mod Failures
+pub mod FailureCodes
+pub mod ReasonText
+pub mod Performs
+pub mod Alone
+pub mod Passing
+pub mod Summaries

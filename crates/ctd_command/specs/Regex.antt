@@ -1,0 +1,35 @@
+-- REGEX: a match at the start of the window.
+use Rattle.std.specs.Prelude.{ℕ, nat_eq, ⊤, List, length, take, Option, Some, None, if◌then◌else◌}
+use Rattle.ctd_source.specs.declared.limits.TheConstants.{WINDOW}
+use Rattle.ctd_tree.specs.Tree.{VarTree}
+use Rattle.ctd_pattern.specs.Pattern.{length_at_start}
+use Rattle.ctd_store.specs.declared.value.Value.TheVariants as values
+use Rattle.ctd_command.specs.declared.reason.Reason.TheVariants.{RegexMismatch}
+use Rattle.ctd_command.specs.declared.reason.Fault.TheVariants.{MatchTooLong}
+use Rattle.ctd_command.specs.State.{Act, ◌>>=◌, give, reject, stop, pass, see_window}
+use Rattle.ctd_command.specs.Effect.{keep}
+
+-- a match of so many bytes, of which the window has more; no match rejects the data
+abbrev pub shorter_match : Option ℕ → Act ℕ
+shorter_match None = reject RegexMismatch
+shorter_match (Some n) = if nat_eq n WINDOW then stop MatchTooLong else give n
+
+-- the bytes that the pattern of a literal matches at the start of the window
+abbrev pub matched : List ℕ → Act (List ℕ)
+matched literal = do
+  window ← see_window
+  n ← shorter_match (length_at_start literal window)
+  give (take n window)
+
+-- how many they are
+abbrev pub matched_len : List ℕ → Act ℕ
+matched_len literal = do
+  bytes ← matched literal
+  give (length bytes)
+
+-- they are passed, and the target gets them
+abbrev pub regex : List ℕ → Option VarTree → Act ⊤
+regex literal target = do
+  bytes ← matched literal
+  _ ← pass (length bytes)
+  keep target (values.Text bytes)

@@ -1,0 +1,93 @@
+-- Where a run stands, and what is done to that.
+use Rattle.std.specs.Prelude.{ℕ, ◌+◌, ⊤, List, Option, Result, Ok, Err}
+use Rattle.ctd_source.specs.declared.limits.TheConstants.{WINDOW}
+use Rattle.ctd_source.specs.declared.spot.LookFault.{LookFault}
+use Rattle.ctd_source.specs.declared.spot.LookFault.TheVariants as looks
+use Rattle.ctd_source.specs.TestData.{TestData, next_byte, look}
+use Rattle.ctd_store.specs.Store.{History}
+use Rattle.ctd_value.specs.Fault.{ValueFault, TruthFault}
+use Rattle.ctd_value.specs.Fault as faults
+use Rattle.ctd_command.specs.declared.mode.Mode.{Mode}
+use Rattle.ctd_command.specs.declared.reason.Reason.{Reason}
+use Rattle.ctd_command.specs.declared.reason.Fault.{Fault}
+use Rattle.ctd_command.specs.declared.reason.Fault.TheVariants.{Undefined, WrongType, Overflow, DivisionByZero, Exponent, Count, Shape, DataTooLong, Read}
+
+-- the offset of the next byte, the variables, and how blanks are matched, which nothing changes
+pub record State : Type 0 where
+  pub offset : ℕ
+  pub store : History
+  pub mode : Mode
+
+-- what was done gave an answer and left a state; or the data are rejected, or a fault stops the run, once this many bytes are consumed
+pub data Effect (A : Type 0) : Type 0 where
+  done : (answer : A) (after : State) → Effect A
+  rejected : (reason : Reason) (consumed : ℕ) → Effect A
+  faulty : (fault : Fault) (consumed : ℕ) → Effect A
+
+-- what is done to a state, over some data, for an answer
+abbrev pub Act : Type 0 → Type 0
+Act A = TestData → State → Effect A
+
+-- with the answer and the state that were left go on
+abbrev pub proceed : {A B : Type 0} → Effect A → (A → State → Effect B) → Effect B
+proceed (done answer after) next = next answer after
+proceed (rejected reason consumed) next = rejected reason consumed
+proceed (faulty fault consumed) next = faulty fault consumed
+
+-- one after the other
+infixl 10 ◌>>=◌
+abbrev pub ◌>>=◌ : {A B : Type 0} → Act A → (A → Act B) → Act B
+m >>= f = λ d s. proceed (m d s) (λ x t. f x d t)
+
+-- an answer alone
+abbrev pub give : {A : Type 0} → A → Act A
+give x d s = done x s
+
+-- the data do not match
+abbrev pub reject : {A : Type 0} → Reason → Act A
+reject reason d s = rejected reason s.offset
+
+-- a fault stops the run
+abbrev pub stop : {A : Type 0} → Fault → Act A
+stop fault d s = faulty fault s.offset
+
+-- so many bytes are passed
+abbrev pub pass : ℕ → Act ⊤
+pass n d s = done tt (record { offset = s.offset + n; store = s.store; mode = s.mode })
+
+-- an answer, or a fault at this state
+abbrev pub told : {A : Type 0} → Result A Fault → State → Effect A
+told (Ok x) s = done x s
+told (Err fault) s = faulty fault s.offset
+
+-- The faults of looks, values and tests, as faults of a check.
+abbrev pub fault_of_look : LookFault → Fault
+fault_of_look looks.Read = Read
+fault_of_look looks.DataTooLong = DataTooLong
+
+-- want of a value
+abbrev pub fault_of_value : ValueFault → Fault
+fault_of_value faults.Undefined = Undefined
+fault_of_value faults.WrongType = WrongType
+fault_of_value faults.Overflow = Overflow
+fault_of_value faults.DivisionByZero = DivisionByZero
+fault_of_value faults.Exponent = Exponent
+fault_of_value faults.Count = Count
+fault_of_value faults.Shape = Shape
+
+-- want of an answer
+abbrev pub fault_of_truth : TruthFault → Fault
+fault_of_truth (faults.Value fault) = fault_of_value fault
+fault_of_truth (faults.Look fault) = fault_of_look fault
+
+-- a value of the variables, or its fault
+abbrev pub evaluate : {A : Type 0} → (History → Result A ValueFault) → Act A
+evaluate f d s = told (faults.with_fault fault_of_value (f s.store)) s
+
+-- the next byte, or none at the end
+abbrev pub see_next : Act (Option ℕ)
+see_next d s = told (faults.with_fault fault_of_look (next_byte d s.offset)) s
+
+-- the window: as many of the bytes to come as it has, or all of them
+abbrev pub see_window : Act (List ℕ)
+see_window d s = told (faults.with_fault fault_of_look (look d s.offset WINDOW)) s

@@ -1,0 +1,37 @@
+//! ASSERT.
+
+ghost use Rattle.ctd_tree.specs.View.{test_tree};
+ghost use Rattle.ctd_command.specs.Effect.{assert};
+ghost use Rattle.ctd_command.specs.Performs.{IsSound, Performs};
+
+use crate::failure::CommandFailure;
+use crate::machine::Run;
+use crate::reason::Reason;
+use ctd_source::Source;
+use ctd_tree::Test;
+
+impl<'d, D: Source> Run<'d, D> {
+    /// ASSERT: a test that is false rejects the data.
+    #[inline(never)]
+    pub fn assert(&mut self, t: &Test) -> Result<(), CommandFailure>
+        requires sound { IsSound self.old }
+        ensures performs { Performs self.old self.new result (assert (test_tree t.now)) }
+    {
+        match self.answer_at_hand(t) {
+            Some(true) => Ok(()),
+            _ => self.any_assert(t),
+        }
+    }
+
+    /// The same of any test. A function of its own, so that a test whose truth is at hand need not make room for it.
+    #[inline(never)]
+    fn any_assert(&mut self, t: &Test) -> Result<(), CommandFailure>
+        requires sound { IsSound self.old }
+        ensures performs { Performs self.old self.new result (assert (test_tree t.now)) }
+    {
+        if !self.any_answer(t)? {
+            return Err(CommandFailure::rejected(Reason::AssertFailed));
+        }
+        Ok(())
+    }
+}

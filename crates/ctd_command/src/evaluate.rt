@@ -1,0 +1,120 @@
+//! Expressions, variables and tests, as the commands of a run use them.
+ghost use Rattle.std.specs.Prelude.{Ok, IfSome};
+ghost use Rattle.ctd_tree.specs.View.{expr_tree, var_tree, test_tree, target};
+ghost use Rattle.ctd_store.specs.declared.value.Value.TheVariants as values;
+ghost use Rattle.ctd_value.specs.Val.{count, number_of};
+ghost use Rattle.ctd_command.specs.State.{evaluate};
+ghost use Rattle.ctd_command.specs.Effect.{set_to, keep, answer};
+ghost use Rattle.ctd_command.specs.Performs.{IsSound, Performs};
+
+use crate::failure::CommandFailure;
+use crate::machine::Run;
+use ctd_source::Source;
+use ctd_tree::{Expr, Test, Var};
+use ctd_value::{
+    count_of, holds, number_at_hand, number_of, set_number, truth_at_hand, truth_in_front_of,
+};
+
+impl<'d, D: Source> Run<'d, D> {
+    /// The value of an expression that has to be a number.
+    #[inline(never)]
+    pub(crate) fn number(&self, e: &Expr) -> Result<i128, CommandFailure>
+        requires sound { IsSound self.now }
+        ensures performs { Performs self.now self.now result (evaluate (number_of (expr_tree e.now))) }
+    {
+        Ok(number_of(self.alloc, e, &self.store)?)
+    }
+
+    /// The same, where it is at hand; none says nothing.
+    #[inline(always)]
+    pub(crate) fn number_at_hand(&self, e: &Expr) -> Option<i128>
+        requires sound { IsSound self.now }
+        ensures performs { IfSome result (λ n. Performs self.now self.now (Ok n) (evaluate (number_of (expr_tree e.now)))) }
+    {
+        number_at_hand(e, &self.store)
+    }
+
+    /// How often a loop runs.
+    pub fn count(&self, e: &Expr) -> Result<u64, CommandFailure>
+        requires sound { IsSound self.now }
+        ensures performs { Performs self.now self.now result (evaluate (count (expr_tree e.now))) }
+    {
+        Ok(count_of(self.alloc, e, &self.store)?)
+    }
+
+    /// Gives a variable a number, once its indices are evaluated.
+    #[inline(always)]
+    pub fn set_to_number(&mut self, v: &Var, n: i128) -> Result<(), CommandFailure>
+        requires sound { IsSound self.old }
+        ensures performs { Performs self.old self.new result (set_to (var_tree v.now) (values.Int n)) }
+    {
+        set_number(self.alloc, v, n, &mut self.store)?;
+        Ok(())
+    }
+
+    /// Gives a target, where there is one, an integer.
+    pub(crate) fn keep(&mut self, v: &Option<Var>, n: i128) -> Result<(), CommandFailure>
+        requires sound { IsSound self.old }
+        ensures performs { Performs self.old self.new result (keep (target v.now) (values.Int n)) }
+    {
+        match v {
+            Some(v) => self.set_to_number(v, n),
+            None => Ok(()),
+        }
+    }
+
+    /// Whether a test is true.
+    #[inline(always)]
+    pub fn answer(&mut self, t: &Test) -> Result<bool, CommandFailure>
+        requires sound { IsSound self.old }
+        ensures performs { Performs self.old self.new result (answer (test_tree t.now)) }
+    {
+        match self.answer_at_hand(t) {
+            Some(answer) => Ok(answer),
+            None => self.any_answer(t),
+        }
+    }
+
+    /// The same, where it is at hand; none says nothing.
+    #[inline(always)]
+    pub(crate) fn answer_at_hand(&self, t: &Test) -> Option<bool>
+        requires sound { IsSound self.now }
+        ensures performs { IfSome result (λ truth. Performs self.now self.now (Ok truth) (answer (test_tree t.now))) }
+    {
+        truth_at_hand(t, &self.store)
+    }
+
+    /// The same of any test, which may ask for the next byte.
+    #[inline(never)]
+    pub(crate) fn any_answer(&mut self, t: &Test) -> Result<bool, CommandFailure>
+        requires sound { IsSound self.old }
+        ensures performs { Performs self.old self.new result (answer (test_tree t.now)) }
+    {
+        match self.answer_in_front(t) {
+            Some(answer) => Ok(answer),
+            None => self.answer_by_parts(t),
+        }
+    }
+
+    /// The same, where the next byte is held and tells; none says nothing.
+    #[inline(always)]
+    fn answer_in_front(&self, t: &Test) -> Option<bool>
+        requires sound { IsSound self.now }
+        ensures performs { IfSome result (λ truth. Performs self.now self.now (Ok truth) (answer (test_tree t.now))) }
+    {
+        let byte = self.cursor.held_run().first()?;
+        truth_in_front_of(*byte, t)
+    }
+
+    /// The same of any test. A function of its own, so that a test whose answer is at hand need not make room for it.
+    #[inline(never)]
+    fn answer_by_parts(&mut self, t: &Test) -> Result<bool, CommandFailure>
+        requires sound { IsSound self.old }
+        ensures performs { Performs self.old self.new result (answer (test_tree t.now)) }
+    {
+        match holds(self.alloc, t, &self.store, &mut self.cursor) {
+            Ok(answer) => Ok(answer),
+            Err(fault) => Err(CommandFailure::from(fault)),
+        }
+    }
+}

@@ -1,0 +1,162 @@
+//! INT: an integer of any length, in an interval.
+ghost use Rattle.std.specs.Prelude.{◌≡◌, OnOk, IfSome, None, true};
+ghost use Rattle.ctd_source.specs.CursorState.{state_of};
+ghost use Rattle.ctd_source.specs.Received.{AdvancesSuchThat};
+ghost use Rattle.ctd_tree.specs.View.{expr_tree, target};
+ghost use Rattle.ctd_command.specs.Effect.{int, integer};
+ghost use Rattle.ctd_command.specs.Integer.{is_minus, signed};
+ghost use Rattle.ctd_command.specs.Passing.{IsInFront, PassesMinus, PassesDigits};
+ghost use Rattle.ctd_command.specs.Performs.{IsSound, Performs, IsBetween};
+
+use crate::digits::{DigitSummary, FEW, number_in_front};
+use crate::failure::CommandFailure;
+use crate::machine::Run;
+use ctd_source::{Cursor, LookFault, Source};
+use ctd_tree::{Expr, Var};
+
+/// An integer at the front of some bytes.
+#[derive(Clone, Copy)]
+struct Front {
+    value: i128,
+    /// How many bytes it takes.
+    len: usize,
+}
+
+/// Whether a minus comes first.
+fn begins_with_minus(bytes: &[u8]) -> bool
+    ensures { result ≡ is_minus bytes.now }
+{
+    matches!(bytes, [b'-', ..])
+}
+
+/// The value of a sign and a size of 64 bits.
+#[inline(always)]
+fn signed(is_negative: bool, size: u64) -> i128
+    ensures { result ≡ signed is_negative size }
+{
+    let value = i128::from(size);
+    if is_negative { -value } else { value }
+}
+
+/// The integer that some bytes begin with, where it has few digits, ends before the bytes do and has its form.
+fn integer_in_front(bytes: &[u8]) -> Option<Front>
+    ensures { IfSome result (λ front. IsInFront bytes.now front.value front.len) }
+{
+    let is_negative = begins_with_minus(bytes);
+    let sign_len = usize::from(is_negative);
+    let unsigned = &bytes[sign_len..];
+    let few = &unsigned[..unsigned.len().min(FEW)];
+    let (size, count) = number_in_front(few);
+    if count == few.len() || count == 0 {
+        return None;
+    }
+    if few[0] == b'0' && (is_negative || count > 1) {
+        return None;
+    }
+    Some(Front {
+        value: signed(is_negative, size),
+        len: sign_len + count,
+    })
+}
+
+/// Passes a minus, where one is next, and tells whether it was.
+fn pass_minus<D: Source>(cursor: &mut Cursor<'_, D>) -> Result<bool, LookFault>
+    requires sound { (state_of cursor.old).fault ≡ None }
+    ensures sound { OnOk result ((state_of cursor.new).fault ≡ None) }
+    ensures passes { AdvancesSuchThat cursor.old cursor.new (λ d. PassesMinus d (state_of cursor.old).spot.offset (state_of cursor.new).spot.offset result) }
+{
+    match cursor.look() {
+        Ok(Some(byte)) => {
+            if byte != b'-' {
+                return Ok(false);
+            }
+            cursor.take();
+            Ok(true)
+        }
+        Ok(None) => Ok(false),
+        Err(fault) => Err(fault),
+    }
+}
+
+/// Passes the digits that come next, a run of held bytes at a time.
+fn pass_digits<D: Source>(
+    digits: &mut DigitSummary,
+    cursor: &mut Cursor<'_, D>,
+) -> Result<(), LookFault>
+    requires sound { (state_of cursor.old).fault ≡ None }
+    ensures sound { OnOk result ((state_of cursor.new).fault ≡ None) }
+    ensures passes { AdvancesSuchThat cursor.old cursor.new (λ d. PassesDigits digits.old digits.new d (state_of cursor.old).spot.offset (state_of cursor.new).spot.offset result) }
+{
+    loop {
+        match cursor.look() {
+            Ok(Some(byte)) => {
+                if !byte.is_ascii_digit() {
+                    return Ok(());
+                }
+                let count = digits.read(cursor.held_run());
+                cursor.take_many(count);
+            }
+            Ok(None) => return Ok(()),
+            Err(fault) => return Err(fault),
+        }
+    }
+}
+
+impl<'d, D: Source> Run<'d, D> {
+    /// INT: evaluates both bounds, then passes an integer between them and keeps it in its variable, if there is one.
+    #[inline(never)]
+    pub fn int(&mut self, low: &Expr, high: &Expr, var: &Option<Var>) -> Result<(), CommandFailure>
+        requires sound { IsSound self.old }
+        ensures performs { Performs self.old self.new result (int (expr_tree low.now) (expr_tree high.now) (target var.now)) }
+    {
+        let Some(front) = integer_in_front(self.cursor.held_run()) else {
+            return self.any_int(low, high, var);
+        };
+        if !self.is_between(front.value, low, high) {
+            return self.any_int(low, high, var);
+        }
+        self.cursor.take_in_line(front.len);
+        self.keep(var, front.value)
+    }
+
+    /// Whether both bounds are at hand and the value lies between them.
+    #[inline(always)]
+    fn is_between(&self, value: i128, low: &Expr, high: &Expr) -> bool
+        requires sound { IsSound self.now }
+        ensures { result ≡ true → IsBetween self.now value (expr_tree low.now) (expr_tree high.now) }
+    {
+        match self.number_at_hand(low) {
+            Some(least) if least <= value => match self.number_at_hand(high) {
+                Some(most) => value <= most,
+                None => false,
+            },
+            _ => false,
+        }
+    }
+
+    /// The same of any bounds and any integer. A function of its own, so that what is at hand need not make room for it.
+    #[inline(never)]
+    fn any_int(&mut self, low: &Expr, high: &Expr, var: &Option<Var>) -> Result<(), CommandFailure>
+        requires sound { IsSound self.old }
+        ensures performs { Performs self.old self.new result (int (expr_tree low.now) (expr_tree high.now) (target var.now)) }
+    {
+        let least = self.number(low)?;
+        let most = self.number(high)?;
+        let n = self.any_integer(least, most)?;
+        self.keep(var, n)
+    }
+
+    /// Passes the longest prefix of the form of an integer, of any length and however it is held, and judges it.
+    fn any_integer(&mut self, least: i128, most: i128) -> Result<i128, CommandFailure>
+        requires sound { IsSound self.old }
+        ensures performs { Performs self.old self.new result (integer least most) }
+    {
+        let is_negative = pass_minus(&mut self.cursor)?;
+        let mut digits = DigitSummary::none();
+        pass_digits(&mut digits, &mut self.cursor)?;
+        match digits.judge(least, most, is_negative) {
+            Ok(n) => Ok(n),
+            Err(reason) => Err(CommandFailure::rejected(reason)),
+        }
+    }
+}

@@ -1,0 +1,85 @@
+//! The state of a run: where the data are read, and the variables.
+ghost use Rattle.std.specs.Prelude.{◌≡◌, ◌<◌, ◌≤◌, ◌^◌, length, Ok, Err, IfOk, IfSome};
+ghost use Rattle.ctd_source.specs.declared.source.Seen.TheVariants.{Going};
+ghost use Rattle.ctd_source.specs.Consistency.{IsAtStart, IsConsistentWith};
+ghost use Rattle.ctd_source.specs.CursorState.{state_of, source as source_now, Borrows};
+ghost use Rattle.ctd_source.specs.TestData.{TestData};
+ghost use Rattle.ctd_store.specs.Store.{initial};
+ghost use Rattle.ctd_command.specs.State.{see_next, pass};
+ghost use Rattle.ctd_command.specs.Performs.{IsSound, Performs};
+
+use crate::failure::CommandFailure;
+use crate::mode::Mode;
+use ctd_source::{Cursor, Source};
+use ctd_tree::Presets;
+use ctd_value::Store;
+use std::alloc::{AllocError, Global};
+
+/// The state of a run. Its commands are methods, each in the file of its kind.
+#[derive(Drop)]
+pub struct Run<'d, D: Source> {
+    pub(crate) alloc: Global,
+    pub cursor: Cursor<'d, D>,
+    pub store: Store,
+    pub mode: Mode,
+}
+
+impl<'d, D: Source> Run<'d, D> {
+    /// A run before its first byte, for data of at most `limit` bytes, with the presets pinned.
+    pub fn new(
+        alloc: Global,
+        presets: &Presets,
+        testdata: &'d mut D,
+        limit: u64,
+        mode: Mode,
+    ) -> Result<Run<'d, D>, AllocError>
+        requires going { D.seen testdata.old ≡ Going }
+        requires limit { limit ≤ 2 ^ 62 }
+        ensures borrows { IfOk result (λ run. Borrows run.cursor testdata.entry) }
+        ensures source { IfOk result (λ run. source_now run.cursor ≡ testdata.old) }
+        ensures begins { IfOk result (λ run. IsAtStart limit (state_of run.cursor)) }
+        ensures stands { IfOk result (λ run. (d : TestData) → d.limit ≡ limit → IsConsistentWith d (state_of run.cursor)) }
+        ensures pins { IfOk result (λ run. run.store ≡ initial presets.now) }
+        ensures mode { IfOk result (λ run. run.mode ≡ mode) }
+    {
+        let store = Store::new(alloc, presets)?;
+        let cursor = Cursor::start(alloc, testdata, limit)?;
+        Ok(Run {
+            alloc,
+            cursor,
+            store,
+            mode,
+        })
+    }
+
+    /// The next byte, or none at the end.
+    #[inline]
+    pub(crate) fn next(&mut self) -> Result<Option<u8>, CommandFailure>
+        requires sound { IsSound self.old }
+        ensures performs { Performs self.old self.new result see_next }
+        ensures held { IfOk result (λ next. IfSome next (λ _. 0 < length (state_of self.new.cursor).held)) }
+    {
+        match self.cursor.look() {
+            Ok(next) => Ok(next),
+            Err(fault) => Err(CommandFailure::from(fault)),
+        }
+    }
+
+    /// Passes `n` held bytes.
+    pub(crate) fn pass_many(&mut self, n: usize)
+        requires sound { IsSound self.old }
+        requires held { n ≤ length (state_of self.old.cursor).held }
+        ensures performs { Performs self.old self.new (Ok tt) (pass n) }
+    {
+        self.cursor.take_many(n);
+    }
+
+    /// The source that it read, as it is now.
+    pub fn into_source(self) -> &'d mut D
+        ensures borrows { Borrows self.entry.cursor result }
+        ensures source { result.now ≡ source_now self.entry.cursor }
+    {
+        let Run { cursor, .. } = self;
+        cursor.into_source()
+    }
+}

@@ -1,0 +1,76 @@
+//! REGEX: a match of its pattern at the start of the window.
+ghost use Rattle.std.specs.Prelude.{◌≡◌, ◌≤◌, length, Some, IfOk};
+ghost use Rattle.ctd_source.specs.CursorState.{state_of};
+ghost use Rattle.ctd_tree.specs.View.{target, var_tree};
+ghost use Rattle.ctd_command.specs.Regex.{matched_len, regex, shorter_match};
+ghost use Rattle.ctd_command.specs.Performs.{IsSound, Performs, AlwaysDoes};
+
+use crate::failure::CommandFailure;
+use crate::machine::Run;
+use crate::reason::{Fault, Reason};
+use ctd_pattern::Matcher;
+use ctd_source::{Source, WINDOW};
+use ctd_tree::Var;
+use ctd_value::set_text;
+
+/// The length of a match, unless it fills the window.
+fn shorter_match(length: Option<usize>) -> Result<usize, CommandFailure>
+    ensures does { AlwaysDoes result (shorter_match length) }
+    ensures same { IfOk result (λ n. length ≡ Some n) }
+{
+    match length {
+        Some(n) if n == WINDOW => Err(CommandFailure::stopped(Fault::MatchTooLong)),
+        Some(n) => Ok(n),
+        None => Err(CommandFailure::rejected(Reason::RegexMismatch)),
+    }
+}
+
+impl<'d, D: Source> Run<'d, D> {
+    /// REGEX: passes the match at the start of the window, and keeps it in its variable, if there is one.
+    #[inline(never)]
+    pub fn regex(
+        &mut self,
+        matcher: &mut Matcher<'_>,
+        var: &Option<Var>,
+    ) -> Result<(), CommandFailure>
+        requires sound { IsSound self.old }
+        ensures performs { Performs self.old self.new result (regex matcher.old (target var.now)) }
+        ensures kept { matcher.new ≡ matcher.old }
+    {
+        match var {
+            Some(v) => self.keep_match(v, matcher),
+            None => {
+                let n = self.matched_len(matcher)?;
+                self.pass_many(n);
+                Ok(())
+            }
+        }
+    }
+
+    /// Passes the match at the start of the window and keeps it in a variable. It is copied from where it stands, so it is passed
+    /// behind that; a fault of the variable comes after both. A function of its own, so that no other command makes room for it.
+    #[inline(never)]
+    fn keep_match(&mut self, v: &Var, matcher: &mut Matcher<'_>) -> Result<(), CommandFailure>
+        requires sound { IsSound self.old }
+        ensures performs { Performs self.old self.new result (regex matcher.old (Some (var_tree v.now))) }
+        ensures kept { matcher.new ≡ matcher.old }
+    {
+        let window = self.cursor.window()?;
+        let n = shorter_match(matcher.match_length(window))?;
+        let set = set_text(self.alloc, v, &window[..n], &mut self.store);
+        self.cursor.take_many(n);
+        set?;
+        Ok(())
+    }
+
+    /// How many bytes a pattern matches at the start of the window.
+    fn matched_len(&mut self, matcher: &mut Matcher<'_>) -> Result<usize, CommandFailure>
+        requires sound { IsSound self.old }
+        ensures performs { Performs self.old self.new result (matched_len matcher.old) }
+        ensures held { IfOk result (λ n. n ≤ length (state_of self.new.cursor).held) }
+        ensures kept { matcher.new ≡ matcher.old }
+    {
+        let window = self.cursor.window()?;
+        shorter_match(matcher.match_length(window))
+    }
+}

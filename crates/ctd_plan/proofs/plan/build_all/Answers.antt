@@ -1,0 +1,32 @@
+use Rattle.std.proofs.Common.{◌≤◌, ◌++◌, ◌∷◌, [], List, ℕ, length, arith, ap, ◌∙◌, subst}
+use Rattle.std.proofs.lemmas.List.{take_all}
+use Rattle.ctd_pattern.specs.Pattern.{IsPattern}
+use Rattle.ctd_plan.specs.Literals.{literals_at}
+use Rattle.ctd_plan.specs.Loading.{ArePatterns}
+use Rattle.ctd_plan.proofs.Building.{bad_at, more_built, more_patterns}
+use Rattle.ctd_plan.proofs.Loads.{memory_alone}
+use Rattle.ctd_plan.proofs.plan.build_all.Goals as goal
+
+pub returns-in_err-push-in-Ok-clause-bad : goal.returns-in_err-push-in-Ok-clause-bad
+returns-in_err-push-in-Ok-clause-bad c = memory_alone _ _ c.from_residual.ensures
+
+pub returns-in-Err-clause-bad : goal.returns-in-Err-clause-bad
+returns-in-Err-clause-bad c other =
+    bad_at c.args.literals.now c.loop-literal.literal-index c.literal-item.result c.pattern_fault.result c.loop-literal-test.true c.literal-item.is c.loop-literal.invariant.are_patterns
+    (c.pattern_fault.ensures.bad (λ memory. other (ap (λ f. f.kind) (c.pattern_fault.ensures.memory memory))))
+
+pub loop-literal-preserved : goal.loop-literal-preserved
+loop-literal-preserved c =
+    let bytes = c.literal-item.result.now.bytes in
+    record {
+      built = c.in_ok-push-in-Ok.ensures.items
+          ∙ ap (λ x. c.loop-literal.patterns.items ++ x ∷ []) (c.in-Ok.ensures.literal ∙ c.as_slice.ensures.whole)
+          ∙ more_built c.args.literals.now c.loop-literal.literal-index c.literal-item.result c.loop-literal.patterns.items c.loop-literal-test.true c.literal-item.is c.loop-literal.invariant.built;
+      are_patterns = let P : List ℕ → Type 0 = λ x. IsPattern x in
+          more_patterns c.args.literals.now c.loop-literal.literal-index c.literal-item.result c.loop-literal-test.true c.literal-item.is c.loop-literal.invariant.are_patterns (subst P c.as_slice.ensures.whole c.in-Ok.ensures.is_pattern);
+    }
+
+pub returns-clause-are_patterns : goal.returns-clause-are_patterns
+returns-clause-are_patterns c =
+    let past : length c.args.literals.now ≤ c.loop-literal.literal-index = omega arith in
+    subst (λ x. ArePatterns (literals_at x)) (take_all c.loop-literal.literal-index c.args.literals.now past) c.loop-literal.invariant.are_patterns

@@ -1,0 +1,14 @@
+pub mod Alone
+pub mod ArraysSeen
+pub mod Firsts
+pub mod Laid
+pub mod Lookups
+pub mod Maps
+pub mod Members
+pub mod Merged
+pub mod Named
+pub mod NamedAt
+pub mod Rows
+pub mod StoreLaws
+pub mod Telling
+pub mod Gridded

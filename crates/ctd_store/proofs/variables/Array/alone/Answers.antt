@@ -1,0 +1,12 @@
+use Rattle.std.proofs.Common.{[], ap, sym, ◌∙◌}
+use Rattle.std.specs.FinMap.{find}
+use Rattle.ctd_store.specs.Order.{values_cmp}
+use Rattle.ctd_store.proofs.Alone.{found_alone}
+use Rattle.ctd_store.proofs.variables.Array.alone.Goals as goal
+
+pub returns : goal.returns
+returns c = record {
+  value = c.as_ref.ensures.value
+      ∙ sym (ap (find values_cmp []) (sym c.self.view_is)
+      ∙ found_alone c.self.inside.alone c.self.inside.indexed c.self.invariant.0);
+}

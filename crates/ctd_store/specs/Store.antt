@@ -1,0 +1,159 @@
+-- What has been assigned and pinned, and what a variable stands for.
+use Rattle.std.specs.Prelude.{◌≡◌, ℕ, ℤ, suc, pos, ◌+◌, nat_eq, nat_lt, true, false, Bool, not, ◌&&◌, List, [], ◌∷◌, ◌++◌, filter, fold, map, is_some, slice_get, option_map, Option, Some, None, IfSome, if◌then◌else◌}
+use Rattle.std.specs.Option.{option_or, unwrap_or}
+use Rattle.std.specs.FinMap.{find, put, is_sorted}
+use Rattle.std.specs.declared.cmp.Ordering.{Ordering}
+use Rattle.std.specs.declared.cmp.Ordering.TheVariants.{Greater}
+use Rattle.std.specs.Ordering.{ordering_then}
+use Rattle.ctd_tree.specs.declared.preset.Literal.{Literal}
+use Rattle.ctd_tree.specs.declared.preset.Literal.TheVariants as literals
+use Rattle.ctd_tree.specs.declared.preset.Preset.{Preset}
+use Rattle.ctd_store.specs.declared.value.Value.{Value}
+use Rattle.ctd_store.specs.declared.value.Value.TheVariants as values
+use Rattle.ctd_store.specs.Order.{bytes_cmp, values_cmp, same_bytes, same_values}
+
+-- a variable: a name, and the values of its indices
+pub record Key : Type 0 where
+  pub name : List ℕ
+  pub indices : List Value
+
+-- keys by their names and then by their indices, index by index
+abbrev pub key_cmp : Key → Key → Ordering
+key_cmp a b = ordering_then (bytes_cmp a.name b.name) (values_cmp a.indices b.indices)
+
+-- index lists with their values, in the order of the index lists; where one came twice, its first entry would count
+abbrev pub Array : Type 0
+Array = List (List Value × Value)
+
+-- the index list that is one number
+abbrev pub slot : ℕ → List Value
+slot n = values.Int (pos n) ∷ []
+
+-- the index list that is two numbers
+abbrev pub cell : ℕ → ℕ → List Value
+cell m n = values.Int (pos m) ∷ values.Int (pos n) ∷ []
+
+-- an array, with values at the numbers from n on laid over it
+abbrev pub laid : ℕ → List Value → Array → Array
+laid n [] array = array
+laid n (x ∷ xs) array = put values_cmp (slot n) x (laid (suc n) xs array)
+
+-- an array, with the value without indices laid over it, if there is one
+abbrev pub with_alone : Option Value → Array → Array
+with_alone None array = array
+with_alone (Some x) array = put values_cmp [] x array
+
+-- whether an array is in order and has no value without indices
+abbrev pub is_indexed : Array → Bool
+is_indexed array = is_sorted values_cmp array && not (is_some (find values_cmp [] array))
+
+-- a number that is kept beside a value, if there is one, is that value
+abbrev pub AgreesWith : Option ℤ → Option Value → Type 0
+AgreesWith small alone = IfSome small (λ n. alone ≡ Some (values.Int n))
+
+-- how the index list at a place from a number on stands to an index list, where there are so many; any further is after each
+abbrev pub order_of_slot : ℕ → ℕ → ℕ → List Value → Ordering
+order_of_slot base at count indices = if nat_lt at count then values_cmp (slot (base + at)) indices else Greater
+
+-- names with their arrays, in the order of the names; where one came twice, its first array would count
+abbrev pub Variables : Type 0
+Variables = List (List ℕ × Array)
+
+-- the variables, with the array of a name laid over them, if it has entries
+abbrev pub with_array : List ℕ → Array → Variables → Variables
+with_array name [] variables = variables
+with_array name (e ∷ es) variables = put bytes_cmp name (e ∷ es) variables
+
+-- names with their arrays, put in the order of the names, without those that have no entries
+abbrev pub in_order : Variables → Variables
+in_order [] = []
+in_order (v ∷ vs) = with_array v.0 v.1 (in_order vs)
+
+-- the name at a position
+abbrev pub name_at : Variables → ℕ → Option (List ℕ)
+name_at variables at = option_map (λ v. v.0) (slice_get variables at)
+
+-- names with their positions, in the order of the names
+abbrev pub Positions : Type 0
+Positions = List (List ℕ × ℕ)
+
+-- whether a position is there and is this one
+abbrev pub is_position : ℕ → Option ℕ → Bool
+is_position at None = false
+is_position at (Some position) = nat_eq position at
+
+-- whether each name has its position, counted from a number on
+abbrev pub have_positions : ℕ → Variables → Positions → Bool
+have_positions from [] positions = true
+have_positions from (v ∷ vs) positions = is_position from (find bytes_cmp v.0 positions) && have_positions (suc from) vs positions
+
+-- the array of a name, with no entries where the name has none
+abbrev pub array_of : List ℕ → Variables → Array
+array_of name variables = unwrap_or (find bytes_cmp name variables) []
+
+-- the value at a key
+abbrev pub value_in : Key → Variables → Option Value
+value_in key variables = find values_cmp key.indices (array_of key.name variables)
+
+-- the same variables, with a value at a key
+abbrev pub with_value : Key → Value → Variables → Variables
+with_value key value variables = put bytes_cmp key.name (put values_cmp key.indices value (array_of key.name variables)) variables
+
+-- what is pinned and what is assigned
+pub record History : Type 0 where
+  pub pins : Variables
+  pub assigned : Variables
+
+-- the value that a literal is
+abbrev pub value_of : Literal → Value
+value_of (literals.Int n) = values.Int n
+value_of (literals.Text bytes) = values.Text bytes
+
+-- the key that a preset pins
+abbrev pub pinned_key : Preset → Key
+pinned_key p = record { name = p.name; indices = [] }
+
+-- one preset after the other, so that the last of a key counts
+abbrev pub pins_of : List Preset → Variables
+pins_of presets = fold (λ pins p. with_value (pinned_key p) (value_of p.value) pins) [] presets
+
+-- the presets pinned, and nothing assigned
+abbrev pub initial : List Preset → History
+initial presets = record { pins = pins_of presets; assigned = [] }
+
+-- whether a preset pins the key
+abbrev pub is_pinned : History → Key → Bool
+is_pinned h key = is_some (value_in key h.pins)
+
+-- the pin of a key, or else what was assigned to it
+abbrev pub value_at : History → Key → Option Value
+value_at h key = option_or (value_in key h.pins) (value_in key h.assigned)
+
+-- a pinned key stays as it is, and any other gets the value
+abbrev pub assign : History → Key → Value → History
+assign h key value = if is_pinned h key then h else record { pins = h.pins; assigned = with_value key value h.assigned }
+
+-- the name is gone from what was assigned, with all its index lists; pins stay
+abbrev pub unset : History → List ℕ → History
+unset h name = record { pins = h.pins; assigned = filter (λ e. not (same_bytes name e.0)) h.assigned }
+
+-- whether an array has a value at an index list
+abbrev pub has_indices : Array → List Value → Bool
+has_indices array indices = is_some (find values_cmp indices array)
+
+-- the entries at other index lists
+abbrev pub without : List Value → Array → Array
+without indices array = filter (λ e. not (same_values indices e.0)) array
+
+-- each index list once, with the value of its first entry
+abbrev pub first_of_each : Array → Array
+first_of_each [] = []
+first_of_each (e ∷ es) = e ∷ without e.0 (first_of_each es)
+
+-- each index list at which the name has a value, once and with that value: the pin, or else what was assigned
+abbrev pub values_of : History → List ℕ → Array
+values_of h name = first_of_each (array_of name h.pins ++ array_of name h.assigned)
+
+-- the index lists of an array
+abbrev pub index_lists : Array → List (List Value)
+index_lists array = map (λ e. e.0) array

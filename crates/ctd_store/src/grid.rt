@@ -1,0 +1,312 @@
+//! Values at two numbers: rows of values, whose numbers follow one another.
+
+ghost use Rattle.std.specs.Prelude.{◌≡◌, ◌≢◌, ◌+◌, ◌<◌, ℕ, ℤ, ◌∷◌, ◌++◌, [], map, length, not, true, false, Some, None, Ok, IfOk, OnOk, OnErr};
+ghost use Rattle.std.specs.List.{IsDistinct, list_any};
+ghost use Rattle.std.specs.Option.{option_copied, unwrap_or, IfSome, IfNone};
+ghost use Rattle.std.specs.FinMap.{find, put};
+ghost use Rattle.ctd_store.specs.Grid.{cells, grid, put_each};
+ghost use Rattle.ctd_store.specs.Lent.{value_lent};
+ghost use Rattle.ctd_store.specs.Order.{values_cmp, same_value, same_values};
+ghost use Rattle.ctd_store.specs.Showing.{entry, indices_of, not_among};
+ghost use Rattle.ctd_store.specs.Store.{cell, has_indices, index_lists};
+ghost use Rattle.ctd_store.specs.declared.value.Value.TheVariants as values;
+
+use crate::lent::Lent;
+use crate::row_and_map::{RowAndMap, clear_list, place_below, write, write_in_room};
+use crate::store::{EntryRef, Indices};
+use crate::value::Value;
+use crate::variables::{Array, has_indices, with_entry};
+use std::alloc::{AllocError, Global};
+use std::marker::Model;
+
+/// The values of a row, at the columns from a base on.
+#[derive(Drop)]
+struct GridRow {
+    base: usize,
+    values: Vec<Value>,
+}
+
+/// Values at a row and a column, which contracts see as the list of them in order.
+#[derive(Drop)]
+pub(crate) struct Grid {
+    // The number of the first row.
+    base: usize,
+    rows: Vec<GridRow>,
+}
+
+impl Model for Grid {
+    ghost use Rattle.ctd_store.specs.Grid.{grid};
+    ghost use Rattle.ctd_store.specs.Store.{Array};
+
+    ghost Value = { Array };
+
+    ghost view = { λ g. grid g.base g.rows.items };
+}
+
+impl Grid {
+    /// The grid with this one value, or an error where no memory is left for it.
+    pub(crate) fn of_one(
+        alloc: Global,
+        row: usize,
+        column: usize,
+        value: Value,
+    ) -> Result<Grid, AllocError>
+        ensures entries { IfOk result (λ grid. grid ≡ (cell row column, value) ∷ []) }
+    {
+        let mut rows = Vec::new(alloc);
+        add_row(alloc, &mut rows, column, value)?;
+        Ok(Grid { base: row, rows })
+    }
+
+    /// The value at an index list. Allocates nothing.
+    pub(crate) fn get(&self, indices: &[Value]) -> Option<&Value>
+        ensures value { option_copied result ≡ find values_cmp indices.now self.now }
+    {
+        let base = self.base;
+        let (row, column) = pair_of(indices)?;
+        let row = &self.rows[place_below(base, self.rows.len(), row)?];
+        let at = place_below(row.base, row.values.len(), column)?;
+        Some(&row.values[at])
+    }
+
+    /// The value at a row and a column of 64 bits, where the grid has it; none says nothing.
+    #[inline(always)]
+    pub(crate) fn at(&self, row: usize, column: usize) -> Option<&Value>
+        ensures value { IfSome result (λ x. find values_cmp (cell row column) self.now ≡ Some x.now) }
+    {
+        if row < self.base {
+            return None;
+        }
+        let at = row - self.base;
+        if at >= self.rows.len() {
+            return None;
+        }
+        value_at(&self.rows[at], column)
+    }
+
+    /// Gives a row and a column a value, where they stand in the grid or just behind the values of a row, or begin the next row.
+    /// Else the value is given back, and all is as it was; so it is after an error. A grid with no rows begins anywhere.
+    pub(crate) fn insert(
+        &mut self,
+        alloc: Global,
+        row: usize,
+        column: usize,
+        value: Value,
+    ) -> Result<Option<Value>, AllocError>
+        ensures done { result ≡ Ok None → self.new ≡ put values_cmp (cell row column) value self.old }
+        ensures given_back { IfOk result (λ back. IfSome back (λ v. (v ≡ value) × (self.new ≡ self.old))) }
+        ensures err { OnErr result (self.new ≡ self.old) }
+    {
+        self.base = base_for(self.base, self.rows.len(), row);
+        if row < self.base {
+            return Ok(Some(value));
+        }
+        let at = row - self.base;
+        if at > self.rows.len() {
+            return Ok(Some(value));
+        }
+        if at == self.rows.len() {
+            add_row(alloc, &mut self.rows, column, value)?;
+            return Ok(None);
+        }
+        let first = self.rows[at].base;
+        if column < first || column - first > self.rows[at].values.len() {
+            return Ok(Some(value));
+        }
+        write(&mut self.rows[at].values, column - first, value)?;
+        Ok(None)
+    }
+
+    /// The same, where that takes no memory and no new row.
+    #[inline(always)]
+    pub(crate) fn insert_in_room(
+        &mut self,
+        row: usize,
+        column: usize,
+        value: Value,
+    ) -> Option<Value>
+        ensures done { IfNone result (self.new ≡ put values_cmp (cell row column) value self.old) }
+        ensures given_back { IfSome result (λ v. (v ≡ value) × (self.new ≡ self.old)) }
+    {
+        if row < self.base {
+            return Some(value);
+        }
+        let at = row - self.base;
+        if at >= self.rows.len() {
+            return Some(value);
+        }
+        let first = self.rows[at].base;
+        if column < first {
+            return Some(value);
+        }
+        write_in_room(&mut self.rows[at].values, column - first, value)
+    }
+
+    /// Removes all values; few rows keep their room for the next ones.
+    pub(crate) fn clear(&mut self)
+        ensures empty { self.new ≡ [] }
+    {
+        clear_list(&mut self.rows);
+    }
+
+    /// The same values in a map, or an error where no memory is left for it.
+    pub(crate) fn spread(&self, alloc: Global) -> Result<RowAndMap, AllocError>
+        ensures same { IfOk result (λ spread. spread ≡ self.now) }
+    {
+        let mut spread = RowAndMap::new(alloc);
+        for at in 0..self.rows.len() {
+            spread_row(alloc, self.base, at, &self.rows[at], &mut spread)?;
+        }
+        Ok(spread)
+    }
+
+    /// Adds the entries to others, but for those at whose index lists the hidden array, if there is one, has a value.
+    pub(crate) fn add_entries<'s>(
+        &'s self,
+        hidden: Option<&Array>,
+        mut entries: Vec<EntryRef<'s>>,
+    ) -> Result<Vec<EntryRef<'s>>, AllocError>
+        ensures added { IfOk result (λ list. map entry list.items ≡ map entry entries.entry.items ++ not_among (unwrap_or (option_copied hidden.entry) []) self.now) }
+        ensures once { IfOk result (λ _. IsDistinct same_values (index_lists self.now)) }
+    {
+        for at in 0..self.rows.len() {
+            entries = add_row_entries(hidden, self.base, at, &self.rows[at], entries)?;
+        }
+        Ok(entries)
+    }
+
+    /// Whether a value is among those at whose index lists the hidden array, if there is one, has none. Allocates nothing.
+    pub(crate) fn has_value(&self, hidden: Option<&Array>, value: Lent<'_>) -> bool
+        ensures value { result ≡ list_any (λ e. same_value (value_lent value.entry) e.1) (not_among (unwrap_or (option_copied hidden.entry) []) self.now) }
+    {
+        for at in 0..self.rows.len() {
+            if row_has_value(hidden, self.base, at, &self.rows[at], value) {
+                return true;
+            }
+        }
+        false
+    }
+}
+
+/// Where a grid of so many rows begins once a row gets a value.
+fn base_for(base: usize, count: usize, row: usize) -> usize
+    ensures kept { 0 < count → result ≡ base }
+    ensures begun { count ≡ 0 → result ≡ row }
+{
+    if count > 0 { base } else { row }
+}
+
+/// The two numbers that an index list is.
+fn pair_of(indices: &[Value]) -> Option<(i128, i128)>
+    ensures found { IfSome result (λ p. indices.now ≡ values.Int p.0 ∷ values.Int p.1 ∷ []) }
+    ensures none { IfNone result ((m n : ℤ) → indices.now ≢ values.Int m ∷ values.Int n ∷ []) }
+{
+    match indices {
+        [Value::Int(row), Value::Int(column)] => Some((*row, *column)),
+        _ => None,
+    }
+}
+
+/// The value of a row at a column.
+#[inline(always)]
+fn value_at(row: &GridRow, column: usize) -> Option<&Value>
+    ensures value { (number : ℕ) → IfSome result (λ x. find values_cmp (cell number column) (cells number row.now.base row.now.values.items) ≡ Some x.now) }
+{
+    if column < row.base {
+        return None;
+    }
+    let at = column - row.base;
+    if at < row.values.len() {
+        Some(&row.values[at])
+    } else {
+        None
+    }
+}
+
+/// Adds a row with a single value, with room for as many as the row before it has; after an error the rows are as they were.
+#[inline(never)]
+fn add_row(
+    alloc: Global,
+    rows: &mut Vec<GridRow>,
+    column: usize,
+    value: Value,
+) -> Result<(), AllocError>
+    ensures ok { OnOk result ((base : ℕ) → grid base rows.new.items ≡ put values_cmp (cell (base + length rows.old.items) column) value (grid base rows.old.items)) }
+    ensures err { OnErr result (rows.new.items ≡ rows.old.items) }
+{
+    let room = rows.last().map_or(1, |row| row.values.len());
+    let mut values = Vec::with_capacity(alloc, room)?;
+    values.push(value)?;
+    rows.push(GridRow {
+        base: column,
+        values,
+    })?;
+    Ok(())
+}
+
+/// Puts the values of the row at a place from a base on into a map.
+fn spread_row(
+    alloc: Global,
+    base: usize,
+    at: usize,
+    row: &GridRow,
+    spread: &mut RowAndMap,
+) -> Result<(), AllocError>
+    ensures added { OnOk result (spread.new ≡ put_each (cells (base + at) row.now.base row.now.values.items) spread.old) }
+{
+    for column in 0..row.values.len() {
+        let mut indices = Vec::with_capacity(alloc, 2)?;
+        indices.push(Value::Int(base as i128 + at as i128))?;
+        indices.push(Value::Int(row.base as i128 + column as i128))?;
+        spread.insert(indices, row.values[column].copy(alloc)?)?;
+    }
+    Ok(())
+}
+
+/// Adds the entries of the row at a place from a base on to others, but for those that the hidden array, if there is one, hides.
+fn add_row_entries<'s>(
+    hidden: Option<&Array>,
+    base: usize,
+    at: usize,
+    row: &'s GridRow,
+    mut entries: Vec<EntryRef<'s>>,
+) -> Result<Vec<EntryRef<'s>>, AllocError>
+    ensures added { IfOk result (λ list. map entry list.items ≡ map entry entries.entry.items ++ not_among (unwrap_or (option_copied hidden.entry) []) (cells (base + at) row.now.base row.now.values.items)) }
+{
+    for column in 0..row.values.len() {
+        let indices = cell_indices(base, at, row.base, column);
+        entries = with_entry(hidden, indices, &row.values[column], entries)?;
+    }
+    Ok(entries)
+}
+
+/// Whether a value is among those of the row at a place from a base on that the hidden array, if there is one, does not hide.
+fn row_has_value(
+    hidden: Option<&Array>,
+    base: usize,
+    at: usize,
+    row: &GridRow,
+    value: Lent<'_>,
+) -> bool
+    ensures value { result ≡ list_any (λ e. same_value (value_lent value.entry) e.1) (not_among (unwrap_or (option_copied hidden.entry) []) (cells (base + at) row.now.base row.now.values.items)) }
+{
+    for column in 0..row.values.len() {
+        if value.order(Lent::of(&row.values[column])).is_eq() {
+            let indices = cell_indices(base, at, row.base, column);
+            if !has_indices(hidden, indices.as_slice()) {
+                return true;
+            }
+        }
+    }
+    false
+}
+
+/// The index list of the row and the column at places from two bases on.
+fn cell_indices<'s>(base: usize, at: usize, first: usize, column: usize) -> Indices<'s>
+    ensures value { indices_of result ≡ cell (base + at) (first + column) }
+{
+    Indices::Two([
+        Value::Int(base as i128 + at as i128),
+        Value::Int(first as i128 + column as i128),
+    ])
+}

@@ -1,0 +1,358 @@
+//! Index lists with their values: a row of values for the numbers from 0 or 1 on, and an ordered map for all others.
+
+ghost use Rattle.std.specs.Prelude.{◌≡◌, ◌≢◌, ℕ, suc, pos, ◌+◌, ◌<◌, ◌≤◌, length, take, drop, [], ◌∷◌, ◌++◌, map, not, ◌&&◌, true, false, Some, IfOk, IsTrue, OnOk, OnErr, vec_len, vec_capacity};
+ghost use Rattle.std.specs.List.{IsDistinct, list_any};
+ghost use Rattle.std.specs.Option.{option_copied, unwrap_or, IfSome, IfNone};
+ghost use Rattle.std.specs.FinMap.{find, put};
+ghost use Rattle.ctd_store.specs.Lent.{value_lent};
+ghost use Rattle.ctd_store.specs.Order.{values_cmp, same_value, same_values};
+ghost use Rattle.ctd_store.specs.Showing.{entry, indices_of, not_among};
+ghost use Rattle.ctd_store.specs.Store.{has_indices, index_lists, laid, slot, order_of_slot};
+
+use crate::lent::Lent;
+use crate::store::{EntryRef, Indices};
+use crate::value::Value;
+use crate::variables::{Array, has_indices, with_entry};
+use std::alloc::{AllocError, Global};
+use std::cmp::Ordering;
+use std::collections::BTreeMap;
+use std::marker::Model;
+use std::mem::replace;
+
+/// How many elements the room is for that a list may keep while it has none.
+const ROOM_KEPT: usize = 64;
+
+/// Index lists with their values, each index list once, which contracts see as the list of them in order.
+#[derive(Drop)]
+pub(crate) struct RowAndMap {
+    // The number of the first value of the row.
+    base: usize,
+    // The values of the numbers from there on; what stands here hides what `rest` has there.
+    dense: Vec<Value>,
+    rest: BTreeMap<Vec<Value>, Value>,
+}
+
+/// Values at the numbers from a base on.
+#[derive(Clone, Copy)]
+pub struct Row<'s> {
+    pub base: usize,
+    pub values: &'s [Value],
+}
+
+impl Model for RowAndMap {
+    ghost use Rattle.std.specs.Prelude.{T, map};
+    ghost use Rattle.std.specs.FinMap.{is_sorted};
+    ghost use Rattle.ctd_store.specs.Order.{values_cmp};
+    ghost use Rattle.ctd_store.specs.Store.{Array, laid};
+
+    ghost Value = { Array };
+
+    ghost view = { λ a. laid a.base a.dense.items (map (λ e. (e.0.items, e.1)) a.rest.entries) };
+
+    ghost invariant = { λ a. T (is_sorted values_cmp (map (λ e. (e.0.items, e.1)) a.rest.entries)) };
+}
+
+impl RowAndMap {
+    /// No values; takes no memory.
+    pub(crate) fn new(alloc: Global) -> RowAndMap
+        ensures empty { result ≡ [] }
+    {
+        RowAndMap {
+            base: 0,
+            dense: Vec::new(alloc),
+            rest: BTreeMap::new(alloc),
+        }
+    }
+
+    /// Whether there are no values; false says nothing.
+    pub(crate) fn is_empty(&self) -> bool
+        ensures none { IsTrue result → self.now ≡ [] }
+    {
+        self.dense.is_empty() && self.rest.is_empty()
+    }
+
+    /// The value at an index list. Allocates nothing.
+    pub(crate) fn get(&self, indices: &[Value]) -> Option<&Value>
+        ensures value { option_copied result ≡ find values_cmp indices.now self.now }
+    {
+        match slot_below(self.base, self.dense.len(), indices) {
+            Some(at) => Some(&self.dense[at]),
+            None => self.rest.get(indices),
+        }
+    }
+
+    /// The value at a number, where it stands in the row; none says nothing.
+    #[inline(always)]
+    pub(crate) fn in_row(&self, number: usize) -> Option<&Value>
+        ensures value { IfSome result (λ x. find values_cmp (slot number) self.now ≡ Some x.now) }
+    {
+        if number < self.base {
+            return None;
+        }
+        let at = number - self.base;
+        if at < self.dense.len() {
+            Some(&self.dense[at])
+        } else {
+            None
+        }
+    }
+
+    /// The values, where they are a row alone; none says nothing.
+    #[inline(always)]
+    pub(crate) fn row(&self) -> Option<Row<'_>>
+        ensures value { IfSome result (λ row. self.now ≡ laid row.base row.values.now []) }
+    {
+        if self.rest.is_empty() {
+            Some(Row {
+                base: self.base,
+                values: &self.dense,
+            })
+        } else {
+            None
+        }
+    }
+
+    /// Gives an index list a value; after an error all is as it was.
+    pub(crate) fn insert(&mut self, indices: Vec<Value>, value: Value) -> Result<(), AllocError>
+        ensures ok { OnOk result (self.new ≡ put values_cmp indices.items value self.old) }
+        ensures err { OnErr result (self.new ≡ self.old) }
+    {
+        self.base = base_for(self.base, self.dense.len(), &indices);
+        match slot_below(self.base, self.dense.len() + 1, &indices) {
+            Some(at) => {
+                drop(indices);
+                write(&mut self.dense, at, value)
+            }
+            None => {
+                self.rest.insert(indices, value)?;
+                Ok(())
+            }
+        }
+    }
+
+    /// Gives the index list of a number a value, where it stands in the row or just behind it and that takes no memory; else the
+    /// value is given back, and all is as it was.
+    #[inline(always)]
+    pub(crate) fn insert_in_row(&mut self, number: usize, value: Value) -> Option<Value>
+        ensures done { IfNone result (self.new ≡ put values_cmp (slot number) value self.old) }
+        ensures given_back { IfSome result (λ v. (v ≡ value) × (self.new ≡ self.old)) }
+    {
+        if number < self.base {
+            return Some(value);
+        }
+        let at = number - self.base;
+        write_in_room(&mut self.dense, at, value)
+    }
+
+    /// Removes all values; a short row keeps its room for the next ones.
+    pub(crate) fn clear(&mut self)
+        ensures empty { self.new ≡ [] }
+    {
+        clear_list(&mut self.dense);
+        self.rest.clear();
+    }
+
+    /// Adds the entries to others, but for those at whose index lists the hidden array, if there is one, has a value.
+    pub(crate) fn add_entries<'s>(
+        &'s self,
+        hidden: Option<&Array>,
+        mut entries: Vec<EntryRef<'s>>,
+    ) -> Result<Vec<EntryRef<'s>>, AllocError>
+        ensures added { IfOk result (λ list. map entry list.items ≡ map entry entries.entry.items ++ not_among (unwrap_or (option_copied hidden.entry) []) self.now) }
+        ensures once { IfOk result (λ _. IsDistinct same_values (index_lists self.now)) }
+    {
+        let mut next = 0;
+        for (indices, value) in &self.rest {
+            let indices = indices.as_slice();
+            while order_of_slot(self.base, next, self.dense.len(), indices).is_lt() {
+                entries = with_entry(
+                    hidden,
+                    slot_indices(self.base, next),
+                    &self.dense[next],
+                    entries,
+                )?;
+                next += 1;
+            }
+            if order_of_slot(self.base, next, self.dense.len(), indices).is_eq() {
+                entries = with_entry(hidden, Indices::Listed(indices), &self.dense[next], entries)?;
+                next += 1;
+            } else {
+                entries = with_entry(hidden, Indices::Listed(indices), value, entries)?;
+            }
+        }
+        while next < self.dense.len() {
+            entries = with_entry(
+                hidden,
+                slot_indices(self.base, next),
+                &self.dense[next],
+                entries,
+            )?;
+            next += 1;
+        }
+        Ok(entries)
+    }
+
+    /// Whether a value is among those at whose index lists the hidden array, if there is one, has none. Allocates nothing.
+    pub(crate) fn has_value(&self, hidden: Option<&Array>, value: Lent<'_>) -> bool
+        ensures value { result ≡ list_any (λ e. same_value (value_lent value.entry) e.1) (not_among (unwrap_or (option_copied hidden.entry) []) self.now) }
+    {
+        let mut next = 0;
+        for (indices, stored) in &self.rest {
+            let indices = indices.as_slice();
+            while order_of_slot(self.base, next, self.dense.len(), indices).is_lt() {
+                if shows_at(hidden, self.base, next, &self.dense[next], value) {
+                    return true;
+                }
+                next += 1;
+            }
+            if order_of_slot(self.base, next, self.dense.len(), indices).is_eq() {
+                if shows(hidden, indices, &self.dense[next], value) {
+                    return true;
+                }
+                next += 1;
+            } else if shows(hidden, indices, stored, value) {
+                return true;
+            }
+        }
+        while next < self.dense.len() {
+            if shows_at(hidden, self.base, next, &self.dense[next], value) {
+                return true;
+            }
+            next += 1;
+        }
+        false
+    }
+}
+
+/// Whether a value is the one at a place from a base on, and the hidden array, if there is one, has none there.
+#[inline(always)]
+fn shows_at(hidden: Option<&Array>, base: usize, at: usize, stored: &Value, value: Lent<'_>) -> bool
+    ensures value { result ≡ (same_value (value_lent value.entry) stored.now && not (has_indices (unwrap_or (option_copied hidden.entry) []) (slot (base + at)))) }
+{
+    value.order(Lent::of(stored)).is_eq() && !has_indices(hidden, slot_indices(base, at).as_slice())
+}
+
+/// Whether a value is the one at an index list, and the hidden array, if there is one, has none there.
+pub(crate) fn shows(
+    hidden: Option<&Array>,
+    indices: &[Value],
+    stored: &Value,
+    value: Lent<'_>,
+) -> bool
+    ensures value { result ≡ (same_value (value_lent value.entry) stored.now && not (has_indices (unwrap_or (option_copied hidden.entry) []) indices.now)) }
+{
+    value.order(Lent::of(stored)).is_eq() && !has_indices(hidden, indices)
+}
+
+/// Gives a slot of a list a value, where one past its end is a slot too; after an error all is as it was.
+#[inline(always)]
+pub(crate) fn write(values: &mut Vec<Value>, at: usize, value: Value) -> Result<(), AllocError>
+    requires { at ≤ length values.old.items }
+    ensures ok { OnOk result (values.new.items ≡ take at values.old.items ++ value ∷ drop (suc at) values.old.items) }
+    ensures err { OnErr result (values.new.items ≡ values.old.items) }
+{
+    if at < values.len() {
+        drop(replace(&mut values[at], value));
+    } else {
+        if values.len() >= values.capacity() {
+            grow(values)?;
+        }
+        values.push_reserved(value);
+    }
+    Ok(())
+}
+
+/// The same, where the slot is there or there is room for it; else the value is given back, and all is as it was.
+#[inline(always)]
+pub(crate) fn write_in_room(values: &mut Vec<Value>, at: usize, value: Value) -> Option<Value>
+    ensures within { IfNone result (at ≤ length values.old.items) }
+    ensures done { IfNone result (values.new.items ≡ take at values.old.items ++ value ∷ drop (suc at) values.old.items) }
+    ensures given_back { IfSome result (λ v. (v ≡ value) × (values.new.items ≡ values.old.items)) }
+{
+    if at < values.len() {
+        drop(replace(&mut values[at], value));
+        return None;
+    }
+    if at > values.len() || at >= values.capacity() {
+        return Some(value);
+    }
+    values.push_reserved(value);
+    None
+}
+
+/// Makes room for one more value; the values stay. A function of its own, so that a list with room pays nothing for it.
+#[inline(never)]
+fn grow(values: &mut Vec<Value>) -> Result<(), AllocError>
+    ensures items { values.new.items ≡ values.old.items }
+    ensures room { OnOk result (vec_len values.new < vec_capacity values.new) }
+{
+    values.reserve(1)
+}
+
+/// Removes all elements of a list; if it has much room, also that.
+pub(crate) fn clear_list<T: Drop>(list: &mut Vec<T>)
+    ensures empty { list.new.items ≡ [] }
+{
+    if list.capacity() <= ROOM_KEPT {
+        list.clear();
+    } else {
+        let empty = Vec::new(*list.allocator());
+        drop(replace(list, empty));
+    }
+}
+
+/// Where a row begins once an index list gets a value. A row with no values begins at 1 if that is the index list, and
+/// else at 0.
+fn base_for(base: usize, count: usize, indices: &[Value]) -> usize
+    ensures kept { 0 < count → result ≡ base }
+    ensures from_one { count ≡ 0 → indices.now ≡ slot 1 → result ≡ 1 }
+    ensures from_zero { count ≡ 0 → indices.now ≢ slot 1 → result ≡ 0 }
+{
+    if count > 0 {
+        return base;
+    }
+    match indices {
+        [Value::Int(1)] => 1,
+        _ => 0,
+    }
+}
+
+/// Where an index list stands from a base on, where it is a number below a bound there.
+fn slot_below(base: usize, bound: usize, indices: &[Value]) -> Option<usize>
+    ensures found { IfSome result (λ n. (n < bound) × (indices.now ≡ slot (base + n))) }
+    ensures none { IfNone result ((n : ℕ) → n < bound → indices.now ≢ slot (base + n)) }
+{
+    match indices {
+        [Value::Int(n)] => place_below(base, bound, *n),
+        _ => None,
+    }
+}
+
+/// Where a number stands from a base on, where it is below a bound there.
+pub(crate) fn place_below(base: usize, bound: usize, number: i128) -> Option<usize>
+    ensures found { IfSome result (λ n. (n < bound) × (number ≡ pos (base + n))) }
+    ensures none { IfNone result ((n : ℕ) → n < bound → number ≢ pos (base + n)) }
+{
+    match usize::try_from(number.checked_sub(base as i128)?) {
+        Ok(at) if at < bound => Some(at),
+        _ => None,
+    }
+}
+
+/// The index list at a place from a base on.
+fn slot_indices<'s>(base: usize, at: usize) -> Indices<'s>
+    ensures value { indices_of result ≡ slot (base + at) }
+{
+    Indices::One([Value::Int(base as i128 + at as i128)])
+}
+
+/// How the index list at a place from a base on stands to an index list; past the last place it is after each.
+fn order_of_slot(base: usize, at: usize, count: usize, indices: &[Value]) -> Ordering
+    ensures value { result ≡ order_of_slot base at count indices.now }
+{
+    if at < count {
+        slot_indices(base, at).as_slice().cmp(indices)
+    } else {
+        Ordering::Greater
+    }
+}
