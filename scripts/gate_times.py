@@ -37,22 +37,26 @@ def kind_of(words: list[str], folder: str) -> str:
     return "compiling" if "--crate-checked" in words else "library"
 
 
-def stands_in(edit: Path, folder: Path) -> bool:
-    """Whether the texts of a wrong body stand in a folder in place of those that it changes."""
-    path = None
+def edited(edit: Path) -> dict[str, str]:
+    """The texts of the files that a wrong body changes, by their path in the crate."""
+    texts: dict[str, str] = {}
+    path = old = ""
     for line in edit.read_text().splitlines():
         key, _, text = line.partition(": ")
         if key == "file":
-            path = folder / text.strip()
-        elif path and key in ("old", "new") and (text in path.read_text()) != (key == "new"):
-            return False
-    return path is not None
+            path = text.strip()
+            texts.setdefault(path, (edit.parent.parent / path).read_text())
+        elif key == "old":
+            old = text
+        elif key == "new":
+            texts[path] = texts[path].replace(old, text)
+    return texts
 
 
 def body_in(crate: str, folder: str) -> str | None:
     """The wrong body that a folder has, if it has one."""
     for edit in sorted((TOP / "crates" / crate / "must-fail").glob("*.edit")):
-        if stands_in(edit, Path(folder)):
+        if all((Path(folder) / path).read_text() == text for path, text in edited(edit).items()):
             return edit.stem
     return None
 
