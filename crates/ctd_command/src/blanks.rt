@@ -122,7 +122,7 @@ impl<'d, D: Source> Run<'d, D> {
         }
     }
 
-    /// What is done before the first command.
+    /// What is done before the first command: under `BlanksOk` the blanks at the start of the data are passed.
     pub fn first_skip(&mut self) -> Result<(), CommandFailure>
         requires sound { IsSound self.old }
         ensures performs { Performs self.old self.new result first_skip }

@@ -10,7 +10,7 @@ use crate::reason::Reason;
 use ctd_source::Source;
 
 impl<'d, D: Source> Run<'d, D> {
-    /// SPACE.
+    /// SPACE: passes one byte 0x20, or under `BlanksOk` as many blanks as there are, one at least; else it is ExpectedSpace.
     #[inline(never)]
     pub fn space(&mut self) -> Result<(), CommandFailure>
         requires sound { IsSound self.old }
@@ -22,7 +22,7 @@ impl<'d, D: Source> Run<'d, D> {
         }
     }
 
-    /// NEWLINE.
+    /// NEWLINE: passes one byte 0x0A, under `BlanksOk` with the blanks before and behind it; else it is ExpectedNewline.
     #[inline(never)]
     pub fn newline(&mut self) -> Result<(), CommandFailure>
         requires sound { IsSound self.old }
@@ -34,7 +34,7 @@ impl<'d, D: Source> Run<'d, D> {
         }
     }
 
-    /// EOF, and the end of a program.
+    /// EOF, and the end of a program: the data end here, under `BlanksOk` behind blanks; else it is ExpectedEof.
     pub fn end(&mut self) -> Result<(), CommandFailure>
         requires sound { IsSound self.old }
         ensures performs { Performs self.old self.new result end }

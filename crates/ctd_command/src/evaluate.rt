@@ -34,7 +34,7 @@ impl<'d, D: Source> Run<'d, D> {
         number_at_hand(e, &self.store)
     }
 
-    /// How often a loop runs.
+    /// How often a loop runs. A string is WrongType, and a number outside 0 .. 2^64 - 1 is Count.
     pub fn count(&self, e: &Expr) -> Result<u64, CommandFailure>
         requires sound { IsSound self.now }
         ensures performs { Performs self.now self.now result (evaluate (count (expr_tree e.now))) }
@@ -63,7 +63,7 @@ impl<'d, D: Source> Run<'d, D> {
         }
     }
 
-    /// Whether a test is true.
+    /// Whether a test is true. It looks at the next byte only where its evaluation reaches ISEOF or the byte of a MATCH, and passes none.
     #[inline(always)]
     pub fn answer(&mut self, t: &Test) -> Result<bool, CommandFailure>
         requires sound { IsSound self.old }

@@ -9,8 +9,11 @@ use std::marker::Model;
 /// Why a command is not done: the data do not match it, a fault stopped it, or no memory is left.
 #[derive(Clone, Copy)]
 pub enum Failure {
+    /// The data do not match the program, for this reason.
     Rejected(Reason),
+    /// The command has no answer, by this fault.
     Stopped(Fault),
+    /// An allocation failed.
     Memory,
 }
 
@@ -161,7 +164,7 @@ impl CommandFailure {
         })
     }
 
-    /// The failure.
+    /// The failure that it stands for.
     pub fn failure(self) -> Failure
         ensures { result ≡ self }
     {

@@ -103,7 +103,8 @@ fn pass_digits<D: Source>(
 }
 
 impl<'d, D: Source> Run<'d, D> {
-    /// INT: evaluates both bounds, then passes an integer between them and keeps it in its variable, if there is one.
+    /// INT: evaluates both bounds, then passes an integer between them and keeps it in its variable, if there is one. What has the form
+    /// of an integer is passed whole, also where it is ExpectedInt, LeadingZero, MinusZero or OutOfRange.
     #[inline(never)]
     pub fn int(&mut self, low: &Expr, high: &Expr, var: &Option<Var>) -> Result<(), CommandFailure>
         requires sound { IsSound self.old }

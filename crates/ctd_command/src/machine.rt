@@ -15,12 +15,15 @@ use ctd_tree::Presets;
 use ctd_value::Store;
 use std::alloc::{AllocError, Global};
 
-/// The state of a run. Its commands are methods, each in the file of its kind.
+/// The state of a run. Its commands are methods, each in the file of its kind (checktestdata language specification, commands).
 #[derive(Drop)]
 pub struct Run<'d, D: Source> {
     pub(crate) alloc: Global,
+    /// Where the data are read, and how far they were passed.
     pub cursor: Cursor<'d, D>,
+    /// The variables with their values.
     pub store: Store,
+    /// How blanks are matched, which nothing changes.
     pub mode: Mode,
 }
 

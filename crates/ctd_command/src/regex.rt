@@ -26,7 +26,8 @@ fn shorter_match(length: Option<usize>) -> Result<usize, CommandFailure>
 }
 
 impl<'d, D: Source> Run<'d, D> {
-    /// REGEX: passes the match at the start of the window, and keeps it in its variable, if there is one.
+    /// REGEX: passes the match at the start of the window, and keeps it in its variable, if there is one. Where none starts there, it is
+    /// RegexMismatch, and a match of the whole window is MatchTooLong; both pass nothing.
     #[inline(never)]
     pub fn regex(
         &mut self,

@@ -144,7 +144,8 @@ fn match_bytes<D: Source>(bytes: &[u8], cursor: &mut Cursor<'_, D>) -> Result<()
 }
 
 impl<'d, D: Source> Run<'d, D> {
-    /// STRING: evaluates a string, then passes its bytes. They are compared where they stand.
+    /// STRING: evaluates a string, then passes its bytes, which are compared where they stand. At the first that differs it is
+    /// StringMismatch, and those that agreed are passed.
     #[inline(never)]
     pub fn string(&mut self, e: &Expr) -> Result<(), CommandFailure>
         requires sound { IsSound self.old }

@@ -13,7 +13,9 @@ use std::cmp::Ordering;
 /// A number, or the bytes of a literal or a variable where they stand.
 #[derive(Clone, Copy)]
 pub enum Lent<'v> {
+    /// A number, which is copied.
     Int(i128),
+    /// The bytes of a string, in the program or in a store.
     Text(&'v [u8]),
 }
 

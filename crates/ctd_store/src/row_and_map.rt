@@ -35,7 +35,9 @@ pub(crate) struct RowAndMap {
 /// Values at the numbers from a base on.
 #[derive(Clone, Copy)]
 pub struct Row<'s> {
+    /// The number of the first value.
     pub base: usize,
+    /// The values, each at the number behind that of the one before it.
     pub values: &'s [Value],
 }
 

@@ -2,7 +2,7 @@
 
 use super::store_of;
 use ctd_syntax::{Action, Assignment, Command, Program, Test, parse};
-use ctd_value::{number_at_hand, set_expression, truth_at_hand, truth_in_front_of};
+use ctd_value::{Store, number_at_hand, set_expression, truth_at_hand, truth_in_front_of};
 use std::alloc::Global;
 use std::test::Fail;
 
@@ -21,16 +21,31 @@ fn assignments_and_test(program: &Program) -> Result<(&[Assignment], &Test), Fai
     Err(Fail::new("no test"))
 }
 
+/// The answer at hand to a test, once assignments are made.
+fn truth_over(
+    alloc: Global,
+    assignments: &[Assignment],
+    t: &Test,
+    store: &mut Store,
+) -> Result<Option<bool>, Fail> {
+    for a in assignments {
+        set_expression(alloc, &a.target, &a.value, store)?;
+    }
+    Ok(truth_at_hand(t, store))
+}
+
+/// The same of a program that begins with SET, with the test behind it.
+fn truth_of(alloc: Global, program: &Program) -> Result<Option<bool>, Fail> {
+    let (assignments, t) = assignments_and_test(program)?;
+    let mut store = store_of(alloc, "")?;
+    truth_over(alloc, assignments, t, &mut store)
+}
+
 /// The answer at hand to a test, once the variables have their values.
 fn truth_in(alloc: Global, test: &str) -> Result<Option<bool>, Fail> {
     let text = format!(in alloc; "{FILLING} ASSERT({test})")?;
     let program = parse(alloc, text.as_bytes())?;
-    let (assignments, t) = assignments_and_test(&program)?;
-    let mut store = store_of(alloc, "")?;
-    for a in assignments {
-        set_expression(alloc, &a.target, &a.value, &mut store)?;
-    }
-    Ok(truth_at_hand(t, &store))
+    truth_of(alloc, &program)
 }
 
 /// Tests, and the answer at hand to each.
@@ -117,11 +132,8 @@ fn truths_in_front_of_a_byte(rt: HostRuntime) -> Result<(), Fail> {
     Ok(())
 }
 
-/// The number of an expression, where it is at hand; the number of n is 3.
-fn number_in(alloc: Global, expression: &str) -> Result<Option<i128>, Fail> {
-    let text = format!(in alloc; "SET(n=3,x={expression})")?;
-    let program = parse(alloc, text.as_bytes())?;
-    let mut store = store_of(alloc, "")?;
+/// The number that the second of two assignments gives, where it is at hand once the first is made.
+fn number_over(alloc: Global, program: &Program, store: &mut Store) -> Result<Option<i128>, Fail> {
     if let [
         Command {
             action: Action::Set(assignments),
@@ -130,11 +142,24 @@ fn number_in(alloc: Global, expression: &str) -> Result<Option<i128>, Fail> {
     ] = program.commands()
     {
         if let [n, x] = assignments.as_slice() {
-            set_expression(alloc, &n.target, &n.value, &mut store)?;
-            return Ok(number_at_hand(&x.value, &store));
+            set_expression(alloc, &n.target, &n.value, store)?;
+            return Ok(number_at_hand(&x.value, store));
         }
     }
     Err(Fail::new("no assignments"))
+}
+
+/// The same, where no variable has a value before.
+fn number_of(alloc: Global, program: &Program) -> Result<Option<i128>, Fail> {
+    let mut store = store_of(alloc, "")?;
+    number_over(alloc, program, &mut store)
+}
+
+/// The number of an expression, where it is at hand; the number of n is 3.
+fn number_in(alloc: Global, expression: &str) -> Result<Option<i128>, Fail> {
+    let text = format!(in alloc; "SET(n=3,x={expression})")?;
+    let program = parse(alloc, text.as_bytes())?;
+    number_of(alloc, &program)
 }
 
 /// Expressions, and the number of each, where it is a literal or all numbers on the way to it have 64 bits.

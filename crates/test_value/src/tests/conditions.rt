@@ -7,7 +7,7 @@ use super::{
     store_of, truth_told,
 };
 use ctd_source::Plain;
-use ctd_syntax::parse;
+use ctd_syntax::{Program, parse};
 use std::alloc::Global;
 use std::test::Fail;
 
@@ -111,6 +111,12 @@ fn short_circuits(rt: HostRuntime) -> Result<(), Fail> {
     judged(&rt, rt.alloc(), &SHORT_CIRCUITS)
 }
 
+/// What a program answers over a reader, where no variable has a value before.
+fn answer_with(alloc: Global, program: &Program, data: &mut Plain<'_>) -> Result<Answer, Fail> {
+    let mut store = store_of(alloc, "")?;
+    Ok(truth_told(run(alloc, program, &mut store, data))?)
+}
+
 /// What a program answers at some bytes, behind which a read may fail.
 fn answer_over(
     alloc: Global,
@@ -122,9 +128,8 @@ fn answer_over(
     requires { limit ≤ 2 ^ 62 }
 {
     let program = parse(alloc, text.as_bytes())?;
-    let mut store = store_of(alloc, "")?;
     let mut data = Plain::new(bytes, broken, limit);
-    Ok(truth_told(run(alloc, &program, &mut store, &mut data))?)
+    answer_with(alloc, &program, &mut data)
 }
 
 /// A test, the bytes that it is asked at, whether a read fails behind them, the limit, and what it says.

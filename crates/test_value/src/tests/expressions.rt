@@ -131,10 +131,15 @@ fn value_in(alloc: Global, store: &Store, text: &str) -> Result<Value, Fail> {
     Ok(value_told(eval(alloc, &a.value, store))??)
 }
 
+/// The value that a text assigns, where some variables are pinned.
+fn value_over(alloc: Global, pinned: &str, text: &str) -> Result<Value, Fail> {
+    let store = store_of(alloc, pinned)?;
+    value_in(alloc, &store, text)
+}
+
 #[test]
 fn a_number(rt: HostRuntime) -> Result<(), Fail> {
-    let store = store_of(rt.alloc(), "")?;
-    let found = value_in(rt.alloc(), &store, "SET(x=7%-2)")?;
+    let found = value_over(rt.alloc(), "", "SET(x=7%-2)")?;
     assert!(rt; matches!(&found, Value::Int(1)));
     Ok(())
 }
@@ -149,8 +154,7 @@ fn is_text(value: &Value, bytes: &[u8]) -> bool {
 
 #[test]
 fn a_string_is_copied(rt: HostRuntime) -> Result<(), Fail> {
-    let store = store_of(rt.alloc(), "s=\"a,b\"")?;
-    let found = value_in(rt.alloc(), &store, "SET(x=((s)))")?;
+    let found = value_over(rt.alloc(), "s=\"a,b\"", "SET(x=((s)))")?;
     assert!(rt; is_text(&found, b"a,b"));
     Ok(())
 }
@@ -324,11 +328,16 @@ fn are_text_and_number(indices: &[Value], bytes: &[u8], n: i128) -> bool {
     }
 }
 
-#[test]
-fn a_key_with_a_string(rt: HostRuntime) -> Result<(), Fail> {
-    let store = store_of(rt.alloc(), "b=7")?;
-    let key = key_in(rt.alloc(), &store, "SET(ab[\"k\",1]=0)")??;
+/// Judges a key that has a string and a number as its indices.
+fn judge_mixed_key(rt: &impl Abort, alloc: Global, store: &Store) -> Result<(), Fail> {
+    let key = key_in(alloc, store, "SET(ab[\"k\",1]=0)")??;
     assert_eq!(rt; key.name(), b"ab".as_slice());
     assert!(rt; are_text_and_number(key.indices(), b"k", 1));
     Ok(())
+}
+
+#[test]
+fn a_key_with_a_string(rt: HostRuntime) -> Result<(), Fail> {
+    let store = store_of(rt.alloc(), "b=7")?;
+    judge_mixed_key(&rt, rt.alloc(), &store)
 }

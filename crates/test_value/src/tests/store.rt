@@ -219,15 +219,25 @@ fn judge_entries(rt: &impl Abort, entries: &[EntryRef<'_>]) {
     }
 }
 
+/// Judges the entries of a name that is assigned to again.
+fn judge_each_once(
+    rt: &impl Abort,
+    alloc: Global,
+    store: &mut Store,
+    a: &Name,
+) -> Result<(), Fail> {
+    assign_again(alloc, store)?;
+    judge_entries(rt, &store.entries(alloc, a)?);
+    Ok(())
+}
+
 /// A key that is assigned again, or pinned and assigned, is among the entries once.
 #[test]
 fn each_key_once(rt: HostRuntime) -> Result<(), Fail> {
     let program = parse(rt.alloc(), b"UNSET(a)")?;
     let a = first_name(&program)?;
     let mut store = store_of(rt.alloc(), "a=1")?;
-    assign_again(rt.alloc(), &mut store)?;
-    judge_entries(&rt, &store.entries(rt.alloc(), a)?);
-    Ok(())
+    judge_each_once(&rt, rt.alloc(), &mut store, a)
 }
 
 /// Assigns at some index lists of a and of ab.
@@ -251,15 +261,20 @@ const ONE_NAME_IS_UNSET: [Row; 8] = [
     (b"ab", &[-1], Some(2)),
 ];
 
+/// Judges what is left once one of two names is unset.
+fn judge_unset(rt: &impl Abort, alloc: Global, store: &mut Store, a: &Name) -> Result<(), Fail> {
+    assign_to_two_names(alloc, store)?;
+    store.unset(a);
+    judged(rt, alloc, store, &ONE_NAME_IS_UNSET)
+}
+
 /// What is unset goes at every index, and what has another name stays, also where that begins with this one.
 #[test]
 fn every_index_is_unset(rt: HostRuntime) -> Result<(), Fail> {
     let program = parse(rt.alloc(), b"UNSET(a)")?;
     let a = first_name(&program)?;
     let mut store = store_of(rt.alloc(), "")?;
-    assign_to_two_names(rt.alloc(), &mut store)?;
-    store.unset(a);
-    judged(&rt, rt.alloc(), &store, &ONE_NAME_IS_UNSET)
+    judge_unset(&rt, rt.alloc(), &mut store, a)
 }
 
 /// Assigns n at index n of a. Where that is refused, the store has to answer as before at every index so far; it is tried
@@ -313,11 +328,15 @@ fn judge_texts(
     Ok(())
 }
 
+/// The same of the variable s where it has no value before.
+fn judge_texts_of(rt: &impl Abort, alloc: Global, s: &Var) -> Result<(), Fail> {
+    let key = key(alloc, b"s", &[])?;
+    let mut store = store_of(alloc, "")?;
+    judge_texts(rt, alloc, &mut store, s, &key)
+}
+
 #[test]
 fn texts_are_set_over_one_another(rt: HostRuntime) -> Result<(), Fail> {
-    let key = key(rt.alloc(), b"s", &[])?;
     let program = parse(rt.alloc(), b"SET(s=1)")?;
-    let s = &first_assignment(&program)?.target;
-    let mut store = store_of(rt.alloc(), "")?;
-    judge_texts(&rt, rt.alloc(), &mut store, s, &key)
+    judge_texts_of(&rt, rt.alloc(), &first_assignment(&program)?.target)
 }
