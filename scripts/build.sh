@@ -46,17 +46,19 @@ visit() {
     order+=("$1")
 }
 
-# How many crates one after the other are proved before a crate is wanted, at the least. What is wanted late takes what the others leave of
-# the processors.
+# How many crates the longest chain through a crate is shorter than the longest of all. A crate off that chain takes what those on it leave of
+# the processors: what ends the build is the chain, which seldom keeps all of them busy.
 declare -A slack
 leave_time() {
-    local crate library
-    for crate in "${order[@]}"; do
+    local crate library at
+    local -A height=([$program]=1)
+    for ((at = ${#order[@]} - 1; at >= 0; at--)); do
+        crate=${order[at]}
         for library in ${libraries[$crate]}; do
             [[ -v depth[$library] ]] || continue
-            local between=$((depth[$crate] - 1 - depth[$library]))
-            [[ -v slack[$library] ]] && ((slack[$library] <= between)) || slack[$library]=$between
+            [[ -v height[$library] ]] && ((height[$library] > height[$crate])) || height[$library]=$((height[$crate] + 1))
         done
+        slack[$crate]=$((depth[$program] + 1 - depth[$crate] - height[$crate]))
     done
 }
 
@@ -79,7 +81,7 @@ is_built() {
 # Proves a crate and builds it: crate, root file, words of rattle. What rattle prints is shown only where it fails.
 build() {
     local crate=$1 root=$2 library niceness=0
-    ((${slack[$crate]:-0} < 2)) || niceness=19
+    ((${slack[$crate]} == 0)) || niceness=10
     local words=(--crate-name "$crate" --extern "std=$kit/rlibs/std.rlib" -L "dependency=$kit/rlibs")
     for library in ${libraries[$crate]}; do
         if [[ -v libraries[$library] ]]; then
