@@ -81,7 +81,7 @@ is_built() {
 # Proves a crate and builds it: crate, root file, words of rattle. What rattle prints is shown only where it fails.
 build() {
     local crate=$1 root=$2 library niceness=0
-    ((${slack[$crate]} == 0)) || niceness=10
+    ((${slack[$crate]} == 0)) || niceness=3
     local words=(--crate-name "$crate" --extern "std=$kit/rlibs/std.rlib" -L "dependency=$kit/rlibs")
     for library in ${libraries[$crate]}; do
         if [[ -v libraries[$library] ]]; then
