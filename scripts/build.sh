@@ -46,8 +46,8 @@ visit() {
     order+=("$1")
 }
 
-# How many crates the longest chain through a crate is shorter than the longest of all. A crate off that chain takes what those on it leave of
-# the processors: what ends the build is the chain, which seldom keeps all of them busy.
+# How many crates the longest chain through a crate is shorter than the longest of all. A crate far off that chain takes what the others leave
+# of the processors. One that is nearly as long goes at the same priority: the last part of its proof has one processor at most.
 declare -A slack
 leave_time() {
     local crate library at
@@ -81,7 +81,7 @@ is_built() {
 # Proves a crate and builds it: crate, root file, words of rattle. What rattle prints is shown only where it fails.
 build() {
     local crate=$1 root=$2 library niceness=0
-    ((${slack[$crate]} == 0)) || niceness=3
+    ((${slack[$crate]} < 2)) || niceness=10
     local words=(--crate-name "$crate" --extern "std=$kit/rlibs/std.rlib" -L "dependency=$kit/rlibs")
     for library in ${libraries[$crate]}; do
         if [[ -v libraries[$library] ]]; then
