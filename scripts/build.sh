@@ -32,34 +32,17 @@ while IFS=: read -r crate rest; do
     libraries[${crate%% *}]=$rest
 done < <(sed -e 's/#.*//' -e '/^ *$/d' "$top/crates.txt")
 
-# The crates that a crate stands on, and then the crate itself; and how many of these stand on each other.
+# The crates that a crate stands on, and then the crate itself.
 order=()
-declare -A depth
+declare -A seen
 visit() {
     local library
-    [[ -v libraries[$1] && ! -v depth[$1] ]] || return 0
-    depth[$1]=1
+    [[ -v libraries[$1] && ! -v seen[$1] ]] || return 0
+    seen[$1]=1
     for library in ${libraries[$1]}; do
         visit "$library"
-        [[ ! -v depth[$library] ]] || ((depth[$library] < depth[$1])) || depth[$1]=$((depth[$library] + 1))
     done
     order+=("$1")
-}
-
-# How many crates the longest chain through a crate is shorter than the longest of all. A crate far off that chain takes what the others leave
-# of the processors. One that is nearly as long goes at the same priority: the last part of its proof has one processor at most.
-declare -A slack
-leave_time() {
-    local crate library at
-    local -A height=([$program]=1)
-    for ((at = ${#order[@]} - 1; at >= 0; at--)); do
-        crate=${order[at]}
-        for library in ${libraries[$crate]}; do
-            [[ -v depth[$library] ]] || continue
-            [[ -v height[$library] ]] && ((height[$library] > height[$crate])) || height[$library]=$((height[$crate] + 1))
-        done
-        slack[$crate]=$((depth[$program] + 1 - depth[$crate] - height[$crate]))
-    done
 }
 
 # Where a crate is built: a library, or the object file of the program.
@@ -80,8 +63,7 @@ is_built() {
 
 # Proves a crate and builds it: crate, root file, words of rattle. What rattle prints is shown only where it fails.
 build() {
-    local crate=$1 root=$2 library niceness=0
-    ((${slack[$crate]} < 2)) || niceness=10
+    local crate=$1 root=$2 library
     local words=(--crate-name "$crate" --extern "std=$kit/rlibs/std.rlib" -L "dependency=$kit/rlibs")
     for library in ${libraries[$crate]}; do
         if [[ -v libraries[$library] ]]; then
@@ -95,7 +77,7 @@ build() {
     done
     words+=(--antt-project "$kit/rattle/logic/antt-project.json" --logic-built "$kit/logic_built" --jobs "$(nproc)")
     mkdir -p "$(dirname "$(built "$crate")")"
-    (cd "$top/crates/$crate" && nice -n "$niceness" "$kit/bin/rattle" build "$root" "${words[@]}" "${@:3}" -o "$(built "$crate")") </dev/null >"$logs/$crate" 2>&1
+    (cd "$top/crates/$crate" && "$kit/bin/rattle" build "$root" "${words[@]}" "${@:3}" -o "$(built "$crate")") </dev/null >"$logs/$crate" 2>&1
 }
 
 # Proves a library once those below it are proved.
@@ -126,7 +108,6 @@ compile() {
 }
 
 visit "$program"
-leave_time
 checker=$top/crates/$program/out/$program
 rm -f "$checker"
 for crate in "${order[@]}"; do
