@@ -32,17 +32,32 @@ while IFS=: read -r crate rest; do
     libraries[${crate%% *}]=$rest
 done < <(sed -e 's/#.*//' -e '/^ *$/d' "$top/crates.txt")
 
-# The crates that a crate stands on, and then the crate itself.
+# The crates that a crate stands on, and then the crate itself; and how many of these stand on each other.
 order=()
-declare -A seen
+declare -A depth
 visit() {
     local library
-    [[ -v libraries[$1] && ! -v seen[$1] ]] || return 0
-    seen[$1]=1
+    [[ -v libraries[$1] && ! -v depth[$1] ]] || return 0
+    depth[$1]=1
     for library in ${libraries[$1]}; do
         visit "$library"
+        [[ ! -v depth[$library] ]] || ((depth[$library] < depth[$1])) || depth[$1]=$((depth[$library] + 1))
     done
     order+=("$1")
+}
+
+# How many crates one after the other are proved before a crate is wanted, at the least. What is wanted late takes what the others leave of
+# the processors.
+declare -A slack
+leave_time() {
+    local crate library
+    for crate in "${order[@]}"; do
+        for library in ${libraries[$crate]}; do
+            [[ -v depth[$library] ]] || continue
+            local between=$((depth[$crate] - 1 - depth[$library]))
+            [[ -v slack[$library] ]] && ((slack[$library] <= between)) || slack[$library]=$between
+        done
+    done
 }
 
 # Where a crate is built: a library, or the object file of the program.
@@ -63,7 +78,8 @@ is_built() {
 
 # Proves a crate and builds it: crate, root file, words of rattle. What rattle prints is shown only where it fails.
 build() {
-    local crate=$1 root=$2 library
+    local crate=$1 root=$2 library niceness=0
+    ((${slack[$crate]:-0} < 2)) || niceness=19
     local words=(--crate-name "$crate" --extern "std=$kit/rlibs/std.rlib" -L "dependency=$kit/rlibs")
     for library in ${libraries[$crate]}; do
         if [[ -v libraries[$library] ]]; then
@@ -77,7 +93,7 @@ build() {
     done
     words+=(--antt-project "$kit/rattle/logic/antt-project.json" --logic-built "$kit/logic_built" --jobs "$(nproc)")
     mkdir -p "$(dirname "$(built "$crate")")"
-    (cd "$top/crates/$crate" && "$kit/bin/rattle" build "$root" "${words[@]}" "${@:3}" -o "$(built "$crate")") </dev/null >"$logs/$crate" 2>&1
+    (cd "$top/crates/$crate" && nice -n "$niceness" "$kit/bin/rattle" build "$root" "${words[@]}" "${@:3}" -o "$(built "$crate")") </dev/null >"$logs/$crate" 2>&1
 }
 
 # Proves a library once those below it are proved.
@@ -108,6 +124,7 @@ compile() {
 }
 
 visit "$program"
+leave_time
 checker=$top/crates/$program/out/$program
 rm -f "$checker"
 for crate in "${order[@]}"; do
