@@ -1,6 +1,7 @@
 -- What each method of a run ensures.
 use Rattle.std.specs.Prelude.{◌≡◌, true, ℤ, int_le, None, Result, Ok, Err, OnOk}
 use Rattle.ctd_source.specs.declared.source.Source.{Ghosts}
+use Rattle.ctd_source.specs.CursorState.{state_of}
 use Rattle.ctd_source.specs.TestData.{TestData}
 use Rattle.ctd_source.specs.Received.{AdvancesSuchThat}
 use Rattle.ctd_tree.specs.Tree.{ExprTree}
@@ -37,11 +38,11 @@ Tells (Err Memory) meant = Unit {0}
 module _ {R : Type 0} {G : Ghosts R} where
   -- where a run is
   abbrev pub state : Run R G → State
-  state r = record { offset = r.cursor.spot.offset; store = r.store; mode = r.mode }
+  state r = record { offset = (state_of r.cursor).spot.offset; store = r.store; mode = r.mode }
 
   -- its cursor has no fault
   abbrev pub IsSound : Run R G → Type 0
-  IsSound r = r.cursor.fault ≡ None
+  IsSound r = (state_of r.cursor).fault ≡ None
 
   -- for all data that the cursor is consistent with at the end, the call did this, and answered accordingly
   pub record Performs {A : Type 0} (old new : Run R G) (result : Result A CommandFailure) (act : Act A) : Type 0 where
