@@ -3,8 +3,6 @@
 
 mod matcher;
 mod pattern;
-#[cfg(test)]
-mod tests;
 
 pub use matcher::Matcher;
 pub use pattern::{Pattern, PatternFault};

@@ -8,8 +8,6 @@ mod lex;
 mod limits;
 mod literal;
 mod scan;
-#[cfg(test)]
-mod tests;
 mod text;
 mod token;
 

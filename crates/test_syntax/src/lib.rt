@@ -1,5 +1,5 @@
-//! The tests of `ctd_syntax`, over its public calls. They are a crate of their own so that they are proved without proving
-//! the grammar once more.
+//! The tests of `ctd_token` and of `ctd_syntax`, over their public calls. They are a crate of their own so that they are
+//! proved without proving tokens and the grammar once more.
 #![tactic(auto)]
 
 #[cfg(test)]

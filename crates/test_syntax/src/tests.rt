@@ -1,4 +1,5 @@
-//! Texts of programs and of presets, with what they spell or their fault, worked out by hand from the language.
+//! Small texts with their tokens, and texts of programs and of presets, with what they spell or their fault, worked out by
+//! hand from the language.
 
 mod answers;
 mod cut_programs;
@@ -8,4 +9,6 @@ mod megabytes;
 mod numbers;
 mod presets;
 mod refusals;
+mod shown;
+mod tokens;
 mod tree_text;

@@ -1,7 +1,9 @@
-//! Worked rows on values, the store, expressions and tests, with answers worked out by hand from the language.
+//! Looks at data, and worked rows on values, the store, expressions and tests, with answers worked out by hand from the
+//! language.
 
 mod at_hand;
 mod conditions;
+mod cursors;
 mod expressions;
 mod grids;
 mod memory;
@@ -13,8 +15,14 @@ use ctd_source::{LookFault, Next, Plain};
 use ctd_syntax::{Action, Assignment, Name, Presets, Program, parse};
 use ctd_value::{EvalFault, Key, Store, TestFault, Value, holds, set_expression};
 use std::alloc::{AllocError, Global};
+use std::fmt::Debug;
 use std::process::Abort;
 use std::test::Fail;
+
+/// That what was found somewhere is what is wanted there.
+fn same<T: PartialEq + Debug>(rt: &impl Abort, found: &T, wanted: &T, place: &impl Debug) {
+    assert_eq!(rt; found, wanted, "at {place:?}");
+}
 
 /// Some presets; of the empty text, none.
 fn presets(alloc: Global, text: &str) -> Result<Presets, Fail> {
@@ -141,7 +149,7 @@ type Row = (&'static str, &'static str, Answer);
 fn judged(rt: &impl Abort, alloc: Global, rows: &[Row]) -> Result<(), Fail> {
     for (pinned, programs, wanted) in rows {
         let found = first_other(alloc, pinned, programs, *wanted)?;
-        assert_eq!(rt; found, None);
+        same(rt, &found, &None, pinned);
     }
     Ok(())
 }

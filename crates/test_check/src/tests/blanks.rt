@@ -1,6 +1,7 @@
 //! Whitespace mode: what is skipped, and what is not.
 
 use crate::tests::rows::{ManyRow, PLAIN, Row, Terms, checked, judged, judged_many};
+use crate::tests::same;
 use ctd_check::{Mode, Outcome};
 use std::test::Fail;
 
@@ -128,7 +129,7 @@ fn each_byte_is_a_blank_or_not(rt: HostRuntime) -> Result<(), Fail> {
     for byte in 0..=255 {
         let blank = matches!(byte, 0x20 | 0x09 | 0x0B | 0x0C | 0x0D);
         let found = checked(rt.alloc(), &BLANKS_OK, "STRING(\"a\") SPACE", &[b'a', byte])?;
-        assert_eq!(rt; found.outcome == Outcome::Accepted, blank, "{byte}");
+        same(&rt, &(found.outcome == Outcome::Accepted), &blank, &byte);
     }
     Ok(())
 }

@@ -3,7 +3,8 @@
 use crate::tests::readers::{
     AMPLE, Endless, after, check_with, column, outcome_on, plan_of, rejected, stopped,
 };
-use crate::tests::rows::{PLAIN, Terms, checked, checked_many};
+use crate::tests::rows::{PLAIN, Terms, checked, checked_many, finds};
+use crate::tests::same;
 use ctd_check::{Checked, Fault, Limits, Outcome, Plan, Reason, Seen, Site, Spot};
 use std::alloc::Global;
 use std::test::Fail;
@@ -27,18 +28,17 @@ fn data_that_match_are_read_to_their_end(rt: HostRuntime) -> Result<(), Fail> {
         taken: 2,
         seen: Seen::Ended,
     };
-    assert_eq!(rt; found, expected);
+    same(&rt, &found, &expected, &"the check");
     Ok(())
 }
 
 #[test]
 fn an_empty_program_wants_empty_data(rt: HostRuntime) -> Result<(), Fail> {
-    let found = checked(rt.alloc(), &PLAIN, "", b"")?;
-    assert_eq!(rt; (found.outcome, found.steps), (Outcome::Accepted, 1));
-    let found = checked(rt.alloc(), &PLAIN, "", b"x")?;
+    let ending = (Outcome::Accepted, Some(1), None);
+    finds(&rt, rt.alloc(), &PLAIN, "", b"", ending)?;
     let outcome = rejected(after(0), Site::Finish, Reason::ExpectedEof);
-    assert_eq!(rt; (found.outcome, found.consumed), (outcome, 0));
-    Ok(())
+    let ending = (outcome, None, Some(0));
+    finds(&rt, rt.alloc(), &PLAIN, "", b"x", ending)
 }
 
 /// How three checks by one plan end; none where memory runs out.
@@ -49,12 +49,21 @@ fn three_outcomes(alloc: Global, plan: &Plan) -> Option<(Outcome, Outcome, Outco
     Some((first, second, third))
 }
 
+/// The same by the plan of a program.
+fn three_outcomes_of(
+    alloc: Global,
+    program: &str,
+) -> Result<Option<(Outcome, Outcome, Outcome)>, Fail> {
+    let plan = plan_of(alloc, program)?;
+    Ok(three_outcomes(alloc, &plan))
+}
+
 #[test]
 fn one_plan_serves_many_checks(rt: HostRuntime) -> Result<(), Fail> {
-    let plan = plan_of(rt.alloc(), LINE_OF_ONE)?;
-    let outcomes = three_outcomes(rt.alloc(), &plan).ok_or("memory")?;
+    let outcomes = three_outcomes_of(rt.alloc(), LINE_OF_ONE)?.ok_or("memory")?;
     let refused = rejected(after(1), column(11), Reason::ExpectedNewline);
-    assert_eq!(rt; outcomes, (Outcome::Accepted, refused, Outcome::Accepted));
+    let wanted = (Outcome::Accepted, refused, Outcome::Accepted);
+    same(&rt, &outcomes, &wanted, &"the checks");
     Ok(())
 }
 
@@ -71,12 +80,8 @@ fn each_command_and_the_end_cost_a_step(rt: HostRuntime) -> Result<(), Fail> {
             steps: *steps,
             ..PLAIN
         };
-        let found = checked(rt.alloc(), &terms, LINE_OF_ONE, b"5\n")?;
-        assert_eq!(rt;
-            (found.outcome, found.steps, found.consumed),
-            (*outcome, *steps, *consumed),
-            "{steps} steps"
-        );
+        let ending = (*outcome, Some(*steps), Some(*consumed));
+        finds(&rt, rt.alloc(), &terms, LINE_OF_ONE, b"5\n", ending)?;
     }
     Ok(())
 }
@@ -89,9 +94,9 @@ const FAILING: Terms<'static> = Terms {
 
 #[test]
 fn a_failed_read_counts_where_its_byte_is_needed(rt: HostRuntime) -> Result<(), Fail> {
-    let found = checked(rt.alloc(), &FAILING, "INT(0,9) SPACE", b"12 ")?;
     let outcome = rejected(after(0), column(1), Reason::OutOfRange);
-    assert_eq!(rt; found.outcome, outcome);
+    let ending = (outcome, None, None);
+    finds(&rt, rt.alloc(), &FAILING, "INT(0,9) SPACE", b"12 ", ending)?;
     let found = checked(rt.alloc(), &FAILING, "INT(0,9) SPACE", b"12")?;
     let expected = Checked {
         outcome: stopped(after(0), column(1), Fault::Read),
@@ -100,7 +105,7 @@ fn a_failed_read_counts_where_its_byte_is_needed(rt: HostRuntime) -> Result<(), 
         taken: 2,
         seen: Seen::Broken,
     };
-    assert_eq!(rt; found, expected);
+    same(&rt, &found, &expected, &"12");
     Ok(())
 }
 
@@ -118,7 +123,7 @@ fn data_that_never_end_stop_at_the_limit(rt: HostRuntime) -> Result<(), Fail> {
         taken: 1_001,
         seen: Seen::Going,
     };
-    assert_eq!(rt; found, expected);
+    same(&rt, &found, &expected, &"the check");
     Ok(())
 }
 
@@ -133,8 +138,8 @@ fn data_of_the_limit_are_not_too_long(rt: HostRuntime) -> Result<(), Fail> {
             bytes: *bytes,
             ..PLAIN
         };
-        let found = checked(rt.alloc(), &terms, LINE_OF_ONE, b"5\n")?;
-        assert_eq!(rt; found.outcome, *outcome, "{bytes} bytes");
+        let ending = (*outcome, None, None);
+        finds(&rt, rt.alloc(), &terms, LINE_OF_ONE, b"5\n", ending)?;
     }
     Ok(())
 }
@@ -145,10 +150,11 @@ fn data_are_read_no_further_than_a_window(rt: HostRuntime) -> Result<(), Fail> {
     for most in [1, 2, 3, 7, 65_535, 65_536, 100_000] {
         let terms = Terms { most, ..PLAIN };
         let found = checked_many(rt.alloc(), &terms, "SPACE EOF", b' ', 70_000)?;
-        assert_eq!(rt;
-            (found.outcome, found.consumed, found.taken <= 65_537),
-            (outcome, 1, true),
-            "{most} at once"
+        same(
+            &rt,
+            &(found.outcome, found.consumed, found.taken <= 65_537),
+            &(outcome, 1, true),
+            &most,
         );
     }
     Ok(())

@@ -1,7 +1,8 @@
 //! INT: its prefix and its judgement.
 
 use crate::tests::readers::{after, column, rejected};
-use crate::tests::rows::{PLAIN, Terms, checked, checked_many};
+use crate::tests::rows::{PLAIN, Terms, checked_many, finds};
+use crate::tests::same;
 use ctd_check::{Outcome, Reason};
 use std::alloc::Global;
 use std::process::Abort;
@@ -10,20 +11,20 @@ use std::test::Fail;
 /// A program and its data, why they are rejected at the first command, if they are, the steps paid and the bytes consumed.
 type IntRow = (&'static str, &'static str, Option<Reason>, u64, u64);
 
+/// How a check ends that is rejected at the first command for a reason, or accepted where there is none.
+fn outcome_of(reason: Option<Reason>) -> Outcome {
+    match reason {
+        None => Outcome::Accepted,
+        Some(reason) => rejected(after(0), column(1), reason),
+    }
+}
+
 /// Each row's check finds what the row says where a read gives at most so many bytes.
 fn judged(rt: &impl Abort, alloc: Global, most: usize, rows: &[IntRow]) -> Result<(), Fail> {
     let terms = Terms { most, ..PLAIN };
     for (program, data, reason, steps, consumed) in rows {
-        let found = checked(alloc, &terms, program, data.as_bytes())?;
-        let outcome = match *reason {
-            None => Outcome::Accepted,
-            Some(reason) => rejected(after(0), column(1), reason),
-        };
-        assert_eq!(rt;
-            (found.outcome, found.steps, found.consumed),
-            (outcome, *steps, *consumed),
-            "{program}: {data}, {most} at once"
-        );
+        let ending = (outcome_of(*reason), Some(*steps), Some(*consumed));
+        finds(rt, alloc, &terms, program, data.as_bytes(), ending)?;
     }
     Ok(())
 }
@@ -218,10 +219,11 @@ fn an_integer_may_be_longer_than_a_window(rt: HostRuntime) -> Result<(), Fail> {
     for most in [1, 2, 3, 7, 65_535, 65_536, 100_000] {
         let terms = Terms { most, ..PLAIN };
         let found = checked_many(rt.alloc(), &terms, "INT(0,9)", b'1', 70_000)?;
-        assert_eq!(rt;
-            (found.outcome, found.consumed, found.taken),
-            (outcome, 70_000, 70_000),
-            "{most} at once"
+        same(
+            &rt,
+            &(found.outcome, found.consumed, found.taken),
+            &(outcome, 70_000, 70_000),
+            &most,
         );
     }
     Ok(())

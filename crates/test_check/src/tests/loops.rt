@@ -2,6 +2,7 @@
 
 use crate::tests::readers::{AMPLE, Endless, after, check_with, column, stopped};
 use crate::tests::rows::{PLAIN, Row, Terms, judged};
+use crate::tests::same;
 use ctd_check::{Checked, Fault, Limits, Seen};
 use std::test::Fail;
 
@@ -276,16 +277,18 @@ fn data_that_never_end_stop_a_loop_at_their_limit(rt: HostRuntime) -> Result<(),
         taken: 1_001,
         seen: Seen::Going,
     };
-    assert_eq!(rt; found, expected);
+    same(&rt, &found, &expected, &"the data");
     let limits = Limits {
         steps: 100_000,
         ..AMPLE
     };
     let found = check_with(rt.alloc(), program, Endless, limits)?;
     let outcome = stopped(after(49_999), column(13), Fault::StepLimit);
-    assert_eq!(rt;
-        (found.outcome, found.steps, found.consumed),
-        (outcome, 100_000, 49_999)
+    same(
+        &rt,
+        &(found.outcome, found.steps, found.consumed),
+        &(outcome, 100_000, 49_999),
+        &"the steps",
     );
     Ok(())
 }

@@ -1,7 +1,7 @@
 //! Blocks in one another.
 
 use crate::tests::rows::{PLAIN, Row, accepted, judged};
-use std::alloc::Global;
+use std::alloc::{AllocError, Global};
 use std::test::Fail;
 
 // The words with which a block may begin, and how often what is in it is done.
@@ -23,15 +23,20 @@ const INNER: [(&str, &str); 6] = [
     ("IF(1==2) ELSE", "1"),
 ];
 
+/// A program in which a block counts within another; each is given with how often what is in it is done.
+fn within(alloc: Global, outer: (&str, &str), inner: (&str, &str)) -> Result<String, AllocError> {
+    format!(in alloc;
+        "SET(n=0) {} {} SET(n=n+1) END SET(m=n) END ASSERT(n=={}*{} && m==n)",
+        outer.0, inner.0, outer.1, inner.1
+    )
+}
+
 #[test]
 fn each_block_runs_within_each(rt: HostRuntime) -> Result<(), Fail> {
-    let alloc = rt.alloc();
-    for (outer, turns) in &OUTER {
-        for (inner, more) in &INNER {
-            let program = format!(in alloc;
-                "SET(n=0) {outer} {inner} SET(n=n+1) END SET(m=n) END ASSERT(n=={turns}*{more} && m==n)"
-            )?;
-            accepted(&rt, alloc, &program)?;
+    for outer in &OUTER {
+        for inner in &INNER {
+            let program = within(rt.alloc(), *outer, *inner)?;
+            accepted(&rt, rt.alloc(), &program, b"")?;
         }
     }
     Ok(())
@@ -45,14 +50,16 @@ const SEPARATORS: [(&str, &str); 5] = [
     ("IF(1==2) ELSE", "1"),
 ];
 
+/// A program in which a block counts as a separator; it is given with how often what is in it is done.
+fn between(alloc: Global, inner: &str, more: &str) -> Result<String, AllocError> {
+    format!(in alloc; "SET(n=0) REPI(i,3,{inner} SET(n=n+1) END) ASSERT(n==i*{more}) END")
+}
+
 #[test]
 fn a_block_may_be_a_separator(rt: HostRuntime) -> Result<(), Fail> {
-    let alloc = rt.alloc();
     for (inner, more) in &SEPARATORS {
-        let program = format!(in alloc;
-            "SET(n=0) REPI(i,3,{inner} SET(n=n+1) END) ASSERT(n==i*{more}) END"
-        )?;
-        accepted(&rt, alloc, &program)?;
+        let program = between(rt.alloc(), inner, more)?;
+        accepted(&rt, rt.alloc(), &program, b"")?;
     }
     Ok(())
 }

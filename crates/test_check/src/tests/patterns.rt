@@ -1,8 +1,11 @@
 //! REGEX: what its patterns match, and what is kept.
 
 use crate::tests::readers::{outcome_on, plan_of};
-use crate::tests::rows::{ManyRow, PLAIN, Row, Terms, checked, judged, judged_many};
-use ctd_check::Outcome;
+use crate::tests::rows::{ManyRow, PLAIN, Row, Terms, accepted, judged, judged_many};
+use crate::tests::same;
+use ctd_check::{Outcome, Plan};
+use std::alloc::Global;
+use std::process::Abort;
 use std::test::Fail;
 
 const MISMATCH: &str =
@@ -127,25 +130,29 @@ const HIGH_BYTES: [(&str, &[u8]); 4] = [
 #[test]
 fn bytes_above_127_are_matched(rt: HostRuntime) -> Result<(), Fail> {
     for (program, data) in &HIGH_BYTES {
-        let found = checked(rt.alloc(), &PLAIN, program, data)?;
-        assert_eq!(rt; found.outcome, Outcome::Accepted, "{program}");
+        accepted(&rt, rt.alloc(), program, data)?;
     }
     Ok(())
+}
+
+/// Judges the checks by a plan of numbers with a line each, of which one may run out of memory.
+fn judge_plan(rt: &impl Abort, alloc: Global, plan: &Plan) {
+    let mut has_failed = false;
+    for (data, accepted) in &[("12\n", true), ("x\n", false), ("3\n", true)] {
+        match outcome_on(alloc, plan, data) {
+            Some(outcome) => same(rt, &(outcome == Outcome::Accepted), accepted, data),
+            None => {
+                same(rt, &has_failed, &false, data);
+                has_failed = true;
+            }
+        }
+    }
 }
 
 /// Under `rt try --test --fail-alloc N` one of the checks runs out of memory, and those after it answer as ever.
 #[test]
 fn a_plan_serves_any_number_of_checks(rt: HostRuntime) -> Result<(), Fail> {
     let plan = plan_of(rt.alloc(), "REGEX(\"[0-9]+\",n[1]) NEWLINE")?;
-    let mut has_failed = false;
-    for (data, accepted) in &[("12\n", true), ("x\n", false), ("3\n", true)] {
-        match outcome_on(rt.alloc(), &plan, data) {
-            Some(outcome) => assert_eq!(rt; outcome == Outcome::Accepted, *accepted, "{data}"),
-            None => {
-                assert!(rt; !has_failed, "{data}");
-                has_failed = true;
-            }
-        }
-    }
+    judge_plan(&rt, rt.alloc(), &plan);
     Ok(())
 }

@@ -1,6 +1,7 @@
 //! The reading of programs.
 
 use crate::tests::readers::{Cut, Failing};
+use crate::tests::same;
 use ctd_check::{FromRead, LoadFault, LoadKind, Place, Plan};
 use std::alloc::Global;
 use std::io::Read;
@@ -25,10 +26,11 @@ fn refused(rt: &impl Abort, alloc: Global, rows: &[Row]) {
                 column: *column,
             }),
         };
-        assert_eq!(rt;
-            fault_of(alloc, program.as_bytes()),
-            Some(fault),
-            "{program}"
+        same(
+            rt,
+            &fault_of(alloc, program.as_bytes()),
+            &Some(fault),
+            program,
         );
     }
 }
@@ -46,7 +48,12 @@ const PROGRAMS: [&str; 7] = [
 #[test]
 fn every_text_of_the_language_is_read(rt: HostRuntime) {
     for program in &PROGRAMS {
-        assert_eq!(rt; fault_of(rt.alloc(), program.as_bytes()), None, "{program}");
+        same(
+            &rt,
+            &fault_of(rt.alloc(), program.as_bytes()),
+            &None,
+            program,
+        );
     }
 }
 
@@ -139,7 +146,7 @@ fn a_program_is_whole_however_its_reads_are_cut(rt: HostRuntime) {
     let reader = b"REP(2)SPACE END".as_slice();
     for most in [1, 2, 3, 7, 100] {
         let fault = fault_of(rt.alloc(), Cut { reader, most });
-        assert_eq!(rt; fault, None, "{most} at once");
+        same(&rt, &fault, &None, &most);
     }
 }
 
@@ -154,9 +161,11 @@ fn a_program_of_the_limit_is_read_and_no_byte_more(rt: HostRuntime) -> Result<()
     let limit = fault_of(rt.alloc(), &spaces[1..]);
     let longer = fault_of(rt.alloc(), spaces.as_slice());
     let failing = fault_of(rt.alloc(), spaces.as_slice().chain(Failing));
-    assert_eq!(rt;
-        (limit, longer, failing),
-        (None, Some(too_long), Some(too_long))
+    same(
+        &rt,
+        &(limit, longer, failing),
+        &(None, Some(too_long), Some(too_long)),
+        &"the limit",
     );
     Ok(())
 }
@@ -170,6 +179,6 @@ fn a_failed_read_leaves_no_program(rt: HostRuntime) {
     };
     for n in 0..=program.len() {
         let fault = fault_of(rt.alloc(), program[..n].chain(Failing));
-        assert_eq!(rt; fault, Some(expected), "after {n} bytes");
+        same(&rt, &fault, &Some(expected), &n);
     }
 }

@@ -6,7 +6,7 @@ use ctd_check::{
     Checked, Fault, FromRead, Limits, Mode, Outcome, Place, Plan, Presets, Reason, Site, Spot,
     check,
 };
-use std::alloc::Global;
+use std::alloc::{AllocError, Global};
 use std::io::{Error, ErrorKind, Read, Result};
 use std::test::Fail;
 
@@ -57,6 +57,20 @@ pub(crate) fn plan_of(alloc: Global, program: &str) -> std::result::Result<Plan,
     Ok(plan.ok().ok_or("the program is refused")?)
 }
 
+/// What a check of a reader's data by a plan finds.
+fn check_on<R: Read + Drop>(
+    alloc: Global,
+    plan: &Plan,
+    data: R,
+    limits: Limits,
+) -> std::result::Result<Checked, AllocError>
+    requires { limits.bytes ≤ 2 ^ 62 }
+{
+    let mut data = FromRead::new(data);
+    let presets = Presets::none(alloc);
+    check(alloc, plan, &presets, &mut data, limits, Mode::Exact)
+}
+
 /// What a check of a reader's data finds.
 pub(crate) fn check_with<R: Read + Drop>(
     alloc: Global,
@@ -67,23 +81,12 @@ pub(crate) fn check_with<R: Read + Drop>(
     requires { limits.bytes ≤ 2 ^ 62 }
 {
     let plan = plan_of(alloc, program)?;
-    let mut data = FromRead::new(data);
-    let checked = check(
-        alloc,
-        &plan,
-        &Presets::none(alloc),
-        &mut data,
-        limits,
-        Mode::Exact,
-    )?;
-    Ok(checked)
+    Ok(check_on(alloc, &plan, data, limits)?)
 }
 
 /// How a check of some data by a plan ends; none where memory runs out.
 pub(crate) fn outcome_on(alloc: Global, plan: &Plan, data: &str) -> Option<Outcome> {
-    let mut source = FromRead::new(data.as_bytes());
-    let presets = Presets::none(alloc);
-    let checked = check(alloc, plan, &presets, &mut source, AMPLE, Mode::Exact).ok()?;
+    let checked = check_on(alloc, plan, data.as_bytes(), AMPLE).ok()?;
     Some(checked.outcome)
 }
 

@@ -1,8 +1,10 @@
 //! Rows of programs and data, with what a check of them finds.
 
 use crate::tests::readers::plan_of;
-use ctd_check::{Checked, FromRead, Limits, Mode, Outcome, Presets, check};
-use std::alloc::Global;
+use crate::tests::same;
+use ctd_check::{Checked, FromRead, Limits, Mode, Outcome, Plan, Presets, Site, Spot, check};
+use std::alloc::{AllocError, Global};
+use std::fmt::Display;
 use std::io::{Error, ErrorKind, Read};
 use std::process::Abort;
 use std::test::Fail;
@@ -51,25 +53,53 @@ impl Read for Held<'_> {
     }
 }
 
+/// What is said of a spot, as the tool would write it.
+fn said(alloc: Global, spot: Spot, place: Site, what: &impl Display) -> Result<String, AllocError> {
+    format!(in alloc;
+        "line {} column {}: {what} ({place})",
+        spot.line, spot.column
+    )
+}
+
 /// The answer of a check as the tool would write it.
-fn told(alloc: Global, outcome: Outcome) -> Result<String, Fail> {
-    Ok(match outcome {
-        Outcome::Accepted => format!(in alloc; "ok")?,
+fn told(alloc: Global, outcome: Outcome) -> Result<String, AllocError> {
+    match outcome {
+        Outcome::Accepted => String::from_str(alloc, "ok"),
         Outcome::Rejected {
             spot,
             place,
             reason,
-        } => format!(in alloc;
-            "line {} column {}: {reason} ({place})",
-            spot.line, spot.column
-        )?,
-        Outcome::Stopped { spot, place, fault } => {
-            format!(in alloc;
-                "line {} column {}: {fault} ({place})",
-                spot.line, spot.column
-            )?
-        }
-    })
+        } => said(alloc, spot, place, &reason),
+        Outcome::Stopped { spot, place, fault } => said(alloc, spot, place, &fault),
+    }
+}
+
+/// Some presets; of a text that spells none, none.
+fn presets_of(alloc: Global, text: &str) -> Presets {
+    match Presets::read(alloc, text) {
+        Ok(presets) => presets,
+        Err(_fault) => Presets::none(alloc),
+    }
+}
+
+/// What a check by a plan finds, where some variables are pinned.
+fn checked_by(
+    alloc: Global,
+    terms: &Terms,
+    plan: &Plan,
+    presets: &Presets,
+    data: &[u8],
+) -> Result<Checked, AllocError> {
+    let mut data = FromRead::new(Held {
+        bytes: data,
+        most: terms.most,
+        fails: terms.fails,
+    });
+    let limits = Limits {
+        steps: terms.steps,
+        bytes: terms.bytes as u64,
+    };
+    check(alloc, plan, presets, &mut data, limits, terms.mode)
 }
 
 /// What a check of data finds.
@@ -80,20 +110,8 @@ pub(crate) fn checked(
     data: &[u8],
 ) -> Result<Checked, Fail> {
     let plan = plan_of(alloc, program)?;
-    let presets = match Presets::read(alloc, terms.presets) {
-        Ok(presets) => presets,
-        Err(_fault) => Presets::none(alloc),
-    };
-    let mut data = FromRead::new(Held {
-        bytes: data,
-        most: terms.most,
-        fails: terms.fails,
-    });
-    let limits = Limits {
-        steps: terms.steps,
-        bytes: terms.bytes as u64,
-    };
-    Ok(check(alloc, &plan, &presets, &mut data, limits, terms.mode)?)
+    let presets = presets_of(alloc, terms.presets);
+    Ok(checked_by(alloc, terms, &plan, &presets, data)?)
 }
 
 /// What a check of one byte many times finds.
@@ -118,11 +136,11 @@ pub(crate) fn judged(
     for (program, data, answer, steps, consumed) in rows {
         let found = checked(alloc, terms, program, data.as_bytes())?;
         let said = told(alloc, found.outcome)?;
-        assert_eq!(rt;
-            (said.as_str(), found.steps, found.consumed),
-            (*answer, *steps, *consumed),
-            "{program}: {data}, {} at once",
-            terms.most
+        same(
+            rt,
+            &(said.as_str(), found.steps, found.consumed),
+            &(*answer, *steps, *consumed),
+            &(program, data, terms.most),
         );
     }
     Ok(())
@@ -142,18 +160,56 @@ pub(crate) fn judged_many(
     for (program, count, answer, consumed) in rows {
         let found = checked_many(alloc, terms, program, byte, *count)?;
         let said = told(alloc, found.outcome)?;
-        assert_eq!(rt;
-            (said.as_str(), found.consumed),
-            (*answer, *consumed),
-            "{program}: {count}"
+        same(
+            rt,
+            &(said.as_str(), found.consumed),
+            &(*answer, *consumed),
+            &(program, count),
         );
     }
     Ok(())
 }
 
-/// A program accepts empty data.
-pub(crate) fn accepted(rt: &impl Abort, alloc: Global, program: &str) -> Result<(), Fail> {
-    let found = checked(alloc, &PLAIN, program, b"")?;
-    assert_eq!(rt; found.outcome, Outcome::Accepted, "{program}");
+/// How a check ends; the steps paid and the bytes consumed, where they are told.
+pub(crate) type Ending = (Outcome, Option<u64>, Option<u64>);
+
+/// A check of data ends so.
+pub(crate) fn finds(
+    rt: &impl Abort,
+    alloc: Global,
+    terms: &Terms,
+    program: &str,
+    data: &[u8],
+    wanted: Ending,
+) -> Result<(), Fail> {
+    let found = checked(alloc, terms, program, data)?;
+    let (outcome, steps, consumed) = wanted;
+    same(
+        rt,
+        &(found.outcome, found.steps, found.consumed),
+        &(
+            outcome,
+            steps.unwrap_or(found.steps),
+            consumed.unwrap_or(found.consumed),
+        ),
+        &(program, data, terms.most, terms.bytes),
+    );
     Ok(())
+}
+
+/// A program accepts some data.
+pub(crate) fn accepted(
+    rt: &impl Abort,
+    alloc: Global,
+    program: &str,
+    data: &[u8],
+) -> Result<(), Fail> {
+    finds(
+        rt,
+        alloc,
+        &PLAIN,
+        program,
+        data,
+        (Outcome::Accepted, None, None),
+    )
 }

@@ -1,7 +1,7 @@
 //! STRING: its bytes, however they come.
 
 use crate::tests::rows::{PLAIN, Row, Terms, judged};
-use std::alloc::Global;
+use std::alloc::{AllocError, Global};
 use std::process::Abort;
 use std::test::Fail;
 
@@ -64,35 +64,39 @@ fn a_string_passes_its_bytes(rt: HostRuntime) -> Result<(), Fail> {
     judged(&rt, rt.alloc(), &PLAIN, &STRINGS)
 }
 
-/// So many letters.
-fn letters(alloc: Global, count: u32) -> Result<String, Fail> {
-    let mut text = String::new(alloc);
-    for _ in 0..count {
+/// The letter a 99,999 times, between two texts.
+fn letters(alloc: Global, before: &str, behind: &str) -> Result<String, AllocError> {
+    let mut text = String::from_str(alloc, before)?;
+    for _ in 0..99_999 {
         text.push('a')?;
     }
+    text.push_str(behind)?;
     Ok(text)
 }
 
-/// The checks of a string of 100,000 bytes on data which differ from it in their last byte, and on data which do not.
-fn long_judged(rt: &impl Abort, alloc: Global, front: &str, most: usize) -> Result<(), Fail> {
-    let mismatch = "line 1 column 1: string does not match (program line 1 column 1)";
-    let program = format!(in alloc; "STRING(\"{front}a\")")?;
-    let same = format!(in alloc; "{front}a")?;
-    let other = format!(in alloc; "{front}b")?;
-    let rows: [Row; 2] = [
-        (&program, &same, "ok", 2, 100_000),
-        (&program, &other, mismatch, 1, 99_999),
-    ];
-    judged(rt, alloc, &Terms { most, ..PLAIN }, &rows)
+/// The check of a string of 100,000 bytes on data which have this byte as their last one, however they are held.
+fn long_judged(
+    rt: &impl Abort,
+    alloc: Global,
+    last: &str,
+    answer: &str,
+    steps: u64,
+    consumed: u64,
+) -> Result<(), Fail> {
+    let program = letters(alloc, "STRING(\"", "a\")")?;
+    let data = letters(alloc, "", last)?;
+    let row: Row = (&program, &data, answer, steps, consumed);
+    for most in [1, 7, 65_535, 65_536, 100_000] {
+        judged(rt, alloc, &Terms { most, ..PLAIN }, &[row])?;
+    }
+    Ok(())
 }
 
 #[test]
 fn a_string_may_be_longer_than_a_window(rt: HostRuntime) -> Result<(), Fail> {
-    let front = letters(rt.alloc(), 99_999)?;
-    for most in [1, 7, 65_535, 65_536, 100_000] {
-        long_judged(&rt, rt.alloc(), &front, most)?;
-    }
-    Ok(())
+    let mismatch = "line 1 column 1: string does not match (program line 1 column 1)";
+    long_judged(&rt, rt.alloc(), "a", "ok", 2, 100_000)?;
+    long_judged(&rt, rt.alloc(), "b", mismatch, 1, 99_999)
 }
 
 // At most three bytes of data.

@@ -1,6 +1,6 @@
 //! The place of each syntax error: every production is cut before each of its tokens, and has each of them replaced.
 
-use super::answers::answer;
+use super::answers::{answer, judged, size};
 use std::alloc::Global;
 use std::process::Abort;
 use std::test::Fail;
@@ -61,45 +61,62 @@ const TESTS: [(&str, &str); 15] = [
     ("ASSERT ( ( 1 < 2 ) && ( ISEOF ) )", "="),
 ];
 
-/// That a text is refused as a syntax error at a column of its first line.
-fn refused(rt: &impl Abort, alloc: Global, text: &[u8], column: usize) -> Result<(), Fail> {
-    let wanted = format!(in alloc; "Syntax 1:{column}")?;
-    let found = answer(alloc, text)?;
-    assert_eq!(rt; found.as_str(), wanted.as_str(), "at {text:?}");
-    Ok(())
+/// What is answered for the front of a production with a token behind it.
+fn answer_with(alloc: Global, front: &[u8], token: &[u8]) -> Result<String, Fail> {
+    let mut text = front.to_vec(alloc)?;
+    text.extend_from_slice(token)?;
+    answer(alloc, text.as_slice())
+}
+
+/// That the front of a production, with a token behind it, is refused as a syntax error right behind that front.
+fn refused(rt: &impl Abort, alloc: Global, front: &[u8], token: &[u8]) -> Result<(), Fail> {
+    let wanted = format!(in alloc; "Syntax 1:{}", front.len().saturating_add(1))?;
+    judged(
+        rt,
+        answer_with(alloc, front, token),
+        wanted.as_str(),
+        &(front, token),
+    )
 }
 
 /// Cut before a token, a production is refused at its end, and with another token in its place it is refused there.
-fn judged(rt: &impl Abort, alloc: Global, table: &[(&str, &str)]) -> Result<(), Fail> {
+fn refused_cut(
+    rt: &impl Abort,
+    alloc: Global,
+    production: &[u8],
+    wrong: &[u8],
+) -> Result<(), Fail> {
+    for (at, byte) in production.iter().enumerate() {
+        if *byte == b' ' {
+            refused(rt, alloc, &production[..at], b"")?;
+            refused(rt, alloc, &production[..at + 1], wrong)?;
+            refused(rt, alloc, &production[..at + 1], b"FOO")?;
+        }
+    }
+    Ok(())
+}
+
+/// That each production of a table is a command, and refused where it is cut.
+fn all_refused_cut(rt: &impl Abort, alloc: Global, table: &[(&str, &str)]) -> Result<(), Fail> {
     for (production, wrong) in table {
         let bytes = production.as_bytes();
-        for (at, byte) in bytes.iter().enumerate() {
-            if *byte != b' ' {
-                continue;
-            }
-            refused(rt, alloc, &bytes[..at], at + 1)?;
-            for other in [wrong.as_bytes(), b"FOO".as_slice()] {
-                let mut text = bytes[..at + 1].to_vec(alloc)?;
-                text.extend_from_slice(other)?;
-                refused(rt, alloc, text.as_slice(), at + 2)?;
-            }
-        }
-        assert_eq!(rt; super::answers::size(alloc, bytes)?.as_str(), "1 commands");
+        refused_cut(rt, alloc, bytes, wrong.as_bytes())?;
+        judged(rt, size(alloc, bytes), "1 commands", production)?;
     }
     Ok(())
 }
 
 #[test]
 fn commands_and_loops(rt: HostRuntime) -> Result<(), Fail> {
-    judged(&rt, rt.alloc(), &COMMANDS)
+    all_refused_cut(&rt, rt.alloc(), &COMMANDS)
 }
 
 #[test]
 fn expressions_and_variables(rt: HostRuntime) -> Result<(), Fail> {
-    judged(&rt, rt.alloc(), &EXPRESSIONS)
+    all_refused_cut(&rt, rt.alloc(), &EXPRESSIONS)
 }
 
 #[test]
 fn tests_and_questions(rt: HostRuntime) -> Result<(), Fail> {
-    judged(&rt, rt.alloc(), &TESTS)
+    all_refused_cut(&rt, rt.alloc(), &TESTS)
 }

@@ -1,11 +1,17 @@
 //! Texts of programs with the trees that they spell, worked out by hand from the grammar.
 
-use super::answers::answer;
+use super::answers::{answer, answered, judged};
 use std::alloc::Global;
 use std::process::Abort;
 use std::test::Fail;
 
-// What `parse` has to answer for each text between two others is the wanted one between two others.
+/// What is answered for a text between two others.
+fn answer_between(alloc: Global, around: (&str, &str), text: &str) -> Result<String, Fail> {
+    let program = joined(alloc, around, text)?;
+    answer(alloc, program.as_str().as_bytes())
+}
+
+/// What `parse` has to answer for each text between two others is the wanted one between two others.
 fn between(
     rt: &impl Abort,
     alloc: Global,
@@ -14,14 +20,18 @@ fn between(
     wanted_around: (&str, &str),
 ) -> Result<(), Fail> {
     for (text, wanted) in table {
-        let program = joined(alloc, around, text)?;
         let wanted = joined(alloc, wanted_around, wanted)?;
-        let found = answer(alloc, program.as_str().as_bytes())?;
-        assert_eq!(rt; found.as_str(), wanted.as_str(), "at {text:?}");
+        judged(
+            rt,
+            answer_between(alloc, around, text),
+            wanted.as_str(),
+            text,
+        )?;
     }
     Ok(())
 }
 
+/// A text between two others.
 fn joined(alloc: Global, around: (&str, &str), inside: &str) -> Result<String, Fail> {
     Ok(format!(in alloc; "{}{inside}{}", around.0, around.1)?)
 }
@@ -32,10 +42,6 @@ fn expressions(rt: &impl Abort, alloc: Global, table: &[(&str, &str)]) -> Result
 
 fn tests(rt: &impl Abort, alloc: Global, table: &[(&str, &str)]) -> Result<(), Fail> {
     between(rt, alloc, table, ("ASSERT(", ")"), ("ASSERT@1:1(", ")"))
-}
-
-fn programs(rt: &impl Abort, alloc: Global, table: &[(&str, &str)]) -> Result<(), Fail> {
-    between(rt, alloc, table, ("", ""), ("", ""))
 }
 
 const OPERATORS: [(&str, &str); 27] = [
@@ -325,7 +331,7 @@ const COMMANDS: [(&str, &str); 39] = [
 
 #[test]
 fn each_command(rt: HostRuntime) -> Result<(), Fail> {
-    programs(&rt, rt.alloc(), &COMMANDS)
+    answered(&rt, rt.alloc(), &COMMANDS)
 }
 
 const BLOCKS: [(&str, &str); 13] = [
@@ -384,7 +390,7 @@ const BLOCKS: [(&str, &str); 13] = [
 
 #[test]
 fn nested_blocks(rt: HostRuntime) -> Result<(), Fail> {
-    programs(&rt, rt.alloc(), &BLOCKS)
+    answered(&rt, rt.alloc(), &BLOCKS)
 }
 
 const PLACES: [(&str, &str); 9] = [
@@ -410,5 +416,5 @@ const PLACES: [(&str, &str); 9] = [
 
 #[test]
 fn places_of_commands_and_patterns(rt: HostRuntime) -> Result<(), Fail> {
-    programs(&rt, rt.alloc(), &PLACES)
+    answered(&rt, rt.alloc(), &PLACES)
 }

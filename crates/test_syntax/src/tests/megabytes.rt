@@ -1,31 +1,34 @@
 //! Texts of about a megabyte, which are read in the time that a test has.
 
-use super::answers::{built, size};
+use super::answers::{sized, unfolded};
 use ctd_syntax::PROGRAM_LIMIT;
 use std::alloc::Global;
 use std::process::Abort;
 use std::test::Fail;
 
-// The parts of a text and how often each stands there, and the answer.
-type Row = (&'static [(&'static str, usize)], &'static str);
+/// A text in which `{199 +1}` stands for `+1` 199 times, and the answer.
+type Row = (&'static str, &'static str);
 
+/// Whether a text, unfolded, has about a megabyte.
+fn is_long(alloc: Global, text: &str) -> Result<bool, Fail> {
+    let len = unfolded(alloc, text)?.len();
+    Ok(len > 1_000_000 && len <= PROGRAM_LIMIT)
+}
+
+/// That each text of a table has about a megabyte, and its answer is the one beside it.
 fn judged(rt: &impl Abort, alloc: Global, table: &[Row]) -> Result<(), Fail> {
-    for (parts, wanted) in table {
-        let text = built(alloc, parts)?;
-        let long = text.len() > 1_000_000 && text.len() <= PROGRAM_LIMIT;
-        assert!(rt; long, "no megabyte at {parts:?}");
-        let found = size(alloc, text.as_str().as_bytes())?;
-        assert_eq!(rt; found.as_str(), *wanted, "at {parts:?}");
+    for (text, _) in table {
+        assert!(rt; is_long(alloc, text)?, "no megabyte at {text:?}");
     }
-    Ok(())
+    sized(rt, alloc, table)
 }
 
 const COMMANDS: [Row; 5] = [
-    (&[("SPACE ", 174_762)], "174762 commands"),
-    (&[("INT(0,9)\n", 116_508)], "116508 commands"),
-    (&[("ASSERT((((1)==(1)))) ", 49_000)], "49000 commands"),
-    (&[("REP(1) END ", 95_000)], "95000 commands"),
-    (&[("IF(ISEOF) ELSE END ", 55_000)], "55000 commands"),
+    ("{174762 SPACE }", "174762 commands"),
+    ("{116508 INT(0,9)\n}", "116508 commands"),
+    ("{49000 ASSERT((((1)==(1)))) }", "49000 commands"),
+    ("{95000 REP(1) END }", "95000 commands"),
+    ("{55000 IF(ISEOF) ELSE END }", "55000 commands"),
 ];
 
 #[test]
@@ -34,16 +37,10 @@ fn commands(rt: HostRuntime) -> Result<(), Fail> {
 }
 
 const LISTS: [Row; 4] = [
-    (&[("SET(a=1", 1), (",a=1", 262_000), (")", 1)], "1 commands"),
-    (&[("UNSET(a", 1), (",a", 524_000), (")", 1)], "1 commands"),
-    (
-        &[("ASSERT(UNIQUE(a", 1), (",a", 524_000), ("))", 1)],
-        "1 commands",
-    ),
-    (
-        &[("SET(a[1", 1), (",1", 524_000), ("]=1)", 1)],
-        "1 commands",
-    ),
+    ("SET(a=1{262000 ,a=1})", "1 commands"),
+    ("UNSET(a{524000 ,a})", "1 commands"),
+    ("ASSERT(UNIQUE(a{524000 ,a}))", "1 commands"),
+    ("SET(a[1{524000 ,1}]=1)", "1 commands"),
 ];
 
 #[test]
@@ -53,44 +50,10 @@ fn lists(rt: HostRuntime) -> Result<(), Fail> {
 
 // Whether a parenthesis holds a test is told only behind the list.
 const TESTS_IN_PARENTHESES: [Row; 4] = [
-    (
-        &[
-            ("ASSERT(", 1),
-            ("(", 198),
-            ("a[1", 1),
-            (",1", 523_000),
-            ("]==1", 1),
-            (")", 198),
-            (")", 1),
-        ],
-        "1 commands",
-    ),
-    (
-        &[
-            ("ASSERT(", 1),
-            ("(", 198),
-            ("a[1", 1),
-            (",1", 523_000),
-            ("]", 1),
-            (")", 198),
-            ("==1)", 1),
-        ],
-        "1 commands",
-    ),
-    (
-        &[("ASSERT(", 1), ("(", 198), ("a[1", 1), (",1", 523_000)],
-        "Syntax 1:1046209",
-    ),
-    (
-        &[
-            ("ASSERT(", 1),
-            ("(", 197),
-            ("a[1", 1),
-            (",1", 523_000),
-            ("==1", 1),
-        ],
-        "Syntax 1:1046208",
-    ),
+    ("ASSERT({198 (}a[1{523000 ,1}]==1{198 )})", "1 commands"),
+    ("ASSERT({198 (}a[1{523000 ,1}]{198 )}==1)", "1 commands"),
+    ("ASSERT({198 (}a[1{523000 ,1}", "Syntax 1:1046209"),
+    ("ASSERT({197 (}a[1{523000 ,1}==1", "Syntax 1:1046208"),
 ];
 
 #[test]
@@ -99,28 +62,12 @@ fn tests_in_parentheses(rt: HostRuntime) -> Result<(), Fail> {
 }
 
 const OPEN_BLOCKS: [Row; 3] = [
+    ("{199 REP(1) }{174000 SPACE }{199 END }", "1 commands"),
     (
-        &[("REP(1) ", 199), ("SPACE ", 174_000), ("END ", 199)],
+        "{199 IF(ISEOF) ELSE }{116000 INT(0,9)\n}{199 END }",
         "1 commands",
     ),
-    (
-        &[
-            ("IF(ISEOF) ELSE ", 199),
-            ("INT(0,9)\n", 116_000),
-            ("END ", 199),
-        ],
-        "1 commands",
-    ),
-    (
-        &[
-            ("REP(1,", 99),
-            ("SET(a=1", 1),
-            (",a=1", 261_000),
-            (")", 1),
-            (") END", 99),
-        ],
-        "1 commands",
-    ),
+    ("{99 REP(1,}SET(a=1{261000 ,a=1}){99 ) END}", "1 commands"),
 ];
 
 #[test]
@@ -129,16 +76,10 @@ fn open_blocks(rt: HostRuntime) -> Result<(), Fail> {
 }
 
 const BLANKS_AND_LITERALS: [Row; 4] = [
-    (&[("\n", 1_048_000), ("EOF", 1)], "1 commands"),
-    (&[("#x\n", 349_000)], "0 commands"),
-    (
-        &[("STRING(\"", 1), ("x", 1_048_000), ("\")", 1)],
-        "1 commands",
-    ),
-    (
-        &[("REGEX(\"", 1), ("\\n", 524_000), ("\")", 1)],
-        "1 commands",
-    ),
+    ("{1048000 \n}EOF", "1 commands"),
+    ("{349000 #x\n}", "0 commands"),
+    ("STRING(\"{1048000 x}\")", "1 commands"),
+    ("REGEX(\"{524000 \\n}\")", "1 commands"),
 ];
 
 #[test]
@@ -147,15 +88,12 @@ fn blanks_and_literals(rt: HostRuntime) -> Result<(), Fail> {
 }
 
 const REFUSALS: [Row; 6] = [
-    (&[("\n", 1_048_000), ("END", 1)], "Syntax 1048001:1"),
-    (&[("SPACE ", 174_761), ("FOO", 1)], "Syntax 1:1048567"),
-    (
-        &[("REP(1) ", 199), ("SPACE ", 174_000), ("END ", 198)],
-        "Syntax 1:1046186",
-    ),
-    (&[("SET(a[1", 1), (",1", 524_000)], "Syntax 1:1048008"),
-    (&[("(", 1_048_576)], "TooDeep 1:201"),
-    (&[("SPACE ", 174_500), ("(", 201)], "TooDeep 1:1047201"),
+    ("{1048000 \n}END", "Syntax 1048001:1"),
+    ("{174761 SPACE }FOO", "Syntax 1:1048567"),
+    ("{199 REP(1) }{174000 SPACE }{198 END }", "Syntax 1:1046186"),
+    ("SET(a[1{524000 ,1}", "Syntax 1:1048008"),
+    ("{1048576 (}", "TooDeep 1:201"),
+    ("{174500 SPACE }{201 (}", "TooDeep 1:1047201"),
 ];
 
 #[test]

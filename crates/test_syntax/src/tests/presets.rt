@@ -1,32 +1,33 @@
 //! Texts of presets with what they spell, worked out by hand from their two productions.
 
+use super::answers::{judged, same, unfolded};
+use super::shown::Shown;
 use ctd_syntax::{Literal, PresetFault, Presets};
 use std::alloc::Global;
-use std::fmt::Write;
 use std::test::Fail;
 
-// What `read` answers for a text, written as the rows below write it: each preset with its number
-// or the bytes of its string, or the fault.
-fn answer(alloc: Global, text: &str) -> Result<String, Fail> {
-    let mut shown = String::new(alloc);
-    match Presets::read(alloc, text) {
-        Ok(presets) => {
-            for preset in presets.pins() {
-                if !shown.is_empty() {
-                    shown.push_str(" ")?;
-                }
-                for b in preset.name.as_slice() {
-                    shown.push(*b as char)?;
-                }
-                match &preset.value {
-                    Literal::Int(n) => write!(shown, "={n}")?,
-                    Literal::Text(bytes) => write!(shown, "={:?}", bytes.as_slice())?,
-                }
-            }
+/// Each preset with its number or the bytes of its string, blanks between them.
+fn write_presets(out: &mut Shown, presets: &Presets) {
+    let mut before = "";
+    for preset in presets.pins() {
+        out.put(before);
+        out.put_bytes(preset.name.as_slice());
+        match &preset.value {
+            Literal::Int(n) => out.put_form(format_args!("={n}")),
+            Literal::Text(bytes) => out.put_form(format_args!("={:?}", bytes.as_slice())),
         }
-        Err(fault) => write!(shown, "{fault:?}")?,
+        before = " ";
     }
-    Ok(shown)
+}
+
+/// What `read` answers for a text, as the rows below write it: the presets or the fault.
+fn answer(alloc: Global, text: &str) -> Result<String, Fail> {
+    let mut shown = Shown::new(alloc);
+    match Presets::read(alloc, text) {
+        Ok(presets) => write_presets(&mut shown, &presets),
+        Err(fault) => shown.put_form(format_args!("{fault:?}")),
+    }
+    shown.told()
 }
 
 const SPELLED: [(&str, &str); 25] = [
@@ -66,8 +67,7 @@ const SPELLED: [(&str, &str); 25] = [
 #[test]
 fn texts_that_spell_presets(rt: HostRuntime) -> Result<(), Fail> {
     for (text, wanted) in &SPELLED {
-        let found = answer(rt.alloc(), text)?;
-        assert_eq!(rt; found.as_str(), *wanted, "at {text:?}");
+        judged(&rt, answer(rt.alloc(), text), wanted, text)?;
     }
     Ok(())
 }
@@ -151,61 +151,63 @@ const REFUSED: [&str; 66] = [
 #[test]
 fn texts_that_spell_no_presets(rt: HostRuntime) -> Result<(), Fail> {
     for text in &REFUSED {
-        let found = answer(rt.alloc(), text)?;
-        assert_eq!(rt; found.as_str(), "BadPreset", "at {text:?}");
+        judged(&rt, answer(rt.alloc(), text), "BadPreset", text)?;
     }
     Ok(())
 }
 
-// So many bytes a preset, and so many presets, make about a megabyte.
-const MANY: usize = 174_762;
+/// How many presets there are; the name of the last, and how many bytes it has where it is a string.
+fn last_of(presets: &Presets) -> (usize, &[u8], Option<usize>) {
+    let pins = presets.pins();
+    let Some(last) = pins.last() else {
+        return (0, b"", None);
+    };
+    let len = match &last.value {
+        Literal::Int(_) => None,
+        Literal::Text(bytes) => Some(bytes.as_slice().len()),
+    };
+    (pins.len(), last.name.as_slice(), len)
+}
+
+/// The presets of a text that is to be unfolded.
+fn read_unfolded(alloc: Global, text: &str) -> Result<Presets, Fail> {
+    let text = unfolded(alloc, text)?;
+    Ok(Presets::read(alloc, text.as_str())?)
+}
 
 #[test]
 fn a_megabyte_of_presets(rt: HostRuntime) -> Result<(), Fail> {
-    let mut text = String::new(rt.alloc());
-    for _ in 0..MANY {
-        text.push_str("a1=\"\",")?;
-    }
-    text.push_str("n=7")?;
-    let found = Presets::read(rt.alloc(), text.as_str())
-        .ok()
-        .expect(&rt, "presets");
-    assert_eq!(rt; found.pins().len(), MANY + 1);
-    assert_eq!(rt; found.pins()[MANY].name.as_slice(), b"n".as_slice());
+    let found = read_unfolded(rt.alloc(), "{174762 a1=\"\",}n=7")?;
+    same(
+        &rt,
+        &last_of(&found),
+        &(174_763, b"n".as_slice(), None),
+        &"the last",
+    );
     Ok(())
 }
 
 #[test]
 fn a_string_of_a_megabyte(rt: HostRuntime) -> Result<(), Fail> {
-    let mut text = String::new(rt.alloc());
-    text.push_str("s=\"")?;
-    for _ in 0..1_000_000 {
-        text.push(',')?;
-    }
-    text.push_str("\"")?;
-    let found = Presets::read(rt.alloc(), text.as_str())
-        .ok()
-        .expect(&rt, "a preset");
-    assert_eq!(rt; found.pins().len(), 1);
-    match &found.pins()[0].value {
-        Literal::Text(bytes) => assert_eq!(rt; bytes.as_slice().len(), 1_000_000),
-        _ => assert!(rt; false, "no string"),
-    }
+    let found = read_unfolded(rt.alloc(), "s=\"{1000000 ,}\"")?;
+    same(
+        &rt,
+        &last_of(&found),
+        &(1, b"s".as_slice(), Some(1_000_000)),
+        &"the last",
+    );
     Ok(())
 }
 
 #[test]
 fn a_numeral_of_a_million_digits(rt: HostRuntime) -> Result<(), Fail> {
-    let mut text = String::new(rt.alloc());
-    text.push_str("n=")?;
-    for _ in 0..1_000_000 {
-        text.push('9')?;
-    }
-    match Presets::read(rt.alloc(), text.as_str()) {
-        Err(fault) => assert_eq!(rt; fault, PresetFault::BadPreset),
-        Ok(_) => assert!(rt; false, "presets"),
-    }
-    Ok(())
+    let text = unfolded(rt.alloc(), "n={1000000 9}")?;
+    judged(
+        &rt,
+        answer(rt.alloc(), text.as_str()),
+        "BadPreset",
+        &"a numeral",
+    )
 }
 
 #[test]
@@ -215,6 +217,6 @@ fn no_presets(rt: HostRuntime) {
 
 #[test]
 fn numbers_of_the_faults(rt: HostRuntime) {
-    assert_eq!(rt; PresetFault::BadPreset as u8, 1);
-    assert_eq!(rt; PresetFault::Memory as u8, 2);
+    let numbers = [PresetFault::BadPreset as u8, PresetFault::Memory as u8];
+    same(&rt, &numbers, &[1, 2], &"the numbers");
 }

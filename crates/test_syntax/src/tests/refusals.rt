@@ -1,17 +1,7 @@
 //! Texts that spell no program, with the place of the fault: the first token with which no program goes on, or the end.
 
-use super::answers::answer;
-use std::alloc::Global;
-use std::process::Abort;
+use super::answers::answered;
 use std::test::Fail;
-
-fn refused(rt: &impl Abort, alloc: Global, table: &[(&str, &str)]) -> Result<(), Fail> {
-    for (text, wanted) in table {
-        let found = answer(alloc, text.as_bytes())?;
-        assert_eq!(rt; found.as_str(), *wanted, "at {text:?}");
-    }
-    Ok(())
-}
 
 // Faults of tokens come first, and the first of them counts.
 const TOKENS: [(&str, &str); 14] = [
@@ -36,7 +26,7 @@ const TOKENS: [(&str, &str); 14] = [
 
 #[test]
 fn faults_of_tokens(rt: HostRuntime) -> Result<(), Fail> {
-    refused(&rt, rt.alloc(), &TOKENS)
+    answered(&rt, rt.alloc(), &TOKENS)
 }
 
 // Commands, their words and their blocks.
@@ -105,7 +95,7 @@ const COMMANDS: [(&str, &str); 58] = [
 
 #[test]
 fn wrong_commands_and_loops(rt: HostRuntime) -> Result<(), Fail> {
-    refused(&rt, rt.alloc(), &COMMANDS)
+    answered(&rt, rt.alloc(), &COMMANDS)
 }
 
 // WHILE, WHILEI and IF.
@@ -148,7 +138,7 @@ const CHOICES: [(&str, &str); 34] = [
 
 #[test]
 fn wrong_tests_of_blocks(rt: HostRuntime) -> Result<(), Fail> {
-    refused(&rt, rt.alloc(), &CHOICES)
+    answered(&rt, rt.alloc(), &CHOICES)
 }
 
 // Texts that end too soon, one for each kind of place where they may.
@@ -203,7 +193,7 @@ const ENDS: [(&str, &str); 46] = [
 
 #[test]
 fn texts_that_end_too_soon(rt: HostRuntime) -> Result<(), Fail> {
-    refused(&rt, rt.alloc(), &ENDS)
+    answered(&rt, rt.alloc(), &ENDS)
 }
 
 // Inside the parentheses of a command.
@@ -275,7 +265,7 @@ const EXPRESSIONS: [(&str, &str); 63] = [
 
 #[test]
 fn wrong_expressions_and_targets(rt: HostRuntime) -> Result<(), Fail> {
-    refused(&rt, rt.alloc(), &EXPRESSIONS)
+    answered(&rt, rt.alloc(), &EXPRESSIONS)
 }
 
 const NAMES: [(&str, &str); 16] = [
@@ -299,7 +289,7 @@ const NAMES: [(&str, &str); 16] = [
 
 #[test]
 fn wrong_assignments_and_names(rt: HostRuntime) -> Result<(), Fail> {
-    refused(&rt, rt.alloc(), &NAMES)
+    answered(&rt, rt.alloc(), &NAMES)
 }
 
 const TESTS: [(&str, &str); 68] = [
@@ -375,7 +365,7 @@ const TESTS: [(&str, &str); 68] = [
 
 #[test]
 fn wrong_tests(rt: HostRuntime) -> Result<(), Fail> {
-    refused(&rt, rt.alloc(), &TESTS)
+    answered(&rt, rt.alloc(), &TESTS)
 }
 
 const QUESTIONS: [(&str, &str); 22] = [
@@ -405,5 +395,5 @@ const QUESTIONS: [(&str, &str); 22] = [
 
 #[test]
 fn wrong_questions(rt: HostRuntime) -> Result<(), Fail> {
-    refused(&rt, rt.alloc(), &QUESTIONS)
+    answered(&rt, rt.alloc(), &QUESTIONS)
 }

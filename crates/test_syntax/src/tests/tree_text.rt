@@ -1,109 +1,88 @@
 //! Trees as text, with a parenthesis wherever one part stands in another, `{..}` for blocks, and places behind `@`.
 
+use super::shown::Shown;
 use ctd_syntax::{Action, Assignment, Command, Compare, Expr, Name, Place, Program, Test, Var};
-use std::fmt::Write;
-use std::test::Fail;
 
 // No tree of a program is as deep as this.
 const DEPTH: u16 = 2_000;
 
-// The bytes of a name, or those between the quotes of a string.
-fn write_bytes(out: &mut String, bytes: &[u8]) -> Result<(), Fail> {
-    for b in bytes {
-        out.push(*b as char)?;
-    }
-    Ok(())
+fn write_text(out: &mut Shown, bytes: &[u8]) {
+    out.put("\"");
+    out.put_bytes(bytes);
+    out.put("\"");
 }
 
-fn write_text(out: &mut String, bytes: &[u8]) -> Result<(), Fail> {
-    out.push('"')?;
-    write_bytes(out, bytes)?;
-    out.push('"')?;
-    Ok(())
-}
-
-fn write_place(out: &mut String, place: Place) -> Result<(), Fail> {
-    write!(out, "@{}:{}", place.line, place.column)?;
-    Ok(())
+fn write_place(out: &mut Shown, place: Place) {
+    out.put_form(format_args!("@{}:{}", place.line, place.column));
 }
 
 // Names with commas between them, in parentheses.
-fn write_names(out: &mut String, names: &[Name]) -> Result<(), Fail> {
-    let mut first = true;
+fn write_names(out: &mut Shown, names: &[Name]) {
+    let mut before = "(";
     for name in names {
-        out.push(if first { '(' } else { ',' })?;
-        write_bytes(out, name.as_slice())?;
-        first = false;
+        out.put(before);
+        out.put_bytes(name.as_slice());
+        before = ",";
     }
-    out.push(')')?;
-    Ok(())
+    out.put(")");
 }
 
 #[cycle(expr_text)]
-fn write_pair(
-    out: &mut String,
-    depth: u16,
-    left: &Expr,
-    sign: &str,
-    right: &Expr,
-) -> Result<(), Fail> {
+fn write_pair(out: &mut Shown, depth: u16, left: &Expr, sign: &str, right: &Expr) {
     let Some(depth) = depth.checked_sub(1) else {
-        return Ok(out.push_str("...")?);
+        return out.put("...");
     };
-    out.push('(')?;
-    write_expr(out, depth, left)?;
-    out.push_str(sign)?;
-    write_expr(out, depth, right)?;
-    out.push(')')?;
-    Ok(())
+    out.put("(");
+    write_expr(out, depth, left);
+    out.put(sign);
+    write_expr(out, depth, right);
+    out.put(")");
 }
 
 #[cycle(expr_text)]
-fn write_var(out: &mut String, depth: u16, var: &Var) -> Result<(), Fail> {
+fn write_var(out: &mut Shown, depth: u16, var: &Var) {
     let Some(depth) = depth.checked_sub(1) else {
-        return Ok(out.push_str("...")?);
+        return out.put("...");
     };
-    write_bytes(out, var.name.as_slice())?;
+    out.put_bytes(var.name.as_slice());
     let indices = var.indices.as_slice();
     let mut first = true;
     for index in indices {
-        out.push(if first { '[' } else { ',' })?;
-        write_expr(out, depth, index)?;
+        out.put(if first { "[" } else { "," });
+        write_expr(out, depth, index);
         first = false;
     }
     if !indices.is_empty() {
-        out.push(']')?;
+        out.put("]");
     }
-    Ok(())
 }
 
 #[cycle(expr_text)]
-fn write_expr(out: &mut String, depth: u16, e: &Expr) -> Result<(), Fail> {
+fn write_expr(out: &mut Shown, depth: u16, e: &Expr) {
     let Some(depth) = depth.checked_sub(1) else {
-        return Ok(out.push_str("...")?);
+        return out.put("...");
     };
     match e {
-        Expr::Numeral(n) => write!(out, "{n}")?,
-        Expr::Text(bytes) => write_text(out, bytes.as_slice())?,
-        Expr::Var(var) => write_var(out, depth, var)?,
+        Expr::Numeral(n) => out.put_form(format_args!("{n}")),
+        Expr::Text(bytes) => write_text(out, bytes.as_slice()),
+        Expr::Var(var) => write_var(out, depth, var),
         Expr::Strlen(operand) => {
-            out.push_str("STRLEN(")?;
-            write_expr(out, depth, operand)?;
-            out.push(')')?;
+            out.put("STRLEN(");
+            write_expr(out, depth, operand);
+            out.put(")");
         }
         Expr::Minus(operand) => {
-            out.push_str("(-")?;
-            write_expr(out, depth, operand)?;
-            out.push(')')?;
+            out.put("(-");
+            write_expr(out, depth, operand);
+            out.put(")");
         }
-        Expr::Add(a, b) => write_pair(out, depth, a, "+", b)?,
-        Expr::Sub(a, b) => write_pair(out, depth, a, "-", b)?,
-        Expr::Mul(a, b) => write_pair(out, depth, a, "*", b)?,
-        Expr::Div(a, b) => write_pair(out, depth, a, "/", b)?,
-        Expr::Rem(a, b) => write_pair(out, depth, a, "%", b)?,
-        Expr::Pow(a, b) => write_pair(out, depth, a, "^", b)?,
+        Expr::Add(a, b) => write_pair(out, depth, a, "+", b),
+        Expr::Sub(a, b) => write_pair(out, depth, a, "-", b),
+        Expr::Mul(a, b) => write_pair(out, depth, a, "*", b),
+        Expr::Div(a, b) => write_pair(out, depth, a, "/", b),
+        Expr::Rem(a, b) => write_pair(out, depth, a, "%", b),
+        Expr::Pow(a, b) => write_pair(out, depth, a, "^", b),
     }
-    Ok(())
 }
 
 fn sign_of(by: Compare) -> &'static str {
@@ -118,125 +97,105 @@ fn sign_of(by: Compare) -> &'static str {
 }
 
 #[cycle(test_text)]
-fn write_tests(
-    out: &mut String,
-    depth: u16,
-    left: &Test,
-    sign: &str,
-    right: &Test,
-) -> Result<(), Fail> {
+fn write_tests(out: &mut Shown, depth: u16, left: &Test, sign: &str, right: &Test) {
     let Some(depth) = depth.checked_sub(1) else {
-        return Ok(out.push_str("...")?);
+        return out.put("...");
     };
-    out.push('(')?;
-    write_test(out, depth, left)?;
-    out.push_str(sign)?;
-    write_test(out, depth, right)?;
-    out.push(')')?;
-    Ok(())
+    out.put("(");
+    write_test(out, depth, left);
+    out.put(sign);
+    write_test(out, depth, right);
+    out.put(")");
 }
 
 #[cycle(test_text)]
-fn write_test(out: &mut String, depth: u16, t: &Test) -> Result<(), Fail> {
+fn write_test(out: &mut Shown, depth: u16, t: &Test) {
     let Some(depth) = depth.checked_sub(1) else {
-        return Ok(out.push_str("...")?);
+        return out.put("...");
     };
     match t {
-        Test::Or(a, b) => write_tests(out, depth, a, "||", b)?,
-        Test::And(a, b) => write_tests(out, depth, a, "&&", b)?,
+        Test::Or(a, b) => write_tests(out, depth, a, "||", b),
+        Test::And(a, b) => write_tests(out, depth, a, "&&", b),
         Test::Not(operand) => {
-            out.push_str("(!")?;
-            write_test(out, depth, operand)?;
-            out.push(')')?;
+            out.put("(!");
+            write_test(out, depth, operand);
+            out.put(")");
         }
-        Test::Compare(by, a, b) => write_pair(out, DEPTH, a, sign_of(*by), b)?,
+        Test::Compare(by, a, b) => write_pair(out, DEPTH, a, sign_of(*by), b),
         Test::Match(operand) => {
-            out.push_str("MATCH(")?;
-            write_expr(out, DEPTH, operand)?;
-            out.push(')')?;
+            out.put("MATCH(");
+            write_expr(out, DEPTH, operand);
+            out.put(")");
         }
-        Test::IsEof => out.push_str("ISEOF")?,
+        Test::IsEof => out.put("ISEOF"),
         Test::Unique(names) => {
-            out.push_str("UNIQUE")?;
-            write_names(out, names.as_slice())?;
+            out.put("UNIQUE");
+            write_names(out, names.as_slice());
         }
         Test::InArray(operand, name) => {
-            out.push_str("INARRAY(")?;
-            write_expr(out, DEPTH, operand)?;
-            out.push(',')?;
-            write_bytes(out, name.as_slice())?;
-            out.push(')')?;
+            out.put("INARRAY(");
+            write_expr(out, DEPTH, operand);
+            out.put(",");
+            out.put_bytes(name.as_slice());
+            out.put(")");
         }
     }
-    Ok(())
 }
 
 // The variable that a command sets, behind a comma, where there is one; and the parenthesis.
-fn write_target(out: &mut String, target: &Option<Var>) -> Result<(), Fail> {
+fn write_target(out: &mut Shown, target: &Option<Var>) {
     if let Some(var) = target {
-        out.push(',')?;
-        write_var(out, DEPTH, var)?;
+        out.put(",");
+        write_var(out, DEPTH, var);
     }
-    out.push(')')?;
-    Ok(())
+    out.put(")");
 }
 
-fn write_assignments(out: &mut String, list: &[Assignment]) -> Result<(), Fail> {
-    let mut first = true;
+fn write_assignments(out: &mut Shown, list: &[Assignment]) {
+    let mut before = "(";
     for one in list {
-        out.push(if first { '(' } else { ',' })?;
-        write_var(out, DEPTH, &one.target)?;
-        out.push('=')?;
-        write_expr(out, DEPTH, &one.value)?;
-        first = false;
+        out.put(before);
+        write_var(out, DEPTH, &one.target);
+        out.put("=");
+        write_expr(out, DEPTH, &one.value);
+        before = ",";
     }
-    out.push(')')?;
-    Ok(())
+    out.put(")");
 }
 
 // Commands with blanks between them.
 #[cycle(command_text)]
-fn write_commands(out: &mut String, depth: u16, list: &[Command]) -> Result<(), Fail> {
+fn write_commands(out: &mut Shown, depth: u16, list: &[Command]) {
     let Some(depth) = depth.checked_sub(1) else {
-        return Ok(out.push_str("...")?);
+        return out.put("...");
     };
     let mut first = true;
     for command in list {
-        if !first {
-            out.push(' ')?;
-        }
-        write_command(out, depth, command)?;
+        out.put(if first { "" } else { " " });
+        write_command(out, depth, command);
         first = false;
     }
-    Ok(())
 }
 
 // The separator of a loop behind a comma, where there is one; the parenthesis, and the block in braces.
 #[cycle(command_text)]
-fn write_loop(
-    out: &mut String,
-    depth: u16,
-    between: &Option<Box<Command>>,
-    body: &[Command],
-) -> Result<(), Fail> {
+fn write_loop(out: &mut Shown, depth: u16, between: &Option<Box<Command>>, body: &[Command]) {
     let Some(depth) = depth.checked_sub(1) else {
-        return Ok(out.push_str("...")?);
+        return out.put("...");
     };
     if let Some(command) = between {
-        out.push(',')?;
-        write_command(out, depth, command)?;
+        out.put(",");
+        write_command(out, depth, command);
     }
-    out.push_str("){")?;
-    write_commands(out, depth, body)?;
-    out.push('}')?;
-    Ok(())
+    out.put("){");
+    write_commands(out, depth, body);
+    out.put("}");
 }
 
 // A counter and the comma behind it.
-fn write_counter(out: &mut String, counter: &Var) -> Result<(), Fail> {
-    write_var(out, DEPTH, counter)?;
-    out.push(',')?;
-    Ok(())
+fn write_counter(out: &mut Shown, counter: &Var) {
+    write_var(out, DEPTH, counter);
+    out.put(",");
 }
 
 fn word_of(action: &Action) -> &'static str {
@@ -259,50 +218,49 @@ fn word_of(action: &Action) -> &'static str {
 }
 
 #[cycle(command_text)]
-fn write_command(out: &mut String, depth: u16, command: &Command) -> Result<(), Fail> {
+fn write_command(out: &mut Shown, depth: u16, command: &Command) {
     let Some(depth) = depth.checked_sub(1) else {
-        return Ok(out.push_str("...")?);
+        return out.put("...");
     };
-    out.push_str(word_of(&command.action))?;
-    write_place(out, command.place)?;
+    out.put(word_of(&command.action));
+    write_place(out, command.place);
     match &command.action {
         Action::Space | Action::Newline | Action::Eof => {}
-        Action::Set(list) => write_assignments(out, list.as_slice())?,
-        Action::Unset(names) => write_names(out, names.as_slice())?,
+        Action::Set(list) => write_assignments(out, list.as_slice()),
+        Action::Unset(names) => write_names(out, names.as_slice()),
         other => {
-            out.push('(')?;
-            write_action(out, depth, other)?;
+            out.put("(");
+            write_action(out, depth, other);
         }
     }
-    Ok(())
 }
 
 // What stands behind the parenthesis of a command.
 #[cycle(command_text)]
-fn write_action(out: &mut String, depth: u16, action: &Action) -> Result<(), Fail> {
+fn write_action(out: &mut Shown, depth: u16, action: &Action) {
     let Some(depth) = depth.checked_sub(1) else {
-        return Ok(out.push_str("...")?);
+        return out.put("...");
     };
     match action {
         Action::Int(low, high, target) => {
-            write_expr(out, DEPTH, low)?;
-            out.push(',')?;
-            write_expr(out, DEPTH, high)?;
+            write_expr(out, DEPTH, low);
+            out.put(",");
+            write_expr(out, DEPTH, high);
             write_target(out, target)
         }
         Action::String(text) => {
-            write_expr(out, DEPTH, text)?;
-            write_target(out, &None)
+            write_expr(out, DEPTH, text);
+            out.put(")")
         }
         Action::Regex(literal, target) => {
-            write_text(out, literal.bytes.as_slice())?;
-            write_place(out, literal.place)?;
-            write!(out, "#{}", literal.number)?;
+            write_text(out, literal.bytes.as_slice());
+            write_place(out, literal.place);
+            out.put_form(format_args!("#{}", literal.number));
             write_target(out, target)
         }
         Action::Assert(condition) => {
-            write_test(out, DEPTH, condition)?;
-            write_target(out, &None)
+            write_test(out, DEPTH, condition);
+            out.put(")")
         }
         other => write_block(out, depth, other),
     }
@@ -310,42 +268,42 @@ fn write_action(out: &mut String, depth: u16, action: &Action) -> Result<(), Fai
 
 // What stands behind the parenthesis of a loop or an IF.
 #[cycle(command_text)]
-fn write_block(out: &mut String, depth: u16, action: &Action) -> Result<(), Fail> {
+fn write_block(out: &mut Shown, depth: u16, action: &Action) {
     let Some(depth) = depth.checked_sub(1) else {
-        return Ok(out.push_str("...")?);
+        return out.put("...");
     };
     match action {
         Action::Rep(count, between, body) => {
-            write_expr(out, DEPTH, count)?;
+            write_expr(out, DEPTH, count);
             write_loop(out, depth, between, body.as_slice())
         }
         Action::RepI(counter, count, between, body) => {
-            write_counter(out, counter)?;
-            write_expr(out, DEPTH, count)?;
+            write_counter(out, counter);
+            write_expr(out, DEPTH, count);
             write_loop(out, depth, between, body.as_slice())
         }
         Action::While(condition, between, body) => {
-            write_test(out, DEPTH, condition)?;
+            write_test(out, DEPTH, condition);
             write_loop(out, depth, between, body.as_slice())
         }
         Action::WhileI(counter, condition, between, body) => {
-            write_counter(out, counter)?;
-            write_test(out, DEPTH, condition)?;
+            write_counter(out, counter);
+            write_test(out, DEPTH, condition);
             write_loop(out, depth, between, body.as_slice())
         }
         Action::If(condition, then_do, else_do) => {
-            write_test(out, DEPTH, condition)?;
-            write_loop(out, depth, &None, then_do.as_slice())?;
-            out.push('{')?;
-            write_commands(out, depth, else_do.as_slice())?;
-            out.push('}')?;
-            Ok(())
+            write_test(out, DEPTH, condition);
+            out.put("){");
+            write_commands(out, depth, then_do.as_slice());
+            out.put("}{");
+            write_commands(out, depth, else_do.as_slice());
+            out.put("}")
         }
-        _ => Ok(()),
+        _ => {}
     }
 }
 
 // The commands of a program with blanks between them.
-pub(super) fn write_program(out: &mut String, program: &Program) -> Result<(), Fail> {
+pub(super) fn write_program(out: &mut Shown, program: &Program) {
     write_commands(out, DEPTH, program.commands())
 }

@@ -1,6 +1,7 @@
 //! Streams that fail within a report.
 
 use crate::tests::clipped::{Clipped, Refusal};
+use crate::tests::same;
 use crate::tests::written::Written;
 use ctd_check::{LoadFault, LoadKind, Outcome, Place, Reason, Site, Spot};
 use ctd_tool::{ToWrite, ToolFault, UsageFault, report_usage, write_load_fault, write_outcome};
@@ -71,9 +72,11 @@ fn a_verdict_stops_where_the_stream_fails(rt: HostRuntime) {
             let err = Clipped::new(alloc, 1000, refusal);
             let written = outcome_written(alloc, &refused(), false, out, err);
             let taken = &REFUSED.as_bytes()[..room];
-            assert!(rt;
-                written.is_cut(ToolFault::Write, taken, b""),
-                "{refusal:?} after {room}"
+            same(
+                &rt,
+                &written.is_cut(ToolFault::Write, taken, b""),
+                &true,
+                &(refusal, room),
             );
         }
     }
@@ -88,9 +91,11 @@ fn a_fault_of_the_words_stops_where_the_stream_fails(rt: HostRuntime) {
             let err = Clipped::new(alloc, room, refusal);
             let written = bad_arguments_written(out, err);
             let taken = &BAD_ARGUMENTS.as_bytes()[..room];
-            assert!(rt;
-                written.is_cut(ToolFault::Write, b"", taken),
-                "{refusal:?} after {room}"
+            same(
+                &rt,
+                &written.is_cut(ToolFault::Write, b"", taken),
+                &true,
+                &(refusal, room),
             );
         }
     }
@@ -122,7 +127,7 @@ fn a_quiet_verdict_touches_no_stream(rt: HostRuntime) {
             Clipped::never_flushed(alloc, 0),
         );
         let written = outcome_written(alloc, &outcome, true, out, err);
-        assert!(rt; written.is(status, "", ""), "{status}");
+        same(&rt, &written.is(status, "", ""), &true, &status);
     }
 }
 
@@ -147,7 +152,7 @@ fn a_program_that_is_not_read_leaves_a_failing_output_alone(rt: HostRuntime) {
         written.is(
             2,
             "",
-            "checktestdata: program line 1 column 9: syntax error\n"
+            "checktestdata: program line 1 column 9: syntax error\n",
         )
     );
 }

@@ -3,6 +3,7 @@
 ghost use Rattle.std.specs.Prelude.{⊤};
 
 use crate::tests::clipped::{Clipped, Refusal};
+use crate::tests::same;
 use crate::tests::words::words_of;
 use crate::tests::written::Written;
 use ctd_tool::{Files, ToWrite, run_words};
@@ -142,7 +143,7 @@ fn judged(
     for (line, asked, status, out, err) in rows {
         let ample = Clipped::new(alloc, 1000, Refusal::Fails);
         let answered = answer(alloc, failing, line, ample)?;
-        assert!(rt; answered.is(asked, *status, out, err), "{line}");
+        same(rt, &answered.is(asked, *status, out, err), &true, line);
     }
     Ok(())
 }

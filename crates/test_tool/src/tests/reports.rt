@@ -1,5 +1,6 @@
 //! The texts of reports, with their streams and statuses.
 
+use crate::tests::same;
 use crate::tests::written::Written;
 use ctd_check::{Bytes, Fault, LoadFault, LoadKind, Outcome, Place, Reason, Site, Spot};
 use ctd_tool::{
@@ -128,7 +129,7 @@ fn each_reason_has_its_number_and_text(rt: HostRuntime) {
             reason: *reason,
         };
         let is = outcome_written(rt.alloc(), &outcome, false).is(1, text, "");
-        assert_eq!(rt; (is, *reason as u8), (true, *number), "{text}");
+        same(&rt, &(is, *reason as u8), &(true, *number), text);
     }
 }
 
@@ -174,7 +175,7 @@ fn each_fault_has_its_number_and_text(rt: HostRuntime) -> Result<(), Fail> {
     for (number, fault, text) in &FAULTS {
         for (place, site) in &SITES {
             let is = is_stop_written(rt.alloc(), *place, *fault, text, site)?;
-            assert_eq!(rt; (is, *fault as u8), (true, *number), "{text} ({site})");
+            same(&rt, &(is, *fault as u8), &(true, *number), &(text, site));
         }
     }
     Ok(())
@@ -188,7 +189,7 @@ fn load_faults_judged(rt: &impl Abort, alloc: Global, place: Option<Place>, rows
     for (number, kind, text) in rows {
         let fault = LoadFault { kind: *kind, place };
         let is = load_fault_written(alloc, &fault).is(2, "", text);
-        assert_eq!(rt; (is, *kind as u8), (true, *number), "{text}");
+        same(rt, &(is, *kind as u8), &(true, *number), text);
     }
 }
 
@@ -272,7 +273,7 @@ type UsageRow = (u8, UsageFault, &'static str, &'static str);
 fn usage_judged(rt: &impl Abort, alloc: Global, status: u8, rows: &[UsageRow]) {
     for (number, fault, out, err) in rows {
         let is = usage_written(alloc, fault).is(status, out, err);
-        assert_eq!(rt; (is, *fault as u8), (true, *number), "{out}{err}");
+        same(rt, &(is, *fault as u8), &(true, *number), &(out, err));
     }
 }
 

@@ -3,6 +3,7 @@
 ghost use Rattle.std.specs.Prelude.{◌≤◌, ◌^◌, IfOk};
 
 use crate::tests::clipped::{Clipped, Refusal};
+use crate::tests::same;
 use crate::tests::written::Written;
 use ctd_check::{Bytes, FromRead, Limits, Mode, Presets};
 use ctd_tool::{Setup, ToWrite, ToolFault, run_tool};
@@ -157,7 +158,7 @@ const VERDICTS: [(&str, &str, &str, u8); 10] = [
 fn a_verdict_goes_to_standard_output(rt: HostRuntime) -> std::result::Result<(), Fail> {
     for (program, data, text, status) in &VERDICTS {
         let written = plain_run(rt.alloc(), program.as_bytes(), data.as_bytes())?;
-        assert!(rt; written.is(*status, text, ""), "{program} on {data}");
+        same(&rt, &written.is(*status, text, ""), &true, &(program, data));
     }
     Ok(())
 }
@@ -190,7 +191,7 @@ const LONG: [(&str, u8, &str); 2] = [
 fn long_data_are_passed_a_window_at_a_time(rt: HostRuntime) -> std::result::Result<(), Fail> {
     for (program, byte, text) in &LONG {
         let written = long_run(rt.alloc(), program, *byte, 70_000)?;
-        assert!(rt; written.is(1, text, ""), "{program}");
+        same(&rt, &written.is(1, text, ""), &true, program);
     }
     Ok(())
 }
@@ -232,7 +233,7 @@ fn a_run_without_a_verdict_goes_to_standard_error(
     for (steps, bytes, text) in &STOPPED {
         for quiet in [false, true] {
             let written = limited_run(rt.alloc(), quiet, *steps, *bytes)?;
-            assert!(rt; written.is(2, "", text), "{text}");
+            same(&rt, &written.is(2, "", text), &true, text);
         }
     }
     Ok(())
@@ -247,7 +248,7 @@ fn a_failed_read_of_the_data_counts_where_it_is_needed(
     let err = "checktestdata: line 1 column 1: read failed (program line 1 column 1)\n";
     for (data, status, out, err) in &[("12 ", 1, out, ""), ("12", 2, "", err)] {
         let written = plain_run(rt.alloc(), program, data.as_bytes().chain(Failing))?;
-        assert!(rt; written.is(*status, out, err), "{data}");
+        same(&rt, &written.is(*status, out, err), &true, data);
     }
     Ok(())
 }
@@ -276,7 +277,7 @@ fn a_program_that_is_not_read_leaves_the_data_alone(
     for n in 0..=program.len() {
         let (written, is_read) = watched_run(rt.alloc(), program[..n].chain(Failing))?;
         let text = "checktestdata: cannot read program\n";
-        assert!(rt; written.is(2, "", text) && !is_read, "after {n} bytes");
+        same(&rt, &(written.is(2, "", text) && !is_read), &true, &n);
     }
     Ok(())
 }
@@ -329,7 +330,7 @@ fn a_quiet_run_writes_no_verdict(rt: HostRuntime) -> std::result::Result<(), Fai
         let out = Clipped::never_flushed(alloc, 0);
         let err = Clipped::never_flushed(alloc, 0);
         let written = clipped_run(alloc, true, data, out, err)?;
-        assert!(rt; written.is(*status, "", ""), "{status}");
+        same(&rt, &written.is(*status, "", ""), &true, &status);
     }
     Ok(())
 }

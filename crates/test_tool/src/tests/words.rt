@@ -1,5 +1,6 @@
 //! The words of the command line.
 
+use crate::tests::same;
 use ctd_check::{Bytes, Limits, Mode};
 use ctd_syntax::{Literal, Preset};
 use ctd_tool::{Setup, UsageFault, settings};
@@ -119,7 +120,7 @@ fn asks_for(
 fn judged(rt: &(impl Abort + AllocGlobal), rows: &[(&str, Wanted)]) -> Result<(), Fail> {
     for (line, wanted) in rows {
         let is = asks_for(rt, line, wanted).ok().ok_or("refused")?;
-        assert!(rt; is, "{line}");
+        same(rt, &is, &true, line);
     }
     Ok(())
 }
@@ -236,7 +237,7 @@ const STEPS: [(&str, Result<u64, UsageFault>); 10] = [
 #[test]
 fn the_step_limit_is_a_number_of_64_bits(rt: HostRuntime) {
     for (line, limit) in &STEPS {
-        assert_eq!(rt; steps_of(&rt, line.as_bytes()), *limit, "{line}");
+        same(&rt, &steps_of(&rt, line.as_bytes()), limit, line);
     }
 }
 
@@ -267,7 +268,7 @@ const FAULTS: [(&str, UsageFault); 20] = [
 #[test]
 fn each_fault_of_the_words(rt: HostRuntime) {
     for (line, fault) in &FAULTS {
-        assert_eq!(rt; fault_of(&rt, line.as_bytes()), Some(*fault), "{line}");
+        same(&rt, &fault_of(&rt, line.as_bytes()), &Some(*fault), line);
     }
 }
 
@@ -279,6 +280,6 @@ fn a_word_that_is_not_utf_8_is_refused(rt: HostRuntime) {
         b"--help \xff",
         b"-Ds=\"\xff\" p",
     ] {
-        assert_eq!(rt; fault_of(&rt, line), Some(UsageFault::Words));
+        same(&rt, &fault_of(&rt, line), &Some(UsageFault::Words), &line);
     }
 }

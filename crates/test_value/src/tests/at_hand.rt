@@ -1,6 +1,6 @@
 //! What is at hand: answers that take no memory, no look at the data and no number of more than 64 bits.
 
-use super::store_of;
+use super::{same, store_of};
 use ctd_syntax::{Action, Assignment, Command, Program, Test, parse};
 use ctd_value::{Store, number_at_hand, set_expression, truth_at_hand, truth_in_front_of};
 use std::alloc::Global;
@@ -87,7 +87,7 @@ const TRUTHS: [(&str, Option<bool>); 31] = [
 fn truths_at_hand(rt: HostRuntime) -> Result<(), Fail> {
     for (test, wanted) in &TRUTHS {
         let found = truth_in(rt.alloc(), test)?;
-        assert_eq!(rt; found, *wanted, "at {test:?}");
+        same(&rt, &found, wanted, test);
     }
     Ok(())
 }
@@ -127,7 +127,7 @@ const TRUTHS_IN_FRONT_OF_B: [(&str, Option<bool>); 11] = [
 fn truths_in_front_of_a_byte(rt: HostRuntime) -> Result<(), Fail> {
     for (test, wanted) in &TRUTHS_IN_FRONT_OF_B {
         let found = truth_told_by(rt.alloc(), b'b', test)?;
-        assert_eq!(rt; found, *wanted, "at {test:?}");
+        same(&rt, &found, wanted, test);
     }
     Ok(())
 }
@@ -179,7 +179,7 @@ const NUMBERS: [(&str, Option<i128>); 9] = [
 fn numbers_at_hand(rt: HostRuntime) -> Result<(), Fail> {
     for (expression, wanted) in &NUMBERS {
         let found = number_in(rt.alloc(), expression)?;
-        assert_eq!(rt; found, *wanted, "at {expression:?}");
+        same(&rt, &found, wanted, expression);
     }
     Ok(())
 }

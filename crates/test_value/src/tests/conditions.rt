@@ -3,7 +3,7 @@
 ghost use Rattle.std.specs.Prelude.{◌≤◌, ◌^◌};
 
 use super::{
-    Answer, DATA_TOO_LONG, DIVISION_BY_ZERO, READ, Row, UNDEFINED, WRONG_TYPE, judged, run,
+    Answer, DATA_TOO_LONG, DIVISION_BY_ZERO, READ, Row, UNDEFINED, WRONG_TYPE, judged, run, same,
     store_of, truth_told,
 };
 use ctd_source::Plain;
@@ -154,7 +154,7 @@ const LOOKS: [Look; 12] = [
 fn the_next_byte(rt: HostRuntime) -> Result<(), Fail> {
     for (text, bytes, broken, limit, wanted) in &LOOKS {
         let found = answer_over(rt.alloc(), text, bytes, *broken, u64::from(*limit))?;
-        assert_eq!(rt; found, *wanted, "at {text:?} {bytes:?}");
+        same(&rt, &found, wanted, &(text, bytes));
     }
     Ok(())
 }
@@ -164,10 +164,10 @@ fn the_next_byte(rt: HostRuntime) -> Result<(), Fail> {
 fn two_looks(rt: HostRuntime) -> Result<(), Fail> {
     let text = "ASSERT(MATCH(\"a\") && MATCH(\"a\") && !ISEOF)";
     let found = answer_over(rt.alloc(), text, b"ab", false, 10)?;
-    assert_eq!(rt; found, Ok(true));
+    same(&rt, &found, &Ok(true), &text);
     let text = "ASSERT(MATCH(\"a\") || ISEOF)";
     let found = answer_over(rt.alloc(), text, b"", false, 10)?;
-    assert_eq!(rt; found, Ok(true));
+    same(&rt, &found, &Ok(true), &text);
     Ok(())
 }
 

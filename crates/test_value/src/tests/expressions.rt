@@ -2,11 +2,11 @@
 
 use super::{
     DIVISION_BY_ZERO, EXPONENT, OVERFLOW, Row, UNDEFINED, WRONG_TYPE, first_assignment, judged,
-    numbers, store_of, value_told,
+    numbers, same, store_of, value_told,
 };
-use ctd_syntax::parse;
+use ctd_syntax::{Assignment, Var, parse};
 use ctd_value::{EvalFault, Key, Store, Value, count_of, eval, locate, number_of, text_of};
-use std::alloc::Global;
+use std::alloc::{AllocError, Global};
 use std::process::Abort;
 use std::test::Fail;
 
@@ -159,165 +159,27 @@ fn a_string_is_copied(rt: HostRuntime) -> Result<(), Fail> {
     Ok(())
 }
 
-/// Expressions that have to be numbers, with these, where s is a,b.
-const NUMBERS: [(&str, Result<i128, EvalFault>); 5] = [
-    ("SET(x=-7)", Ok(-7)),
-    (
-        "SET(x=9223372036854775807+1)",
-        Ok(9_223_372_036_854_775_808),
-    ),
-    ("SET(x=s)", Err(EvalFault::WrongType)),
-    ("SET(x=2^127)", Err(EvalFault::Overflow)),
-    ("SET(x=y)", Err(EvalFault::Undefined)),
-];
-
-/// The number of the expression that a text assigns.
-fn number_in(alloc: Global, store: &Store, text: &str) -> Result<Result<i128, EvalFault>, Fail> {
-    let program = parse(alloc, text.as_bytes())?;
-    let a = first_assignment(&program)?;
-    Ok(value_told(number_of(alloc, &a.value, store))?)
+/// What holds of the assignment that a text is.
+#[derive(Clone, Copy)]
+enum Wanted {
+    /// Its expression has this number, or none for this reason.
+    Number(Result<i128, EvalFault>),
+    /// Its expression has this string, or none for this reason.
+    Text(Result<&'static [u8], EvalFault>),
+    /// A loop of its expression would run so often, or not for this reason.
+    Count(Result<u64, EvalFault>),
+    /// Its target has the name a and these indices, all of them numbers.
+    Indices(&'static [i8]),
+    /// Its target has this name, and as its indices this string and this number.
+    Mixed(&'static [u8], &'static [u8], i128),
+    /// Its target has no key, since an index has no value for this reason.
+    NoKey(EvalFault),
 }
 
-/// Judges the number of each expression.
-fn judge_numbers(rt: &impl Abort, alloc: Global, store: &Store) -> Result<(), Fail> {
-    for (text, wanted) in &NUMBERS {
-        let found = number_in(alloc, store, text)?;
-        assert_eq!(rt; found, *wanted, "at {text:?}");
-    }
-    Ok(())
-}
-
-#[test]
-fn numbers_of_expressions(rt: HostRuntime) -> Result<(), Fail> {
-    let store = store_of(rt.alloc(), "s=\"a,b\"")?;
-    judge_numbers(&rt, rt.alloc(), &store)
-}
-
-/// Expressions that have to be strings, with their bytes, where s is a,b.
-const TEXTS: [(&str, Result<&[u8], EvalFault>); 4] = [
-    ("SET(x=\"a\\n\")", Ok(b"a\n")),
-    ("SET(x=s)", Ok(b"a,b")),
-    ("SET(x=7)", Err(EvalFault::WrongType)),
-    ("SET(x=y)", Err(EvalFault::Undefined)),
-];
-
-/// Whether the string of the expression that a text assigns is the wanted one, or its fault is.
-fn has_text(
-    alloc: Global,
-    store: &Store,
-    text: &str,
-    wanted: Result<&[u8], EvalFault>,
-) -> Result<bool, Fail> {
-    let program = parse(alloc, text.as_bytes())?;
-    let a = first_assignment(&program)?;
-    Ok(value_told(text_of(alloc, &a.value, store))? == wanted)
-}
-
-/// Judges the string of each expression.
-fn judge_texts(rt: &impl Abort, alloc: Global, store: &Store) -> Result<(), Fail> {
-    for (text, wanted) in &TEXTS {
-        assert!(rt; has_text(alloc, store, text, *wanted)?, "at {text:?}");
-    }
-    Ok(())
-}
-
-#[test]
-fn texts_where_they_stand(rt: HostRuntime) -> Result<(), Fail> {
-    let store = store_of(rt.alloc(), "s=\"a,b\"")?;
-    judge_texts(&rt, rt.alloc(), &store)
-}
-
-/// How often a loop of each assigned expression would run.
-const COUNTS: [(&str, Result<u64, EvalFault>); 9] = [
-    ("SET(x=3)", Ok(3)),
-    ("SET(x=0)", Ok(0)),
-    ("SET(x=-1)", Err(EvalFault::Count)),
-    ("SET(x=18446744073709551615)", Ok(u64::MAX)),
-    ("SET(x=18446744073709551616)", Err(EvalFault::Count)),
-    ("SET(x=-18446744073709551616)", Err(EvalFault::Count)),
-    ("SET(x=\"3\")", Err(EvalFault::WrongType)),
-    ("SET(x=1/0)", Err(EvalFault::DivisionByZero)),
-    ("SET(x=y)", Err(EvalFault::Undefined)),
-];
-
-/// How often a loop would run of the expression that a text assigns.
-fn count_in(alloc: Global, store: &Store, text: &str) -> Result<Result<u64, EvalFault>, Fail> {
-    let program = parse(alloc, text.as_bytes())?;
-    let a = first_assignment(&program)?;
-    Ok(value_told(count_of(alloc, &a.value, store))?)
-}
-
-/// Judges the count of each expression.
-fn judge_counts(rt: &impl Abort, alloc: Global, store: &Store) -> Result<(), Fail> {
-    for (text, wanted) in &COUNTS {
-        let found = count_in(alloc, store, text)?;
-        assert_eq!(rt; found, *wanted, "at {text:?}");
-    }
-    Ok(())
-}
-
-#[test]
-fn counts_of_loops(rt: HostRuntime) -> Result<(), Fail> {
-    let store = store_of(rt.alloc(), "")?;
-    judge_counts(&rt, rt.alloc(), &store)
-}
-
-/// The key of the variable that a text assigns to.
-fn key_in(alloc: Global, store: &Store, text: &str) -> Result<Result<Key, EvalFault>, Fail> {
-    let program = parse(alloc, text.as_bytes())?;
-    let a = first_assignment(&program)?;
-    Ok(value_told(locate(alloc, &a.target, store))?)
-}
-
-/// The indices that each target has, all of them numbers, where b is 7.
-const INDICES: [(&str, &[i8]); 4] = [
-    ("SET(a[1+1]=0)", &[2]),
-    ("SET(a=0)", &[]),
-    ("SET(a[-3,b,b]=0)", &[-3, 7, 7]),
-    ("SET(a[STRLEN(\"ab\")]=0)", &[2]),
-];
-
-/// Whether the variable that a text assigns to has the name a and these numbers as its indices.
-fn has_indices(alloc: Global, store: &Store, text: &str, wanted: &[i8]) -> Result<bool, Fail> {
+/// Whether a key has the name a and these numbers as its indices.
+fn has_indices(alloc: Global, key: &Key, wanted: &[i8]) -> Result<bool, AllocError> {
     let wanted = numbers(alloc, wanted)?;
-    let key = key_in(alloc, store, text)??;
     Ok(key.name() == b"a".as_slice() && key.indices() == wanted.as_slice())
-}
-
-/// Judges the key of each variable.
-fn judge_keys(rt: &impl Abort, alloc: Global, store: &Store) -> Result<(), Fail> {
-    for (text, wanted) in &INDICES {
-        assert!(rt; has_indices(alloc, store, text, wanted)?, "at {text:?}");
-    }
-    Ok(())
-}
-
-#[test]
-fn keys_of_variables(rt: HostRuntime) -> Result<(), Fail> {
-    let store = store_of(rt.alloc(), "b=7")?;
-    judge_keys(&rt, rt.alloc(), &store)
-}
-
-/// Targets that have no key, since an index has no value.
-const NO_KEYS: [(&str, EvalFault); 3] = [
-    ("SET(a[1/0]=0)", EvalFault::DivisionByZero),
-    ("SET(a[c,1/0]=0)", EvalFault::Undefined),
-    ("SET(a[-\"k\"]=0)", EvalFault::WrongType),
-];
-
-/// Judges the fault for which each variable has no key.
-fn judge_faults(rt: &impl Abort, alloc: Global, store: &Store) -> Result<(), Fail> {
-    for (text, wanted) in &NO_KEYS {
-        let found = key_in(alloc, store, text)?.err();
-        assert_eq!(rt; found, Some(*wanted), "at {text:?}");
-    }
-    Ok(())
-}
-
-#[test]
-fn indices_without_a_value(rt: HostRuntime) -> Result<(), Fail> {
-    let store = store_of(rt.alloc(), "b=7")?;
-    judge_faults(&rt, rt.alloc(), &store)
 }
 
 /// Whether indices are a string of these bytes and a number.
@@ -328,16 +190,155 @@ fn are_text_and_number(indices: &[Value], bytes: &[u8], n: i128) -> bool {
     }
 }
 
-/// Judges a key that has a string and a number as its indices.
-fn judge_mixed_key(rt: &impl Abort, alloc: Global, store: &Store) -> Result<(), Fail> {
-    let key = key_in(alloc, store, "SET(ab[\"k\",1]=0)")??;
-    assert_eq!(rt; key.name(), b"ab".as_slice());
-    assert!(rt; are_text_and_number(key.indices(), b"k", 1));
+/// Whether what is wanted of a target holds of its key.
+fn is_key(alloc: Global, key: &Key, wanted: Wanted) -> Result<bool, AllocError> {
+    match wanted {
+        Wanted::Indices(numbers) => has_indices(alloc, key, numbers),
+        Wanted::Mixed(name, bytes, n) => {
+            Ok(key.name() == name && are_text_and_number(key.indices(), bytes, n))
+        }
+        _ => Ok(false),
+    }
+}
+
+/// Whether what is wanted of a target holds.
+fn is_target(
+    alloc: Global,
+    target: &Var,
+    store: &Store,
+    wanted: Wanted,
+) -> Result<bool, AllocError> {
+    match value_told(locate(alloc, target, store))? {
+        Ok(key) => is_key(alloc, &key, wanted),
+        Err(found) => Ok(matches!(wanted, Wanted::NoKey(fault) if found == fault)),
+    }
+}
+
+/// Whether what is wanted of an assignment holds.
+fn is_so(alloc: Global, a: &Assignment, store: &Store, wanted: Wanted) -> Result<bool, AllocError> {
+    Ok(match wanted {
+        Wanted::Number(n) => value_told(number_of(alloc, &a.value, store))? == n,
+        Wanted::Text(text) => value_told(text_of(alloc, &a.value, store))? == text,
+        Wanted::Count(n) => value_told(count_of(alloc, &a.value, store))? == n,
+        other => is_target(alloc, &a.target, store, other)?,
+    })
+}
+
+/// The same of the assignment that a text is.
+fn is_so_in(alloc: Global, store: &Store, text: &str, wanted: Wanted) -> Result<bool, Fail> {
+    let program = parse(alloc, text.as_bytes())?;
+    let a = first_assignment(&program)?;
+    Ok(is_so(alloc, a, store, wanted)?)
+}
+
+/// Judges that each text is as it is wanted.
+fn judge_in(
+    rt: &impl Abort,
+    alloc: Global,
+    store: &Store,
+    rows: &[(&str, Wanted)],
+) -> Result<(), Fail> {
+    for (text, wanted) in rows {
+        let found = is_so_in(alloc, store, text, *wanted)?;
+        same(rt, &found, &true, text);
+    }
     Ok(())
 }
 
+/// The same where some variables are pinned.
+fn judge(
+    rt: &impl Abort,
+    alloc: Global,
+    pinned: &str,
+    rows: &[(&str, Wanted)],
+) -> Result<(), Fail> {
+    let store = store_of(alloc, pinned)?;
+    judge_in(rt, alloc, &store, rows)
+}
+
+/// Expressions that have to be numbers, with these, where s is a,b.
+const NUMBERS: [(&str, Wanted); 5] = [
+    ("SET(x=-7)", Wanted::Number(Ok(-7))),
+    (
+        "SET(x=9223372036854775807+1)",
+        Wanted::Number(Ok(9_223_372_036_854_775_808)),
+    ),
+    ("SET(x=s)", Wanted::Number(Err(EvalFault::WrongType))),
+    ("SET(x=2^127)", Wanted::Number(Err(EvalFault::Overflow))),
+    ("SET(x=y)", Wanted::Number(Err(EvalFault::Undefined))),
+];
+
+#[test]
+fn numbers_of_expressions(rt: HostRuntime) -> Result<(), Fail> {
+    judge(&rt, rt.alloc(), "s=\"a,b\"", &NUMBERS)
+}
+
+/// Expressions that have to be strings, with their bytes, where s is a,b.
+const TEXTS: [(&str, Wanted); 4] = [
+    ("SET(x=\"a\\n\")", Wanted::Text(Ok(b"a\n"))),
+    ("SET(x=s)", Wanted::Text(Ok(b"a,b"))),
+    ("SET(x=7)", Wanted::Text(Err(EvalFault::WrongType))),
+    ("SET(x=y)", Wanted::Text(Err(EvalFault::Undefined))),
+];
+
+#[test]
+fn texts_where_they_stand(rt: HostRuntime) -> Result<(), Fail> {
+    judge(&rt, rt.alloc(), "s=\"a,b\"", &TEXTS)
+}
+
+/// How often a loop of each assigned expression would run.
+const COUNTS: [(&str, Wanted); 9] = [
+    ("SET(x=3)", Wanted::Count(Ok(3))),
+    ("SET(x=0)", Wanted::Count(Ok(0))),
+    ("SET(x=-1)", Wanted::Count(Err(EvalFault::Count))),
+    ("SET(x=18446744073709551615)", Wanted::Count(Ok(u64::MAX))),
+    (
+        "SET(x=18446744073709551616)",
+        Wanted::Count(Err(EvalFault::Count)),
+    ),
+    (
+        "SET(x=-18446744073709551616)",
+        Wanted::Count(Err(EvalFault::Count)),
+    ),
+    ("SET(x=\"3\")", Wanted::Count(Err(EvalFault::WrongType))),
+    ("SET(x=1/0)", Wanted::Count(Err(EvalFault::DivisionByZero))),
+    ("SET(x=y)", Wanted::Count(Err(EvalFault::Undefined))),
+];
+
+#[test]
+fn counts_of_loops(rt: HostRuntime) -> Result<(), Fail> {
+    judge(&rt, rt.alloc(), "", &COUNTS)
+}
+
+/// The indices that each target has, all of them numbers, where b is 7.
+const INDICES: [(&str, Wanted); 4] = [
+    ("SET(a[1+1]=0)", Wanted::Indices(&[2])),
+    ("SET(a=0)", Wanted::Indices(&[])),
+    ("SET(a[-3,b,b]=0)", Wanted::Indices(&[-3, 7, 7])),
+    ("SET(a[STRLEN(\"ab\")]=0)", Wanted::Indices(&[2])),
+];
+
+#[test]
+fn keys_of_variables(rt: HostRuntime) -> Result<(), Fail> {
+    judge(&rt, rt.alloc(), "b=7", &INDICES)
+}
+
+/// Targets that have no key, since an index has no value.
+const NO_KEYS: [(&str, Wanted); 3] = [
+    ("SET(a[1/0]=0)", Wanted::NoKey(EvalFault::DivisionByZero)),
+    ("SET(a[c,1/0]=0)", Wanted::NoKey(EvalFault::Undefined)),
+    ("SET(a[-\"k\"]=0)", Wanted::NoKey(EvalFault::WrongType)),
+];
+
+#[test]
+fn indices_without_a_value(rt: HostRuntime) -> Result<(), Fail> {
+    judge(&rt, rt.alloc(), "b=7", &NO_KEYS)
+}
+
+/// A target that has a string and a number as its indices.
+const MIXED: [(&str, Wanted); 1] = [("SET(ab[\"k\",1]=0)", Wanted::Mixed(b"ab", b"k", 1))];
+
 #[test]
 fn a_key_with_a_string(rt: HostRuntime) -> Result<(), Fail> {
-    let store = store_of(rt.alloc(), "b=7")?;
-    judge_mixed_key(&rt, rt.alloc(), &store)
+    judge(&rt, rt.alloc(), "b=7", &MIXED)
 }

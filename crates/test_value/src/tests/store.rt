@@ -1,7 +1,7 @@
 //! Calls of the store. A test makes a store and lends it to a function that judges it. So a `?` of that function drops no
 //! store, which is proved in a fraction of the time.
 
-use super::{first_assignment, first_name, key, store_of};
+use super::{first_assignment, first_name, key, same, store_of};
 use ctd_syntax::{Assignment, Bytes, Name, Var, parse};
 use ctd_value::{EntryRef, Key, Store, Value, set_expression, set_number, set_text};
 use std::alloc::{AllocError, Global};
@@ -34,7 +34,7 @@ type Row<'r> = (&'r [u8], &'r [i8], Option<i128>);
 fn judged(rt: &impl Abort, alloc: Global, store: &Store, rows: &[Row]) -> Result<(), Fail> {
     for (name, indices, wanted) in rows {
         let found = number_at(alloc, store, name, indices)?;
-        assert_eq!(rt; found, *wanted, "at {name:?} {indices:?}");
+        same(rt, &found, wanted, &(name, indices));
     }
     Ok(())
 }
@@ -67,12 +67,35 @@ fn is_text(store: &Store, key: &Key, bytes: &[u8]) -> bool {
     }
 }
 
+/// Whether the variable s has a string of these bytes.
+fn is_text_of_s(alloc: Global, store: &Store, bytes: &[u8]) -> Result<bool, AllocError> {
+    let key = key(alloc, b"s", &[])?;
+    Ok(is_text(store, &key, bytes))
+}
+
+/// Judges the string of the variable s, which is pinned to a,b.
+fn judge_pinned_text(rt: &impl Abort, alloc: Global, store: &Store) -> Result<(), Fail> {
+    let found = is_text_of_s(alloc, store, b"a,b")?;
+    same(rt, &found, &true, &"s");
+    Ok(())
+}
+
 #[test]
 fn a_string_that_is_pinned(rt: HostRuntime) -> Result<(), Fail> {
-    let key = key(rt.alloc(), b"s", &[])?;
     let store = store_of(rt.alloc(), "s=\"a,b\"")?;
-    assert!(rt; is_text(&store, &key, b"a,b"));
-    Ok(())
+    judge_pinned_text(&rt, rt.alloc(), &store)
+}
+
+/// The name that a program unsets.
+fn name_in(alloc: Global, text: &str) -> Result<Name, Fail> {
+    let program = parse(alloc, text.as_bytes())?;
+    let name = first_name(&program)?;
+    Ok(Name::numbered(alloc, name.as_slice(), name.number())?)
+}
+
+/// How many entries a name has.
+fn count_of(alloc: Global, store: &Store, name: &Name) -> Result<usize, AllocError> {
+    Ok(store.entries(alloc, name)?.len())
 }
 
 const PINNED_AND_ASSIGNED: [Row; 2] = [(b"n", &[], Some(5)), (b"n", &[1], Some(6))];
@@ -84,19 +107,24 @@ fn judge_preset(rt: &impl Abort, alloc: Global, store: &mut Store, n: &Name) -> 
     assign(alloc, store, b"n", &[], 9)?;
     assign(alloc, store, b"n", &[1], 6)?;
     judged(rt, alloc, store, &PINNED_AND_ASSIGNED)?;
-    assert_eq!(rt; store.entries(alloc, n)?.len(), 2);
+    let assigned = count_of(alloc, store, n)?;
     store.unset(n);
     judged(rt, alloc, store, &PINNED_ALONE)?;
-    assert_eq!(rt; store.entries(alloc, n)?.len(), 1);
+    let kept = count_of(alloc, store, n)?;
+    same(rt, &[assigned, kept], &[2, 1], &"the counts");
     Ok(())
+}
+
+/// The same in a store of its own.
+fn judge_preset_alone(rt: &impl Abort, alloc: Global, n: &Name) -> Result<(), Fail> {
+    let mut store = store_of(alloc, "n=5")?;
+    judge_preset(rt, alloc, &mut store, n)
 }
 
 #[test]
 fn a_preset_stays(rt: HostRuntime) -> Result<(), Fail> {
-    let program = parse(rt.alloc(), b"UNSET(n)")?;
-    let n = first_name(&program)?;
-    let mut store = store_of(rt.alloc(), "n=5")?;
-    judge_preset(&rt, rt.alloc(), &mut store, n)
+    let n = name_in(rt.alloc(), "UNSET(n)")?;
+    judge_preset_alone(&rt, rt.alloc(), &n)
 }
 
 /// How a variable is set.
@@ -181,21 +209,34 @@ fn copy_of_x(alloc: Global) -> Result<Value, AllocError> {
     Value::Text(Bytes::copy(alloc, b"x")?).copy(alloc)
 }
 
+/// Assigns the string x at the index 1 of the name a. Whether it is the one entry of that name then.
+fn is_one_entry(alloc: Global, store: &mut Store, a: &Name) -> Result<bool, Fail> {
+    let x = copy_of_x(alloc)?;
+    store.assign(key(alloc, b"a", &[1])?, x)?;
+    Ok(is_one_text(&store.entries(alloc, a)?, b"x"))
+}
+
+const NONE_AT_1: [Row; 1] = [(b"a", &[1], None)];
+
 /// Assigns the string x at the index 1 of the name a, whose one entry it then is, and unsets a, which then has none.
 fn judge_entry(rt: &impl Abort, alloc: Global, store: &mut Store, a: &Name) -> Result<(), Fail> {
-    store.assign(key(alloc, b"a", &[1])?, copy_of_x(alloc)?)?;
-    assert!(rt; is_one_text(&store.entries(alloc, a)?, b"x"));
+    let is_one = is_one_entry(alloc, store, a)?;
     store.unset(a);
-    assert!(rt; store.entries(alloc, a)?.is_empty());
-    judged(rt, alloc, store, &[(b"a", &[1], None)])
+    let kept = count_of(alloc, store, a)?;
+    same(rt, &(is_one, kept), &(true, 0), &"the entries");
+    judged(rt, alloc, store, &NONE_AT_1)
+}
+
+/// The same in a store of its own.
+fn judge_entry_alone(rt: &impl Abort, alloc: Global, a: &Name) -> Result<(), Fail> {
+    let mut store = store_of(alloc, "")?;
+    judge_entry(rt, alloc, &mut store, a)
 }
 
 #[test]
 fn one_entry_and_none(rt: HostRuntime) -> Result<(), Fail> {
-    let program = parse(rt.alloc(), b"UNSET(a)")?;
-    let a = first_name(&program)?;
-    let mut store = store_of(rt.alloc(), "")?;
-    judge_entry(&rt, rt.alloc(), &mut store, a)
+    let a = name_in(rt.alloc(), "UNSET(a)")?;
+    judge_entry_alone(&rt, rt.alloc(), &a)
 }
 
 /// How many of these entries have one number as their index.
@@ -211,33 +252,45 @@ fn assign_again(alloc: Global, store: &mut Store) -> Result<(), Fail> {
     assign(alloc, store, b"a", &[], 9)
 }
 
-/// Judges that these entries are four, of which one stands at each of 1, 2 and 3.
-fn judge_entries(rt: &impl Abort, entries: &[EntryRef<'_>]) {
-    assert_eq!(rt; entries.len(), 4);
-    for index in [1, 2, 3] {
-        assert_eq!(rt; count_at(entries, index), 1, "at {index}");
-    }
+/// How many these entries are, and how many of them stand at each of 1, 2 and 3.
+fn counts(entries: &[EntryRef<'_>]) -> [usize; 4] {
+    [
+        entries.len(),
+        count_at(entries, 1),
+        count_at(entries, 2),
+        count_at(entries, 3),
+    ]
 }
 
-/// Judges the entries of a name that is assigned to again.
+/// The same of a name that is assigned to again.
+fn counts_once_assigned(alloc: Global, store: &mut Store, a: &Name) -> Result<[usize; 4], Fail> {
+    assign_again(alloc, store)?;
+    Ok(counts(&store.entries(alloc, a)?))
+}
+
+/// Judges those counts.
 fn judge_each_once(
     rt: &impl Abort,
     alloc: Global,
     store: &mut Store,
     a: &Name,
 ) -> Result<(), Fail> {
-    assign_again(alloc, store)?;
-    judge_entries(rt, &store.entries(alloc, a)?);
+    let found = counts_once_assigned(alloc, store, a)?;
+    same(rt, &found, &[4, 1, 1, 1], &"the counts");
     Ok(())
+}
+
+/// The same in a store of its own.
+fn judge_each_once_alone(rt: &impl Abort, alloc: Global, a: &Name) -> Result<(), Fail> {
+    let mut store = store_of(alloc, "a=1")?;
+    judge_each_once(rt, alloc, &mut store, a)
 }
 
 /// A key that is assigned again, or pinned and assigned, is among the entries once.
 #[test]
 fn each_key_once(rt: HostRuntime) -> Result<(), Fail> {
-    let program = parse(rt.alloc(), b"UNSET(a)")?;
-    let a = first_name(&program)?;
-    let mut store = store_of(rt.alloc(), "a=1")?;
-    judge_each_once(&rt, rt.alloc(), &mut store, a)
+    let a = name_in(rt.alloc(), "UNSET(a)")?;
+    judge_each_once_alone(&rt, rt.alloc(), &a)
 }
 
 /// Assigns at some index lists of a and of ab.
@@ -268,13 +321,17 @@ fn judge_unset(rt: &impl Abort, alloc: Global, store: &mut Store, a: &Name) -> R
     judged(rt, alloc, store, &ONE_NAME_IS_UNSET)
 }
 
+/// The same in a store of its own.
+fn judge_unset_alone(rt: &impl Abort, alloc: Global, a: &Name) -> Result<(), Fail> {
+    let mut store = store_of(alloc, "")?;
+    judge_unset(rt, alloc, &mut store, a)
+}
+
 /// What is unset goes at every index, and what has another name stays, also where that begins with this one.
 #[test]
 fn every_index_is_unset(rt: HostRuntime) -> Result<(), Fail> {
-    let program = parse(rt.alloc(), b"UNSET(a)")?;
-    let a = first_name(&program)?;
-    let mut store = store_of(rt.alloc(), "")?;
-    judge_unset(&rt, rt.alloc(), &mut store, a)
+    let a = name_in(rt.alloc(), "UNSET(a)")?;
+    judge_unset_alone(&rt, rt.alloc(), &a)
 }
 
 /// Assigns n at index n of a. Where that is refused, the store has to answer as before at every index so far; it is tried
@@ -296,47 +353,48 @@ fn is_kept(alloc: Global, store: &mut Store, n: i8) -> Result<bool, Fail> {
     Ok(number_at(alloc, store, b"a", &[n])? == Some(i128::from(n)))
 }
 
-/// Assigns at each index of a from 0 to 19, and judges each time that all is kept.
+const PINNED: [Row; 1] = [(b"n", &[], Some(5))];
+
+/// Assigns at each index of a from 0 to 19, and judges each time that all is kept, and at last what is pinned.
 fn judge_assignments(rt: &impl Abort, alloc: Global, store: &mut Store) -> Result<(), Fail> {
     for n in 0..20i8 {
         assert!(rt; is_kept(alloc, store, n)?, "at {n}");
     }
-    Ok(())
+    judged(rt, alloc, store, &PINNED)
 }
 
 /// Under `rt try --test --fail-alloc N` an assignment is refused, and the store answers as before.
 #[test]
 fn refused_assignments(rt: HostRuntime) -> Result<(), Fail> {
     let mut store = store_of(rt.alloc(), "n=5")?;
-    judge_assignments(&rt, rt.alloc(), &mut store)?;
-    judged(&rt, rt.alloc(), &store, &[(b"n", &[], Some(5))])
+    judge_assignments(&rt, rt.alloc(), &mut store)
 }
 
-/// Sets the string of a variable, whose key is given, to a shorter one and to a longer one, and judges each.
-fn judge_texts(
-    rt: &impl Abort,
-    alloc: Global,
-    store: &mut Store,
-    s: &Var,
-    key: &Key,
-) -> Result<(), Fail> {
+/// Sets the string of the variable s to a shorter one and to a longer one. Whether it is each of them then.
+fn is_each_text(alloc: Global, store: &mut Store, s: &Var) -> Result<[bool; 2], Fail> {
     set_text(alloc, s, b"long", store)?;
     set_text(alloc, s, b"ab", store)?;
-    assert!(rt; is_text(store, key, b"ab"));
+    let is_short = is_text_of_s(alloc, store, b"ab")?;
     set_text(alloc, s, b"longer than both", store)?;
-    assert!(rt; is_text(store, key, b"longer than both"));
-    Ok(())
+    let is_long = is_text_of_s(alloc, store, b"longer than both")?;
+    Ok([is_short, is_long])
 }
 
-/// The same of the variable s where it has no value before.
-fn judge_texts_of(rt: &impl Abort, alloc: Global, s: &Var) -> Result<(), Fail> {
-    let key = key(alloc, b"s", &[])?;
-    let mut store = store_of(alloc, "")?;
-    judge_texts(rt, alloc, &mut store, s, &key)
+/// The same of a variable that a text assigns to.
+fn is_each_text_in(alloc: Global, store: &mut Store, text: &str) -> Result<[bool; 2], Fail> {
+    let program = parse(alloc, text.as_bytes())?;
+    is_each_text(alloc, store, &first_assignment(&program)?.target)
+}
+
+/// Judges those of the variable s.
+fn judge_texts(rt: &impl Abort, alloc: Global, store: &mut Store) -> Result<(), Fail> {
+    let found = is_each_text_in(alloc, store, "SET(s=1)")?;
+    same(rt, &found, &[true, true], &"the texts");
+    Ok(())
 }
 
 #[test]
 fn texts_are_set_over_one_another(rt: HostRuntime) -> Result<(), Fail> {
-    let program = parse(rt.alloc(), b"SET(s=1)")?;
-    judge_texts_of(&rt, rt.alloc(), &first_assignment(&program)?.target)
+    let mut store = store_of(rt.alloc(), "")?;
+    judge_texts(&rt, rt.alloc(), &mut store)
 }

@@ -1,6 +1,6 @@
 //! UNIQUE over small and large arrays.
 
-use super::{Answer, Row, SHAPE, answer_in, judged, store_of};
+use super::{Answer, Row, SHAPE, answer_in, judged, same, store_of};
 use ctd_value::Store;
 use std::alloc::Global;
 use std::test::Fail;
@@ -78,8 +78,8 @@ fn answer_of_large_array(alloc: Global, text: &str) -> Result<Answer, Fail> {
 #[test]
 fn a_large_array(rt: HostRuntime) -> Result<(), Fail> {
     let found = answer_of_large_array(rt.alloc(), "ASSERT(i==50000 && UNIQUE(a))")?;
-    assert_eq!(rt; found, Ok(true));
+    same(&rt, &found, &Ok(true), &"all values");
     let found = answer_of_large_array(rt.alloc(), "SET(a[7]=8) ASSERT(UNIQUE(a))")?;
-    assert_eq!(rt; found, Ok(false));
+    same(&rt, &found, &Ok(false), &"two that are the same");
     Ok(())
 }

@@ -1,23 +1,38 @@
 //! Patterns with what they match at the start of a window, worked out by hand from the rules of `regex`.
 
-use crate::pattern::{Pattern, PatternFault};
-use std::alloc::Global;
+use super::same;
+use ctd_pattern::{Pattern, PatternFault};
+use std::alloc::{AllocError, Global};
+use std::process::Abort;
 use std::test::Fail;
 
-// The length that a literal matches at the start of a window, or why it is no pattern.
-fn match_length(
-    alloc: Global,
-    literal: &[u8],
-    window: &[u8],
-) -> Result<Option<usize>, PatternFault> {
-    let pattern = Pattern::read(alloc, literal)?;
-    let Ok(mut matcher) = pattern.matcher(alloc) else {
-        return Err(PatternFault::Memory);
-    };
-    Ok(matcher.match_length(window))
+/// The length that a pattern matches at the start of a window.
+fn length_by(alloc: Global, pattern: &Pattern, window: &[u8]) -> Answer {
+    match pattern.matcher(alloc) {
+        Ok(mut matcher) => Ok(matcher.match_length(window)),
+        Err(_) => Err(PatternFault::Memory),
+    }
 }
 
+/// The length that a literal matches at the start of a window, or why it is no pattern.
+fn match_length(alloc: Global, literal: &[u8], window: &[u8]) -> Answer {
+    let pattern = Pattern::read(alloc, literal)?;
+    length_by(alloc, &pattern, window)
+}
+
+/// What a literal says of a window.
+type Answer = Result<Option<usize>, PatternFault>;
+
+/// A literal, a window, and the length that the literal matches at its start.
 type Row = (&'static [u8], &'static [u8], Option<usize>);
+
+/// That each literal of a table matches the length of its row.
+fn judged(rt: &impl Abort, alloc: Global, rows: &[Row]) {
+    for (literal, window, wanted) in rows {
+        let found = match_length(alloc, literal, window);
+        same(rt, &found, &Ok(*wanted), &(literal, window));
+    }
+}
 
 // The window is the whole text: its start is the start of the text, its end the end.
 const EDGES: [Row; 20] = [
@@ -88,14 +103,10 @@ const BYTES: [Row; 19] = [
 ];
 
 #[test]
-fn lengths_at_the_start(rt: HostRuntime) -> Result<(), Fail> {
-    for rows in [&EDGES[..], &CHOICES[..], &BYTES[..]] {
-        for (literal, window, wanted) in rows {
-            let found = match_length(rt.alloc(), literal, window);
-            assert_eq!(rt; found, Ok(*wanted), "{literal:?} on {window:?}");
-        }
-    }
-    Ok(())
+fn lengths_at_the_start(rt: HostRuntime) {
+    judged(&rt, rt.alloc(), &EDGES);
+    judged(&rt, rt.alloc(), &CHOICES);
+    judged(&rt, rt.alloc(), &BYTES);
 }
 
 const FAULTS: [(&[u8], PatternFault); 14] = [
@@ -116,30 +127,32 @@ const FAULTS: [(&[u8], PatternFault); 14] = [
 ];
 
 #[test]
-fn literals_without_a_pattern(rt: HostRuntime) -> Result<(), Fail> {
+fn literals_without_a_pattern(rt: HostRuntime) {
     for (literal, wanted) in &FAULTS {
         let found = match_length(rt.alloc(), literal, b"");
-        assert_eq!(rt; found, Err(*wanted), "{literal:?}");
+        same(&rt, &found, &Err(*wanted), literal);
     }
-    Ok(())
 }
 
-// So many groups around one another, and the length that they match of one letter.
-const NESTINGS: [(usize, Result<Option<usize>, PatternFault>); 2] = [
-    (249, Ok(Some(1))),
-    (300, Err(PatternFault::NotPattern)),
-];
+/// A letter with so many groups around one another.
+fn grouped(alloc: Global, depth: usize) -> Result<Vec<u8>, AllocError> {
+    let mut literal = vec![in alloc; b'('; depth]?;
+    literal.push(b'a')?;
+    for _ in 0..depth {
+        literal.push(b')')?;
+    }
+    Ok(literal)
+}
+
+/// So many groups around one another, and the length that they match of one letter.
+const NESTINGS: [(usize, Answer); 2] = [(249, Ok(Some(1))), (300, Err(PatternFault::NotPattern))];
 
 #[test]
 fn groups_within_groups(rt: HostRuntime) -> Result<(), Fail> {
     for (depth, wanted) in &NESTINGS {
-        let mut literal = vec![in rt.alloc(); b'('; *depth]?;
-        literal.push(b'a')?;
-        for _ in 0..*depth {
-            literal.push(b')')?;
-        }
-        let found = match_length(rt.alloc(), &literal, b"ab");
-        assert_eq!(rt; found, *wanted, "{depth}");
+        let literal = grouped(rt.alloc(), *depth)?;
+        let found = match_length(rt.alloc(), literal.as_slice(), b"ab");
+        same(&rt, &found, wanted, depth);
     }
     Ok(())
 }
@@ -148,22 +161,31 @@ fn groups_within_groups(rt: HostRuntime) -> Result<(), Fail> {
 fn a_pattern_with_large_counts(rt: HostRuntime) -> Result<(), Fail> {
     let window = vec![in rt.alloc(); b'a'; 65_536]?;
     let found = match_length(rt.alloc(), b"(a{100}){100}", &window);
-    assert_eq!(rt; found, Ok(Some(10_000)));
+    same(&rt, &found, &Ok(Some(10_000)), &"the letters");
     Ok(())
 }
 
-// One pattern gives as many matchers as are wanted, and each of them any number of answers.
+/// The lengths that two matchers of a pattern tell in turn.
+fn side_by_side(alloc: Global, pattern: &Pattern) -> Result<[Option<usize>; 5], AllocError> {
+    let mut first = pattern.matcher(alloc)?;
+    let mut second = pattern.matcher(alloc)?;
+    Ok([
+        first.match_length(b"12 3"),
+        second.match_length(b"x1"),
+        first.match_length(b"12345"),
+        first.match_length(b"x"),
+        second.match_length(b"7"),
+    ])
+}
+
+/// One pattern gives as many matchers as are wanted, and each of them any number of answers.
 #[test]
 fn matchers_side_by_side(rt: HostRuntime) -> Result<(), Fail> {
     let Ok(pattern) = Pattern::read(rt.alloc(), b"[0-9]+") else {
         return Err(Fail::new(format_args!("no pattern")));
     };
-    let mut first = pattern.matcher(rt.alloc())?;
-    let mut second = pattern.matcher(rt.alloc())?;
-    assert_eq!(rt; first.match_length(b"12 3"), Some(2));
-    assert_eq!(rt; second.match_length(b"x1"), None);
-    assert_eq!(rt; first.match_length(b"12345"), Some(5));
-    assert_eq!(rt; first.match_length(b"x"), None);
-    assert_eq!(rt; second.match_length(b"7"), Some(1));
+    let found = side_by_side(rt.alloc(), &pattern)?;
+    let wanted = [Some(2), None, Some(5), None, Some(1)];
+    same(&rt, &found, &wanted, &"the lengths");
     Ok(())
 }

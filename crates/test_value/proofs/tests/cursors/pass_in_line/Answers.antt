@@ -3,7 +3,7 @@ use Rattle.std.specs.Prelude.{count_by}
 use Rattle.std.proofs.lemmas.List.{take-take}
 use Rattle.ctd_source.specs.CursorState.{state_of}
 use Rattle.ctd_source.specs.TestData.{is_newline}
-use Rattle.ctd_source.proofs.tests.pass_in_line.Goals as goal
+use Rattle.test_value.proofs.tests.cursors.pass_in_line.Goals as goal
 
 pub take_in_line-requires-clause-in_line : goal.take_in_line-requires-clause-in_line
 take_in_line-requires-clause-in_line g c =
