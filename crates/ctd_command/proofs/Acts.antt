@@ -1,5 +1,5 @@
 -- What is done one after the other.
-use Rattle.std.proofs.Common.{◌≡◌, ℕ, true, false, refl, ap, sym, ◌∙◌, subst, Option, None, Result, Ok, Err, OnOk}
+use Rattle.std.proofs.Common.{◌≡◌, ℕ, Bool, true, false, refl, ap, sym, ◌∙◌, subst, Option, None, Result, Ok, Err, OnOk}
 use Rattle.std.specs.Prelude.{⊤, if◌then◌else◌}
 use Rattle.std.specs.Result.{IsErr, IsErrAnd}
 use Rattle.ctd_source.specs.declared.source.Source.{Ghosts}
@@ -44,6 +44,19 @@ does_answering g (Err failure) s e is = does_early failure s e (λ x t. done (g 
 sound_answering : {A B : Type 0} (P : Type 0) (g : A → B) (r : Result A CommandFailure) → OnOk r P → OnOk (answering g r) P
 sound_answering P g (Ok x) p = p
 sound_answering P g (Err failure) p = tt
+
+-- whether a byte is the one that is wanted has one answer; apart, since `cc` looks at all that a lemma is given
+answer_is : (wanted : ℕ) (next : Option ℕ) (answer : Bool) → Ok answer ≡ whether_byte wanted (Ok next) → is_byte wanted next ≡ answer
+answer_is wanted next answer is = cc
+
+no_answer : (wanted : ℕ) (fault : LookFault) (answer : Bool) → Ok answer ≡ whether_byte wanted (Err fault) → ⊥
+no_answer wanted fault answer is = cc
+
+fault_is : (wanted : ℕ) (fault other : LookFault) → Err fault ≡ whether_byte wanted (Err other) → fault ≡ other
+fault_is wanted fault other is = cc
+
+no_fault : (wanted : ℕ) (fault : LookFault) (next : Option ℕ) → Err fault ≡ whether_byte wanted (Ok next) → ⊥
+no_fault wanted fault next is = cc
 
 module _ {R : Type 0} {G : Ghosts R} where
   -- an answer alone
@@ -158,9 +171,9 @@ module _ {R : Type 0} {G : Ghosts R} where
   wanted_by : (wanted : ℕ) (reason : Reason) (a : Run R G) (seen now : Cursor R G) (next : Result (Option ℕ) LookFault) → IsSound a → GivesByte a.cursor seen next → Ok true ≡ whether_byte wanted next → MovesPast 1 seen now
       → Performs a (with_cursor a now) (Ok tt) (one_byte wanted reason)
   wanted_by wanted reason a seen now (Ok byte) sound looks is moves =
-      let wanted_is : is_byte wanted byte ≡ true = cc in
+      let wanted_is : is_byte wanted byte ≡ true = answer_is wanted byte true is in
       and_then (λ next. if is_byte wanted next then pass 1 else reject reason) (looked a seen byte looks.reads looks.fault (looks.answer sound)) (rw wanted_is (passed 1 (with_cursor a seen) now looks.fault moves))
-  wanted_by wanted reason a seen now (Err fault) sound looks is moves = cc
+  wanted_by wanted reason a seen now (Err fault) sound looks is moves = absurd (no_answer wanted fault true is)
 
   pub wanted_passed : (wanted : ℕ) (reason : Reason) (a : Run R G) (now : Cursor R G) → IsSound a → PassesIfEqual wanted a.cursor now (Ok true) → Performs a (with_cursor a now) (Ok tt) (one_byte wanted reason)
   wanted_passed wanted reason a now sound p = wanted_by wanted reason a p.looked now p.next sound p.looks p.answer (p.moves refl)
@@ -169,9 +182,9 @@ module _ {R : Type 0} {G : Ghosts R} where
   other_by : (wanted : ℕ) (reason : Reason) (a : Run R G) (seen : Cursor R G) (next : Result (Option ℕ) LookFault) → IsSound a → GivesByte a.cursor seen next → Ok false ≡ whether_byte wanted next
       → Performs {A = ⊤} a (with_cursor a seen) (Err (Rejected reason)) (one_byte wanted reason)
   other_by wanted reason a seen (Ok byte) sound looks is =
-      let other : is_byte wanted byte ≡ false = cc in
+      let other : is_byte wanted byte ≡ false = answer_is wanted byte false is in
       and_then (λ next. if is_byte wanted next then pass 1 else reject reason) (looked a seen byte looks.reads looks.fault (looks.answer sound)) (rw other (rejecting (with_cursor a seen) reason))
-  other_by wanted reason a seen (Err fault) sound looks is = cc
+  other_by wanted reason a seen (Err fault) sound looks is = absurd (no_answer wanted fault false is)
 
   pub other_rejected : (wanted : ℕ) (reason : Reason) (a : Run R G) (now : Cursor R G) → IsSound a → PassesIfEqual wanted a.cursor now (Ok false) → Performs {A = ⊤} a (with_cursor a now) (Err (Rejected reason)) (one_byte wanted reason)
   other_rejected wanted reason a now sound p =
@@ -181,9 +194,9 @@ module _ {R : Type 0} {G : Ghosts R} where
   -- a fault in its place
   unseen_by : (wanted : ℕ) (reason : Reason) (a : Run R G) (seen : Cursor R G) (fault : LookFault) (failure : CommandFailure) (next : Result (Option ℕ) LookFault) → IsSound a → failure ≡ Stopped (fault_of_look fault) → GivesByte a.cursor seen next → Err fault ≡ whether_byte wanted next
       → Performs {A = ⊤} a (with_cursor a seen) (Err failure) (one_byte wanted reason)
-  unseen_by wanted reason a seen fault failure (Ok byte) sound stops looks is = cc
+  unseen_by wanted reason a seen fault failure (Ok byte) sound stops looks is = absurd (no_fault wanted fault byte is)
   unseen_by wanted reason a seen fault failure (Err other) sound stops looks is =
-      let same : fault ≡ other = cc in
+      let same : fault ≡ other = fault_is wanted fault other is in
       early {B = ⊤} (λ next. if is_byte wanted next then pass 1 else reject reason) (looked_faulty a seen other failure looks.reads (stops ∙ ap (λ f. Stopped (fault_of_look f)) same) (looks.answer sound))
 
   pub byte_unseen : (wanted : ℕ) (reason : Reason) (a : Run R G) (now : Cursor R G) (fault : LookFault) (failure : CommandFailure) → IsSound a → failure ≡ Stopped (fault_of_look fault) → PassesIfEqual wanted a.cursor now (Err fault)

@@ -296,13 +296,13 @@ fn add_name(
     // A store keeps no allocator, so the indices tell where memory comes from.
     let alloc = *indices.allocator();
     let copied = Name::copy(alloc, name.as_slice())?;
-    let array = Array::of_one(indices, value)?;
+    let named = NamedArray {
+        name: copied,
+        array: Array::of_one(indices, value)?,
+    };
     list.reserve(1)?;
     positions.insert(alloc, name, list.len())?;
-    list.push_reserved(NamedArray {
-        name: copied,
-        array,
-    });
+    list.push_reserved(named);
     Ok(())
 }
 

@@ -47,6 +47,10 @@ IsRefusedAs words f = (kind : ErrorKind) × IsAmong kind (fault_of checker words
 abbrev pub IsTaken : List Text → Type 0
 IsTaken words = All IsUtf8 words × (fault_of checker words ≡ [])
 
+-- clap takes the words, and finds these values in them
+abbrev pub IsFoundIn : List Text → List Row → Type 0
+IsFoundIn words rows = IsTaken words × (rows ≡ matches_of checker words)
+
 -- a text is given, and spells no presets
 abbrev pub IsBadPreset : Option Text → Type 0
 IsBadPreset None = ⊥

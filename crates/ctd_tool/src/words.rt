@@ -1,11 +1,12 @@
 //! The words of the command line.
 
-ghost use Rattle.std.specs.Prelude.{◌≡◌, ◌⊎◌, All, IfErr, IfOk, IsUtf8, MatchResult, codes, map, option_map};
+ghost use Rattle.std.specs.Prelude.{◌≡◌, ◌⊎◌, All, IfErr, IfOk, IsUtf8, List, MatchResult, codes, is_some, map, option_map, true};
 ghost use Rattle.std.specs.Option.{SomeIff};
 ghost use Rattle.std.specs.Str.Parse.{digits_value};
-ghost use Rattle.clap.specs.Words.{first_of, found_of, kind_of, rows_of};
+ghost use Rattle.clap.specs.Matches.{first_value};
+ghost use Rattle.clap.specs.Words.{Text, first_of, found_of, kind_of, rows_of};
 ghost use Rattle.ctd_tool.specs.Settings.{ArePresetsOf, IsSetup, IsStepLimitOf, file_of, mode_by};
-ghost use Rattle.ctd_tool.specs.Usage.{IsBadPreset, IsBadSteps, IsUsageFault, IsStepNumber, fault_by_kind, is_on};
+ghost use Rattle.ctd_tool.specs.Usage.{IsBadPreset, IsBadSteps, IsFoundIn, IsStepNumber, IsUsageFault, fault_by_kind, is_on};
 
 use crate::command_line::matches_in;
 use crate::setup::{Setup, UsageFault};
@@ -140,6 +141,31 @@ fn file_named(alloc: Global, name: Option<&str>) -> Result<Option<Bytes>, AllocE
     }
 }
 
+/// The settings that clap found in the words. The faults are those of `settings` that come after clap's own.
+fn setup_of(alloc: Global, matches: &ArgMatches<'_>) -> Result<Setup, UsageFault>
+    requires named { is_some (first_value (found_of matches.now) (codes "PROGRAM")) ≡ true }
+    ensures setup { IfOk result (λ s. (words : List Text) → IsFoundIn words (rows_of (found_of matches.now)) → IsSetup words s) }
+    ensures fault { IfErr result (λ f. (words : List Text) → IsFoundIn words (rows_of (found_of matches.now)) → IsUsageFault words f) }
+{
+    if is_set(matches, "generate") {
+        return Err(UsageFault::Generate);
+    }
+    let presets = presets_of(alloc, value_of(matches, "define"))?;
+    let steps = step_limit(value_of(matches, "max-steps"))?;
+    let program = value_of(matches, "PROGRAM").unwrap_or("");
+    Ok(Setup {
+        program: Bytes::copy(alloc, program.as_bytes())?,
+        testdata: file_named(alloc, value_of(matches, "TESTDATA"))?,
+        presets,
+        mode: mode_of(matches),
+        quiet: is_set(matches, "quiet"),
+        limits: Limits {
+            steps,
+            bytes: BYTES,
+        },
+    })
+}
+
 /// The settings that the words ask for: after the program's own name the options, PROGRAM, and perhaps TESTDATA.
 ///
 /// The first of these that applies is the fault: a word that is not UTF-8 (Words); what clap refuses, or answers with the
@@ -149,25 +175,8 @@ pub fn settings(alloc: Global, words: &[Bytes]) -> Result<Setup, UsageFault>
     ensures fault { IfErr result (IsUsageFault words.now) }
 {
     let texts = texts_of(alloc, words)?;
-    let matches = match matches_in(alloc, texts.as_slice()) {
-        Ok(matches) => matches,
-        Err(error) => return Err(fault_for(&error)),
-    };
-    if is_set(&matches, "generate") {
-        return Err(UsageFault::Generate);
+    match matches_in(alloc, texts.as_slice()) {
+        Ok(matches) => setup_of(alloc, &matches),
+        Err(error) => Err(fault_for(&error)),
     }
-    let presets = presets_of(alloc, value_of(&matches, "define"))?;
-    let steps = step_limit(value_of(&matches, "max-steps"))?;
-    let program = value_of(&matches, "PROGRAM").unwrap_or("");
-    Ok(Setup {
-        program: Bytes::copy(alloc, program.as_bytes())?,
-        testdata: file_named(alloc, value_of(&matches, "TESTDATA"))?,
-        presets,
-        mode: mode_of(&matches),
-        quiet: is_set(&matches, "quiet"),
-        limits: Limits {
-            steps,
-            bytes: BYTES,
-        },
-    })
 }

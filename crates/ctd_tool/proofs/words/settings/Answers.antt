@@ -1,34 +1,15 @@
-use Rattle.std.proofs.Common.{◌≡◌, ◌∙◌, ap, sym, map, option_map, Option, None, Some, refl, true, false, is_some, unwrap_or, List, ℕ, subst, codes}
+use Rattle.std.proofs.Common.{◌≡◌, ◌∙◌, ap, sym, map, List, ℕ}
+use Rattle.std.proofs.lemmas.Result.{IfOk-weaker}
 use Rattle.std.specs.Borrow.{Bor}
-use Rattle.clap.specs.Words.{Text, first_of, found_of, fault_of, matches_of, rows_of}
+use Rattle.clap.specs.Words.{Text, fault_of, found_of, matches_of, rows_of}
 use Rattle.ctd_tool.specs.CommandLine.{checker}
-use Rattle.ctd_tool.specs.Settings.{ArePresetsOf, IsStepLimitOf, file_of, mode_by}
-use Rattle.clap.proofs.WalkLemmas.{first_value-rows}
-use Rattle.ctd_tool.specs.Usage.{is_on, value_in}
+use Rattle.ctd_tool.specs.Usage.{IsTaken}
 use Rattle.ctd_tool.proofs.words.settings.Goals as goal
 
--- a value that is there is the text that is lent
-lent : (o : Option (Bor (List ℕ))) (v : Option Text) (other : Bor (List ℕ)) → option_map (λ t. t.now) o ≡ v → is_some v ≡ true → v ≡ Some (unwrap_or o other).now
-lent None v other is given = let none : is_some v ≡ false = ap is_some (sym is) in cc
-lent (Some t) v other is given = sym is
-
-pub returns-clause-setup : goal.returns-clause-setup
-returns-clause-setup c =
+pub returns-in-Ok-clause-setup : goal.returns-in-Ok-clause-setup
+returns-in-Ok-clause-setup c =
     let words : List Text = c.args.words.now in
     let words_are : map (λ (t : Bor (List ℕ)). t.now) c.as_slice.result.now ≡ words = ap (map (λ (t : Bor (List ℕ)). t.now)) c.as_slice.ensures.value ∙ c.in_ok-texts.ensures.ok in
     let rows : rows_of (found_of c.in-Ok.matches) ≡ matches_of checker words = c.in-Ok.ensures.found ∙ ap (matches_of checker) words_are in
-    let named : is_some (value_in words (codes "PROGRAM")) ≡ true =
-    ap is_some (sym (first_value-rows (found_of c.in-Ok.matches) (codes "PROGRAM") ∙ ap (first_of (codes "PROGRAM")) rows)) ∙ c.in-Ok.ensures.named in
-    let copied = c.in_ok-copy.ensures.equal ∙ c.as_bytes.ensures.value ∙ ap (λ (t : Bor (List ℕ)). t.now) c.unwrap_or-program.ensures in
-    record {
-      taken = (c.in_ok-texts.ensures.text, sym (ap (fault_of checker) words_are) ∙ c.in-Ok.ensures.fault);
-      checks = sym (c.is_set.ensures ∙ ap (is_on (codes "generate")) rows) ∙ c.if-is_set.false;
-      program = subst (λ name. value_in words (codes "PROGRAM") ≡ Some name) (sym copied)
-          (lent c.value_of-3.result _ _ (c.value_of-3.ensures ∙ ap (first_of (codes "PROGRAM")) rows) named);
-      testdata = c.in_ok-file_named.ensures ∙ ap file_of (c.value_of-4.ensures ∙ ap (first_of (codes "TESTDATA")) rows);
-      presets = subst (λ v. ArePresetsOf v c.in_ok-presets.presets) (c.value_of.ensures ∙ ap (first_of (codes "define")) rows) c.in_ok-presets.ensures;
-      mode = c.mode_of.ensures ∙ ap (λ r. mode_by (is_on (codes "whitespace-ok") r)) rows;
-      quiet = c.is_set-2.ensures ∙ ap (is_on (codes "quiet")) rows;
-      bytes = refl;
-      steps = subst (λ v. IsStepLimitOf v c.in_ok-steps.steps) (c.value_of-2.ensures ∙ ap (first_of (codes "max-steps")) rows) c.in_ok-steps.ensures;
-    }
+    let taken : IsTaken words = (c.in_ok-texts.ensures.text, sym (ap (fault_of checker) words_are) ∙ c.in-Ok.ensures.fault) in
+    IfOk-weaker c.setup_of.result _ _ (λ s by_words. by_words words (taken, rows)) c.setup_of.ensures.setup

@@ -1,4 +1,5 @@
 use Rattle.std.proofs.Common.{ap, sym, subst, ◌∙◌, [], ◌∷◌, ◌++◌, ◌+◌, map, drop, arith}
+use Rattle.std.proofs.lemmas.Result.{IfOk-from_err}
 use Rattle.std.specs.Option.{option_copied, unwrap_or}
 use Rattle.std.specs.Ordering.{is_lt}
 use Rattle.ctd_store.specs.Showing.{entry, not_among}
@@ -40,3 +41,15 @@ loop-next-preserved c =
 
 pub returns-clause-once : goal.returns-clause-once
 returns-clause-once c = subst HasEachOnce c.self.view_is (laid_each_once c.self.inside.base c.self.inside.dense.items (seen (λ k. k.items) c.self.inside.rest.entries) c.self.invariant)
+
+pub returns-in_err-entries : goal.returns-in_err-entries
+returns-in_err-entries c = record { added = IfOk-from_err c.from_residual.result _ c.from_residual.ensures.0; once = IfOk-from_err c.from_residual.result _ c.from_residual.ensures.0 }
+
+pub returns-in_err-entries-2 : goal.returns-in_err-entries-2
+returns-in_err-entries-2 c = record { added = IfOk-from_err c.from_residual-in_err-entries-2.result _ c.from_residual-in_err-entries-2.ensures.0; once = IfOk-from_err c.from_residual-in_err-entries-2.result _ c.from_residual-in_err-entries-2.ensures.0 }
+
+pub returns-in_err-entries-3 : goal.returns-in_err-entries-3
+returns-in_err-entries-3 c = record { added = IfOk-from_err c.from_residual-in_err-entries-3.result _ c.from_residual-in_err-entries-3.ensures.0; once = IfOk-from_err c.from_residual-in_err-entries-3.result _ c.from_residual-in_err-entries-3.ensures.0 }
+
+pub returns-in_err-entries-4 : goal.returns-in_err-entries-4
+returns-in_err-entries-4 c = record { added = IfOk-from_err c.from_residual-in_err-entries-4.result _ c.from_residual-in_err-entries-4.ensures.0; once = IfOk-from_err c.from_residual-in_err-entries-4.result _ c.from_residual-in_err-entries-4.ensures.0 }
