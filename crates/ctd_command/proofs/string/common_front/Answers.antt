@@ -1,4 +1,4 @@
-use Rattle.std.proofs.Common.{◌≡◌, take}
+use Rattle.std.proofs.Common.{◌≡◌, take, rules}
 use Rattle.std.proofs.lemmas.Bool.Decides.{Decides-eqb}
 use Rattle.std.proofs.lemmas.Slice.Eq.{slice_eq-Decides}
 use Rattle.ctd_command.proofs.Strings.{all_agree}
@@ -13,3 +13,6 @@ returns-then-is_in_line-clause-len c =
       | then-is_in_line-via-else-is_in_line+then-eq w ↦ (slice_eq-Decides Decides-eqb _ _ w.eq.result w.eq.ensures).0 w.if-eq.true
     ] in
     all_agree c.min-most.result c.args.wanted.now c.args.bytes.now c.min-most.ensures same
+
+pub returns-clause-len : goal.returns-clause-len
+returns-clause-len c = search rules
