@@ -1,4 +1,4 @@
-use Rattle.std.proofs.Common.{◌≤◌, ◌-◌, ◌++◌, ℕ, List, length, take, arith, length-append, length-take, ◌∙◌, IfErr, Result, Ok, Err}
+use Rattle.std.proofs.Common.{◌≤◌, ◌-◌, ◌++◌, ℕ, List, length, take, arith, length-append, length-take, ◌∙◌, IfErr, Result, Ok, Err, rules}
 use Rattle.ctd_source.specs.ReadingOn.{gave_nothing}
 use Rattle.ctd_plan.proofs.PulledText.{going_after, pulled_behind}
 use Rattle.ctd_plan.proofs.text.receive.Goals as goal
@@ -31,3 +31,6 @@ returns-in_err-extend_from_slice-in-Ok-clause-memory g c =
       within_most c.loop-piece.bytes.items c.pull_most.new.piece c.in-Ok.more c.args.most i.within (omega (arith, c.in-Ok.ensures.most, c.len-in-loop-piece.ensures)),
       pulled_behind g.P.Source _ _ _ _ c.pull_most.new.piece c.in-Ok.more i.going c.in-Ok.ensures.bound c.in-Ok.ensures.given c.in-Ok.ensures.bytes (c.in-Ok.ensures.end i.going) i.gave,
     )
+
+pub returns-clause-ended : goal.returns-clause-ended
+returns-clause-ended g c = search rules

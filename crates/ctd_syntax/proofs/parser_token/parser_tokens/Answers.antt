@@ -1,4 +1,4 @@
-use Rattle.std.proofs.Common.{◌≡◌, ℕ, ◌+◌, ◌<◌, List, [], ◌∷◌, ◌++◌, length, drop, get_or, add-one, sym, ap, ◌∙◌, append_assoc, arith}
+use Rattle.std.proofs.Common.{◌≡◌, ℕ, ◌+◌, ◌<◌, List, [], ◌∷◌, ◌++◌, length, drop, get_or, add-one, sym, ap, ◌∙◌, append_assoc, arith, rules}
 use Rattle.std.proofs.Math.Seq.{drop-cons}
 use Rattle.std.proofs.lemmas.List.{map-append}
 use Rattle.ctd_token.specs.declared.token.Token.{Token}
@@ -20,3 +20,6 @@ loop-token-preserved c = record {
   same = rw (c.in_ok-push.ensures.items, map-append, c.in_ok-number_name.ensures.same, c.give_number-token.ensures.same, c.give_number-token.ensures.counted, c.parser_token_of.ensures, c.token-item.is)
       (one_more c.args.text.now c.loop-token.before c.loop-token.token-index c.args.tokens.now _ _ _ c.loop-token-test.true c.loop-token.invariant.same);
 }
+
+pub loop-token-init : goal.loop-token-init
+loop-token-init c = search rules

@@ -1,4 +1,4 @@
-use Rattle.std.proofs.Common.{◌≡◌, ◌-◌, arith, take, drop, length, length-drop}
+use Rattle.std.proofs.Common.{◌≡◌, ◌-◌, arith, take, drop, length, length-drop, rules}
 use Rattle.std.proofs.lemmas.List.{take_all}
 use Rattle.ctd_tool.proofs.TakenLemmas.{appends-next}
 use Rattle.ctd_tool.proofs.report.write_text.Goals as goal
@@ -16,3 +16,6 @@ loop-done-preserved g c =
       taken = appends-next _ _ _ text done _ c.loop-done.invariant.taken first;
       works = c.in_ok-done.ensures.failed;
     }
+
+pub returns-clause-failed : goal.returns-clause-failed
+returns-clause-failed g c = search rules

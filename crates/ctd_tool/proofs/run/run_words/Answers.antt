@@ -23,3 +23,6 @@ returns g c =
           (let fault_is : c.check_files-answer.result.answer ≡ Err Write = search rules in
           EndsWithReport-weaker _ _ _ _ _ (λ report files. inl (c.in-Ok.setup, setup_is, files)) (BreaksOff-EndsWithReport _ _ _ (rw fault_is at written)))
     ]
+
+pub returns-in-Err : goal.returns-in-Err
+returns-in-Err g c = search rules

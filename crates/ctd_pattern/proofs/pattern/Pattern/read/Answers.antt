@@ -1,4 +1,4 @@
-use Rattle.std.proofs.Common.{⊎_elim, inl, inr}
+use Rattle.std.proofs.Common.{⊎_elim, inl, inr, rules}
 use Rattle.regex_syntax.specs.Verdict.{Refuses}
 use Rattle.regex.specs.Patterns.{Reads}
 use Rattle.ctd_pattern.proofs.WrittenPatterns.{is_read}
@@ -24,3 +24,12 @@ returns-in-Err-CompiledTooBig-clause-too_large c _ =
     let text = c.in-Ok.ensures.cases in
     let found = rw (c.in-Err-CompiledTooBig.field-0-is, text.0) at c.in-Err-CompiledTooBig.ensures.kind in
     (text.1, is_read _ _ found.2)
+
+pub returns-in_default-clause-not_text : goal.returns-in_default-clause-not_text
+returns-in_default-clause-not_text c = search rules
+
+pub returns-in_default-clause-not_pattern : goal.returns-in_default-clause-not_pattern
+returns-in_default-clause-not_pattern c = search rules
+
+pub returns-in-Err-CompiledTooBig-clause-not_pattern : goal.returns-in-Err-CompiledTooBig-clause-not_pattern
+returns-in-Err-CompiledTooBig-clause-not_pattern c = search rules
