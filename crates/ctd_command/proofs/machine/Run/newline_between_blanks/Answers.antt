@@ -1,3 +1,4 @@
+use Rattle.std.proofs.Common.{rules}
 use Rattle.ctd_command.proofs.Acts.{and_then, early_by}
 use Rattle.ctd_command.proofs.machine.Run.newline_between_blanks.Goals as goal
 
@@ -8,4 +9,4 @@ pub returns-in_err-one_byte : goal.returns-in_err-one_byte
 returns-in_err-one_byte g c = record { performs = and_then _ c.in_ok-skip_blanks.ensures.performs (early_by _ _ c.from_residual-in_err-one_byte.ensures c.in_err-one_byte.ensures.performs) }
 
 pub returns : goal.returns
-returns g c = record { performs = and_then _ c.in_ok-skip_blanks.ensures.performs (and_then _ c.in_ok-one_byte.ensures.performs c.skip_blanks-2.ensures.performs) }
+returns g c = record { performs = and_then _ c.in_ok-skip_blanks.ensures.performs (and_then _ c.in_ok-one_byte.ensures.performs (search rules)) }
