@@ -1,6 +1,7 @@
 //! Values that are not copied.
 
-ghost use Rattle.std.specs.Prelude.{◌≡◌, true, false, IfOk, IfSome};
+ghost use Rattle.std.specs.Int.{w64};
+ghost use Rattle.std.specs.Prelude.{◌≡◌, ◌≤◌, ℤ, ℕ, List, length, true, false, FitsSigned, IfNone, IfOk, IfSome};
 ghost use Rattle.ctd_store.specs.Lent.{value_lent};
 ghost use Rattle.ctd_store.specs.Order.{value_cmp};
 ghost use Rattle.ctd_store.specs.declared.value.Value.TheVariants as values;
@@ -40,11 +41,15 @@ impl<'v> Lent<'v> {
         }
     }
 
-    /// Takes the place of a value of its kind, where that takes no memory, and tells whether it did; else that is as it was.
+    /// Takes the place of a value of its kind, where that takes no memory, and tells whether it did; else that is as it was. A number takes
+    /// none, and neither does a string that is no longer than the one in its place.
     #[inline(always)]
     pub fn replaces(self, value: &mut Value) -> bool
         ensures done { result ≡ true → value.new ≡ value_lent self.entry }
         ensures stays { result ≡ false → value.new ≡ value.old }
+        ensures number { (n m : ℤ) → value_lent self.entry ≡ values.Int n → value.old ≡ values.Int m → result ≡ true }
+        ensures text { (bytes stored : List ℕ) → value_lent self.entry ≡ values.Text bytes → value.old ≡ values.Text stored →
+            length bytes ≤ length stored → result ≡ true }
     {
         match (self, value) {
             (Lent::Int(n), Value::Int(stored)) => {
@@ -56,10 +61,11 @@ impl<'v> Lent<'v> {
         }
     }
 
-    /// The number, where it has 64 bits.
+    /// The number, where it is one and has 64 bits.
     #[inline(always)]
     pub fn small(self) -> Option<i64>
         ensures value { IfSome result (λ n. value_lent self.entry ≡ values.Int n) }
+        ensures none { IfNone result ((n : ℤ) → value_lent self.entry ≡ values.Int n → FitsSigned w64 n → ⊥) }
     {
         match self {
             Lent::Int(n) => narrowed(n),

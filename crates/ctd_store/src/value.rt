@@ -1,6 +1,7 @@
 //! Values, and the keys of variables.
 
-ghost use Rattle.std.specs.Prelude.{◌≡◌, IfOk, IfSome};
+ghost use Rattle.std.specs.Int.{w64};
+ghost use Rattle.std.specs.Prelude.{◌≡◌, FitsSigned, IfNone, IfOk, IfSome};
 
 use ctd_token::{Bytes, Name};
 use std::alloc::{AllocError, Global};
@@ -29,6 +30,7 @@ impl Value {
 #[inline(always)]
 pub fn narrowed(n: i128) -> Option<i64>
     ensures value { IfSome result (λ narrow. narrow ≡ n) }
+    ensures none { IfNone result (FitsSigned w64 n → ⊥) }
 {
     let low = ((n.cast_unsigned() % LOW) as u64).cast_signed();
     if i128::from(low) == n {
