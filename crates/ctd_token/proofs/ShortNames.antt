@@ -1,6 +1,7 @@
 -- Two names of one code are the same name.
-use Rattle.std.proofs.Common.{◌≡◌, ℕ, suc, ◌+◌, ◌*◌, ◌<◌, List, [], ◌∷◌, refl, sym, arith, get_or}
-use Rattle.ctd_token.specs.ShortNames.{name_code}
+use Rattle.std.proofs.Common.{◌≡◌, ℕ, zero, suc, ◌+◌, ◌*◌, ◌^◌, ◌<◌, ◌≤◌, List, [], ◌∷◌, length, refl, sym, arith, get_or}
+use Rattle.std.specs.Prelude.{Option, None, Some, IfNone}
+use Rattle.ctd_token.specs.ShortNames.{name_code, IsShort}
 
 -- the first digit of a number in base 257 and what stands before it are determined by the number
 first_digit : (x y m n : ℕ) → x < 256 → y < 256 → x + 1 + 257 * m ≡ y + 1 + 257 * n → x ≡ y
@@ -21,3 +22,25 @@ same_name (x ∷ xs) (y ∷ ys) below under same =
     let others : name_code xs ≡ name_code ys = other_digits x y (name_code xs) (name_code ys) (below 0) (under 0) same in
     let rest : xs ≡ ys = same_name xs ys (λ k. below (suc k)) (λ k. under (suc k)) others in
     cc
+
+-- the code of a name of at most n bytes has n digits
+pub code_within : (n : ℕ) (bytes : List ℕ) → ((k : ℕ) → get_or bytes k 0 < 256) → length bytes ≤ n → name_code bytes < 257 ^ n
+code_within zero [] below few = omega arith
+code_within zero (byte ∷ bytes) below few = absurd (omega (arith, few))
+code_within (suc n) [] below few = let some : 0 < 257 ^ n = code_within n [] below (omega arith) in omega (arith, some)
+code_within (suc n) (byte ∷ bytes) below few =
+    let rest : name_code bytes < 257 ^ n = code_within n bytes (λ k. below (suc k)) (omega (arith, few)) in
+    omega (arith, below 0, rest)
+
+-- so a short one has one, which has 64 bits and is neither 0 nor the greatest
+pub short_code_fits : (bytes : List ℕ) → ((k : ℕ) → get_or bytes k 0 < 256) → IsShort bytes → suc (name_code bytes) < 2 ^ 64
+short_code_fits bytes below short = let within : name_code bytes < 257 ^ 7 = code_within 7 bytes below short.1 in omega (arith, within)
+
+pub short_code_some : (bytes : List ℕ) → IsShort bytes → name_code bytes ≡ 0 → ⊥
+short_code_some [] short none = omega (arith, short.0)
+short_code_some (byte ∷ bytes) short none = no_digits byte (name_code bytes) (sym none)
+
+-- what is said where there is none
+pub where_none : {A P : Type 0} (r : Option A) → P → IfNone r P
+where_none None p = p
+where_none (Some x) p = tt

@@ -7,5 +7,8 @@ pub const PROGRAM_LIMIT: usize = 1_048_576;
 /// blocks that are open, and the operators inside each of them.
 pub const NESTING_LIMIT: u32 = 200;
 
+/// How many bytes a short name has at most.
+pub(crate) const SHORT_NAME: usize = 7;
+
 /// The code that no name has.
 pub(crate) const NO_CODE: u64 = u64::MAX;

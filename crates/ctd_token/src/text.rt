@@ -1,10 +1,10 @@
 //! Places in a program, strings of bytes, and names.
 
-ghost use Rattle.std.specs.Prelude.{◌≡◌, ◌≢◌, ◌≤◌, List, ℕ, length, true, false, IfOk, IfSome};
-ghost use Rattle.ctd_token.specs.ShortNames.{name_code, AreCodes};
+ghost use Rattle.std.specs.Prelude.{◌≡◌, ◌≢◌, ◌≤◌, ◌^◌, List, ℕ, length, true, false, IfOk, IfNone, IfSome};
+ghost use Rattle.ctd_token.specs.ShortNames.{name_code, AreCodes, IsShort};
 ghost use Rattle.ctd_token.specs.declared.limits.TheConstants.{NO_CODE};
 
-use crate::limits::NO_CODE;
+use crate::limits::{NO_CODE, SHORT_NAME};
 use std::alloc::{AllocError, Global};
 use std::marker::Model;
 
@@ -74,12 +74,10 @@ struct Codes {
     wanted: u64,
 }
 
-/// How many bytes a short name has at most.
-const SHORT: usize = 7;
-
 /// The code of some bytes, where it has 64 bits.
 fn code_of(bytes: &[u8]) -> Option<u64>
-    ensures { IfSome result (λ code. code ≡ name_code bytes.now) }
+    ensures some { IfSome result (λ code. code ≡ name_code bytes.now) }
+    ensures none { IfNone result (2 ^ 64 ≤ name_code bytes.now) }
 {
     match bytes {
         [] => Some(0),
@@ -91,9 +89,10 @@ fn code_of(bytes: &[u8]) -> Option<u64>
 
 /// The code of a short name, where it is not one of the two that stand for none.
 fn short_code(bytes: &[u8]) -> Option<u64>
-    ensures { IfSome result (λ code. (code ≡ name_code bytes.now) × (code ≢ 0) × (code ≢ NO_CODE)) }
+    ensures some { IfSome result (λ code. (code ≡ name_code bytes.now) × (code ≢ 0) × (code ≢ NO_CODE)) }
+    ensures none { IfNone result (IsShort bytes.now → ⊥) }
 {
-    if bytes.len() > SHORT {
+    if bytes.len() > SHORT_NAME {
         return None;
     }
     match code_of(bytes)? {
@@ -124,6 +123,7 @@ fn is_wanted(codes: Codes, bytes: &[u8], others: Codes, other_bytes: &[u8]) -> b
     requires codes { AreCodes codes.own codes.wanted bytes.now }
     requires others { AreCodes others.own others.wanted other_bytes.now }
     ensures same { result ≡ true → bytes.now ≡ other_bytes.now }
+    ensures short { IsShort bytes.now → bytes.now ≡ other_bytes.now → result ≡ true }
 {
     codes.own == others.wanted
 }
@@ -191,10 +191,12 @@ impl Name {
         self.bytes.as_slice()
     }
 
-    /// Whether another name is the same, told without a look at the bytes where both are short; else it is false, which says nothing.
+    /// Whether another name is the same, told without a look at the bytes of either, where this one has one to seven; of any other, false
+    /// says nothing.
     #[inline(always)]
     pub fn is_same_short(&self, other: &Name) -> bool
         ensures same { result ≡ true → self.now ≡ other.now }
+        ensures short { IsShort self.now → self.now ≡ other.now → result ≡ true }
     {
         is_wanted(self.codes, self.as_slice(), other.codes, other.as_slice())
     }
