@@ -6,7 +6,7 @@ use Rattle.ctd_syntax.specs.declared.keyword.Keyword.{Keyword}
 use Rattle.ctd_syntax.specs.declared.keyword.Keyword.TheVariants as words
 use Rattle.ctd_syntax.specs.Lexeme.{Lexeme, keyword}
 use Rattle.ctd_tree.specs.Tree
-use Rattle.ctd_tree.specs.Tree.{ExprTree, VarTree, TestTree, CommandTree, CommandList, Separator}
+use Rattle.ctd_tree.specs.Tree.{CommandTree, CommandList, Separator}
 use Rattle.ctd_syntax.specs.Grammar.{IsExpr, IsNames, IsTest, IsTarget, IsTargetEnd, IsAssignments, IsCommand, IsCommands}
 use Rattle.ctd_syntax.specs.Front.{Spelling, Following, IsBefore, IsBeforeWord, IsAfter, IsBuilt, IsPair}
 

@@ -1,6 +1,6 @@
--- Two names of one code are the same name.
+-- Names and their codes: two names of one code are the same, and a short name has a code of 64 bits that stands for no other thing.
 use Rattle.std.proofs.Common.{◌≡◌, ℕ, zero, suc, ◌+◌, ◌*◌, ◌^◌, ◌<◌, ◌≤◌, List, [], ◌∷◌, length, refl, sym, arith, get_or}
-use Rattle.std.specs.Prelude.{Option, None, Some, IfNone}
+use Rattle.ctd_token.specs.declared.limits.TheConstants.{SHORT_NAME}
 use Rattle.ctd_token.specs.ShortNames.{name_code, IsShort}
 
 -- the first digit of a number in base 257 and what stands before it are determined by the number
@@ -34,13 +34,8 @@ code_within (suc n) (byte ∷ bytes) below few =
 
 -- so a short one has one, which has 64 bits and is neither 0 nor the greatest
 pub short_code_fits : (bytes : List ℕ) → ((k : ℕ) → get_or bytes k 0 < 256) → IsShort bytes → suc (name_code bytes) < 2 ^ 64
-short_code_fits bytes below short = let within : name_code bytes < 257 ^ 7 = code_within 7 bytes below short.1 in omega (arith, within)
+short_code_fits bytes below short = let within : name_code bytes < 257 ^ SHORT_NAME = code_within SHORT_NAME bytes below short.1 in omega (arith, within)
 
 pub short_code_some : (bytes : List ℕ) → IsShort bytes → name_code bytes ≡ 0 → ⊥
 short_code_some [] short none = omega (arith, short.0)
 short_code_some (byte ∷ bytes) short none = no_digits byte (name_code bytes) (sym none)
-
--- what is said where there is none
-pub where_none : {A P : Type 0} (r : Option A) → P → IfNone r P
-where_none None p = p
-where_none (Some x) p = tt

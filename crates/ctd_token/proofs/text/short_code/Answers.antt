@@ -1,9 +1,9 @@
 use Rattle.std.proofs.Common.{arith, inl, inr, sym, ◌∙◌}
-use Rattle.ctd_token.proofs.ShortNames.{short_code_fits, short_code_some, where_none}
+use Rattle.ctd_token.proofs.ShortNames.{short_code_fits, short_code_some}
 use Rattle.ctd_token.proofs.text.short_code.Goals as goal
 
 pub returns-in_err-code-clause-none : goal.returns-in_err-code-clause-none
-returns-in_err-code-clause-none c = where_none c.from_residual.result (λ short.
+returns-in_err-code-clause-none c = rw c.from_residual.ensures (λ short.
     let fits = short_code_fits c.args.bytes.now (λ k. omega (arith, c.type_inv.bytes k)) short in
     omega (arith, fits, c.in_err-code.ensures.none))
 

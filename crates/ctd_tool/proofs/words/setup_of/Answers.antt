@@ -1,6 +1,6 @@
-use Rattle.std.proofs.Common.{◌≡◌, ◌∙◌, ap, sym, map, option_map, Option, None, Some, refl, true, false, is_some, unwrap_or, List, ℕ, subst, codes}
+use Rattle.std.proofs.Common.{◌≡◌, ◌∙◌, ap, sym, option_map, Option, None, Some, refl, true, false, is_some, unwrap_or, List, ℕ, subst, codes}
 use Rattle.std.specs.Borrow.{Bor}
-use Rattle.clap.specs.Words.{Text, first_of, found_of, fault_of, matches_of, rows_of}
+use Rattle.clap.specs.Words.{Text, first_of, found_of}
 use Rattle.ctd_tool.specs.Settings.{ArePresetsOf, IsStepLimitOf, file_of, mode_by}
 use Rattle.clap.proofs.WalkLemmas.{first_value-rows}
 use Rattle.ctd_tool.specs.Usage.{is_on, value_in}
