@@ -11,4 +11,5 @@ pub mod CommandReads
 pub mod Blocks
 pub mod Numbers
 pub mod Parsing
+pub mod TokensRead
 pub mod TestGroups

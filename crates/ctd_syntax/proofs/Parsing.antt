@@ -1,17 +1,14 @@
 -- What reading the commands of a whole text says of the text.
-use Rattle.std.proofs.Common.{◌≡◌, ℕ, List, [], ◌∷◌, ◌++◌, length, Option, Some, None, true, false, refl, sym, ap, ◌∙◌, subst, append-nil, arith, eqb-true}
-use Rattle.std.specs.Prelude.{map, IsSome, ◌==◌}
+use Rattle.std.proofs.Common.{◌≡◌, ℕ, List, [], ◌∷◌, ◌++◌, length, None, true, false, refl, sym, ap, ◌∙◌, subst, append-nil, arith, eqb-true}
+use Rattle.std.specs.Prelude.{map, ◌==◌}
 use Rattle.ctd_syntax.specs.Lexeme.{Lexeme}
 use Rattle.ctd_tree.specs.Tree.{CommandList}
 use Rattle.ctd_syntax.specs.Front.{Found, NotFound}
 use Rattle.ctd_syntax.specs.Grammar.{IsCommands}
 use Rattle.ctd_syntax.specs.CommandWords.{CommandsEnd}
 use Rattle.ctd_syntax.specs.Nesting.{start, too_deep}
-use Rattle.ctd_syntax.specs.Reading.{IsCut, IsNoProgram, IsFault, Parses, Spells, lexemes}
-use Rattle.ctd_token.specs.declared.text.Place.{Place}
+use Rattle.ctd_syntax.specs.Reading.{IsCut, Parses, Spells, lexemes}
 use Rattle.ctd_token.specs.declared.token.Token.{Token}
-use Rattle.ctd_token.specs.declared.fault.LoadKind.{LoadKind}
-use Rattle.ctd_token.specs.declared.fault.LoadKind.TheVariants.{Syntax}
 use Rattle.ctd_token.proofs.UniqueTokens.{same_cut}
 use Rattle.ctd_syntax.proofs.Blocks.{blocks_within}
 
@@ -40,13 +37,9 @@ left_over program ts tree t after rest f some other w =
 pub unspelled : (program : List ℕ) (ts : List Token) → NotFound IsCommands CommandsEnd (lexemes program ts) → (other : CommandList) → ¬ (Spells program ts other)
 unspelled program ts not other w = not (lexemes program ts) [] other (sym (append-nil (lexemes program ts))) refl w
 
--- a text that spells no program has the fault Syntax, at some place
-pub no_program : (program : List ℕ) (ts : List Token) (kind : LoadKind) (place : Option Place) → IsCut program ts → too_deep start (lexemes program ts) ≡ None → ((tree : CommandList) → ¬ (Spells program ts tree)) → kind ≡ Syntax → IsSome place → IsFault program kind place
-no_program program ts kind place cut shallow none is some = subst (λ k. IsFault program k place) (sym is) (with_place place some)
-  where
-    with_place : (place : Option Place) → IsSome place → IsNoProgram program place
-    with_place None some = absurd (cc)
-    with_place (Some at) some = record { tokens = ts; is_cut = cut; shallow = shallow; none = none; some_place = at; place_is = refl }
+-- what holds of the tokens of a text holds of all that it is cut into
+pub of_any_cut : (program : List ℕ) (ts : List Token) (P : List Token → Type 0) → IsCut program ts → P ts → (us : List Token) → IsCut program us → P us
+of_any_cut program ts P cut p us other = subst P (same_cut program 0 program ts us cut.cut other.cut) p
 
 -- a list without elements, and one with some
 pub nothing : {X Y : Type 0} (f : X → Y) (xs : List X) → (length xs == 0) ≡ true → map f xs ≡ []

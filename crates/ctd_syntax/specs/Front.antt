@@ -7,18 +7,57 @@ use Rattle.ctd_syntax.specs.declared.front.ParseError.TheVariants.{Syntax, Memor
 use Rattle.ctd_syntax.specs.declared.keyword.Keyword.{Keyword}
 use Rattle.ctd_token.specs.declared.text.Place.{Place}
 use Rattle.ctd_token.specs.declared.token.Mark.{Mark}
+use Rattle.ctd_token.specs.declared.token.Token.{Token}
+use Rattle.ctd_token.specs.declared.token.TokenKind.TheVariants as tokens
 use Rattle.ctd_token.specs.declared.token.Mark.TheVariants.{Assign}
-use Rattle.ctd_tree.specs.Tree.{ExprTree, VarTree}
+use Rattle.ctd_tree.specs.Tree.{ExprTree, VarTree, CommandList}
 use Rattle.ctd_syntax.specs.Grammar.{IsExpr, IsTarget}
-use Rattle.ctd_syntax.specs.Lexeme.{Lexeme, mark}
+use Rattle.ctd_token.specs.Cut.{TokenOrFault, token_at}
+use Rattle.ctd_syntax.specs.Lexeme.{Lexeme, mark, span_of}
+use Rattle.ctd_syntax.specs.Nesting.{start, too_deep}
+use Rattle.ctd_syntax.specs.Reading.{IsCut, Spells, lexemes}
+
+-- the string that a literal stands for; of other bytes the empty one
+abbrev pub string_found : TokenOrFault → List ℕ
+string_found (Ok (tokens.Text bytes, n)) = bytes
+string_found (Ok (tokens.Word, n)) = []
+string_found (Ok (tokens.Name, n)) = []
+string_found (Ok (tokens.Numeral number, n)) = []
+string_found (Ok (tokens.Mark m, n)) = []
+string_found (Err fault) = []
+
+abbrev pub string_of : List ℕ → List ℕ
+string_of literal = string_found (token_at literal)
+
+-- a string token has the string for which the bytes of its span stand
+abbrev pub IsSpelled : List ℕ → Token → Type 0
+IsSpelled program t = (bytes : List ℕ) → t.kind ≡ tokens.Text bytes → string_of (span_of program t) ≡ bytes
 
 -- what the grammar sees of a token of the parser
 abbrev pub lexeme : ParserToken → Lexeme
 lexeme (parser_tokens.Keyword k place) = Lexeme.keyword k place
 lexeme (parser_tokens.Name n number) = Lexeme.name n.now
 lexeme (parser_tokens.Numeral n) = Lexeme.numeral n
-lexeme (parser_tokens.Text t place) = Lexeme.text t.now place
+lexeme (parser_tokens.Text literal place) = Lexeme.text (string_of literal.now) place
 lexeme (parser_tokens.Mark m) = Lexeme.mark m
+
+-- the grammar sees this of the tokens of a text
+pub record AreLexemes (program : List ℕ) (seen : List Lexeme) : Type 0 where
+  pub tokens : List Token
+  pub is_cut : IsCut program tokens
+  pub same : lexemes program tokens ≡ seen
+
+-- the weight of a text's tokens passes its limit after this one
+abbrev pub NestsTooDeep : List ℕ → ℕ → Type 0
+NestsTooDeep program before = (ts : List Token) → IsCut program ts → too_deep start (lexemes program ts) ≡ Some before
+
+-- these tokens do not nest too deeply, and spell no program
+abbrev pub SpellNone : List ℕ → List Token → Type 0
+SpellNone program ts = (too_deep start (lexemes program ts) ≡ None) × ((tree : CommandList) → ¬ (Spells program ts tree))
+
+-- the same of a text's tokens
+abbrev pub SpellsNone : List ℕ → Type 0
+SpellsNone program = (ts : List Token) → IsCut program ts → SpellNone program ts
 
 -- which tokens spell which trees
 abbrev pub Spelling : Type 0 → Type 1

@@ -14,9 +14,9 @@ use crate::expression::{expr, expr_before};
 use crate::front::{ParseError, after_mark, after_open, after_word, text_at, word_at};
 use crate::keyword::Keyword;
 use crate::names::names;
-use crate::parser_token::ParserToken;
+use crate::parser_token::{ParserToken, string_of};
 use crate::target::{assignments, target_before, target_end};
-use ctd_token::{Bytes, Mark, Place};
+use ctd_token::{Mark, Place};
 use ctd_tree::{Action, Command, Commands, Expr, PatternLiteral, Test, Var};
 use std::alloc::Global;
 
@@ -88,11 +88,11 @@ fn regex<'t>(
     ensures shorter { IfOk result (λ x. length x.1.now ≤ length tokens.now) }
 {
     let after = after_open(tokens)?;
-    let Some((text, at, rest)) = text_at(after) else {
+    let Some((literal, at, rest)) = text_at(after) else {
         return Err(ParseError::Syntax(after.len()));
     };
     let (target, rest) = target_end(alloc, rest)?;
-    let bytes = Bytes::copy(alloc, text.as_slice())?;
+    let bytes = string_of(alloc, literal)?;
     let literal = PatternLiteral {
         number,
         bytes,

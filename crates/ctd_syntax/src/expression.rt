@@ -10,8 +10,8 @@ ghost use Rattle.ctd_syntax.specs.Lexeme;
 
 use crate::front::{ParseError, after_mark, name_at};
 use crate::keyword::Keyword;
-use crate::parser_token::ParserToken;
-use ctd_token::{Bytes, Mark, Name};
+use crate::parser_token::{ParserToken, string_of};
+use ctd_token::{Mark, Name};
 use ctd_tree::{Expr, Exprs, Var};
 use std::alloc::{AllocError, Global};
 
@@ -204,8 +204,8 @@ fn atom<'t>(
             let n = *n;
             Ok((Expr::Numeral(n), rest))
         }
-        ParserToken::Text(bytes, _) => {
-            let bytes = Bytes::copy(alloc, bytes.as_slice())?;
+        ParserToken::Text(literal, _) => {
+            let bytes = string_of(alloc, literal)?;
             Ok((Expr::Text(bytes), rest))
         }
         ParserToken::Name(_, _) => {

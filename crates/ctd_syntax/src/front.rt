@@ -1,13 +1,13 @@
 //! What stands at the front of the tokens that are left.
 
 ghost use Rattle.std.specs.Prelude.{◌≡◌, ◌<◌, List, ℕ, ◌∷◌, length, map, IfOk, IfErr, IfSome, IfNone};
-ghost use Rattle.ctd_syntax.specs.Front.{lexeme};
+ghost use Rattle.ctd_syntax.specs.Front.{lexeme, string_of};
 ghost use Rattle.ctd_syntax.specs.Lexeme;
 ghost use Rattle.ctd_syntax.specs.Lexeme.{Lexeme};
 
 use crate::keyword::Keyword;
 use crate::parser_token::ParserToken;
-use ctd_token::{Bytes, Mark, Place};
+use ctd_token::{Mark, Place};
 use std::alloc::{AllocError, AllocFailed};
 
 /// Why there is no tree.
@@ -114,11 +114,11 @@ pub(crate) fn after_word<'t>(
     if found == word { Some(after) } else { None }
 }
 
-/// The string at the front with its place, and what follows it.
+/// The string literal at the front with its place, and what follows it.
 pub(crate) fn text_at<'t>(
     tokens: &'t [ParserToken<'t>],
-) -> Option<(&'t Bytes, Place, &'t [ParserToken<'t>])>
-    ensures found { IfSome result (λ x. map lexeme tokens.now ≡ Lexeme.text x.0.now x.1 ∷ map lexeme x.2.now) }
+) -> Option<(&'t [u8], Place, &'t [ParserToken<'t>])>
+    ensures found { IfSome result (λ x. map lexeme tokens.now ≡ Lexeme.text (string_of x.0.now) x.1 ∷ map lexeme x.2.now) }
     ensures shorter { IfSome result (λ x. length x.2.now < length tokens.now) }
     ensures none { IfNone result ((bytes : List ℕ) (at : Place) (ts : List Lexeme) → map lexeme tokens.now ≡ Lexeme.text bytes at ∷ ts → ⊥) }
 {

@@ -1,14 +1,15 @@
 //! From the text of a program to its tree.
 
-ghost use Rattle.std.specs.Prelude.{ℕ, ◌≡◌, ◌≤◌, ◌<◌, List, None, length, IfOk, IfErr, IsErrAnd, IsSome};
+ghost use Rattle.std.specs.Prelude.{◌≡◌, ◌≤◌, ◌<◌, None, length, map, IfOk, IfErr, IsErrAnd};
+ghost use Rattle.ctd_syntax.specs.Front.{lexeme, AreLexemes, NestsTooDeep, SpellsNone};
 ghost use Rattle.ctd_syntax.specs.Numbering.{IsNumbered};
-ghost use Rattle.ctd_syntax.specs.Reading.{IsCut, IsFault, Parses};
+ghost use Rattle.ctd_syntax.specs.Reading.{IsFault, Parses};
 ghost use Rattle.ctd_tree.specs.View.{command_trees};
 
 use crate::command::commands;
 use crate::front::ParseError;
 use crate::nesting::first_too_deep;
-use crate::parser_token::parser_tokens;
+use crate::parser_token::{ParserToken, parser_tokens};
 use ctd_token::{LoadFault, LoadKind, PROGRAM_LIMIT, Place, Token, advance, tokens};
 use ctd_tree::Program;
 use std::alloc::Global;
@@ -23,41 +24,54 @@ fn place_of_rest(text: &[u8], tokens: &[Token], left: usize) -> Place
     }
 }
 
-// The fault of a text whose tokens spell no program, where so many of them are left from the first that fits nowhere.
-fn no_program(text: &[u8], tokens: &[Token], left: usize) -> LoadFault
-    requires { length text.now ≤ PROGRAM_LIMIT }
-    ensures kind { result.kind ≡ LoadKind.Syntax }
-    ensures place { IsSome result.place }
+// The fault of a text whose tokens spell no program, where so many of them are left from the first that fits nowhere. Its place is that of
+// a token, for which the text is cut again.
+fn no_program(alloc: Global, text: &[u8], left: usize) -> LoadFault
+    requires { SpellsNone text.now }
+    ensures { IsFault text.now result.kind result.place }
 {
-    LoadFault {
-        kind: LoadKind::Syntax,
-        place: Some(place_of_rest(text, tokens, left)),
+    match tokens(alloc, text) {
+        Ok(tokens) => LoadFault {
+            kind: LoadKind::Syntax,
+            place: Some(place_of_rest(text, &tokens, left)),
+        },
+        Err(fault) => fault,
+    }
+}
+
+// The fault of a text whose tokens nest too deeply, where so many of them stand before the first after which they do.
+fn too_deep(alloc: Global, text: &[u8], before: usize) -> LoadFault
+    requires { NestsTooDeep text.now before }
+    ensures { IsFault text.now result.kind result.place }
+{
+    match tokens(alloc, text) {
+        Ok(tokens) => LoadFault {
+            kind: LoadKind::TooDeep,
+            place: tokens.get(before).map(|token| token.place),
+        },
+        Err(fault) => fault,
     }
 }
 
 // What the tokens of a text spell.
-fn program_of(alloc: Global, text: &[u8], tokens: &[Token]) -> Result<Program, LoadFault>
-    requires { IsCut text.now tokens.now }
+fn program_of(alloc: Global, text: &[u8], tokens: &[ParserToken<'_>]) -> Result<Program, LoadFault>
+    requires { AreLexemes text.now (map lexeme tokens.now) }
     ensures parses { IfOk result (λ program. Parses text.now (command_trees program)) }
     ensures numbered { IfOk result (λ program. IsNumbered (command_trees program)) }
     ensures refused { IfErr result (λ f. IsFault text.now f.kind f.place) }
 {
-    let parser_tokens = parser_tokens(alloc, text, tokens)?;
-    if let Some(before) = first_too_deep(alloc, parser_tokens.as_slice())? {
-        return Err(LoadFault {
-            kind: LoadKind::TooDeep,
-            place: tokens.get(before).map(|token| token.place),
-        });
+    if let Some(before) = first_too_deep(alloc, tokens)? {
+        return Err(too_deep(alloc, text, before));
     }
-    match commands(alloc, parser_tokens.as_slice()) {
+    match commands(alloc, tokens) {
         Ok((commands, rest)) => {
             if rest.is_empty() {
                 Ok(Program::new(commands))
             } else {
-                Err(no_program(text, tokens, rest.len()))
+                Err(no_program(alloc, text, rest.len()))
             }
         }
-        Err(ParseError::Syntax(left)) => Err(no_program(text, tokens, left)),
+        Err(ParseError::Syntax(left)) => Err(no_program(alloc, text, left)),
         Err(ParseError::Memory) => Err(LoadFault {
             kind: LoadKind::Memory,
             place: None,
@@ -80,6 +94,6 @@ pub fn parse(alloc: Global, text: &[u8]) -> Result<Program, LoadFault>
     ensures too_long { PROGRAM_LIMIT < length text.now →
         IsErrAnd result (λ f. f ≡ record { kind = LoadKind.ProgramTooLong; place = None }) }
 {
-    let tokens = tokens(alloc, text)?;
-    program_of(alloc, text, tokens.as_slice())
+    let tokens = parser_tokens(alloc, text)?;
+    program_of(alloc, text, &tokens)
 }

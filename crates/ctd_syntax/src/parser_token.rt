@@ -1,12 +1,15 @@
 //! Tokens as the grammar sees them.
 
-ghost use Rattle.std.specs.Prelude.{◌≡◌, ◌+◌, ◌-◌, ◌^◌, ◌<◌, ◌≤◌, IfOk, drop, map, take};
-ghost use Rattle.ctd_syntax.specs.Front.{lexeme};
+ghost use Rattle.std.specs.Prelude.{◌≡◌, ◌+◌, ◌-◌, ◌^◌, ◌<◌, ◌≤◌, None, IfErr, IfOk, IsErrAnd, drop, length, map, take};
+ghost use Rattle.ctd_token.specs.Lexing.{IsLexFault};
+ghost use Rattle.ctd_syntax.specs.Front.{lexeme, string_of, AreLexemes, IsSpelled};
 ghost use Rattle.ctd_syntax.specs.Lexeme.{lexeme_of, regex_count, with_number};
-ghost use Rattle.ctd_syntax.specs.Reading.{lexemes};
 
 use crate::keyword::Keyword;
-use ctd_token::{Bytes, Mark, Place, Token, TokenKind};
+use ctd_token::{
+    Bytes, Lexer, LoadFault, LoadKind, Mark, PROGRAM_LIMIT, Place, Token, TokenFault, TokenKind,
+    token_at,
+};
 use std::alloc::{AllocError, Global};
 use std::collections::BTreeMap;
 
@@ -17,7 +20,8 @@ pub(crate) enum ParserToken<'t> {
     /// A name, with its number among those of the text.
     Name(&'t [u8], u32),
     Numeral(i128),
-    Text(&'t Bytes, Place),
+    /// A string literal as it stands in the text.
+    Text(&'t [u8], Place),
     Mark(Mark),
 }
 
@@ -30,21 +34,37 @@ fn span(text: &[u8], first: usize, after: usize) -> &[u8]
     &text[start..end]
 }
 
-fn parser_token_of<'t>(text: &'t [u8], token: &'t Token) -> ParserToken<'t>
-    ensures { lexeme result ≡ lexeme_of text.now token.now }
+fn parser_token_of<'t>(text: &'t [u8], token: Token) -> ParserToken<'t>
+    requires { IsSpelled text.now token }
+    ensures { lexeme result ≡ lexeme_of text.now token }
 {
-    match &token.kind {
-        TokenKind::Word => {
-            let word = span(text, token.first as usize, token.after as usize);
-            ParserToken::Keyword(Keyword::from_word(word), token.place)
-        }
-        TokenKind::Name => {
-            let name = span(text, token.first as usize, token.after as usize);
-            ParserToken::Name(name, 0)
-        }
-        TokenKind::Numeral(n) => ParserToken::Numeral(*n),
-        TokenKind::Text(bytes) => ParserToken::Text(bytes, token.place),
-        TokenKind::Mark(mark) => ParserToken::Mark(*mark),
+    let Token {
+        kind,
+        first,
+        after,
+        place,
+    } = token;
+    let span = span(text, first as usize, after as usize);
+    match kind {
+        TokenKind::Word => ParserToken::Keyword(Keyword::from_word(span), place),
+        TokenKind::Name => ParserToken::Name(span, 0),
+        TokenKind::Numeral(n) => ParserToken::Numeral(n),
+        TokenKind::Text(_string) => ParserToken::Text(span, place),
+        TokenKind::Mark(mark) => ParserToken::Mark(mark),
+    }
+}
+
+/// The string that a literal stands for; other bytes stand for none, which is the empty string.
+pub(crate) fn string_of(alloc: Global, literal: &[u8]) -> Result<Bytes, AllocError>
+    ensures { IfOk result (λ string. string ≡ string_of literal.now) }
+{
+    if literal.is_empty() {
+        return Bytes::copy(alloc, literal);
+    }
+    match token_at(alloc, literal) {
+        Ok((TokenKind::Text(string), _)) => Ok(string),
+        Err(TokenFault::Memory) => Err(AllocError),
+        _ => Bytes::copy(alloc, &[]),
     }
 }
 
@@ -88,18 +108,21 @@ fn number_name<'t>(
     }
 }
 
-/// What the grammar sees of the tokens of a text, in order.
+/// What the grammar sees of the tokens of a text, in order; or the fault that `tokens` answers. No token is kept beside what is seen of it.
 pub(crate) fn parser_tokens<'t>(
     alloc: Global,
     text: &'t [u8],
-    tokens: &'t [Token],
-) -> Result<Vec<ParserToken<'t>>, AllocError>
-    ensures { IfOk result (λ ps. map lexeme ps.items ≡ lexemes text.now tokens.now) }
+) -> Result<Vec<ParserToken<'t>>, LoadFault>
+    ensures seen { IfOk result (λ ps. AreLexemes text.now (map lexeme ps.items)) }
+    ensures fault { IfErr result (λ f. IsLexFault text.now f.kind f.place) }
+    ensures too_long { PROGRAM_LIMIT < length text.now →
+        IsErrAnd result (λ f. f ≡ record { kind = LoadKind.ProgramTooLong; place = None }) }
 {
-    let mut parser_tokens = Vec::with_capacity(alloc, tokens.len())?;
+    let mut lexer = Lexer::new(text)?;
+    let mut parser_tokens = Vec::new(alloc);
     let mut before = 0;
     let mut numbers = BTreeMap::new(alloc);
-    for token in tokens {
+    while let Some(token) = lexer.next_token(alloc)? {
         let token = give_number(parser_token_of(text, token), &mut before);
         parser_tokens.push(number_name(token, &mut numbers)?)?;
     }

@@ -1,54 +1,75 @@
--- The loop that cuts a text.
-use Rattle.std.proofs.Common.{◌≡◌, ℕ, ◌+◌, ◌<◌, ◌≤◌, List, [], ◌∷◌, ◌++◌, length, drop, get_or, Ok, false, sym, ap, ◌∙◌, subst, append_assoc, append-nil, length-drop, drop-drop, arith}
-use Rattle.std.proofs.lemmas.List.{drop_all, at_drop_more}
-use Rattle.ctd_token.specs.declared.text.Place.{Place}
+-- The loop that cuts a text, by one token after another.
+use Rattle.std.proofs.Common.{◌≡◌, ℕ, ◌+◌, ◌<◌, ◌≤◌, List, [], ◌∷◌, ◌++◌, length, drop, get_or, Err, false, refl, sym, ap, ◌∙◌, subst, append_assoc, append-nil, length-drop, drop-drop, inl, inr, arith}
+use Rattle.std.specs.Prelude.{Option, None, Some, Ok, IfNone}
 use Rattle.ctd_token.specs.declared.token.Token.{Token}
 use Rattle.ctd_token.specs.declared.fault.LoadKind.{LoadKind}
-use Rattle.ctd_token.specs.Cut.{place_at, skip_gap, token_at, wrong, next_token, Cuts, none, token, Faults, here, later}
+use Rattle.ctd_token.specs.declared.fault.LoadFault.{LoadFault}
+use Rattle.ctd_token.specs.declared.fault.TokenFault.{TokenFault}
+use Rattle.ctd_token.specs.declared.fault.TokenFault.TheVariants.{Wrong, Memory}
+use Rattle.ctd_token.specs.Cut.{skip_gap, token_at, wrong, next_token, place_at, Cuts, none, token, Faults, here, later}
+use Rattle.ctd_token.specs.Scanning.{Scans, IsPlaced}
+use Rattle.ctd_token.specs.Lexing.{Uncut, left, IsEnd, IsNext, HasNextFault, IsNextFault}
 
--- what is left of the text from an offset on is cut where it was from the last token's end on
-pub record Cutting (text : List ℕ) (ts : List Token) (at : ℕ) (place : Place) : Type 0 where
-  pub start : ℕ
-  pub within : at ≤ length text
-  pub place_is : place ≡ place_at text at
-  pub next : at ≡ next_token start (drop start text)
-  pub rest : drop at text ≡ skip_gap false (drop start text)
-  pub cuts : (us : List Token) → Cuts text start (drop start text) us → Cuts text 0 text (ts ++ us)
-  pub faults : (kind : LoadKind) (p : ℕ) → Faults start (drop start text) kind p → Faults 0 text kind p
+-- where the next token begins, behind blanks and comments
+pub gap_end : (bytes : List ℕ) (at gap : ℕ) → gap ≤ length bytes → drop gap bytes ≡ skip_gap false bytes → at + gap ≡ next_token at bytes
+gap_end bytes at gap within skipped = omega (arith, within, ap length skipped, length-drop gap bytes)
 
-gap_next : (text : List ℕ) (start n : ℕ) → n ≤ length (drop start text) → drop n (drop start text) ≡ skip_gap false (drop start text) → start + n ≡ next_token start (drop start text)
-gap_next text start n le skipped = omega (arith, le, ap length skipped, length-drop n (drop start text))
+-- how many bytes are left behind blanks and comments
+length_left : (u : Uncut) (first : ℕ) → drop first u.text ≡ skip_gap false (left u) → first < length u.text → 0 < length (skip_gap false (left u))
+length_left u first rest lt = omega (arith, lt, ap length rest, length-drop first u.text)
 
-pub begin : (text : List ℕ) (n : ℕ) (place : Place) → n ≤ length text → drop n text ≡ skip_gap false text → place ≡ place_at text n → Cutting text [] n place
-begin text n place le skipped is = record {
-  start = 0;
-  within = le;
-  place_is = is;
-  next = omega (arith, le, ap length skipped, length-drop n text);
-  rest = skipped;
-  cuts = λ us c. c;
-  faults = λ kind p f. f;
-}
+-- what a scan answers where the next token stands
+pub next_fault : (u : Uncut) (first : ℕ) (f : TokenFault) (r : LoadFault) → first ≡ next_token u.at (left u) → drop first u.text ≡ skip_gap false (left u)
+    → first < length u.text → Scans (Err f) (token_at (drop first u.text)) → IsPlaced u.text first f r → IsNextFault u r.kind r.place
+next_fault u first (Wrong kind behind) r first_is rest lt found placed =
+    let has : HasNextFault u kind (Some (place_at u.text (next_token u.at (left u) + behind))) = record { behind = behind; some = length_left u first rest lt; found = ap token_at (sym rest) ∙ found; place_is = refl } in
+    subst (λ r. IsNextFault u r.kind r.place) (sym (placed ∙ ap (λ at. record { kind = kind; place = Some (place_at u.text (at + behind)) }) first_is)) (inl has)
+next_fault u first Memory r first_is rest lt found placed = subst (λ r. IsNextFault u r.kind r.place) (sym placed) (inr (refl, refl))
 
-pub finish : (text : List ℕ) (ts : List Token) (at : ℕ) (place : Place) → Cutting text ts at place → length text ≤ at → Cuts text 0 text ts
-finish text ts at place c past = subst (λ l. Cuts text 0 text l) (append-nil ts) (c.cuts [] (none (sym c.rest ∙ drop_all at text past)))
+-- what is cut of a text, and what is left of it: the text is cut or has a fault where that is so of what is left
+pub record Cutting (text : List ℕ) (ts : List Token) (u : Uncut) : Type 0 where
+  pub text_is : u.text ≡ text
+  pub cuts : (us : List Token) → Cuts text u.at (left u) us → Cuts text 0 text (ts ++ us)
+  pub faults : (kind : LoadKind) (p : ℕ) → Faults u.at (left u) kind p → Faults 0 text kind p
 
-pub fault : (text : List ℕ) (ts : List Token) (at : ℕ) (place : Place) (kind : LoadKind) (behind : ℕ) → Cutting text ts at place → at < length text → token_at (drop at text) ≡ wrong kind behind → Faults 0 text kind (at + behind)
-fault text ts at place kind behind c lt e =
-    let cell : drop at text ≡ get_or text at 0 ∷ drop (at + 1) text = at_drop_more (λ l. l) text at 0 lt in
-    let found = here (sym c.rest ∙ cell) (ap token_at (sym cell) ∙ e) in
-    subst (λ p. Faults 0 text kind (p + behind)) (sym c.next) (c.faults kind _ found)
+pub begin : (text : List ℕ) (u : Uncut) → u ≡ record { text = text; at = 0 } → Cutting text [] u
+begin text u is = subst (Cutting text []) (sym is) (record { text_is = refl; cuts = λ us c. c; faults = λ kind p f. f })
 
-pub more : (text : List ℕ) (ts : List Token) (t : Token) (at len n : ℕ) (place new : Place) → Cutting text ts at place → token_at (drop at text) ≡ Ok (t.kind, len) → t.first ≡ at → t.after ≡ at + len → t.place ≡ place → at + len ≤ length text → n ≤ length (drop (at + len) text) → drop n (drop (at + len) text) ≡ skip_gap false (drop (at + len) text) → new ≡ place_at text (at + len + n) → Cutting text (ts ++ t ∷ []) (at + len + n) new
-more text ts t at len n place new c e first after there within le skipped is =
-    let found = ap token_at (sym c.rest) ∙ e in
-    let left : drop len (skip_gap false (drop c.start text)) ≡ drop (at + len) text = ap (drop len) (sym c.rest) ∙ drop-drop len at text in
+-- one token more
+pub more : (text : List ℕ) (ts : List Token) (t : Token) (u rest : Uncut) → Cutting text ts u → IsNext u t rest → Cutting text (ts ++ t ∷ []) rest
+more text ts t u rest c next =
+    let gap : List ℕ = skip_gap false (left u) in
+    let found : token_at gap ≡ Ok (t.kind, next.len) = ap token_at (sym next.start) ∙ next.found in
+    let at : rest.at ≡ t.after = ap (λ r. r.at) next.rest_is in
+    let end : rest.at ≡ next_token u.at (left u) + next.len = at ∙ next.after ∙ ap (λ k. k + next.len) next.first in
+    let place : t.place ≡ place_at text t.first = next.place ∙ ap (λ l. place_at l t.first) c.text_is in
+    let behind : left rest ≡ drop next.len gap =
+    ap left next.rest_is ∙ ap (λ k. drop k u.text) next.after ∙ sym (drop-drop next.len t.first u.text) ∙ ap (drop next.len) next.start in
     record {
-      start = at + len;
-      within = omega (arith, le, length-drop (at + len) text, within);
-      place_is = is;
-      next = gap_next text (at + len) n le skipped;
-      rest = sym (drop-drop n (at + len) text) ∙ skipped;
-      cuts = λ us rest. subst (λ l. Cuts text 0 text l) (sym (append_assoc ts (t ∷ []) us)) (c.cuts (t ∷ us) (token found (first ∙ c.next) (after ∙ ap (λ p. p + len) (sym first)) (there ∙ c.place_is ∙ ap (place_at text) (sym first)) (subst (λ p. Cuts text p (drop len (skip_gap false (drop c.start text))) us) (sym after) (subst (λ l. Cuts text (at + len) l us) (sym left) rest))));
-      faults = λ kind p f. c.faults kind p (later found (subst (λ q. Faults (q + len) (drop len (skip_gap false (drop c.start text))) kind p) c.next (subst (λ l. Faults (at + len) l kind p) (sym left) f)));
+      text_is = ap (λ r. r.text) next.rest_is ∙ c.text_is;
+      cuts = λ us cut.
+          let rest_cut = subst (λ l. Cuts text t.after l us) behind (subst (λ k. Cuts text k (left rest) us) at cut) in
+          subst (λ l. Cuts text 0 text l) (sym (append_assoc ts (t ∷ []) us)) (c.cuts (t ∷ us) (token found next.first next.after place rest_cut));
+      faults = λ kind p f.
+          let rest_fault = subst (λ l. Faults rest.at l kind p) behind f in
+          c.faults kind p (later found (subst (λ k. Faults k (drop next.len gap) kind p) end rest_fault));
     }
+
+pub finish : (text : List ℕ) (ts : List Token) (u : Uncut) → Cutting text ts u → IsEnd u → Cuts text 0 text ts
+finish text ts u c end = subst (λ l. Cuts text 0 text l) (append-nil ts) (c.cuts [] (none end))
+
+front : (bytes : List ℕ) → 0 < length bytes → bytes ≡ get_or bytes 0 0 ∷ drop 1 bytes
+front [] some = absurd (omega (arith, some))
+front (b ∷ bs) some = refl
+
+-- the fault of the next token is the text's first
+pub first_fault : (text : List ℕ) (ts : List Token) (u : Uncut) (kind : LoadKind) (behind : ℕ) → Cutting text ts u
+    → 0 < length (skip_gap false (left u)) → token_at (skip_gap false (left u)) ≡ wrong kind behind → Faults 0 text kind (next_token u.at (left u) + behind)
+first_fault text ts u kind behind c some found =
+    let cell = front (skip_gap false (left u)) some in
+    c.faults kind _ (here cell (ap token_at (sym cell) ∙ found))
+
+-- what holds where nothing comes
+pub none_is : {A P : Type 0} (r : Option A) → ((x : A) → r ≡ Some x → ⊥) → IfNone r P → P
+none_is None other p = p
+none_is (Some x) other p = absurd (other x refl)

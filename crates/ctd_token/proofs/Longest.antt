@@ -1,5 +1,5 @@
 -- A token is the longest prefix of its form.
-use Rattle.std.proofs.Common.{◌≡◌, ℕ, zero, suc, ◌+◌, ◌≤◌, ◌<◌, ◌^◌, Bool, true, false, ◌||◌, cond, nat_eq, nat_le, List, [], ◌∷◌, length, take, drop, get_or, Option, Some, None, IsSome, is_some, Ok, Err, pos, refl, sym, ap, ◌∙◌, subst, arith}
+use Rattle.std.proofs.Common.{◌≡◌, ℕ, zero, suc, ◌+◌, ◌≤◌, ◌<◌, ◌^◌, Bool, true, false, ◌||◌, cond, nat_eq, nat_le, List, [], ◌∷◌, ◌++◌, length, take, drop, get_or, Option, Some, None, IsSome, is_some, Ok, Err, pos, refl, sym, ap, ◌∙◌, subst, arith}
 use Rattle.std.specs.List.{prefix_len}
 use Rattle.std.proofs.lemmas.Bool.{eqb-true}
 use Rattle.std.proofs.lemmas.List.{get_or-take, take-append-drop, length-take-le}
@@ -215,3 +215,13 @@ upper_or_more b bs k n false is e = lower_or_more b bs k n (is_lower b) refl e
 pub token_is_longest : (bytes : List ℕ) (k : TokenKind) (n : ℕ) → token_at bytes ≡ a_token k n → IsLongestPrefix (form_of k) n bytes
 token_is_longest [] k n e = absurd (let never : ⊥ = cc in never)
 token_is_longest (b ∷ bs) k n e = upper_or_more b bs k n (is_upper b) refl e
+
+-- a string is found again where only its own bytes are left
+pub string_again : (bytes values : List ℕ) (n : ℕ) → token_at bytes ≡ Ok (tokens.Text values, n) → token_at (take n bytes) ≡ Ok (tokens.Text values, n)
+string_again bytes values n e =
+    let has : IsLiteral (take n bytes) = (token_is_longest bytes (tokens.Text values) n e).has_form in
+    let rest : List ℕ = drop n bytes in
+    let split : bytes ≡ 34 ∷ has.after ++ rest = sym (take-append-drop n bytes) ∙ ap (λ l. l ++ rest) has.opens in
+    let alone : token_at (take n bytes) ≡ text_at (Some has.closed) = ap token_at has.opens ∙ ap text_at has.closes in
+    let among : token_at bytes ≡ text_at (Some has.closed) = ap token_at split ∙ ap text_at (literal-append 0 has.after rest has.closed has.closes) in
+    alone ∙ sym among ∙ e

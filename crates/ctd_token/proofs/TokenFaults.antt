@@ -1,5 +1,5 @@
 -- That a token has some bytes, and which faults it may have.
-use Rattle.std.proofs.Common.{◌≡◌, ℕ, ◌+◌, ◌<◌, ◌≤◌, ◌^◌, Bool, cond, nat_eq, nat_le, ◌||◌, List, [], ◌∷◌, length, take, drop, pos, Option, Some, None, Ok, Err, true, false, refl, sym, ap, subst, arith}
+use Rattle.std.proofs.Common.{◌≡◌, ℕ, ◌+◌, ◌<◌, ◌≤◌, ◌^◌, Bool, cond, nat_eq, nat_le, ◌||◌, List, [], ◌∷◌, length, take, drop, pos, Option, Some, None, Ok, Err, true, false, refl, sym, ap, ◌∙◌, subst, inl, inr, arith}
 use Rattle.std.specs.List.{prefix_len}
 use Rattle.ctd_token.specs.declared.limits.TheConstants.{PROGRAM_LIMIT}
 use Rattle.ctd_token.specs.declared.text.Place.{Place}
@@ -9,14 +9,10 @@ use Rattle.ctd_token.specs.declared.token.TokenKind.TheVariants as tokens
 use Rattle.ctd_token.specs.declared.token.Token.{Token}
 use Rattle.ctd_token.specs.declared.fault.LoadKind.{LoadKind}
 use Rattle.ctd_token.specs.declared.fault.LoadKind.TheVariants.{ProgramTooLong, BadByte, UnfinishedString, BadOctal, NumberTooLarge, NotInProfile, TooDeep, Syntax, BadPattern, Read, Memory}
-use Rattle.ctd_token.specs.declared.fault.LoadFault.{LoadFault}
-use Rattle.ctd_token.specs.declared.fault.TokenFault.{TokenFault}
-use Rattle.ctd_token.specs.declared.fault.TokenFault.TheVariants as scanning
 use Rattle.ctd_token.specs.Literal.{Closed, literal}
-use Rattle.ctd_token.specs.Cut.{is_upper, is_lower, is_digit, Judged, TokenOrFault, wrong, at_first_byte, is_left_out_word, word_at, name_len, decimal, has_leading_zero, fraction_begins, numeral_at, mark_or, mark_at, single_mark, double_mark, closed_text, text_at, token_at, place_at}
-use Rattle.ctd_token.specs.Scanning.{Scans, IsPlaced}
-use Rattle.ctd_token.specs.Lexing.{HasFault, IsLexFault}
-use Rattle.ctd_token.proofs.Cutting.{Cutting, fault}
+use Rattle.ctd_token.specs.Cut.{is_upper, is_lower, is_digit, Judged, TokenOrFault, wrong, at_first_byte, is_left_out_word, word_at, name_len, decimal, has_leading_zero, fraction_begins, numeral_at, mark_or, mark_at, single_mark, double_mark, closed_text, text_at, skip_gap, token_at, next_token, place_at}
+use Rattle.ctd_token.specs.Lexing.{Uncut, left, IsNextFault, HasFault, IsLexFault}
+use Rattle.ctd_token.proofs.Cutting.{Cutting, first_fault}
 
 -- a token may have this fault
 abbrev IsTokenKind : LoadKind → Type 0
@@ -122,8 +118,9 @@ lex_fault text Read place p h = absurd p
 lex_fault text Memory place p h = absurd p
 
 -- the fault of the next token is the text's
-pub fault_is : (text : List ℕ) (ts : List Token) (at : ℕ) (place : Place) (f : TokenFault) (r : LoadFault) → length text ≤ PROGRAM_LIMIT → Cutting text ts at place → at < length text → Scans (Err f) (token_at (drop at text)) → IsPlaced text at f r → IsLexFault text r.kind r.place
-fault_is text ts at place (scanning.Wrong kind behind) r short c lt found is =
-    let has : HasFault text kind (Some (place_at text (at + behind))) = record { short = short; offset = at + behind; first = fault text ts at place kind behind c lt found; place_is = refl } in
-    subst (λ l. IsLexFault text l.kind l.place) (sym is) (lex_fault text kind (Some (place_at text (at + behind))) (token_kind (drop at text) kind behind found) has)
-fault_is text ts at place scanning.Memory r short c lt found is = subst (λ l. IsLexFault text l.kind l.place) (sym is) refl
+pub fault_is : (text : List ℕ) (ts : List Token) (u : Uncut) (kind : LoadKind) (place : Option Place) → length text ≤ PROGRAM_LIMIT → Cutting text ts u → IsNextFault u kind place → IsLexFault text kind place
+fault_is text ts u kind place short c (inl has) =
+    let is : place ≡ Some (place_at text (next_token u.at (left u) + has.behind)) = has.place_is ∙ ap (λ l. Some (place_at l (next_token u.at (left u) + has.behind))) c.text_is in
+    lex_fault text kind place (token_kind (skip_gap false (left u)) kind has.behind has.found)
+    (record { short = short; offset = next_token u.at (left u) + has.behind; first = first_fault text ts u kind has.behind c has.some has.found; place_is = is })
+fault_is text ts u kind place short c (inr (out, none)) = subst (λ k. IsLexFault text k place) (sym out) none

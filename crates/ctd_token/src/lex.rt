@@ -1,6 +1,6 @@
 //! From the text of a program to its tokens.
 
-ghost use Rattle.std.specs.Prelude.{ℕ, List, ◌≡◌, ◌≤◌, ◌<◌, ◌-◌, ◌+◌, ◌^◌, length, count_by, nat_eq, None, IfOk, IfErr, OnOk, IsErrAnd};
+ghost use Rattle.std.specs.Prelude.{ℕ, List, ◌≡◌, ◌≤◌, ◌<◌, ◌-◌, ◌+◌, ◌^◌, length, count_by, nat_eq, None, IfOk, IfErr, IfSome, IfNone, OnOk, IsErrAnd};
 ghost use Rattle.ctd_token.specs.Cut.{Cuts, Faults, place_at};
 ghost use Rattle.ctd_token.specs.Lexing.{IsLexFault};
 ghost use Rattle.ctd_token.specs.Scanning.{FaultWithin, IsPlaced};
@@ -14,6 +14,7 @@ use crate::text::Place;
 use crate::token::{Token, TokenKind};
 use memchr::memrchr;
 use std::alloc::Global;
+use std::marker::Model;
 
 /// The place of a later offset of a program's text, from the place of an earlier one. Offset 0 has line 1 and column 1,
 /// and the end of the text has a place too. The time is linear in the bytes between the two offsets.
@@ -78,12 +79,89 @@ fn fault_at(fault: TokenFault, place: Place, text: &[u8], at: usize) -> LoadFaul
     }
 }
 
-/// Cuts the text of a program into its tokens (checktestdata language specification, tokens).
+/// Cuts the text of a program into its tokens, one after another (checktestdata language specification, tokens).
 ///
-/// Offsets count bytes from 0, lines and columns from 1. A text of blanks and comments alone has no
-/// tokens. The first token with a fault gives the answer BadByte, UnfinishedString, BadOctal,
-/// NumberTooLarge or NotInProfile, with the place of the fault. A text above `PROGRAM_LIMIT` bytes
-/// is ProgramTooLong, and a refused growth is Memory, both without a place.
+/// It holds no token, so a text takes no more memory than its caller keeps of it.
+#[derive(Drop)]
+pub struct Lexer<'t> {
+    text: &'t [u8],
+    // The offset behind the last token, or 0.
+    at: usize,
+    // The offset of the last token, or 0, with its place.
+    known: usize,
+    place: Place,
+}
+
+impl<'t> Model for Lexer<'t> {
+    ghost use Rattle.std.specs.Prelude.{◌≡◌, ◌≤◌, length};
+    ghost use Rattle.ctd_token.specs.Cut.{place_at};
+    ghost use Rattle.ctd_token.specs.Lexing.{Uncut};
+    ghost use Rattle.ctd_token.specs.declared.limits.TheConstants.{PROGRAM_LIMIT};
+
+    ghost Value = { Uncut };
+
+    ghost view = { λ l. record { text = l.text.now; at = l.at } };
+
+    ghost invariant = { λ l. (length l.text.now ≤ PROGRAM_LIMIT) × (l.known ≤ l.at) × (l.at ≤ length l.text.now) × (l.place ≡ place_at l.text.now l.known) };
+}
+
+impl<'t> Lexer<'t> {
+    ghost use Rattle.ctd_token.specs.Lexing.{IsNext, IsNextFault, IsEnd};
+
+    /// Begins at the start of a text; one above `PROGRAM_LIMIT` bytes is ProgramTooLong, without a place.
+    pub fn new(text: &'t [u8]) -> Result<Lexer<'t>, LoadFault>
+        ensures begins { IfOk result (λ lexer. lexer ≡ record { text = text.now; at = 0 }) }
+        ensures short { OnOk result (length text.now ≤ PROGRAM_LIMIT) }
+        ensures too_long { IfErr result (λ f. (PROGRAM_LIMIT < length text.now) × (f ≡ record { kind = LoadKind.ProgramTooLong; place = None })) }
+    {
+        if text.len() > PROGRAM_LIMIT {
+            return Err(LoadFault {
+                kind: LoadKind::ProgramTooLong,
+                place: None,
+            });
+        }
+        Ok(Lexer {
+            text,
+            at: 0,
+            known: 0,
+            place: Place { line: 1, column: 1 },
+        })
+    }
+
+    /// The next token; none where only blanks and comments are left.
+    ///
+    /// Offsets count bytes from 0, lines and columns from 1. A token with a fault is BadByte, UnfinishedString, BadOctal,
+    /// NumberTooLarge or NotInProfile, with the place of the fault; a refused growth is Memory, without one. After a fault and at the end
+    /// the lexer stands where it stood.
+    #[inline(always)]
+    pub fn next_token(&mut self, alloc: Global) -> Result<Option<Token>, LoadFault>
+        ensures next { IfOk result (λ next. IfSome next (λ t. IsNext self.old t self.new)) }
+        ensures end { IfOk result (λ next. IfNone next (IsEnd self.old)) }
+        ensures fault { IfErr result (λ f. IsNextFault self.old f.kind f.place) }
+        ensures stays { IfErr result (λ _. self.new ≡ self.old) }
+        ensures stays_at_end { IfOk result (λ next. IfNone next (self.new ≡ self.old)) }
+    {
+        let first = self.at + gap_len(&self.text[self.at..]);
+        if first == self.text.len() {
+            return Ok(None);
+        }
+        let place = advance(self.place, self.text, self.known, first);
+        match token_at(alloc, &self.text[first..]) {
+            Ok((kind, len)) => {
+                self.at = first + len;
+                self.known = first;
+                self.place = place;
+                Ok(Some(token_with_span(kind, first, len, place)))
+            }
+            Err(fault) => Err(fault_at(fault, place, self.text, first)),
+        }
+    }
+}
+
+/// All tokens of the text of a program, as a `Lexer` cuts it.
+///
+/// A text of blanks and comments alone has no tokens. The first token with a fault gives the answer, with the place of the fault. A text
+/// above `PROGRAM_LIMIT` bytes is ProgramTooLong, and a refused growth is Memory, both without a place.
 pub fn tokens(alloc: Global, text: &[u8]) -> Result<Vec<Token>, LoadFault>
     ensures short { OnOk result (length text.now ≤ PROGRAM_LIMIT) }
     ensures cut { IfOk result (λ ts. Cuts text.now 0 text.now ts.items) }
@@ -93,25 +171,10 @@ pub fn tokens(alloc: Global, text: &[u8]) -> Result<Vec<Token>, LoadFault>
     ensures too_long { PROGRAM_LIMIT < length text.now →
         IsErrAnd result (λ f. f ≡ record { kind = LoadKind.ProgramTooLong; place = None }) }
 {
-    if text.len() > PROGRAM_LIMIT {
-        return Err(LoadFault {
-            kind: LoadKind::ProgramTooLong,
-            place: None,
-        });
-    }
+    let mut lexer = Lexer::new(text)?;
     let mut tokens = Vec::new(alloc);
-    let mut at = gap_len(text);
-    let mut place = advance(Place { line: 1, column: 1 }, text, 0, at);
-    while at < text.len() {
-        let (kind, len) = match token_at(alloc, &text[at..]) {
-            Ok(found) => found,
-            Err(fault) => return Err(fault_at(fault, place, text, at)),
-        };
-        tokens.push(token_with_span(kind, at, len, place))?;
-        let after = at + len;
-        let next = after + gap_len(&text[after..]);
-        place = advance(place, text, at, next);
-        at = next;
+    while let Some(token) = lexer.next_token(alloc)? {
+        tokens.push(token)?;
     }
     Ok(tokens)
 }

@@ -13,7 +13,7 @@ mod token;
 
 pub use fault::{LoadFault, LoadKind, TokenFault};
 pub use laws::{tokens_are_longest, tokens_are_unique};
-pub use lex::{advance, tokens};
+pub use lex::{Lexer, advance, tokens};
 pub use limits::{NESTING_LIMIT, PROGRAM_LIMIT};
 pub use scan::token_at;
 pub use text::{Bytes, Name, Place};

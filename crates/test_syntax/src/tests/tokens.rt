@@ -3,7 +3,7 @@
 use super::answers::{judged, same, write_fault};
 use super::shown::Shown;
 use ctd_token::{
-    Bytes, LoadKind, Name, PROGRAM_LIMIT, Place, Token, TokenKind, advance, token_at, tokens,
+    Bytes, Lexer, LoadKind, Name, PROGRAM_LIMIT, Place, Token, TokenKind, advance, token_at, tokens,
 };
 use std::alloc::{AllocError, Global};
 use std::process::Abort;
@@ -111,6 +111,31 @@ const CUT: [(&str, &str); 26] = [
         "Word 0-1 1:1, Text [120] 2-5 2:1, Text [35] 12-15 3:1",
     ),
 ];
+
+/// The kind of the token that comes next, or the fault and its place; of the end, nothing.
+fn next_shown(alloc: Global, lexer: &mut Lexer<'_>) -> Result<String, Fail> {
+    let mut shown = Shown::new(alloc);
+    match lexer.next_token(alloc) {
+        Ok(Some(token)) => write_kind(&mut shown, &token.kind),
+        Ok(None) => {}
+        Err(fault) => write_fault(&mut shown, fault),
+    }
+    shown.told()
+}
+
+#[test]
+fn a_lexer_stays_at_a_fault_and_at_the_end(rt: HostRuntime) -> Result<(), Fail> {
+    let alloc = rt.alloc();
+    let mut lexer = Lexer::new(b"a7 # b\n <= $ c")?;
+    for wanted in ["Name", "AtMost", "BadByte 2:5", "BadByte 2:5"] {
+        judged(&rt, next_shown(alloc, &mut lexer), wanted, &"a fault")?;
+    }
+    let mut lexer = Lexer::new(b"12 # b")?;
+    for wanted in ["12", "", ""] {
+        judged(&rt, next_shown(alloc, &mut lexer), wanted, &"the end")?;
+    }
+    Ok(())
+}
 
 #[test]
 fn texts_that_are_cut(rt: HostRuntime) -> Result<(), Fail> {

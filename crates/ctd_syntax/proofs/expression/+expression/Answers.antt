@@ -30,7 +30,7 @@ pub atom-returns-in-Numeral-clause-tree : goal.atom-returns-in-Numeral-clause-tr
 atom-returns-in-Numeral-clause-tree t c = rw (to_z-of_z w128 c.in-Numeral.n (search rules)) (numeral_reads (map lexeme c.args.tokens.now) (map lexeme c.in-Some.rest.now) _ (ap (map lexeme) c.in-Some.ensures.cases.0 ∙ ap (λ x. lexeme x ∷ map lexeme c.in-Some.rest.now) c.in-Numeral.is))
 
 pub atom-returns-in_ok-bytes-in-Text-clause-tree : goal.atom-returns-in_ok-bytes-in-Text-clause-tree
-atom-returns-in_ok-bytes-in-Text-clause-tree t c = rw (c.in_ok-bytes-in-Text.ensures.equal, c.as_slice.ensures.whole) (text_reads (map lexeme c.args.tokens.now) (map lexeme c.in-Some.rest.now) _ _ (ap (map lexeme) c.in-Some.ensures.cases.0 ∙ ap (λ x. lexeme x ∷ map lexeme c.in-Some.rest.now) c.in-Text.is))
+atom-returns-in_ok-bytes-in-Text-clause-tree t c = rw c.in_ok-bytes-in-Text.ensures (text_reads (map lexeme c.args.tokens.now) (map lexeme c.in-Some.rest.now) _ _ (ap (map lexeme) c.in-Some.ensures.cases.0 ∙ ap (λ x. lexeme x ∷ map lexeme c.in-Some.rest.now) c.in-Text.is))
 
 pub atom-returns-in_err-var-in-Name-clause-tree : goal.atom-returns-in_err-var-in-Name-clause-tree
 atom-returns-in_err-var-in-Name-clause-tree t c = refused_exit IsTarget IsAtom (ends 4) (ends 4) _ (map lexeme c.args.tokens.now) (map lexeme c.args.tokens.now) _ c.from_residual-in_err-var-in-Name.result c.from_residual-in_err-var-in-Name.ensures.1 (variable_none (map lexeme c.args.tokens.now) (map lexeme c.in-Some.rest.now) _ (ap (map lexeme) c.in-Some.ensures.cases.0 ∙ ap (λ x. lexeme x ∷ map lexeme c.in-Some.rest.now) c.in-Name.is)) c.in_err-var-in-Name.ensures.tree
