@@ -93,6 +93,7 @@ def command_lines(folder: Path) -> dict[str, list[str]]:
         "long.ctd": LONG_LINE,
         "long.in": b"word " * 10_000 + b"7\n",
         "open.ctd": b"INT(1,10",
+        "deep.ctd": b"ASSERT(" + b"(" * 200,
         "bad.ctd": b'REGEX("(")',
     }
     for name, content in files.items():
@@ -106,6 +107,7 @@ def command_lines(folder: Path) -> dict[str, list[str]]:
         "a grid that becomes a map": [paths["grid.ctd"], paths["grid.in"]],
         "a long match that is kept": [paths["long.ctd"], paths["long.in"]],
         "a program that breaks off": [paths["open.ctd"], paths["right.in"]],
+        "a program that nests too deeply": [paths["deep.ctd"], paths["right.in"]],
         "a bad pattern": [paths["bad.ctd"], paths["right.in"]],
         "a program that is not there": [str(folder / "none.ctd"), paths["right.in"]],
         "data that are not there": [paths["p.ctd"], str(folder / "none.in")],
