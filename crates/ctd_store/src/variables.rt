@@ -16,7 +16,7 @@ use crate::positions::Positions;
 use crate::row_and_map::{Row, shows};
 use crate::store::{EntryRef, Indices};
 use crate::value::Value;
-use ctd_token::Name;
+use ctd_token::{KnownName, Name};
 use std::alloc::{AllocError, Global};
 use std::marker::Model;
 use std::mem::replace;
@@ -24,7 +24,7 @@ use std::mem::replace;
 /// A name with its array, which has no entries where the name has no values.
 #[derive(Drop)]
 struct NamedArray {
-    name: Name,
+    name: KnownName,
     array: Array,
 }
 
@@ -297,7 +297,7 @@ fn add_name(
     let alloc = *indices.allocator();
     let copied = Name::copy(alloc, name.as_slice())?;
     let named = NamedArray {
-        name: copied,
+        name: KnownName::new(copied),
         array: Array::of_one(indices, value)?,
     };
     list.reserve(1)?;

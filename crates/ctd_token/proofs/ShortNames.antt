@@ -1,4 +1,4 @@
--- Names and their codes: two names of one code are the same, and a short name has a code of 64 bits that stands for no other thing.
+-- Names and their codes: two names of one code are the same, and the code of a short name has 64 bits and is neither 0 nor the greatest.
 use Rattle.std.proofs.Common.{◌≡◌, ℕ, zero, suc, ◌+◌, ◌*◌, ◌^◌, ◌<◌, ◌≤◌, List, [], ◌∷◌, length, refl, sym, arith, get_or}
 use Rattle.ctd_token.specs.declared.limits.TheConstants.{SHORT_NAME}
 use Rattle.ctd_token.specs.ShortNames.{name_code, IsShort}
@@ -32,7 +32,7 @@ code_within (suc n) (byte ∷ bytes) below few =
     let rest : name_code bytes < 257 ^ n = code_within n bytes (λ k. below (suc k)) (omega (arith, few)) in
     omega (arith, below 0, rest)
 
--- so a short one has one, which has 64 bits and is neither 0 nor the greatest
+-- so that of a short one has 64 bits and is not the greatest
 pub short_code_fits : (bytes : List ℕ) → ((k : ℕ) → get_or bytes k 0 < 256) → IsShort bytes → suc (name_code bytes) < 2 ^ 64
 short_code_fits bytes below short = let within : name_code bytes < 257 ^ SHORT_NAME = code_within SHORT_NAME bytes below short.1 in omega (arith, within)
 

@@ -165,7 +165,7 @@ fn numbers(alloc: Global, numbers: &[i8]) -> Result<Vec<Value>, AllocError> {
 
 /// The key of a name and some numbers.
 fn key(alloc: Global, name: &[u8], indices: &[i8]) -> Result<Key, AllocError> {
-    Ok(Key::new(name.to_vec(alloc)?, numbers(alloc, indices)?))
+    Ok(Key::new(Name::copy(alloc, name)?, numbers(alloc, indices)?))
 }
 
 /// Whether all that a program asserts holds, or its first fault.

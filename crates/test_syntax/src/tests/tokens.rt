@@ -3,7 +3,8 @@
 use super::answers::{judged, same, write_fault};
 use super::shown::Shown;
 use ctd_token::{
-    Bytes, Lexer, LoadKind, Name, PROGRAM_LIMIT, Place, Token, TokenKind, advance, token_at, tokens,
+    Bytes, KnownName, Lexer, LoadKind, Name, PROGRAM_LIMIT, Place, Token, TokenKind, advance,
+    token_at, tokens,
 };
 use std::alloc::{AllocError, Global};
 use std::process::Abort;
@@ -448,14 +449,10 @@ fn is_copied(alloc: Global, bytes: &[u8]) -> Result<bool, AllocError> {
     Ok(Bytes::copy(alloc, bytes)?.as_slice() == bytes)
 }
 
-/// Whether a name that was copied has some bytes.
+/// Whether a name that was copied has some bytes, and has them once it is known too.
 fn is_named(alloc: Global, bytes: &[u8]) -> Result<bool, AllocError> {
-    Ok(Name::copy(alloc, bytes)?.as_slice() == bytes)
-}
-
-/// Whether a name that was made of some bytes has them.
-fn is_made(alloc: Global, bytes: &[u8]) -> Result<bool, AllocError> {
-    Ok(Name::from_vec(bytes.to_vec(alloc)?).as_slice() == bytes)
+    let name = Name::copy(alloc, bytes)?;
+    Ok(name.as_slice() == bytes && KnownName::new(name).as_slice() == bytes)
 }
 
 /// Whether a name that was given a number has some bytes, and its number.
@@ -469,7 +466,7 @@ fn bytes_and_names(rt: HostRuntime) -> Result<(), Fail> {
     let are = [
         is_copied(rt.alloc(), b"ab")?,
         is_named(rt.alloc(), b"n1")?,
-        is_made(rt.alloc(), b"n1")?,
+        is_named(rt.alloc(), b"longestname")?,
     ];
     same(&rt, &are, &[true; 3], &"the bytes");
     let found = numbered(rt.alloc(), b"n1", 7)?;
@@ -479,9 +476,9 @@ fn bytes_and_names(rt: HostRuntime) -> Result<(), Fail> {
 
 /// Whether two names are the same, told by their codes.
 fn is_same(alloc: Global, name: &[u8], other: &[u8]) -> Result<bool, AllocError> {
-    let name = Name::copy(alloc, name)?;
+    let known = KnownName::new(Name::copy(alloc, name)?);
     let other = Name::numbered(alloc, other, 3)?;
-    Ok(name.is_same_short(&other))
+    Ok(known.is_same_short(&other))
 }
 
 /// Two names, and whether they are the same. Of long names nothing is told, nor of the name of no bytes.

@@ -1,7 +1,7 @@
 //! The order of values and of keys.
 
 use super::numbers;
-use ctd_syntax::Bytes;
+use ctd_syntax::{Bytes, Name};
 use ctd_value::{Key, Value};
 use std::alloc::{AllocError, Global};
 use std::test::Fail;
@@ -15,7 +15,7 @@ fn row(alloc: Global, name: &[u8], indices: &[i8], last: Option<&[u8]>) -> Resul
     if let Some(bytes) = last {
         values.push(Value::Text(Bytes::copy(alloc, bytes)?))?;
     }
-    Ok(Key::new(name.to_vec(alloc)?, values))
+    Ok(Key::new(Name::copy(alloc, name)?, values))
 }
 
 /// The keys of some rows.
