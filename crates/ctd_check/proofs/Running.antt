@@ -42,9 +42,9 @@ pub place_is : (a : Action) (place : Place) â†’ place_of (action_tree a place) â
 place_is Space place = refl
 place_is Newline place = refl
 place_is Eof place = refl
-place_is (Int low high target) place = refl
+place_is (Int int) place = refl
 place_is (String e) place = refl
-place_is (Regex literal target) place = refl
+place_is (Regex m) place = refl
 place_is (Assert t) place = refl
 place_is (Set assignments) place = refl
 place_is (Unset names) place = refl

@@ -16,7 +16,7 @@ use crate::loops::{choose, loop_frame, repeat};
 use ctd_command::{CommandFailure, Run};
 use ctd_pattern::Matcher;
 use ctd_source::Source;
-use ctd_syntax::{Action, Command, PatternLiteral, Var};
+use ctd_syntax::{Action, Command, Integer, Match, PatternLiteral, Var};
 
 /// REGEX: passes the match of its pattern at the start of the window, and keeps it in its variable, if there is one.
 #[inline(always)]
@@ -52,9 +52,15 @@ pub(crate) fn act<D: Source>(
         Action::Space => Some(run.space()),
         Action::Newline => Some(run.newline()),
         Action::Eof => Some(run.end()),
-        Action::Int(low, high, var) => Some(run.int(low, high, var)),
+        Action::Int(int) => {
+            let Integer { low, high, target } = &**int;
+            Some(run.int(low, high, target))
+        }
         Action::String(e) => Some(run.string(e)),
-        Action::Regex(literal, var) => Some(regex(run, literal, var, matchers)),
+        Action::Regex(parts) => {
+            let Match { literal, target } = &**parts;
+            Some(regex(run, literal, target, matchers))
+        }
         Action::Assert(t) => Some(run.assert(t)),
         Action::Set(assignments) => Some(run.set(assignments.as_slice())),
         Action::Unset(names) => {
@@ -106,9 +112,9 @@ pub(crate) fn start_block<'p, D: Source>(
         Action::Space => unreachable!(),
         Action::Newline => unreachable!(),
         Action::Eof => unreachable!(),
-        Action::Int(_, _, _) => unreachable!(),
+        Action::Int(_) => unreachable!(),
         Action::String(_) => unreachable!(),
-        Action::Regex(_, _) => unreachable!(),
+        Action::Regex(_) => unreachable!(),
         Action::Assert(_) => unreachable!(),
         Action::Set(_) => unreachable!(),
         Action::Unset(_) => unreachable!(),

@@ -31,10 +31,10 @@ fn command_literals<'p>(
 {
     match &command.action {
         Action::Space | Action::Newline | Action::Eof => Ok(()),
-        Action::Int(_, _, _) | Action::String(_) | Action::Assert(_) => Ok(()),
+        Action::Int(_) | Action::String(_) | Action::Assert(_) => Ok(()),
         Action::Set(_) | Action::Unset(_) => Ok(()),
-        Action::Regex(literal, _) => {
-            found.push(literal)?;
+        Action::Regex(regex) => {
+            found.push(&regex.literal)?;
             Ok(())
         }
         Action::Rep(_, between, body) => {

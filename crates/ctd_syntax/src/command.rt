@@ -17,7 +17,7 @@ use crate::names::names;
 use crate::parser_token::{ParserToken, string_of};
 use crate::target::{assignments, target_before, target_end};
 use ctd_token::{Mark, Place};
-use ctd_tree::{Action, Command, Commands, Expr, PatternLiteral, Test, Var};
+use ctd_tree::{Action, Command, Commands, Expr, Integer, Match, PatternLiteral, Test, Var};
 use std::alloc::Global;
 
 // The upper bound of INT and its target.
@@ -52,7 +52,8 @@ fn int<'t>(
     match upper_bound(alloc, rest) {
         Ok((upper, rest)) => {
             let (high, target) = upper;
-            let action = Action::Int(low, high, target);
+            let integer = Integer { low, high, target };
+            let action = Action::Int(Box::new(alloc, integer)?);
             Ok((Command { place, action }, rest))
         }
         Err(fault) => {
@@ -73,7 +74,7 @@ fn string<'t>(
 {
     let after = after_open(tokens)?;
     let (text, rest) = expr_before(alloc, Mark::Close, after)?;
-    let action = Action::String(text);
+    let action = Action::String(Box::new(alloc, text)?);
     Ok((Command { place, action }, rest))
 }
 
@@ -98,7 +99,7 @@ fn regex<'t>(
         bytes,
         place: at,
     };
-    let action = Action::Regex(literal, target);
+    let action = Action::Regex(Box::new(alloc, Match { literal, target })?);
     Ok((Command { place, action }, rest))
 }
 
@@ -113,7 +114,7 @@ fn assert<'t>(
 {
     let after = after_open(tokens)?;
     let (condition, rest) = test_before(alloc, Mark::Close, None, after)?;
-    let action = Action::Assert(condition);
+    let action = Action::Assert(Box::new(alloc, condition)?);
     Ok((Command { place, action }, rest))
 }
 
@@ -155,18 +156,14 @@ type LoopEnd = (Option<Box<Command>>, Commands);
 fn rep_tail<'t>(
     alloc: Global,
     tokens: &'t [ParserToken<'t>],
-) -> Result<((Expr, LoopEnd), &'t [ParserToken<'t>]), ParseError>
-    ensures tree { FindsTree (IsPair IsExpr IsLoopEnd) Always (λ x. ((expr_tree x.0.0, (boxed_separator x.0.1.0, command_list x.0.1.1)), map lexeme x.1.now)) result (map lexeme tokens.now) }
+) -> Result<((Box<Expr>, LoopEnd), &'t [ParserToken<'t>]), ParseError>
+    ensures tree { FindsTree (IsPair IsExpr IsLoopEnd) Always (λ x. ((expr_tree x.0.0.value, (boxed_separator x.0.1.0, command_list x.0.1.1)), map lexeme x.1.now)) result (map lexeme tokens.now) }
     ensures shorter { IfOk result (λ x. length x.1.now ≤ length tokens.now) }
 {
     let (count, rest) = expr(alloc, tokens)?;
-    match loop_end(alloc, rest) {
-        Ok((end, rest)) => Ok(((count, end), rest)),
-        Err(fault) => {
-            drop(count);
-            Err(fault)
-        }
-    }
+    let count = Box::new(alloc, count)?;
+    let (end, rest) = loop_end(alloc, rest)?;
+    Ok(((count, end), rest))
 }
 
 // The test of a loop, and how it goes on.
@@ -174,18 +171,14 @@ fn rep_tail<'t>(
 fn while_tail<'t>(
     alloc: Global,
     tokens: &'t [ParserToken<'t>],
-) -> Result<((Test, LoopEnd), &'t [ParserToken<'t>]), ParseError>
-    ensures tree { FindsTree (IsPair IsTest IsLoopEnd) Always (λ x. ((test_tree x.0.0, (boxed_separator x.0.1.0, command_list x.0.1.1)), map lexeme x.1.now)) result (map lexeme tokens.now) }
+) -> Result<((Box<Test>, LoopEnd), &'t [ParserToken<'t>]), ParseError>
+    ensures tree { FindsTree (IsPair IsTest IsLoopEnd) Always (λ x. ((test_tree x.0.0.value, (boxed_separator x.0.1.0, command_list x.0.1.1)), map lexeme x.1.now)) result (map lexeme tokens.now) }
     ensures shorter { IfOk result (λ x. length x.1.now ≤ length tokens.now) }
 {
     let (condition, rest) = test(alloc, None, tokens)?;
-    match loop_end(alloc, rest) {
-        Ok((end, rest)) => Ok(((condition, end), rest)),
-        Err(fault) => {
-            drop(condition);
-            Err(fault)
-        }
-    }
+    let condition = Box::new(alloc, condition)?;
+    let (end, rest) = loop_end(alloc, rest)?;
+    Ok(((condition, end), rest))
 }
 
 // What stands behind REP.
@@ -216,6 +209,7 @@ fn repi<'t>(
 {
     let after = after_open(tokens)?;
     let (counter, rest) = target_before(alloc, Mark::Comma, after)?;
+    let counter = Box::new(alloc, counter)?;
     let ((count, (between, body)), rest) = rep_tail(alloc, rest)?;
     let action = Action::RepI(counter, count, between, body);
     Ok((Command { place, action }, rest))
@@ -249,6 +243,7 @@ fn whilei<'t>(
 {
     let after = after_open(tokens)?;
     let (counter, rest) = target_before(alloc, Mark::Comma, after)?;
+    let counter = Box::new(alloc, counter)?;
     let ((condition, (between, body)), rest) = while_tail(alloc, rest)?;
     let action = Action::WhileI(counter, condition, between, body);
     Ok((Command { place, action }, rest))
@@ -298,17 +293,10 @@ fn if_command<'t>(
 {
     let after = after_open(tokens)?;
     let (condition, rest) = test_before(alloc, Mark::Close, None, after)?;
-    match branches(alloc, rest) {
-        Ok((blocks, rest)) => {
-            let (then_do, else_do) = blocks;
-            let action = Action::If(condition, then_do, else_do);
-            Ok((Command { place, action }, rest))
-        }
-        Err(fault) => {
-            drop(condition);
-            Err(fault)
-        }
-    }
+    let condition = Box::new(alloc, condition)?;
+    let ((then_do, else_do), rest) = branches(alloc, rest)?;
+    let action = Action::If(condition, then_do, else_do);
+    Ok((Command { place, action }, rest))
 }
 
 // A command and the parenthesis behind it.

@@ -89,17 +89,17 @@ abbrev mutual
   action_tree Space place = Tree.space place
   action_tree Newline place = Tree.newline place
   action_tree Eof place = Tree.eof place
-  action_tree (Int low high var) place = Tree.int place (expr_tree low) (expr_tree high) (target var)
-  action_tree (String e) place = Tree.string place (expr_tree e)
-  action_tree (Regex literal var) place = Tree.regex place literal (target var)
-  action_tree (Assert t) place = Tree.assert place (test_tree t)
+  action_tree (Int int) place = Tree.int place (expr_tree int.value.low) (expr_tree int.value.high) (target int.value.target)
+  action_tree (String e) place = Tree.string place (expr_tree e.value)
+  action_tree (Regex m) place = Tree.regex place m.value.literal (target m.value.target)
+  action_tree (Assert t) place = Tree.assert place (test_tree t.value)
   action_tree (Set assignments) place = Tree.set place (map assignment (assignments_of assignments))
   action_tree (Unset names) place = Tree.unset place (names_of names)
-  action_tree (Rep' count between body) place = Tree.rep place (expr_tree count) (separator between) (command_list body)
-  action_tree (RepI' counter count between body) place = Tree.repi place (var_tree counter) (expr_tree count) (separator between) (command_list body)
-  action_tree (While' t between body) place = Tree.while place (test_tree t) (separator between) (command_list body)
-  action_tree (WhileI' counter t between body) place = Tree.whilei place (var_tree counter) (test_tree t) (separator between) (command_list body)
-  action_tree (If t a b) place = Tree.choice place (test_tree t) (command_list a) (command_list b)
+  action_tree (Rep' count between body) place = Tree.rep place (expr_tree count.value) (separator between) (command_list body)
+  action_tree (RepI' counter count between body) place = Tree.repi place (var_tree counter.value) (expr_tree count.value) (separator between) (command_list body)
+  action_tree (While' t between body) place = Tree.while place (test_tree t.value) (separator between) (command_list body)
+  action_tree (WhileI' counter t between body) place = Tree.whilei place (var_tree counter.value) (test_tree t.value) (separator between) (command_list body)
+  action_tree (If t a b) place = Tree.choice place (test_tree t.value) (command_list a) (command_list b)
 
   -- a separator or none
   pub separator : Held-Action-Rep-1 → Separator

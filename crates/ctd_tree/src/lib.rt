@@ -7,6 +7,6 @@ mod tree;
 
 pub use preset::{Literal, Preset, PresetFault, Presets};
 pub use tree::{
-    Action, Assignment, Assignments, Command, Commands, Compare, Expr, Exprs, Names,
-    PatternLiteral, Program, Test, Var,
+    Action, Assignment, Assignments, Command, Commands, Compare, Expr, Exprs, Integer, Match,
+    Names, PatternLiteral, Program, Test, Var,
 };

@@ -111,6 +111,21 @@ pub struct PatternLiteral {
     pub place: Place,
 }
 
+/// What INT takes: the least and the greatest integer, and the variable that gets what it reads, if there is one.
+#[derive(Drop)]
+pub struct Integer {
+    pub low: Expr,
+    pub high: Expr,
+    pub target: Option<Var>,
+}
+
+/// What REGEX takes: its literal, and the variable that gets what it matches, if there is one.
+#[derive(Drop)]
+pub struct Match {
+    pub literal: PatternLiteral,
+    pub target: Option<Var>,
+}
+
 /// A command, with the place of its word.
 #[derive(Drop)]
 #[cycle(command)]
@@ -119,7 +134,7 @@ pub struct Command {
     pub action: Action,
 }
 
-/// What a command does. The separator of a loop and the target of a command may be absent.
+/// What a command does. The separator of a loop may be absent. What is large lies in a box, since every command has the room of the largest.
 #[derive(Drop)]
 #[cycle(command)]
 pub enum Action {
@@ -130,27 +145,27 @@ pub enum Action {
     /// `EOF`
     Eof,
     /// `INT(min,max[,target])`
-    Int(Expr, Expr, Option<Var>),
+    Int(Box<Integer>),
     /// `STRING(e)`
-    String(Expr),
+    String(Box<Expr>),
     /// `REGEX(pattern[,target])`
-    Regex(PatternLiteral, Option<Var>),
+    Regex(Box<Match>),
     /// `ASSERT(t)`
-    Assert(Test),
+    Assert(Box<Test>),
     /// `SET(v = e, ..)`
     Set(Assignments),
     /// `UNSET(a, ..)`
     Unset(Names),
     /// `REP(count[,separator]) .. END`
-    Rep(Expr, Option<Box<Command>>, Commands),
+    Rep(Box<Expr>, Option<Box<Command>>, Commands),
     /// `REPI(counter,count[,separator]) .. END`
-    RepI(Var, Expr, Option<Box<Command>>, Commands),
+    RepI(Box<Var>, Box<Expr>, Option<Box<Command>>, Commands),
     /// `WHILE(t[,separator]) .. END`
-    While(Test, Option<Box<Command>>, Commands),
+    While(Box<Test>, Option<Box<Command>>, Commands),
     /// `WHILEI(counter,t[,separator]) .. END`
-    WhileI(Var, Test, Option<Box<Command>>, Commands),
+    WhileI(Box<Var>, Box<Test>, Option<Box<Command>>, Commands),
     /// `IF(t) .. [ELSE ..] END`; with no ELSE the second list is empty.
-    If(Test, Commands, Commands),
+    If(Box<Test>, Commands, Commands),
 }
 
 /// A list of commands.

@@ -203,9 +203,9 @@ fn word_of(action: &Action) -> &'static str {
         Action::Space => "SPACE",
         Action::Newline => "NEWLINE",
         Action::Eof => "EOF",
-        Action::Int(_, _, _) => "INT",
+        Action::Int(_) => "INT",
         Action::String(_) => "STRING",
-        Action::Regex(_, _) => "REGEX",
+        Action::Regex(_) => "REGEX",
         Action::Assert(_) => "ASSERT",
         Action::Set(_) => "SET",
         Action::Unset(_) => "UNSET",
@@ -242,21 +242,22 @@ fn write_action(out: &mut Shown, depth: u16, action: &Action) {
         return out.put("...");
     };
     match action {
-        Action::Int(low, high, target) => {
-            write_expr(out, DEPTH, low);
+        Action::Int(integer) => {
+            write_expr(out, DEPTH, &integer.low);
             out.put(",");
-            write_expr(out, DEPTH, high);
-            write_target(out, target)
+            write_expr(out, DEPTH, &integer.high);
+            write_target(out, &integer.target)
         }
         Action::String(text) => {
             write_expr(out, DEPTH, text);
             out.put(")")
         }
-        Action::Regex(literal, target) => {
+        Action::Regex(regex) => {
+            let literal = &regex.literal;
             write_text(out, literal.bytes.as_slice());
             write_place(out, literal.place);
             out.put_form(format_args!("#{}", literal.number));
-            write_target(out, target)
+            write_target(out, &regex.target)
         }
         Action::Assert(condition) => {
             write_test(out, DEPTH, condition);

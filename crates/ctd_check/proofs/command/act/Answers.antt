@@ -1,4 +1,4 @@
-use Rattle.std.proofs.Common.{[], ap, map}
+use Rattle.std.proofs.Common.{[], ap, map, sym}
 use Rattle.ctd_tree.specs.View.{assignment}
 use Rattle.ctd_command.specs.Effect.{set, unset_all}
 use Rattle.ctd_command.proofs.Acts.{performs_answering, performs_as}
@@ -14,16 +14,16 @@ pub returns-in-Eof-clause-performs : goal.returns-in-Eof-clause-performs
 returns-in-Eof-clause-performs g c = rw c.in-Eof.is (performs_answering (λ _. []) c.end.ensures.performs)
 
 pub returns-in-Assert-clause-performs : goal.returns-in-Assert-clause-performs
-returns-in-Assert-clause-performs g c = rw c.in-Assert.is (performs_answering (λ _. []) c.assert.ensures.performs)
+returns-in-Assert-clause-performs g c = rw (c.in-Assert.is, sym c.deref-in-Assert.ensures) (performs_answering (λ _. []) c.assert.ensures.performs)
 
 pub returns-in-Int-clause-performs : goal.returns-in-Int-clause-performs
-returns-in-Int-clause-performs g c = rw c.in-Int.is (performs_answering (λ _. []) c.int.ensures.performs)
+returns-in-Int-clause-performs g c = rw (c.in-Int.is, sym c.deref.ensures) (performs_answering (λ _. []) c.int.ensures.performs)
 
 pub returns-in-String-clause-performs : goal.returns-in-String-clause-performs
-returns-in-String-clause-performs g c = rw c.in-String.is (performs_answering (λ _. []) c.string.ensures.performs)
+returns-in-String-clause-performs g c = rw (c.in-String.is, sym c.deref-in-String.ensures) (performs_answering (λ _. []) c.string.ensures.performs)
 
 pub returns-in-Regex-clause-performs : goal.returns-in-Regex-clause-performs
-returns-in-Regex-clause-performs g c = rw c.in-Regex.is (performs_answering (λ _. []) c.regex.ensures.performs)
+returns-in-Regex-clause-performs g c = rw (c.in-Regex.is, sym c.deref-in-Regex.ensures) (performs_answering (λ _. []) c.regex.ensures.performs)
 
 pub returns-in-Set-clause-performs : goal.returns-in-Set-clause-performs
 returns-in-Set-clause-performs g c = rw c.in-Set.is (performs_answering (λ _. []) (performs_as (λ d s. ap (λ xs. set (map assignment xs) d s) c.as_slice.ensures) c.set.ensures.performs))

@@ -36,7 +36,7 @@ loop_boxed : (place : Place) (guard : Guard) (counter : Option VarTree) (body : 
 loop_boxed place guard counter body between = ap (λ s. turn (loop_of place guard counter s body) 0 ∷ []) (sym (held_separator between))
 
 pub returns-in-While-clause-performs : goal.returns-in-While-clause-performs
-returns-in-While-clause-performs g c = rw c.in-While.is (given_as c.args.run.now _ _ (c.loop_frame.ensures.tasks ∙ loop_boxed _ _ _ _ c.in-While.between) c.requires.sound)
+returns-in-While-clause-performs g c = rw (c.in-While.is, sym c.deref-in-While.ensures) (given_as c.args.run.now _ _ (c.loop_frame.ensures.tasks ∙ loop_boxed _ _ _ _ c.in-While.between) c.requires.sound)
 
 pub returns-in-WhileI-clause-performs : goal.returns-in-WhileI-clause-performs
-returns-in-WhileI-clause-performs g c = rw c.in-WhileI.is (given_as c.args.run.now _ _ (c.loop_frame-in-WhileI.ensures.tasks ∙ loop_boxed _ _ _ _ c.in-WhileI.between) c.requires.sound)
+returns-in-WhileI-clause-performs g c = rw (c.in-WhileI.is, sym c.deref-in-WhileI.ensures, sym c.deref-in-WhileI-2.ensures) (given_as c.args.run.now _ _ (c.loop_frame-in-WhileI.ensures.tasks ∙ loop_boxed _ _ _ _ c.in-WhileI.between) c.requires.sound)

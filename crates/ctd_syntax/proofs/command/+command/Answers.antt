@@ -8,23 +8,23 @@ use Rattle.ctd_syntax.specs.Tests.{test_ends}
 use Rattle.ctd_syntax.specs.CommandWords.{IsCommandRest, CommandsEnd, IsBlock, IsBranchEnd, IsLoopEnd}
 use Rattle.ctd_token.specs.declared.token.Mark.TheVariants.{Close, Comma}
 use Rattle.ctd_syntax.specs.declared.keyword.Keyword.TheVariants as words
-use Rattle.ctd_syntax.proofs.Fronts.{reads_as, refused_as, refused_exit, before_reads, word_reads, pair_reads, first_none, second_none, no_tree_exit}
+use Rattle.ctd_syntax.proofs.Fronts.{reads_as, refused_exit, before_reads, word_reads, pair_reads, first_none, second_none, no_tree_exit}
 use Rattle.ctd_syntax.proofs.CommandReads.{opened_reads, opened_none, before_loop_end, test_before_loop_end, before_branch_end, whatever, command_reads, command_none, commands_start, commands_next, commands_no_next, commands_end, begins_at, loop_end_plain, loop_end_no_block, loop_end_separated, loop_end_no_separated, branch_ended, branch_goes_on, branch_no_block, not_opened}
 use Rattle.ctd_tree.specs.View.{command_trees}
 use Rattle.ctd_tree.proofs.Trees.{held_separator, list_commands, trees_then}
 use Rattle.ctd_syntax.proofs.command.+command.Goals as goal
 
-pub rep_tail-returns-in-Err-clause-tree : goal.rep_tail-returns-in-Err-clause-tree
-rep_tail-returns-in-Err-clause-tree t c = refused_as IsLoopEnd (IsPair IsExpr IsLoopEnd) Always Always (map lexeme c.in_ok-count.rest.now) (map lexeme c.args.tokens.now) c.in-Err.fault (second_none IsExpr IsLoopEnd (ends 1) Always before_loop_end (map lexeme c.args.tokens.now) (map lexeme c.in_ok-count.rest.now) _ c.in_ok-count.ensures.tree) c.in-Err.ensures.tree
+pub rep_tail-returns-in_err-end-clause-tree : goal.rep_tail-returns-in_err-end-clause-tree
+rep_tail-returns-in_err-end-clause-tree t c = refused_exit IsLoopEnd (IsPair IsExpr IsLoopEnd) Always Always _ (map lexeme c.in_ok-count.rest.now) (map lexeme c.args.tokens.now) _ c.from_residual-in_err-end.result c.from_residual-in_err-end.ensures.1 (second_none IsExpr IsLoopEnd (ends 1) Always before_loop_end (map lexeme c.args.tokens.now) (map lexeme c.in_ok-count.rest.now) _ c.in_ok-count.ensures.tree) c.in_err-end.ensures.tree
 
-pub rep_tail-returns-in-Ok-clause-tree : goal.rep_tail-returns-in-Ok-clause-tree
-rep_tail-returns-in-Ok-clause-tree t c = pair_reads IsExpr IsLoopEnd (ends 1) Always before_loop_end (map lexeme c.args.tokens.now) (map lexeme c.in_ok-count.rest.now) (map lexeme c.in-Ok.rest.now) _ _ c.in_ok-count.ensures.tree c.in-Ok.ensures.tree
+pub rep_tail-returns-clause-tree : goal.rep_tail-returns-clause-tree
+rep_tail-returns-clause-tree t c = rw c.in_ok-count-2.ensures.ok (pair_reads IsExpr IsLoopEnd (ends 1) Always before_loop_end (map lexeme c.args.tokens.now) (map lexeme c.in_ok-count.rest.now) (map lexeme c.in_ok-end.rest.now) _ _ c.in_ok-count.ensures.tree c.in_ok-end.ensures.tree)
 
-pub while_tail-returns-in-Err-clause-tree : goal.while_tail-returns-in-Err-clause-tree
-while_tail-returns-in-Err-clause-tree t c = refused_as IsLoopEnd (IsPair IsTest IsLoopEnd) Always Always (map lexeme c.in_ok-condition.rest.now) (map lexeme c.args.tokens.now) c.in-Err.fault (second_none IsTest IsLoopEnd (test_ends 1) Always test_before_loop_end (map lexeme c.args.tokens.now) (map lexeme c.in_ok-condition.rest.now) _ c.in_ok-condition.ensures.tree) c.in-Err.ensures.tree
+pub while_tail-returns-in_err-end-clause-tree : goal.while_tail-returns-in_err-end-clause-tree
+while_tail-returns-in_err-end-clause-tree t c = refused_exit IsLoopEnd (IsPair IsTest IsLoopEnd) Always Always _ (map lexeme c.in_ok-condition.rest.now) (map lexeme c.args.tokens.now) _ c.from_residual-in_err-end.result c.from_residual-in_err-end.ensures.1 (second_none IsTest IsLoopEnd (test_ends 1) Always test_before_loop_end (map lexeme c.args.tokens.now) (map lexeme c.in_ok-condition.rest.now) _ c.in_ok-condition.ensures.tree) c.in_err-end.ensures.tree
 
-pub while_tail-returns-in-Ok-clause-tree : goal.while_tail-returns-in-Ok-clause-tree
-while_tail-returns-in-Ok-clause-tree t c = pair_reads IsTest IsLoopEnd (test_ends 1) Always test_before_loop_end (map lexeme c.args.tokens.now) (map lexeme c.in_ok-condition.rest.now) (map lexeme c.in-Ok.rest.now) _ _ c.in_ok-condition.ensures.tree c.in-Ok.ensures.tree
+pub while_tail-returns-clause-tree : goal.while_tail-returns-clause-tree
+while_tail-returns-clause-tree t c = rw c.in_ok-condition-2.ensures.ok (pair_reads IsTest IsLoopEnd (test_ends 1) Always test_before_loop_end (map lexeme c.args.tokens.now) (map lexeme c.in_ok-condition.rest.now) (map lexeme c.in_ok-end.rest.now) _ _ c.in_ok-condition.ensures.tree c.in_ok-end.ensures.tree)
 
 pub branches-returns-in_err-else_do-clause-tree : goal.branches-returns-in_err-else_do-clause-tree
 branches-returns-in_err-else_do-clause-tree t c = refused_exit IsBranchEnd (IsPair IsCommands IsBranchEnd) Always Always _ (map lexeme c.in_ok-then_do.rest.now) (map lexeme c.args.tokens.now) _ c.from_residual-in_err-else_do.result c.from_residual-in_err-else_do.ensures.1 (second_none IsCommands IsBranchEnd CommandsEnd Always before_branch_end (map lexeme c.args.tokens.now) (map lexeme c.in_ok-then_do.rest.now) _ c.in_ok-then_do.ensures.tree) c.in_err-else_do.ensures.tree
@@ -60,7 +60,7 @@ pub repi-returns-in_err-count-clause-tree : goal.repi-returns-in_err-count-claus
 repi-returns-in_err-count-clause-tree t c = refused_exit (IsPair IsExpr IsLoopEnd) (IsCommandRest words.RepI c.args.place) Always Always _ (map lexeme c.in_ok-counter.rest.now) (map lexeme c.args.tokens.now) _ c.from_residual-in_err-count.result c.from_residual-in_err-count.ensures.1 (λ not. opened_none (λ x. Tree.repi c.args.place x.0 x.1.0 x.1.1.0 x.1.1.1) (IsPair (IsBefore Comma IsTarget) (IsPair IsExpr IsLoopEnd)) Always (map lexeme c.args.tokens.now) (map lexeme c.in_ok-after.after.now) c.in_ok-after.ensures.found (second_none (IsBefore Comma IsTarget) (IsPair IsExpr IsLoopEnd) Always Always (whatever (IsPair IsExpr IsLoopEnd)) (map lexeme c.in_ok-after.after.now) (map lexeme c.in_ok-counter.rest.now) _ c.in_ok-counter.ensures.tree not)) c.in_err-count.ensures.tree
 
 pub repi-returns-clause-tree : goal.repi-returns-clause-tree
-repi-returns-clause-tree t c = rw (held_separator c.in_ok-count.between) (opened_reads (λ x. Tree.repi c.args.place x.0 x.1.0 x.1.1.0 x.1.1.1) (IsPair (IsBefore Comma IsTarget) (IsPair IsExpr IsLoopEnd)) Always (map lexeme c.args.tokens.now) (map lexeme c.in_ok-after.after.now) (map lexeme c.in_ok-count.rest.now) _ c.in_ok-after.ensures.found (pair_reads (IsBefore Comma IsTarget) (IsPair IsExpr IsLoopEnd) Always Always (whatever (IsPair IsExpr IsLoopEnd)) (map lexeme c.in_ok-after.after.now) (map lexeme c.in_ok-counter.rest.now) (map lexeme c.in_ok-count.rest.now) _ _ c.in_ok-counter.ensures.tree c.in_ok-count.ensures.tree))
+repi-returns-clause-tree t c = rw (held_separator c.in_ok-count.between, c.in_ok-counter-2.ensures.ok) (opened_reads (λ x. Tree.repi c.args.place x.0 x.1.0 x.1.1.0 x.1.1.1) (IsPair (IsBefore Comma IsTarget) (IsPair IsExpr IsLoopEnd)) Always (map lexeme c.args.tokens.now) (map lexeme c.in_ok-after.after.now) (map lexeme c.in_ok-count.rest.now) _ c.in_ok-after.ensures.found (pair_reads (IsBefore Comma IsTarget) (IsPair IsExpr IsLoopEnd) Always Always (whatever (IsPair IsExpr IsLoopEnd)) (map lexeme c.in_ok-after.after.now) (map lexeme c.in_ok-counter.rest.now) (map lexeme c.in_ok-count.rest.now) _ _ c.in_ok-counter.ensures.tree c.in_ok-count.ensures.tree))
 
 pub whilei-returns-in_err-after-clause-tree : goal.whilei-returns-in_err-after-clause-tree
 whilei-returns-in_err-after-clause-tree t c = no_tree_exit (IsCommandRest words.WhileI c.args.place) Always _ (map lexeme c.args.tokens.now) _ c.from_residual.result c.from_residual.ensures.1 (not_opened (λ x. Tree.whilei c.args.place x.0 x.1.0 x.1.1.0 x.1.1.1) (IsPair (IsBefore Comma IsTarget) (IsPair IsTest IsLoopEnd)) Always (map lexeme c.args.tokens.now) c.in_err-after.ensures.none)
@@ -72,7 +72,7 @@ pub whilei-returns-in_err-condition-clause-tree : goal.whilei-returns-in_err-con
 whilei-returns-in_err-condition-clause-tree t c = refused_exit (IsPair IsTest IsLoopEnd) (IsCommandRest words.WhileI c.args.place) Always Always _ (map lexeme c.in_ok-counter.rest.now) (map lexeme c.args.tokens.now) _ c.from_residual-in_err-condition.result c.from_residual-in_err-condition.ensures.1 (λ not. opened_none (λ x. Tree.whilei c.args.place x.0 x.1.0 x.1.1.0 x.1.1.1) (IsPair (IsBefore Comma IsTarget) (IsPair IsTest IsLoopEnd)) Always (map lexeme c.args.tokens.now) (map lexeme c.in_ok-after.after.now) c.in_ok-after.ensures.found (second_none (IsBefore Comma IsTarget) (IsPair IsTest IsLoopEnd) Always Always (whatever (IsPair IsTest IsLoopEnd)) (map lexeme c.in_ok-after.after.now) (map lexeme c.in_ok-counter.rest.now) _ c.in_ok-counter.ensures.tree not)) c.in_err-condition.ensures.tree
 
 pub whilei-returns-clause-tree : goal.whilei-returns-clause-tree
-whilei-returns-clause-tree t c = rw (held_separator c.in_ok-condition.between) (opened_reads (λ x. Tree.whilei c.args.place x.0 x.1.0 x.1.1.0 x.1.1.1) (IsPair (IsBefore Comma IsTarget) (IsPair IsTest IsLoopEnd)) Always (map lexeme c.args.tokens.now) (map lexeme c.in_ok-after.after.now) (map lexeme c.in_ok-condition.rest.now) _ c.in_ok-after.ensures.found (pair_reads (IsBefore Comma IsTarget) (IsPair IsTest IsLoopEnd) Always Always (whatever (IsPair IsTest IsLoopEnd)) (map lexeme c.in_ok-after.after.now) (map lexeme c.in_ok-counter.rest.now) (map lexeme c.in_ok-condition.rest.now) _ _ c.in_ok-counter.ensures.tree c.in_ok-condition.ensures.tree))
+whilei-returns-clause-tree t c = rw (held_separator c.in_ok-condition.between, c.in_ok-counter-2.ensures.ok) (opened_reads (λ x. Tree.whilei c.args.place x.0 x.1.0 x.1.1.0 x.1.1.1) (IsPair (IsBefore Comma IsTarget) (IsPair IsTest IsLoopEnd)) Always (map lexeme c.args.tokens.now) (map lexeme c.in_ok-after.after.now) (map lexeme c.in_ok-condition.rest.now) _ c.in_ok-after.ensures.found (pair_reads (IsBefore Comma IsTarget) (IsPair IsTest IsLoopEnd) Always Always (whatever (IsPair IsTest IsLoopEnd)) (map lexeme c.in_ok-after.after.now) (map lexeme c.in_ok-counter.rest.now) (map lexeme c.in_ok-condition.rest.now) _ _ c.in_ok-counter.ensures.tree c.in_ok-condition.ensures.tree))
 
 pub if_command-returns-in_err-after-clause-tree : goal.if_command-returns-in_err-after-clause-tree
 if_command-returns-in_err-after-clause-tree t c = no_tree_exit (IsCommandRest words.If c.args.place) Always _ (map lexeme c.args.tokens.now) _ c.from_residual.result c.from_residual.ensures.1 (not_opened (λ x. Tree.choice c.args.place x.0 x.1.0 x.1.1) (IsPair (IsBefore Close IsTest) (IsPair IsCommands IsBranchEnd)) Always (map lexeme c.args.tokens.now) c.in_err-after.ensures.none)
@@ -80,11 +80,11 @@ if_command-returns-in_err-after-clause-tree t c = no_tree_exit (IsCommandRest wo
 pub if_command-returns-in_err-condition-clause-tree : goal.if_command-returns-in_err-condition-clause-tree
 if_command-returns-in_err-condition-clause-tree t c = refused_exit (IsBefore Close IsTest) (IsCommandRest words.If c.args.place) Always Always _ (map lexeme c.in_ok-after.after.now) (map lexeme c.args.tokens.now) _ c.from_residual-in_err-condition.result c.from_residual-in_err-condition.ensures.1 (λ not. opened_none (λ x. Tree.choice c.args.place x.0 x.1.0 x.1.1) (IsPair (IsBefore Close IsTest) (IsPair IsCommands IsBranchEnd)) Always (map lexeme c.args.tokens.now) (map lexeme c.in_ok-after.after.now) c.in_ok-after.ensures.found (first_none (IsBefore Close IsTest) (IsPair IsCommands IsBranchEnd) Always Always (whatever (IsPair IsCommands IsBranchEnd)) (map lexeme c.in_ok-after.after.now) not)) c.in_err-condition.ensures.tree
 
-pub if_command-returns-in-Err-clause-tree : goal.if_command-returns-in-Err-clause-tree
-if_command-returns-in-Err-clause-tree t c = refused_as (IsPair IsCommands IsBranchEnd) (IsCommandRest words.If c.args.place) Always Always (map lexeme c.in_ok-condition.rest.now) (map lexeme c.args.tokens.now) c.in-Err.fault (λ not. opened_none (λ x. Tree.choice c.args.place x.0 x.1.0 x.1.1) (IsPair (IsBefore Close IsTest) (IsPair IsCommands IsBranchEnd)) Always (map lexeme c.args.tokens.now) (map lexeme c.in_ok-after.after.now) c.in_ok-after.ensures.found (second_none (IsBefore Close IsTest) (IsPair IsCommands IsBranchEnd) Always Always (whatever (IsPair IsCommands IsBranchEnd)) (map lexeme c.in_ok-after.after.now) (map lexeme c.in_ok-condition.rest.now) _ c.in_ok-condition.ensures.tree not)) c.in-Err.ensures.tree
+pub if_command-returns-in_err-then_do-clause-tree : goal.if_command-returns-in_err-then_do-clause-tree
+if_command-returns-in_err-then_do-clause-tree t c = refused_exit (IsPair IsCommands IsBranchEnd) (IsCommandRest words.If c.args.place) Always Always _ (map lexeme c.in_ok-condition.rest.now) (map lexeme c.args.tokens.now) _ c.from_residual-in_err-then_do.result c.from_residual-in_err-then_do.ensures.1 (λ not. opened_none (λ x. Tree.choice c.args.place x.0 x.1.0 x.1.1) (IsPair (IsBefore Close IsTest) (IsPair IsCommands IsBranchEnd)) Always (map lexeme c.args.tokens.now) (map lexeme c.in_ok-after.after.now) c.in_ok-after.ensures.found (second_none (IsBefore Close IsTest) (IsPair IsCommands IsBranchEnd) Always Always (whatever (IsPair IsCommands IsBranchEnd)) (map lexeme c.in_ok-after.after.now) (map lexeme c.in_ok-condition.rest.now) _ c.in_ok-condition.ensures.tree not)) c.in_err-then_do.ensures.tree
 
-pub if_command-returns-in-Ok-clause-tree : goal.if_command-returns-in-Ok-clause-tree
-if_command-returns-in-Ok-clause-tree t c = opened_reads (λ x. Tree.choice c.args.place x.0 x.1.0 x.1.1) (IsPair (IsBefore Close IsTest) (IsPair IsCommands IsBranchEnd)) Always (map lexeme c.args.tokens.now) (map lexeme c.in_ok-after.after.now) (map lexeme c.in-Ok.rest.now) _ c.in_ok-after.ensures.found (pair_reads (IsBefore Close IsTest) (IsPair IsCommands IsBranchEnd) Always Always (whatever (IsPair IsCommands IsBranchEnd)) (map lexeme c.in_ok-after.after.now) (map lexeme c.in_ok-condition.rest.now) (map lexeme c.in-Ok.rest.now) _ _ c.in_ok-condition.ensures.tree c.in-Ok.ensures.tree)
+pub if_command-returns-clause-tree : goal.if_command-returns-clause-tree
+if_command-returns-clause-tree t c = rw c.in_ok-condition-2.ensures.ok (opened_reads (λ x. Tree.choice c.args.place x.0 x.1.0 x.1.1) (IsPair (IsBefore Close IsTest) (IsPair IsCommands IsBranchEnd)) Always (map lexeme c.args.tokens.now) (map lexeme c.in_ok-after.after.now) (map lexeme c.in_ok-then_do.rest.now) _ c.in_ok-after.ensures.found (pair_reads (IsBefore Close IsTest) (IsPair IsCommands IsBranchEnd) Always Always (whatever (IsPair IsCommands IsBranchEnd)) (map lexeme c.in_ok-after.after.now) (map lexeme c.in_ok-condition.rest.now) (map lexeme c.in_ok-then_do.rest.now) _ _ c.in_ok-condition.ensures.tree c.in_ok-then_do.ensures.tree))
 
 pub separator_before-returns-in-Some-clause-tree : goal.separator_before-returns-in-Some-clause-tree
 separator_before-returns-in-Some-clause-tree t c = before_reads IsCommand Always Close (λ us. tt) (map lexeme c.args.tokens.now) (map lexeme c.in_ok-between.rest.now) (map lexeme c.in-Some.rest.now) _ c.in_ok-between.ensures.tree c.in-Some.ensures.found

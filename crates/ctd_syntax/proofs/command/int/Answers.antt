@@ -18,5 +18,5 @@ returns-in_err-low-clause-tree c = refused_exit (IsBefore Comma IsExpr) (IsComma
 pub returns-in-Err-clause-tree : goal.returns-in-Err-clause-tree
 returns-in-Err-clause-tree c = refused_as (IsPair IsExpr IsTargetEnd) (IsCommandRest words.Int c.args.place) Always Always (map lexeme c.in_ok-low.rest.now) (map lexeme c.args.tokens.now) c.in-Err.fault (λ not. opened_none (λ x. Tree.int c.args.place x.0 x.1.0 x.1.1) (IsPair (IsBefore Comma IsExpr) (IsPair IsExpr IsTargetEnd)) Always (map lexeme c.args.tokens.now) (map lexeme c.in_ok-after.after.now) c.in_ok-after.ensures.found (second_none (IsBefore Comma IsExpr) (IsPair IsExpr IsTargetEnd) Always Always (whatever (IsPair IsExpr IsTargetEnd)) (map lexeme c.in_ok-after.after.now) (map lexeme c.in_ok-low.rest.now) _ c.in_ok-low.ensures.tree not)) c.in-Err.ensures.tree
 
-pub returns-in-Ok-clause-tree : goal.returns-in-Ok-clause-tree
-returns-in-Ok-clause-tree c = opened_reads (λ x. Tree.int c.args.place x.0 x.1.0 x.1.1) (IsPair (IsBefore Comma IsExpr) (IsPair IsExpr IsTargetEnd)) Always (map lexeme c.args.tokens.now) (map lexeme c.in_ok-after.after.now) (map lexeme c.in-Ok.rest.now) _ c.in_ok-after.ensures.found (pair_reads (IsBefore Comma IsExpr) (IsPair IsExpr IsTargetEnd) Always Always (whatever (IsPair IsExpr IsTargetEnd)) (map lexeme c.in_ok-after.after.now) (map lexeme c.in_ok-low.rest.now) (map lexeme c.in-Ok.rest.now) _ _ c.in_ok-low.ensures.tree c.in-Ok.ensures.tree)
+pub returns-in_ok-new-in-Ok-clause-tree : goal.returns-in_ok-new-in-Ok-clause-tree
+returns-in_ok-new-in-Ok-clause-tree c = rw c.in_ok-new-in-Ok.ensures.ok (opened_reads (λ x. Tree.int c.args.place x.0 x.1.0 x.1.1) (IsPair (IsBefore Comma IsExpr) (IsPair IsExpr IsTargetEnd)) Always (map lexeme c.args.tokens.now) (map lexeme c.in_ok-after.after.now) (map lexeme c.in-Ok.rest.now) _ c.in_ok-after.ensures.found (pair_reads (IsBefore Comma IsExpr) (IsPair IsExpr IsTargetEnd) Always Always (whatever (IsPair IsExpr IsTargetEnd)) (map lexeme c.in_ok-after.after.now) (map lexeme c.in_ok-low.rest.now) (map lexeme c.in-Ok.rest.now) _ _ c.in_ok-low.ensures.tree c.in-Ok.ensures.tree))

@@ -16,4 +16,4 @@ pub returns-in_err-text-clause-tree : goal.returns-in_err-text-clause-tree
 returns-in_err-text-clause-tree c = refused_exit (IsBefore Close IsExpr) (IsCommandRest words.String c.args.place) Always Always _ (map lexeme c.in_ok-after.after.now) (map lexeme c.args.tokens.now) _ c.from_residual-in_err-text.result c.from_residual-in_err-text.ensures.1 (opened_none (Tree.string c.args.place) (IsBefore Close IsExpr) Always (map lexeme c.args.tokens.now) (map lexeme c.in_ok-after.after.now) c.in_ok-after.ensures.found) c.in_err-text.ensures.tree
 
 pub returns-clause-tree : goal.returns-clause-tree
-returns-clause-tree c = opened_reads (Tree.string c.args.place) (IsBefore Close IsExpr) Always (map lexeme c.args.tokens.now) (map lexeme c.in_ok-after.after.now) (map lexeme c.in_ok-text.rest.now) _ c.in_ok-after.ensures.found c.in_ok-text.ensures.tree
+returns-clause-tree c = rw c.in_ok-new.ensures.ok (opened_reads (Tree.string c.args.place) (IsBefore Close IsExpr) Always (map lexeme c.args.tokens.now) (map lexeme c.in_ok-after.after.now) (map lexeme c.in_ok-text.rest.now) _ c.in_ok-after.ensures.found c.in_ok-text.ensures.tree)
