@@ -1,23 +1,23 @@
 -- What reading from the front of a list of tokens gives; for the contracts of private functions alone.
 use Rattle.std.specs.Prelude.{◌≡◌, ℕ, List, [], ◌∷◌, ◌++◌, Option, Some, None, Result, Ok, Err}
-use Rattle.ctd_syntax.specs.declared.parser_token.ParserToken.{ParserToken}
-use Rattle.ctd_syntax.specs.declared.parser_token.ParserToken.TheVariants as parser_tokens
-use Rattle.ctd_syntax.specs.declared.front.ParseError.{ParseError}
-use Rattle.ctd_syntax.specs.declared.front.ParseError.TheVariants.{Syntax, Memory}
-use Rattle.ctd_syntax.specs.declared.keyword.Keyword.{Keyword}
+use Rattle.ctd_token.specs.Cut.{TokenOrFault, token_at}
 use Rattle.ctd_token.specs.declared.text.Place.{Place}
 use Rattle.ctd_token.specs.declared.token.Mark.{Mark}
+use Rattle.ctd_token.specs.declared.token.Mark.TheVariants.{Assign}
 use Rattle.ctd_token.specs.declared.token.Token.{Token}
 use Rattle.ctd_token.specs.declared.token.TokenKind.TheVariants as tokens
-use Rattle.ctd_token.specs.declared.token.Mark.TheVariants.{Assign}
 use Rattle.ctd_tree.specs.Tree.{ExprTree, VarTree, CommandList}
 use Rattle.ctd_syntax.specs.Grammar.{IsExpr, IsTarget}
-use Rattle.ctd_token.specs.Cut.{TokenOrFault, token_at}
 use Rattle.ctd_syntax.specs.Lexeme.{Lexeme, mark, span_of}
 use Rattle.ctd_syntax.specs.Nesting.{start, too_deep}
 use Rattle.ctd_syntax.specs.Reading.{IsCut, Spells, lexemes}
+use Rattle.ctd_syntax.specs.declared.front.ParseError.{ParseError}
+use Rattle.ctd_syntax.specs.declared.front.ParseError.TheVariants.{Syntax, Memory}
+use Rattle.ctd_syntax.specs.declared.keyword.Keyword.{Keyword}
+use Rattle.ctd_syntax.specs.declared.parser_token.ParserToken.{ParserToken}
+use Rattle.ctd_syntax.specs.declared.parser_token.ParserToken.TheVariants as parser_tokens
 
--- the string that a literal stands for; of other bytes the empty one
+-- the string of a token that is one; of any other, and of a fault, the empty one
 abbrev pub string_found : TokenOrFault → List ℕ
 string_found (Ok (tokens.Text bytes, n)) = bytes
 string_found (Ok (tokens.Word, n)) = []
@@ -26,6 +26,7 @@ string_found (Ok (tokens.Numeral number, n)) = []
 string_found (Ok (tokens.Mark m, n)) = []
 string_found (Err fault) = []
 
+-- the string that a literal stands for; other bytes stand for the empty one
 abbrev pub string_of : List ℕ → List ℕ
 string_of literal = string_found (token_at literal)
 
@@ -47,17 +48,17 @@ pub record AreLexemes (program : List ℕ) (seen : List Lexeme) : Type 0 where
   pub is_cut : IsCut program tokens
   pub same : lexemes program tokens ≡ seen
 
--- the weight of a text's tokens passes its limit after this one
+-- so many of a text's tokens stand before the first after which their weight passes its limit
 abbrev pub NestsTooDeep : List ℕ → ℕ → Type 0
 NestsTooDeep program before = (ts : List Token) → IsCut program ts → too_deep start (lexemes program ts) ≡ Some before
 
 -- these tokens do not nest too deeply, and spell no program
-abbrev pub SpellNone : List ℕ → List Token → Type 0
-SpellNone program ts = (too_deep start (lexemes program ts) ≡ None) × ((tree : CommandList) → ¬ (Spells program ts tree))
+abbrev pub AreNoProgram : List ℕ → List Token → Type 0
+AreNoProgram program ts = (too_deep start (lexemes program ts) ≡ None) × ((tree : CommandList) → ¬ (Spells program ts tree))
 
 -- the same of a text's tokens
 abbrev pub SpellsNone : List ℕ → Type 0
-SpellsNone program = (ts : List Token) → IsCut program ts → SpellNone program ts
+SpellsNone program = (ts : List Token) → IsCut program ts → AreNoProgram program ts
 
 -- which tokens spell which trees
 abbrev pub Spelling : Type 0 → Type 1

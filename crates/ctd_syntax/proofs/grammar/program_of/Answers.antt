@@ -1,12 +1,10 @@
-use Rattle.std.proofs.Common.{◌≡◌, ℕ, None, Some, List, sym, ap, ◌∙◌, subst}
+use Rattle.std.proofs.Common.{◌≡◌, None, Some, sym, ap, ◌∙◌, subst}
 use Rattle.std.specs.Prelude.{map}
-use Rattle.ctd_token.specs.declared.token.Token.{Token}
-use Rattle.ctd_tree.specs.Tree.{CommandList}
-use Rattle.ctd_syntax.specs.Front.{Found, NotFound, Refused, SpellNone, lexeme}
+use Rattle.ctd_syntax.specs.Front.{AreNoProgram, Found, NotFound, Refused, lexeme}
 use Rattle.ctd_syntax.specs.Grammar.{IsCommands}
 use Rattle.ctd_syntax.specs.CommandWords.{CommandsEnd}
 use Rattle.ctd_syntax.specs.Nesting.{start, too_deep}
-use Rattle.ctd_syntax.specs.Reading.{Parses, Spells, lexemes}
+use Rattle.ctd_syntax.specs.Reading.{Parses, lexemes}
 use Rattle.ctd_tree.specs.View.{command_list, command_trees}
 use Rattle.ctd_tree.proofs.Trees.{list_commands}
 use Rattle.ctd_syntax.proofs.Numbers.{reads_numbered}
@@ -37,7 +35,7 @@ no_program-requires c =
     let shallow : too_deep start (lexemes text cut.tokens) ≡ None = ap (too_deep start) cut.same ∙ sym c.in_ok-before.ensures ∙ c.in_default.is in
     let found = subst (λ l. Found IsCommands CommandsEnd l (command_list c.in-Ok.commands) (map lexeme c.in-Ok.rest.now)) (sym cut.same) c.in-Ok.ensures.tree in
     let some = something lexeme c.in-Ok.rest.now (sym c.is_empty.ensures ∙ c.if-is_empty.false) in
-    of_any_cut text cut.tokens (SpellNone text) cut.is_cut
+    of_any_cut text cut.tokens (AreNoProgram text) cut.is_cut
     (shallow, left_over text cut.tokens (command_list c.in-Ok.commands) some.0 (map lexeme c.in-Ok.rest.now) some.1 found some.2)
 
 pub no_program-requires-in-Err-Syntax : goal.no_program-requires-in-Err-Syntax
@@ -46,4 +44,4 @@ no_program-requires-in-Err-Syntax c =
     let cut = c.requires in
     let shallow : too_deep start (lexemes text cut.tokens) ≡ None = ap (too_deep start) cut.same ∙ sym c.in_ok-before.ensures ∙ c.in_default.is in
     let refused = subst (λ e. Refused IsCommands CommandsEnd e (map lexeme c.args.tokens.now)) c.in-Err-Syntax.field-0-is c.in-Err-Syntax.ensures.tree in
-    of_any_cut text cut.tokens (SpellNone text) cut.is_cut (shallow, unspelled text cut.tokens (subst (NotFound IsCommands CommandsEnd) (sym cut.same) refused))
+    of_any_cut text cut.tokens (AreNoProgram text) cut.is_cut (shallow, unspelled text cut.tokens (subst (NotFound IsCommands CommandsEnd) (sym cut.same) refused))
