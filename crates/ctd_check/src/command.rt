@@ -16,7 +16,7 @@ use crate::loops::{choose, loop_frame, repeat};
 use ctd_command::{CommandFailure, Run};
 use ctd_pattern::Matcher;
 use ctd_source::Source;
-use ctd_syntax::{Action, Command, Integer, Match, PatternLiteral, Var};
+use ctd_syntax::{Action, Command, IntArguments, PatternLiteral, RegexArguments, Var};
 
 /// REGEX: passes the match of its pattern at the start of the window, and keeps it in its variable, if there is one.
 #[inline(always)]
@@ -52,13 +52,13 @@ pub(crate) fn act<D: Source>(
         Action::Space => Some(run.space()),
         Action::Newline => Some(run.newline()),
         Action::Eof => Some(run.end()),
-        Action::Int(int) => {
-            let Integer { low, high, target } = &**int;
+        Action::Int(arguments) => {
+            let IntArguments { low, high, target } = &**arguments;
             Some(run.int(low, high, target))
         }
         Action::String(e) => Some(run.string(e)),
-        Action::Regex(parts) => {
-            let Match { literal, target } = &**parts;
+        Action::Regex(arguments) => {
+            let RegexArguments { literal, target } = &**arguments;
             Some(regex(run, literal, target, matchers))
         }
         Action::Assert(t) => Some(run.assert(t)),

@@ -17,7 +17,9 @@ use crate::names::names;
 use crate::parser_token::{ParserToken, string_of};
 use crate::target::{assignments, target_before, target_end};
 use ctd_token::{Mark, Place};
-use ctd_tree::{Action, Command, Commands, Expr, Integer, Match, PatternLiteral, Test, Var};
+use ctd_tree::{
+    Action, Command, Commands, Expr, IntArguments, PatternLiteral, RegexArguments, Test, Var,
+};
 use std::alloc::Global;
 
 // The upper bound of INT and its target.
@@ -52,8 +54,8 @@ fn int<'t>(
     match upper_bound(alloc, rest) {
         Ok((upper, rest)) => {
             let (high, target) = upper;
-            let integer = Integer { low, high, target };
-            let action = Action::Int(Box::new(alloc, integer)?);
+            let arguments = IntArguments { low, high, target };
+            let action = Action::Int(Box::new(alloc, arguments)?);
             Ok((Command { place, action }, rest))
         }
         Err(fault) => {
@@ -99,7 +101,8 @@ fn regex<'t>(
         bytes,
         place: at,
     };
-    let action = Action::Regex(Box::new(alloc, Match { literal, target })?);
+    let arguments = RegexArguments { literal, target };
+    let action = Action::Regex(Box::new(alloc, arguments)?);
     Ok((Command { place, action }, rest))
 }
 

@@ -18,8 +18,9 @@ pub use ctd_token::{
     tokens, tokens_are_longest, tokens_are_unique,
 };
 pub use ctd_tree::{
-    Action, Assignment, Assignments, Command, Commands, Compare, Expr, Exprs, Integer, Literal,
-    Match, Names, PatternLiteral, Preset, PresetFault, Presets, Program, Test, Var,
+    Action, Assignment, Assignments, Command, Commands, Compare, Expr, Exprs, IntArguments,
+    Literal, Names, PatternLiteral, Preset, PresetFault, Presets, Program, RegexArguments, Test,
+    Var,
 };
 pub use grammar::parse;
 pub use keyword::Keyword;

@@ -8,7 +8,8 @@ use crate::text::Bytes;
 use std::alloc::{AllocError, Global};
 use std::marker::Model;
 
-/// The bytes of a name. Those of a short one stand in it, so that most names take no memory besides.
+/// The bytes of a name. Those of a short one stand in it, so that most names take no memory besides; those of a long one lie in a box, so
+/// that they make no name larger.
 #[derive(Drop)]
 enum NameBytes {
     Short { bytes: [u8; SHORT_NAME], len: u8 },

@@ -91,7 +91,7 @@ abbrev mutual
   action_tree Eof place = Tree.eof place
   action_tree (Int int) place = Tree.int place (expr_tree int.value.low) (expr_tree int.value.high) (target int.value.target)
   action_tree (String e) place = Tree.string place (expr_tree e.value)
-  action_tree (Regex m) place = Tree.regex place m.value.literal (target m.value.target)
+  action_tree (Regex regex) place = Tree.regex place regex.value.literal (target regex.value.target)
   action_tree (Assert t) place = Tree.assert place (test_tree t.value)
   action_tree (Set assignments) place = Tree.set place (map assignment (assignments_of assignments))
   action_tree (Unset names) place = Tree.unset place (names_of names)

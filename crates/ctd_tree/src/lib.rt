@@ -7,6 +7,6 @@ mod tree;
 
 pub use preset::{Literal, Preset, PresetFault, Presets};
 pub use tree::{
-    Action, Assignment, Assignments, Command, Commands, Compare, Expr, Exprs, Integer, Match,
-    Names, PatternLiteral, Program, Test, Var,
+    Action, Assignment, Assignments, Command, Commands, Compare, Expr, Exprs, IntArguments, Names,
+    PatternLiteral, Program, RegexArguments, Test, Var,
 };

@@ -113,7 +113,7 @@ pub struct PatternLiteral {
 
 /// What INT takes: the least and the greatest integer, and the variable that gets what it reads, if there is one.
 #[derive(Drop)]
-pub struct Integer {
+pub struct IntArguments {
     pub low: Expr,
     pub high: Expr,
     pub target: Option<Var>,
@@ -121,7 +121,7 @@ pub struct Integer {
 
 /// What REGEX takes: its literal, and the variable that gets what it matches, if there is one.
 #[derive(Drop)]
-pub struct Match {
+pub struct RegexArguments {
     pub literal: PatternLiteral,
     pub target: Option<Var>,
 }
@@ -145,11 +145,11 @@ pub enum Action {
     /// `EOF`
     Eof,
     /// `INT(min,max[,target])`
-    Int(Box<Integer>),
+    Int(Box<IntArguments>),
     /// `STRING(e)`
     String(Box<Expr>),
     /// `REGEX(pattern[,target])`
-    Regex(Box<Match>),
+    Regex(Box<RegexArguments>),
     /// `ASSERT(t)`
     Assert(Box<Test>),
     /// `SET(v = e, ..)`
