@@ -35,6 +35,11 @@ ASSERT(INARRAY("#",g) && g[1,0]=="#" && !UNIQUE(g))
 SET(g["corner"]=g[0,0]) ASSERT(g["corner"]==g[0,0] && g[1,0]=="#" && INARRAY("#",g))
 """
 CELLS = b".#.#\n####\n....\n"
+# A name of more than seven bytes takes memory of its own, wherever it stands.
+LONG_NAMES = b"""INT(1,9,vertices) NEWLINE
+SET(neighbour[longestname,vertices]=vertices,neighbour["nearest"]=longestname)
+ASSERT(UNIQUE(neighbour) && INARRAY(longestname,neighbour) && neighbour["nearest"]==3) UNSET(neighbour,vertices)
+"""
 LONG_LINE = b'REGEX("([a-z]+ )*",line) REGEX("[0-9]",digit) NEWLINE'
 
 
@@ -92,6 +97,8 @@ def command_lines(folder: Path) -> dict[str, list[str]]:
         "grid.in": CELLS,
         "long.ctd": LONG_LINE,
         "long.in": b"word " * 10_000 + b"7\n",
+        "names.ctd": LONG_NAMES,
+        "names.in": b"5\n",
         "open.ctd": b"INT(1,10",
         "deep.ctd": b"ASSERT(" + b"(" * 200,
         "bad.ctd": b'REGEX("(")',
@@ -106,6 +113,7 @@ def command_lines(folder: Path) -> dict[str, list[str]]:
         "presets, quietly": ["-q", "-D", 'n=3,k="another",u=-7', paths["p.ctd"], paths["right.in"]],
         "a grid that becomes a map": [paths["grid.ctd"], paths["grid.in"]],
         "a long match that is kept": [paths["long.ctd"], paths["long.in"]],
+        "long names, one of them preset": ["-D", "longestname=3", paths["names.ctd"], paths["names.in"]],
         "a program that breaks off": [paths["open.ctd"], paths["right.in"]],
         "a program that nests too deeply": [paths["deep.ctd"], paths["right.in"]],
         "a bad pattern": [paths["bad.ctd"], paths["right.in"]],
