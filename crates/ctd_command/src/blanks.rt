@@ -67,6 +67,7 @@ impl<'d, D: Source> Run<'d, D> {
 
     /// Passes the blanks that come next, where they are at least `least` and another byte is held behind them, and tells
     /// whether they are. It leaves all as it is where they are not, and says nothing of what is next.
+    #[inline(always)]
     fn held_blanks(&mut self, least: usize) -> bool
         requires sound { IsSound self.old }
         ensures skips { result ≡ true → Performs self.old self.new (Ok tt) skip_blanks }
