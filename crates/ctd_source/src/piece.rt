@@ -1,5 +1,5 @@
 //! Bytes in one piece.
-ghost use Rattle.std.specs.Prelude.{◌≡◌, ◌+◌, ◌*◌, ◌≤◌, [], ◌++◌, length, IfOk};
+ghost use Rattle.std.specs.Prelude.{◌≡◌, ◌+◌, ◌*◌, ◌≤◌, [], ◌++◌, length, vec_len, vec_capacity, IfOk};
 ghost use Rattle.ctd_source.specs.declared.limits.TheConstants.{WINDOW};
 
 use crate::limits::WINDOW;
