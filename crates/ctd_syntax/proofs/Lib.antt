@@ -8,8 +8,11 @@ pub mod Groups
 pub mod Conditions
 pub mod Targets
 pub mod CommandReads
+pub mod Balanced
+pub mod Boundaries
 pub mod Blocks
 pub mod Numbers
 pub mod Parsing
 pub mod TokensRead
+pub mod StretchesRead
 pub mod TestGroups

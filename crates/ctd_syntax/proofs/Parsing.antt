@@ -8,23 +8,25 @@ use Rattle.ctd_syntax.specs.Grammar.{IsCommands}
 use Rattle.ctd_syntax.specs.CommandWords.{CommandsEnd}
 use Rattle.ctd_syntax.specs.Nesting.{start, too_deep}
 use Rattle.ctd_syntax.specs.Reading.{IsCut, Parses, Spells, lexemes}
+use Rattle.ctd_syntax.specs.Stretches.{SpellsOnly}
 use Rattle.ctd_token.specs.declared.token.Token.{Token}
 use Rattle.ctd_token.proofs.UniqueTokens.{same_cut}
 use Rattle.ctd_syntax.proofs.Blocks.{blocks_within}
 
--- the commands that end with the text are the one program there
-pub parsed : (program : List ℕ) (ts : List Token) (tree : CommandList) (after : List Lexeme) → IsCut program ts → too_deep start (lexemes program ts) ≡ None → Found IsCommands CommandsEnd (lexemes program ts) tree after → after ≡ [] → Parses program tree
-parsed program ts tree after cut shallow f none =
-    let whole : f.front ≡ lexemes program ts = sym (f.split ∙ ap (λ l. f.front ++ l) none ∙ append-nil f.front) in
-    let spells : Spells program ts tree = subst (λ l. IsCommands l tree) whole f.spells in
-    record {
-      reads = record { tokens = ts; is_cut = cut; shallow = shallow; spells = spells };
-      only = λ other r.
-          let same : r.tokens ≡ ts = same_cut program 0 program r.tokens ts r.is_cut.cut cut.cut in
-          let again : Spells program ts other = subst (λ l. Spells program l other) same r.spells in
-          (f.only (lexemes program ts) [] other (sym (append-nil (lexemes program ts))) refl again).0;
-      blocks = blocks_within (lexemes program ts) tree spells shallow;
-    }
+-- the commands that end with the tokens are the only ones there
+pub spelled_only : (ts : List Lexeme) (tree : CommandList) (after : List Lexeme) → Found IsCommands CommandsEnd ts tree after → after ≡ [] → SpellsOnly ts tree
+spelled_only ts tree after f none = record {
+  spells = subst (λ l. IsCommands l tree) (sym (f.split ∙ ap (λ l. f.front ++ l) none ∙ append-nil f.front)) f.spells;
+  only = λ other i. (f.only ts [] other (sym (append-nil ts)) refl i).0;
+}
+
+-- the commands of a text's tokens are its one program
+pub parsed : (program : List ℕ) (ts : List Token) (tree : CommandList) → IsCut program ts → too_deep start (lexemes program ts) ≡ None → SpellsOnly (lexemes program ts) tree → Parses program tree
+parsed program ts tree cut shallow s = record {
+  reads = record { tokens = ts; is_cut = cut; shallow = shallow; spells = s.spells };
+  only = λ other r. s.only other (subst (λ l. Spells program l other) (same_cut program 0 program r.tokens ts r.is_cut.cut cut.cut) r.spells);
+  blocks = blocks_within (lexemes program ts) tree s.spells shallow;
+}
 
 -- where something is left, there is none
 pub left_over : (program : List ℕ) (ts : List Token) (tree : CommandList) (t : Lexeme) (after rest : List Lexeme) → Found IsCommands CommandsEnd (lexemes program ts) tree after → after ≡ t ∷ rest → (other : CommandList) → ¬ (Spells program ts other)

@@ -8,3 +8,4 @@ pub mod Front
 pub mod Levels
 pub mod Tests
 pub mod CommandWords
+pub mod Stretches

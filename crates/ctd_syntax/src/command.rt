@@ -433,9 +433,9 @@ fn command_word<'t>(
     }
 }
 
-// The command at the front, and what follows it.
+/// The command at the front, and what follows it.
 #[cycle(command)]
-fn command<'t>(
+pub(crate) fn command<'t>(
     alloc: Global,
     tokens: &'t [ParserToken<'t>],
 ) -> Result<(Command, &'t [ParserToken<'t>]), ParseError>

@@ -10,6 +10,7 @@ use crate::command::commands;
 use crate::front::ParseError;
 use crate::nesting::first_too_deep;
 use crate::parser_token::{ParserToken, parser_tokens};
+use crate::stretches::program_in_stretches;
 use ctd_token::{LoadFault, LoadKind, PROGRAM_LIMIT, Place, Token, advance, tokens};
 use ctd_tree::Program;
 use std::alloc::Global;
@@ -94,6 +95,10 @@ pub fn parse(alloc: Global, text: &[u8]) -> Result<Program, LoadFault>
     ensures too_long { PROGRAM_LIMIT < length text.now →
         IsErrAnd result (λ f. f ≡ record { kind = LoadKind.ProgramTooLong; place = None }) }
 {
+    if let Some(program) = program_in_stretches(alloc, text)? {
+        return Ok(program);
+    }
+    // Only all tokens tell the fault, and its place.
     let tokens = parser_tokens(alloc, text)?;
     program_of(alloc, text, &tokens)
 }

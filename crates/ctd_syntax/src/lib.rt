@@ -11,6 +11,7 @@ mod keyword;
 mod names;
 mod nesting;
 mod parser_token;
+mod stretches;
 mod target;
 
 pub use ctd_token::{

@@ -8,6 +8,7 @@ use crate::keyword::Keyword;
 use crate::parser_token::ParserToken;
 use ctd_token::{Mark, NESTING_LIMIT};
 use std::alloc::{AllocError, Global};
+use std::marker::Model;
 
 // What a token does to the counters.
 #[derive(Clone, Copy)]
@@ -61,6 +62,82 @@ fn change_of(token: &ParserToken<'_>) -> Change
     }
 }
 
+/// The counters behind the tokens that were passed, with their weight.
+#[derive(Drop)]
+pub(crate) struct Nesting {
+    // All counters but the innermost, from the outside in.
+    outer: Vec<u32>,
+    inner: u32,
+    // The weight.
+    total: u32,
+}
+
+impl Model for Nesting {
+    ghost use Rattle.std.specs.Prelude.{◌≡◌, ℕ, List, reverse};
+    ghost use Rattle.ctd_syntax.specs.Nesting.{weight};
+
+    ghost Value = { ℕ × List ℕ };
+
+    ghost view = { λ n. (n.inner, reverse n.outer.items) };
+
+    ghost invariant = { λ n. n.total ≡ weight (n.inner, reverse n.outer.items) };
+}
+
+impl Nesting {
+    ghost use Rattle.std.specs.Prelude.{◌≡◌, ◌≤◌, ◌↔◌, [], IsTrue, OnOk, IfOk};
+    ghost use Rattle.ctd_syntax.specs.Nesting.{step, weight};
+
+    /// Before the first token.
+    pub(crate) fn new(alloc: Global) -> Nesting
+        ensures { result ≡ start }
+    {
+        Nesting {
+            outer: Vec::new(alloc),
+            inner: 0,
+            total: 0,
+        }
+    }
+
+    /// Whether no parenthesis, bracket or block is open.
+    pub(crate) fn is_outermost(&self) -> bool
+        ensures { IsTrue result ↔ self.now.1 ≡ [] }
+    {
+        self.outer.is_empty()
+    }
+
+    /// Passes a token. Whether the weight is within `NESTING_LIMIT` then.
+    #[inline(always)]
+    pub(crate) fn pass(&mut self, token: &ParserToken<'_>) -> Result<bool, AllocError>
+        requires { weight self.old ≤ NESTING_LIMIT }
+        ensures steps { OnOk result (self.new ≡ step (change_of (lexeme token.now)) self.old) }
+        ensures light { IfOk result (λ light. IsTrue light ↔ weight self.new ≤ NESTING_LIMIT) }
+    {
+        match change_of(token) {
+            Change::Opens => {
+                self.outer.push(self.inner)?;
+                self.inner = 0;
+                self.total += 1;
+            }
+            Change::Closes => {
+                if let Some(c) = self.outer.pop() {
+                    self.total -= self.inner + 1;
+                    self.inner = c;
+                }
+            }
+            Change::Restarts => {
+                self.total -= self.inner;
+                self.inner = 0;
+            }
+            Change::Grows => {
+                self.inner += 1;
+                self.total += 1;
+            }
+            Change::Keeps => {}
+        }
+        Ok(self.total <= NESTING_LIMIT)
+    }
+}
+
 /// How many tokens stand before the first after which the weight passes `NESTING_LIMIT`.
 pub(crate) fn first_too_deep(
     alloc: Global,
@@ -68,34 +145,10 @@ pub(crate) fn first_too_deep(
 ) -> Result<Option<usize>, AllocError>
     ensures { IfOk result (λ found. found ≡ too_deep start (map lexeme tokens.now)) }
 {
-    let mut outer: Vec<u32> = Vec::new(alloc);
-    let mut inner = 0u32;
-    let mut weight = 0u32;
+    let mut nesting = Nesting::new(alloc);
     let mut n = 0;
     while n < tokens.len() {
-        match change_of(&tokens[n]) {
-            Change::Opens => {
-                outer.push(inner)?;
-                inner = 0;
-                weight += 1;
-            }
-            Change::Closes => {
-                if let Some(c) = outer.pop() {
-                    weight -= inner + 1;
-                    inner = c;
-                }
-            }
-            Change::Restarts => {
-                weight -= inner;
-                inner = 0;
-            }
-            Change::Grows => {
-                inner += 1;
-                weight += 1;
-            }
-            Change::Keeps => {}
-        }
-        if weight > NESTING_LIMIT {
+        if !nesting.pass(&tokens[n])? {
             return Ok(Some(n));
         }
         n += 1;

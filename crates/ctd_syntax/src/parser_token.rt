@@ -12,6 +12,7 @@ use ctd_token::{
 };
 use std::alloc::{AllocError, Global};
 use std::collections::BTreeMap;
+use std::marker::Model;
 
 /// A token of a program, with what the grammar needs of it.
 #[derive(Clone, Copy)]
@@ -108,6 +109,63 @@ fn number_name<'t>(
     }
 }
 
+/// Gives what the grammar sees of the tokens of a text, one after another. It keeps none of them.
+#[derive(Drop)]
+pub(crate) struct ParserTokens<'t> {
+    lexer: Lexer<'t>,
+    text: &'t [u8],
+    // How many words REGEX were given.
+    before: usize,
+    // The numbers of the names that were given.
+    numbers: BTreeMap<&'t [u8], u32>,
+}
+
+impl<'t> Model for ParserTokens<'t> {
+    ghost use Rattle.std.specs.Prelude.{◌≡◌, ◌≤◌, length};
+    ghost use Rattle.ctd_token.specs.declared.limits.TheConstants.{PROGRAM_LIMIT};
+    ghost use Rattle.ctd_syntax.specs.Stretches.{Unread};
+
+    ghost Value = { Unread };
+
+    ghost view = { λ p. record { uncut = p.lexer; before = p.before } };
+
+    ghost invariant = { λ p. (p.lexer.text ≡ p.text.now) × (length p.text.now ≤ PROGRAM_LIMIT) × (p.before ≤ p.lexer.at) × (p.lexer.at ≤ length p.text.now) };
+}
+
+impl<'t> ParserTokens<'t> {
+    ghost use Rattle.std.specs.Prelude.{IfSome, IfNone, OnOk};
+    ghost use Rattle.ctd_token.specs.Lexing.{IsEnd, IsNextFault};
+    ghost use Rattle.ctd_syntax.specs.Stretches.{IsNextSeen};
+
+    /// Begins at the start of a text, or answers as `Lexer::new`.
+    pub(crate) fn new(alloc: Global, text: &'t [u8]) -> Result<ParserTokens<'t>, LoadFault>
+        ensures begins { IfOk result (λ tokens. tokens ≡ record { uncut = record { text = text.now; at = 0 }; before = 0 }) }
+        ensures short { OnOk result (length text.now ≤ PROGRAM_LIMIT) }
+        ensures too_long { IfErr result (λ f. (PROGRAM_LIMIT < length text.now) × (f ≡ record { kind = LoadKind.ProgramTooLong; place = None })) }
+    {
+        Ok(ParserTokens {
+            lexer: Lexer::new(text)?,
+            text,
+            before: 0,
+            numbers: BTreeMap::new(alloc),
+        })
+    }
+
+    /// What the grammar sees of the next token, or none at the end of the text; or the fault as `Lexer::next_token` answers it.
+    #[inline(always)]
+    pub(crate) fn next_token(&mut self, alloc: Global) -> Result<Option<ParserToken<'t>>, LoadFault>
+        ensures next { IfOk result (λ next. IfSome next (λ p. IsNextSeen self.old (lexeme p) self.new)) }
+        ensures end { IfOk result (λ next. IfNone next (IsEnd self.old.uncut)) }
+        ensures fault { IfErr result (λ f. IsNextFault self.old.uncut f.kind f.place) }
+    {
+        let Some(token) = self.lexer.next_token(alloc)? else {
+            return Ok(None);
+        };
+        let token = give_number(parser_token_of(self.text, token), &mut self.before);
+        Ok(Some(number_name(token, &mut self.numbers)?))
+    }
+}
+
 /// What the grammar sees of the tokens of a text, in order; or the fault that `tokens` answers. No token is kept beside what is seen of it.
 pub(crate) fn parser_tokens<'t>(
     alloc: Global,
@@ -118,13 +176,10 @@ pub(crate) fn parser_tokens<'t>(
     ensures too_long { PROGRAM_LIMIT < length text.now →
         IsErrAnd result (λ f. f ≡ record { kind = LoadKind.ProgramTooLong; place = None }) }
 {
-    let mut lexer = Lexer::new(text)?;
-    let mut parser_tokens = Vec::new(alloc);
-    let mut before = 0;
-    let mut numbers = BTreeMap::new(alloc);
-    while let Some(token) = lexer.next_token(alloc)? {
-        let token = give_number(parser_token_of(text, token), &mut before);
-        parser_tokens.push(number_name(token, &mut numbers)?)?;
+    let mut tokens = ParserTokens::new(alloc, text)?;
+    let mut seen = Vec::new(alloc);
+    while let Some(token) = tokens.next_token(alloc)? {
+        seen.push(token)?;
     }
-    Ok(parser_tokens)
+    Ok(seen)
 }

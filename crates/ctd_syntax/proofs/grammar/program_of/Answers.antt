@@ -8,7 +8,7 @@ use Rattle.ctd_syntax.specs.Reading.{Parses, lexemes}
 use Rattle.ctd_tree.specs.View.{command_list, command_trees}
 use Rattle.ctd_tree.proofs.Trees.{list_commands}
 use Rattle.ctd_syntax.proofs.Numbers.{reads_numbered}
-use Rattle.ctd_syntax.proofs.Parsing.{parsed, left_over, unspelled, of_any_cut, nothing, something}
+use Rattle.ctd_syntax.proofs.Parsing.{parsed, spelled_only, left_over, unspelled, of_any_cut, nothing, something}
 use Rattle.ctd_syntax.proofs.grammar.program_of.Goals as goal
 
 pub returns-then-is_empty-clause-parses : goal.returns-then-is_empty-clause-parses
@@ -18,7 +18,8 @@ returns-then-is_empty-clause-parses c =
     let shallow : too_deep start (lexemes text cut.tokens) ≡ None = ap (too_deep start) cut.same ∙ sym c.in_ok-before.ensures ∙ c.in_default.is in
     let found = subst (λ l. Found IsCommands CommandsEnd l (command_list c.in-Ok.commands) (map lexeme c.in-Ok.rest.now)) (sym cut.same) c.in-Ok.ensures.tree in
     subst (Parses text) (list_commands c.in-Ok.commands ∙ ap command_trees (sym c.new.ensures))
-    (parsed text cut.tokens (command_list c.in-Ok.commands) (map lexeme c.in-Ok.rest.now) cut.is_cut shallow found (nothing lexeme c.in-Ok.rest.now (sym c.is_empty.ensures ∙ c.if-is_empty.true)))
+    (parsed text cut.tokens (command_list c.in-Ok.commands) cut.is_cut shallow
+    (spelled_only (lexemes text cut.tokens) (command_list c.in-Ok.commands) (map lexeme c.in-Ok.rest.now) found (nothing lexeme c.in-Ok.rest.now (sym c.is_empty.ensures ∙ c.if-is_empty.true))))
 
 pub returns-then-is_empty-clause-numbered : goal.returns-then-is_empty-clause-numbered
 returns-then-is_empty-clause-numbered c = reads_numbered c.args.text.now _ (returns-then-is_empty-clause-parses c).reads

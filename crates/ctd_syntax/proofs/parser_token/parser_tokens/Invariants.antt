@@ -4,8 +4,8 @@ use Rattle.ctd_syntax.specs.Front.{lexeme}
 use Rattle.ctd_syntax.proofs.TokensRead.{HasRead}
 use Rattle.ctd_syntax.proofs.parser_token.parser_tokens.Given as goal
 
-abbrev pub invariant-loop-numbers : goal.invariant-loop-numbers
-invariant-loop-numbers l = HasRead l.text (map lexeme l.parser_tokens.items) l.before l.lexer
+abbrev pub invariant-loop-seen : goal.invariant-loop-seen
+invariant-loop-seen l = HasRead l.text (map lexeme l.seen.items) l.tokens
 
-abbrev pub decreases-loop-numbers : goal.decreases-loop-numbers
-decreases-loop-numbers l = length l.text - l.lexer.at
+abbrev pub decreases-loop-seen : goal.decreases-loop-seen
+decreases-loop-seen l = length l.text - l.tokens.uncut.at

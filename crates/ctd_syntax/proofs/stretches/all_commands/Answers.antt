@@ -1,0 +1,39 @@
+use Rattle.std.proofs.Common.{◌≡◌, ◌∷◌, ◌++◌, [], sym, ap, ◌∙◌, append_assoc, append-nil}
+use Rattle.std.specs.Prelude.{map}
+use Rattle.ctd_tree.specs.View.{command_trees}
+use Rattle.ctd_tree.proofs.Trees.{trees_then}
+use Rattle.ctd_syntax.specs.Front.{lexeme}
+use Rattle.ctd_syntax.specs.CommandWords.{command_begins}
+use Rattle.ctd_syntax.proofs.Boundaries.{found_begins}
+use Rattle.ctd_syntax.proofs.CommandReads.{commands_start, commands_next, commands_end}
+use Rattle.ctd_syntax.proofs.Parsing.{nothing, spelled_only}
+use Rattle.ctd_syntax.proofs.stretches.all_commands.Goals as goal
+
+pub loop-rest-init : goal.loop-rest-init
+loop-rest-init c = ([], sym (append-nil c.args.commands.now.items), rw c.split_at.ensures.back (commands_start (map lexeme c.args.tokens.now)))
+
+pub loop-rest-preserved : goal.loop-rest-preserved
+loop-rest-preserved c =
+    let before = c.loop-rest.invariant in
+    let next = c.in_ok-next.next in
+    let tokens = map lexeme c.args.tokens.now in
+    let rest = map lexeme c.loop-rest.rest.now in
+    let after = map lexeme c.in_ok-next.after.now in (
+      before.0 ++ next ∷ [],
+      c.in_ok-push.ensures.items ∙ ap (λ l. l ++ next ∷ []) before.1 ∙ append_assoc c.args.commands.now.items before.0 (next ∷ []),
+      rw (trees_then before.0 next) (commands_next tokens rest after _ _ before.2 (found_begins rest after _ c.in_ok-next.ensures.tree) c.in_ok-next.ensures.tree),
+    )
+
+pub returns : goal.returns
+returns c =
+    let read = c.loop-rest.invariant in
+    let tokens = map lexeme c.args.tokens.now in
+    let rest = map lexeme c.loop-rest.rest.now in
+    let none : rest ≡ [] = nothing lexeme c.loop-rest.rest.now (sym c.is_empty.ensures ∙ c.loop-rest-test.false) in
+    record {
+      front = tokens;
+      commands = read.0;
+      split = sym (append-nil tokens);
+      put = read.1;
+      only = spelled_only tokens (command_trees read.0) rest (commands_end tokens rest (command_trees read.0) read.2 (ap command_begins none)) none;
+    }
