@@ -6,23 +6,14 @@ use Rattle.ctd_tree.specs.declared.tree.PatternLiteral.{PatternLiteral}
 use Rattle.ctd_syntax.specs.declared.keyword.Keyword.{Keyword}
 use Rattle.ctd_syntax.specs.declared.keyword.Keyword.TheVariants as words
 use Rattle.ctd_token.specs.declared.token.Token.{Token}
-use Rattle.ctd_token.specs.declared.token.Mark.TheVariants.{Close, CloseIndex, Comma, Assign, Plus, Minus, Times, Divide, Percent, Caret, OrOr, AndAnd}
+use Rattle.ctd_token.specs.declared.token.Mark.TheVariants.{Close, CloseIndex, Comma}
 use Rattle.ctd_syntax.specs.Lexeme.{Lexeme, mark, keyword, lexeme_of, with_number, regex_count, numbered_word, word_count}
-use Rattle.ctd_tree.specs.Tree.{ExprTree, ExprList, VarTree, TestTree, CommandTree, CommandList, Separator}
+use Rattle.ctd_tree.specs.Tree.{VarTree, CommandTree, CommandList, Separator}
 use Rattle.ctd_syntax.specs.Grammar
-use Rattle.ctd_syntax.specs.Grammar.{IsExpr, IsProduct, IsSigned, IsPower, IsExponent, IsAtom, IsVariable, IsExprs, IsNames, IsTest, IsBoth, IsNegated, IsSimpleTest, IsTargetEnd, IsAssignments, IsCommand, IsRepeated, IsBranches, IsCommands, compare_mark}
+use Rattle.ctd_syntax.specs.Grammar.{IsTargetEnd, IsCommand, IsRepeated, IsBranches, IsCommands}
 use Rattle.ctd_syntax.specs.Numbering.{command_literals, separator_literals, literals, numbers_of, IsNumbered}
 use Rattle.ctd_syntax.specs.Reading.{Reads, lexemes, lexemes_from}
-
--- the number of a word, where it is REGEX
-abbrev word_number : Keyword → List ℕ
-word_number (words.Regex n) = n ∷ []
-word_number _ = []
-
--- of a token
-abbrev token_number : Lexeme → List ℕ
-token_number (keyword k at) = word_number k
-token_number _ = []
+use Rattle.ctd_syntax.proofs.Balanced.{Balanced, word_number, token_number, expr_balanced, variable_balanced, names_balanced, test_balanced, assignments_balanced, target_balanced}
 
 -- the numbers of the words REGEX in some tokens
 abbrev numbers_in : List Lexeme → List ℕ
@@ -94,78 +85,15 @@ HasNone ts = numbers_in ts ≡ []
 none_in-append : (ts us : List Lexeme) → HasNone ts → HasNone us → HasNone (ts ++ us)
 none_in-append ts us f g = numbers_in-append ts us ∙ ap₂ (λ xs ys. xs ++ ys) f g
 
-mutual
-  expr_none : (ts : List Lexeme) (a : ExprTree) → IsExpr ts a → HasNone ts
-  expr_none ts a (Grammar.product i) = product_none ts a i
-  expr_none ts a (Grammar.sum {ts = us} {us = vs} i j) = none_in-append us (mark Plus ∷ vs) (expr_none us _ i) (product_none vs _ j)
-  expr_none ts a (Grammar.difference {ts = us} {us = vs} i j) = none_in-append us (mark Minus ∷ vs) (expr_none us _ i) (product_none vs _ j)
-
-  product_none : (ts : List Lexeme) (a : ExprTree) → IsProduct ts a → HasNone ts
-  product_none ts a (Grammar.signed i) = signed_none ts a i
-  product_none ts a (Grammar.times {ts = us} {us = vs} i j) = none_in-append us (mark Times ∷ vs) (product_none us _ i) (signed_none vs _ j)
-  product_none ts a (Grammar.quotient {ts = us} {us = vs} i j) = none_in-append us (mark Divide ∷ vs) (product_none us _ i) (signed_none vs _ j)
-  product_none ts a (Grammar.remainder {ts = us} {us = vs} i j) = none_in-append us (mark Percent ∷ vs) (product_none us _ i) (signed_none vs _ j)
-
-  signed_none : (ts : List Lexeme) (a : ExprTree) → IsSigned ts a → HasNone ts
-  signed_none ts a (Grammar.unsigned i) = power_none ts a i
-  signed_none ts a (Grammar.minus {ts = us} i) = signed_none us _ i
-
-  power_none : (ts : List Lexeme) (a : ExprTree) → IsPower ts a → HasNone ts
-  power_none ts a (Grammar.atom i) = atom_none ts a i
-  power_none ts a (Grammar.power {ts = us} {us = vs} i j) = none_in-append us (mark Caret ∷ vs) (atom_none us _ i) (exponent_none vs _ j)
-
-  exponent_none : (ts : List Lexeme) (a : ExprTree) → IsExponent ts a → HasNone ts
-  exponent_none ts a (Grammar.positive i) = power_none ts a i
-  exponent_none ts a (Grammar.negative {ts = us} i) = exponent_none us _ i
-
-  atom_none : (ts : List Lexeme) (a : ExprTree) → IsAtom ts a → HasNone ts
-  atom_none ts a Grammar.numeral = refl
-  atom_none ts a Grammar.text = refl
-  atom_none ts a (Grammar.variable i) = variable_none ts _ _ i
-  atom_none ts a (Grammar.strlen {ts = us} i) = none_in-append us (mark Close ∷ []) (expr_none us _ i) refl
-  atom_none ts a (Grammar.group {ts = us} i) = none_in-append us (mark Close ∷ []) (expr_none us _ i) refl
-
-  variable_none : (ts : List Lexeme) (b : List ℕ) (l : ExprList) → IsVariable ts b l → HasNone ts
-  variable_none ts b l Grammar.unindexed = refl
-  variable_none ts b l (Grammar.indexed {ts = us} i) = none_in-append us (mark CloseIndex ∷ []) (exprs_none us _ i) refl
-
-  exprs_none : (ts : List Lexeme) (l : ExprList) → IsExprs ts l → HasNone ts
-  exprs_none ts l (Grammar.one i) = expr_none ts _ i
-  exprs_none ts l (Grammar.more {ts = us} {us = vs} i j) = none_in-append us (mark Comma ∷ vs) (expr_none us _ i) (exprs_none vs _ j)
-
-names_none : (ts : List Lexeme) (names : List (List ℕ)) → IsNames ts names → HasNone ts
-names_none ts names Grammar.one = refl
-names_none ts names (Grammar.more {ts = us} i) = names_none us _ i
-
-mutual
-  test_none : (ts : List Lexeme) (a : TestTree) → IsTest ts a → HasNone ts
-  test_none ts a (Grammar.both i) = both_none ts a i
-  test_none ts a (Grammar.or {ts = us} {us = vs} i j) = none_in-append us (mark OrOr ∷ vs) (test_none us _ i) (both_none vs _ j)
-
-  both_none : (ts : List Lexeme) (a : TestTree) → IsBoth ts a → HasNone ts
-  both_none ts a (Grammar.negated i) = negated_none ts a i
-  both_none ts a (Grammar.and {ts = us} {us = vs} i j) = none_in-append us (mark AndAnd ∷ vs) (both_none us _ i) (negated_none vs _ j)
-
-  negated_none : (ts : List Lexeme) (a : TestTree) → IsNegated ts a → HasNone ts
-  negated_none ts a (Grammar.simple i) = plain_none ts a i
-  negated_none ts a (Grammar.not {ts = us} i) = negated_none us _ i
-
-  plain_none : (ts : List Lexeme) (a : TestTree) → IsSimpleTest ts a → HasNone ts
-  plain_none ts a (Grammar.compare {ts = us} {us = vs} {by} i j) = none_in-append us (mark (compare_mark by) ∷ vs) (expr_none us _ i) (expr_none vs _ j)
-  plain_none ts a (Grammar.matches {ts = us} i) = none_in-append us (mark Close ∷ []) (expr_none us _ i) refl
-  plain_none ts a Grammar.at_end = refl
-  plain_none ts a (Grammar.unique {ts = us} i) = none_in-append us (mark Close ∷ []) (names_none us _ i) refl
-  plain_none ts a (Grammar.in_array {ts = us} {name} i) = none_in-append us (mark Comma ∷ Lexeme.name name ∷ mark Close ∷ []) (expr_none us _ i) refl
-  plain_none ts a (Grammar.group {ts = us} i) = none_in-append us (mark Close ∷ []) (test_none us _ i) refl
-
-assignments_none : (ts : List Lexeme) (assignments : List (VarTree × ExprTree)) → IsAssignments ts assignments → HasNone ts
-assignments_none ts assignments (Grammar.one {ts = us} {us = vs} i j) = none_in-append us (mark Assign ∷ vs) (variable_none us _ _ i) (expr_none vs _ j)
-assignments_none ts assignments (Grammar.more {ts = us} {us = vs} {vs = ws} i j k) =
-    none_in-append (us ++ mark Assign ∷ vs) (mark Comma ∷ ws) (none_in-append us (mark Assign ∷ vs) (variable_none us _ _ i) (expr_none vs _ j)) (assignments_none ws _ k)
+none_in : (ts : List Lexeme) → Balanced ts → HasNone ts
+none_in ts Balanced.none = refl
+none_in ts (Balanced.alone {t} l) = append-nil (token_number t) ∙ l.1
+none_in ts (Balanced.append {ts = us} {us = vs} a b) = none_in-append us vs (none_in us a) (none_in vs b)
+none_in ts (Balanced.parenthesized {ts = us} a) = none_in-append us (mark Close ∷ []) (none_in us a) refl
+none_in ts (Balanced.indexed {ts = us} a) = none_in-append us (mark CloseIndex ∷ []) (none_in us a) refl
 
 target_none : (ts : List Lexeme) (target : Option VarTree) → IsTargetEnd ts target → HasNone ts
-target_none ts target Grammar.none = refl
-target_none ts target (Grammar.some {ts = us} i) = none_in-append us (mark Close ∷ []) (variable_none us _ _ i) refl
+target_none ts target i = let b = target_balanced ts target i in subst HasNone (sym b.1) (none_in-append b.0 (mark Close ∷ []) (none_in b.0 b.2) refl)
 
 -- the words REGEX among the tokens have the numbers of these literals
 abbrev HasNumbers : List Lexeme → List PatternLiteral → Type 0
@@ -186,20 +114,20 @@ mutual
   command_numbers ts u Grammar.space = refl
   command_numbers ts u Grammar.newline = refl
   command_numbers ts u Grammar.eof = refl
-  command_numbers ts u (Grammar.int {ts = ws} {us} {vs} i j k) = none_in-append (ws ++ mark Comma ∷ us) vs (none_in-append ws (mark Comma ∷ us) (expr_none ws _ i) (expr_none us _ j)) (target_none vs _ k)
-  command_numbers ts u (Grammar.string {ts = us} i) = none_in-append us (mark Close ∷ []) (expr_none us _ i) refl
+  command_numbers ts u (Grammar.int {ts = ws} {us} {vs} i j k) = none_in-append (ws ++ mark Comma ∷ us) vs (none_in-append ws (mark Comma ∷ us) (none_in ws (expr_balanced ws _ i)) (none_in us (expr_balanced us _ j))) (target_none vs _ k)
+  command_numbers ts u (Grammar.string {ts = us} i) = none_in-append us (mark Close ∷ []) (none_in us (expr_balanced us _ i)) refl
   command_numbers ts u (Grammar.regex {vs} {literal} k) = ap (λ l. literal.number ∷ l) (target_none vs _ k)
-  command_numbers ts u (Grammar.assert {ts = us} i) = none_in-append us (mark Close ∷ []) (test_none us _ i) refl
-  command_numbers ts u (Grammar.set {ts = us} i) = none_in-append us (mark Close ∷ []) (assignments_none us _ i) refl
-  command_numbers ts u (Grammar.unset {ts = us} i) = none_in-append us (mark Close ∷ []) (names_none us _ i) refl
-  command_numbers ts u (Grammar.rep {ts = ws} {us} {between = separator} {body} i r) = numbers_behind ws us (separator_literals separator ++ literals body) (expr_none ws _ i) (repeated_numbers us separator body r)
+  command_numbers ts u (Grammar.assert {ts = us} i) = none_in-append us (mark Close ∷ []) (none_in us (test_balanced us _ i)) refl
+  command_numbers ts u (Grammar.set {ts = us} i) = none_in-append us (mark Close ∷ []) (none_in us (assignments_balanced us _ i)) refl
+  command_numbers ts u (Grammar.unset {ts = us} i) = none_in-append us (mark Close ∷ []) (none_in us (names_balanced us _ i)) refl
+  command_numbers ts u (Grammar.rep {ts = ws} {us} {between = separator} {body} i r) = numbers_behind ws us (separator_literals separator ++ literals body) (none_in ws (expr_balanced ws _ i)) (repeated_numbers us separator body r)
   command_numbers ts u (Grammar.repi {ts = ws} {us} {vs} {between = separator} {body} i j r) =
-      numbers_behind (ws ++ mark Comma ∷ us) vs (separator_literals separator ++ literals body) (none_in-append ws (mark Comma ∷ us) (variable_none ws _ _ i) (expr_none us _ j)) (repeated_numbers vs separator body r)
-  command_numbers ts u (Grammar.while {ts = ws} {us} {between = separator} {body} i r) = numbers_behind ws us (separator_literals separator ++ literals body) (test_none ws _ i) (repeated_numbers us separator body r)
+      numbers_behind (ws ++ mark Comma ∷ us) vs (separator_literals separator ++ literals body) (none_in-append ws (mark Comma ∷ us) (none_in ws (variable_balanced ws _ _ i)) (none_in us (expr_balanced us _ j))) (repeated_numbers vs separator body r)
+  command_numbers ts u (Grammar.while {ts = ws} {us} {between = separator} {body} i r) = numbers_behind ws us (separator_literals separator ++ literals body) (none_in ws (test_balanced ws _ i)) (repeated_numbers us separator body r)
   command_numbers ts u (Grammar.whilei {ts = ws} {us} {vs} {between = separator} {body} i j r) =
-      numbers_behind (ws ++ mark Comma ∷ us) vs (separator_literals separator ++ literals body) (none_in-append ws (mark Comma ∷ us) (variable_none ws _ _ i) (test_none us _ j)) (repeated_numbers vs separator body r)
+      numbers_behind (ws ++ mark Comma ∷ us) vs (separator_literals separator ++ literals body) (none_in-append ws (mark Comma ∷ us) (none_in ws (variable_balanced ws _ _ i)) (none_in us (test_balanced us _ j))) (repeated_numbers vs separator body r)
   command_numbers ts u (Grammar.choice {ts = ws} {us} {then_do} {else_do} i r) =
-      numbers_behind ws (mark Close ∷ us) (literals then_do ++ literals else_do) (test_none ws _ i) (branches_numbers us then_do else_do r)
+      numbers_behind ws (mark Close ∷ us) (literals then_do ++ literals else_do) (none_in ws (test_balanced ws _ i)) (branches_numbers us then_do else_do r)
 
   repeated_numbers : (ts : List Lexeme) (separator : Separator) (body : CommandList) → IsRepeated ts separator body → HasNumbers ts (separator_literals separator ++ literals body)
   repeated_numbers ts separator body (Grammar.unseparated {us} at i) = numbers_before us (keyword words.End at ∷ []) (literals body) (commands_numbers us body i) refl
