@@ -10,5 +10,6 @@ mod numbers;
 mod presets;
 mod refusals;
 mod shown;
+mod stretches;
 mod tokens;
 mod tree_text;
