@@ -16,7 +16,10 @@ use crate::loops::{choose, loop_frame, repeat};
 use ctd_command::{CommandFailure, Run};
 use ctd_pattern::Matcher;
 use ctd_source::Source;
-use ctd_syntax::{Action, Command, IntArguments, PatternLiteral, RegexArguments, Var};
+use ctd_syntax::{
+    Action, Choice, Command, IntArguments, PatternLiteral, RegexArguments, RepILoop, RepLoop, Var,
+    WhileILoop, WhileLoop,
+};
 
 /// REGEX: passes the match of its pattern at the start of the window, and keeps it in its variable, if there is one.
 #[inline(always)]
@@ -67,11 +70,11 @@ pub(crate) fn act<D: Source>(
             run.unset(names.as_slice());
             Some(Ok(()))
         }
-        Action::If(_, _, _) => None,
-        Action::Rep(_, _, _) => None,
-        Action::RepI(_, _, _, _) => None,
-        Action::While(_, _, _) => None,
-        Action::WhileI(_, _, _, _) => None,
+        Action::If(_) => None,
+        Action::Rep(_) => None,
+        Action::RepI(_) => None,
+        Action::While(_) => None,
+        Action::WhileI(_) => None,
     }
 }
 
@@ -88,27 +91,57 @@ pub(crate) fn start_block<'p, D: Source>(
     ensures known { (patterns : List (List ℕ)) → AreAmong patterns (command_literals (command_tree command.now)) → LeavesKnown patterns result }
 {
     match &command.action {
-        Action::If(t, then_do, else_do) => choose(run, t, then_do, else_do),
-        Action::Rep(count, between, body) => {
+        Action::If(choice) => {
+            let Choice {
+                condition,
+                then_do,
+                else_do,
+            } = &**choice;
+            choose(run, condition, then_do, else_do)
+        }
+        Action::Rep(repeated) => {
+            let RepLoop {
+                count,
+                between,
+                body,
+            } = &**repeated;
             repeat(run, command.place, count, None, between, body)
         }
-        Action::RepI(counter, count, between, body) => {
+        Action::RepI(repeated) => {
+            let RepILoop {
+                counter,
+                count,
+                between,
+                body,
+            } = &**repeated;
             repeat(run, command.place, count, Some(counter), between, body)
         }
-        Action::While(t, between, body) => Ok(Some(loop_frame(
-            command.place,
-            Guard::While(t),
-            None,
-            between,
-            body,
-        ))),
-        Action::WhileI(counter, t, between, body) => Ok(Some(loop_frame(
-            command.place,
-            Guard::While(t),
-            Some(counter),
-            between,
-            body,
-        ))),
+        Action::While(repeated) => {
+            let WhileLoop {
+                condition,
+                between,
+                body,
+            } = &**repeated;
+            let guard = Guard::While(condition);
+            Ok(Some(loop_frame(command.place, guard, None, between, body)))
+        }
+        Action::WhileI(repeated) => {
+            let WhileILoop {
+                counter,
+                condition,
+                between,
+                body,
+            } = &**repeated;
+            let guard = Guard::While(condition);
+            let counter = Some(&**counter);
+            Ok(Some(loop_frame(
+                command.place,
+                guard,
+                counter,
+                between,
+                body,
+            )))
+        }
         Action::Space => unreachable!(),
         Action::Newline => unreachable!(),
         Action::Eof => unreachable!(),

@@ -63,7 +63,7 @@ fn open<'p, D: Source>(
     ensures len { length agenda.new.frames.items ≤ length agenda.old.frames.items + 1 }
     ensures opens { Opens run.old run.new agenda.old agenda.new (command_literals (command_tree command.now)) result (act_of (command_tree command.now)) }
 {
-    if matches!(command.action, Action::If(_, _, _)) {
+    if matches!(command.action, Action::If(_)) {
         open_here(command, run, agenda)
     } else {
         open_loop(command, run, agenda)

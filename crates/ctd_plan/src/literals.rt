@@ -4,7 +4,9 @@ ghost use Rattle.ctd_tree.specs.View.{boxed_separator, command_tree, command_tre
 ghost use Rattle.ctd_syntax.specs.Numbering.{literals, command_literals, separator_literals};
 ghost use Rattle.ctd_plan.specs.Literals.{literals_at};
 
-use ctd_syntax::{Action, Command, Commands, PatternLiteral};
+use ctd_syntax::{
+    Action, Choice, Command, PatternLiteral, RepILoop, RepLoop, WhileILoop, WhileLoop,
+};
 use std::alloc::{AllocError, Global};
 
 /// Appends the literals of commands to those found before.
@@ -37,23 +39,32 @@ fn command_literals<'p>(
             found.push(&regex.literal)?;
             Ok(())
         }
-        Action::Rep(_, between, body) => {
+        Action::Rep(repeated) => {
+            let RepLoop { between, body, .. } = &**repeated;
             separator_literals(between, found)?;
             list_literals(body.as_slice(), found)
         }
-        Action::RepI(_, _, between, body) => {
+        Action::RepI(repeated) => {
+            let RepILoop { between, body, .. } = &**repeated;
             separator_literals(between, found)?;
             list_literals(body.as_slice(), found)
         }
-        Action::While(_, between, body) => {
+        Action::While(repeated) => {
+            let WhileLoop { between, body, .. } = &**repeated;
             separator_literals(between, found)?;
             list_literals(body.as_slice(), found)
         }
-        Action::WhileI(_, _, between, body) => {
+        Action::WhileI(repeated) => {
+            let WhileILoop { between, body, .. } = &**repeated;
             separator_literals(between, found)?;
             list_literals(body.as_slice(), found)
         }
-        Action::If(_, then_do, else_do) => {
+        Action::If(choice) => {
+            let Choice {
+                then_do,
+                else_do,
+                ..
+            } = &**choice;
             list_literals(then_do.as_slice(), found)?;
             list_literals(else_do.as_slice(), found)
         }

@@ -18,7 +18,8 @@ use crate::parser_token::{ParserToken, string_of};
 use crate::target::{assignments, target_before, target_end};
 use ctd_token::{Mark, Place};
 use ctd_tree::{
-    Action, Command, Commands, Expr, IntArguments, PatternLiteral, RegexArguments, Test, Var,
+    Action, Choice, Command, Commands, Expr, IntArguments, PatternLiteral, RegexArguments,
+    RepILoop, RepLoop, Test, Var, WhileILoop, WhileLoop,
 };
 use std::alloc::Global;
 
@@ -132,7 +133,7 @@ fn set<'t>(
 {
     let after = after_open(tokens)?;
     let (list, rest) = assignments(alloc, after)?;
-    let action = Action::Set(list);
+    let action = Action::Set(Box::new(alloc, list)?);
     Ok((Command { place, action }, rest))
 }
 
@@ -147,7 +148,7 @@ fn unset<'t>(
 {
     let after = after_open(tokens)?;
     let (list, rest) = names(alloc, after)?;
-    let action = Action::Unset(list);
+    let action = Action::Unset(Box::new(alloc, list)?);
     Ok((Command { place, action }, rest))
 }
 
@@ -196,7 +197,12 @@ fn rep<'t>(
 {
     let after = after_open(tokens)?;
     let ((count, (between, body)), rest) = rep_tail(alloc, after)?;
-    let action = Action::Rep(count, between, body);
+    let repeated = RepLoop {
+        count,
+        between,
+        body,
+    };
+    let action = Action::Rep(Box::new(alloc, repeated)?);
     Ok((Command { place, action }, rest))
 }
 
@@ -214,7 +220,13 @@ fn repi<'t>(
     let (counter, rest) = target_before(alloc, Mark::Comma, after)?;
     let counter = Box::new(alloc, counter)?;
     let ((count, (between, body)), rest) = rep_tail(alloc, rest)?;
-    let action = Action::RepI(counter, count, between, body);
+    let repeated = RepILoop {
+        counter,
+        count,
+        between,
+        body,
+    };
+    let action = Action::RepI(Box::new(alloc, repeated)?);
     Ok((Command { place, action }, rest))
 }
 
@@ -230,7 +242,12 @@ fn while_command<'t>(
 {
     let after = after_open(tokens)?;
     let ((condition, (between, body)), rest) = while_tail(alloc, after)?;
-    let action = Action::While(condition, between, body);
+    let repeated = WhileLoop {
+        condition,
+        between,
+        body,
+    };
+    let action = Action::While(Box::new(alloc, repeated)?);
     Ok((Command { place, action }, rest))
 }
 
@@ -248,7 +265,13 @@ fn whilei<'t>(
     let (counter, rest) = target_before(alloc, Mark::Comma, after)?;
     let counter = Box::new(alloc, counter)?;
     let ((condition, (between, body)), rest) = while_tail(alloc, rest)?;
-    let action = Action::WhileI(counter, condition, between, body);
+    let repeated = WhileILoop {
+        counter,
+        condition,
+        between,
+        body,
+    };
+    let action = Action::WhileI(Box::new(alloc, repeated)?);
     Ok((Command { place, action }, rest))
 }
 
@@ -298,7 +321,12 @@ fn if_command<'t>(
     let (condition, rest) = test_before(alloc, Mark::Close, None, after)?;
     let condition = Box::new(alloc, condition)?;
     let ((then_do, else_do), rest) = branches(alloc, rest)?;
-    let action = Action::If(condition, then_do, else_do);
+    let choice = Choice {
+        condition,
+        then_do,
+        else_do,
+    };
+    let action = Action::If(Box::new(alloc, choice)?);
     Ok((Command { place, action }, rest))
 }
 

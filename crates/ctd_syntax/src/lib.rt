@@ -19,9 +19,9 @@ pub use ctd_token::{
     tokens, tokens_are_longest, tokens_are_unique,
 };
 pub use ctd_tree::{
-    Action, Assignment, Assignments, Command, Commands, Compare, Expr, Exprs, IntArguments,
-    Literal, Names, PatternLiteral, Preset, PresetFault, Presets, Program, RegexArguments, Test,
-    Var,
+    Action, Assignment, Assignments, Choice, Command, Commands, Compare, Expr, Exprs, IntArguments,
+    Literal, Names, PatternLiteral, Preset, PresetFault, Presets, Program, RegexArguments,
+    RepILoop, RepLoop, Test, Var, WhileILoop, WhileLoop,
 };
 pub use grammar::parse;
 pub use keyword::Keyword;

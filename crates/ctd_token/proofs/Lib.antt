@@ -6,5 +6,4 @@ pub mod TokenFaults
 pub mod Decided
 pub mod LiteralEnds
 pub mod Longest
-pub mod ShortNames
 pub mod Places

@@ -1,35 +1,27 @@
--- How names are kept: short ones in place, with a code by which two names are compared without a look at their bytes.
-use Rattle.std.specs.Prelude.{◌≡◌, ◌≢◌, ◌<◌, ◌≤◌, ℕ, ◌+◌, ◌*◌, List, [], ◌∷◌, length, take}
-use Rattle.ctd_token.specs.declared.limits.TheConstants.{NO_CODE, SHORT_NAME}
+-- How names are kept: short ones in place, as eight bytes by which two of them are compared.
+use Rattle.std.specs.Prelude.{◌≡◌, ◌<◌, ◌≤◌, ℕ, ◌-◌, List, [], ◌∷◌, ◌++◌, length, take, replicate, slice_index, nat_lt, if◌then◌else◌}
+use Rattle.ctd_token.specs.declared.limits.TheConstants.{SHORT_NAME}
 use Rattle.ctd_token.specs.declared.name.NameBytes.{NameBytes}
 use Rattle.ctd_token.specs.declared.name.NameBytes.TheVariants.{Short, Long}
 
+-- at most seven bytes
+abbrev pub IsShort : List ℕ → Type 0
+IsShort bytes = length bytes ≤ SHORT_NAME
+
+-- the bytes of a short name, zeros behind them, and how many they are
+abbrev pub padded : List ℕ → List ℕ
+padded bytes = bytes ++ replicate (SHORT_NAME - length bytes) 0 ++ length bytes ∷ []
+
 -- the bytes of a name, wherever they stand
 abbrev pub bytes_of : NameBytes → List ℕ
-bytes_of (Short bytes len) = take len bytes
-bytes_of (Long boxed) = boxed.value
+bytes_of (Short number eight) = take (slice_index eight SHORT_NAME) eight
+bytes_of (Long number boxed) = boxed.value
 
--- those of a short one have room
-abbrev pub IsWithin : NameBytes → Type 0
-IsWithin (Short bytes len) = len ≤ SHORT_NAME
-IsWithin (Long boxed) = Unit {0}
+-- a short name stands in place, and a long one in its box
+abbrev pub IsKept : NameBytes → Type 0
+IsKept (Short number eight) = IsShort (bytes_of (Short number eight)) × (eight ≡ padded (bytes_of (Short number eight)))
+IsKept (Long number boxed) = SHORT_NAME < length boxed.value
 
--- a number that no other name has: its bytes, each one greater, as the digits of a number in base 257, the first the least
-abbrev pub name_code : List ℕ → ℕ
-name_code [] = 0
-name_code (byte ∷ bytes) = byte + 1 + 257 * name_code bytes
-
--- one to seven bytes
-abbrev pub IsShort : List ℕ → Type 0
-IsShort bytes = (0 < length bytes) × (length bytes ≤ SHORT_NAME)
-
--- the code of a short name; of any other `NO_CODE`, and 0 of none
-pub record IsCode (code : ℕ) (bytes : List ℕ) : Type 0 where
-  pub some : code ≢ 0
-  pub owned : code ≢ NO_CODE → code ≡ name_code bytes
-  pub short : IsShort bytes → code ≡ name_code bytes
-
--- the code of a short name; of any other 0, and `NO_CODE` of none
-pub record IsOwnCode (own : ℕ) (bytes : List ℕ) : Type 0 where
-  pub owned : own ≢ 0 → (own ≡ name_code bytes) × (own ≢ NO_CODE)
-  pub short : IsShort bytes → own ≡ name_code bytes
+-- the eight bytes by which a name is known: those of a short one, and of a long one others, which no short one has
+abbrev pub own_bytes : List ℕ → List ℕ
+own_bytes bytes = if nat_lt SHORT_NAME (length bytes) then replicate 8 255 else padded bytes

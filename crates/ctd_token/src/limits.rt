@@ -10,5 +10,3 @@ pub const NESTING_LIMIT: u32 = 200;
 /// How many bytes a short name has at most.
 pub(crate) const SHORT_NAME: usize = 7;
 
-/// The code of a name that is not short, which no short name has.
-pub(crate) const NO_CODE: u64 = u64::MAX;

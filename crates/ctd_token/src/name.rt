@@ -1,96 +1,71 @@
 //! The names of variables.
 
-ghost use Rattle.std.specs.Prelude.{◌≡◌, ◌≤◌, ◌^◌, List, ℕ, length, true, IfOk, IfNone, IfSome};
-ghost use Rattle.ctd_token.specs.ShortNames.{bytes_of, name_code, IsCode, IsOwnCode, IsShort, IsWithin};
+ghost use Rattle.std.specs.Prelude.{◌≡◌, true, IfOk};
+ghost use Rattle.ctd_token.specs.ShortNames.{bytes_of, own_bytes, padded, IsKept, IsShort};
 
-use crate::limits::{NO_CODE, SHORT_NAME};
+use crate::limits::SHORT_NAME;
 use crate::text::Bytes;
 use std::alloc::{AllocError, Global};
 use std::marker::Model;
 
-/// The bytes of a name. Those of a short one stand in it, so that most names take no memory besides; those of a long one lie in a box, so
-/// that they make no name larger.
+/// How a name is kept, with its number. The bytes of a short one stand in it, so that most names take no memory besides: they, zeros behind
+/// them, and how many they are. Those of a long one lie in a box, so that they make no name larger.
 #[derive(Drop)]
 enum NameBytes {
-    Short { bytes: [u8; SHORT_NAME], len: u8 },
-    Long(Box<Bytes>),
+    Short { number: u32, bytes: [u8; 8] },
+    // Of the number no contract says anything.
+    Long { number: u32, bytes: Box<Bytes> },
 }
 
-/// A copy of some bytes.
-fn name_bytes(alloc: Global, bytes: &[u8]) -> Result<NameBytes, AllocError>
+/// The bytes of a short name, zeros behind them, and how many they are.
+fn padded(bytes: &[u8]) -> [u8; 8]
+    requires { IsShort bytes.now }
+    ensures { result ≡ padded bytes.now }
+{
+    let mut padded = [0; 8];
+    padded[..bytes.len()].copy_from_slice(bytes);
+    padded[SHORT_NAME] = bytes.len() as u8;
+    padded
+}
+
+/// A copy of some bytes, with this number.
+fn name_bytes(alloc: Global, bytes: &[u8], number: u32) -> Result<NameBytes, AllocError>
     ensures equal { IfOk result (λ copied. bytes_of copied ≡ bytes.now) }
-    ensures within { IfOk result IsWithin }
+    ensures kept { IfOk result IsKept }
 {
     if bytes.len() <= SHORT_NAME {
-        let mut short = [0; SHORT_NAME];
-        short[..bytes.len()].copy_from_slice(bytes);
-        return Ok(NameBytes::Short {
-            bytes: short,
-            len: bytes.len() as u8,
-        });
+        let bytes = padded(bytes);
+        return Ok(NameBytes::Short { number, bytes });
     }
     let long = Bytes::copy(alloc, bytes)?;
-    Ok(NameBytes::Long(Box::new(alloc, long)?))
+    let bytes = Box::new(alloc, long)?;
+    Ok(NameBytes::Long { number, bytes })
 }
 
-/// The code of some bytes, where it has 64 bits.
-fn code_of(bytes: &[u8]) -> Option<u64>
-    ensures some { IfSome result (λ code. code ≡ name_code bytes.now) }
-    ensures none { IfNone result (2 ^ 64 ≤ name_code bytes.now) }
+/// The eight bytes by which a name is known: those of a short one, and of a long one others, which no short one has.
+fn own_bytes(name: &NameBytes) -> [u8; 8]
+    requires { IsKept name.now }
+    ensures { result ≡ own_bytes (bytes_of name.now) }
 {
-    match bytes {
-        [] => Some(0),
-        [first, rest @ ..] => code_of(rest)?
-            .checked_mul(257)?
-            .checked_add(u64::from(*first) + 1),
+    match name {
+        NameBytes::Short { bytes, .. } => *bytes,
+        NameBytes::Long { .. } => [u8::MAX; 8],
     }
 }
 
-/// The code of a short name; of any other `NO_CODE`.
-fn short_code(bytes: &[u8]) -> u64
-    ensures { IsCode result bytes.now }
-{
-    if bytes.len() > SHORT_NAME {
-        return NO_CODE;
-    }
-    match code_of(bytes) {
-        // The name of no bytes.
-        Some(0) => NO_CODE,
-        Some(code) => code,
-        None => NO_CODE,
-    }
-}
-
-/// The code by which a short name is known; of any other 0.
-fn own_code(code: u64, bytes: &[u8]) -> u64
-    requires { IsCode code bytes.now }
-    ensures { IsOwnCode result bytes.now }
-{
-    match code {
-        NO_CODE => 0,
-        code => code,
-    }
-}
-
-/// Whether another name has the code by which a short one is known: then they are the same.
+/// Whether eight bytes are the same: one comparison of two numbers.
 #[inline(always)]
-fn has_code(own: u64, bytes: &[u8], code: u64, other_bytes: &[u8]) -> bool
-    requires own { IsOwnCode own bytes.now }
-    requires code { IsCode code other_bytes.now }
-    ensures same { result ≡ true → bytes.now ≡ other_bytes.now }
-    ensures short { IsShort bytes.now → bytes.now ≡ other_bytes.now → result ≡ true }
+fn are_same(a: &[u8; 8], b: &[u8; 8]) -> bool
+    ensures same { result ≡ true → a.now ≡ b.now }
+    ensures all { a.now ≡ b.now → result ≡ true }
 {
-    own == code
+    u64::from_le_bytes(*a) == u64::from_le_bytes(*b)
 }
 
 /// The name of a variable, which contracts see as the list of its bytes.
 #[derive(Drop)]
 pub struct Name {
     bytes: NameBytes,
-    // By which a short name is compared without a look at its bytes.
-    code: u64,
-    // Of this no contract says anything.
-    number: u32,
 }
 
 /// The number of a name that was given none.
@@ -98,13 +73,13 @@ const NO_NUMBER: u32 = u32::MAX;
 
 impl Model for Name {
     ghost use Rattle.std.specs.Prelude.{List, ℕ};
-    ghost use Rattle.ctd_token.specs.ShortNames.{bytes_of, IsCode, IsWithin};
+    ghost use Rattle.ctd_token.specs.ShortNames.{bytes_of, IsKept};
 
     ghost Value = { List ℕ };
 
     ghost view = { λ n. bytes_of n.bytes };
 
-    ghost invariant = { λ n. IsWithin n.bytes × IsCode n.code (bytes_of n.bytes) };
+    ghost invariant = { λ n. IsKept n.bytes };
 }
 
 impl Name {
@@ -120,13 +95,8 @@ impl Name {
     pub fn numbered(alloc: Global, bytes: &[u8], number: u32) -> Result<Name, AllocError>
         ensures equal { IfOk result (λ copied. copied ≡ bytes.now) }
     {
-        let code = short_code(bytes);
-        let bytes = name_bytes(alloc, bytes)?;
-        Ok(Name {
-            bytes,
-            code,
-            number,
-        })
+        let bytes = name_bytes(alloc, bytes, number)?;
+        Ok(Name { bytes })
     }
 
     /// The bytes of the name, all of them.
@@ -135,15 +105,18 @@ impl Name {
         ensures whole { result.now ≡ self.now }
     {
         match &self.bytes {
-            NameBytes::Short { bytes, len } => &bytes[..*len as usize],
-            NameBytes::Long(bytes) => bytes.as_slice(),
+            NameBytes::Short { bytes, .. } => &bytes[..bytes[SHORT_NAME] as usize],
+            NameBytes::Long { bytes, .. } => bytes.as_slice(),
         }
     }
 
     /// The number that the name was given, or one that no name is given. It is a hint for those who look names up: equal names
     /// may have different numbers, and different names the same one.
     pub fn number(&self) -> u32 {
-        self.number
+        match &self.bytes {
+            NameBytes::Short { number, .. } => *number,
+            NameBytes::Long { number, .. } => *number,
+        }
     }
 }
 
@@ -151,19 +124,19 @@ impl Name {
 #[derive(Drop)]
 pub struct KnownName {
     name: Name,
-    // The code of a short name; of any other 0, which no name has. So one comparison tells.
-    own: u64,
+    // By which a short name is compared without a look at where its bytes are.
+    own: [u8; 8],
 }
 
 impl Model for KnownName {
-    ghost use Rattle.std.specs.Prelude.{List, ℕ};
-    ghost use Rattle.ctd_token.specs.ShortNames.{IsOwnCode};
+    ghost use Rattle.std.specs.Prelude.{◌≡◌, List, ℕ};
+    ghost use Rattle.ctd_token.specs.ShortNames.{own_bytes};
 
     ghost Value = { List ℕ };
 
     ghost view = { λ k. k.name };
 
-    ghost invariant = { λ k. IsOwnCode k.own k.name };
+    ghost invariant = { λ k. k.own ≡ own_bytes k.name };
 }
 
 impl KnownName {
@@ -171,7 +144,7 @@ impl KnownName {
     pub fn new(name: Name) -> KnownName
         ensures equal { result ≡ name }
     {
-        let own = own_code(name.code, name.as_slice());
+        let own = own_bytes(&name.bytes);
         KnownName { name, own }
     }
 
@@ -183,13 +156,16 @@ impl KnownName {
         self.name.as_slice()
     }
 
-    /// Whether another name is the same, told without a look at the bytes of either, where this one has one to seven; of any other, false
-    /// says nothing.
+    /// Whether another name is the same, told without a look at the bytes of a long one, where this one has at most seven; of any other,
+    /// false says nothing.
     #[inline(always)]
     pub fn is_same_short(&self, other: &Name) -> bool
         ensures same { result ≡ true → self.now ≡ other.now }
         ensures short { IsShort self.now → self.now ≡ other.now → result ≡ true }
     {
-        has_code(self.own, self.as_slice(), other.code, other.as_slice())
+        match &other.bytes {
+            NameBytes::Short { bytes, .. } => are_same(&self.own, bytes),
+            NameBytes::Long { .. } => false,
+        }
     }
 }

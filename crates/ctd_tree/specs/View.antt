@@ -13,8 +13,13 @@ use Rattle.ctd_tree.specs.declared.tree.Test.{Test}
 use Rattle.ctd_tree.specs.declared.tree.Test.TheVariants.{Or', And', Not', Compare, Match, IsEof, Unique, InArray}
 use Rattle.ctd_tree.specs.declared.tree.Assignment.{Assignment}
 use Rattle.ctd_tree.specs.declared.tree.Assignments.{Assignments}
-use Rattle.ctd_tree.specs.declared.tree.Action.{Action, Held-Action-Rep-1, None', Some'}
-use Rattle.ctd_tree.specs.declared.tree.Action.TheVariants.{Space, Newline, Eof, Int, String, Regex, Assert, Set, Unset, Rep', RepI', While', WhileI', If}
+use Rattle.ctd_tree.specs.declared.tree.Action.{Action}
+use Rattle.ctd_tree.specs.declared.tree.RepLoop.{RepLoop'}
+use Rattle.ctd_tree.specs.declared.tree.RepILoop.{RepILoop', Held-RepILoop-between, None', Some'}
+use Rattle.ctd_tree.specs.declared.tree.WhileLoop.{WhileLoop'}
+use Rattle.ctd_tree.specs.declared.tree.WhileILoop.{WhileILoop'}
+use Rattle.ctd_tree.specs.declared.tree.Choice.{Choice'}
+use Rattle.ctd_tree.specs.declared.tree.Action.TheVariants.{Space, Newline, Eof, Int, String, Regex, Assert, Set, Unset, Rep', RepI', While', WhileI', If'}
 use Rattle.ctd_tree.specs.declared.tree.Command.{Command}
 use Rattle.ctd_tree.specs.declared.tree.Commands.{Commands, Commands', out-Commands, Row_of-Command, end_of-Command, more_of-Command}
 
@@ -93,16 +98,16 @@ abbrev mutual
   action_tree (String e) place = Tree.string place (expr_tree e.value)
   action_tree (Regex regex) place = Tree.regex place regex.value.literal (target regex.value.target)
   action_tree (Assert t) place = Tree.assert place (test_tree t.value)
-  action_tree (Set assignments) place = Tree.set place (map assignment (assignments_of assignments))
-  action_tree (Unset names) place = Tree.unset place (names_of names)
-  action_tree (Rep' count between body) place = Tree.rep place (expr_tree count.value) (separator between) (command_list body)
-  action_tree (RepI' counter count between body) place = Tree.repi place (var_tree counter.value) (expr_tree count.value) (separator between) (command_list body)
-  action_tree (While' t between body) place = Tree.while place (test_tree t.value) (separator between) (command_list body)
-  action_tree (WhileI' counter t between body) place = Tree.whilei place (var_tree counter.value) (test_tree t.value) (separator between) (command_list body)
-  action_tree (If t a b) place = Tree.choice place (test_tree t.value) (command_list a) (command_list b)
+  action_tree (Set assignments) place = Tree.set place (map assignment (assignments_of assignments.value))
+  action_tree (Unset names) place = Tree.unset place (names_of names.value)
+  action_tree (Rep' p (RepLoop' count between body)) place = Tree.rep place (expr_tree count.value) (separator between) (command_list body)
+  action_tree (RepI' p (RepILoop' counter count between body)) place = Tree.repi place (var_tree counter.value) (expr_tree count.value) (separator between) (command_list body)
+  action_tree (While' p (WhileLoop' t between body)) place = Tree.while place (test_tree t.value) (separator between) (command_list body)
+  action_tree (WhileI' p (WhileILoop' counter t between body)) place = Tree.whilei place (var_tree counter.value) (test_tree t.value) (separator between) (command_list body)
+  action_tree (If' p (Choice' t a b)) place = Tree.choice place (test_tree t.value) (command_list a) (command_list b)
 
   -- a separator or none
-  pub separator : Held-Action-Rep-1 → Separator
+  pub separator : Held-RepILoop-between → Separator
   separator None' = Tree.nothing
   separator (Some' p place action) = Tree.between (action_tree action place)
 

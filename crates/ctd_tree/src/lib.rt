@@ -7,6 +7,7 @@ mod tree;
 
 pub use preset::{Literal, Preset, PresetFault, Presets};
 pub use tree::{
-    Action, Assignment, Assignments, Command, Commands, Compare, Expr, Exprs, IntArguments, Names,
-    PatternLiteral, Program, RegexArguments, Test, Var,
+    Action, Assignment, Assignments, Choice, Command, Commands, Compare, Expr, Exprs, IntArguments,
+    Names, PatternLiteral, Program, RegexArguments, RepILoop, RepLoop, Test, Var, WhileILoop,
+    WhileLoop,
 };

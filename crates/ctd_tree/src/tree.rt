@@ -134,7 +134,8 @@ pub struct Command {
     pub action: Action,
 }
 
-/// What a command does. The separator of a loop may be absent. What is large lies in a box, since every command has the room of the largest.
+/// What a command does. The separator of a loop may be absent. What a command takes lies in a box, since every command has the room of the
+/// largest.
 #[derive(Drop)]
 #[cycle(command)]
 pub enum Action {
@@ -153,19 +154,66 @@ pub enum Action {
     /// `ASSERT(t)`
     Assert(Box<Test>),
     /// `SET(v = e, ..)`
-    Set(Assignments),
+    Set(Box<Assignments>),
     /// `UNSET(a, ..)`
-    Unset(Names),
+    Unset(Box<Names>),
     /// `REP(count[,separator]) .. END`
-    Rep(Box<Expr>, Option<Box<Command>>, Commands),
+    Rep(Box<RepLoop>),
     /// `REPI(counter,count[,separator]) .. END`
-    RepI(Box<Var>, Box<Expr>, Option<Box<Command>>, Commands),
+    RepI(Box<RepILoop>),
     /// `WHILE(t[,separator]) .. END`
-    While(Box<Test>, Option<Box<Command>>, Commands),
+    While(Box<WhileLoop>),
     /// `WHILEI(counter,t[,separator]) .. END`
-    WhileI(Box<Var>, Box<Test>, Option<Box<Command>>, Commands),
-    /// `IF(t) .. [ELSE ..] END`; with no ELSE the second list is empty.
-    If(Box<Test>, Commands, Commands),
+    WhileI(Box<WhileILoop>),
+    /// `IF(t) .. [ELSE ..] END`
+    If(Box<Choice>),
+}
+
+/// A loop of a number of turns.
+#[derive(Drop)]
+#[cycle(command)]
+pub struct RepLoop {
+    pub count: Box<Expr>,
+    pub between: Option<Box<Command>>,
+    pub body: Commands,
+}
+
+/// The same with a variable that has the number of the turn.
+#[derive(Drop)]
+#[cycle(command)]
+pub struct RepILoop {
+    pub counter: Box<Var>,
+    pub count: Box<Expr>,
+    pub between: Option<Box<Command>>,
+    pub body: Commands,
+}
+
+/// A loop that goes on while its test is true.
+#[derive(Drop)]
+#[cycle(command)]
+pub struct WhileLoop {
+    pub condition: Box<Test>,
+    pub between: Option<Box<Command>>,
+    pub body: Commands,
+}
+
+/// The same with a variable that has the number of the turn.
+#[derive(Drop)]
+#[cycle(command)]
+pub struct WhileILoop {
+    pub counter: Box<Var>,
+    pub condition: Box<Test>,
+    pub between: Option<Box<Command>>,
+    pub body: Commands,
+}
+
+/// A test with the commands that are done where it is true, and those where it is false; with no ELSE these are none.
+#[derive(Drop)]
+#[cycle(command)]
+pub struct Choice {
+    pub condition: Box<Test>,
+    pub then_do: Commands,
+    pub else_do: Commands,
 }
 
 /// A list of commands.

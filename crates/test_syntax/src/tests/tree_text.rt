@@ -209,11 +209,11 @@ fn word_of(action: &Action) -> &'static str {
         Action::Assert(_) => "ASSERT",
         Action::Set(_) => "SET",
         Action::Unset(_) => "UNSET",
-        Action::Rep(_, _, _) => "REP",
-        Action::RepI(_, _, _, _) => "REPI",
-        Action::While(_, _, _) => "WHILE",
-        Action::WhileI(_, _, _, _) => "WHILEI",
-        Action::If(_, _, _) => "IF",
+        Action::Rep(_) => "REP",
+        Action::RepI(_) => "REPI",
+        Action::While(_) => "WHILE",
+        Action::WhileI(_) => "WHILEI",
+        Action::If(_) => "IF",
     }
 }
 
@@ -274,30 +274,30 @@ fn write_block(out: &mut Shown, depth: u16, action: &Action) {
         return out.put("...");
     };
     match action {
-        Action::Rep(count, between, body) => {
-            write_expr(out, DEPTH, count);
-            write_loop(out, depth, between, body.as_slice())
+        Action::Rep(repeated) => {
+            write_expr(out, DEPTH, &repeated.count);
+            write_loop(out, depth, &repeated.between, repeated.body.as_slice())
         }
-        Action::RepI(counter, count, between, body) => {
-            write_counter(out, counter);
-            write_expr(out, DEPTH, count);
-            write_loop(out, depth, between, body.as_slice())
+        Action::RepI(repeated) => {
+            write_counter(out, &repeated.counter);
+            write_expr(out, DEPTH, &repeated.count);
+            write_loop(out, depth, &repeated.between, repeated.body.as_slice())
         }
-        Action::While(condition, between, body) => {
-            write_test(out, DEPTH, condition);
-            write_loop(out, depth, between, body.as_slice())
+        Action::While(repeated) => {
+            write_test(out, DEPTH, &repeated.condition);
+            write_loop(out, depth, &repeated.between, repeated.body.as_slice())
         }
-        Action::WhileI(counter, condition, between, body) => {
-            write_counter(out, counter);
-            write_test(out, DEPTH, condition);
-            write_loop(out, depth, between, body.as_slice())
+        Action::WhileI(repeated) => {
+            write_counter(out, &repeated.counter);
+            write_test(out, DEPTH, &repeated.condition);
+            write_loop(out, depth, &repeated.between, repeated.body.as_slice())
         }
-        Action::If(condition, then_do, else_do) => {
-            write_test(out, DEPTH, condition);
+        Action::If(choice) => {
+            write_test(out, DEPTH, &choice.condition);
             out.put("){");
-            write_commands(out, depth, then_do.as_slice());
+            write_commands(out, depth, choice.then_do.as_slice());
             out.put("}{");
-            write_commands(out, depth, else_do.as_slice());
+            write_commands(out, depth, choice.else_do.as_slice());
             out.put("}")
         }
         _ => {}

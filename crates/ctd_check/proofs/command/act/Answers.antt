@@ -26,7 +26,7 @@ pub returns-in-Regex-clause-performs : goal.returns-in-Regex-clause-performs
 returns-in-Regex-clause-performs g c = rw (c.in-Regex.is, sym c.deref-in-Regex.ensures) (performs_answering (λ _. []) c.regex.ensures.performs)
 
 pub returns-in-Set-clause-performs : goal.returns-in-Set-clause-performs
-returns-in-Set-clause-performs g c = rw c.in-Set.is (performs_answering (λ _. []) (performs_as (λ d s. ap (λ xs. set (map assignment xs) d s) c.as_slice.ensures) c.set.ensures.performs))
+returns-in-Set-clause-performs g c = rw (c.in-Set.is, sym c.deref-in-Set.ensures) (performs_answering (λ _. []) (performs_as (λ d s. ap (λ xs. set (map assignment xs) d s) c.as_slice.ensures) c.set.ensures.performs))
 
 pub returns-in-Unset-clause-performs : goal.returns-in-Unset-clause-performs
-returns-in-Unset-clause-performs g c = rw c.in-Unset.is (performs_answering (λ _. []) (performs_as (λ d s. ap (λ xs. unset_all xs d s) c.as_slice-in-Unset.ensures) c.unset.ensures.performs))
+returns-in-Unset-clause-performs g c = rw (c.in-Unset.is, sym c.deref-in-Unset.ensures) (performs_answering (λ _. []) (performs_as (λ d s. ap (λ xs. unset_all xs d s) c.as_slice-in-Unset.ensures) c.unset.ensures.performs))

@@ -11,6 +11,11 @@ use Rattle.ctd_syntax.specs.declared.keyword.Keyword.TheVariants as words
 use Rattle.ctd_syntax.proofs.Fronts.{reads_as, refused_exit, before_reads, word_reads, pair_reads, first_none, second_none, no_tree_exit}
 use Rattle.ctd_syntax.proofs.CommandReads.{opened_reads, opened_none, before_loop_end, test_before_loop_end, before_branch_end, whatever, command_reads, command_none, commands_start, commands_next, commands_no_next, commands_end, begins_at, loop_end_plain, loop_end_no_block, loop_end_separated, loop_end_no_separated, branch_ended, branch_goes_on, branch_no_block, not_opened}
 use Rattle.ctd_tree.specs.View.{command_trees}
+use Rattle.ctd_tree.specs.declared.tree.RepLoop.{rolls-RepLoop'}
+use Rattle.ctd_tree.specs.declared.tree.RepILoop.{rolls-RepILoop'}
+use Rattle.ctd_tree.specs.declared.tree.WhileLoop.{rolls-WhileLoop'}
+use Rattle.ctd_tree.specs.declared.tree.WhileILoop.{rolls-WhileILoop'}
+use Rattle.ctd_tree.specs.declared.tree.Choice.{rolls-Choice'}
 use Rattle.ctd_tree.proofs.Trees.{held_separator, list_commands, trees_then}
 use Rattle.ctd_syntax.proofs.command.+command.Goals as goal
 
@@ -39,7 +44,7 @@ pub rep-returns-in_err-count-clause-tree : goal.rep-returns-in_err-count-clause-
 rep-returns-in_err-count-clause-tree t c = refused_exit (IsPair IsExpr IsLoopEnd) (IsCommandRest words.Rep c.args.place) Always Always _ (map lexeme c.in_ok-after.after.now) (map lexeme c.args.tokens.now) _ c.from_residual-in_err-count.result c.from_residual-in_err-count.ensures.1 (opened_none (λ x. Tree.rep c.args.place x.0 x.1.0 x.1.1) (IsPair IsExpr IsLoopEnd) Always (map lexeme c.args.tokens.now) (map lexeme c.in_ok-after.after.now) c.in_ok-after.ensures.found) c.in_err-count.ensures.tree
 
 pub rep-returns-clause-tree : goal.rep-returns-clause-tree
-rep-returns-clause-tree t c = rw (held_separator c.in_ok-count.between) (opened_reads (λ x. Tree.rep c.args.place x.0 x.1.0 x.1.1) (IsPair IsExpr IsLoopEnd) Always (map lexeme c.args.tokens.now) (map lexeme c.in_ok-after.after.now) (map lexeme c.in_ok-count.rest.now) _ c.in_ok-after.ensures.found c.in_ok-count.ensures.tree)
+rep-returns-clause-tree t c = rw (c.in_ok-new.ensures.ok, rolls-RepLoop', held_separator c.in_ok-count.between) (opened_reads (λ x. Tree.rep c.args.place x.0 x.1.0 x.1.1) (IsPair IsExpr IsLoopEnd) Always (map lexeme c.args.tokens.now) (map lexeme c.in_ok-after.after.now) (map lexeme c.in_ok-count.rest.now) _ c.in_ok-after.ensures.found c.in_ok-count.ensures.tree)
 
 pub while_command-returns-in_err-after-clause-tree : goal.while_command-returns-in_err-after-clause-tree
 while_command-returns-in_err-after-clause-tree t c = no_tree_exit (IsCommandRest words.While c.args.place) Always _ (map lexeme c.args.tokens.now) _ c.from_residual.result c.from_residual.ensures.1 (not_opened (λ x. Tree.while c.args.place x.0 x.1.0 x.1.1) (IsPair IsTest IsLoopEnd) Always (map lexeme c.args.tokens.now) c.in_err-after.ensures.none)
@@ -48,7 +53,7 @@ pub while_command-returns-in_err-condition-clause-tree : goal.while_command-retu
 while_command-returns-in_err-condition-clause-tree t c = refused_exit (IsPair IsTest IsLoopEnd) (IsCommandRest words.While c.args.place) Always Always _ (map lexeme c.in_ok-after.after.now) (map lexeme c.args.tokens.now) _ c.from_residual-in_err-condition.result c.from_residual-in_err-condition.ensures.1 (opened_none (λ x. Tree.while c.args.place x.0 x.1.0 x.1.1) (IsPair IsTest IsLoopEnd) Always (map lexeme c.args.tokens.now) (map lexeme c.in_ok-after.after.now) c.in_ok-after.ensures.found) c.in_err-condition.ensures.tree
 
 pub while_command-returns-clause-tree : goal.while_command-returns-clause-tree
-while_command-returns-clause-tree t c = rw (held_separator c.in_ok-condition.between) (opened_reads (λ x. Tree.while c.args.place x.0 x.1.0 x.1.1) (IsPair IsTest IsLoopEnd) Always (map lexeme c.args.tokens.now) (map lexeme c.in_ok-after.after.now) (map lexeme c.in_ok-condition.rest.now) _ c.in_ok-after.ensures.found c.in_ok-condition.ensures.tree)
+while_command-returns-clause-tree t c = rw (c.in_ok-new.ensures.ok, rolls-WhileLoop', held_separator c.in_ok-condition.between) (opened_reads (λ x. Tree.while c.args.place x.0 x.1.0 x.1.1) (IsPair IsTest IsLoopEnd) Always (map lexeme c.args.tokens.now) (map lexeme c.in_ok-after.after.now) (map lexeme c.in_ok-condition.rest.now) _ c.in_ok-after.ensures.found c.in_ok-condition.ensures.tree)
 
 pub repi-returns-in_err-after-clause-tree : goal.repi-returns-in_err-after-clause-tree
 repi-returns-in_err-after-clause-tree t c = no_tree_exit (IsCommandRest words.RepI c.args.place) Always _ (map lexeme c.args.tokens.now) _ c.from_residual.result c.from_residual.ensures.1 (not_opened (λ x. Tree.repi c.args.place x.0 x.1.0 x.1.1.0 x.1.1.1) (IsPair (IsBefore Comma IsTarget) (IsPair IsExpr IsLoopEnd)) Always (map lexeme c.args.tokens.now) c.in_err-after.ensures.none)
@@ -60,7 +65,7 @@ pub repi-returns-in_err-count-clause-tree : goal.repi-returns-in_err-count-claus
 repi-returns-in_err-count-clause-tree t c = refused_exit (IsPair IsExpr IsLoopEnd) (IsCommandRest words.RepI c.args.place) Always Always _ (map lexeme c.in_ok-counter.rest.now) (map lexeme c.args.tokens.now) _ c.from_residual-in_err-count.result c.from_residual-in_err-count.ensures.1 (λ not. opened_none (λ x. Tree.repi c.args.place x.0 x.1.0 x.1.1.0 x.1.1.1) (IsPair (IsBefore Comma IsTarget) (IsPair IsExpr IsLoopEnd)) Always (map lexeme c.args.tokens.now) (map lexeme c.in_ok-after.after.now) c.in_ok-after.ensures.found (second_none (IsBefore Comma IsTarget) (IsPair IsExpr IsLoopEnd) Always Always (whatever (IsPair IsExpr IsLoopEnd)) (map lexeme c.in_ok-after.after.now) (map lexeme c.in_ok-counter.rest.now) _ c.in_ok-counter.ensures.tree not)) c.in_err-count.ensures.tree
 
 pub repi-returns-clause-tree : goal.repi-returns-clause-tree
-repi-returns-clause-tree t c = rw (held_separator c.in_ok-count.between, c.in_ok-counter-2.ensures.ok) (opened_reads (λ x. Tree.repi c.args.place x.0 x.1.0 x.1.1.0 x.1.1.1) (IsPair (IsBefore Comma IsTarget) (IsPair IsExpr IsLoopEnd)) Always (map lexeme c.args.tokens.now) (map lexeme c.in_ok-after.after.now) (map lexeme c.in_ok-count.rest.now) _ c.in_ok-after.ensures.found (pair_reads (IsBefore Comma IsTarget) (IsPair IsExpr IsLoopEnd) Always Always (whatever (IsPair IsExpr IsLoopEnd)) (map lexeme c.in_ok-after.after.now) (map lexeme c.in_ok-counter.rest.now) (map lexeme c.in_ok-count.rest.now) _ _ c.in_ok-counter.ensures.tree c.in_ok-count.ensures.tree))
+repi-returns-clause-tree t c = rw (c.in_ok-new.ensures.ok, rolls-RepILoop', held_separator c.in_ok-count.between, c.in_ok-counter-2.ensures.ok) (opened_reads (λ x. Tree.repi c.args.place x.0 x.1.0 x.1.1.0 x.1.1.1) (IsPair (IsBefore Comma IsTarget) (IsPair IsExpr IsLoopEnd)) Always (map lexeme c.args.tokens.now) (map lexeme c.in_ok-after.after.now) (map lexeme c.in_ok-count.rest.now) _ c.in_ok-after.ensures.found (pair_reads (IsBefore Comma IsTarget) (IsPair IsExpr IsLoopEnd) Always Always (whatever (IsPair IsExpr IsLoopEnd)) (map lexeme c.in_ok-after.after.now) (map lexeme c.in_ok-counter.rest.now) (map lexeme c.in_ok-count.rest.now) _ _ c.in_ok-counter.ensures.tree c.in_ok-count.ensures.tree))
 
 pub whilei-returns-in_err-after-clause-tree : goal.whilei-returns-in_err-after-clause-tree
 whilei-returns-in_err-after-clause-tree t c = no_tree_exit (IsCommandRest words.WhileI c.args.place) Always _ (map lexeme c.args.tokens.now) _ c.from_residual.result c.from_residual.ensures.1 (not_opened (λ x. Tree.whilei c.args.place x.0 x.1.0 x.1.1.0 x.1.1.1) (IsPair (IsBefore Comma IsTarget) (IsPair IsTest IsLoopEnd)) Always (map lexeme c.args.tokens.now) c.in_err-after.ensures.none)
@@ -72,7 +77,7 @@ pub whilei-returns-in_err-condition-clause-tree : goal.whilei-returns-in_err-con
 whilei-returns-in_err-condition-clause-tree t c = refused_exit (IsPair IsTest IsLoopEnd) (IsCommandRest words.WhileI c.args.place) Always Always _ (map lexeme c.in_ok-counter.rest.now) (map lexeme c.args.tokens.now) _ c.from_residual-in_err-condition.result c.from_residual-in_err-condition.ensures.1 (λ not. opened_none (λ x. Tree.whilei c.args.place x.0 x.1.0 x.1.1.0 x.1.1.1) (IsPair (IsBefore Comma IsTarget) (IsPair IsTest IsLoopEnd)) Always (map lexeme c.args.tokens.now) (map lexeme c.in_ok-after.after.now) c.in_ok-after.ensures.found (second_none (IsBefore Comma IsTarget) (IsPair IsTest IsLoopEnd) Always Always (whatever (IsPair IsTest IsLoopEnd)) (map lexeme c.in_ok-after.after.now) (map lexeme c.in_ok-counter.rest.now) _ c.in_ok-counter.ensures.tree not)) c.in_err-condition.ensures.tree
 
 pub whilei-returns-clause-tree : goal.whilei-returns-clause-tree
-whilei-returns-clause-tree t c = rw (held_separator c.in_ok-condition.between, c.in_ok-counter-2.ensures.ok) (opened_reads (λ x. Tree.whilei c.args.place x.0 x.1.0 x.1.1.0 x.1.1.1) (IsPair (IsBefore Comma IsTarget) (IsPair IsTest IsLoopEnd)) Always (map lexeme c.args.tokens.now) (map lexeme c.in_ok-after.after.now) (map lexeme c.in_ok-condition.rest.now) _ c.in_ok-after.ensures.found (pair_reads (IsBefore Comma IsTarget) (IsPair IsTest IsLoopEnd) Always Always (whatever (IsPair IsTest IsLoopEnd)) (map lexeme c.in_ok-after.after.now) (map lexeme c.in_ok-counter.rest.now) (map lexeme c.in_ok-condition.rest.now) _ _ c.in_ok-counter.ensures.tree c.in_ok-condition.ensures.tree))
+whilei-returns-clause-tree t c = rw (c.in_ok-new.ensures.ok, rolls-WhileILoop', held_separator c.in_ok-condition.between, c.in_ok-counter-2.ensures.ok) (opened_reads (λ x. Tree.whilei c.args.place x.0 x.1.0 x.1.1.0 x.1.1.1) (IsPair (IsBefore Comma IsTarget) (IsPair IsTest IsLoopEnd)) Always (map lexeme c.args.tokens.now) (map lexeme c.in_ok-after.after.now) (map lexeme c.in_ok-condition.rest.now) _ c.in_ok-after.ensures.found (pair_reads (IsBefore Comma IsTarget) (IsPair IsTest IsLoopEnd) Always Always (whatever (IsPair IsTest IsLoopEnd)) (map lexeme c.in_ok-after.after.now) (map lexeme c.in_ok-counter.rest.now) (map lexeme c.in_ok-condition.rest.now) _ _ c.in_ok-counter.ensures.tree c.in_ok-condition.ensures.tree))
 
 pub if_command-returns-in_err-after-clause-tree : goal.if_command-returns-in_err-after-clause-tree
 if_command-returns-in_err-after-clause-tree t c = no_tree_exit (IsCommandRest words.If c.args.place) Always _ (map lexeme c.args.tokens.now) _ c.from_residual.result c.from_residual.ensures.1 (not_opened (λ x. Tree.choice c.args.place x.0 x.1.0 x.1.1) (IsPair (IsBefore Close IsTest) (IsPair IsCommands IsBranchEnd)) Always (map lexeme c.args.tokens.now) c.in_err-after.ensures.none)
@@ -84,7 +89,7 @@ pub if_command-returns-in_err-then_do-clause-tree : goal.if_command-returns-in_e
 if_command-returns-in_err-then_do-clause-tree t c = refused_exit (IsPair IsCommands IsBranchEnd) (IsCommandRest words.If c.args.place) Always Always _ (map lexeme c.in_ok-condition.rest.now) (map lexeme c.args.tokens.now) _ c.from_residual-in_err-then_do.result c.from_residual-in_err-then_do.ensures.1 (λ not. opened_none (λ x. Tree.choice c.args.place x.0 x.1.0 x.1.1) (IsPair (IsBefore Close IsTest) (IsPair IsCommands IsBranchEnd)) Always (map lexeme c.args.tokens.now) (map lexeme c.in_ok-after.after.now) c.in_ok-after.ensures.found (second_none (IsBefore Close IsTest) (IsPair IsCommands IsBranchEnd) Always Always (whatever (IsPair IsCommands IsBranchEnd)) (map lexeme c.in_ok-after.after.now) (map lexeme c.in_ok-condition.rest.now) _ c.in_ok-condition.ensures.tree not)) c.in_err-then_do.ensures.tree
 
 pub if_command-returns-clause-tree : goal.if_command-returns-clause-tree
-if_command-returns-clause-tree t c = rw c.in_ok-condition-2.ensures.ok (opened_reads (λ x. Tree.choice c.args.place x.0 x.1.0 x.1.1) (IsPair (IsBefore Close IsTest) (IsPair IsCommands IsBranchEnd)) Always (map lexeme c.args.tokens.now) (map lexeme c.in_ok-after.after.now) (map lexeme c.in_ok-then_do.rest.now) _ c.in_ok-after.ensures.found (pair_reads (IsBefore Close IsTest) (IsPair IsCommands IsBranchEnd) Always Always (whatever (IsPair IsCommands IsBranchEnd)) (map lexeme c.in_ok-after.after.now) (map lexeme c.in_ok-condition.rest.now) (map lexeme c.in_ok-then_do.rest.now) _ _ c.in_ok-condition.ensures.tree c.in_ok-then_do.ensures.tree))
+if_command-returns-clause-tree t c = rw (c.in_ok-new.ensures.ok, rolls-Choice', c.in_ok-condition-2.ensures.ok) (opened_reads (λ x. Tree.choice c.args.place x.0 x.1.0 x.1.1) (IsPair (IsBefore Close IsTest) (IsPair IsCommands IsBranchEnd)) Always (map lexeme c.args.tokens.now) (map lexeme c.in_ok-after.after.now) (map lexeme c.in_ok-then_do.rest.now) _ c.in_ok-after.ensures.found (pair_reads (IsBefore Close IsTest) (IsPair IsCommands IsBranchEnd) Always Always (whatever (IsPair IsCommands IsBranchEnd)) (map lexeme c.in_ok-after.after.now) (map lexeme c.in_ok-condition.rest.now) (map lexeme c.in_ok-then_do.rest.now) _ _ c.in_ok-condition.ensures.tree c.in_ok-then_do.ensures.tree))
 
 pub separator_before-returns-in-Some-clause-tree : goal.separator_before-returns-in-Some-clause-tree
 separator_before-returns-in-Some-clause-tree t c = before_reads IsCommand Always Close (λ us. tt) (map lexeme c.args.tokens.now) (map lexeme c.in_ok-between.rest.now) (map lexeme c.in-Some.rest.now) _ c.in_ok-between.ensures.tree c.in-Some.ensures.found

@@ -16,4 +16,4 @@ pub returns-in_err-list-clause-tree : goal.returns-in_err-list-clause-tree
 returns-in_err-list-clause-tree c = refused_exit (IsBefore Close IsAssignments) (IsCommandRest words.Set c.args.place) Always Always _ (map lexeme c.in_ok-after.after.now) (map lexeme c.args.tokens.now) _ c.from_residual-in_err-list.result c.from_residual-in_err-list.ensures.1 (opened_none (Tree.set c.args.place) (IsBefore Close IsAssignments) Always (map lexeme c.args.tokens.now) (map lexeme c.in_ok-after.after.now) c.in_ok-after.ensures.found) c.in_err-list.ensures.tree
 
 pub returns-clause-tree : goal.returns-clause-tree
-returns-clause-tree c = opened_reads (Tree.set c.args.place) (IsBefore Close IsAssignments) Always (map lexeme c.args.tokens.now) (map lexeme c.in_ok-after.after.now) (map lexeme c.in_ok-list.rest.now) _ c.in_ok-after.ensures.found c.in_ok-list.ensures.tree
+returns-clause-tree c = rw c.in_ok-new.ensures.ok (opened_reads (Tree.set c.args.place) (IsBefore Close IsAssignments) Always (map lexeme c.args.tokens.now) (map lexeme c.in_ok-after.after.now) (map lexeme c.in_ok-list.rest.now) _ c.in_ok-after.ensures.found c.in_ok-list.ensures.tree)
