@@ -59,6 +59,7 @@ EndsTwo ts = (d : ℕ) (rest : List Lexeme) → cut (suc (suc d)) (ts ++ rest) �
 abbrev Closed : List Lexeme → Type 0
 Closed ts = (d : ℕ) (rest : List Lexeme) → cut_behind d (ts ++ rest) ≡ cut d rest
 
+-- a token that opens and closes nothing leaves as many open as there were
 level_depth : (x : Change) → IsLevelChange x → (d : ℕ) → depth_after x d ≡ d
 level_depth Opens l d = absurd l
 level_depth Closes l d = absurd l
@@ -66,15 +67,19 @@ level_depth Restarts l d = refl
 level_depth Grows l d = refl
 level_depth Keeps l d = refl
 
+-- tokens that pass do so one behind the other
 passes_append : (ts us : List Lexeme) → Passes ts → Passes us → Passes (ts ++ us)
 passes_append ts us f g d rest = ap (cut (suc d)) (append_assoc ts us rest) ∙ f d (us ++ rest) ∙ g d rest
 
+-- behind tokens that pass, one that closes closes one
 closes : (ts : List Lexeme) (t : Lexeme) → change_of t ≡ Closes → Passes ts → Ends (ts ++ t ∷ [])
 closes ts t e f d rest = ap (cut (suc d)) (append_assoc ts (t ∷ []) rest) ∙ f d (t ∷ rest) ∙ ap (λ x. cut (depth_after x (suc d)) rest) e
 
+-- behind tokens that pass, tokens that close one do so too
 ends_over : (ts us : List Lexeme) → Passes ts → Ends us → Ends (ts ++ us)
 ends_over ts us f g d rest = ap (cut (suc d)) (append_assoc ts us rest) ∙ f d (us ++ rest) ∙ g d rest
 
+-- and those that close two
 two_over : (ts us : List Lexeme) → Passes ts → EndsTwo us → EndsTwo (ts ++ us)
 two_over ts us f g d rest = ap (cut (suc (suc d))) (append_assoc ts us rest) ∙ f (suc d) (us ++ rest) ∙ g d rest
 
@@ -91,9 +96,11 @@ called : (ts : List Lexeme) → Ends ts → (d : ℕ) (rest : List Lexeme) → c
 called ts f zero rest = f zero rest
 called ts f (suc d) rest = f (suc d) rest
 
+-- balanced tokens in parentheses
 asked : (ts : List Lexeme) → Balanced ts → (d : ℕ) (rest : List Lexeme) → cut d (mark Open ∷ ((ts ++ mark Close ∷ []) ++ rest)) ≡ cut d rest
 asked ts b = called (ts ++ mark Close ∷ []) (closes ts (mark Close) refl (passes ts b))
 
+-- the end of a command with a target closes its parenthesis
 target_ends : (ts : List Lexeme) (target : Option VarTree) → IsTargetEnd ts target → Ends ts
 target_ends ts target i = let b = target_balanced ts target i in subst Ends (sym b.1) (closes b.0 (mark Close) refl (passes b.0 b.2))
 
@@ -145,6 +152,7 @@ abbrev IsBoundary : List Lexeme → Type 0
 IsBoundary [] = Unit {0}
 IsBoundary (t ∷ ts) = begins_command t ≡ true
 
+-- there the next command is all that is left
 boundary_cut : (ts : List Lexeme) → IsBoundary ts → cut zero ts ≡ ts
 boundary_cut [] h = refl
 boundary_cut (t ∷ ts) h = ap (λ b. if b then t ∷ ts else cut (depth_after (change_of t) zero) ts) h
@@ -170,18 +178,21 @@ command_begins_so ts rest u (Grammar.while i r) = refl
 command_begins_so ts rest u (Grammar.whilei i j r) = refl
 command_begins_so ts rest u (Grammar.choice i r) = refl
 
+-- so do the tokens at whose front one is found
 pub found_begins : (ts after : List Lexeme) (u : CommandTree) → Found IsCommand Always ts u after → command_begins ts ≡ true
 found_begins ts after u f = ap command_begins f.split ∙ command_begins_so f.front after u f.spells
 
+-- tokens that begin a command are those from a command on
 begins_boundary : (ts : List Lexeme) → command_begins ts ≡ true → IsBoundary ts
 begins_boundary [] h = tt
 begins_boundary (t ∷ ts) h = h
 
--- commands do, unless there are none
+-- behind commands there may be others or nothing
 commands_begin_so : (ts rest : List Lexeme) (u : CommandList) → IsCommands ts u → IsBoundary rest → IsBoundary (ts ++ rest)
 commands_begin_so ts rest u Grammar.done h = h
 commands_begin_so ts rest u (Grammar.then {ts = ws} {us} {c} i j) h = subst IsBoundary (sym (append_assoc ws us rest)) (begins_boundary (ws ++ (us ++ rest)) (command_begins_so ws (us ++ rest) c i))
 
+-- or there are none before them
 commands_boundary : (ts : List Lexeme) (u : CommandList) → IsCommands ts u → IsBoundary ts
 commands_boundary ts u i = subst IsBoundary (append-nil ts) (commands_begin_so ts [] u i tt)
 
@@ -206,14 +217,17 @@ parted ts us whole a u (Grammar.then {ts = fs} {us = gs} {c} {rest} i r) h e (Gr
     let p = parted gs us ls rest more r h tails s in
     (Tree.then d p.0, p.1, Grammar.then (subst (λ l. IsCommand l d) heads j) p.2, p.3, ap (Tree.then d) p.4)
 
+-- commands behind commands
 appended : (ts us : List Lexeme) (a b : CommandList) → IsCommands ts a → IsCommands us b → IsCommands (ts ++ us) (joined a b)
 appended ts us a b Grammar.done j = j
 appended ts us a b (Grammar.then {ts = fs} {us = gs} {c} {rest} i r) j = subst (λ l. IsCommands l (Tree.then c (joined rest b))) (sym (append_assoc fs gs us)) (Grammar.then i (appended gs us rest b r j))
 
+-- three lists of commands, one behind the other
 joined_assoc : (a b c : CommandList) → joined (joined a b) c ≡ joined a (joined b c)
 joined_assoc Tree.done b c = refl
 joined_assoc (Tree.then x rest) b c = ap (Tree.then x) (joined_assoc rest b c)
 
+-- no commands behind others
 joined_nothing : (a : CommandList) → joined a Tree.done ≡ a
 joined_nothing Tree.done = refl
 joined_nothing (Tree.then x rest) = ap (Tree.then x) (joined_nothing rest)
@@ -223,6 +237,7 @@ pub record BeginsWith (ts : List Lexeme) (a : CommandList) : Type 0 where
   pub spells : IsCommands ts a
   pub only : (us : List Lexeme) (u : CommandList) → IsBoundary us → IsCommands (ts ++ us) u → (w : CommandList) × IsCommands us w × (u ≡ joined a w)
 
+-- before the first stretch
 pub nothing_yet : BeginsWith [] Tree.done
 nothing_yet = record { spells = Grammar.done; only = λ us u h i. (u, i, refl) }
 

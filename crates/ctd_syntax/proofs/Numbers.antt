@@ -85,6 +85,7 @@ HasNone ts = numbers_in ts ≡ []
 none_in-append : (ts us : List Lexeme) → HasNone ts → HasNone us → HasNone (ts ++ us)
 none_in-append ts us f g = numbers_in-append ts us ∙ ap₂ (λ xs ys. xs ++ ys) f g
 
+-- none is among balanced tokens
 none_in : (ts : List Lexeme) → Balanced ts → HasNone ts
 none_in ts Balanced.none = refl
 none_in ts (Balanced.alone {t} l) = append-nil (token_number t) ∙ l.1
@@ -92,6 +93,7 @@ none_in ts (Balanced.append {ts = us} {us = vs} a b) = none_in-append us vs (non
 none_in ts (Balanced.parenthesized {ts = us} a) = none_in-append us (mark Close ∷ []) (none_in us a) refl
 none_in ts (Balanced.indexed {ts = us} a) = none_in-append us (mark CloseIndex ∷ []) (none_in us a) refl
 
+-- and none at the end of a command with a target
 target_none : (ts : List Lexeme) (target : Option VarTree) → IsTargetEnd ts target → HasNone ts
 target_none ts target i = let b = target_balanced ts target i in subst HasNone (sym b.1) (none_in-append b.0 (mark Close ∷ []) (none_in b.0 b.2) refl)
 

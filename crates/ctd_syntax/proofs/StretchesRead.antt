@@ -34,6 +34,7 @@ pub record InStretches (text : List ℕ) (commands : List Command) (stretch : Li
   pub light : weight counters ≤ NESTING_LIMIT
   pub shallow : (ts : List Lexeme) → too_deep counters ts ≡ None → too_deep start ((seen ++ stretch) ++ ts) ≡ None
 
+-- before the first token
 pub begin : (text : List ℕ) (commands : List Command) (u : Unread) (counters : ℕ × List ℕ) → commands ≡ [] → u ≡ record { uncut = record { text = text; at = 0 }; before = 0 } → counters ≡ start → InStretches text commands [] u counters
 begin text commands u counters none is at_start = record {
   seen = [];

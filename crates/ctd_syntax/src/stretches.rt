@@ -58,6 +58,7 @@ fn ends_before(stretch: &[ParserToken<'_>], nesting: &Nesting, next: &ParserToke
 }
 
 // Reads the commands of a stretch that ends, whose tokens are then dropped. Whether they were commands and nothing else.
+#[inline(always)] // For each token, of which few end a stretch.
 fn read_off(
     alloc: Global,
     ends: bool,
