@@ -295,14 +295,14 @@ fn add_name(
 {
     // A store keeps no allocator, so the indices tell where memory comes from.
     let alloc = *indices.allocator();
-    let copied = Name::copy(alloc, name.as_slice())?;
-    let named = NamedArray {
-        name: KnownName::new(copied),
-        array: Array::of_one(indices, value)?,
-    };
     list.reserve(1)?;
+    let copied = Name::copy(alloc, name.as_slice())?;
+    let array = Array::of_one(indices, value)?;
     positions.insert(alloc, name, list.len())?;
-    list.push_reserved(named);
+    list.push_reserved(NamedArray {
+        name: KnownName::new(copied),
+        array,
+    });
     Ok(())
 }
 

@@ -7,14 +7,14 @@ always : {A E P : Type 0} (r : Result A E) → P → OnErr r P
 always (Ok x) p = tt
 always (Err e) p = p
 
-pub returns-in_err-copied : goal.returns-in_err-copied
-returns-in_err-copied c = record { ok = IfOk-from_err c.from_residual.result _ c.from_residual.ensures.0; err = always c.from_residual.result (refl, refl) }
-
-pub returns-in_err-of_one : goal.returns-in_err-of_one
-returns-in_err-of_one c = record { ok = IfOk-from_err c.from_residual-in_err-of_one.result _ c.from_residual-in_err-of_one.ensures.0; err = always c.from_residual-in_err-of_one.result (refl, refl) }
-
 pub returns-in_err-reserve : goal.returns-in_err-reserve
-returns-in_err-reserve c = record { ok = IfOk-from_err c.from_residual-in_err-reserve.result _ c.from_residual-in_err-reserve.ensures.0; err = always c.from_residual-in_err-reserve.result (ap arrays_seen c.reserve.ensures.items, refl) }
+returns-in_err-reserve c = record { ok = IfOk-from_err c.from_residual.result _ c.from_residual.ensures.0; err = always c.from_residual.result (ap arrays_seen c.reserve.ensures.items, refl) }
+
+pub returns-in_err-copied : goal.returns-in_err-copied
+returns-in_err-copied c = record { ok = IfOk-from_err c.from_residual-in_err-copied.result _ c.from_residual-in_err-copied.ensures.0; err = always c.from_residual-in_err-copied.result (ap arrays_seen c.reserve.ensures.items, refl) }
+
+pub returns-in_err-array : goal.returns-in_err-array
+returns-in_err-array c = record { ok = IfOk-from_err c.from_residual-in_err-array.result _ c.from_residual-in_err-array.ensures.0; err = always c.from_residual-in_err-array.result (ap arrays_seen c.reserve.ensures.items, refl) }
 
 pub returns-in_err-insert : goal.returns-in_err-insert
 returns-in_err-insert c = record { ok = IfOk-from_err c.from_residual-in_err-insert.result _ c.from_residual-in_err-insert.ensures.0; err = always c.from_residual-in_err-insert.result (ap arrays_seen c.reserve.ensures.items, c.in_err-insert.ensures.err) }

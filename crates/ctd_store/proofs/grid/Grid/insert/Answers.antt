@@ -1,4 +1,5 @@
 use Rattle.std.proofs.Common.{◌≡◌, ap, ◌∙◌, ◌+◌, ◌<◌, ◌≤◌, length, Result, Ok, Err, OnErr, refl, arith}
+use Rattle.std.proofs.lemmas.Grind.{common_steps}
 use Rattle.std.specs.Prelude.{◌-◌}
 use Rattle.std.specs.FinMap.{put}
 use Rattle.ctd_store.specs.Order.{values_cmp}
@@ -31,3 +32,12 @@ returns-clause-done c _ =
     written_in_grid c.base_for-self-inside.result at place items c.index_mut.result.now (record { base = c.index_mut.result.now.base; values = c.write.new.values }) c.args.value
     in_range c.index_mut.ensures.value refl within c.in_ok-write.ensures.ok
     ∙ (λ k. put values_cmp (cell (row k) (column k)) c.args.value ((begun c.self.inside.base c.base_for-self-inside.result items (λ filled. c.base_for-self-inside.ensures.kept (omega (arith, filled, c.len.ensures))) ∙ c.self.view_is) k))
+
+pub returns-in_err-add_row-clause-err : goal.returns-in_err-add_row-clause-err
+returns-in_err-add_row-clause-err c = grind (arith, common_steps)
+
+pub returns-then-at-len-2-clause-done : goal.returns-then-at-len-2-clause-done
+returns-then-at-len-2-clause-done c = grind (arith, common_steps)
+
+pub write-requires : goal.write-requires
+write-requires c = grind (arith, common_steps)

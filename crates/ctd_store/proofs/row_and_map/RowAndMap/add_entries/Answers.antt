@@ -1,4 +1,5 @@
 use Rattle.std.proofs.Common.{ap, sym, subst, ◌∙◌, [], ◌∷◌, ◌++◌, ◌+◌, map, drop, arith}
+use Rattle.std.proofs.lemmas.Grind.{common_steps}
 use Rattle.std.proofs.lemmas.Result.{IfOk-from_err}
 use Rattle.std.specs.Option.{option_copied, unwrap_or}
 use Rattle.std.specs.Ordering.{is_lt}
@@ -53,3 +54,6 @@ returns-in_err-entries-3 c = record { added = IfOk-from_err c.from_residual-in_e
 
 pub returns-in_err-entries-4 : goal.returns-in_err-entries-4
 returns-in_err-entries-4 c = record { added = IfOk-from_err c.from_residual-in_err-entries-4.result _ c.from_residual-in_err-entries-4.ensures.0; once = IfOk-from_err c.from_residual-in_err-entries-4.result _ c.from_residual-in_err-entries-4.ensures.0 }
+
+pub returns-clause-added : goal.returns-clause-added
+returns-clause-added c = grind (arith, common_steps)

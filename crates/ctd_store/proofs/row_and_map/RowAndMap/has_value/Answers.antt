@@ -1,4 +1,5 @@
 use Rattle.std.proofs.Common.{ap, sym, ◌∙◌, [], ◌∷◌, ◌+◌, drop, true, false, arith}
+use Rattle.std.proofs.lemmas.Grind.{common_steps}
 use Rattle.std.specs.Option.{option_copied, unwrap_or}
 use Rattle.std.specs.Ordering.{is_lt}
 use Rattle.ctd_store.specs.Lent.{value_lent}
@@ -65,3 +66,6 @@ loop-next-preserved c =
     looked (value_lent c.args.value) (unwrap_or (option_copied c.args.hidden) []) (laid (c.self.inside.base + c.loop-next.next) (drop c.loop-next.next c.self.inside.dense.items) []) (laid (c.self.inside.base + (c.loop-next.next + 1)) (drop (c.loop-next.next + 1) c.self.inside.dense.items) []) (slot (c.self.inside.base + c.loop-next.next), c.index-in-loop-next.result.now) (is_shown (value_lent c.args.value) (unwrap_or (option_copied c.args.hidden) []) c.args.self.now) c.shows_at-in-loop-next.result false c.loop-next.invariant
     (merged_last c.self.inside.base c.loop-next.next c.self.inside.dense.items c.index-in-loop-next.result.now (omega (arith, c.loop-next-test.true, c.len-in-loop-next.ensures)) c.index-in-loop-next.ensures)
     c.shows_at-in-loop-next.ensures.value c.if-shows_at-2.false
+
+pub returns : goal.returns
+returns c = grind (arith, common_steps)

@@ -1,4 +1,5 @@
 use Rattle.std.proofs.Common.{ap, sym, ◌∙◌, arith}
+use Rattle.std.proofs.lemmas.Grind.{common_steps}
 use Rattle.std.specs.FinMap.{put}
 use Rattle.std.proofs.lemmas.Result.{on_ok_weaker}
 use Rattle.ctd_store.specs.Order.{values_cmp}
@@ -24,3 +25,6 @@ returns-in_ok-insert-in-None-clause-ok c =
 
 pub invariant_of-self-in-None : goal.invariant_of-self-in-None
 invariant_of-self-in-None c = sorted_seen (λ k. k.items) c.insert.new.self.entries c.insert.ensures.ordered
+
+pub returns-in_err-insert-in-None-clause-err : goal.returns-in_err-insert-in-None-clause-err
+returns-in_err-insert-in-None-clause-err c = grind (arith, common_steps)

@@ -1,0 +1,9 @@
+use Rattle.std.proofs.Common.{arith}
+use Rattle.std.proofs.lemmas.Grind.{common_steps}
+use Rattle.ctd_store.proofs.store.Store.new.Goals as goal
+
+pub loop-preset-preserved : goal.loop-preset-preserved
+loop-preset-preserved c = grind (arith, common_steps)
+
+pub returns : goal.returns
+returns c = grind (arith, common_steps)
