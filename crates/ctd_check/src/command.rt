@@ -134,13 +134,7 @@ pub(crate) fn start_block<'p, D: Source>(
             } = &**repeated;
             let guard = Guard::While(condition);
             let counter = Some(&**counter);
-            Ok(Some(loop_frame(
-                command.place,
-                guard,
-                counter,
-                between,
-                body,
-            )))
+            Ok(Some(loop_frame(command.place, guard, counter, between, body)))
         }
         Action::Space => unreachable!(),
         Action::Newline => unreachable!(),

@@ -12,7 +12,7 @@ use crate::front::{ParseError, after_mark, name_at};
 use crate::keyword::Keyword;
 use crate::parser_token::{ParserToken, string_of};
 use ctd_token::{Mark, Name};
-use ctd_tree::{Expr, Exprs, Var};
+use ctd_tree::{Expr, Exprs, Numeral, Var};
 use std::alloc::{AllocError, Global};
 
 // The operators that join two expressions.
@@ -201,8 +201,8 @@ fn atom<'t>(
     };
     match first {
         ParserToken::Numeral(n) => {
-            let n = *n;
-            Ok((Expr::Numeral(n), rest))
+            let numeral = Numeral::new(*n);
+            Ok((Expr::Numeral(numeral), rest))
         }
         ParserToken::Text(literal, _) => {
             let bytes = string_of(alloc, literal)?;

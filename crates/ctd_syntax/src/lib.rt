@@ -20,7 +20,7 @@ pub use ctd_token::{
 };
 pub use ctd_tree::{
     Action, Assignment, Assignments, Choice, Command, Commands, Compare, Expr, Exprs, IntArguments,
-    Literal, Names, PatternLiteral, Preset, PresetFault, Presets, Program, RegexArguments,
+    Literal, Names, Numeral, PatternLiteral, Preset, PresetFault, Presets, Program, RegexArguments,
     RepILoop, RepLoop, Test, Var, WhileILoop, WhileLoop,
 };
 pub use grammar::parse;

@@ -25,6 +25,7 @@ enum Change {
     Keeps,
 }
 
+#[inline(always)]
 fn change_of(token: &ParserToken<'_>) -> Change
     ensures { result ≡ change_of (lexeme token.now) }
 {

@@ -35,6 +35,7 @@ fn span(text: &[u8], first: usize, after: usize) -> &[u8]
     &text[start..end]
 }
 
+#[inline(always)]
 fn parser_token_of<'t>(text: &'t [u8], token: Token) -> ParserToken<'t>
     requires { IsSpelled text.now token }
     ensures { lexeme result ≡ lexeme_of text.now token }
@@ -70,6 +71,7 @@ pub(crate) fn string_of(alloc: Global, literal: &[u8]) -> Result<Bytes, AllocErr
 }
 
 // Gives a word REGEX its number, and adds it to those before it.
+#[inline(always)]
 fn give_number<'t>(token: ParserToken<'t>, before: &mut usize) -> ParserToken<'t>
     requires { before.old + 1 < 2 ^ 64 }
     ensures same { lexeme result ≡ with_number before.old (lexeme token.entry) }
@@ -97,6 +99,7 @@ fn number_of<'t>(name: &'t [u8], numbers: &mut BTreeMap<&'t [u8], u32>) -> Resul
 }
 
 // Gives a name its number.
+#[inline(always)]
 fn number_name<'t>(
     token: ParserToken<'t>,
     numbers: &mut BTreeMap<&'t [u8], u32>,

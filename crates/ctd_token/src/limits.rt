@@ -9,4 +9,3 @@ pub const NESTING_LIMIT: u32 = 200;
 
 /// How many bytes a short name has at most.
 pub(crate) const SHORT_NAME: usize = 7;
-

@@ -1,21 +1,23 @@
 //! The names of variables.
 
 ghost use Rattle.std.specs.Prelude.{◌≡◌, true, IfOk};
-ghost use Rattle.ctd_token.specs.ShortNames.{bytes_of, own_bytes, padded, IsKept, IsShort};
+ghost use Rattle.ctd_token.specs.ShortNames.{padded, IsShort};
 
 use crate::limits::SHORT_NAME;
 use crate::text::Bytes;
 use std::alloc::{AllocError, Global};
 use std::marker::Model;
 
-/// How a name is kept, with its number. The bytes of a short one stand in it, so that most names take no memory besides: they, zeros behind
-/// them, and how many they are. Those of a long one lie in a box, so that they make no name larger.
+/// What a name has besides its eight bytes: its number, of which no contract says anything, and the bytes of a long one. These lie in a box,
+/// so that they make no name larger.
 #[derive(Drop)]
-enum NameBytes {
-    Short { number: u32, bytes: [u8; 8] },
-    // Of the number no contract says anything.
-    Long { number: u32, bytes: Box<Bytes> },
+enum NameRest {
+    Short(u32),
+    Long(u32, Box<Bytes>),
 }
+
+/// The eight bytes of each long name, which no short one has.
+const LONG: [u8; 8] = [u8::MAX; 8];
 
 /// The bytes of a short name, zeros behind them, and how many they are.
 fn padded(bytes: &[u8]) -> [u8; 8]
@@ -28,31 +30,6 @@ fn padded(bytes: &[u8]) -> [u8; 8]
     padded
 }
 
-/// A copy of some bytes, with this number.
-fn name_bytes(alloc: Global, bytes: &[u8], number: u32) -> Result<NameBytes, AllocError>
-    ensures equal { IfOk result (λ copied. bytes_of copied ≡ bytes.now) }
-    ensures kept { IfOk result IsKept }
-{
-    if bytes.len() <= SHORT_NAME {
-        let bytes = padded(bytes);
-        return Ok(NameBytes::Short { number, bytes });
-    }
-    let long = Bytes::copy(alloc, bytes)?;
-    let bytes = Box::new(alloc, long)?;
-    Ok(NameBytes::Long { number, bytes })
-}
-
-/// The eight bytes by which a name is known: those of a short one, and of a long one others, which no short one has.
-fn own_bytes(name: &NameBytes) -> [u8; 8]
-    requires { IsKept name.now }
-    ensures { result ≡ own_bytes (bytes_of name.now) }
-{
-    match name {
-        NameBytes::Short { bytes, .. } => *bytes,
-        NameBytes::Long { .. } => [u8::MAX; 8],
-    }
-}
-
 /// Whether eight bytes are the same: one comparison of two numbers.
 #[inline(always)]
 fn are_same(a: &[u8; 8], b: &[u8; 8]) -> bool
@@ -62,10 +39,12 @@ fn are_same(a: &[u8; 8], b: &[u8; 8]) -> bool
     u64::from_le_bytes(*a) == u64::from_le_bytes(*b)
 }
 
-/// The name of a variable, which contracts see as the list of its bytes.
+/// The name of a variable, which contracts see as the list of its bytes. Those of a short one stand in it, so that most names take no memory
+/// besides: they, zeros behind them, and how many they are.
 #[derive(Drop)]
 pub struct Name {
-    bytes: NameBytes,
+    eight: [u8; 8],
+    rest: NameRest,
 }
 
 /// The number of a name that was given none.
@@ -77,9 +56,9 @@ impl Model for Name {
 
     ghost Value = { List ℕ };
 
-    ghost view = { λ n. bytes_of n.bytes };
+    ghost view = { λ n. bytes_of n.eight n.rest };
 
-    ghost invariant = { λ n. IsKept n.bytes };
+    ghost invariant = { λ n. IsKept n.eight n.rest };
 }
 
 impl Name {
@@ -95,8 +74,14 @@ impl Name {
     pub fn numbered(alloc: Global, bytes: &[u8], number: u32) -> Result<Name, AllocError>
         ensures equal { IfOk result (λ copied. copied ≡ bytes.now) }
     {
-        let bytes = name_bytes(alloc, bytes, number)?;
-        Ok(Name { bytes })
+        if bytes.len() <= SHORT_NAME {
+            let eight = padded(bytes);
+            let rest = NameRest::Short(number);
+            return Ok(Name { eight, rest });
+        }
+        let long = Bytes::copy(alloc, bytes)?;
+        let rest = NameRest::Long(number, Box::new(alloc, long)?);
+        Ok(Name { eight: LONG, rest })
     }
 
     /// The bytes of the name, all of them.
@@ -104,27 +89,30 @@ impl Name {
     pub fn as_slice(&self) -> &[u8]
         ensures whole { result.now ≡ self.now }
     {
-        match &self.bytes {
-            NameBytes::Short { bytes, .. } => &bytes[..bytes[SHORT_NAME] as usize],
-            NameBytes::Long { bytes, .. } => bytes.as_slice(),
+        match &self.rest {
+            NameRest::Short(_) => &self.eight[..self.eight[SHORT_NAME] as usize],
+            NameRest::Long(_, bytes) => bytes.as_slice(),
         }
     }
 
     /// The number that the name was given, or one that no name is given. It is a hint for those who look names up: equal names
     /// may have different numbers, and different names the same one.
     pub fn number(&self) -> u32 {
-        match &self.bytes {
-            NameBytes::Short { number, .. } => *number,
-            NameBytes::Long { number, .. } => *number,
+        match &self.rest {
+            NameRest::Short(number) => *number,
+            NameRest::Long(number, _) => *number,
         }
     }
 }
+
+/// Eight bytes that no name has.
+const UNLIKE_ANY: [u8; 8] = [u8::MAX - 1; 8];
 
 /// A name with which others are compared, which contracts see as the list of its bytes.
 #[derive(Drop)]
 pub struct KnownName {
     name: Name,
-    // By which a short name is compared without a look at where its bytes are.
+    // The eight bytes of a short name; of a long one others, which no name has. So one comparison tells.
     own: [u8; 8],
 }
 
@@ -144,7 +132,10 @@ impl KnownName {
     pub fn new(name: Name) -> KnownName
         ensures equal { result ≡ name }
     {
-        let own = own_bytes(&name.bytes);
+        let own = match &name.rest {
+            NameRest::Short(_) => name.eight,
+            NameRest::Long(_, _) => UNLIKE_ANY,
+        };
         KnownName { name, own }
     }
 
@@ -156,16 +147,13 @@ impl KnownName {
         self.name.as_slice()
     }
 
-    /// Whether another name is the same, told without a look at the bytes of a long one, where this one has at most seven; of any other,
-    /// false says nothing.
+    /// Whether another name is the same, told without a look at the bytes of a long one, where this one has at most seven; of any other, false
+    /// says nothing.
     #[inline(always)]
     pub fn is_same_short(&self, other: &Name) -> bool
         ensures same { result ≡ true → self.now ≡ other.now }
         ensures short { IsShort self.now → self.now ≡ other.now → result ≡ true }
     {
-        match &other.bytes {
-            NameBytes::Short { bytes, .. } => are_same(&self.own, bytes),
-            NameBytes::Long { .. } => false,
-        }
+        are_same(&self.own, &other.eight)
     }
 }

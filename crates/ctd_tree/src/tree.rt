@@ -4,6 +4,7 @@
 ghost use Rattle.std.specs.Prelude.{◌≡◌};
 ghost use Rattle.ctd_tree.specs.View.{commands_of};
 
+use crate::numeral::Numeral;
 use ctd_token::{Bytes, Name, Place};
 use std::marker::Model;
 
@@ -12,7 +13,7 @@ use std::marker::Model;
 #[cycle(expr)]
 pub enum Expr {
     /// A number as written.
-    Numeral(i128),
+    Numeral(Numeral),
     /// A string as it stands for.
     Text(Bytes),
     /// The value of a variable.

@@ -505,7 +505,7 @@ const CODES: [(&[u8], &[u8], bool); 15] = [
 ];
 
 #[test]
-fn short_names_are_compared_by_their_codes(rt: HostRuntime) -> Result<(), Fail> {
+fn short_names_are_compared_as_eight_bytes(rt: HostRuntime) -> Result<(), Fail> {
     for (name, other, wanted) in &CODES {
         let found = is_same(rt.alloc(), name, other)?;
         same(&rt, &found, wanted, &(name, other));

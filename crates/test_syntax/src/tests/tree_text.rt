@@ -63,7 +63,7 @@ fn write_expr(out: &mut Shown, depth: u16, e: &Expr) {
         return out.put("...");
     };
     match e {
-        Expr::Numeral(n) => out.put_form(format_args!("{n}")),
+        Expr::Numeral(n) => out.put_form(format_args!("{}", n.value())),
         Expr::Text(bytes) => write_text(out, bytes.as_slice()),
         Expr::Var(var) => write_var(out, depth, var),
         Expr::Strlen(operand) => {

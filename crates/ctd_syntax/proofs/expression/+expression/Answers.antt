@@ -27,7 +27,7 @@ atom-returns-in_err-inner-in-Some-after_mark-clause-tree t c =
     refused_exit (IsBefore Close IsExpr) IsAtom Always (ends 4) _ (map lexeme c.in-Some-after_mark.rest.now) (map lexeme c.args.tokens.now) _ c.from_residual-in_err-inner-in-Some-after_mark.result c.from_residual-in_err-inner-in-Some-after_mark.ensures.1 (strlen_none (map lexeme c.args.tokens.now) (map lexeme c.in-Some.rest.now) (map lexeme c.in-Some-after_mark.rest.now) _ (ap (map lexeme) c.in-Some.ensures.cases.0 ∙ ap (λ x. lexeme x ∷ map lexeme c.in-Some.rest.now) (c.in-Keyword.is ∙ ap (λ x. parser_tokens.Keyword x c.in-Keyword.field-1) is_strlen)) c.in-Some-after_mark.ensures.found) c.in_err-inner-in-Some-after_mark.ensures.tree
 
 pub atom-returns-in-Numeral-clause-tree : goal.atom-returns-in-Numeral-clause-tree
-atom-returns-in-Numeral-clause-tree t c = rw (to_z-of_z w128 c.in-Numeral.n (search rules)) (numeral_reads (map lexeme c.args.tokens.now) (map lexeme c.in-Some.rest.now) _ (ap (map lexeme) c.in-Some.ensures.cases.0 ∙ ap (λ x. lexeme x ∷ map lexeme c.in-Some.rest.now) c.in-Numeral.is))
+atom-returns-in-Numeral-clause-tree t c = rw (c.new-numeral.ensures.same, to_z-of_z w128 c.in-Numeral.n (search rules)) (numeral_reads (map lexeme c.args.tokens.now) (map lexeme c.in-Some.rest.now) _ (ap (map lexeme) c.in-Some.ensures.cases.0 ∙ ap (λ x. lexeme x ∷ map lexeme c.in-Some.rest.now) c.in-Numeral.is))
 
 pub atom-returns-in_ok-bytes-in-Text-clause-tree : goal.atom-returns-in_ok-bytes-in-Text-clause-tree
 atom-returns-in_ok-bytes-in-Text-clause-tree t c = rw c.in_ok-bytes-in-Text.ensures (text_reads (map lexeme c.args.tokens.now) (map lexeme c.in-Some.rest.now) _ _ (ap (map lexeme) c.in-Some.ensures.cases.0 ∙ ap (λ x. lexeme x ∷ map lexeme c.in-Some.rest.now) c.in-Text.is))
