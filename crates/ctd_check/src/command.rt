@@ -16,10 +16,7 @@ use crate::loops::{choose, loop_frame, repeat};
 use ctd_command::{CommandFailure, Run};
 use ctd_pattern::Matcher;
 use ctd_source::Source;
-use ctd_syntax::{
-    Action, Choice, Command, IntArguments, PatternLiteral, RegexArguments, RepILoop, RepLoop, Var,
-    WhileILoop, WhileLoop,
-};
+use ctd_syntax::{Action, Command, IntArguments, PatternLiteral, RegexArguments, Var};
 
 /// REGEX: passes the match of its pattern at the start of the window, and keeps it in its variable, if there is one.
 #[inline(always)]
@@ -92,49 +89,32 @@ pub(crate) fn start_block<'p, D: Source>(
 {
     match &command.action {
         Action::If(choice) => {
-            let Choice {
-                condition,
-                then_do,
-                else_do,
-            } = &**choice;
-            choose(run, condition, then_do, else_do)
+            let parts = &**choice;
+            choose(run, &parts.condition, &parts.then_do, &parts.else_do)
         }
         Action::Rep(repeated) => {
-            let RepLoop {
-                count,
-                between,
-                body,
-            } = &**repeated;
-            repeat(run, command.place, count, None, between, body)
+            let parts = &**repeated;
+            let (count, between) = (&parts.count, &parts.between);
+            repeat(run, command.place, count, None, between, &parts.body)
         }
         Action::RepI(repeated) => {
-            let RepILoop {
-                counter,
-                count,
-                between,
-                body,
-            } = &**repeated;
-            repeat(run, command.place, count, Some(counter), between, body)
+            let parts = &**repeated;
+            let counter = Some(&*parts.counter);
+            let (count, between) = (&parts.count, &parts.between);
+            repeat(run, command.place, count, counter, between, &parts.body)
         }
         Action::While(repeated) => {
-            let WhileLoop {
-                condition,
-                between,
-                body,
-            } = &**repeated;
-            let guard = Guard::While(condition);
-            Ok(Some(loop_frame(command.place, guard, None, between, body)))
+            let parts = &**repeated;
+            let guard = Guard::While(&parts.condition);
+            let frame = loop_frame(command.place, guard, None, &parts.between, &parts.body);
+            Ok(Some(frame))
         }
         Action::WhileI(repeated) => {
-            let WhileILoop {
-                counter,
-                condition,
-                between,
-                body,
-            } = &**repeated;
-            let guard = Guard::While(condition);
-            let counter = Some(&**counter);
-            Ok(Some(loop_frame(command.place, guard, counter, between, body)))
+            let parts = &**repeated;
+            let guard = Guard::While(&parts.condition);
+            let counter = Some(&*parts.counter);
+            let frame = loop_frame(command.place, guard, counter, &parts.between, &parts.body);
+            Ok(Some(frame))
         }
         Action::Space => unreachable!(),
         Action::Newline => unreachable!(),
