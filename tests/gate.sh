@@ -3,7 +3,8 @@
 # The last line counts what passed and failed in all.
 set -u
 cd "$(dirname "${BASH_SOURCE[0]}")/.."
-# As many checks side by side as there are processors, with one job for each: a check of several jobs takes two fifths more processor time.
+# As many checks side by side as there are processors, with one job for each: of several jobs a check takes more processor time
+# (docs/DESIGN.md).
 export RT_JOBS=${RT_JOBS:-$(nproc)}
 log=$(mktemp)
 trap 'rm -f "$log"' EXIT
