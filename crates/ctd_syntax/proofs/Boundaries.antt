@@ -15,6 +15,7 @@ use Rattle.ctd_syntax.specs.declared.nesting.Change.{Change}
 use Rattle.ctd_syntax.specs.declared.nesting.Change.TheVariants.{Opens, Closes, Restarts, Grows, Keeps}
 use Rattle.ctd_token.specs.declared.token.Mark.TheVariants.{Open, Close, CloseIndex, Comma}
 use Rattle.ctd_syntax.specs.declared.keyword.Keyword.TheVariants as words
+use Rattle.ctd_syntax.proofs.CommandReads.{joined_again, joined_done}
 use Rattle.ctd_syntax.proofs.Balanced.{Balanced, IsLevelChange, over, expr_balanced, variable_balanced, names_balanced, test_balanced, assignments_balanced, target_balanced}
 
 -- ---- where a command ends
@@ -222,16 +223,6 @@ appended : (ts us : List Lexeme) (a b : CommandList) → IsCommands ts a → IsC
 appended ts us a b Grammar.done j = j
 appended ts us a b (Grammar.then {ts = fs} {us = gs} {c} {rest} i r) j = subst (λ l. IsCommands l (Tree.then c (joined rest b))) (sym (append_assoc fs gs us)) (Grammar.then i (appended gs us rest b r j))
 
--- three lists of commands, one behind the other
-joined_assoc : (a b c : CommandList) → joined (joined a b) c ≡ joined a (joined b c)
-joined_assoc Tree.done b c = refl
-joined_assoc (Tree.then x rest) b c = ap (Tree.then x) (joined_assoc rest b c)
-
--- no commands behind others
-joined_nothing : (a : CommandList) → joined a Tree.done ≡ a
-joined_nothing Tree.done = refl
-joined_nothing (Tree.then x rest) = ap (Tree.then x) (joined_nothing rest)
-
 -- the tokens spell these commands, and whatever program goes on behind them begins with these
 pub record BeginsWith (ts : List Lexeme) (a : CommandList) : Type 0 where
   pub spells : IsCommands ts a
@@ -248,7 +239,7 @@ stretch_more ts us a b f s = record {
   only = λ vs u h i.
       let p = f.only (us ++ vs) u (commands_begin_so us vs b s.spells h) (subst (λ l. IsCommands l u) (append_assoc ts us vs) i) in
       let q = parted us vs (us ++ vs) b p.0 s.spells h refl p.1 in
-      (q.1, q.3, p.2 ∙ ap (joined a) (q.4 ∙ ap (λ v. joined v q.1) (s.only q.0 q.2)) ∙ sym (joined_assoc a b q.1));
+      (q.1, q.3, p.2 ∙ ap (joined a) (q.4 ∙ ap (λ v. joined v q.1) (s.only q.0 q.2)) ∙ sym (joined_again a b q.1));
 }
 
 -- commands of no tokens
@@ -262,7 +253,7 @@ all_read ts a f = record {
   spells = f.spells;
   only = λ u i.
       let p = f.only [] u tt (subst (λ l. IsCommands l u) (sym (append-nil ts)) i) in
-      p.2 ∙ ap (joined a) (none_left [] p.0 refl p.1) ∙ joined_nothing a;
+      p.2 ∙ ap (joined a) (none_left [] p.0 refl p.1) ∙ joined_done a;
 }
 
 -- no tokens spell no commands

@@ -165,11 +165,13 @@ command_none tokens r k at e not ts us v split h w = let i = begins_worded token
 pub begins_at : (tokens r : List Lexeme) (k : Keyword) (at : Place) → tokens ≡ keyword k at ∷ r → is_command_word k ≡ true → command_begins tokens ≡ true
 begins_at tokens r k at e word = ap command_begins e ∙ word
 
-joined_done : (a : CommandList) → joined a Tree.done ≡ a
+-- no commands behind others
+pub joined_done : (a : CommandList) → joined a Tree.done ≡ a
 joined_done Tree.done = refl
 joined_done (Tree.then c rest) = ap (Tree.then c) (joined_done rest)
 
-joined_again : (a b c : CommandList) → joined (joined a b) c ≡ joined a (joined b c)
+-- three lists of commands, one behind the other
+pub joined_again : (a b c : CommandList) → joined (joined a b) c ≡ joined a (joined b c)
 joined_again Tree.done b c = refl
 joined_again (Tree.then x rest) b c = ap (Tree.then x) (joined_again rest b c)
 

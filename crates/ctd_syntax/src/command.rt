@@ -493,7 +493,7 @@ pub(crate) fn commands<'t>(
         items.push(next)?;
         rest = after;
     }
-    // A command is large, and a list of five would keep room for eight.
+    // A list of five would keep room for eight.
     items.shrink_to_fit();
     Ok((Commands::from_vec(items), rest))
 }

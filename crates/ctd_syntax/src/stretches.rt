@@ -112,7 +112,7 @@ pub(crate) fn program_in_stretches(alloc: Global, text: &[u8]) -> Result<Option<
     if !is_read(alloc, text, &mut commands)? {
         return Ok(None);
     }
-    // A command is large.
+    // The list may have grown to twice what it holds.
     commands.shrink_to_fit();
     Ok(Some(Program::new(Commands::from_vec(commands))))
 }
