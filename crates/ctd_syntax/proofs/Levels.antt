@@ -1,8 +1,9 @@
 -- Sums and products are levels of operators.
-use Rattle.std.proofs.Common.{◌≡◌, ℕ, ◌<◌, List, [], ◌∷◌, ◌++◌, Option, Some, refl, sym, ap, ◌∙◌, subst, append_assoc, append-nil, arith}
+use Rattle.std.proofs.Common.{◌≡◌, ℕ, ◌<◌, List, [], ◌∷◌, ◌++◌, Option, Some, None, refl, sym, ap, ◌∙◌, subst, append_assoc, append-nil, arith}
 use Rattle.ctd_syntax.specs.Lexeme.{Lexeme, mark}
 use Rattle.ctd_tree.specs.Tree.{ExprTree}
 use Rattle.ctd_syntax.specs.Grammar.{IsExpr, product, sum, difference, IsProduct, signed, times, quotient, remainder, IsSigned}
+use Rattle.ctd_syntax.specs.Front.{after_operator, operator_at}
 use Rattle.ctd_syntax.specs.Levels.{binding, ends, sum_operator, product_operator, join}
 use Rattle.ctd_token.specs.declared.token.Mark.TheVariants.{Plus, Minus, Times, Divide, Percent}
 use Rattle.ctd_syntax.specs.declared.expression.Operator.{Operator}
@@ -67,6 +68,15 @@ product_binds (mark Times) o e = refl
 product_binds (mark Divide) o e = refl
 product_binds (mark Percent) o e = refl
 product_binds _ o e = absurd (cc)
+
+-- no operator of a product is at the front of what ends one
+pub no_product_operator : (us : List Lexeme) → ends 2 us → operator_at product_operator us ≡ None
+no_product_operator [] h = refl
+no_product_operator (t ∷ us) h = ap (λ o. after_operator o us) (none t h (product_operator t) refl)
+  where
+    none : (t : Lexeme) → binding t < 2 → (o : Option Operator) → product_operator t ≡ o → product_operator t ≡ None
+    none t h None is = is
+    none t h (Some o) is = absurd (omega (arith, product_binds t o is, h))
 
 pub products : Level IsProduct IsSigned (ends 2) (ends 3) product_operator join
 products = record {

@@ -2,6 +2,7 @@ pub mod Chains
 pub mod Fronts
 pub mod Levels
 pub mod Atoms
+pub mod Singles
 pub mod Rows
 pub mod TestLevels
 pub mod Groups

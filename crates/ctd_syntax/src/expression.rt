@@ -1,10 +1,10 @@
 //! From tokens to expressions, by levels and loops (checktestdata language specification, grammar).
 //! A tree that is not wanted is given to `drop` explicitly: an implicit drop is unfolded variant by variant in the proof.
 
-ghost use Rattle.std.specs.Prelude.{◌≡◌, ◌≤◌, ◌<◌, length, map, IfOk, IfSome};
+ghost use Rattle.std.specs.Prelude.{◌≡◌, ◌≤◌, ◌<◌, true, length, map, IfOk, IfSome};
 ghost use Rattle.ctd_tree.specs.View.{expr_tree, expr_list, exprs_of, var_tree};
 ghost use Rattle.ctd_syntax.specs.Grammar.{IsExpr, IsProduct, IsSigned, IsPower, IsExponent, IsAtom, IsExprs, IsTarget};
-ghost use Rattle.ctd_syntax.specs.Front.{FindsTree, Always, IsBefore, StartsWith, lexeme};
+ghost use Rattle.ctd_syntax.specs.Front.{FindsTree, Found, Always, IsBefore, StartsWith, lexeme};
 ghost use Rattle.ctd_syntax.specs.Levels.{binding, ends, sum_operator, product_operator, join};
 ghost use Rattle.ctd_syntax.specs.Lexeme;
 
@@ -66,6 +66,47 @@ fn product_operator<'t>(tokens: &'t [ParserToken<'t>]) -> Option<(Operator, &'t 
     }
 }
 
+// Whether a product ends before these tokens.
+fn ends_product(tokens: &[ParserToken<'_>]) -> bool
+    ensures { result ≡ true → ends 2 (map lexeme tokens.now) }
+{
+    !matches!(
+        tokens.first(),
+        Some(ParserToken::Mark(
+            Mark::Times | Mark::Divide | Mark::Percent | Mark::Caret | Mark::OpenIndex
+        ))
+    )
+}
+
+// The product at the front and what follows it, where it is one token, a numeral or a name. Most expressions are: no level below is asked.
+#[inline(always)]
+fn single<'t>(
+    alloc: Global,
+    tokens: &'t [ParserToken<'t>],
+) -> Result<Option<(Expr, &'t [ParserToken<'t>])>, AllocError>
+    ensures tree { IfOk result (λ found. IfSome found (λ x. Found IsProduct (ends 2) (map lexeme tokens.now) (expr_tree x.0) (map lexeme x.1.now))) }
+    ensures shorter { IfOk result (λ found. IfSome found (λ x. length x.1.now ≤ length tokens.now)) }
+{
+    let Some((first, rest)) = tokens.split_first() else {
+        return Ok(None);
+    };
+    if !ends_product(rest) {
+        return Ok(None);
+    }
+    match first {
+        ParserToken::Numeral(n) => {
+            let numeral = Numeral::new(*n);
+            Ok(Some((Expr::Numeral(numeral), rest)))
+        }
+        ParserToken::Name(name, number) => {
+            let name = Name::numbered(alloc, name, *number)?;
+            let indices = Exprs::from_vec(Vec::new(alloc));
+            Ok(Some((Expr::Var(Var { name, indices }), rest)))
+        }
+        _ => Ok(None),
+    }
+}
+
 /// The expression at the front, and what follows it.
 #[cycle(expression)]
 pub(crate) fn expr<'t>(
@@ -99,6 +140,9 @@ fn product<'t>(
     ensures tree { FindsTree IsProduct (ends 2) (λ x. (expr_tree x.0, map lexeme x.1.now)) result (map lexeme tokens.now) }
     ensures shorter { IfOk result (λ x. length x.1.now ≤ length tokens.now) }
 {
+    if let Some(read) = single(alloc, tokens)? {
+        return Ok(read);
+    }
     let (mut left, mut rest) = signed(alloc, tokens)?;
     while let Some((operator, after)) = product_operator(rest) {
         match signed(alloc, after) {

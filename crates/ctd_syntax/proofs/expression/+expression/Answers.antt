@@ -129,19 +129,19 @@ pub expr-returns-clause-tree : goal.expr-returns-clause-tree
 expr-returns-clause-tree t c = finish sums (map lexeme c.args.tokens.now) _ (map lexeme c.loop-operator.rest.now) c.loop-operator.invariant.partly c.in_default.ensures.operator
 
 pub product-returns-in_err-left-clause-tree : goal.product-returns-in_err-left-clause-tree
-product-returns-in_err-left-clause-tree t c = refused_exit IsSigned IsProduct (ends 3) (ends 2) _ (map lexeme c.args.tokens.now) (map lexeme c.args.tokens.now) _ c.from_residual.result c.from_residual.ensures.1 (no_start products (map lexeme c.args.tokens.now)) c.in_err-left.ensures.tree
+product-returns-in_err-left-clause-tree t c = refused_exit IsSigned IsProduct (ends 3) (ends 2) _ (map lexeme c.args.tokens.now) (map lexeme c.args.tokens.now) _ c.from_residual-in_err-left.result c.from_residual-in_err-left.ensures.1 (no_start products (map lexeme c.args.tokens.now)) c.in_err-left.ensures.tree
 
 pub product-loop-operator-init : goal.product-loop-operator-init
 product-loop-operator-init t c = record { partly = start products (map lexeme c.args.tokens.now) _ (map lexeme c.in_ok-left.rest.now) c.in_ok-left.ensures.tree; shorter = c.in_ok-left.ensures.shorter }
 
 pub product-returns-in-Err-clause-tree : goal.product-returns-in-Err-clause-tree
-product-returns-in-Err-clause-tree t c = refused_as IsSigned IsProduct (ends 3) (ends 2) (map lexeme c.in-Some.after.now) (map lexeme c.args.tokens.now) c.in-Err.fault (no_next products (map lexeme c.args.tokens.now) _ (map lexeme c.loop-operator.rest.now) (map lexeme c.in-Some.after.now) _ c.loop-operator.invariant.partly c.in-Some.ensures.operator) c.in-Err.ensures.tree
+product-returns-in-Err-clause-tree t c = refused_as IsSigned IsProduct (ends 3) (ends 2) (map lexeme c.in-Some-product_operator.after.now) (map lexeme c.args.tokens.now) c.in-Err.fault (no_next products (map lexeme c.args.tokens.now) _ (map lexeme c.loop-operator.rest.now) (map lexeme c.in-Some-product_operator.after.now) _ c.loop-operator.invariant.partly c.in-Some-product_operator.ensures.operator) c.in-Err.ensures.tree
 
 pub product-loop-operator-preserved : goal.product-loop-operator-preserved
-product-loop-operator-preserved t c = record { partly = rw c.in_ok-left-in-Ok.ensures (next products (map lexeme c.args.tokens.now) _ _ (map lexeme c.loop-operator.rest.now) (map lexeme c.in-Some.after.now) (map lexeme c.in-Ok.after.now) _ c.loop-operator.invariant.partly c.in-Some.ensures.operator c.in-Ok.ensures.tree); shorter = omega (arith, c.loop-operator.invariant.shorter, c.in-Some.ensures.shorter, c.in-Ok.ensures.shorter) }
+product-loop-operator-preserved t c = record { partly = rw c.in_ok-left-in-Ok.ensures (next products (map lexeme c.args.tokens.now) _ _ (map lexeme c.loop-operator.rest.now) (map lexeme c.in-Some-product_operator.after.now) (map lexeme c.in-Ok.after.now) _ c.loop-operator.invariant.partly c.in-Some-product_operator.ensures.operator c.in-Ok.ensures.tree); shorter = omega (arith, c.loop-operator.invariant.shorter, c.in-Some-product_operator.ensures.shorter, c.in-Ok.ensures.shorter) }
 
 pub product-returns-clause-tree : goal.product-returns-clause-tree
-product-returns-clause-tree t c = finish products (map lexeme c.args.tokens.now) _ (map lexeme c.loop-operator.rest.now) c.loop-operator.invariant.partly c.in_default.ensures.operator
+product-returns-clause-tree t c = finish products (map lexeme c.args.tokens.now) _ (map lexeme c.loop-operator.rest.now) c.loop-operator.invariant.partly c.in_default-product_operator.ensures.operator
 
 pub power-returns-in_err-base-clause-tree : goal.power-returns-in_err-base-clause-tree
 power-returns-in_err-base-clause-tree t c = refused_exit IsAtom IsPower (ends 4) (ends 3) _ (map lexeme c.args.tokens.now) (map lexeme c.args.tokens.now) _ c.from_residual.result c.from_residual.ensures.1 (no_atom_power (map lexeme c.args.tokens.now)) c.in_err-base.ensures.tree
