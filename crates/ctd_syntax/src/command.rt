@@ -118,7 +118,7 @@ fn assert<'t>(
 {
     let after = after_open(tokens)?;
     let (condition, rest) = test_before(alloc, Mark::Close, None, after)?;
-    let action = Action::Assert(Box::new(alloc, condition)?);
+    let action = Action::Assert(condition);
     Ok((Command { place, action }, rest))
 }
 
@@ -180,7 +180,6 @@ fn while_tail<'t>(
     ensures shorter { IfOk result (λ x. length x.1.now ≤ length tokens.now) }
 {
     let (condition, rest) = test(alloc, None, tokens)?;
-    let condition = Box::new(alloc, condition)?;
     let (end, rest) = loop_end(alloc, rest)?;
     Ok(((condition, end), rest))
 }
@@ -319,7 +318,6 @@ fn if_command<'t>(
 {
     let after = after_open(tokens)?;
     let (condition, rest) = test_before(alloc, Mark::Close, None, after)?;
-    let condition = Box::new(alloc, condition)?;
     let ((then_do, else_do), rest) = branches(alloc, rest)?;
     let choice = Choice {
         condition,

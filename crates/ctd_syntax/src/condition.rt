@@ -17,7 +17,7 @@ use crate::names::names;
 use crate::parser_token::ParserToken;
 use ctd_token::{Mark, Name};
 use ctd_tree::{Compare, Expr, Test};
-use std::alloc::Global;
+use std::alloc::{AllocError, Global};
 
 // What a token says of the parentheses that it stands in.
 #[derive(Clone, Copy)]
@@ -168,6 +168,13 @@ fn group_at<'t>(
     Some((groups - 1, rest))
 }
 
+// A test in a box, in which a command or another test holds it.
+fn boxed(alloc: Global, test: Test) -> Result<Box<Test>, AllocError>
+    ensures { IfOk result (λ held. held.value ≡ test) }
+{
+    Ok(Box::new(alloc, test)?)
+}
+
 // An expression and the comparison behind it.
 fn left_side<'t>(
     alloc: Global,
@@ -190,13 +197,13 @@ fn left_side<'t>(
 fn comparison<'t>(
     alloc: Global,
     tokens: &'t [ParserToken<'t>],
-) -> Result<(Test, &'t [ParserToken<'t>]), ParseError>
-    ensures tree { FindsTree IsCompared (ends 1) (λ x. (test_tree x.0, map lexeme x.1.now)) result (map lexeme tokens.now) }
+) -> Result<(Box<Test>, &'t [ParserToken<'t>]), ParseError>
+    ensures tree { FindsTree IsCompared (ends 1) (λ x. (test_tree x.0.value, map lexeme x.1.now)) result (map lexeme tokens.now) }
     ensures shorter { IfOk result (λ x. length x.1.now ≤ length tokens.now) }
 {
     let ((left, by), rest) = left_side(alloc, tokens)?;
     match expr(alloc, rest) {
-        Ok((right, rest)) => Ok((Test::Compare(by, left, right), rest)),
+        Ok((right, rest)) => Ok((boxed(alloc, Test::Compare(by, left, right))?, rest)),
         Err(fault) => {
             drop(left);
             Err(fault)
@@ -208,26 +215,26 @@ fn comparison<'t>(
 fn matches<'t>(
     alloc: Global,
     tokens: &'t [ParserToken<'t>],
-) -> Result<(Test, &'t [ParserToken<'t>]), ParseError>
-    ensures tree { FindsTree (IsTestCall Keyword.Match) Always (λ x. (test_tree x.0, map lexeme x.1.now)) result (map lexeme tokens.now) }
+) -> Result<(Box<Test>, &'t [ParserToken<'t>]), ParseError>
+    ensures tree { FindsTree (IsTestCall Keyword.Match) Always (λ x. (test_tree x.0.value, map lexeme x.1.now)) result (map lexeme tokens.now) }
     ensures shorter { IfOk result (λ x. length x.1.now ≤ length tokens.now) }
 {
     let after = after_open(tokens)?;
     let (operand, rest) = expr_before(alloc, Mark::Close, after)?;
-    Ok((Test::Match(operand), rest))
+    Ok((boxed(alloc, Test::Match(operand))?, rest))
 }
 
 // What stands behind UNIQUE.
 fn unique<'t>(
     alloc: Global,
     tokens: &'t [ParserToken<'t>],
-) -> Result<(Test, &'t [ParserToken<'t>]), ParseError>
-    ensures tree { FindsTree (IsTestCall Keyword.Unique) Always (λ x. (test_tree x.0, map lexeme x.1.now)) result (map lexeme tokens.now) }
+) -> Result<(Box<Test>, &'t [ParserToken<'t>]), ParseError>
+    ensures tree { FindsTree (IsTestCall Keyword.Unique) Always (λ x. (test_tree x.0.value, map lexeme x.1.now)) result (map lexeme tokens.now) }
     ensures shorter { IfOk result (λ x. length x.1.now ≤ length tokens.now) }
 {
     let after = after_open(tokens)?;
     let (list, rest) = names(alloc, after)?;
-    Ok((Test::Unique(list), rest))
+    Ok((boxed(alloc, Test::Unique(list))?, rest))
 }
 
 // A name and the parenthesis behind it.
@@ -251,14 +258,14 @@ fn last_name<'t>(
 fn in_array<'t>(
     alloc: Global,
     tokens: &'t [ParserToken<'t>],
-) -> Result<(Test, &'t [ParserToken<'t>]), ParseError>
-    ensures tree { FindsTree (IsTestCall Keyword.InArray) Always (λ x. (test_tree x.0, map lexeme x.1.now)) result (map lexeme tokens.now) }
+) -> Result<(Box<Test>, &'t [ParserToken<'t>]), ParseError>
+    ensures tree { FindsTree (IsTestCall Keyword.InArray) Always (λ x. (test_tree x.0.value, map lexeme x.1.now)) result (map lexeme tokens.now) }
     ensures shorter { IfOk result (λ x. length x.1.now ≤ length tokens.now) }
 {
     let after = after_open(tokens)?;
     let (operand, rest) = expr_before(alloc, Mark::Comma, after)?;
     match last_name(alloc, rest) {
-        Ok((name, rest)) => Ok((Test::InArray(operand, name), rest)),
+        Ok((name, rest)) => Ok((boxed(alloc, Test::InArray(operand, name))?, rest)),
         Err(fault) => {
             drop(operand);
             Err(fault)
@@ -271,13 +278,13 @@ fn test_call<'t>(
     alloc: Global,
     keyword: Keyword,
     tokens: &'t [ParserToken<'t>],
-) -> Result<(Test, &'t [ParserToken<'t>]), ParseError>
-    ensures tree { FindsTree (IsTestCall keyword) Always (λ x. (test_tree x.0, map lexeme x.1.now)) result (map lexeme tokens.now) }
+) -> Result<(Box<Test>, &'t [ParserToken<'t>]), ParseError>
+    ensures tree { FindsTree (IsTestCall keyword) Always (λ x. (test_tree x.0.value, map lexeme x.1.now)) result (map lexeme tokens.now) }
     ensures shorter { IfOk result (λ x. length x.1.now ≤ length tokens.now) }
 {
     match keyword {
         Keyword::Match => matches(alloc, tokens),
-        Keyword::IsEof => Ok((Test::IsEof, tokens)),
+        Keyword::IsEof => Ok((boxed(alloc, Test::IsEof)?, tokens)),
         Keyword::Unique => unique(alloc, tokens),
         Keyword::InArray => in_array(alloc, tokens),
         _ => Err(ParseError::Syntax(tokens.len())),
@@ -290,18 +297,23 @@ pub(crate) fn test<'t>(
     alloc: Global,
     groups: Option<usize>,
     tokens: &'t [ParserToken<'t>],
-) -> Result<(Test, &'t [ParserToken<'t>]), ParseError>
+) -> Result<(Box<Test>, &'t [ParserToken<'t>]), ParseError>
     requires known { AreKnownGroups groups (map lexeme tokens.now) }
-    ensures tree { FindsTree IsTest (test_ends 1) (λ x. (test_tree x.0, map lexeme x.1.now)) result (map lexeme tokens.now) }
+    ensures tree { FindsTree IsTest (test_ends 1) (λ x. (test_tree x.0.value, map lexeme x.1.now)) result (map lexeme tokens.now) }
     ensures shorter { IfOk result (λ x. length x.1.now ≤ length tokens.now) }
 {
     let (mut left, mut rest) = both(alloc, groups, tokens)?;
     while let Some(after) = after_mark(Mark::OrOr, rest) {
-        let a = Box::new(alloc, left)?;
-        let (right, after) = both(alloc, None, after)?;
-        let b = Box::new(alloc, right)?;
-        left = Test::Or(a, b);
-        rest = after;
+        match both(alloc, None, after) {
+            Ok((right, after)) => {
+                left = boxed(alloc, Test::Or(left, right))?;
+                rest = after;
+            }
+            Err(fault) => {
+                drop(left);
+                return Err(fault);
+            }
+        }
     }
     Ok((left, rest))
 }
@@ -311,18 +323,23 @@ fn both<'t>(
     alloc: Global,
     groups: Option<usize>,
     tokens: &'t [ParserToken<'t>],
-) -> Result<(Test, &'t [ParserToken<'t>]), ParseError>
+) -> Result<(Box<Test>, &'t [ParserToken<'t>]), ParseError>
     requires known { AreKnownGroups groups (map lexeme tokens.now) }
-    ensures tree { FindsTree IsBoth (test_ends 2) (λ x. (test_tree x.0, map lexeme x.1.now)) result (map lexeme tokens.now) }
+    ensures tree { FindsTree IsBoth (test_ends 2) (λ x. (test_tree x.0.value, map lexeme x.1.now)) result (map lexeme tokens.now) }
     ensures shorter { IfOk result (λ x. length x.1.now ≤ length tokens.now) }
 {
     let (mut left, mut rest) = negated(alloc, groups, tokens)?;
     while let Some(after) = after_mark(Mark::AndAnd, rest) {
-        let a = Box::new(alloc, left)?;
-        let (right, after) = negated(alloc, None, after)?;
-        let b = Box::new(alloc, right)?;
-        left = Test::And(a, b);
-        rest = after;
+        match negated(alloc, None, after) {
+            Ok((right, after)) => {
+                left = boxed(alloc, Test::And(left, right))?;
+                rest = after;
+            }
+            Err(fault) => {
+                drop(left);
+                return Err(fault);
+            }
+        }
     }
     Ok((left, rest))
 }
@@ -332,15 +349,15 @@ fn negated<'t>(
     alloc: Global,
     groups: Option<usize>,
     tokens: &'t [ParserToken<'t>],
-) -> Result<(Test, &'t [ParserToken<'t>]), ParseError>
+) -> Result<(Box<Test>, &'t [ParserToken<'t>]), ParseError>
     requires known { AreKnownGroups groups (map lexeme tokens.now) }
-    ensures tree { FindsTree IsNegated (ends 1) (λ x. (test_tree x.0, map lexeme x.1.now)) result (map lexeme tokens.now) }
+    ensures tree { FindsTree IsNegated (ends 1) (λ x. (test_tree x.0.value, map lexeme x.1.now)) result (map lexeme tokens.now) }
     ensures shorter { IfOk result (λ x. length x.1.now ≤ length tokens.now) }
 {
     match after_mark(Mark::Bang, tokens) {
         Some(after) => {
             let (operand, rest) = negated(alloc, None, after)?;
-            Ok((Test::Not(Box::new(alloc, operand)?), rest))
+            Ok((boxed(alloc, Test::Not(operand))?, rest))
         }
         None => simple_test(alloc, groups, tokens),
     }
@@ -351,9 +368,9 @@ fn simple_test<'t>(
     alloc: Global,
     groups: Option<usize>,
     tokens: &'t [ParserToken<'t>],
-) -> Result<(Test, &'t [ParserToken<'t>]), ParseError>
+) -> Result<(Box<Test>, &'t [ParserToken<'t>]), ParseError>
     requires known { AreKnownGroups groups (map lexeme tokens.now) }
-    ensures tree { FindsTree IsSimpleTest (ends 1) (λ x. (test_tree x.0, map lexeme x.1.now)) result (map lexeme tokens.now) }
+    ensures tree { FindsTree IsSimpleTest (ends 1) (λ x. (test_tree x.0.value, map lexeme x.1.now)) result (map lexeme tokens.now) }
     ensures shorter { IfOk result (λ x. length x.1.now ≤ length tokens.now) }
 {
     if let Some((keyword, rest)) = question_at(tokens) {
@@ -373,10 +390,10 @@ pub(crate) fn test_before<'t>(
     mark: Mark,
     groups: Option<usize>,
     tokens: &'t [ParserToken<'t>],
-) -> Result<(Test, &'t [ParserToken<'t>]), ParseError>
+) -> Result<(Box<Test>, &'t [ParserToken<'t>]), ParseError>
     requires ends { test_ends 1 (Lexeme.mark mark ∷ []) }
     requires known { AreKnownGroups groups (map lexeme tokens.now) }
-    ensures tree { FindsTree (IsBefore mark IsTest) Always (λ x. (test_tree x.0, map lexeme x.1.now)) result (map lexeme tokens.now) }
+    ensures tree { FindsTree (IsBefore mark IsTest) Always (λ x. (test_tree x.0.value, map lexeme x.1.now)) result (map lexeme tokens.now) }
     ensures shorter { IfOk result (λ x. length x.1.now ≤ length tokens.now) }
 {
     let (read, rest) = test(alloc, groups, tokens)?;

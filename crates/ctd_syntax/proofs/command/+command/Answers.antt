@@ -29,7 +29,7 @@ pub while_tail-returns-in_err-end-clause-tree : goal.while_tail-returns-in_err-e
 while_tail-returns-in_err-end-clause-tree t c = refused_exit IsLoopEnd (IsPair IsTest IsLoopEnd) Always Always _ (map lexeme c.in_ok-condition.rest.now) (map lexeme c.args.tokens.now) _ c.from_residual-in_err-end.result c.from_residual-in_err-end.ensures.1 (second_none IsTest IsLoopEnd (test_ends 1) Always test_before_loop_end (map lexeme c.args.tokens.now) (map lexeme c.in_ok-condition.rest.now) _ c.in_ok-condition.ensures.tree) c.in_err-end.ensures.tree
 
 pub while_tail-returns-clause-tree : goal.while_tail-returns-clause-tree
-while_tail-returns-clause-tree t c = rw c.in_ok-condition-2.ensures.ok (pair_reads IsTest IsLoopEnd (test_ends 1) Always test_before_loop_end (map lexeme c.args.tokens.now) (map lexeme c.in_ok-condition.rest.now) (map lexeme c.in_ok-end.rest.now) _ _ c.in_ok-condition.ensures.tree c.in_ok-end.ensures.tree)
+while_tail-returns-clause-tree t c = pair_reads IsTest IsLoopEnd (test_ends 1) Always test_before_loop_end (map lexeme c.args.tokens.now) (map lexeme c.in_ok-condition.rest.now) (map lexeme c.in_ok-end.rest.now) _ _ c.in_ok-condition.ensures.tree c.in_ok-end.ensures.tree
 
 pub branches-returns-in_err-else_do-clause-tree : goal.branches-returns-in_err-else_do-clause-tree
 branches-returns-in_err-else_do-clause-tree t c = refused_exit IsBranchEnd (IsPair IsCommands IsBranchEnd) Always Always _ (map lexeme c.in_ok-then_do.rest.now) (map lexeme c.args.tokens.now) _ c.from_residual-in_err-else_do.result c.from_residual-in_err-else_do.ensures.1 (second_none IsCommands IsBranchEnd CommandsEnd Always before_branch_end (map lexeme c.args.tokens.now) (map lexeme c.in_ok-then_do.rest.now) _ c.in_ok-then_do.ensures.tree) c.in_err-else_do.ensures.tree
@@ -89,7 +89,7 @@ pub if_command-returns-in_err-then_do-clause-tree : goal.if_command-returns-in_e
 if_command-returns-in_err-then_do-clause-tree t c = refused_exit (IsPair IsCommands IsBranchEnd) (IsCommandRest words.If c.args.place) Always Always _ (map lexeme c.in_ok-condition.rest.now) (map lexeme c.args.tokens.now) _ c.from_residual-in_err-then_do.result c.from_residual-in_err-then_do.ensures.1 (λ not. opened_none (λ x. Tree.choice c.args.place x.0 x.1.0 x.1.1) (IsPair (IsBefore Close IsTest) (IsPair IsCommands IsBranchEnd)) Always (map lexeme c.args.tokens.now) (map lexeme c.in_ok-after.after.now) c.in_ok-after.ensures.found (second_none (IsBefore Close IsTest) (IsPair IsCommands IsBranchEnd) Always Always (whatever (IsPair IsCommands IsBranchEnd)) (map lexeme c.in_ok-after.after.now) (map lexeme c.in_ok-condition.rest.now) _ c.in_ok-condition.ensures.tree not)) c.in_err-then_do.ensures.tree
 
 pub if_command-returns-clause-tree : goal.if_command-returns-clause-tree
-if_command-returns-clause-tree t c = rw (c.in_ok-new.ensures.ok, rolls-Choice', c.in_ok-condition-2.ensures.ok) (opened_reads (λ x. Tree.choice c.args.place x.0 x.1.0 x.1.1) (IsPair (IsBefore Close IsTest) (IsPair IsCommands IsBranchEnd)) Always (map lexeme c.args.tokens.now) (map lexeme c.in_ok-after.after.now) (map lexeme c.in_ok-then_do.rest.now) _ c.in_ok-after.ensures.found (pair_reads (IsBefore Close IsTest) (IsPair IsCommands IsBranchEnd) Always Always (whatever (IsPair IsCommands IsBranchEnd)) (map lexeme c.in_ok-after.after.now) (map lexeme c.in_ok-condition.rest.now) (map lexeme c.in_ok-then_do.rest.now) _ _ c.in_ok-condition.ensures.tree c.in_ok-then_do.ensures.tree))
+if_command-returns-clause-tree t c = rw (c.in_ok-new.ensures.ok, rolls-Choice') (opened_reads (λ x. Tree.choice c.args.place x.0 x.1.0 x.1.1) (IsPair (IsBefore Close IsTest) (IsPair IsCommands IsBranchEnd)) Always (map lexeme c.args.tokens.now) (map lexeme c.in_ok-after.after.now) (map lexeme c.in_ok-then_do.rest.now) _ c.in_ok-after.ensures.found (pair_reads (IsBefore Close IsTest) (IsPair IsCommands IsBranchEnd) Always Always (whatever (IsPair IsCommands IsBranchEnd)) (map lexeme c.in_ok-after.after.now) (map lexeme c.in_ok-condition.rest.now) (map lexeme c.in_ok-then_do.rest.now) _ _ c.in_ok-condition.ensures.tree c.in_ok-then_do.ensures.tree))
 
 pub separator_before-returns-in-Some-clause-tree : goal.separator_before-returns-in-Some-clause-tree
 separator_before-returns-in-Some-clause-tree t c = before_reads IsCommand Always Close (λ us. tt) (map lexeme c.args.tokens.now) (map lexeme c.in_ok-between.rest.now) (map lexeme c.in-Some.rest.now) _ c.in_ok-between.ensures.tree c.in-Some.ensures.found

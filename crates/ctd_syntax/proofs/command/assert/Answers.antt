@@ -16,4 +16,4 @@ pub returns-in_err-condition-clause-tree : goal.returns-in_err-condition-clause-
 returns-in_err-condition-clause-tree c = refused_exit (IsBefore Close IsTest) (IsCommandRest words.Assert c.args.place) Always Always _ (map lexeme c.in_ok-after.after.now) (map lexeme c.args.tokens.now) _ c.from_residual-in_err-condition.result c.from_residual-in_err-condition.ensures.1 (opened_none (Tree.assert c.args.place) (IsBefore Close IsTest) Always (map lexeme c.args.tokens.now) (map lexeme c.in_ok-after.after.now) c.in_ok-after.ensures.found) c.in_err-condition.ensures.tree
 
 pub returns-clause-tree : goal.returns-clause-tree
-returns-clause-tree c = rw c.in_ok-new.ensures.ok (opened_reads (Tree.assert c.args.place) (IsBefore Close IsTest) Always (map lexeme c.args.tokens.now) (map lexeme c.in_ok-after.after.now) (map lexeme c.in_ok-condition.rest.now) _ c.in_ok-after.ensures.found c.in_ok-condition.ensures.tree)
+returns-clause-tree c = opened_reads (Tree.assert c.args.place) (IsBefore Close IsTest) Always (map lexeme c.args.tokens.now) (map lexeme c.in_ok-after.after.now) (map lexeme c.in_ok-condition.rest.now) _ c.in_ok-after.ensures.found c.in_ok-condition.ensures.tree

@@ -5,7 +5,7 @@ use Rattle.ctd_syntax.specs.Grammar.{IsTest, IsBoth, IsNegated, IsSimpleTest}
 use Rattle.ctd_syntax.specs.Levels.{ends}
 use Rattle.ctd_syntax.specs.Tests.{test_ends, IsTestCall, IsCompared}
 use Rattle.ctd_token.specs.declared.token.Mark.TheVariants.{Close}
-use Rattle.ctd_syntax.proofs.Fronts.{reads_as, refused_exit, before_reads}
+use Rattle.ctd_syntax.proofs.Fronts.{reads_as, refused_as, refused_exit, before_reads}
 use Rattle.ctd_syntax.proofs.Chains.{start, no_start, finish, next, no_next}
 use Rattle.ctd_syntax.proofs.TestLevels.{ors, ands, or_at, and_at, no_or, no_and}
 use Rattle.ctd_syntax.proofs.Conditions.{bang_reads, bang_none, plain_is_negated, no_plain_negated, asked_reads, asked_none, group_reads, group_none, compare_reads, compare_none}
@@ -17,11 +17,11 @@ test-returns-in_err-left-clause-tree t c = refused_exit IsBoth IsTest (test_ends
 pub test-loop-after-init : goal.test-loop-after-init
 test-loop-after-init t c = record { partly = start ors (map lexeme c.args.tokens.now) _ (map lexeme c.in_ok-left.rest.now) c.in_ok-left.ensures.tree; shorter = c.in_ok-left.ensures.shorter }
 
-pub test-returns-in_err-right-clause-tree : goal.test-returns-in_err-right-clause-tree
-test-returns-in_err-right-clause-tree t c = refused_exit IsBoth IsTest (test_ends 2) (test_ends 1) _ (map lexeme c.in-Some.after.now) (map lexeme c.args.tokens.now) _ c.from_residual-in_err-right.result c.from_residual-in_err-right.ensures.1 (no_next ors (map lexeme c.args.tokens.now) _ (map lexeme c.loop-after.rest.now) (map lexeme c.in-Some.after.now) tt c.loop-after.invariant.partly (or_at (map lexeme c.loop-after.rest.now) (map lexeme c.in-Some.after.now) c.in-Some.ensures.found)) c.in_err-right.ensures.tree
+pub test-returns-in-Err-clause-tree : goal.test-returns-in-Err-clause-tree
+test-returns-in-Err-clause-tree t c = refused_as IsBoth IsTest (test_ends 2) (test_ends 1) (map lexeme c.in-Some.after.now) (map lexeme c.args.tokens.now) c.in-Err.fault (no_next ors (map lexeme c.args.tokens.now) _ (map lexeme c.loop-after.rest.now) (map lexeme c.in-Some.after.now) tt c.loop-after.invariant.partly (or_at (map lexeme c.loop-after.rest.now) (map lexeme c.in-Some.after.now) c.in-Some.ensures.found)) c.in-Err.ensures.tree
 
 pub test-loop-after-preserved : goal.test-loop-after-preserved
-test-loop-after-preserved t c = record { partly = rw (c.in_ok-a.ensures.ok, c.in_ok-b.ensures.ok) (next ors (map lexeme c.args.tokens.now) _ _ (map lexeme c.loop-after.rest.now) (map lexeme c.in-Some.after.now) (map lexeme c.in_ok-right.after.now) tt c.loop-after.invariant.partly (or_at (map lexeme c.loop-after.rest.now) (map lexeme c.in-Some.after.now) c.in-Some.ensures.found) c.in_ok-right.ensures.tree); shorter = omega (arith, c.loop-after.invariant.shorter, c.in-Some.ensures.shorter, c.in_ok-right.ensures.shorter) }
+test-loop-after-preserved t c = record { partly = rw c.in_ok-left-in-Ok.ensures (next ors (map lexeme c.args.tokens.now) _ _ (map lexeme c.loop-after.rest.now) (map lexeme c.in-Some.after.now) (map lexeme c.in-Ok.after.now) tt c.loop-after.invariant.partly (or_at (map lexeme c.loop-after.rest.now) (map lexeme c.in-Some.after.now) c.in-Some.ensures.found) c.in-Ok.ensures.tree); shorter = omega (arith, c.loop-after.invariant.shorter, c.in-Some.ensures.shorter, c.in-Ok.ensures.shorter) }
 
 pub test-returns-clause-tree : goal.test-returns-clause-tree
 test-returns-clause-tree t c = finish ors (map lexeme c.args.tokens.now) _ (map lexeme c.loop-after.rest.now) c.loop-after.invariant.partly (no_or (map lexeme c.loop-after.rest.now) c.in_default.ensures.none)
@@ -32,11 +32,11 @@ both-returns-in_err-left-clause-tree t c = refused_exit IsNegated IsBoth (ends 1
 pub both-loop-after-init : goal.both-loop-after-init
 both-loop-after-init t c = record { partly = start ands (map lexeme c.args.tokens.now) _ (map lexeme c.in_ok-left.rest.now) c.in_ok-left.ensures.tree; shorter = c.in_ok-left.ensures.shorter }
 
-pub both-returns-in_err-right-clause-tree : goal.both-returns-in_err-right-clause-tree
-both-returns-in_err-right-clause-tree t c = refused_exit IsNegated IsBoth (ends 1) (test_ends 2) _ (map lexeme c.in-Some.after.now) (map lexeme c.args.tokens.now) _ c.from_residual-in_err-right.result c.from_residual-in_err-right.ensures.1 (no_next ands (map lexeme c.args.tokens.now) _ (map lexeme c.loop-after.rest.now) (map lexeme c.in-Some.after.now) tt c.loop-after.invariant.partly (and_at (map lexeme c.loop-after.rest.now) (map lexeme c.in-Some.after.now) c.in-Some.ensures.found)) c.in_err-right.ensures.tree
+pub both-returns-in-Err-clause-tree : goal.both-returns-in-Err-clause-tree
+both-returns-in-Err-clause-tree t c = refused_as IsNegated IsBoth (ends 1) (test_ends 2) (map lexeme c.in-Some.after.now) (map lexeme c.args.tokens.now) c.in-Err.fault (no_next ands (map lexeme c.args.tokens.now) _ (map lexeme c.loop-after.rest.now) (map lexeme c.in-Some.after.now) tt c.loop-after.invariant.partly (and_at (map lexeme c.loop-after.rest.now) (map lexeme c.in-Some.after.now) c.in-Some.ensures.found)) c.in-Err.ensures.tree
 
 pub both-loop-after-preserved : goal.both-loop-after-preserved
-both-loop-after-preserved t c = record { partly = rw (c.in_ok-a.ensures.ok, c.in_ok-b.ensures.ok) (next ands (map lexeme c.args.tokens.now) _ _ (map lexeme c.loop-after.rest.now) (map lexeme c.in-Some.after.now) (map lexeme c.in_ok-right.after.now) tt c.loop-after.invariant.partly (and_at (map lexeme c.loop-after.rest.now) (map lexeme c.in-Some.after.now) c.in-Some.ensures.found) c.in_ok-right.ensures.tree); shorter = omega (arith, c.loop-after.invariant.shorter, c.in-Some.ensures.shorter, c.in_ok-right.ensures.shorter) }
+both-loop-after-preserved t c = record { partly = rw c.in_ok-left-in-Ok.ensures (next ands (map lexeme c.args.tokens.now) _ _ (map lexeme c.loop-after.rest.now) (map lexeme c.in-Some.after.now) (map lexeme c.in-Ok.after.now) tt c.loop-after.invariant.partly (and_at (map lexeme c.loop-after.rest.now) (map lexeme c.in-Some.after.now) c.in-Some.ensures.found) c.in-Ok.ensures.tree); shorter = omega (arith, c.loop-after.invariant.shorter, c.in-Some.ensures.shorter, c.in-Ok.ensures.shorter) }
 
 pub both-returns-clause-tree : goal.both-returns-clause-tree
 both-returns-clause-tree t c = finish ands (map lexeme c.args.tokens.now) _ (map lexeme c.loop-after.rest.now) c.loop-after.invariant.partly (no_and (map lexeme c.loop-after.rest.now) c.in_default.ensures.none)
@@ -44,8 +44,8 @@ both-returns-clause-tree t c = finish ands (map lexeme c.args.tokens.now) _ (map
 pub negated-returns-in_err-operand-in-Some-clause-tree : goal.negated-returns-in_err-operand-in-Some-clause-tree
 negated-returns-in_err-operand-in-Some-clause-tree t c = refused_exit IsNegated IsNegated (ends 1) (ends 1) _ (map lexeme c.in-Some.after.now) (map lexeme c.args.tokens.now) _ c.from_residual.result c.from_residual.ensures.1 (bang_none (map lexeme c.args.tokens.now) (map lexeme c.in-Some.after.now) c.in-Some.ensures.found) c.in_err-operand-in-Some.ensures.tree
 
-pub negated-returns-in_ok-new-in-Some-clause-tree : goal.negated-returns-in_ok-new-in-Some-clause-tree
-negated-returns-in_ok-new-in-Some-clause-tree t c = rw c.in_ok-new-in-Some.ensures.ok (bang_reads (map lexeme c.args.tokens.now) (map lexeme c.in-Some.after.now) _ _ c.in-Some.ensures.found c.in_ok-operand-in-Some.ensures.tree)
+pub negated-returns-in_ok-boxed-in-Some-clause-tree : goal.negated-returns-in_ok-boxed-in-Some-clause-tree
+negated-returns-in_ok-boxed-in-Some-clause-tree t c = rw c.in_ok-boxed-in-Some.ensures (bang_reads (map lexeme c.args.tokens.now) (map lexeme c.in-Some.after.now) _ _ c.in-Some.ensures.found c.in_ok-operand-in-Some.ensures.tree)
 
 pub negated-returns-in-None-clause-tree : goal.negated-returns-in-None-clause-tree
 negated-returns-in-None-clause-tree t c = reads_as IsSimpleTest IsNegated (ends 1) (ends 1) _ (map lexeme c.args.tokens.now) (map lexeme c.args.tokens.now) c.simple_test.result (plain_is_negated (map lexeme c.args.tokens.now) c.in-None.ensures.none) (no_plain_negated (map lexeme c.args.tokens.now) c.in-None.ensures.none) c.simple_test.ensures.tree

@@ -25,7 +25,7 @@ decreases-simple_test l = 8 * length l.tokens.now + 2
 
 abbrev pub invariant-test-loop-after : goal.invariant-test-loop-after
 invariant-test-loop-after l = record {
-  partly : Partly IsTest IsBoth (test_ends 1) or_operator either (map lexeme l.fn.tokens) (test_tree l.left) (map lexeme l.rest);
+  partly : Partly IsTest IsBoth (test_ends 1) or_operator either (map lexeme l.fn.tokens) (test_tree l.left.value) (map lexeme l.rest);
   shorter : length l.rest ≤ length l.fn.tokens;
 }
 
@@ -34,7 +34,7 @@ decreases-test-loop-after l = length l.rest
 
 abbrev pub invariant-both-loop-after : goal.invariant-both-loop-after
 invariant-both-loop-after l = record {
-  partly : Partly IsBoth IsNegated (test_ends 2) and_operator together (map lexeme l.fn.tokens) (test_tree l.left) (map lexeme l.rest);
+  partly : Partly IsBoth IsNegated (test_ends 2) and_operator together (map lexeme l.fn.tokens) (test_tree l.left.value) (map lexeme l.rest);
   shorter : length l.rest ≤ length l.fn.tokens;
 }
 

@@ -13,5 +13,5 @@ returns-in_err-left-clause-tree c = refused_exit IsLeft IsCompared Always (ends 
 pub returns-in-Err-clause-tree : goal.returns-in-Err-clause-tree
 returns-in-Err-clause-tree c = refused_as IsExpr IsCompared (ends 1) (ends 1) (map lexeme c.in_ok-left.rest.now) (map lexeme c.args.tokens.now) c.in-Err.fault (compared_no_right (map lexeme c.args.tokens.now) (map lexeme c.in_ok-left.rest.now) _ c.in_ok-left.ensures.tree) c.in-Err.ensures.tree
 
-pub returns-in-Ok-clause-tree : goal.returns-in-Ok-clause-tree
-returns-in-Ok-clause-tree c = compared_reads (map lexeme c.args.tokens.now) (map lexeme c.in_ok-left.rest.now) (map lexeme c.in-Ok.rest.now) _ _ c.in_ok-left.ensures.tree c.in-Ok.ensures.tree
+pub returns-in_ok-boxed-in-Ok-clause-tree : goal.returns-in_ok-boxed-in-Ok-clause-tree
+returns-in_ok-boxed-in-Ok-clause-tree c = rw c.in_ok-boxed-in-Ok.ensures (compared_reads (map lexeme c.args.tokens.now) (map lexeme c.in_ok-left.rest.now) (map lexeme c.in-Ok.rest.now) _ _ c.in_ok-left.ensures.tree c.in-Ok.ensures.tree)

@@ -17,5 +17,5 @@ returns-in_err-operand-clause-tree c = refused_exit (IsBefore Comma IsExpr) (IsT
 pub returns-in-Err-clause-tree : goal.returns-in-Err-clause-tree
 returns-in-Err-clause-tree c = refused_as (IsBefore Close IsName) (IsTestCall InArray) Always Always (map lexeme c.in_ok-operand.rest.now) (map lexeme c.args.tokens.now) c.in-Err.fault (in_array_no_name (map lexeme c.args.tokens.now) (map lexeme c.in_ok-after.after.now) (map lexeme c.in_ok-operand.rest.now) _ c.in_ok-after.ensures.found c.in_ok-operand.ensures.tree) c.in-Err.ensures.tree
 
-pub returns-in-Ok-clause-tree : goal.returns-in-Ok-clause-tree
-returns-in-Ok-clause-tree c = in_array_reads (map lexeme c.args.tokens.now) (map lexeme c.in_ok-after.after.now) (map lexeme c.in_ok-operand.rest.now) (map lexeme c.in-Ok.rest.now) _ _ c.in_ok-after.ensures.found c.in_ok-operand.ensures.tree c.in-Ok.ensures.tree
+pub returns-in_ok-boxed-in-Ok-clause-tree : goal.returns-in_ok-boxed-in-Ok-clause-tree
+returns-in_ok-boxed-in-Ok-clause-tree c = rw c.in_ok-boxed-in-Ok.ensures (in_array_reads (map lexeme c.args.tokens.now) (map lexeme c.in_ok-after.after.now) (map lexeme c.in_ok-operand.rest.now) (map lexeme c.in-Ok.rest.now) _ _ c.in_ok-after.ensures.found c.in_ok-operand.ensures.tree c.in-Ok.ensures.tree)

@@ -15,4 +15,4 @@ pub returns-in_err-operand-clause-tree : goal.returns-in_err-operand-clause-tree
 returns-in_err-operand-clause-tree c = refused_exit (IsBefore Close IsExpr) (IsTestCall Match) Always Always _ (map lexeme c.in_ok-after.after.now) (map lexeme c.args.tokens.now) _ c.from_residual-in_err-operand.result c.from_residual-in_err-operand.ensures.1 (match_none (map lexeme c.args.tokens.now) (map lexeme c.in_ok-after.after.now) c.in_ok-after.ensures.found) c.in_err-operand.ensures.tree
 
 pub returns-clause-tree : goal.returns-clause-tree
-returns-clause-tree c = match_reads (map lexeme c.args.tokens.now) (map lexeme c.in_ok-after.after.now) (map lexeme c.in_ok-operand.rest.now) _ c.in_ok-after.ensures.found c.in_ok-operand.ensures.tree
+returns-clause-tree c = rw c.in_ok-boxed.ensures (match_reads (map lexeme c.args.tokens.now) (map lexeme c.in_ok-after.after.now) (map lexeme c.in_ok-operand.rest.now) _ c.in_ok-after.ensures.found c.in_ok-operand.ensures.tree)

@@ -15,4 +15,4 @@ pub returns-in_err-list-clause-tree : goal.returns-in_err-list-clause-tree
 returns-in_err-list-clause-tree c = refused_exit (IsBefore Close IsNames) (IsTestCall Unique) Always Always _ (map lexeme c.in_ok-after.after.now) (map lexeme c.args.tokens.now) _ c.from_residual-in_err-list.result c.from_residual-in_err-list.ensures.1 (unique_none (map lexeme c.args.tokens.now) (map lexeme c.in_ok-after.after.now) c.in_ok-after.ensures.found) c.in_err-list.ensures.tree
 
 pub returns-clause-tree : goal.returns-clause-tree
-returns-clause-tree c = unique_reads (map lexeme c.args.tokens.now) (map lexeme c.in_ok-after.after.now) (map lexeme c.in_ok-list.rest.now) _ c.in_ok-after.ensures.found c.in_ok-list.ensures.tree
+returns-clause-tree c = rw c.in_ok-boxed.ensures (unique_reads (map lexeme c.args.tokens.now) (map lexeme c.in_ok-after.after.now) (map lexeme c.in_ok-list.rest.now) _ c.in_ok-after.ensures.found c.in_ok-list.ensures.tree)
