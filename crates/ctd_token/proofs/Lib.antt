@@ -6,4 +6,4 @@ pub mod TokenFaults
 pub mod Decided
 pub mod LiteralEnds
 pub mod Longest
-pub mod Places
+pub mod PlainBytes

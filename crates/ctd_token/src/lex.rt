@@ -12,7 +12,6 @@ use crate::limits::PROGRAM_LIMIT;
 use crate::scan::{gap_len, token_at};
 use crate::text::Place;
 use crate::token::{Token, TokenKind};
-use memchr::memrchr;
 use std::alloc::Global;
 use std::marker::Model;
 
@@ -25,25 +24,19 @@ pub fn advance(place: Place, text: &[u8], at: usize, to: usize) -> Place
     requires within { to ≤ length text.now }
     ensures there { result ≡ place_at text.now to }
 {
-    let passed = &text[at..to];
-    match memrchr(b'\n', passed) {
-        None => Place {
-            line: place.line,
-            column: place.column + passed.len() as u32,
-        },
-        Some(last) => Place {
-            line: place.line + line_feeds(passed) as u32,
-            column: (passed.len() - last) as u32,
-        },
+    let mut place = place;
+    let mut n = at;
+    // The bytes between two tokens are few, so no search for line feeds pays.
+    while n < to {
+        if text[n] == b'\n' {
+            place.line += 1;
+            place.column = 1;
+        } else {
+            place.column += 1;
+        }
+        n += 1;
     }
-}
-
-// How many line feeds some bytes have.
-fn line_feeds(bytes: &[u8]) -> usize
-    ensures count { result ≡ count_by (λ b. nat_eq b 10) bytes.now }
-    ensures within { result ≤ length bytes.now }
-{
-    bytes.iter().filter(|b| **b == b'\n').count()
+    place
 }
 
 // The token of so many bytes at an offset, which has this place.

@@ -1,5 +1,5 @@
 use Rattle.std.proofs.Common.{◌∙◌}
-use Rattle.ctd_token.proofs.Places.{plain_before}
+use Rattle.ctd_token.proofs.PlainBytes.{plain_before}
 use Rattle.ctd_token.proofs.literal.plain_len.Goals as goal
 
 pub returns-clause-value : goal.returns-clause-value
