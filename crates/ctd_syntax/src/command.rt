@@ -483,7 +483,7 @@ pub(crate) fn commands<'t>(
     ensures tree { FindsTree IsCommands CommandsEnd (λ x. (command_list x.0, map lexeme x.1.now)) result (map lexeme tokens.now) }
     ensures shorter { IfOk result (λ x. length x.1.now ≤ length tokens.now) }
 {
-    let mut items = Vec::with_capacity(alloc, 2)?;
+    let mut items = Vec::with_capacity(alloc, 4)?;
     // All of them; the borrow checker refuses a loop whose variable begins as the argument itself.
     let (_none, mut rest) = tokens.split_at(0);
     while let Some((word, place, after)) = command_word(rest) {

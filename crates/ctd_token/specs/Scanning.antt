@@ -1,17 +1,24 @@
 -- What scanning for one token answers.
-use Rattle.std.specs.Prelude.{◌≡◌, ◌≤◌, ◌+◌, ℕ, List, Some, None, Result, Ok, Err}
+use Rattle.std.specs.Prelude.{◌≡◌, ◌≤◌, ◌+◌, ℕ, List, Option, Some, None, Result, Ok, Err}
 use Rattle.ctd_token.specs.declared.token.TokenKind.{TokenKind}
 use Rattle.ctd_token.specs.declared.fault.TokenFault.{TokenFault}
 use Rattle.ctd_token.specs.declared.fault.TokenFault.TheVariants.{Wrong, Memory}
 use Rattle.ctd_token.specs.declared.fault.LoadFault.{LoadFault}
 use Rattle.ctd_token.specs.declared.fault.LoadKind.TheVariants as loading
-use Rattle.ctd_token.specs.Cut.{TokenOrFault, wrong, place_at}
+use Rattle.ctd_token.specs.declared.token.Mark.{Mark}
+use Rattle.ctd_token.specs.declared.token.TokenKind.TheVariants as tokens
+use Rattle.ctd_token.specs.Cut.{Judged, TokenOrFault, wrong, place_at}
 
 -- the token or the fault that is found, unless no memory was left
 abbrev pub Scans : Result (TokenKind × ℕ) TokenFault → TokenOrFault → Type 0
 Scans (Ok t) found = found ≡ Ok t
 Scans (Err (Wrong kind behind)) found = found ≡ wrong kind behind
 Scans (Err Memory) found = Unit {0}
+
+-- a mark and its length, or a byte that begins no token
+abbrev pub mark_judged : Option (Mark × ℕ) → Judged
+mark_judged (Some m) = Ok (tokens.Mark m.0, m.1)
+mark_judged None = Err loading.BadByte
 
 -- a fault is within so many bytes
 abbrev pub FaultWithin : TokenFault → ℕ → Type 0

@@ -1,10 +1,10 @@
 //! One token after another: gaps, words, names, numerals and marks (checktestdata language
 //! specification, tokens).
 
-ghost use Rattle.std.specs.Prelude.{◌≡◌, ◌≤◌, ◌<◌, ◌^◌, drop, take, false, true, slice_index, length, All, IfOk, IfErr, MatchOption};
+ghost use Rattle.std.specs.Prelude.{◌≡◌, ◌≤◌, ◌<◌, ◌^◌, drop, take, false, true, slice_index, length, All, IfOk, IfErr, IfSome, MatchOption};
 ghost use Rattle.std.specs.List.{prefix_len};
 ghost use Rattle.ctd_token.specs.Cut.{is_whitespace, is_upper, is_digit, skip_gap, single_mark, double_mark, is_left_out_word, name_len, decimal, word_at, numeral_at, mark_at, token_at};
-ghost use Rattle.ctd_token.specs.Scanning.{Scans, FaultWithin};
+ghost use Rattle.ctd_token.specs.Scanning.{Scans, FaultWithin, mark_judged};
 
 use crate::fault::{LoadKind, TokenFault};
 use crate::literal::text_at;
@@ -157,20 +157,19 @@ fn double_mark(a: u8, b: u8) -> Option<Mark>
     }
 }
 
-fn mark_at(bytes: &[u8]) -> Result<(TokenKind, usize), LoadKind>
+#[inline(always)] // For every second token; so its answer stands in registers.
+fn mark_at(bytes: &[u8]) -> Option<(Mark, usize)>
     requires { 0 < length bytes.now }
-    ensures token { result ≡ mark_at (slice_index bytes.now 0) (drop 1 bytes.now) }
-    ensures within { IfOk result (λ x. (0 < x.1) × (x.1 ≤ length bytes.now)) }
+    ensures token { mark_judged result ≡ mark_at (slice_index bytes.now 0) (drop 1 bytes.now) }
+    ensures within { IfSome result (λ x. (0 < x.1) × (x.1 ≤ length bytes.now)) }
 {
     if bytes.len() > 1 {
         if let Some(mark) = double_mark(bytes[0], bytes[1]) {
-            return Ok((TokenKind::Mark(mark), 2));
+            return Some((mark, 2));
         }
     }
-    match single_mark(bytes[0]) {
-        Some(mark) => Ok((TokenKind::Mark(mark), 1)),
-        None => Err(LoadKind::BadByte),
-    }
+    let mark = single_mark(bytes[0])?;
+    Some((mark, 1))
 }
 
 /// The longest token at the front of some bytes and its length, or the fault of the bytes there (checktestdata language
@@ -194,7 +193,9 @@ pub fn token_at(alloc: Global, bytes: &[u8]) -> Result<(TokenKind, usize), Token
         Ok(numeral_at(bytes)?)
     } else if first == b'"' {
         text_at(alloc, bytes)
+    } else if let Some((mark, len)) = mark_at(bytes) {
+        Ok((TokenKind::Mark(mark), len))
     } else {
-        Ok(mark_at(bytes)?)
+        Err(TokenFault::from(LoadKind::BadByte))
     }
 }

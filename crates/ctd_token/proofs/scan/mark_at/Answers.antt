@@ -1,5 +1,5 @@
 use Rattle.std.proofs.Common.{rules}
 use Rattle.ctd_token.proofs.scan.mark_at.Goals as goal
 
-pub returns-in-Some-single_mark-clause-token : goal.returns-in-Some-single_mark-clause-token
-returns-in-Some-single_mark-clause-token c = search rules
+pub returns-clause-token : goal.returns-clause-token
+returns-clause-token c = search rules

@@ -1,3 +1,4 @@
+use Rattle.std.proofs.lemmas.Grind.{common_steps}
 use Rattle.std.proofs.Common.{◌≡◌, ℕ, ◌+◌, ◌<◌, ◌≤◌, List, length, drop, false, Err, sym, ap, ◌∙◌, subst, drop-drop, arith, rules}
 use Rattle.std.proofs.lemmas.List.{take_rest}
 use Rattle.ctd_token.specs.Cut.{token_at, skip_gap}
@@ -19,3 +20,6 @@ returns-in-Err-clause-fault c =
     subst (λ u. IsNextFault u c.fault_at.result.kind c.fault_at.result.place) c.self.view_is
     (next_fault (record { text = text; at = at }) (at + gap) c.in-Err.fault c.fault_at.result (gap_end (drop at text) at gap within skipped)
     (sym (drop-drop gap at text) ∙ skipped) inside found c.fault_at.ensures)
+
+pub returns-then-first-self-clause-end : goal.returns-then-first-self-clause-end
+returns-then-first-self-clause-end c = grind (arith, common_steps)
