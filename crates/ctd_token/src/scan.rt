@@ -72,6 +72,7 @@ fn is_left_out(word: &[u8]) -> bool
         || word == b"SCIENTIFIC".as_slice()
 }
 
+#[inline(always)]
 fn word_at(bytes: &[u8]) -> Result<(TokenKind, usize), LoadKind>
     ensures token { result ≡ word_at (prefix_len is_upper bytes.now) bytes.now }
     ensures within { IfOk result (λ x. x.1 ≤ length bytes.now) }
@@ -102,6 +103,7 @@ fn decimal(digits: &[u8]) -> Option<u128>
     Some(value)
 }
 
+#[inline(always)]
 fn numeral_at(bytes: &[u8]) -> Result<(TokenKind, usize), LoadKind>
     requires { 0 < length bytes.now }
     ensures token { result ≡ numeral_at (prefix_len is_digit bytes.now) bytes.now }
@@ -157,7 +159,7 @@ fn double_mark(a: u8, b: u8) -> Option<Mark>
     }
 }
 
-#[inline(always)] // For every second token; so its answer stands in registers.
+#[inline(always)]
 fn mark_at(bytes: &[u8]) -> Option<(Mark, usize)>
     requires { 0 < length bytes.now }
     ensures token { mark_judged result ≡ mark_at (slice_index bytes.now 0) (drop 1 bytes.now) }
@@ -178,6 +180,7 @@ fn mark_at(bytes: &[u8]) -> Option<(Mark, usize)>
 /// No blank and no comment is left out: at one, the fault is BadByte. The fault is at the first byte, but BadOctal is at
 /// its backslash, this many bytes further on. Only a string takes memory, and only a refused growth is Memory. The time is
 /// linear in the bytes of the token, where there is one.
+#[inline(always)] // With the three that it asks: they are called for each token of a program, and their answers would go through memory.
 pub fn token_at(alloc: Global, bytes: &[u8]) -> Result<(TokenKind, usize), TokenFault>
     requires some { 0 < length bytes.now }
     ensures token { Scans result (token_at bytes.now) }

@@ -5,7 +5,6 @@ use Rattle.std.specs.Prelude.{map}
 use Rattle.ctd_syntax.specs.Front.{Found, lexeme}
 use Rattle.ctd_syntax.specs.Grammar.{IsProduct, IsTarget}
 use Rattle.ctd_syntax.specs.Levels.{ends}
-use Rattle.ctd_syntax.specs.Lexeme
 use Rattle.ctd_syntax.specs.Lexeme.{Lexeme}
 use Rattle.ctd_tree.specs.Tree
 use Rattle.ctd_tree.specs.View.{expr_list, exprs_of, var_tree}
@@ -27,6 +26,6 @@ returns-in_ok-name-in-Name-clause-tree c =
     let v : Var = record { name = c.in_ok-name-in-Name.name; indices = c.from_vec-indices.result } in
     let none : expr_list (exprs_of v.indices) ≡ Tree.none = ap expr_list (c.from_vec-indices.ensures ∙ c.new.ensures.items) in
     let plain : Found IsTarget (ends 4) (map lexeme c.args.tokens.now) (var_tree v) (map lexeme c.in-Some.rest.now) =
-        rw (c.in_ok-name-in-Name.ensures.equal, none) (variable_plain (map lexeme c.args.tokens.now) (map lexeme c.in-Some.rest.now) c.in-Name.name.now seen (λ r e. no_index (map lexeme c.in-Some.rest.now) r ends_so e)) in
+    rw (c.in_ok-name-in-Name.ensures.equal, none) (variable_plain (map lexeme c.args.tokens.now) (map lexeme c.in-Some.rest.now) c.in-Name.name.now seen (λ r e. no_index (map lexeme c.in-Some.rest.now) r ends_so e)) in
     let atom = variable_reads (map lexeme c.args.tokens.now) (map lexeme c.in-Some.rest.now) (map lexeme c.in-Some.rest.now) _ (var_tree v) seen plain in
     subst (λ x. Found IsProduct (ends 2) (map lexeme c.args.tokens.now) x (map lexeme c.in-Some.rest.now)) (sym (variable_tree v)) (atom_is_product (map lexeme c.args.tokens.now) (map lexeme c.in-Some.rest.now) _ (λ r e. cc) atom ends_so)
