@@ -56,15 +56,23 @@ fn first_name(program: &Program) -> Result<&Name, Fail> {
     Err(Fail::new("no name"))
 }
 
+/// Makes some assignments.
+fn assign_all(
+    alloc: Global,
+    assignments: &[Assignment],
+    store: &mut Store,
+) -> Result<(), EvalFault> {
+    for a in assignments {
+        set_expression(alloc, &a.target, &a.value, store)?;
+    }
+    Ok(())
+}
+
 /// Runs the SET, UNSET and ASSERT of a program; no other commands stand in the rows. False where an assertion fails.
 fn run<N: Next>(alloc: Global, program: &Program, store: &mut Store, next: &mut N) -> Answer {
     for command in program.commands() {
         match &command.action {
-            Action::Set(assignments) => {
-                for a in assignments.as_slice() {
-                    set_expression(alloc, &a.target, &a.value, store)?;
-                }
-            }
+            Action::Set(assignments) => assign_all(alloc, assignments.as_slice(), store)?,
             Action::Unset(names) => {
                 for name in names.as_slice() {
                     store.unset(name);
@@ -103,28 +111,53 @@ fn store_of(alloc: Global, pinned: &str) -> Result<Store, Fail> {
     Ok(Store::new(alloc, &presets)?)
 }
 
-/// Runs a program so many times, with a reader that fails at once, so that each look would be told. False where an assertion
-/// fails, which ends the runs.
-fn run_times(alloc: Global, program: &Program, store: &mut Store, times: u32) -> Answer {
-    let mut data = Plain::new(b"", true, 10);
+/// Runs a program so many times. False where an assertion fails, which ends the runs.
+fn run_times(
+    alloc: Global,
+    program: &Program,
+    store: &mut Store,
+    data: &mut Plain<'_>,
+    times: u32,
+) -> Answer {
     for _ in 0..times {
-        if !run(alloc, program, store, &mut data)? {
+        if !run(alloc, program, store, data)? {
             return Ok(false);
         }
     }
     Ok(true)
 }
 
-/// What a program answers that is run so many times over a store.
-fn answer_in(alloc: Global, store: &mut Store, text: &str, times: u32) -> Result<Answer, Fail> {
+/// What a program answers at some data that is run so many times over a store.
+fn answer_at(
+    alloc: Global,
+    store: &mut Store,
+    text: &str,
+    data: &mut Plain<'_>,
+    times: u32,
+) -> Result<Answer, Fail> {
     let program = parse(alloc, text.as_bytes())?;
-    Ok(truth_told(run_times(alloc, &program, store, times))?)
+    Ok(truth_told(run_times(alloc, &program, store, data, times))?)
 }
 
-/// What a program answers that is run once, where some variables are pinned.
-fn answer(alloc: Global, pinned: &str, text: &str) -> Result<Answer, Fail> {
+/// The same over no data, with a reader that fails at once, so that each look would be told.
+fn answer_in(alloc: Global, store: &mut Store, text: &str, times: u32) -> Result<Answer, Fail> {
+    answer_at(alloc, store, text, &mut Plain::new(b"", true, 10), times)
+}
+
+/// What a program answers at some data that is run once, where some variables are pinned.
+fn answer_with(
+    alloc: Global,
+    pinned: &str,
+    text: &str,
+    data: &mut Plain<'_>,
+) -> Result<Answer, Fail> {
     let mut store = store_of(alloc, pinned)?;
-    answer_in(alloc, &mut store, text, 1)
+    answer_at(alloc, &mut store, text, data, 1)
+}
+
+/// The same over no data.
+fn answer(alloc: Global, pinned: &str, text: &str) -> Result<Answer, Fail> {
+    answer_with(alloc, pinned, text, &mut Plain::new(b"", true, 10))
 }
 
 /// The first line of a text that answers otherwise than wanted. Each line is a program of its own, over no data.

@@ -1,8 +1,8 @@
 //! What is at hand: answers that take no memory, no look at the data and no number of more than 64 bits.
 
-use super::{same, store_of};
-use ctd_syntax::{Action, Assignment, Command, Program, Test, parse};
-use ctd_value::{Store, number_at_hand, set_expression, truth_at_hand, truth_in_front_of};
+use super::{assign_all, same, store_of};
+use ctd_syntax::{Action, Command, Program, parse};
+use ctd_value::{Store, number_at_hand, truth_at_hand, truth_in_front_of};
 use std::alloc::Global;
 use std::test::Fail;
 
@@ -11,41 +11,59 @@ use std::test::Fail;
 const FILLING: &str =
     "SET(n=3,k=0,s=\"x\",a[0]=1,a[1]=2,b[0]=2,b[1]=2,c[0]=\"2\",c[1]=1,longnames=4,g[1,2]=5,g[2,1]=6,w[1,0]=\"#\")";
 
-/// The assignments of a program that begins with SET, and the test behind them.
-fn assignments_and_test(program: &Program) -> Result<(&[Assignment], &Test), Fail> {
+/// What is at hand of what a program asks behind its assignments.
+#[derive(Clone, Copy)]
+enum Wanted {
+    /// This answer to its test, or none.
+    Truth(Option<bool>),
+    /// This number of the expression that it assigns, or none.
+    Number(Option<i128>),
+}
+
+/// Whether what is wanted of a command is at hand.
+fn is_at_hand(action: &Action, store: &Store, wanted: Wanted) -> bool {
+    match (action, wanted) {
+        (Action::Assert(t), Wanted::Truth(truth)) => truth_at_hand(t, store) == truth,
+        (Action::Set(assignments), Wanted::Number(n)) => match assignments.as_slice() {
+            [a] => number_at_hand(&a.value, store) == n,
+            _ => false,
+        },
+        _ => false,
+    }
+}
+
+/// Makes the assignments of a program. Whether what is wanted of the command behind them is at hand then.
+fn is_so_over(
+    alloc: Global,
+    program: &Program,
+    store: &mut Store,
+    wanted: Wanted,
+) -> Result<bool, Fail> {
     if let [first, second] = program.commands() {
-        if let (Action::Set(assignments), Action::Assert(t)) = (&first.action, &second.action) {
-            return Ok((assignments.as_slice(), t));
+        if let Action::Set(assignments) = &first.action {
+            assign_all(alloc, assignments.as_slice(), store)?;
+            return Ok(is_at_hand(&second.action, store, wanted));
         }
     }
-    Err(Fail::new("no test"))
+    Err(Fail::new("no two commands"))
 }
 
-/// The answer at hand to a test, once assignments are made.
-fn truth_over(
-    alloc: Global,
-    assignments: &[Assignment],
-    t: &Test,
-    store: &mut Store,
-) -> Result<Option<bool>, Fail> {
-    for a in assignments {
-        set_expression(alloc, &a.target, &a.value, store)?;
-    }
-    Ok(truth_at_hand(t, store))
-}
-
-/// The same of a program that begins with SET, with the test behind it.
-fn truth_of(alloc: Global, program: &Program) -> Result<Option<bool>, Fail> {
-    let (assignments, t) = assignments_and_test(program)?;
+/// The same in a store of its own.
+fn is_so_of(alloc: Global, program: &Program, wanted: Wanted) -> Result<bool, Fail> {
     let mut store = store_of(alloc, "")?;
-    truth_over(alloc, assignments, t, &mut store)
+    is_so_over(alloc, program, &mut store, wanted)
 }
 
-/// The answer at hand to a test, once the variables have their values.
-fn truth_in(alloc: Global, test: &str) -> Result<Option<bool>, Fail> {
-    let text = format!(in alloc; "{FILLING} ASSERT({test})")?;
+/// The same of the program that a text is.
+fn is_so(alloc: Global, text: &str, wanted: Wanted) -> Result<bool, Fail> {
     let program = parse(alloc, text.as_bytes())?;
-    truth_of(alloc, &program)
+    is_so_of(alloc, &program, wanted)
+}
+
+/// Whether this answer to a test is at hand, once the variables have their values.
+fn is_truth(alloc: Global, test: &str, truth: Option<bool>) -> Result<bool, Fail> {
+    let text = format!(in alloc; "{FILLING} ASSERT({test})")?;
+    is_so(alloc, &text, Wanted::Truth(truth))
 }
 
 /// Tests, and the answer at hand to each.
@@ -86,8 +104,8 @@ const TRUTHS: [(&str, Option<bool>); 31] = [
 #[test]
 fn truths_at_hand(rt: HostRuntime) -> Result<(), Fail> {
     for (test, wanted) in &TRUTHS {
-        let found = truth_in(rt.alloc(), test)?;
-        same(&rt, &found, wanted, test);
+        let found = is_truth(rt.alloc(), test, *wanted)?;
+        same(&rt, &found, &true, test);
     }
     Ok(())
 }
@@ -132,34 +150,10 @@ fn truths_in_front_of_a_byte(rt: HostRuntime) -> Result<(), Fail> {
     Ok(())
 }
 
-/// The number that the second of two assignments gives, where it is at hand once the first is made.
-fn number_over(alloc: Global, program: &Program, store: &mut Store) -> Result<Option<i128>, Fail> {
-    if let [
-        Command {
-            action: Action::Set(assignments),
-            ..
-        },
-    ] = program.commands()
-    {
-        if let [n, x] = assignments.as_slice() {
-            set_expression(alloc, &n.target, &n.value, store)?;
-            return Ok(number_at_hand(&x.value, store));
-        }
-    }
-    Err(Fail::new("no assignments"))
-}
-
-/// The same, where no variable has a value before.
-fn number_of(alloc: Global, program: &Program) -> Result<Option<i128>, Fail> {
-    let mut store = store_of(alloc, "")?;
-    number_over(alloc, program, &mut store)
-}
-
-/// The number of an expression, where it is at hand; the number of n is 3.
-fn number_in(alloc: Global, expression: &str) -> Result<Option<i128>, Fail> {
-    let text = format!(in alloc; "SET(n=3,x={expression})")?;
-    let program = parse(alloc, text.as_bytes())?;
-    number_of(alloc, &program)
+/// Whether this number of an expression is at hand; the number of n is 3.
+fn is_number(alloc: Global, expression: &str, n: Option<i128>) -> Result<bool, Fail> {
+    let text = format!(in alloc; "SET(n=3) SET(x={expression})")?;
+    is_so(alloc, &text, Wanted::Number(n))
 }
 
 /// Expressions, and the number of each, where it is a literal or all numbers on the way to it have 64 bits.
@@ -178,8 +172,8 @@ const NUMBERS: [(&str, Option<i128>); 9] = [
 #[test]
 fn numbers_at_hand(rt: HostRuntime) -> Result<(), Fail> {
     for (expression, wanted) in &NUMBERS {
-        let found = number_in(rt.alloc(), expression)?;
-        same(&rt, &found, wanted, expression);
+        let found = is_number(rt.alloc(), expression, *wanted)?;
+        same(&rt, &found, &true, expression);
     }
     Ok(())
 }

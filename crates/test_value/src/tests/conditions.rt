@@ -3,11 +3,10 @@
 ghost use Rattle.std.specs.Prelude.{◌≤◌, ◌^◌};
 
 use super::{
-    Answer, DATA_TOO_LONG, DIVISION_BY_ZERO, READ, Row, UNDEFINED, WRONG_TYPE, judged, run, same,
-    store_of, truth_told,
+    Answer, DATA_TOO_LONG, DIVISION_BY_ZERO, READ, Row, UNDEFINED, WRONG_TYPE, answer_with, judged,
+    same,
 };
 use ctd_source::Plain;
-use ctd_syntax::{Program, parse};
 use std::alloc::Global;
 use std::test::Fail;
 
@@ -111,12 +110,6 @@ fn short_circuits(rt: HostRuntime) -> Result<(), Fail> {
     judged(&rt, rt.alloc(), &SHORT_CIRCUITS)
 }
 
-/// What a program answers over a reader, where no variable has a value before.
-fn answer_with(alloc: Global, program: &Program, data: &mut Plain<'_>) -> Result<Answer, Fail> {
-    let mut store = store_of(alloc, "")?;
-    Ok(truth_told(run(alloc, program, &mut store, data))?)
-}
-
 /// What a program answers at some bytes, behind which a read may fail.
 fn answer_over(
     alloc: Global,
@@ -127,9 +120,7 @@ fn answer_over(
 ) -> Result<Answer, Fail>
     requires { limit ≤ 2 ^ 62 }
 {
-    let program = parse(alloc, text.as_bytes())?;
-    let mut data = Plain::new(bytes, broken, limit);
-    answer_with(alloc, &program, &mut data)
+    answer_with(alloc, "", text, &mut Plain::new(bytes, broken, limit))
 }
 
 /// A test, the bytes that it is asked at, whether a read fails behind them, the limit, and what it says.

@@ -1,5 +1,5 @@
-//! Looks at data that are cut, that end, that fail and that never end. A test makes a cursor and lends it to a function that
-//! judges it, which is proved in a fraction of the time.
+//! Looks at data that are cut, that end, that fail and that never end. Most tests are a table of what is asked: one function
+//! makes a cursor and lends it to another, which asks, so that both are proved once.
 ghost use Rattle.std.specs.Prelude.{◌≡◌, ◌≤◌, length, take, count_by};
 ghost use Rattle.ctd_source.specs.TestData.{is_newline};
 
@@ -119,139 +119,142 @@ fn has_window<R: Source>(cursor: &mut Cursor<'_, R>, bytes: &[u8]) -> Result<boo
     Ok(cursor.window()? == bytes)
 }
 
-/// Judges a cursor at the start of a line of an x and one of a y that is not ended.
-fn judge_spots<R: Source>(rt: &impl Abort, cursor: &mut Cursor<'_, R>) {
-    same(
-        rt,
-        &(cursor.seen(), cursor.taken()),
-        &(Seen::Going, 0),
-        &"the start",
-    );
-    same(
-        rt,
-        &[pass(cursor), pass(cursor)],
-        &[Ok(Some(b'x')), Ok(Some(b'\n'))],
-        &"the first line",
-    );
-    let spot = Spot {
-        line: 2,
-        column: 1,
-        offset: 2,
-    };
-    same(
-        rt,
-        &(cursor.spot(), has_window(cursor, b"y")),
-        &(spot, Ok(true)),
-        &"the second line",
-    );
-    assert_eq!(rt; cursor.held(), 1);
-    cursor.take_many(1);
-    same(rt, &next_twice(cursor), &[Ok(None), Ok(None)], &"the end");
-    same(
-        rt,
-        &(cursor.seen(), cursor.taken()),
-        &(Seen::Ended, 3),
-        &"the end",
-    );
+/// What is asked of a cursor, with the answer.
+#[derive(Clone, Copy)]
+enum Ask<'a> {
+    /// What it saw of the end, and how many bytes it took from its source.
+    Seen(Seen, u64),
+    /// The line, the column and the offset of its spot.
+    Spot(u64, u64, u64),
+    /// The next byte.
+    Look(Result<Option<u8>, LookFault>),
+    /// The next byte, of anything that tells it, twice.
+    Next(Result<Option<u8>, LookFault>),
+    /// The next byte, which is passed where there is one.
+    Pass(Result<Option<u8>, LookFault>),
+    /// That these bytes come next, which are passed.
+    PassAll(&'a [u8]),
+    /// Whether this byte is passed.
+    PassIf(u8, Result<bool, LookFault>),
+    /// How many held bytes before the next newline are passed.
+    PassInLine(usize),
+    /// How many held bytes are passed, which are all.
+    PassHeld(usize),
+    /// The bytes that are held.
+    Held(&'a [u8]),
+    /// Whether these bytes are the window.
+    Window(&'a [u8], Result<bool, LookFault>),
 }
+
+/// Passes the held bytes, and tells how many they are.
+fn pass_held<R: Source>(cursor: &mut Cursor<'_, R>) -> usize {
+    let count = cursor.held_run().len();
+    cursor.take_many(count);
+    count
+}
+
+/// Whether a cursor answers as it is wanted.
+fn answers<R: Source>(cursor: &mut Cursor<'_, R>, ask: Ask<'_>) -> bool {
+    match ask {
+        Ask::Seen(seen, taken) => cursor.seen() == seen && cursor.taken() == taken,
+        Ask::Spot(line, column, offset) => {
+            cursor.spot()
+                == Spot {
+                    line,
+                    column,
+                    offset,
+                }
+        }
+        Ask::Look(next) => cursor.look() == next,
+        Ask::Next(next) => next_twice(cursor) == [next, next],
+        Ask::Pass(next) => pass(cursor) == next,
+        Ask::PassAll(bytes) => first_other(cursor, bytes).is_none(),
+        Ask::PassIf(byte, passed) => cursor.pass_if_eq(byte) == passed,
+        Ask::PassInLine(count) => pass_in_line(cursor) == count,
+        Ask::PassHeld(count) => pass_held(cursor) == count,
+        Ask::Held(bytes) => cursor.held() == bytes.len() && cursor.held_run() == bytes,
+        Ask::Window(bytes, is) => has_window(cursor, bytes) == is,
+    }
+}
+
+/// Judges a cursor by what it is asked in turn.
+fn judge<R: Source>(rt: &impl Abort, cursor: &mut Cursor<'_, R>, asks: &[Ask]) {
+    for (turn, ask) in asks.iter().enumerate() {
+        same(rt, &answers(cursor, *ask), &true, &turn);
+    }
+}
+
+/// The same of a cursor at the start of what a reader gives.
+fn judge_start<R: Read + Drop>(
+    rt: &impl Abort,
+    alloc: Global,
+    reader: R,
+    limit: u32,
+    asks: &[Ask],
+) -> Result<(), Fail> {
+    let mut source = FromRead::new(reader);
+    let mut cursor = Cursor::start(alloc, &mut source, u64::from(limit))?;
+    judge(rt, &mut cursor, asks);
+    Ok(())
+}
+
+/// Of a line of an x and one of a y that is not ended.
+const SPOTS: [Ask; 9] = [
+    Ask::Seen(Seen::Going, 0),
+    Ask::Pass(Ok(Some(b'x'))),
+    Ask::Pass(Ok(Some(b'\n'))),
+    Ask::Spot(2, 1, 2),
+    Ask::Window(b"y", Ok(true)),
+    Ask::Held(b"y"),
+    Ask::PassHeld(1),
+    Ask::Next(Ok(None)),
+    Ask::Seen(Seen::Ended, 3),
+];
 
 #[test]
 fn tells_spots_and_the_end(rt: HostRuntime) -> Result<(), Fail> {
-    let text: &[u8] = b"x\ny";
-    let mut source = FromRead::new(text);
-    let mut cursor = Cursor::start(rt.alloc(), &mut source, 10)?;
-    judge_spots(&rt, &mut cursor);
-    Ok(())
+    judge_start(&rt, rt.alloc(), b"x\ny".as_slice(), 10, &SPOTS)
 }
 
-/// Passes the held bytes before the next newline, and tells how many they are and the spot behind them.
-fn pass_to_spot<R: Source>(cursor: &mut Cursor<'_, R>) -> (usize, Spot) {
-    (pass_in_line(cursor), cursor.spot())
-}
-
-/// Judges a cursor at the start of a line of three bytes and one of two.
-fn judge_lines<R: Source>(rt: &impl Abort, cursor: &mut Cursor<'_, R>) {
-    same(
-        rt,
-        &(pass_in_line(cursor), cursor.look()),
-        &(0, Ok(Some(b'a'))),
-        &"the start",
-    );
-    let spot = Spot {
-        line: 1,
-        column: 4,
-        offset: 3,
-    };
-    same(
-        rt,
-        &(pass_to_spot(cursor), pass(cursor)),
-        &((3, spot), Ok(Some(b'\n'))),
-        &"the first line",
-    );
-    let spot = Spot {
-        line: 2,
-        column: 3,
-        offset: 6,
-    };
-    same(rt, &pass_to_spot(cursor), &(2, spot), &"the second line");
-    same(rt, &next_twice(cursor), &[Ok(Some(b'\n')); 2], &"the end");
-}
+/// Of a line of three bytes and one of two.
+const LINES: [Ask; 8] = [
+    Ask::PassInLine(0),
+    Ask::Look(Ok(Some(b'a'))),
+    Ask::PassInLine(3),
+    Ask::Spot(1, 4, 3),
+    Ask::Pass(Ok(Some(b'\n'))),
+    Ask::PassInLine(2),
+    Ask::Spot(2, 3, 6),
+    Ask::Next(Ok(Some(b'\n'))),
+];
 
 #[test]
 fn bytes_in_a_line_are_passed_at_once(rt: HostRuntime) -> Result<(), Fail> {
-    let text: &[u8] = b"abc\nde\n";
-    let mut source = FromRead::new(text);
-    let mut cursor = Cursor::start(rt.alloc(), &mut source, 10)?;
-    judge_lines(&rt, &mut cursor);
-    Ok(())
+    judge_start(&rt, rt.alloc(), b"abc\nde\n".as_slice(), 10, &LINES)
 }
 
-/// Judges a cursor of which the first three bytes are a line of an a and one that begins with a b, and the next read fails.
-fn judge_wanted<R: Source>(rt: &impl Abort, cursor: &mut Cursor<'_, R>) {
-    let passed = [
-        cursor.pass_if_eq(b'b'),
-        cursor.pass_if_eq(b'a'),
-        cursor.pass_if_eq(b'a'),
-        cursor.pass_if_eq(b'\n'),
-        cursor.pass_if_eq(b'b'),
-    ];
-    same(
-        rt,
-        &passed,
-        &[Ok(false), Ok(true), Ok(false), Ok(true), Ok(true)],
-        &"the first bytes",
-    );
-    let spot = Spot {
-        line: 2,
-        column: 2,
-        offset: 3,
-    };
-    let fault = Err(LookFault::Read);
-    same(
-        rt,
-        &(
-            cursor.spot(),
-            cursor.pass_if_eq(b'c'),
-            cursor.pass_if_eq(b'c'),
-            cursor.spot(),
-        ),
-        &(spot, fault, fault, spot),
-        &"the fault",
-    );
-}
+/// Of a line of an a and one that begins with a b, behind which a read fails.
+const WANTED: [Ask; 9] = [
+    Ask::PassIf(b'b', Ok(false)),
+    Ask::PassIf(b'a', Ok(true)),
+    Ask::PassIf(b'a', Ok(false)),
+    Ask::PassIf(b'\n', Ok(true)),
+    Ask::PassIf(b'b', Ok(true)),
+    Ask::Spot(2, 2, 3),
+    Ask::PassIf(b'c', Err(LookFault::Read)),
+    Ask::PassIf(b'c', Err(LookFault::Read)),
+    Ask::Spot(2, 2, 3),
+];
 
 #[test]
 fn a_byte_is_passed_where_it_is_the_one_that_is_wanted(rt: HostRuntime) -> Result<(), Fail> {
     let mut calls = 0;
     let answers: [Option<&[u8]>; 4] = [Some(b"a\n"), Some(b"b"), None, Some(b"c")];
-    let mut source = FromRead::new(Scripted {
+    let reader = Scripted {
         answers: &answers,
         calls: &mut calls,
-    });
-    let mut cursor = Cursor::start(rt.alloc(), &mut source, 10)?;
-    judge_wanted(&rt, &mut cursor);
-    let _source = cursor.into_source();
-    drop(source);
+    };
+    judge_start(&rt, rt.alloc(), reader, 10, &WANTED)?;
     same(&rt, &calls, &3, &"the calls");
     Ok(())
 }
@@ -278,36 +281,30 @@ fn pulled<R: Source>(source: &mut R) -> ([Result<usize, Failed>; 4], [u8; 2]) {
     (counts, [room[0], room[1]])
 }
 
-#[test]
-fn a_reader_that_fails_once_is_not_asked_again(rt: HostRuntime) {
+/// Judges four pulls from a reader that gives an a and a b and is asked twice.
+fn judge_pulls(rt: &impl Abort, answers: &[Option<&[u8]>], wanted: [Result<usize, Failed>; 4]) {
     let mut calls = 0;
-    let answers = [Some(b"ab".as_slice()), None, Some(b"cd".as_slice())];
     let mut source = FromRead::new(Scripted {
-        answers: &answers,
+        answers,
         calls: &mut calls,
     });
     let found = pulled(&mut source);
     drop(source);
+    same(rt, &(found, calls), &((wanted, *b"ab"), 2), &"the pulls");
+}
+
+#[test]
+fn a_reader_that_fails_once_is_not_asked_again(rt: HostRuntime) {
+    let answers: [Option<&[u8]>; 3] = [Some(b"ab"), None, Some(b"cd")];
     let wanted = [Ok(2), Err(Failed), Err(Failed), Err(Failed)];
-    same(&rt, &(found, calls), &((wanted, *b"ab"), 2), &"the pulls");
+    judge_pulls(&rt, &answers, wanted);
 }
 
 #[test]
 fn a_reader_that_ends_once_is_not_asked_again(rt: HostRuntime) {
-    let mut calls = 0;
-    let answers = [
-        Some(b"ab".as_slice()),
-        Some(b"".as_slice()),
-        Some(b"cd".as_slice()),
-    ];
-    let mut source = FromRead::new(Scripted {
-        answers: &answers,
-        calls: &mut calls,
-    });
-    let found = pulled(&mut source);
-    drop(source);
+    let answers: [Option<&[u8]>; 3] = [Some(b"ab"), Some(b""), Some(b"cd")];
     let wanted = [Ok(2), Ok(0), Ok(0), Ok(0)];
-    same(&rt, &(found, calls), &((wanted, *b"ab"), 2), &"the pulls");
+    judge_pulls(&rt, &answers, wanted);
 }
 
 #[test]
@@ -338,91 +335,46 @@ fn first_other<R: Source>(cursor: &mut Cursor<'_, R>, text: &[u8]) -> Option<usi
     None
 }
 
-/// Judges a cursor over a text behind which a read fails.
-fn judge_failing<R: Source>(rt: &impl Abort, cursor: &mut Cursor<'_, R>, text: &[u8]) {
-    same(
-        rt,
-        &(first_other(cursor, text), cursor.seen()),
-        &(None, Seen::Going),
-        &"the bytes",
-    );
-    let fault = [Err(LookFault::Read), Err(LookFault::Read)];
-    same(rt, &next_twice(cursor), &fault, &text);
-    let is_err = cursor.window().is_err();
-    same(
-        rt,
-        &(is_err, cursor.seen(), cursor.taken()),
-        &(true, Seen::Broken, text.len() as u64),
-        &"the fault",
-    );
-}
-
 #[test]
 fn answers_a_failed_read_again(rt: HostRuntime) -> Result<(), Fail> {
     let text: &[u8] = b"12345";
     for n in 0..=text.len() {
-        let mut source = FromRead::new(text[..n].chain(Failing));
-        let mut cursor = Cursor::start(rt.alloc(), &mut source, 10)?;
-        judge_failing(&rt, &mut cursor, &text[..n]);
-        let _source = cursor.into_source();
+        let asks = [
+            Ask::PassAll(&text[..n]),
+            Ask::Seen(Seen::Going, n as u64),
+            Ask::Next(Err(LookFault::Read)),
+            Ask::Window(b"", Err(LookFault::Read)),
+            Ask::Seen(Seen::Broken, n as u64),
+        ];
+        judge_start(&rt, rt.alloc(), text[..n].chain(Failing), 10, &asks)?;
     }
     Ok(())
 }
 
-/// Judges a cursor of which the window fails behind an a and a b.
-fn judge_failed_window<R: Source>(rt: &impl Abort, cursor: &mut Cursor<'_, R>) {
-    same(
-        rt,
-        &has_window(cursor, b"ab"),
-        &Err(LookFault::Read),
-        &"the window",
-    );
-    same(
-        rt,
-        &(cursor.look(), cursor.held()),
-        &(Err(LookFault::Read), 2),
-        &"the look",
-    );
-    same(rt, &cursor.held_run(), &b"ab".as_slice(), &"the held bytes");
-}
+/// Of an a and a b, behind which a read fails.
+const FAILED_WINDOW: [Ask; 3] = [
+    Ask::Window(b"ab", Err(LookFault::Read)),
+    Ask::Look(Err(LookFault::Read)),
+    Ask::Held(b"ab"),
+];
 
 #[test]
 fn a_failed_window_fails_the_cursor(rt: HostRuntime) -> Result<(), Fail> {
     let text: &[u8] = b"ab";
-    let mut source = FromRead::new(text.chain(Failing));
-    let mut cursor = Cursor::start(rt.alloc(), &mut source, 10)?;
-    judge_failed_window(&rt, &mut cursor);
-    Ok(())
+    judge_start(&rt, rt.alloc(), text.chain(Failing), 10, &FAILED_WINDOW)
 }
 
-/// Judges a cursor with a limit of 1000 bytes over ones without an end.
-fn judge_limit<R: Source>(rt: &impl Abort, cursor: &mut Cursor<'_, R>) {
-    same(
-        rt,
-        &first_other(cursor, &[b'1'; 1_000]),
-        &None,
-        &"the bytes",
-    );
-    same(
-        rt,
-        &cursor.look(),
-        &Err(LookFault::DataTooLong),
-        &"the look",
-    );
-    same(
-        rt,
-        &(cursor.spot().offset, cursor.taken(), cursor.seen()),
-        &(1_000, 1_001, Seen::Going),
-        &"the limit",
-    );
-}
+/// Of ones without an end, and a limit of 1000.
+const LIMIT: [Ask; 4] = [
+    Ask::PassAll(&[b'1'; 1_000]),
+    Ask::Look(Err(LookFault::DataTooLong)),
+    Ask::Spot(1, 1_001, 1_000),
+    Ask::Seen(Seen::Going, 1_001),
+];
 
 #[test]
 fn a_limit_stops_data_that_never_end(rt: HostRuntime) -> Result<(), Fail> {
-    let mut source = FromRead::new(Endless);
-    let mut cursor = Cursor::start(rt.alloc(), &mut source, 1_000)?;
-    judge_limit(&rt, &mut cursor);
-    Ok(())
+    judge_start(&rt, rt.alloc(), Endless, 1_000, &LIMIT)
 }
 
 /// What is looked at next, and whether there is a window.

@@ -4,7 +4,7 @@ use super::{
     DIVISION_BY_ZERO, EXPONENT, OVERFLOW, Row, UNDEFINED, WRONG_TYPE, first_assignment, judged,
     numbers, same, store_of, value_told,
 };
-use ctd_syntax::{Assignment, Var, parse};
+use ctd_syntax::{Assignment, Expr, Var, parse};
 use ctd_value::{EvalFault, Key, Store, Value, count_of, eval, locate, number_of, text_of};
 use std::alloc::{AllocError, Global};
 use std::process::Abort;
@@ -124,44 +124,13 @@ fn first_faults(rt: HostRuntime) -> Result<(), Fail> {
     judged(&rt, rt.alloc(), &FIRST_FAULTS)
 }
 
-/// The value of the expression that a text assigns.
-fn value_in(alloc: Global, store: &Store, text: &str) -> Result<Value, Fail> {
-    let program = parse(alloc, text.as_bytes())?;
-    let a = first_assignment(&program)?;
-    Ok(value_told(eval(alloc, &a.value, store))??)
-}
-
-/// The value that a text assigns, where some variables are pinned.
-fn value_over(alloc: Global, pinned: &str, text: &str) -> Result<Value, Fail> {
-    let store = store_of(alloc, pinned)?;
-    value_in(alloc, &store, text)
-}
-
-#[test]
-fn a_number(rt: HostRuntime) -> Result<(), Fail> {
-    let found = value_over(rt.alloc(), "", "SET(x=7%-2)")?;
-    assert!(rt; matches!(&found, Value::Int(1)));
-    Ok(())
-}
-
-/// Whether a value is a string of these bytes.
-fn is_text(value: &Value, bytes: &[u8]) -> bool {
-    match value {
-        Value::Text(text) => text.as_slice() == bytes,
-        Value::Int(_) => false,
-    }
-}
-
-#[test]
-fn a_string_is_copied(rt: HostRuntime) -> Result<(), Fail> {
-    let found = value_over(rt.alloc(), "s=\"a,b\"", "SET(x=((s)))")?;
-    assert!(rt; is_text(&found, b"a,b"));
-    Ok(())
-}
-
 /// What holds of the assignment that a text is.
 #[derive(Clone, Copy)]
 enum Wanted {
+    /// The value of its expression is this number.
+    Int(i128),
+    /// The value of its expression is the string of these bytes.
+    Bytes(&'static [u8]),
     /// Its expression has this number, or none for this reason.
     Number(Result<i128, EvalFault>),
     /// Its expression has this string, or none for this reason.
@@ -174,6 +143,23 @@ enum Wanted {
     Mixed(&'static [u8], &'static [u8], i128),
     /// Its target has no key, since an index has no value for this reason.
     NoKey(EvalFault),
+}
+
+/// Whether a value is the one that is wanted.
+fn is_wanted(value: &Value, wanted: Wanted) -> bool {
+    match (value, wanted) {
+        (Value::Int(found), Wanted::Int(n)) => *found == n,
+        (Value::Text(found), Wanted::Bytes(bytes)) => found.as_slice() == bytes,
+        _ => false,
+    }
+}
+
+/// Whether what is wanted of the value of an expression holds.
+fn is_value(alloc: Global, e: &Expr, store: &Store, wanted: Wanted) -> Result<bool, AllocError> {
+    match value_told(eval(alloc, e, store))? {
+        Ok(value) => Ok(is_wanted(&value, wanted)),
+        Err(_fault) => Ok(false),
+    }
 }
 
 /// Whether a key has the name a and these numbers as its indices.
@@ -220,6 +206,7 @@ fn is_so(alloc: Global, a: &Assignment, store: &Store, wanted: Wanted) -> Result
         Wanted::Number(n) => value_told(number_of(alloc, &a.value, store))? == n,
         Wanted::Text(text) => value_told(text_of(alloc, &a.value, store))? == text,
         Wanted::Count(n) => value_told(count_of(alloc, &a.value, store))? == n,
+        Wanted::Int(_) | Wanted::Bytes(_) => is_value(alloc, &a.value, store, wanted)?,
         other => is_target(alloc, &a.target, store, other)?,
     })
 }
@@ -254,6 +241,20 @@ fn judge(
 ) -> Result<(), Fail> {
     let store = store_of(alloc, pinned)?;
     judge_in(rt, alloc, &store, rows)
+}
+
+const A_NUMBER: [(&str, Wanted); 1] = [("SET(x=7%-2)", Wanted::Int(1))];
+
+#[test]
+fn a_number(rt: HostRuntime) -> Result<(), Fail> {
+    judge(&rt, rt.alloc(), "", &A_NUMBER)
+}
+
+const A_STRING: [(&str, Wanted); 1] = [("SET(x=((s)))", Wanted::Bytes(b"a,b"))];
+
+#[test]
+fn a_string_is_copied(rt: HostRuntime) -> Result<(), Fail> {
+    judge(&rt, rt.alloc(), "s=\"a,b\"", &A_STRING)
 }
 
 /// Expressions that have to be numbers, with these, where s is a,b.
