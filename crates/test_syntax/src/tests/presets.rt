@@ -4,6 +4,7 @@ use super::answers::{judged, same, unfolded};
 use super::shown::Shown;
 use ctd_syntax::{Literal, PresetFault, Presets};
 use std::alloc::Global;
+use std::process::Abort;
 use std::test::Fail;
 
 /// Each preset with its number or the bytes of its string, blanks between them.
@@ -175,28 +176,28 @@ fn read_unfolded(alloc: Global, text: &str) -> Result<Presets, Fail> {
     Ok(Presets::read(alloc, text.as_str())?)
 }
 
-#[test]
-fn a_megabyte_of_presets(rt: HostRuntime) -> Result<(), Fail> {
-    let found = read_unfolded(rt.alloc(), "{174762 a1=\"\",}n=7")?;
-    same(
-        &rt,
-        &last_of(&found),
-        &(174_763, b"n".as_slice(), None),
-        &"the last",
-    );
+/// Judges the last preset of a text that is to be unfolded.
+fn judge_last(
+    rt: &impl Abort,
+    alloc: Global,
+    text: &str,
+    wanted: (usize, &[u8], Option<usize>),
+) -> Result<(), Fail> {
+    let found = read_unfolded(alloc, text)?;
+    same(rt, &last_of(&found), &wanted, &text);
     Ok(())
 }
 
 #[test]
+fn a_megabyte_of_presets(rt: HostRuntime) -> Result<(), Fail> {
+    let wanted = (174_763, b"n".as_slice(), None);
+    judge_last(&rt, rt.alloc(), "{174762 a1=\"\",}n=7", wanted)
+}
+
+#[test]
 fn a_string_of_a_megabyte(rt: HostRuntime) -> Result<(), Fail> {
-    let found = read_unfolded(rt.alloc(), "s=\"{1000000 ,}\"")?;
-    same(
-        &rt,
-        &last_of(&found),
-        &(1, b"s".as_slice(), Some(1_000_000)),
-        &"the last",
-    );
-    Ok(())
+    let wanted = (1, b"s".as_slice(), Some(1_000_000));
+    judge_last(&rt, rt.alloc(), "s=\"{1000000 ,}\"", wanted)
 }
 
 #[test]

@@ -124,18 +124,20 @@ fn next_shown(alloc: Global, lexer: &mut Lexer<'_>) -> Result<String, Fail> {
     shown.told()
 }
 
-#[test]
-fn a_lexer_stays_at_a_fault_and_at_the_end(rt: HostRuntime) -> Result<(), Fail> {
-    let alloc = rt.alloc();
-    let mut lexer = Lexer::new(b"a7 # b\n <= $ c")?;
-    for wanted in ["Name", "AtMost", "BadByte 2:5", "BadByte 2:5"] {
-        judged(&rt, next_shown(alloc, &mut lexer), wanted, &"a fault")?;
-    }
-    let mut lexer = Lexer::new(b"12 # b")?;
-    for wanted in ["12", "", ""] {
-        judged(&rt, next_shown(alloc, &mut lexer), wanted, &"the end")?;
+/// Judges what comes next each time in a text.
+fn judge_next(rt: &impl Abort, alloc: Global, text: &[u8], each: &[&str]) -> Result<(), Fail> {
+    let mut lexer = Lexer::new(text)?;
+    for wanted in each {
+        judged(rt, next_shown(alloc, &mut lexer), wanted, &text)?;
     }
     Ok(())
+}
+
+#[test]
+fn a_lexer_stays_at_a_fault_and_at_the_end(rt: HostRuntime) -> Result<(), Fail> {
+    let faults = ["Name", "AtMost", "BadByte 2:5", "BadByte 2:5"];
+    judge_next(&rt, rt.alloc(), b"a7 # b\n <= $ c", &faults)?;
+    judge_next(&rt, rt.alloc(), b"12 # b", &["12", "", ""])
 }
 
 #[test]
