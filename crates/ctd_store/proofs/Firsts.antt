@@ -57,7 +57,7 @@ decides a b = (tells_apart exact_lists a b, λ e. subst (λ x. same_values a x �
 pub pairs_apart : (array : Array) → HasEachOnce array → AllPairs (λ a b. a ≢ b) (index_lists array)
 pairs_apart array h = AllPairs-from_IsDistinct decides (index_lists array) h
 
-nothing_left_out : (k : List Value) (es : Array) → AllByRecursion (λ y. same_values k y ≡ false) (index_lists es) → without k es ≡ es
+pub nothing_left_out : (k : List Value) (es : Array) → AllByRecursion (λ y. same_values k y ≡ false) (index_lists es) → without k es ≡ es
 nothing_left_out k [] h = refl
 nothing_left_out k (e ∷ es) h = ap (λ b. cond (not b) (e ∷ without k es) (without k es)) h.0 ∙ ap (λ r. e ∷ r) (nothing_left_out k es h.1)
 
@@ -80,7 +80,7 @@ one_more k v x (Some w) false left rest is h = h
 one_more k v x None true left rest is h = ap (λ t. cond (not t) (x ∷ without k left) (without k left)) is ∙ h
 one_more k v x None false left rest is h = ap (λ t. cond (not t) (x ∷ without k left) (without k left)) is ∙ ap (λ r. x ∷ r) h
 
-among_one_more : (e : List Value × Value) (a b : Array) → without e.0 (not_among a b) ≡ not_among (e ∷ a) b
+pub among_one_more : (e : List Value × Value) (a b : Array) → without e.0 (not_among a b) ≡ not_among (e ∷ a) b
 among_one_more e a [] = refl
 among_one_more e a (x ∷ b) = one_more e.0 e.1 x (find values_cmp x.0 a) (same_values x.0 e.0) (not_among a b) (not_among (e ∷ a) b) (values_equiv.symm e.0 x.0) (among_one_more e a b)
 

@@ -12,3 +12,4 @@ pub mod Rows
 pub mod StoreLaws
 pub mod Telling
 pub mod Gridded
+pub mod AnyLaid

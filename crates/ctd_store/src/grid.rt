@@ -1,21 +1,21 @@
 //! Values at two numbers: rows of values, whose numbers follow one another.
 
 ghost use Rattle.std.specs.Prelude.{◌≡◌, ◌≢◌, ◌+◌, ◌<◌, ℕ, ℤ, ◌∷◌, ◌++◌, [], map, length, not, true, false, Some, None, Ok, IfOk, OnOk, OnErr};
-ghost use Rattle.std.specs.List.{IsDistinct, list_any};
+ghost use Rattle.std.specs.List.{list_any};
 ghost use Rattle.std.specs.Option.{option_copied, unwrap_or, IfSome, IfNone};
 ghost use Rattle.std.specs.FinMap.{find, put};
 ghost use Rattle.ctd_store.specs.Grid.{cells, grid, put_each};
 ghost use Rattle.ctd_store.specs.Lent.{value_lent};
-ghost use Rattle.ctd_store.specs.Order.{values_cmp, same_value, same_values};
+ghost use Rattle.ctd_store.specs.Order.{values_cmp, same_value};
 ghost use Rattle.ctd_store.specs.Showing.{entry, indices_of, not_among};
-ghost use Rattle.ctd_store.specs.Store.{cell, has_indices, index_lists};
+ghost use Rattle.ctd_store.specs.Store.{cell, has_indices};
 ghost use Rattle.ctd_store.specs.declared.value.Value.TheVariants as values;
 
 use crate::lent::Lent;
 use crate::row_and_map::{RowAndMap, clear_list, place_below, write, write_in_room};
 use crate::store::{EntryRef, Indices};
 use crate::value::Value;
-use crate::variables::{Array, has_indices, with_entry};
+use crate::variables::{Array, add_entry, has_indices};
 use std::alloc::{AllocError, Global};
 use std::marker::Model;
 
@@ -164,15 +164,14 @@ impl Grid {
     pub(crate) fn add_entries<'s>(
         &'s self,
         hidden: Option<&Array>,
-        mut entries: Vec<EntryRef<'s>>,
-    ) -> Result<Vec<EntryRef<'s>>, AllocError>
-        ensures added { IfOk result (λ list. map entry list.items ≡ map entry entries.entry.items ++ not_among (unwrap_or (option_copied hidden.entry) []) self.now) }
-        ensures once { IfOk result (λ _. IsDistinct same_values (index_lists self.now)) }
+        entries: &mut Vec<EntryRef<'s>>,
+    ) -> Result<(), AllocError>
+        ensures added { OnOk result (map entry entries.new.items ≡ map entry entries.old.items ++ not_among (unwrap_or (option_copied hidden.entry) []) self.now) }
     {
         for at in 0..self.rows.len() {
-            entries = add_row_entries(hidden, self.base, at, &self.rows[at], entries)?;
+            add_row_entries(hidden, self.base, at, &self.rows[at], entries)?;
         }
-        Ok(entries)
+        Ok(())
     }
 
     /// Whether a value is among those at whose index lists the hidden array, if there is one, has none. Allocates nothing.
@@ -255,12 +254,26 @@ fn spread_row(
     ensures added { OnOk result (spread.new ≡ put_each (cells (base + at) row.now.base row.now.values.items) spread.old) }
 {
     for column in 0..row.values.len() {
-        let mut indices = Vec::with_capacity(alloc, 2)?;
-        indices.push(Value::Int(base as i128 + at as i128))?;
-        indices.push(Value::Int(row.base as i128 + column as i128))?;
+        let indices = cell_list(alloc, base, at, row.base, column)?;
         spread.insert(indices, row.values[column].copy(alloc)?)?;
     }
     Ok(())
+}
+
+/// The index list of the row and the column at places from two bases on, in memory of its own.
+fn cell_list(
+    alloc: Global,
+    base: usize,
+    at: usize,
+    first: usize,
+    column: usize,
+) -> Result<Vec<Value>, AllocError>
+    ensures value { IfOk result (λ list. list.items ≡ cell (base + at) (first + column)) }
+{
+    let mut indices = Vec::with_capacity(alloc, 2)?;
+    indices.push_reserved(Value::Int(base as i128 + at as i128));
+    indices.push_reserved(Value::Int(first as i128 + column as i128));
+    Ok(indices)
 }
 
 /// Adds the entries of the row at a place from a base on to others, but for those that the hidden array, if there is one, hides.
@@ -269,15 +282,15 @@ fn add_row_entries<'s>(
     base: usize,
     at: usize,
     row: &'s GridRow,
-    mut entries: Vec<EntryRef<'s>>,
-) -> Result<Vec<EntryRef<'s>>, AllocError>
-    ensures added { IfOk result (λ list. map entry list.items ≡ map entry entries.entry.items ++ not_among (unwrap_or (option_copied hidden.entry) []) (cells (base + at) row.now.base row.now.values.items)) }
+    entries: &mut Vec<EntryRef<'s>>,
+) -> Result<(), AllocError>
+    ensures added { OnOk result (map entry entries.new.items ≡ map entry entries.old.items ++ not_among (unwrap_or (option_copied hidden.entry) []) (cells (base + at) row.now.base row.now.values.items)) }
 {
     for column in 0..row.values.len() {
         let indices = cell_indices(base, at, row.base, column);
-        entries = with_entry(hidden, indices, &row.values[column], entries)?;
+        add_entry(hidden, indices, &row.values[column], entries)?;
     }
-    Ok(entries)
+    Ok(())
 }
 
 /// Whether a value is among those of the row at a place from a base on that the hidden array, if there is one, does not hide.

@@ -1,13 +1,13 @@
 //! Index lists with their values: a grid where the indices are two numbers, and else a row and a map.
 
 ghost use Rattle.std.specs.Prelude.{◌≡◌, ◌++◌, [], map, Some, None, Ok, IfOk, OnOk, OnErr};
-ghost use Rattle.std.specs.List.{IsDistinct, list_any};
+ghost use Rattle.std.specs.List.{list_any};
 ghost use Rattle.std.specs.Option.{option_copied, unwrap_or, IfSome, IfNone};
 ghost use Rattle.std.specs.FinMap.{find, put};
 ghost use Rattle.ctd_store.specs.Lent.{value_lent};
-ghost use Rattle.ctd_store.specs.Order.{values_cmp, same_value, same_values};
+ghost use Rattle.ctd_store.specs.Order.{values_cmp, same_value};
 ghost use Rattle.ctd_store.specs.Showing.{entry, not_among};
-ghost use Rattle.ctd_store.specs.Store.{cell, index_lists, laid, slot};
+ghost use Rattle.ctd_store.specs.Store.{cell, laid, slot};
 
 use crate::grid::Grid;
 use crate::lent::Lent;
@@ -200,10 +200,9 @@ impl Indexed {
     pub(crate) fn add_entries<'s>(
         &'s self,
         hidden: Option<&Array>,
-        entries: Vec<EntryRef<'s>>,
-    ) -> Result<Vec<EntryRef<'s>>, AllocError>
-        ensures added { IfOk result (λ list. map entry list.items ≡ map entry entries.entry.items ++ not_among (unwrap_or (option_copied hidden.entry) []) self.now) }
-        ensures once { IfOk result (λ _. IsDistinct same_values (index_lists self.now)) }
+        entries: &mut Vec<EntryRef<'s>>,
+    ) -> Result<(), AllocError>
+        ensures added { OnOk result (map entry entries.new.items ≡ map entry entries.old.items ++ not_among (unwrap_or (option_copied hidden.entry) []) self.now) }
     {
         match &self.form {
             Form::Plain(plain) => plain.add_entries(hidden, entries),

@@ -1,18 +1,19 @@
 //! Index lists with their values: a row of values for the numbers from 0 or 1 on, and an ordered map for all others.
 
 ghost use Rattle.std.specs.Prelude.{◌≡◌, ◌≢◌, ℕ, suc, pos, ◌+◌, ◌<◌, ◌≤◌, length, take, drop, [], ◌∷◌, ◌++◌, map, not, ◌&&◌, true, false, Some, IfOk, IsTrue, OnOk, OnErr, vec_len, vec_capacity};
-ghost use Rattle.std.specs.List.{IsDistinct, list_any};
+ghost use Rattle.std.specs.List.{list_any};
 ghost use Rattle.std.specs.Option.{option_copied, unwrap_or, IfSome, IfNone};
 ghost use Rattle.std.specs.FinMap.{find, put};
+ghost use Rattle.std.specs.declared.cmp.Ordering.TheVariants.{Less};
 ghost use Rattle.ctd_store.specs.Lent.{value_lent};
-ghost use Rattle.ctd_store.specs.Order.{values_cmp, same_value, same_values};
+ghost use Rattle.ctd_store.specs.Order.{values_cmp, same_value};
 ghost use Rattle.ctd_store.specs.Showing.{entry, indices_of, not_among};
-ghost use Rattle.ctd_store.specs.Store.{has_indices, index_lists, laid, slot, order_of_slot};
+ghost use Rattle.ctd_store.specs.Store.{Array as Entries, has_indices, laid, slot, order_of_slot};
 
 use crate::lent::Lent;
 use crate::store::{EntryRef, Indices};
 use crate::value::Value;
-use crate::variables::{Array, has_indices, with_entry};
+use crate::variables::{Array, add_entry, has_indices};
 use std::alloc::{AllocError, Global};
 use std::cmp::Ordering;
 use std::collections::BTreeMap;
@@ -158,72 +159,109 @@ impl RowAndMap {
     pub(crate) fn add_entries<'s>(
         &'s self,
         hidden: Option<&Array>,
-        mut entries: Vec<EntryRef<'s>>,
-    ) -> Result<Vec<EntryRef<'s>>, AllocError>
-        ensures added { IfOk result (λ list. map entry list.items ≡ map entry entries.entry.items ++ not_among (unwrap_or (option_copied hidden.entry) []) self.now) }
-        ensures once { IfOk result (λ _. IsDistinct same_values (index_lists self.now)) }
+        entries: &mut Vec<EntryRef<'s>>,
+    ) -> Result<(), AllocError>
+        ensures added { OnOk result (map entry entries.new.items ≡ map entry entries.old.items ++ not_among (unwrap_or (option_copied hidden.entry) []) self.now) }
     {
+        let row = Row {
+            base: self.base,
+            values: &self.dense,
+        };
         let mut next = 0;
         for (indices, value) in &self.rest {
-            let indices = indices.as_slice();
-            while order_of_slot(self.base, next, self.dense.len(), indices).is_lt() {
-                entries = with_entry(
-                    hidden,
-                    slot_indices(self.base, next),
-                    &self.dense[next],
-                    entries,
-                )?;
-                next += 1;
-            }
-            if order_of_slot(self.base, next, self.dense.len(), indices).is_eq() {
-                entries = with_entry(hidden, Indices::Listed(indices), &self.dense[next], entries)?;
-                next += 1;
-            } else {
-                entries = with_entry(hidden, Indices::Listed(indices), value, entries)?;
-            }
+            next = add_through(hidden, row, next, indices, value, entries)?;
         }
-        while next < self.dense.len() {
-            entries = with_entry(
-                hidden,
-                slot_indices(self.base, next),
-                &self.dense[next],
-                entries,
-            )?;
-            next += 1;
-        }
-        Ok(entries)
+        add_slots(hidden, row, next, row.values.len(), entries)
     }
 
     /// Whether a value is among those at whose index lists the hidden array, if there is one, has none. Allocates nothing.
     pub(crate) fn has_value(&self, hidden: Option<&Array>, value: Lent<'_>) -> bool
         ensures value { result ≡ list_any (λ e. same_value (value_lent value.entry) e.1) (not_among (unwrap_or (option_copied hidden.entry) []) self.now) }
     {
-        let mut next = 0;
+        if slots_have_value(hidden, self.base, &self.dense, value) {
+            return true;
+        }
         for (indices, stored) in &self.rest {
             let indices = indices.as_slice();
-            while order_of_slot(self.base, next, self.dense.len(), indices).is_lt() {
-                if shows_at(hidden, self.base, next, &self.dense[next], value) {
-                    return true;
-                }
-                next += 1;
-            }
-            if order_of_slot(self.base, next, self.dense.len(), indices).is_eq() {
-                if shows(hidden, indices, &self.dense[next], value) {
-                    return true;
-                }
-                next += 1;
-            } else if shows(hidden, indices, stored, value) {
+            if shows(hidden, indices, stored, value)
+                && slot_below(self.base, self.dense.len(), indices).is_none()
+            {
                 return true;
             }
-        }
-        while next < self.dense.len() {
-            if shows_at(hidden, self.base, next, &self.dense[next], value) {
-                return true;
-            }
-            next += 1;
         }
         false
     }
+}
+
+/// Adds the entries of a row from a place on that come before an entry of the map, and then that entry, with the value of the row
+/// where the row has its index list; but for those at whose index lists the hidden array, if there is one, has a value. Gives the
+/// place behind them.
+fn add_through<'s>(
+    hidden: Option<&Array>,
+    row: Row<'s>,
+    from: usize,
+    indices: &'s [Value],
+    value: &'s Value,
+    entries: &mut Vec<EntryRef<'s>>,
+) -> Result<usize, AllocError>
+    requires { from ≤ length row.values.now }
+    ensures within { IfOk result (λ next. next ≤ length row.entry.values.now) }
+    ensures added { IfOk result (λ next. (later : Entries) → map entry entries.new.items ++ not_among (unwrap_or (option_copied hidden.entry) []) (laid (row.entry.base + next) (drop next row.entry.values.now) later) ≡ map entry entries.old.items ++ not_among (unwrap_or (option_copied hidden.entry) []) (laid (row.entry.base + from) (drop from row.entry.values.now) ((indices.now, value.now) ∷ later))) }
+{
+    let count = row.values.len();
+    let at = first_not_before(row.base, from, count, indices);
+    add_slots(hidden, row, from, at, entries)?;
+    if order_of_slot(row.base, at, count, indices).is_eq() {
+        add_entry(hidden, Indices::Listed(indices), &row.values[at], entries)?;
+        Ok(at + 1)
+    } else {
+        add_entry(hidden, Indices::Listed(indices), value, entries)?;
+        Ok(at)
+    }
+}
+
+/// Adds the entries of a row from a place to another, but for those that the hidden array, if there is one, hides.
+#[inline(always)]
+fn add_slots<'s>(
+    hidden: Option<&Array>,
+    row: Row<'s>,
+    from: usize,
+    to: usize,
+    entries: &mut Vec<EntryRef<'s>>,
+) -> Result<(), AllocError>
+    requires { to ≤ length row.values.now }
+    ensures added { OnOk result (map entry entries.new.items ≡ map entry entries.old.items ++ not_among (unwrap_or (option_copied hidden.entry) []) (laid (row.entry.base + from) (drop from (take to row.entry.values.now)) [])) }
+{
+    for at in from..to {
+        add_entry(hidden, slot_indices(row.base, at), &row.values[at], entries)?;
+    }
+    Ok(())
+}
+
+/// The first place from one on, from a base on, whose index list is not before an index list; past the last place none is.
+fn first_not_before(base: usize, from: usize, count: usize, indices: &[Value]) -> usize
+    requires { from ≤ count }
+    ensures within { (from ≤ result) × (result ≤ count) }
+    ensures before { (at : ℕ) → from ≤ at → at < result → order_of_slot base at count indices.now ≡ Less }
+    ensures not_before { order_of_slot base result count indices.now ≢ Less }
+{
+    let mut at = from;
+    while order_of_slot(base, at, count, indices).is_lt() {
+        at += 1;
+    }
+    at
+}
+
+/// Whether a value is among those of a row at whose numbers the hidden array, if there is one, has none.
+fn slots_have_value(hidden: Option<&Array>, base: usize, values: &[Value], value: Lent<'_>) -> bool
+    ensures value { result ≡ list_any (λ e. same_value (value_lent value.entry) e.1) (not_among (unwrap_or (option_copied hidden.entry) []) (laid base values.now [])) }
+{
+    for at in 0..values.len() {
+        if shows_at(hidden, base, at, &values[at], value) {
+            return true;
+        }
+    }
+    false
 }
 
 /// Whether a value is the one at a place from a base on, and the hidden array, if there is one, has none there.

@@ -287,9 +287,11 @@ impl Store {
     pub fn entries_of(&self, alloc: Global, name: &Name) -> Result<Vec<EntryRef<'_>>, AllocError>
         ensures value { IfOk result (λ list. map entry list.items ≡ values_of self.now name.now) }
     {
-        let pinned = self.pins.add_entries(name, None, Vec::new(alloc))?;
+        let mut entries = Vec::new(alloc);
+        self.pins.add_entries(name, None, &mut entries)?;
         self.assigned
-            .add_entries(name, self.pins.array(name), pinned)
+            .add_entries(name, self.pins.array(name), &mut entries)?;
+        Ok(entries)
     }
 }
 

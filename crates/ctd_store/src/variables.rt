@@ -28,6 +28,25 @@ struct NamedArray {
     array: Array,
 }
 
+impl NamedArray {
+    /// A name with the array that has this one value, or an error where no memory is left for it.
+    fn of_one(
+        alloc: Global,
+        name: &Name,
+        indices: Vec<Value>,
+        value: Value,
+    ) -> Result<NamedArray, AllocError>
+        ensures name { IfOk result (λ named. named.name ≡ name.now) }
+        ensures entries { IfOk result (λ named. named.array ≡ (indices.items, value) ∷ []) }
+    {
+        let copied = Name::copy(alloc, name.as_slice())?;
+        Ok(NamedArray {
+            name: KnownName::new(copied),
+            array: Array::of_one(indices, value)?,
+        })
+    }
+}
+
 /// Names with their arrays, each name once, which contracts see as the list of them in the order of the names, without those
 /// that have no entries.
 #[derive(Drop)]
@@ -205,14 +224,14 @@ impl Variables {
         &'s self,
         name: &Name,
         hidden: Option<&Array>,
-        entries: Vec<EntryRef<'s>>,
-    ) -> Result<Vec<EntryRef<'s>>, AllocError>
-        ensures added { IfOk result (λ list. map entry list.items ≡ map entry entries.entry.items ++ not_among (unwrap_or (option_copied hidden.entry) []) (array_of name.now self.now)) }
-        ensures once { IfOk result (λ _. IsDistinct same_values (index_lists (array_of name.now self.now))) }
+        entries: &mut Vec<EntryRef<'s>>,
+    ) -> Result<(), AllocError>
+        ensures added { OnOk result (map entry entries.new.items ≡ map entry entries.old.items ++ not_among (unwrap_or (option_copied hidden.entry) []) (array_of name.now self.now)) }
+        ensures once { IsDistinct same_values (index_lists (array_of name.now self.now)) }
     {
         match self.array(name) {
             Some(array) => array.add_entries(hidden, entries),
-            None => Ok(entries),
+            None => Ok(()),
         }
     }
 }
@@ -296,13 +315,9 @@ fn add_name(
     // A store keeps no allocator, so the indices tell where memory comes from.
     let alloc = *indices.allocator();
     list.reserve(1)?;
-    let copied = Name::copy(alloc, name.as_slice())?;
-    let array = Array::of_one(indices, value)?;
+    let named = NamedArray::of_one(alloc, name, indices, value)?;
     positions.insert(alloc, name, list.len())?;
-    list.push_reserved(NamedArray {
-        name: KnownName::new(copied),
-        array,
-    });
+    list.push_reserved(named);
     Ok(())
 }
 
@@ -466,15 +481,15 @@ impl Array {
     pub(crate) fn add_entries<'s>(
         &'s self,
         hidden: Option<&Array>,
-        entries: Vec<EntryRef<'s>>,
-    ) -> Result<Vec<EntryRef<'s>>, AllocError>
-        ensures added { IfOk result (λ list. map entry list.items ≡ map entry entries.entry.items ++ not_among (unwrap_or (option_copied hidden.entry) []) self.now) }
-        ensures once { IfOk result (λ _. IsDistinct same_values (index_lists self.now)) }
+        entries: &mut Vec<EntryRef<'s>>,
+    ) -> Result<(), AllocError>
+        ensures added { OnOk result (map entry entries.new.items ≡ map entry entries.old.items ++ not_among (unwrap_or (option_copied hidden.entry) []) self.now) }
+        ensures once { IsDistinct same_values (index_lists self.now) }
     {
         match &self.alone {
             Some(value) => {
-                let more = with_entry(hidden, Indices::Listed(&[]), value, entries)?;
-                self.indexed.add_entries(hidden, more)
+                add_entry(hidden, Indices::Listed(&[]), value, entries)?;
+                self.indexed.add_entries(hidden, entries)
             }
             None => self.indexed.add_entries(hidden, entries),
         }
@@ -516,19 +531,19 @@ fn set_alone(alone: &mut Option<Value>, value: Value)
     drop(replace(alone, Some(value)));
 }
 
-/// The entries, with one more where the hidden array, if there is one, has no value at its index list.
-pub(crate) fn with_entry<'s>(
+/// Adds an entry to others where the hidden array, if there is one, has no value at its index list.
+pub(crate) fn add_entry<'s>(
     hidden: Option<&Array>,
     indices: Indices<'s>,
     value: &'s Value,
-    mut entries: Vec<EntryRef<'s>>,
-) -> Result<Vec<EntryRef<'s>>, AllocError>
-    ensures added { IfOk result (λ list. map entry list.items ≡ map entry entries.entry.items ++ not_among (unwrap_or (option_copied hidden.entry) []) ((indices_of indices.entry, value.now) ∷ [])) }
+    entries: &mut Vec<EntryRef<'s>>,
+) -> Result<(), AllocError>
+    ensures added { OnOk result (map entry entries.new.items ≡ map entry entries.old.items ++ not_among (unwrap_or (option_copied hidden.entry) []) ((indices_of indices.entry, value.now) ∷ [])) }
 {
     if !has_indices(hidden, indices.as_slice()) {
         entries.push(EntryRef { indices, value })?;
     }
-    Ok(entries)
+    Ok(())
 }
 
 /// Whether an array, if there is one, has a value at an index list.
