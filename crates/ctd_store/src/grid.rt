@@ -109,11 +109,11 @@ impl Grid {
             add_row(alloc, &mut self.rows, column, value)?;
             return Ok(None);
         }
-        let first = self.rows[at].base;
-        if column < first || column - first > self.rows[at].values.len() {
+        let row = &mut self.rows[at];
+        if column < row.base || column - row.base > row.values.len() {
             return Ok(Some(value));
         }
-        write(&mut self.rows[at].values, column - first, value)?;
+        write(&mut row.values, column - row.base, value)?;
         Ok(None)
     }
 
@@ -135,11 +135,11 @@ impl Grid {
         if at >= self.rows.len() {
             return Some(value);
         }
-        let first = self.rows[at].base;
-        if column < first {
+        let row = &mut self.rows[at];
+        if column < row.base {
             return Some(value);
         }
-        write_in_room(&mut self.rows[at].values, column - first, value)
+        write_in_room(&mut row.values, column - row.base, value)
     }
 
     /// Removes all values; few rows keep their room for the next ones.
