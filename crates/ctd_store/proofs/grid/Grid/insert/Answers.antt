@@ -1,6 +1,7 @@
-use Rattle.std.proofs.Common.{◌≡◌, ◌∙◌, ◌+◌, ◌<◌, ◌≤◌, length, Result, Ok, Err, OnErr, refl, arith}
+use Rattle.std.proofs.Common.{◌≡◌, ap, ◌∙◌, ◌+◌, ◌<◌, ◌≤◌, length, Result, Ok, Err, OnErr, refl, arith}
 use Rattle.std.specs.Prelude.{◌-◌}
 use Rattle.std.specs.FinMap.{put}
+use Rattle.ctd_store.specs.Grid.{grid}
 use Rattle.ctd_store.specs.Order.{values_cmp}
 use Rattle.ctd_store.specs.Store.{cell}
 use Rattle.ctd_store.proofs.Gridded.{begun, unchanged_in_grid, written_in_grid}
@@ -30,3 +31,19 @@ returns-clause-done c _ =
     written_in_grid c.base_for-self-inside.result at place items old (record { base = old.base; values = c.write.new.values }) c.args.value
     in_range c.index_mut-row.ensures.value refl within c.in_ok-write.ensures.ok
     ∙ (λ k. put values_cmp (cell (row k) (column k)) c.args.value ((begun c.self.inside.base c.base_for-self-inside.result items (λ filled. c.base_for-self-inside.ensures.kept (omega (arith, filled, c.len.ensures))) ∙ c.self.view_is) k))
+
+pub returns-in_err-add_row-clause-err : goal.returns-in_err-add_row-clause-err
+returns-in_err-add_row-clause-err c =
+    always c.from_residual.result (ap (grid c.base_for-self-inside.result) c.in_err-add_row.ensures.err
+    ∙ begun c.self.inside.base c.base_for-self-inside.result c.self.inside.rows.items (λ filled. c.base_for-self-inside.ensures.kept (omega (arith, filled, c.len.ensures)))
+    ∙ c.self.view_is)
+
+pub returns-then-at-len-2-clause-done : goal.returns-then-at-len-2-clause-done
+returns-then-at-len-2-clause-done c _ =
+    let items = c.self.inside.rows.items in
+    let row : c.base_for-self-inside.result + length items ≡ c.args.row = omega (arith, c.if-row-self.false, c.if-at-len-2.true, c.len-3.ensures) in
+    c.in_ok-add_row.ensures.ok c.base_for-self-inside.result
+    ∙ (λ k. put values_cmp (cell (row k) c.args.column) c.args.value ((begun c.self.inside.base c.base_for-self-inside.result items (λ filled. c.base_for-self-inside.ensures.kept (omega (arith, filled, c.len.ensures))) ∙ c.self.view_is) k))
+
+pub write-requires : goal.write-requires
+write-requires c = omega (arith, c.if-column-row.false, c.if-column-row-2.false, c.len-else-column-row.ensures)
