@@ -1,3 +1,4 @@
+use Rattle.std.proofs.lemmas.Grind.{common_steps}
 use Rattle.std.proofs.Common.{◌≡◌, ◌-◌, arith, take, drop, length, length-drop, rules}
 use Rattle.std.proofs.lemmas.List.{take_all}
 use Rattle.ctd_tool.proofs.TakenLemmas.{appends-next}
@@ -19,3 +20,6 @@ loop-done-preserved g c =
 
 pub returns-clause-failed : goal.returns-clause-failed
 returns-clause-failed g c = search rules
+
+pub returns-clause-ok : goal.returns-clause-ok
+returns-clause-ok c = grind (arith, common_steps)
