@@ -491,7 +491,7 @@ pub(crate) fn commands<'t>(
         items.push(next)?;
         rest = after;
     }
-    // A list of five would keep room for eight.
+    // One command would keep room for four, and five for eight.
     items.shrink_to_fit();
     Ok((Commands::from_vec(items), rest))
 }
