@@ -10,7 +10,15 @@ pub(crate) enum Refusal {
     Fails,
     /// It takes no bytes.
     TakesNone,
+    /// It answers an error, and each flush of it too.
+    NeverFlushed,
 }
+
+/// How many bytes a writer takes in all, and how it refuses what is more.
+pub(crate) type Room = (usize, Refusal);
+
+/// Room for each text of these tests.
+pub(crate) const AMPLE: Room = (1000, Refusal::Fails);
 
 /// Takes at most three bytes at a time and `room` of them in all, and refuses what is more.
 #[derive(Drop)]
@@ -18,25 +26,15 @@ pub(crate) struct Clipped {
     pub(crate) bytes: Vec<u8>,
     pub(crate) room: usize,
     pub(crate) refusal: Refusal,
-    pub(crate) flush_fails: bool,
 }
 
 impl Clipped {
-    /// A writer whose flush works.
-    pub(crate) fn new(alloc: Global, room: usize, refusal: Refusal) -> Clipped {
+    /// A writer that has taken nothing.
+    pub(crate) fn new(alloc: Global, room: Room) -> Clipped {
         Clipped {
             bytes: Vec::new(alloc),
-            room,
-            refusal,
-            flush_fails: false,
-        }
-    }
-
-    /// A writer whose flush fails.
-    pub(crate) fn never_flushed(alloc: Global, room: usize) -> Clipped {
-        Clipped {
-            flush_fails: true,
-            ..Clipped::new(alloc, room, Refusal::Fails)
+            room: room.0,
+            refusal: room.1,
         }
     }
 }
@@ -44,7 +42,7 @@ impl Clipped {
 impl Write for Clipped {
     fn write(&mut self, buf: &[u8]) -> Result<usize> {
         let count = self.room.min(buf.len()).min(3);
-        if count == 0 && self.refusal == Refusal::Fails {
+        if count == 0 && self.refusal != Refusal::TakesNone {
             return Err(Error::from(ErrorKind::Other));
         }
         self.bytes.extend_from_slice(&buf[..count])?;
@@ -53,7 +51,7 @@ impl Write for Clipped {
     }
 
     fn flush(&mut self) -> Result<()> {
-        if self.flush_fails {
+        if self.refusal == Refusal::NeverFlushed {
             return Err(Error::from(ErrorKind::Other));
         }
         Ok(())

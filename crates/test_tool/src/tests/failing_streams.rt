@@ -1,44 +1,36 @@
 //! Streams that fail within a report.
 
-use crate::tests::clipped::{Clipped, Refusal};
+use crate::tests::clipped::{AMPLE, Clipped, Refusal, Room};
 use crate::tests::same;
-use crate::tests::written::Written;
+use crate::tests::written::{Report, Written};
 use ctd_check::{LoadFault, LoadKind, Outcome, Place, Reason, Site, Spot};
-use ctd_tool::{ToWrite, ToolFault, UsageFault, report_usage, write_load_fault, write_outcome};
+use ctd_tool::{ToWrite, ToolFault, UsageFault};
 use std::alloc::Global;
 
-const REFUSED: &str = "line 1 column 2: expected a newline (program line 1 column 11)\n";
+/// The outcome whose line is `REFUSED_LINE`.
+const REFUSED: Outcome = Outcome::Rejected {
+    spot: Spot {
+        line: 1,
+        column: 2,
+        offset: 1,
+    },
+    place: Site::At(Place {
+        line: 1,
+        column: 11,
+    }),
+    reason: Reason::ExpectedNewline,
+};
+
+const REFUSED_LINE: &str = "line 1 column 2: expected a newline (program line 1 column 11)\n";
 
 const BAD_ARGUMENTS: &str = "checktestdata: bad arguments\nTry 'checktestdata --help'.\n";
 
-/// The outcome whose line is `REFUSED`.
-fn refused() -> Outcome {
-    Outcome::Rejected {
-        spot: Spot {
-            line: 1,
-            column: 2,
-            offset: 1,
-        },
-        place: Site::At(Place {
-            line: 1,
-            column: 11,
-        }),
-        reason: Reason::ExpectedNewline,
-    }
-}
-
-/// What is written of an outcome to two writers.
-fn outcome_written(
-    alloc: Global,
-    outcome: &Outcome,
-    quiet: bool,
-    mut out: Clipped,
-    mut err: Clipped,
-) -> Written {
-    let answer = write_outcome(
+/// What is written of a report to writers of this room.
+fn written(alloc: Global, report: Report, out: Room, err: Room) -> Written {
+    let mut out = Clipped::new(alloc, out);
+    let mut err = Clipped::new(alloc, err);
+    let answer = report.write(
         alloc,
-        outcome,
-        quiet,
         &mut ToWrite::new(&mut out),
         &mut ToWrite::new(&mut err),
     );
@@ -49,110 +41,65 @@ fn outcome_written(
     }
 }
 
-/// What is written of bad arguments to two writers.
-fn bad_arguments_written(mut out: Clipped, mut err: Clipped) -> Written {
-    let answer = report_usage(
-        &UsageFault::Words,
-        &mut ToWrite::new(&mut out),
-        &mut ToWrite::new(&mut err),
-    );
-    Written {
-        answer,
-        out: out.bytes,
-        err: err.bytes,
-    }
+/// Whether what is written of the outcome to writers of this room stops behind these bytes.
+fn is_verdict_cut(alloc: Global, out: Room, err: Room, taken: &[u8]) -> bool {
+    let written = written(alloc, Report::Outcome(REFUSED), out, err);
+    written.is_cut(ToolFault::Write, taken, b"")
+}
+
+/// Whether what is written of bad arguments to writers of this room stops behind these bytes.
+fn are_words_cut(alloc: Global, out: Room, err: Room, taken: &[u8]) -> bool {
+    let written = written(alloc, Report::Usage(UsageFault::Words), out, err);
+    written.is_cut(ToolFault::Write, b"", taken)
 }
 
 #[test]
 fn a_verdict_stops_where_the_stream_fails(rt: HostRuntime) {
-    let alloc = rt.alloc();
     for refusal in [Refusal::Fails, Refusal::TakesNone] {
-        for room in 0..REFUSED.len() {
-            let out = Clipped::new(alloc, room, refusal);
-            let err = Clipped::new(alloc, 1000, refusal);
-            let written = outcome_written(alloc, &refused(), false, out, err);
-            let taken = &REFUSED.as_bytes()[..room];
-            same(
-                &rt,
-                &written.is_cut(ToolFault::Write, taken, b""),
-                &true,
-                &(refusal, room),
-            );
+        for room in 0..REFUSED_LINE.len() {
+            let taken = &REFUSED_LINE.as_bytes()[..room];
+            let is = is_verdict_cut(rt.alloc(), (room, refusal), (1000, refusal), taken);
+            same(&rt, &is, &true, &(refusal, room));
         }
     }
 }
 
 #[test]
 fn a_fault_of_the_words_stops_where_the_stream_fails(rt: HostRuntime) {
-    let alloc = rt.alloc();
     for refusal in [Refusal::Fails, Refusal::TakesNone] {
         for room in 0..BAD_ARGUMENTS.len() {
-            let out = Clipped::new(alloc, 1000, refusal);
-            let err = Clipped::new(alloc, room, refusal);
-            let written = bad_arguments_written(out, err);
             let taken = &BAD_ARGUMENTS.as_bytes()[..room];
-            same(
-                &rt,
-                &written.is_cut(ToolFault::Write, b"", taken),
-                &true,
-                &(refusal, room),
-            );
+            let is = are_words_cut(rt.alloc(), (1000, refusal), (room, refusal), taken);
+            same(&rt, &is, &true, &(refusal, room));
         }
     }
 }
 
 #[test]
 fn a_failed_flush_is_no_success(rt: HostRuntime) {
-    let alloc = rt.alloc();
-    let (out, err) = (
-        Clipped::never_flushed(alloc, 1000),
-        Clipped::never_flushed(alloc, 1000),
-    );
-    let written = outcome_written(alloc, &refused(), false, out, err);
-    assert!(rt; written.is_cut(ToolFault::Write, REFUSED.as_bytes(), b""));
-    let (out, err) = (
-        Clipped::never_flushed(alloc, 1000),
-        Clipped::never_flushed(alloc, 1000),
-    );
-    let written = bad_arguments_written(out, err);
-    assert!(rt; written.is_cut(ToolFault::Write, b"", BAD_ARGUMENTS.as_bytes()));
+    let unflushed = (1000, Refusal::NeverFlushed);
+    let is = is_verdict_cut(rt.alloc(), unflushed, unflushed, REFUSED_LINE.as_bytes());
+    same(&rt, &is, &true, &REFUSED_LINE);
+    let is = are_words_cut(rt.alloc(), unflushed, unflushed, BAD_ARGUMENTS.as_bytes());
+    same(&rt, &is, &true, &BAD_ARGUMENTS);
 }
 
 #[test]
 fn a_quiet_verdict_touches_no_stream(rt: HostRuntime) {
-    let alloc = rt.alloc();
-    for (outcome, status) in [(Outcome::Accepted, 0), (refused(), 1)] {
-        let (out, err) = (
-            Clipped::never_flushed(alloc, 0),
-            Clipped::never_flushed(alloc, 0),
-        );
-        let written = outcome_written(alloc, &outcome, true, out, err);
+    let none = (0, Refusal::NeverFlushed);
+    for (outcome, status) in [(Outcome::Accepted, 0), (REFUSED, 1)] {
+        let written = written(rt.alloc(), Report::Quiet(outcome), none, none);
         same(&rt, &written.is(status, "", ""), &true, &status);
     }
 }
 
 #[test]
 fn a_program_that_is_not_read_leaves_a_failing_output_alone(rt: HostRuntime) {
-    let alloc = rt.alloc();
-    let fault = LoadFault {
+    let report = Report::LoadFault(LoadFault {
         kind: LoadKind::Syntax,
         place: Some(Place { line: 1, column: 9 }),
-    };
-    let mut out = Clipped::new(alloc, 0, Refusal::TakesNone);
-    let mut err = Vec::new(alloc);
-    let answer = write_load_fault(
-        alloc,
-        &fault,
-        &mut ToWrite::new(&mut out),
-        &mut ToWrite::new(&mut err),
-    );
-    let out = out.bytes;
-    let written = Written { answer, out, err };
-    assert!(rt;
-        written.is(
-            2,
-            "",
-            "checktestdata: program line 1 column 9: syntax error\n",
-        )
-    );
+    });
+    let text = "checktestdata: program line 1 column 9: syntax error\n";
+    let written = written(rt.alloc(), report, (0, Refusal::TakesNone), AMPLE);
+    assert!(rt; written.is(2, "", text));
 }

@@ -2,7 +2,7 @@
 
 ghost use Rattle.std.specs.Prelude.{⊤};
 
-use crate::tests::clipped::{Clipped, Refusal};
+use crate::tests::clipped::{AMPLE, Clipped, Refusal, Room};
 use crate::tests::same;
 use crate::tests::words::words_of;
 use crate::tests::written::Written;
@@ -78,20 +78,6 @@ impl<'m> Files for MemoryFiles<'m> {
     }
 }
 
-/// The files that a command line asked for, in order, and what it wrote.
-#[derive(Drop)]
-struct Answered {
-    asked: Vec<u8>,
-    written: Written,
-}
-
-impl Answered {
-    /// Whether these files were asked for and this was written.
-    fn is(self, asked: &str, status: u8, out: &str, err: &str) -> bool {
-        self.asked.as_slice() == asked.as_bytes() && self.written.is(status, out, err)
-    }
-}
-
 /// The files of these tests.
 const NAMED: [(&str, &str); 4] = [
     ("p.ctd", LINE_OF_ONE),
@@ -100,13 +86,18 @@ const NAMED: [(&str, &str); 4] = [
     ("wrong.in", "5"),
 ];
 
-/// Answers a command line over the files of these tests, where reading the one of this name fails after its bytes.
-fn answer(
+/// A command line, the files that it asks for in order, its status, and what it writes to both streams.
+type Row = (&'static str, &'static str, u8, &'static str, &'static str);
+
+/// Whether a command line over the files of these tests answers what its row says, where reading the file of this name
+/// fails after its bytes and the output has this room.
+fn is_answered(
     alloc: Global,
     failing: &str,
-    line: &str,
-    mut out: Clipped,
-) -> std::result::Result<Answered, AllocError> {
+    room: Room,
+    row: &Row,
+) -> std::result::Result<bool, AllocError> {
+    let (line, asked, status, out_text, err_text) = row;
     let words = words_of(alloc, line.as_bytes())?;
     let mut files = MemoryFiles {
         named: &NAMED,
@@ -114,36 +105,34 @@ fn answer(
         failing,
         asked: Vec::new(alloc),
     };
+    let mut out = Clipped::new(alloc, room);
     let mut err = Vec::new(alloc);
-    let ended = run_words(
+    let status_answered = run_words(
         alloc,
         words.as_slice(),
         &mut files,
         &mut ToWrite::new(&mut out),
         &mut ToWrite::new(&mut err),
-    );
-    let answer = Ok(ended.status);
+    )
+    .status;
+    let is_asked = files.asked.as_slice() == asked.as_bytes();
+    let answer = Ok(status_answered);
     let out = out.bytes;
-    Ok(Answered {
-        asked: files.asked,
-        written: Written { answer, out, err },
-    })
+    let is_written = Written { answer, out, err }.is(*status, out_text, err_text);
+    Ok(is_asked && is_written)
 }
 
-/// A command line, the files that it asks for, its status, and what it writes to both streams.
-type Row = (&'static str, &'static str, u8, &'static str, &'static str);
-
-/// Each command line asks for the files of its row and writes what the row says.
+/// Each command line answers what its row says.
 fn judged(
     rt: &impl Abort,
     alloc: Global,
     failing: &str,
+    room: Room,
     rows: &[Row],
 ) -> std::result::Result<(), Fail> {
-    for (line, asked, status, out, err) in rows {
-        let ample = Clipped::new(alloc, 1000, Refusal::Fails);
-        let answered = answer(alloc, failing, line, ample)?;
-        same(rt, &answered.is(asked, *status, out, err), &true, line);
+    for row in rows {
+        let is = is_answered(alloc, failing, room, row)?;
+        same(rt, &is, &true, &row.0);
     }
     Ok(())
 }
@@ -159,7 +148,7 @@ const VERDICTS: [Row; 4] = [
 
 #[test]
 fn a_verdict_is_of_the_files_that_the_words_name(rt: HostRuntime) -> std::result::Result<(), Fail> {
-    judged(&rt, rt.alloc(), "", &VERDICTS)
+    judged(&rt, rt.alloc(), "", AMPLE, &VERDICTS)
 }
 
 const BAD_ARGUMENTS: &str = "checktestdata: bad arguments\nTry 'checktestdata --help'.\n";
@@ -193,7 +182,7 @@ const REFUSED: [Row; 6] = [
 
 #[test]
 fn a_file_that_is_refused_is_told_by_its_name(rt: HostRuntime) -> std::result::Result<(), Fail> {
-    judged(&rt, rt.alloc(), "", &REFUSED)
+    judged(&rt, rt.alloc(), "", AMPLE, &REFUSED)
 }
 
 const NO_PROGRAM: &str = "checktestdata: cannot read program\n";
@@ -218,19 +207,18 @@ fn a_read_that_fails_once_is_told_of_its_own_file(
     rt: HostRuntime,
 ) -> std::result::Result<(), Fail> {
     for (failing, row) in &FAILURES {
-        judged(&rt, rt.alloc(), failing, &[*row])?;
+        judged(&rt, rt.alloc(), failing, AMPLE, &[*row])?;
     }
     Ok(())
 }
 
+const CUT: [Row; 1] = [("p.ctd right.in", "p.ctd;right.in;", 2, "test", "")];
+
+const UNFLUSHED: [Row; 1] = [("p.ctd right.in", "p.ctd;right.in;", 2, "testdata ok!\n", "")];
+
 #[test]
 fn a_stream_that_fails_is_status_two(rt: HostRuntime) -> std::result::Result<(), Fail> {
-    let files = "p.ctd;right.in;";
-    let cut = Clipped::new(rt.alloc(), 4, Refusal::Fails);
-    let answered = answer(rt.alloc(), "", "p.ctd right.in", cut)?;
-    assert!(rt; answered.is(files, 2, "test", ""));
-    let unflushed = Clipped::never_flushed(rt.alloc(), 100);
-    let answered = answer(rt.alloc(), "", "p.ctd right.in", unflushed)?;
-    assert!(rt; answered.is(files, 2, "testdata ok!\n", ""));
-    Ok(())
+    judged(&rt, rt.alloc(), "", (4, Refusal::Fails), &CUT)?;
+    let unflushed = (100, Refusal::NeverFlushed);
+    judged(&rt, rt.alloc(), "", unflushed, &UNFLUSHED)
 }

@@ -1,12 +1,9 @@
 //! The texts of reports, with their streams and statuses.
 
 use crate::tests::same;
-use crate::tests::written::Written;
-use ctd_check::{Bytes, Fault, LoadFault, LoadKind, Outcome, Place, Reason, Site, Spot};
-use ctd_tool::{
-    ToWrite, ToolFault, UsageFault, report_usage, write_cannot_open, write_load_fault,
-    write_outcome,
-};
+use crate::tests::written::{Report, Written};
+use ctd_check::{Fault, LoadFault, LoadKind, Outcome, Place, Reason, Site, Spot};
+use ctd_tool::{ToWrite, ToolFault, UsageFault};
 use std::alloc::{AllocError, Global};
 use std::process::Abort;
 use std::test::Fail;
@@ -22,49 +19,27 @@ const PLACE: Place = Place {
     column: 405,
 };
 
-/// What is written of an outcome.
-fn outcome_written(alloc: Global, outcome: &Outcome, quiet: bool) -> Written {
+/// What is written of a report.
+fn written(alloc: Global, report: Report) -> Written {
     let mut out = Vec::new(alloc);
     let mut err = Vec::new(alloc);
-    let answer = write_outcome(
+    let answer = report.write(
         alloc,
-        outcome,
-        quiet,
         &mut ToWrite::new(&mut out),
         &mut ToWrite::new(&mut err),
     );
     Written { answer, out, err }
 }
 
-/// What is written of a fault of a program.
-fn load_fault_written(alloc: Global, fault: &LoadFault) -> Written {
-    let mut out = Vec::new(alloc);
-    let mut err = Vec::new(alloc);
-    let answer = write_load_fault(
-        alloc,
-        fault,
-        &mut ToWrite::new(&mut out),
-        &mut ToWrite::new(&mut err),
-    );
-    Written { answer, out, err }
-}
-
-/// What is written of words that give no settings.
-fn usage_written(alloc: Global, fault: &UsageFault) -> Written {
-    let mut out = Vec::new(alloc);
-    let mut err = Vec::new(alloc);
-    let answer = report_usage(
-        fault,
-        &mut ToWrite::new(&mut out),
-        &mut ToWrite::new(&mut err),
-    );
-    Written { answer, out, err }
+/// Whether a report answers this status and writes these texts.
+fn is_written(alloc: Global, report: Report, status: u8, out: &str, err: &str) -> bool {
+    written(alloc, report).is(status, out, err)
 }
 
 #[test]
 fn accepted_data_are_ok(rt: HostRuntime) {
-    let written = outcome_written(rt.alloc(), &Outcome::Accepted, false);
-    assert!(rt; written.is(0, "testdata ok!\n", ""));
+    let report = Report::Outcome(Outcome::Accepted);
+    assert!(rt; is_written(rt.alloc(), report, 0, "testdata ok!\n", ""));
 }
 
 const REASONS: [(u8, Reason, &str); 10] = [
@@ -128,7 +103,7 @@ fn each_reason_has_its_number_and_text(rt: HostRuntime) {
             place: Site::At(PLACE),
             reason: *reason,
         };
-        let is = outcome_written(rt.alloc(), &outcome, false).is(1, text, "");
+        let is = is_written(rt.alloc(), Report::Outcome(outcome), 1, text, "");
         same(&rt, &(is, *reason as u8), &(true, *number), text);
     }
 }
@@ -167,7 +142,7 @@ fn is_stop_written(
         fault,
     };
     let err = format!(in alloc; "checktestdata: line 3 column 70001: {text} ({site})\n")?;
-    Ok(outcome_written(alloc, &outcome, true).is(2, "", &err))
+    Ok(is_written(alloc, Report::Quiet(outcome), 2, "", &err))
 }
 
 #[test]
@@ -188,7 +163,7 @@ type LoadRow = (u8, LoadKind, &'static str);
 fn load_faults_judged(rt: &impl Abort, alloc: Global, place: Option<Place>, rows: &[LoadRow]) {
     for (number, kind, text) in rows {
         let fault = LoadFault { kind: *kind, place };
-        let is = load_fault_written(alloc, &fault).is(2, "", text);
+        let is = is_written(alloc, Report::LoadFault(fault), 2, "", text);
         same(rt, &(is, *kind as u8), &(true, *number), text);
     }
 }
@@ -261,7 +236,7 @@ fn want_of_memory_in_a_program_is_no_report(rt: HostRuntime) {
         kind: LoadKind::Memory,
         place: None,
     };
-    let written = load_fault_written(rt.alloc(), &fault);
+    let written = written(rt.alloc(), Report::LoadFault(fault));
     assert!(rt; written.is_cut(ToolFault::Memory, b"", b""));
     assert_eq!(rt; LoadKind::Memory as u8, 11);
 }
@@ -272,7 +247,7 @@ type UsageRow = (u8, UsageFault, &'static str, &'static str);
 /// Words that give no settings have the number, status and texts of their row.
 fn usage_judged(rt: &impl Abort, alloc: Global, status: u8, rows: &[UsageRow]) {
     for (number, fault, out, err) in rows {
-        let is = usage_written(alloc, fault).is(status, out, err);
+        let is = is_written(alloc, Report::Usage(*fault), status, out, err);
         same(rt, &(is, *fault as u8), &(true, *number), &(out, err));
     }
 }
@@ -328,18 +303,8 @@ fn the_help_and_the_version_are_no_faults(rt: HostRuntime) {
 }
 
 #[test]
-fn a_file_that_is_not_opened_is_named(rt: HostRuntime) -> Result<(), Fail> {
-    let alloc = rt.alloc();
-    let name = Bytes::copy(alloc, b"no such.ctd")?;
-    let mut out = Vec::new(alloc);
-    let mut err = Vec::new(alloc);
-    let answer = write_cannot_open(
-        alloc,
-        &name,
-        &mut ToWrite::new(&mut out),
-        &mut ToWrite::new(&mut err),
-    );
-    let written = Written { answer, out, err };
-    assert!(rt; written.is(2, "", "checktestdata: cannot open no such.ctd\n"));
-    Ok(())
+fn a_file_that_is_not_opened_is_named(rt: HostRuntime) {
+    let report = Report::CannotOpen(b"no such.ctd");
+    let text = "checktestdata: cannot open no such.ctd\n";
+    assert!(rt; is_written(rt.alloc(), report, 2, "", text));
 }

@@ -2,7 +2,7 @@
 
 ghost use Rattle.std.specs.Prelude.{◌≤◌, ◌^◌, IfOk};
 
-use crate::tests::clipped::{Clipped, Refusal};
+use crate::tests::clipped::{AMPLE, Clipped, Refusal, Room};
 use crate::tests::same;
 use crate::tests::written::Written;
 use ctd_check::{Bytes, FromRead, Limits, Mode, Presets};
@@ -91,14 +91,17 @@ fn run<P: Read + Drop, D: Read + Drop>(
     Written { answer, out, err }
 }
 
-/// What is written of a run without options.
-fn plain_run<P: Read + Drop, D: Read + Drop>(
+/// Whether a run without options answers this status and writes these texts.
+fn is_plain_run<P: Read + Drop, D: Read + Drop>(
     alloc: Global,
     program: P,
     testdata: D,
-) -> std::result::Result<Written, AllocError> {
+    status: u8,
+    out: &str,
+    err: &str,
+) -> std::result::Result<bool, AllocError> {
     let setup = plain(alloc)?;
-    Ok(run(alloc, &setup, program, testdata))
+    Ok(run(alloc, &setup, program, testdata).is(status, out, err))
 }
 
 const VERDICTS: [(&str, &str, &str, u8); 10] = [
@@ -157,21 +160,22 @@ const VERDICTS: [(&str, &str, &str, u8); 10] = [
 #[test]
 fn a_verdict_goes_to_standard_output(rt: HostRuntime) -> std::result::Result<(), Fail> {
     for (program, data, text, status) in &VERDICTS {
-        let written = plain_run(rt.alloc(), program.as_bytes(), data.as_bytes())?;
-        same(&rt, &written.is(*status, text, ""), &true, &(program, data));
+        let (reader, testdata) = (program.as_bytes(), data.as_bytes());
+        let is = is_plain_run(rt.alloc(), reader, testdata, *status, text, "")?;
+        same(&rt, &is, &true, &(program, data));
     }
     Ok(())
 }
 
-/// What is written of a run without options on one byte many times.
-fn long_run(
+/// Whether a run without options on one byte 70,000 times rejects it with this text.
+fn is_long_run(
     alloc: Global,
     program: &str,
     byte: u8,
-    count: usize,
-) -> std::result::Result<Written, AllocError> {
-    let data = vec![in alloc; byte; count]?;
-    plain_run(alloc, program.as_bytes(), data.as_slice())
+    text: &str,
+) -> std::result::Result<bool, AllocError> {
+    let data = vec![in alloc; byte; 70_000]?;
+    is_plain_run(alloc, program.as_bytes(), data.as_slice(), 1, text, "")
 }
 
 const LONG: [(&str, u8, &str); 2] = [
@@ -190,22 +194,23 @@ const LONG: [(&str, u8, &str); 2] = [
 #[test]
 fn long_data_are_passed_a_window_at_a_time(rt: HostRuntime) -> std::result::Result<(), Fail> {
     for (program, byte, text) in &LONG {
-        let written = long_run(rt.alloc(), program, *byte, 70_000)?;
-        same(&rt, &written.is(1, text, ""), &true, program);
+        let is = is_long_run(rt.alloc(), program, *byte, text)?;
+        same(&rt, &is, &true, program);
     }
     Ok(())
 }
 
-/// What is written of a run under limits.
-fn limited_run(
+/// Whether a run under limits has no verdict but this text.
+fn is_stopped(
     alloc: Global,
     quiet: bool,
     steps: u64,
     bytes: u32,
-) -> std::result::Result<Written, AllocError> {
+    text: &str,
+) -> std::result::Result<bool, AllocError> {
     let setup = setup_of(alloc, quiet, steps, bytes)?;
     let data: &[u8] = b"5\n";
-    Ok(run(alloc, &setup, LINE_OF_ONE.as_bytes(), data))
+    Ok(run(alloc, &setup, LINE_OF_ONE.as_bytes(), data).is(2, "", text))
 }
 
 const STOPPED: [(u64, u32, &str); 3] = [
@@ -232,8 +237,8 @@ fn a_run_without_a_verdict_goes_to_standard_error(
 ) -> std::result::Result<(), Fail> {
     for (steps, bytes, text) in &STOPPED {
         for quiet in [false, true] {
-            let written = limited_run(rt.alloc(), quiet, *steps, *bytes)?;
-            same(&rt, &written.is(2, "", text), &true, text);
+            let is = is_stopped(rt.alloc(), quiet, *steps, *bytes, text)?;
+            same(&rt, &is, &true, text);
         }
     }
     Ok(())
@@ -247,67 +252,82 @@ fn a_failed_read_of_the_data_counts_where_it_is_needed(
     let out = "line 1 column 1: value out of range (program line 1 column 1)\n";
     let err = "checktestdata: line 1 column 1: read failed (program line 1 column 1)\n";
     for (data, status, out, err) in &[("12 ", 1, out, ""), ("12", 2, "", err)] {
-        let written = plain_run(rt.alloc(), program, data.as_bytes().chain(Failing))?;
-        same(&rt, &written.is(*status, out, err), &true, data);
+        let testdata = data.as_bytes().chain(Failing);
+        let is = is_plain_run(rt.alloc(), program, testdata, *status, out, err)?;
+        same(&rt, &is, &true, data);
     }
     Ok(())
 }
 
-/// What is written of a run without options, and whether it reads its data.
-fn watched_run<P: Read + Drop>(
+/// Whether a run without options tells this fault of its program and does not read its data.
+fn is_unread_run<P: Read + Drop>(
     alloc: Global,
     program: P,
-) -> std::result::Result<(Written, bool), AllocError> {
+    text: &str,
+) -> std::result::Result<bool, AllocError> {
     let mut is_read = false;
     let data = Watched {
         is_read: &mut is_read,
     };
-    let written = plain_run(alloc, program, data)?;
-    Ok((written, is_read))
+    let is = is_plain_run(alloc, program, data, 2, "", text)?;
+    Ok(is && !is_read)
 }
 
 #[test]
 fn a_program_that_is_not_read_leaves_the_data_alone(
     rt: HostRuntime,
 ) -> std::result::Result<(), Fail> {
-    let (written, is_read) = watched_run(rt.alloc(), b"SPACE(".as_slice())?;
     let text = "checktestdata: program line 1 column 6: syntax error\n";
-    assert!(rt; written.is(2, "", text) && !is_read);
+    let is = is_unread_run(rt.alloc(), b"SPACE(".as_slice(), text)?;
+    same(&rt, &is, &true, &text);
     let program = LINE_OF_ONE.as_bytes();
+    let text = "checktestdata: cannot read program\n";
     for n in 0..=program.len() {
-        let (written, is_read) = watched_run(rt.alloc(), program[..n].chain(Failing))?;
-        let text = "checktestdata: cannot read program\n";
-        same(&rt, &(written.is(2, "", text) && !is_read), &true, &n);
+        let is = is_unread_run(rt.alloc(), program[..n].chain(Failing), text)?;
+        same(&rt, &is, &true, &n);
     }
     Ok(())
 }
 
-/// What is written of runs on a program of so many spaces and no data.
-fn spaces_run(alloc: Global, count: usize) -> std::result::Result<Written, AllocError> {
+/// Whether a run on a program of so many spaces and no data answers this status and writes these texts.
+fn is_run_of_spaces(
+    alloc: Global,
+    count: usize,
+    status: u8,
+    out: &str,
+    err: &str,
+) -> std::result::Result<bool, AllocError> {
     let program = vec![in alloc; b' '; count]?;
-    plain_run(alloc, program.as_slice(), b"".as_slice())
+    is_plain_run(alloc, program.as_slice(), b"".as_slice(), status, out, err)
 }
+
+const SPACES: [(usize, u8, &str, &str); 2] = [
+    (1_048_576, 0, "testdata ok!\n", ""),
+    (1_048_577, 2, "", "checktestdata: program too long\n"),
+];
 
 #[test]
 fn a_program_of_the_limit_is_run_and_a_longer_one_is_not(
     rt: HostRuntime,
 ) -> std::result::Result<(), Fail> {
-    let written = spaces_run(rt.alloc(), 1_048_576)?;
-    assert!(rt; written.is(0, "testdata ok!\n", ""));
-    let written = spaces_run(rt.alloc(), 1_048_577)?;
-    assert!(rt; written.is(2, "", "checktestdata: program too long\n"));
+    for (count, status, out, err) in &SPACES {
+        let is = is_run_of_spaces(rt.alloc(), *count, *status, out, err)?;
+        same(&rt, &is, &true, count);
+    }
     Ok(())
 }
 
-/// What a run answers and writes to two writers.
+/// What a run answers and writes to writers of this room.
 fn clipped_run(
     alloc: Global,
     quiet: bool,
     data: &str,
-    mut out: Clipped,
-    mut err: Clipped,
+    out: Room,
+    err: Room,
 ) -> std::result::Result<Written, AllocError> {
     let setup = setup_of(alloc, quiet, STEPS, u32::MAX)?;
+    let mut out = Clipped::new(alloc, out);
+    let mut err = Clipped::new(alloc, err);
     let answer = run_tool(
         alloc,
         &setup,
@@ -325,11 +345,9 @@ fn clipped_run(
 
 #[test]
 fn a_quiet_run_writes_no_verdict(rt: HostRuntime) -> std::result::Result<(), Fail> {
-    let alloc = rt.alloc();
+    let none = (0, Refusal::NeverFlushed);
     for (data, status) in &[("5\n", 0), ("5", 1)] {
-        let out = Clipped::never_flushed(alloc, 0);
-        let err = Clipped::never_flushed(alloc, 0);
-        let written = clipped_run(alloc, true, data, out, err)?;
+        let written = clipped_run(rt.alloc(), true, data, none, none)?;
         same(&rt, &written.is(*status, "", ""), &true, &status);
     }
     Ok(())
@@ -339,9 +357,7 @@ fn a_quiet_run_writes_no_verdict(rt: HostRuntime) -> std::result::Result<(), Fai
 fn a_verdict_that_is_not_taken_whole_is_no_success(
     rt: HostRuntime,
 ) -> std::result::Result<(), Fail> {
-    let out = Clipped::new(rt.alloc(), 4, Refusal::Fails);
-    let err = Clipped::new(rt.alloc(), 1000, Refusal::Fails);
-    let written = clipped_run(rt.alloc(), false, "5\n", out, err)?;
+    let written = clipped_run(rt.alloc(), false, "5\n", (4, Refusal::Fails), AMPLE)?;
     assert!(rt; written.is_cut(ToolFault::Write, b"test", b""));
     Ok(())
 }
