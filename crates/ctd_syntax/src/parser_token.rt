@@ -161,8 +161,11 @@ impl<'t> ParserTokens<'t> {
         ensures end { IfOk result (λ next. IfNone next (IsEnd self.old.uncut)) }
         ensures fault { IfErr result (λ f. IsNextFault self.old.uncut f.kind f.place) }
     {
-        let Some(token) = self.lexer.next_token(alloc)? else {
-            return Ok(None);
+        // A `?` would send each token through memory.
+        let token = match self.lexer.next_token(alloc) {
+            Ok(Some(token)) => token,
+            Ok(None) => return Ok(None),
+            Err(fault) => return Err(fault),
         };
         let token = give_number(parser_token_of(self.text, token), &mut self.before);
         Ok(Some(number_name(token, &mut self.numbers)?))

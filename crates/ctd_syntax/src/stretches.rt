@@ -87,7 +87,13 @@ fn is_read(alloc: Global, text: &[u8], commands: &mut Vec<Command>) -> Result<bo
     let mut tokens = ParserTokens::new(alloc, text)?;
     let mut nesting = Nesting::new(alloc);
     let mut stretch = Vec::new(alloc);
-    while let Some(token) = tokens.next_token(alloc)? {
+    loop {
+        // A `?` would send each token through memory.
+        let token = match tokens.next_token(alloc) {
+            Ok(Some(token)) => token,
+            Ok(None) => break,
+            Err(fault) => return Err(fault),
+        };
         let ends = ends_before(&stretch, &nesting, &token);
         if !read_off(alloc, ends, &mut stretch, commands)? {
             return Ok(false);
