@@ -2,7 +2,7 @@
 use Rattle.std.proofs.Common.{◌≡◌, ℕ, zero, suc, List, [], ◌∷◌, ◌++◌, refl, ap, sym, ◌∙◌, append_assoc}
 use Rattle.ctd_source.specs.TestData.{TestData}
 use Rattle.ctd_command.specs.State.{State, Effect, done, rejected, faulty}
-use Rattle.ctd_check.specs.declared.outcome.Site.{Site}
+use Rattle.ctd_outcome.specs.declared.outcome.Site.{Site}
 use Rattle.ctd_check.specs.Loops.{Task}
 use Rattle.ctd_check.specs.Run.{site_of, perform, resume, run}
 use Rattle.ctd_check.specs.Laws.{and_then}

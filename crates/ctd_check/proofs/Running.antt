@@ -23,20 +23,20 @@ use Rattle.ctd_tree.specs.declared.tree.PatternLiteral.{PatternLiteral}
 use Rattle.ctd_command.specs.declared.machine.Run.{Run}
 use Rattle.ctd_command.specs.declared.failure.CommandFailure.{CommandFailure}
 use Rattle.ctd_command.specs.declared.failure.Failure.TheVariants.{Rejected, Stopped, Memory}
-use Rattle.ctd_command.specs.declared.reason.Fault.TheVariants.{StepLimit}
+use Rattle.ctd_outcome.specs.declared.reason.Fault.TheVariants.{StepLimit}
 use Rattle.ctd_command.specs.State.{State, Effect}
 use Rattle.ctd_command.specs.Blanks.{first_skip}
-use Rattle.ctd_command.specs.declared.mode.Mode.{Mode}
+use Rattle.ctd_tree.specs.declared.mode.Mode.{Mode}
 use Rattle.ctd_command.specs.Performs.{Does, answering, state, Performs}
 use Rattle.ctd_check.specs.declared.agenda.Agenda.{Agenda}
-use Rattle.ctd_check.specs.declared.outcome.Site.{Site}
-use Rattle.ctd_check.specs.declared.outcome.Site.TheVariants.{Start, At}
+use Rattle.ctd_outcome.specs.declared.outcome.Site.{Site}
+use Rattle.ctd_outcome.specs.declared.outcome.Site.TheVariants.{Start, At}
 use Rattle.ctd_check.specs.declared.halt.Halt.{Halt}
 use Rattle.ctd_check.specs.declared.halt.Halt.TheVariants as halts
-use Rattle.ctd_check.specs.declared.outcome.Outcome.TheVariants as outcomes
+use Rattle.ctd_outcome.specs.declared.outcome.Outcome.TheVariants as outcomes
 use Rattle.ctd_check.specs.Loops.{Task, start, finish, tasks}
 use Rattle.ctd_check.specs.Run.{Ended, stopped, site_of, perform, resume, run, run_from, with_steps, meaning, Finds, at_start}
-use Rattle.ctd_check.specs.declared.outcome.Checked.{Checked}
+use Rattle.ctd_outcome.specs.declared.outcome.Checked.{Checked}
 use Rattle.ctd_check.specs.Halts.{halt_of, at_limit, Concludes}
 use Rattle.ctd_check.specs.Opening.{halting, Opens}
 use Rattle.ctd_check.specs.Pending.{to_do}

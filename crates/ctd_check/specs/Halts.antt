@@ -1,12 +1,12 @@
 -- How a run ends.
 use Rattle.std.specs.Prelude.{◌≡◌, Result, Ok, Err}
 use Rattle.ctd_source.specs.declared.spot.Spot.{Spot}
-use Rattle.ctd_command.specs.declared.reason.Fault.TheVariants.{StepLimit}
+use Rattle.ctd_outcome.specs.declared.reason.Fault.TheVariants.{StepLimit}
 use Rattle.ctd_command.specs.declared.failure.CommandFailure.{CommandFailure}
 use Rattle.ctd_command.specs.declared.failure.Failure.TheVariants.{Rejected, Stopped, Memory}
-use Rattle.ctd_check.specs.declared.outcome.Site.{Site}
-use Rattle.ctd_check.specs.declared.outcome.Outcome.{Outcome}
-use Rattle.ctd_check.specs.declared.outcome.Outcome.TheVariants as outcomes
+use Rattle.ctd_outcome.specs.declared.outcome.Site.{Site}
+use Rattle.ctd_outcome.specs.declared.outcome.Outcome.{Outcome}
+use Rattle.ctd_outcome.specs.declared.outcome.Outcome.TheVariants as outcomes
 use Rattle.ctd_check.specs.declared.halt.Halt.{Halt}
 use Rattle.ctd_check.specs.declared.halt.Halt.TheVariants as halts
 

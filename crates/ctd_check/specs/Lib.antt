@@ -3,7 +3,6 @@ pub mod Run
 pub mod Laws
 pub mod Checks
 pub mod Halts
-pub mod OutcomeText
 pub mod Pending
 pub mod Known
 pub mod Advances

@@ -10,7 +10,7 @@ use Rattle.ctd_command.specs.Performs.{Performs, answering}
 use Rattle.ctd_command.specs.State.{Act}
 use Rattle.ctd_check.specs.declared.agenda.Agenda.{Agenda}
 use Rattle.ctd_check.specs.declared.halt.Halt.{Halt}
-use Rattle.ctd_check.specs.declared.outcome.Site.{Site}
+use Rattle.ctd_outcome.specs.declared.outcome.Site.{Site}
 use Rattle.ctd_check.specs.Halts.{halt_of}
 use Rattle.ctd_check.specs.Known.{AreKnown}
 use Rattle.ctd_check.specs.Loops.{Task}

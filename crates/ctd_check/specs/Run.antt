@@ -5,17 +5,17 @@ use Rattle.ctd_tree.specs.declared.preset.Preset.{Preset}
 use Rattle.ctd_tree.specs.Tree
 use Rattle.ctd_tree.specs.Tree.{CommandTree, CommandList, place_of}
 use Rattle.ctd_store.specs.Store.{initial}
-use Rattle.ctd_command.specs.declared.mode.Mode.{Mode}
-use Rattle.ctd_command.specs.declared.reason.Fault.TheVariants.{StepLimit}
+use Rattle.ctd_tree.specs.declared.mode.Mode.{Mode}
+use Rattle.ctd_outcome.specs.declared.reason.Fault.TheVariants.{StepLimit}
 use Rattle.ctd_command.specs.State.{State, Effect, done, rejected, faulty, Act, ◌>>=◌, give}
 use Rattle.ctd_command.specs.Effect.{int, string, assert, set, unset_all}
 use Rattle.ctd_command.specs.Blanks.{space, newline, end, first_skip}
 use Rattle.ctd_command.specs.Regex.{regex}
-use Rattle.ctd_check.specs.declared.outcome.Site.{Site}
-use Rattle.ctd_check.specs.declared.outcome.Site.TheVariants.{Start, At, Finish}
-use Rattle.ctd_check.specs.declared.outcome.Checked.{Checked}
-use Rattle.ctd_check.specs.declared.outcome.Outcome.{Outcome}
-use Rattle.ctd_check.specs.declared.outcome.Outcome.TheVariants.{Accepted, Rejected, Stopped}
+use Rattle.ctd_outcome.specs.declared.outcome.Site.{Site}
+use Rattle.ctd_outcome.specs.declared.outcome.Site.TheVariants.{Start, At, Finish}
+use Rattle.ctd_outcome.specs.declared.outcome.Checked.{Checked}
+use Rattle.ctd_outcome.specs.declared.outcome.Outcome.{Outcome}
+use Rattle.ctd_outcome.specs.declared.outcome.Outcome.TheVariants.{Accepted, Rejected, Stopped}
 use Rattle.ctd_check.specs.Loops.{Task, start, turn, finish, tasks, run_turn, repeat, repeat_while, choice}
 
 -- where in the program a task stands

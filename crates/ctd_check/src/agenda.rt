@@ -9,7 +9,8 @@ ghost use Rattle.ctd_check.specs.Pending.{Fits, fits_prop, to_do, top_lap, frame
 
 use crate::frame::{Frame, Lap};
 use arrayvec::ArrayVec;
-use ctd_command::{CommandFailure, Failure, Fault};
+use ctd_command::{CommandFailure, Failure};
+use ctd_outcome::Fault;
 use ctd_syntax::Command;
 
 /// The program's list, and 200 blocks in one another.

@@ -8,12 +8,12 @@ ghost use Rattle.ctd_check.specs.Halts.{Concludes};
 
 use crate::agenda::Agenda;
 use crate::halt::Halt;
-use crate::outcome::{Checked, Limits, Outcome};
 use crate::run::run_program;
-use ctd_command::{Mode, Run};
+use ctd_command::Run;
+use ctd_outcome::{Checked, Outcome};
 use ctd_plan::Plan;
 use ctd_source::Source;
-use ctd_syntax::Presets;
+use ctd_tree::{Limits, Mode, Presets};
 use std::alloc::{AllocError, Global};
 
 /// The outcome of a run that came to its end; the error is for a run that ran out of memory, and for no other.

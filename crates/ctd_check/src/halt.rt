@@ -1,7 +1,7 @@
 //! Why a run ends.
 
-use crate::outcome::{Outcome, Site};
 use ctd_command::{CommandFailure, Failure};
+use ctd_outcome::{Outcome, Site};
 use ctd_source::Spot;
 
 /// Why a run goes no further: it has an outcome, or no memory is left.

@@ -14,8 +14,8 @@ use Rattle.ctd_store.specs.Store.{History}
 use Rattle.ctd_value.specs.Fault.{ValueFault, with_fault}
 use Rattle.ctd_command.specs.Effect.{one_byte}
 use Rattle.ctd_command.specs.declared.machine.Run.{Run}
-use Rattle.ctd_command.specs.declared.reason.Reason.{Reason}
-use Rattle.ctd_command.specs.declared.reason.Fault.{Fault}
+use Rattle.ctd_outcome.specs.declared.reason.Reason.{Reason}
+use Rattle.ctd_outcome.specs.declared.reason.Fault.{Fault}
 use Rattle.ctd_command.specs.declared.failure.CommandFailure.{CommandFailure}
 use Rattle.ctd_command.specs.declared.failure.Failure.TheVariants.{Rejected, Stopped, Memory}
 use Rattle.ctd_command.specs.State.{State, Effect, Act, done, faulty, proceed, ◌>>=◌, give, reject, told, evaluate, fault_of_value, fault_of_look, see_next, pass}

@@ -10,7 +10,7 @@ use Rattle.ctd_source.specs.declared.spot.LookFault.{LookFault}
 use Rattle.ctd_source.specs.Consistency.{CursorState, IsConsistentWith}
 use Rattle.ctd_source.proofs.Visible.{seen_run}
 use Rattle.ctd_value.specs.Fault.{with_fault}
-use Rattle.ctd_command.specs.declared.reason.Reason.TheVariants.{ExpectedSpace}
+use Rattle.ctd_outcome.specs.declared.reason.Reason.TheVariants.{ExpectedSpace}
 use Rattle.ctd_command.specs.Blanks.{is_blank, blank_next, skip_blanks, some_blanks}
 use Rattle.ctd_command.specs.State.{State, done, proceed, told, reject, fault_of_look}
 use Rattle.ctd_command.proofs.HeldRuns.{stops_within, front_in_line, run_front, held_next}

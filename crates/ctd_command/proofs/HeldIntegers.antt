@@ -13,8 +13,8 @@ use Rattle.ctd_source.specs.TestData.{TestData, visible, is_newline}
 use Rattle.ctd_source.specs.Consistency.{CursorState, IsConsistentWith}
 use Rattle.ctd_source.proofs.Visible.{seen_run}
 use Rattle.ctd_command.specs.Integer.{decimal, is_minus, sign_len, digits_of, prefix_len_of, is_zero_first, signed, in_interval}
-use Rattle.ctd_command.specs.declared.reason.Reason.{Reason}
-use Rattle.ctd_command.specs.declared.reason.Reason.TheVariants.{ExpectedInt, LeadingZero, MinusZero, OutOfRange}
+use Rattle.ctd_outcome.specs.declared.reason.Reason.{Reason}
+use Rattle.ctd_outcome.specs.declared.reason.Reason.TheVariants.{ExpectedInt, LeadingZero, MinusZero, OutOfRange}
 use Rattle.ctd_command.specs.Passing.{IsInFront}
 use Rattle.ctd_command.specs.State.{State, done}
 use Rattle.ctd_command.specs.Effect.{integer, decide}

@@ -19,8 +19,8 @@ use Rattle.ctd_value.specs.Fault as faults
 use Rattle.ctd_value.specs.Truth.{truth}
 use Rattle.ctd_command.specs.declared.failure.CommandFailure.{CommandFailure}
 use Rattle.ctd_command.specs.declared.machine.Run.{Run}
-use Rattle.ctd_command.specs.declared.reason.Fault.{Fault}
-use Rattle.ctd_command.specs.declared.reason.Fault.TheVariants.{Undefined, WrongType, Overflow, DivisionByZero, Exponent, Count, Shape, StepLimit}
+use Rattle.ctd_outcome.specs.declared.reason.Fault.{Fault}
+use Rattle.ctd_outcome.specs.declared.reason.Fault.TheVariants.{Undefined, WrongType, Overflow, DivisionByZero, Exponent, Count, Shape, StepLimit}
 use Rattle.ctd_command.specs.State.{State, done, faulty, told, evaluate, fault_of_value, fault_of_truth, fault_of_look}
 use Rattle.ctd_command.specs.Effect.{answer}
 use Rattle.ctd_command.specs.Failures.{test_failure, failure_of}

@@ -10,8 +10,8 @@ use Rattle.ctd_value.specs.Fault.{with_fault}
 use Rattle.ctd_value.specs.Truth.{is_end}
 use Rattle.ctd_value.specs.Val.{val, key, number_of, text_of}
 use Rattle.ctd_value.specs.Truth.{truth}
-use Rattle.ctd_command.specs.declared.reason.Reason.{Reason}
-use Rattle.ctd_command.specs.declared.reason.Reason.TheVariants.{ExpectedEof, StringMismatch, AssertFailed}
+use Rattle.ctd_outcome.specs.declared.reason.Reason.{Reason}
+use Rattle.ctd_outcome.specs.declared.reason.Reason.TheVariants.{ExpectedEof, StringMismatch, AssertFailed}
 use Rattle.ctd_command.specs.Integer.{prefix_len_of, judge, is_minus, digits_of}
 use Rattle.ctd_command.specs.State.{Act, done, ◌>>=◌, give, reject, pass, told, evaluate, see_next, fault_of_truth}
 

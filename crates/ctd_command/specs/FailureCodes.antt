@@ -1,7 +1,7 @@
 -- The number of each failure.
 use Rattle.std.specs.Prelude.{◌≡◌, refl}
-use Rattle.ctd_command.specs.declared.reason.Reason.TheVariants as reasons
-use Rattle.ctd_command.specs.declared.reason.Fault.TheVariants as faults
+use Rattle.ctd_outcome.specs.declared.reason.Reason.TheVariants as reasons
+use Rattle.ctd_outcome.specs.declared.reason.Fault.TheVariants as faults
 use Rattle.ctd_command.specs.declared.failure.Failure.{Failure}
 use Rattle.ctd_command.specs.declared.failure.Failure.TheVariants as failures
 use Rattle.ctd_command.specs.declared.failure.FailureCode.{FailureCode}

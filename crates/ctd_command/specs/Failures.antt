@@ -3,7 +3,7 @@ use Rattle.ctd_value.specs.declared.fault.EvalFault.{EvalFault}
 use Rattle.ctd_value.specs.declared.fault.EvalFault.TheVariants as evals
 use Rattle.ctd_value.specs.declared.fault.TestFault.{TestFault}
 use Rattle.ctd_value.specs.declared.fault.TestFault.TheVariants as tests
-use Rattle.ctd_command.specs.declared.reason.Fault.TheVariants.{Undefined, WrongType, Overflow, DivisionByZero, Exponent, Count, Shape}
+use Rattle.ctd_outcome.specs.declared.reason.Fault.TheVariants.{Undefined, WrongType, Overflow, DivisionByZero, Exponent, Count, Shape}
 use Rattle.ctd_command.specs.declared.failure.CommandFailure.{CommandFailure}
 use Rattle.ctd_command.specs.declared.failure.Failure.TheVariants.{Stopped, Memory}
 use Rattle.ctd_command.specs.State.{fault_of_look}

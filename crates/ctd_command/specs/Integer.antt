@@ -4,8 +4,8 @@ use Rattle.std.specs.List.{take_while}
 use Rattle.std.specs.Option.{ok_or}
 use Rattle.std.specs.Char.{is_ascii_digit}
 pub use Rattle.ctd_token.specs.Cut.{decimal}
-use Rattle.ctd_command.specs.declared.reason.Reason.{Reason}
-use Rattle.ctd_command.specs.declared.reason.Reason.TheVariants.{ExpectedInt, LeadingZero, MinusZero, OutOfRange}
+use Rattle.ctd_outcome.specs.declared.reason.Reason.{Reason}
+use Rattle.ctd_outcome.specs.declared.reason.Reason.TheVariants.{ExpectedInt, LeadingZero, MinusZero, OutOfRange}
 
 -- whether a minus comes first
 abbrev pub is_minus : List ℕ → Bool

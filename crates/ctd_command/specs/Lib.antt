@@ -5,7 +5,6 @@ pub mod Blanks
 pub mod Regex
 pub mod Failures
 pub mod FailureCodes
-pub mod ReasonText
 pub mod Performs
 pub mod Alone
 pub mod Passing

@@ -6,7 +6,7 @@ use Rattle.std.specs.Option.{ok_or}
 use Rattle.ctd_source.specs.declared.spot.LookFault.{LookFault}
 use Rattle.ctd_source.specs.TestData.{TestData, next_byte, visible}
 use Rattle.ctd_command.specs.declared.digits.DigitSummary.{DigitSummary}
-use Rattle.ctd_command.specs.declared.reason.Reason.TheVariants.{OutOfRange}
+use Rattle.ctd_outcome.specs.declared.reason.Reason.TheVariants.{OutOfRange}
 use Rattle.ctd_command.specs.Blanks.{is_blank}
 use Rattle.ctd_command.specs.Integer.{is_minus, digits_of, prefix_len_of, in_interval, judge}
 use Rattle.ctd_command.specs.Summaries.{Summarizes}

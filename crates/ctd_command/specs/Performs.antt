@@ -7,7 +7,7 @@ use Rattle.ctd_source.specs.Received.{AdvancesSuchThat}
 use Rattle.ctd_tree.specs.Tree.{ExprTree}
 use Rattle.ctd_value.specs.Val.{number_of}
 use Rattle.ctd_command.specs.declared.machine.Run.{Run}
-use Rattle.ctd_command.specs.declared.reason.Fault.{Fault}
+use Rattle.ctd_outcome.specs.declared.reason.Fault.{Fault}
 use Rattle.ctd_command.specs.declared.failure.CommandFailure.{CommandFailure}
 use Rattle.ctd_command.specs.declared.failure.Failure.TheVariants.{Rejected, Stopped, Memory}
 use Rattle.ctd_command.specs.State.{State, Effect, Act, done, rejected, faulty, evaluate}

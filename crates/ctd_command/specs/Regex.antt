@@ -4,8 +4,8 @@ use Rattle.ctd_source.specs.declared.limits.TheConstants.{WINDOW}
 use Rattle.ctd_tree.specs.Tree.{VarTree}
 use Rattle.ctd_pattern.specs.Pattern.{length_at_start}
 use Rattle.ctd_store.specs.declared.value.Value.TheVariants as values
-use Rattle.ctd_command.specs.declared.reason.Reason.TheVariants.{RegexMismatch}
-use Rattle.ctd_command.specs.declared.reason.Fault.TheVariants.{MatchTooLong}
+use Rattle.ctd_outcome.specs.declared.reason.Reason.TheVariants.{RegexMismatch}
+use Rattle.ctd_outcome.specs.declared.reason.Fault.TheVariants.{MatchTooLong}
 use Rattle.ctd_command.specs.State.{Act, ◌>>=◌, give, reject, stop, pass, see_window}
 use Rattle.ctd_command.specs.Effect.{keep}
 

@@ -9,9 +9,9 @@ ghost use Rattle.ctd_command.specs.Performs.{IsSound, Performs};
 
 use crate::failure::CommandFailure;
 use crate::machine::Run;
-use crate::mode::Mode;
-use crate::reason::Reason;
+use ctd_outcome::Reason;
 use ctd_source::{Cursor, LookFault, Source};
+use ctd_tree::Mode;
 
 /// Whether a byte is a blank.
 fn is_blank(byte: u8) -> bool

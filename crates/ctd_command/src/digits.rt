@@ -6,7 +6,7 @@ ghost use Rattle.std.specs.Char.{is_ascii_digit};
 ghost use Rattle.ctd_command.specs.Integer.{decimal, judge, signed, in_interval};
 ghost use Rattle.ctd_command.specs.declared.digits.TheConstants.{FEW};
 
-use crate::reason::Reason;
+use ctd_outcome::Reason;
 
 /// What was seen of a row of digits.
 #[derive(Clone, Copy)]

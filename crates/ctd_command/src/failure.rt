@@ -1,6 +1,6 @@
 //! Why a command is not done.
 
-use crate::reason::{Fault, Reason};
+use ctd_outcome::{Fault, Reason};
 use ctd_source::LookFault;
 use ctd_value::{EvalFault, TestFault};
 use std::alloc::{AllocError, AllocFailed};

@@ -10,12 +10,8 @@ mod evaluate;
 mod failure;
 mod integer;
 mod machine;
-mod mode;
-mod reason;
 mod regex;
 mod string;
 
 pub use failure::{CommandFailure, Failure};
 pub use machine::Run;
-pub use mode::Mode;
-pub use reason::{Fault, Reason};

@@ -9,9 +9,8 @@ ghost use Rattle.ctd_command.specs.State.{see_next, pass};
 ghost use Rattle.ctd_command.specs.Performs.{IsSound, Performs};
 
 use crate::failure::CommandFailure;
-use crate::mode::Mode;
 use ctd_source::{Cursor, Source};
-use ctd_tree::Presets;
+use ctd_tree::{Mode, Presets};
 use ctd_value::Store;
 use std::alloc::{AllocError, Global};
 

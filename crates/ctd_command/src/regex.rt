@@ -7,7 +7,7 @@ ghost use Rattle.ctd_command.specs.Performs.{IsSound, Performs, AlwaysDoes};
 
 use crate::failure::CommandFailure;
 use crate::machine::Run;
-use crate::reason::{Fault, Reason};
+use ctd_outcome::{Fault, Reason};
 use ctd_pattern::Matcher;
 use ctd_source::{Source, WINDOW};
 use ctd_tree::Var;

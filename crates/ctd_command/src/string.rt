@@ -13,7 +13,7 @@ ghost use Rattle.ctd_command.specs.Performs.{IsSound, Performs};
 
 use crate::failure::CommandFailure;
 use crate::machine::Run;
-use crate::reason::Reason;
+use ctd_outcome::Reason;
 use ctd_source::{Cursor, LookFault, Source};
 use ctd_tree::Expr;
 use ctd_value::text_of;

@@ -6,15 +6,15 @@ use Rattle.ctd_source.specs.declared.from_read.FromRead.{FromRead}
 use Rattle.ctd_source.specs.declared.source.Source.{Ghosts}
 use Rattle.ctd_tool.proofs.HeadlineLemmas.{IsReport-IsFileReport}
 use Rattle.ctd_tool.specs.declared.files.Sources.{Sources}
-use Rattle.ctd_tool.specs.declared.sink.Sink as sinks
-use Rattle.ctd_tool.specs.declared.setup.Setup.{Setup}
-use Rattle.ctd_tool.specs.declared.setup.UsageFault.TheVariants as usage
+use Rattle.ctd_report.specs.declared.sink.Sink as sinks
+use Rattle.ctd_words.specs.declared.setup.Setup.{Setup}
+use Rattle.ctd_words.specs.declared.setup.UsageFault.TheVariants as usage
 use Rattle.ctd_tool.specs.Files.{Visit, IsFilesReport}
-use Rattle.ctd_tool.specs.declared.report.ToolFault.{ToolFault}
-use Rattle.ctd_tool.specs.declared.report.ToolFault.TheVariants.{Memory, Write}
+use Rattle.ctd_report.specs.declared.written.ToolFault.{ToolFault}
+use Rattle.ctd_report.specs.declared.written.ToolFault.TheVariants.{Memory, Write}
 use Rattle.ctd_tool.specs.Answer.{EndsWithReport, IsAnswer}
-use Rattle.ctd_tool.specs.Report.{Report, IsToolReport}
-use Rattle.ctd_tool.specs.Written.{Change, LeavesOneOf}
+use Rattle.ctd_report.specs.Report.{Report, IsToolReport}
+use Rattle.ctd_report.specs.Written.{Change, LeavesOneOf}
 
 -- what ends in one of some reports ends in one of more
 pub EndsWithReport-weaker : {O E : Type 0} {S : sinks.Ghosts O} {T : sinks.Ghosts E} (out : Change S) (err : Change T) (IsReport IsMore : Report → Type 0) (status : ℕ)

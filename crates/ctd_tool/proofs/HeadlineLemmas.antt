@@ -5,8 +5,8 @@ use Rattle.ctd_source.specs.declared.source.Source.{Ghosts}
 use Rattle.ctd_source.specs.declared.source.Seen.{Seen}
 use Rattle.ctd_source.specs.declared.source.Seen.TheVariants.{Going, Ended, Broken}
 use Rattle.ctd_source.specs.Agreement.{Agrees, known}
-use Rattle.ctd_tool.specs.declared.setup.Setup.{Setup}
-use Rattle.ctd_tool.specs.Report.{Report, IsFileReport}
+use Rattle.ctd_words.specs.declared.setup.Setup.{Setup}
+use Rattle.ctd_report.specs.Report.{Report, IsFileReport}
 use Rattle.ctd_tool.specs.Headline.{Call, IsReport}
 
 -- the bytes that were given agree with themselves

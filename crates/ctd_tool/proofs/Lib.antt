@@ -1,6 +1,2 @@
-pub mod TakenLemmas
-pub mod WrittenLemmas
 pub mod HeadlineLemmas
 pub mod AnswerLemmas
-pub mod NamedProgram
-pub mod SingleLemmas

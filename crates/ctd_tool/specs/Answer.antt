@@ -5,15 +5,15 @@ use Rattle.std.specs.declared.io.buffered.BufReader.{BufReader}
 use Rattle.ctd_source.specs.declared.from_read.FromRead.{FromRead}
 use Rattle.ctd_source.specs.declared.source.Source.{Ghosts}
 use Rattle.ctd_tool.specs.declared.files.Sources.{Sources}
-use Rattle.ctd_tool.specs.declared.sink.Sink as sinks
-use Rattle.ctd_tool.specs.declared.setup.Setup.{Setup}
-use Rattle.ctd_tool.specs.declared.setup.UsageFault.{UsageFault}
-use Rattle.ctd_tool.specs.declared.setup.UsageFault.TheVariants.{Memory}
+use Rattle.ctd_report.specs.declared.sink.Sink as sinks
+use Rattle.ctd_words.specs.declared.setup.Setup.{Setup}
+use Rattle.ctd_words.specs.declared.setup.UsageFault.{UsageFault}
+use Rattle.ctd_words.specs.declared.setup.UsageFault.TheVariants.{Memory}
 use Rattle.ctd_tool.specs.Files.{Visit, IsFilesReport}
-use Rattle.ctd_tool.specs.Report.{Report, usage_report}
-use Rattle.ctd_tool.specs.Settings.{IsSetup}
-use Rattle.ctd_tool.specs.Usage.{IsUsageFault}
-use Rattle.ctd_tool.specs.Written.{Change, WritesAll, BreaksOff}
+use Rattle.ctd_report.specs.Report.{Report, usage_report}
+use Rattle.ctd_words.specs.Settings.{IsSetup}
+use Rattle.ctd_words.specs.Usage.{IsUsageFault}
+use Rattle.ctd_report.specs.Written.{Change, WritesAll, BreaksOff}
 
 -- one of these reports was written whole, and the status is its own; or a stream failed in it, and the status is 2
 abbrev pub EndsWithReport : {O E : Type 0} {S : sinks.Ghosts O} {T : sinks.Ghosts E} → Change S → Change T → (Report → Type 0) → ℕ → Type 0

@@ -8,9 +8,9 @@ use Rattle.ctd_source.specs.declared.from_read.FromRead.{FromRead}
 use Rattle.ctd_source.specs.declared.source.Source.{Ghosts}
 use Rattle.ctd_source.specs.declared.source.Seen.TheVariants.{Going}
 use Rattle.ctd_tool.specs.declared.files.Sources.{Sources}
-use Rattle.ctd_tool.specs.declared.setup.Setup.{Setup}
+use Rattle.ctd_words.specs.declared.setup.Setup.{Setup}
 use Rattle.ctd_tool.specs.Headline.{IsReport, call}
-use Rattle.ctd_tool.specs.Report.{Report, open_report}
+use Rattle.ctd_report.specs.Report.{Report, open_report}
 
 -- files before and after a call, with what opening one of them does, and what taking standard input does
 pub record Visit (F R : Type 0) : Type 1 where

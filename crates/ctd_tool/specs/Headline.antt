@@ -8,8 +8,8 @@ use Rattle.ctd_token.specs.declared.fault.LoadFault.{LoadFault}
 use Rattle.ctd_tree.specs.Tree.{CommandList}
 use Rattle.ctd_plan.specs.Loading.{Loads, MayFail}
 use Rattle.ctd_check.specs.Run.{meaning}
-use Rattle.ctd_tool.specs.declared.setup.Setup.{Setup}
-use Rattle.ctd_tool.specs.Report.{Report, check_report, load_report}
+use Rattle.ctd_words.specs.declared.setup.Setup.{Setup}
+use Rattle.ctd_report.specs.Report.{Report, check_report, load_report}
 
 -- a source as a call begins and as it ends
 pub record Call {S : Type 0} (G : Ghosts S) : Type 0 where

@@ -1,10 +1,3 @@
 pub mod Answer
-pub mod CommandLine
 pub mod Files
 pub mod Headline
-pub mod Report
-pub mod RequiredProgram
-pub mod Settings
-pub mod Usage
-pub mod Writer
-pub mod Written

@@ -2,13 +2,12 @@
 
 ghost use Rattle.std.specs.Prelude.{◌≡◌, ◌≤◌, ◌^◌, ℕ, List, Option, Some, false, IfErr, IfOk};
 ghost use Rattle.ctd_tool.specs.Files.{IsFilesReport, IsRunReport, StartsOn, visit};
-ghost use Rattle.ctd_tool.specs.Written.{LeavesOneOf, change};
+ghost use Rattle.ctd_report.specs.Written.{LeavesOneOf, change};
 
-use crate::report::{ToolFault, write_cannot_open};
-use crate::setup::Setup;
-use crate::sink::Sink;
 use crate::tool::run_tool;
 use ctd_check::{FromRead, Source};
+use ctd_report::{Sink, ToolFault, write_cannot_open};
+use ctd_words::Setup;
 use std::alloc::Global;
 use std::io::{BufReader, Read};
 

@@ -2,14 +2,14 @@
 
 ghost use Rattle.std.specs.Prelude.{◌≡◌, false};
 ghost use Rattle.ctd_tool.specs.Answer.{EndsWithReport};
-ghost use Rattle.ctd_tool.specs.Report.{IsToolReport};
-ghost use Rattle.ctd_tool.specs.Written.{change};
+ghost use Rattle.ctd_report.specs.Report.{IsToolReport};
+ghost use Rattle.ctd_report.specs.Written.{change};
 
 use crate::files::Files;
 use crate::run::{run_words, usage_status};
-use crate::setup::UsageFault;
-use crate::sink::{Sink, ToWrite};
 use ctd_check::Bytes;
+use ctd_report::{Sink, ToWrite};
+use ctd_words::UsageFault;
 use std::alloc::{AllocError, Global};
 use std::fs::File;
 use std::io::{self, ErrorKind, Read, Stderr, Stdin, Stdout};

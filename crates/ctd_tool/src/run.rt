@@ -3,15 +3,13 @@
 ghost use Rattle.std.specs.Prelude.{◌≡◌, false};
 ghost use Rattle.ctd_tool.specs.Answer.{EndsWithReport, IsAnswer};
 ghost use Rattle.ctd_tool.specs.Files.{visit};
-ghost use Rattle.ctd_tool.specs.Report.{usage_report};
-ghost use Rattle.ctd_tool.specs.Written.{change};
+ghost use Rattle.ctd_report.specs.Report.{usage_report};
+ghost use Rattle.ctd_report.specs.Written.{change};
 
 use crate::files::{Files, Ran, Sources, check_files};
-use crate::report::{NO_VERDICT, ToolFault, report_usage};
-use crate::setup::UsageFault;
-use crate::sink::Sink;
-use crate::words::settings;
 use ctd_check::{Bytes, FromRead, Source};
+use ctd_report::{NO_VERDICT, Sink, ToolFault, report_usage};
+use ctd_words::{UsageFault, settings};
 use std::alloc::Global;
 use std::io::{BufReader, Read};
 

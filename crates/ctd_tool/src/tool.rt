@@ -3,12 +3,11 @@
 ghost use Rattle.std.specs.Prelude.{◌≡◌, ◌≤◌, ◌^◌, false};
 ghost use Rattle.ctd_source.specs.declared.source.Seen.TheVariants.{Going};
 ghost use Rattle.ctd_tool.specs.Headline.{IsReport, call};
-ghost use Rattle.ctd_tool.specs.Written.{LeavesOneOf, change};
+ghost use Rattle.ctd_report.specs.Written.{LeavesOneOf, change};
 
-use crate::report::{ToolFault, write_load_fault, write_outcome};
-use crate::setup::Setup;
-use crate::sink::Sink;
 use ctd_check::{LoadKind, Plan, Source, check};
+use ctd_report::{Sink, ToolFault, write_load_fault, write_outcome};
+use ctd_words::Setup;
 use std::alloc::Global;
 
 /// Reads the program, checks the data against it, writes the report and answers the status: the report of the program's

@@ -1,11 +1,15 @@
-//! What the checktestdata language speaks of: the trees of programs, and the presets of variables.
+//! What the checktestdata language speaks of: the trees of programs, and with what they are run: presets of variables, the mode for blanks, and limits.
 #![tactic(auto)]
 
+mod limits;
+mod mode;
 mod numeral;
 mod preset;
 mod preset_text;
 mod tree;
 
+pub use limits::Limits;
+pub use mode::Mode;
 pub use numeral::Numeral;
 pub use preset::{Literal, Preset, PresetFault, Presets};
 pub use tree::{

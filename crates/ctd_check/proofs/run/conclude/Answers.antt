@@ -1,6 +1,6 @@
 use Rattle.std.proofs.Common.{[], ap, ◌∙◌, refl, Err}
 use Rattle.ctd_command.proofs.Acts.{performs_answering}
-use Rattle.ctd_check.specs.declared.outcome.Site.TheVariants.{Finish}
+use Rattle.ctd_outcome.specs.declared.outcome.Site.TheVariants.{Finish}
 use Rattle.ctd_check.specs.Halts.{halt_of}
 use Rattle.ctd_check.specs.Loops.{finish}
 use Rattle.ctd_check.specs.Pending.{to_do}

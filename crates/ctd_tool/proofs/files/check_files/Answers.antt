@@ -1,6 +1,6 @@
 use Rattle.std.proofs.Common.{refl, inl, inr, rules}
-use Rattle.ctd_tool.proofs.WrittenLemmas.{Leaves-LeavesOneOf, LeavesOneOf-weaker}
-use Rattle.ctd_tool.specs.Report.{open_report}
+use Rattle.ctd_report.proofs.WrittenLemmas.{Leaves-LeavesOneOf, LeavesOneOf-weaker}
+use Rattle.ctd_report.specs.Report.{open_report}
 use Rattle.ctd_tool.proofs.files.check_files.Goals as goal
 
 pub returns-in_default : goal.returns-in_default

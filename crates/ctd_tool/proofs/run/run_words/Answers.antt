@@ -1,7 +1,7 @@
 use Rattle.std.proofs.Common.{◌≡◌, Err, inl, inr, rules}
 use Rattle.ctd_tool.proofs.AnswerLemmas.{EndsWithReport-weaker, LeavesOneOf-EndsWithReport, BreaksOff-EndsWithReport, Memory-untouched}
-use Rattle.ctd_tool.specs.Written.{change}
-use Rattle.ctd_tool.specs.declared.report.ToolFault.TheVariants.{Memory, Write}
+use Rattle.ctd_report.specs.Written.{change}
+use Rattle.ctd_report.specs.declared.written.ToolFault.TheVariants.{Memory, Write}
 use Rattle.ctd_tool.proofs.run.run_words.Goals as goal
 use Rattle.ctd_tool.proofs.run.run_words.Goals.{in-Ok-answer, in-Err-Memory, in-Err-Write}
 

@@ -1,4 +1,4 @@
-use Rattle.ctd_command.specs.declared.reason.Reason.TheVariants.{AssertFailed}
+use Rattle.ctd_outcome.specs.declared.reason.Reason.TheVariants.{AssertFailed}
 use Rattle.ctd_command.proofs.Acts.{and_then, early_by, given, rejecting}
 use Rattle.ctd_command.proofs.machine.Run.any_assert.Goals as goal
 

@@ -1,5 +1,5 @@
 use Rattle.std.proofs.Common.{sym, ◌∙◌}
-use Rattle.ctd_command.specs.declared.reason.Reason.TheVariants.{ExpectedSpace}
+use Rattle.ctd_outcome.specs.declared.reason.Reason.TheVariants.{ExpectedSpace}
 use Rattle.ctd_command.proofs.Acts.{and_then, early_by, rejecting}
 use Rattle.ctd_command.proofs.machine.Run.blank_and_more.Goals as goal
 

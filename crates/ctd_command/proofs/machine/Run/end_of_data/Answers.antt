@@ -1,4 +1,4 @@
-use Rattle.ctd_command.specs.declared.reason.Reason.TheVariants.{ExpectedEof}
+use Rattle.ctd_outcome.specs.declared.reason.Reason.TheVariants.{ExpectedEof}
 use Rattle.ctd_command.proofs.Acts.{and_then, early_by, given, rejecting}
 use Rattle.ctd_command.proofs.machine.Run.end_of_data.Goals as goal
 

@@ -1,5 +1,0 @@
-use Rattle.std.proofs.Common.{rules}
-use Rattle.ctd_tool.proofs.report.is_wanted.Goals as goal
-
-pub returns-in-Help-clause-fault : goal.returns-in-Help-clause-fault
-returns-in-Help-clause-fault g c = search rules

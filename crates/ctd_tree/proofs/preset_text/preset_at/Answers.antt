@@ -1,0 +1,6 @@
+use Rattle.std.proofs.Common.{arith}
+use Rattle.std.proofs.lemmas.Grind.{common_steps}
+use Rattle.ctd_tree.proofs.preset_text.preset_at.Goals as goal
+
+pub returns-then-not-matches-clause-value : goal.returns-then-not-matches-clause-value
+returns-then-not-matches-clause-value c = grind (arith, common_steps)

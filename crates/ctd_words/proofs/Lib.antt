@@ -1,0 +1,2 @@
+pub mod NamedProgram
+pub mod SingleLemmas

@@ -1,0 +1,4 @@
+pub mod CommandLine
+pub mod RequiredProgram
+pub mod Settings
+pub mod Usage
