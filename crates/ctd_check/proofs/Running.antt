@@ -9,11 +9,9 @@ use Rattle.ctd_source.proofs.AdvanceLemmas.{advances_so, advances_both, advances
 use Rattle.ctd_source.specs.Received.{AdvancesSuchThat}
 use Rattle.ctd_token.specs.declared.text.Place.{Place}
 use Rattle.ctd_tree.specs.declared.tree.Action.{Action}
-use Rattle.ctd_tree.specs.declared.tree.Action.TheVariants.{Space, Newline, Eof, Int, String, Regex, Assert, Set, Unset, Rep', RepI', While', WhileI', If'}
-use Rattle.ctd_tree.specs.declared.tree.RepLoop.{RepLoop'}
-use Rattle.ctd_tree.specs.declared.tree.RepILoop.{RepILoop'}
-use Rattle.ctd_tree.specs.declared.tree.WhileLoop.{WhileLoop'}
-use Rattle.ctd_tree.specs.declared.tree.WhileILoop.{WhileILoop'}
+use Rattle.ctd_tree.specs.declared.tree.Action.TheVariants.{Space, Newline, Eof, Int, String, Regex, Assert, Set, Unset, If'}
+use Rattle.ctd_tree.specs.declared.tree.Action.TheVariants as actions
+use Rattle.ctd_tree.specs.declared.tree.Loop.{Loop'}
 use Rattle.ctd_tree.specs.declared.tree.Choice.{Choice'}
 use Rattle.ctd_tree.specs.declared.tree.Command.{Command}
 use Rattle.ctd_tree.specs.Tree.{place_of, CommandList}
@@ -53,10 +51,7 @@ place_is (Regex regex) place = refl
 place_is (Assert t) place = refl
 place_is (Set assignments) place = refl
 place_is (Unset names) place = refl
-place_is (Rep' p (RepLoop' count between body)) place = refl
-place_is (RepI' p (RepILoop' counter count between body)) place = refl
-place_is (While' p (WhileLoop' t between body)) place = refl
-place_is (WhileI' p (WhileILoop' counter t between body)) place = refl
+place_is (actions.Loop' p (Loop' guard counter between body)) place = refl
 place_is (If' p (Choice' t a b)) place = refl
 
 pub site_is : (c : Command) → At c.place ≡ site_of (start (command_tree c))

@@ -1,5 +1,5 @@
 -- The run of a program as a list of tasks, one step for each.
-use Rattle.std.specs.Prelude.{◌≡◌, ℕ, zero, suc, ◌-◌, ⊤, List, [], ◌∷◌, ◌++◌, Some, None}
+use Rattle.std.specs.Prelude.{◌≡◌, ℕ, zero, suc, ◌-◌, ⊤, List, [], ◌∷◌, ◌++◌}
 use Rattle.ctd_source.specs.TestData.{TestData, spot_at}
 use Rattle.ctd_tree.specs.declared.preset.Preset.{Preset}
 use Rattle.ctd_tree.specs.Tree
@@ -16,7 +16,7 @@ use Rattle.ctd_outcome.specs.declared.outcome.Site.TheVariants.{Start, At, Finis
 use Rattle.ctd_outcome.specs.declared.outcome.Checked.{Checked}
 use Rattle.ctd_outcome.specs.declared.outcome.Outcome.{Outcome}
 use Rattle.ctd_outcome.specs.declared.outcome.Outcome.TheVariants.{Accepted, Rejected, Stopped}
-use Rattle.ctd_check.specs.Loops.{Task, start, turn, finish, tasks, run_turn, repeat, repeat_while, choice}
+use Rattle.ctd_check.specs.Loops.{Task, start, turn, finish, tasks, run_turn, repeat, choice}
 
 -- where in the program a task stands
 abbrev pub site_of : Task → Site
@@ -41,10 +41,7 @@ act_of (Tree.regex place literal target) = simple (regex literal.bytes target)
 act_of (Tree.assert place t) = simple (assert t)
 act_of (Tree.set place assignments) = simple (set assignments)
 act_of (Tree.unset place names) = simple (unset_all names)
-act_of (Tree.rep place e sep body) = repeat place e None sep body
-act_of (Tree.repi place v e sep body) = repeat place e (Some v) sep body
-act_of (Tree.while place t sep body) = repeat_while place t None sep body
-act_of (Tree.whilei place v t sep body) = repeat_while place t (Some v) sep body
+act_of (Tree.loop place guard counter sep body) = repeat place guard counter sep body
 act_of (Tree.choice place t then_do else_do) = choice t then_do else_do
 
 -- a task whose step is paid, and the tasks that it leaves to be done first

@@ -11,8 +11,8 @@ ghost use Rattle.ctd_check.specs.Run.{act_of};
 ghost use Rattle.ctd_check.specs.Pending.{left_tasks};
 ghost use Rattle.ctd_check.specs.Advances.{NeedsRoom};
 
-use crate::frame::{Frame, Guard};
-use crate::loops::{choose, loop_frame, repeat};
+use crate::frame::Frame;
+use crate::loops::{choose, repeat};
 use ctd_command::{CommandFailure, Run};
 use ctd_pattern::Matcher;
 use ctd_source::Source;
@@ -68,10 +68,7 @@ pub(crate) fn act<D: Source>(
             Some(Ok(()))
         }
         Action::If(_) => None,
-        Action::Rep(_) => None,
-        Action::RepI(_) => None,
-        Action::While(_) => None,
-        Action::WhileI(_) => None,
+        Action::Loop(_) => None,
     }
 }
 
@@ -92,29 +89,17 @@ pub(crate) fn start_block<'p, D: Source>(
             let parts = &**choice;
             choose(run, &parts.condition, &parts.then_do, &parts.else_do)
         }
-        Action::Rep(repeated) => {
+        Action::Loop(repeated) => {
             let parts = &**repeated;
-            let (count, between) = (&parts.count, &parts.between);
-            repeat(run, command.place, count, None, between, &parts.body)
-        }
-        Action::RepI(repeated) => {
-            let parts = &**repeated;
-            let counter = Some(&*parts.counter);
-            let (count, between) = (&parts.count, &parts.between);
-            repeat(run, command.place, count, counter, between, &parts.body)
-        }
-        Action::While(repeated) => {
-            let parts = &**repeated;
-            let guard = Guard::While(&parts.condition);
-            let frame = loop_frame(command.place, guard, None, &parts.between, &parts.body);
-            Ok(Some(frame))
-        }
-        Action::WhileI(repeated) => {
-            let parts = &**repeated;
-            let guard = Guard::While(&parts.condition);
-            let counter = Some(&*parts.counter);
-            let frame = loop_frame(command.place, guard, counter, &parts.between, &parts.body);
-            Ok(Some(frame))
+            let (guard, counter) = (&parts.guard, &parts.counter);
+            repeat(
+                run,
+                command.place,
+                guard,
+                counter,
+                &parts.between,
+                &parts.body,
+            )
         }
         Action::Space => unreachable!(),
         Action::Newline => unreachable!(),

@@ -1,19 +1,19 @@
 //! IF and the loops: the frames that they leave to be done, and the turns of a loop.
 ghost use Rattle.std.specs.Prelude.{◌≡◌, ℕ, List, ◌+◌, ◌≤◌, ◌∷◌, ◌++◌, [], max, Some};
 ghost use Rattle.ctd_tree.specs.Tree.{list_blocks, separator_blocks};
-ghost use Rattle.ctd_tree.specs.View.{expr_tree, test_tree, command_list, boxed_separator};
+ghost use Rattle.ctd_tree.specs.View.{boxed_separator, boxed_target, command_list, guard_tree, test_tree};
 ghost use Rattle.ctd_syntax.specs.Numbering.{literals, separator_literals};
 ghost use Rattle.ctd_plan.specs.Numbered.{AreAmong};
 ghost use Rattle.ctd_command.specs.Performs.{IsSound, Performs, answering};
 ghost use Rattle.ctd_check.specs.Known.{LeavesKnown};
-ghost use Rattle.ctd_check.specs.Loops.{tasks, loop_of, turn, take_turn, count_turn, goes_on, repeat, choice};
+ghost use Rattle.ctd_check.specs.Loops.{tasks, loop_of, turn, take_turn, count_turn, goes_on, guard_of, repeat, choice};
 ghost use Rattle.ctd_check.specs.Pending.{frame_tasks, separator_in, frame_blocks, lap_turn, guard_in, counter_in, loop_in, left_tasks, IsWithin};
 ghost use Rattle.ctd_check.specs.Advances.{NeedsRoom};
 
 use crate::frame::{Frame, Guard, Lap};
 use ctd_command::{CommandFailure, Run};
 use ctd_source::Source;
-use ctd_syntax::{Command, Commands, Expr, Place, Test, Var};
+use ctd_syntax::{Command, Commands, LoopGuard, Place, Test, Var};
 
 /// A separator, or none.
 fn unbox(between: &Option<Box<Command>>) -> Option<&Command>
@@ -25,19 +25,30 @@ fn unbox(between: &Option<Box<Command>>) -> Option<&Command>
     }
 }
 
+/// A counter, or none.
+fn unbox_counter(counter: &Option<Box<Var>>) -> Option<&Var>
+    ensures same { counter_in result ≡ boxed_target counter.now }
+{
+    match counter {
+        Some(var) => Some(&**var),
+        None => None,
+    }
+}
+
 /// The frame of a loop before its first turn.
 #[inline(always)]
-pub(crate) fn loop_frame<'p>(
+fn loop_frame<'p>(
     place: Place,
     guard: Guard<'p>,
-    counter: Option<&'p Var>,
+    counter: &'p Option<Box<Var>>,
     between: &'p Option<Box<Command>>,
     body: &'p Commands,
 ) -> Frame<'p>
-    ensures tasks { frame_tasks result ≡ turn (loop_of place (guard_in guard.entry) (counter_in counter.entry) (boxed_separator between.now) (command_list body.now)) 0 ∷ [] }
+    ensures tasks { frame_tasks result ≡ turn (loop_of place (guard_in guard.entry) (boxed_target counter.now) (boxed_separator between.now) (command_list body.now)) 0 ∷ [] }
     ensures blocks { frame_blocks result ≡ max (separator_blocks (boxed_separator between.now)) (list_blocks (command_list body.now)) }
     ensures turn { lap_turn result.lap ≡ 0 }
 {
+    let counter = unbox_counter(counter);
     let between = unbox(between);
     let lap = Lap {
         place,
@@ -83,24 +94,41 @@ pub(crate) fn choose<'p, D: Source>(
     Ok(list_frame(else_do))
 }
 
-/// REP and REPI: the loop is left to be done.
+/// How long a loop goes on that starts: the number of its turns is evaluated once, its test in each turn.
+#[inline(always)]
+fn guard_of<'p, D: Source>(
+    run: &Run<'_, D>,
+    guard: &'p LoopGuard,
+) -> Result<Guard<'p>, CommandFailure>
+    requires sound { IsSound run.now }
+    ensures performs { Performs run.now run.now (answering guard_in result) (guard_of (guard_tree guard.now)) }
+{
+    match guard {
+        LoopGuard::Times(count) => {
+            let turns = run.count(count)?;
+            Ok(Guard::Times(turns))
+        }
+        LoopGuard::While(t) => Ok(Guard::While(t)),
+    }
+}
+
+/// REP, REPI, WHILE and WHILEI: the loop is left to be done.
 #[inline(always)]
 pub(crate) fn repeat<'p, D: Source>(
     run: &mut Run<'_, D>,
     place: Place,
-    count: &Expr,
-    counter: Option<&'p Var>,
+    guard: &'p LoopGuard,
+    counter: &'p Option<Box<Var>>,
     between: &'p Option<Box<Command>>,
     body: &'p Commands,
 ) -> Result<Option<Frame<'p>>, CommandFailure>
     requires sound { IsSound run.old }
-    ensures performs { Performs run.old run.new (answering left_tasks result) (repeat place (expr_tree count.now) (counter_in counter.entry) (boxed_separator between.now) (command_list body.now)) }
+    ensures performs { Performs run.old run.new (answering left_tasks result) (repeat place (guard_tree guard.now) (boxed_target counter.now) (boxed_separator between.now) (command_list body.now)) }
     ensures room { NeedsRoom result (1 + max (separator_blocks (boxed_separator between.now)) (list_blocks (command_list body.now))) }
     ensures known { (patterns : List (List ℕ)) → AreAmong patterns (separator_literals (boxed_separator between.now) ++ literals (command_list body.now)) → LeavesKnown patterns result }
 {
-    let turns = run.count(count)?;
-    let frame = loop_frame(place, Guard::Times(turns), counter, between, body);
-    Ok(Some(frame))
+    let guard = guard_of(run, guard)?;
+    Ok(Some(loop_frame(place, guard, counter, between, body)))
 }
 
 /// Gives a counter, where there is one, the number of a turn.

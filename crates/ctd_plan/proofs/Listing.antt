@@ -6,14 +6,12 @@ use Rattle.ctd_tree.specs.declared.tree.Commands.{Commands}
 use Rattle.ctd_tree.specs.declared.tree.PatternLiteral.{PatternLiteral}
 use Rattle.ctd_token.specs.declared.text.Place.{Place}
 use Rattle.ctd_tree.specs.declared.tree.Action.{Action}
-use Rattle.ctd_tree.specs.declared.tree.Action.TheVariants.{Rep, RepI, While, WhileI, If}
-use Rattle.ctd_tree.specs.declared.tree.RepLoop.{RepLoop, out-RepLoop}
-use Rattle.ctd_tree.specs.declared.tree.RepILoop.{RepILoop, out-RepILoop}
-use Rattle.ctd_tree.specs.declared.tree.WhileLoop.{WhileLoop, out-WhileLoop}
-use Rattle.ctd_tree.specs.declared.tree.WhileILoop.{WhileILoop, out-WhileILoop}
+use Rattle.ctd_tree.specs.declared.tree.Action.TheVariants.{If}
+use Rattle.ctd_tree.specs.declared.tree.Action.TheVariants as actions
+use Rattle.ctd_tree.specs.declared.tree.Loop.{Loop, out-Loop}
 use Rattle.ctd_tree.specs.declared.tree.Choice.{Choice, out-Choice}
 use Rattle.ctd_tree.specs.View.{action_tree, command_trees, command_list, commands_of, boxed_separator}
-use Rattle.ctd_tree.proofs.Trees.{list_commands, rep_tree, repi_tree, while_tree, whilei_tree, choice_tree}
+use Rattle.ctd_tree.proofs.Trees.{list_commands, loop_tree, choice_tree}
 use Rattle.ctd_syntax.specs.Numbering.{command_literals, separator_literals, literals}
 
 -- the list of a block
@@ -26,21 +24,9 @@ pub literals_of_loop : (between : Option (Box Command)) (body : Commands) (cs : 
 literals_of_loop between body cs is = ap (λ l. separator_literals (boxed_separator between) ++ l) (sym (literals_of_block body cs is))
 
 -- the literals of a loop and of an IF, by what its box holds
-pub rep_literals : (a : Action) (x : Box RepLoop) (l : RepLoop) (place : Place) (cs : List Command) → a ≡ Rep x → l ≡ x.value → cs ≡ commands_of (out-RepLoop l).body
-    → command_literals (action_tree a place) ≡ separator_literals (boxed_separator (out-RepLoop l).between) ++ literals (command_trees cs)
-rep_literals a x l place cs is held body = ap command_literals (rep_tree a x l place is held) ∙ (literals_of_loop (out-RepLoop l).between (out-RepLoop l).body cs body)
-
-pub repi_literals : (a : Action) (x : Box RepILoop) (l : RepILoop) (place : Place) (cs : List Command) → a ≡ RepI x → l ≡ x.value → cs ≡ commands_of (out-RepILoop l).body
-    → command_literals (action_tree a place) ≡ separator_literals (boxed_separator (out-RepILoop l).between) ++ literals (command_trees cs)
-repi_literals a x l place cs is held body = ap command_literals (repi_tree a x l place is held) ∙ (literals_of_loop (out-RepILoop l).between (out-RepILoop l).body cs body)
-
-pub while_literals : (a : Action) (x : Box WhileLoop) (l : WhileLoop) (place : Place) (cs : List Command) → a ≡ While x → l ≡ x.value → cs ≡ commands_of (out-WhileLoop l).body
-    → command_literals (action_tree a place) ≡ separator_literals (boxed_separator (out-WhileLoop l).between) ++ literals (command_trees cs)
-while_literals a x l place cs is held body = ap command_literals (while_tree a x l place is held) ∙ (literals_of_loop (out-WhileLoop l).between (out-WhileLoop l).body cs body)
-
-pub whilei_literals : (a : Action) (x : Box WhileILoop) (l : WhileILoop) (place : Place) (cs : List Command) → a ≡ WhileI x → l ≡ x.value → cs ≡ commands_of (out-WhileILoop l).body
-    → command_literals (action_tree a place) ≡ separator_literals (boxed_separator (out-WhileILoop l).between) ++ literals (command_trees cs)
-whilei_literals a x l place cs is held body = ap command_literals (whilei_tree a x l place is held) ∙ (literals_of_loop (out-WhileILoop l).between (out-WhileILoop l).body cs body)
+pub loop_literals : (a : Action) (x : Box Loop) (l : Loop) (place : Place) (cs : List Command) → a ≡ actions.Loop x → l ≡ x.value → cs ≡ commands_of (out-Loop l).body
+    → command_literals (action_tree a place) ≡ separator_literals (boxed_separator (out-Loop l).between) ++ literals (command_trees cs)
+loop_literals a x l place cs is held body = ap command_literals (loop_tree a x l place is held) ∙ (literals_of_loop (out-Loop l).between (out-Loop l).body cs body)
 
 pub choice_literals : (a : Action) (x : Box Choice) (c : Choice) (place : Place) (cs ds : List Command) → a ≡ If x → c ≡ x.value → cs ≡ commands_of (out-Choice c).then_do → ds ≡ commands_of (out-Choice c).else_do
     → command_literals (action_tree a place) ≡ literals (command_trees cs) ++ literals (command_trees ds)

@@ -4,9 +4,7 @@ ghost use Rattle.ctd_tree.specs.View.{boxed_separator, command_tree, command_tre
 ghost use Rattle.ctd_syntax.specs.Numbering.{literals, command_literals, separator_literals};
 ghost use Rattle.ctd_plan.specs.Literals.{literals_at};
 
-use ctd_syntax::{
-    Action, Choice, Command, PatternLiteral, RepILoop, RepLoop, WhileILoop, WhileLoop,
-};
+use ctd_syntax::{Action, Choice, Command, Loop, PatternLiteral};
 use std::alloc::{AllocError, Global};
 
 /// Appends the literals of commands to those found before.
@@ -39,23 +37,8 @@ fn command_literals<'p>(
             found.push(&regex.literal)?;
             Ok(())
         }
-        Action::Rep(repeated) => {
-            let RepLoop { between, body, .. } = &**repeated;
-            separator_literals(between, found)?;
-            list_literals(body.as_slice(), found)
-        }
-        Action::RepI(repeated) => {
-            let RepILoop { between, body, .. } = &**repeated;
-            separator_literals(between, found)?;
-            list_literals(body.as_slice(), found)
-        }
-        Action::While(repeated) => {
-            let WhileLoop { between, body, .. } = &**repeated;
-            separator_literals(between, found)?;
-            list_literals(body.as_slice(), found)
-        }
-        Action::WhileI(repeated) => {
-            let WhileILoop { between, body, .. } = &**repeated;
+        Action::Loop(repeated) => {
+            let Loop { between, body, .. } = &**repeated;
             separator_literals(between, found)?;
             list_literals(body.as_slice(), found)
         }

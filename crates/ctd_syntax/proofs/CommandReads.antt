@@ -1,15 +1,17 @@
 -- A command is told by its word, and a list of commands ends where no word of a command follows.
-use Rattle.std.proofs.Common.{◌≡◌, inl, inr, ℕ, List, [], ◌∷◌, ◌++◌, true, false, Option, refl, sym, ap, ◌∙◌, subst, append_assoc, append-nil, arith}
+use Rattle.std.proofs.Common.{◌≡◌, ◌⊎◌, inl, inr, ℕ, List, [], ◌∷◌, ◌++◌, true, false, Option, Some, None, refl, sym, ap, ◌∙◌, subst, append_assoc, append-nil, arith}
 use Rattle.ctd_syntax.specs.Lexeme.{Lexeme, mark, keyword}
 use Rattle.ctd_tree.proofs.Trees.{joined}
 use Rattle.ctd_tree.specs.Tree
-use Rattle.ctd_tree.specs.Tree.{VarTree, CommandTree, CommandList, Separator}
+use Rattle.ctd_tree.specs.Tree.{VarTree, GuardTree, CommandTree, CommandList, Separator}
 use Rattle.ctd_syntax.specs.Grammar
-use Rattle.ctd_syntax.specs.Grammar.{IsTargetEnd, IsCommand, IsCommands, IsRepeated, IsBranches}
+use Rattle.ctd_syntax.specs.Grammar.{IsTarget, IsTargetEnd, IsCommand, IsCommands, IsRepeated, IsBranches}
 use Rattle.ctd_syntax.specs.Front.{Found, NotFound, Always, IsBefore, IsAfter, IsBuilt, IsPair, Spelling, Following}
 use Rattle.ctd_syntax.specs.Levels.{ends}
 use Rattle.ctd_syntax.specs.Tests.{test_ends}
-use Rattle.ctd_syntax.specs.CommandWords.{IsCommandRest, CommandsEnd, IsBlock, IsBranchEnd, IsLoopEnd, IsPatternText, command_begins, is_command_word}
+use Rattle.ctd_syntax.specs.CommandWords.{IsCommandRest, CommandsEnd, IsBlock, IsBranchEnd, IsAbsent, IsCounter, IsGuard, IsLoopRest, IsLoopEnd, IsPatternText, command_begins, is_command_word}
+use Rattle.ctd_syntax.specs.declared.loop_head.LoopWord.{LoopWord}
+use Rattle.ctd_syntax.specs.declared.loop_head.LoopWord.TheVariants.{Rep, RepI, While, WhileI}
 use Rattle.ctd_token.specs.declared.text.Place.{Place}
 use Rattle.ctd_token.specs.declared.token.Mark.TheVariants.{Open, Close, Comma}
 use Rattle.ctd_syntax.specs.declared.keyword.Keyword.{Keyword}
@@ -31,14 +33,33 @@ pub before_target_end : (vs us : List Lexeme) (target : Option VarTree) → IsTa
 before_target_end vs us target Grammar.none h = omega arith
 before_target_end vs us target (Grammar.some i) h = omega arith
 
--- an expression and a test end before the end of their loop
-pub before_loop_end : (vs us : List Lexeme) (x : Separator × CommandList) → IsLoopEnd vs x → Always us → ends 1 (vs ++ us)
-before_loop_end vs us x (inl (none, (ts, is, i))) h = subst (λ l. ends 1 (l ++ us)) (sym is) (omega arith)
-before_loop_end vs us x (inr (c, some, (ts, is, i))) h = subst (λ l. ends 1 (l ++ us)) (sym is) (omega arith)
+-- the head of a loop ends before its end
+pub before_loop_end : (vs us : List Lexeme) (x : Separator × CommandList) → IsLoopEnd vs x → Always us → test_ends 1 (vs ++ us)
+before_loop_end vs us x (inl (none, (ts, is, i))) h = subst (λ l. test_ends 1 (l ++ us)) (sym is) (omega arith, omega arith)
+before_loop_end vs us x (inr (c, some, (ts, is, i))) h = subst (λ l. test_ends 1 (l ++ us)) (sym is) (omega arith, omega arith)
 
-pub test_before_loop_end : (vs us : List Lexeme) (x : Separator × CommandList) → IsLoopEnd vs x → Always us → test_ends 1 (vs ++ us)
-test_before_loop_end vs us x (inl (none, (ts, is, i))) h = subst (λ l. test_ends 1 (l ++ us)) (sym is) (omega arith, omega arith)
-test_before_loop_end vs us x (inr (c, some, (ts, is, i))) h = subst (λ l. test_ends 1 (l ++ us)) (sym is) (omega arith, omega arith)
+-- a loop without a counter
+pub no_counter : (tokens : List Lexeme) → Found IsAbsent Always tokens None tokens
+no_counter tokens = record {
+  front = [];
+  split = refl;
+  spells = (refl, refl);
+  only = λ ts us u split h w. (w.1, sym (split ∙ ap (λ l. l ++ us) w.0));
+}
+
+-- a loop with one
+pub counter_reads : (word : LoopWord) (tokens rest : List Lexeme) (v : VarTree) → (word ≡ RepI) ⊎ (word ≡ WhileI) → Found (IsBefore Comma IsTarget) Always tokens v rest → Found (IsCounter word) Always tokens (Some v) rest
+counter_reads word tokens rest v (inl is) f = subst (λ w. Found (IsCounter w) Always tokens (Some v) rest) (sym is) (built Some (IsBefore Comma IsTarget) Always tokens rest v f)
+counter_reads word tokens rest v (inr is) f = subst (λ w. Found (IsCounter w) Always tokens (Some v) rest) (sym is) (built Some (IsBefore Comma IsTarget) Always tokens rest v f)
+
+pub counter_none : (word : LoopWord) (tokens : List Lexeme) → (word ≡ RepI) ⊎ (word ≡ WhileI) → NotFound (IsBefore Comma IsTarget) Always tokens → NotFound (IsCounter word) Always tokens
+counter_none word tokens (inl is) not = subst (λ w. NotFound (IsCounter w) Always tokens) (sym is) (not_built Some (IsBefore Comma IsTarget) Always tokens not)
+counter_none word tokens (inr is) not = subst (λ w. NotFound (IsCounter w) Always tokens) (sym is) (not_built Some (IsBefore Comma IsTarget) Always tokens not)
+
+-- what ends a test ends an expression
+pub ends_both : (us : List Lexeme) → test_ends 1 us → ends 1 us
+ends_both [] h = tt
+ends_both (t ∷ ts) h = h.1
 
 -- commands end before ELSE and END
 pub before_branch_end : (vs us : List Lexeme) (b : CommandList) → IsBranchEnd vs b → Always us → CommandsEnd (vs ++ us)
@@ -85,6 +106,17 @@ branches_to ts x (us, vs, split, i, inl (at, ended, done)) =
 branches_to ts x (us, vs, split, i, inr (else_at, ws, parted, (bs, at, ended, j))) =
     subst (λ l. IsBranches l x.0 x.1) (sym (split ∙ ap (λ l. us ++ l) (parted ∙ ap (λ l. keyword words.Else else_at ∷ l) ended) ∙ sym (append_assoc us (keyword words.Else else_at ∷ bs) (keyword words.End at ∷ [])))) (Grammar.two_ways at else_at i j)
 
+-- the head of a loop without a counter, and with one
+head_alone : {T : Type 0} (A : Spelling T) (ts : List Lexeme) (x : T) → A ts x → IsPair IsAbsent A ts (None, x)
+head_alone A ts x i = ([], ts, refl, (refl, refl), i)
+
+head_counted : {T : Type 0} (A : Spelling T) (cs ts : List Lexeme) (v : VarTree) (x : T) → IsTarget cs v → A ts x → IsPair (IsBuilt Some (IsBefore Comma IsTarget)) A (cs ++ mark Comma ∷ ts) (Some v, x)
+head_counted A cs ts v x i j = (cs ++ mark Comma ∷ [], ts, sym (append_assoc cs (mark Comma ∷ []) ts), (v, refl, (cs, refl, i)), j)
+
+-- the parts of a loop, and its tokens behind the word
+loop_from : (word : LoopWord) (at : Place) (ts us : List Lexeme) (counter : Option VarTree) (guard : GuardTree) (separator : Separator) (body : CommandList) → IsPair (IsCounter word) (IsGuard word) ts (counter, guard) → IsRepeated us separator body → IsLoopRest word at (mark Open ∷ ts ++ us) (Tree.loop at guard counter separator body)
+loop_from word at ts us counter guard separator body i r = (((counter, guard), (separator, body)), refl, (mark Open ∷ ts, us, refl, (ts, refl, i), loop_end_from us separator body r))
+
 -- a command is its word and what stands behind it
 abbrev Worded : List Lexeme → CommandTree → Type 0
 Worded ts u = (k : Keyword) × (at : Place) × (vs : List Lexeme) × (ts ≡ keyword k at ∷ vs) × (is_command_word k ≡ true) × IsCommandRest k at vs u
@@ -99,15 +131,31 @@ worded ts u (Grammar.regex {vs} {literal} {target} {at} e) = (words.Regex litera
 worded ts u (Grammar.assert {ts = es} {t} {at} i) = (words.Assert, at, mark Open ∷ es ++ mark Close ∷ [], refl, refl, (t, refl, (es ++ mark Close ∷ [], refl, (es, refl, i))))
 worded ts u (Grammar.set {ts = es} {assignments} {at} i) = (words.Set, at, mark Open ∷ es ++ mark Close ∷ [], refl, refl, (assignments, refl, (es ++ mark Close ∷ [], refl, (es, refl, i))))
 worded ts u (Grammar.unset {ts = es} {names} {at} i) = (words.Unset, at, mark Open ∷ es ++ mark Close ∷ [], refl, refl, (names, refl, (es ++ mark Close ∷ [], refl, (es, refl, i))))
-worded ts u (Grammar.rep {ts = es} {us} {count} {between = separator} {body} {at} i r) = (words.Rep, at, mark Open ∷ es ++ us, refl, refl, ((count, (separator, body)), refl, (es ++ us, refl, (es, us, refl, i, loop_end_from us separator body r))))
-worded ts u (Grammar.repi {ts = cs} {us = es} {vs} {counter} {count} {between = separator} {body} {at} i j r) = (words.RepI, at, mark Open ∷ (cs ++ mark Comma ∷ es) ++ vs, refl, refl, ((counter, (count, (separator, body))), refl, ((cs ++ mark Comma ∷ es) ++ vs, refl, (cs ++ mark Comma ∷ [], es ++ vs, append_assoc cs (mark Comma ∷ es) vs ∙ sym (append_assoc cs (mark Comma ∷ []) (es ++ vs)), (cs, refl, i), (es, vs, refl, j, loop_end_from vs separator body r)))))
-worded ts u (Grammar.while {ts = es} {us} {t} {between = separator} {body} {at} i r) = (words.While, at, mark Open ∷ es ++ us, refl, refl, ((t, (separator, body)), refl, (es ++ us, refl, (es, us, refl, i, loop_end_from us separator body r))))
-worded ts u (Grammar.whilei {ts = cs} {us = es} {vs} {counter} {t} {between = separator} {body} {at} i j r) = (words.WhileI, at, mark Open ∷ (cs ++ mark Comma ∷ es) ++ vs, refl, refl, ((counter, (t, (separator, body))), refl, ((cs ++ mark Comma ∷ es) ++ vs, refl, (cs ++ mark Comma ∷ [], es ++ vs, append_assoc cs (mark Comma ∷ es) vs ∙ sym (append_assoc cs (mark Comma ∷ []) (es ++ vs)), (cs, refl, i), (es, vs, refl, j, loop_end_from vs separator body r)))))
+worded ts u (Grammar.rep {ts = es} {us} {count} {between = separator} {body} {at} i r) = (words.Rep, at, mark Open ∷ es ++ us, refl, refl, loop_from Rep at es us None (Tree.turns count) separator body (head_alone (IsGuard Rep) es (Tree.turns count) (count, refl, i)) r)
+worded ts u (Grammar.repi {ts = cs} {us = es} {vs} {counter} {count} {between = separator} {body} {at} i j r) = (words.RepI, at, mark Open ∷ (cs ++ mark Comma ∷ es) ++ vs, refl, refl, loop_from RepI at (cs ++ mark Comma ∷ es) vs (Some counter) (Tree.turns count) separator body (head_counted (IsGuard RepI) cs es counter (Tree.turns count) i (count, refl, j)) r)
+worded ts u (Grammar.while {ts = es} {us} {t} {between = separator} {body} {at} i r) = (words.While, at, mark Open ∷ es ++ us, refl, refl, loop_from While at es us None (Tree.while t) separator body (head_alone (IsGuard While) es (Tree.while t) (t, refl, i)) r)
+worded ts u (Grammar.whilei {ts = cs} {us = es} {vs} {counter} {t} {between = separator} {body} {at} i j r) = (words.WhileI, at, mark Open ∷ (cs ++ mark Comma ∷ es) ++ vs, refl, refl, loop_from WhileI at (cs ++ mark Comma ∷ es) vs (Some counter) (Tree.while t) separator body (head_counted (IsGuard WhileI) cs es counter (Tree.while t) i (t, refl, j)) r)
 worded ts u (Grammar.choice {ts = es} {us} {t} {then_do} {else_do} {at} i b) = (words.If, at, mark Open ∷ (es ++ mark Close ∷ us), refl, refl, ((t, (then_do, else_do)), refl, (es ++ mark Close ∷ us, refl, (es ++ mark Close ∷ [], us, sym (append_assoc es (mark Close ∷ []) us), (es, refl, i), branches_from us then_do else_do b))))
 
 -- what stands between the parentheses of a command with a comma
 paired : (ts us ws ls hs es : List Lexeme) → ts ≡ us ++ ws → us ≡ ls ++ mark Comma ∷ [] → ws ≡ hs ++ es → ts ≡ (ls ++ mark Comma ∷ hs) ++ es
 paired ts us ws ls hs es split comma ends_so = split ∙ ap (λ l. l ++ ws) comma ∙ append_assoc ls (mark Comma ∷ []) ws ∙ ap (λ l. ls ++ mark Comma ∷ l) ends_so ∙ sym (append_assoc ls (mark Comma ∷ hs) es)
+
+-- a loop by its parts
+loop_as : (k : Keyword) (at : Place) (vs ts : List Lexeme) (u : CommandTree) (x : (Option VarTree × GuardTree) × (Separator × CommandList)) (counter : Option VarTree) (guard : GuardTree) → vs ≡ ts → u ≡ Tree.loop at x.0.1 x.0.0 x.1.0 x.1.1 → x.0.0 ≡ counter → x.0.1 ≡ guard → IsCommand (keyword k at ∷ ts) (Tree.loop at guard counter x.1.0 x.1.1) → IsCommand (keyword k at ∷ vs) u
+loop_as k at vs ts u x counter guard is tree counts goes_on i =
+    let parts : u ≡ Tree.loop at guard counter x.1.0 x.1.1 = tree ∙ ap (λ g. Tree.loop at g x.0.0 x.1.0 x.1.1) goes_on ∙ ap (λ v. Tree.loop at guard v x.1.0 x.1.1) counts in
+    subst (λ l. IsCommand (keyword k at ∷ l) u) (sym is) (subst (IsCommand _) (sym parts) i)
+
+-- the tokens of a loop behind its word
+headed : (vs hs ls ts cs es : List Lexeme) → vs ≡ hs ++ ls → hs ≡ mark Open ∷ ts → ts ≡ cs ++ es → vs ≡ mark Open ∷ (cs ++ es) ++ ls
+headed vs hs ls ts cs es split opened parted = split ∙ ap (λ l. l ++ ls) (opened ∙ ap (λ l. mark Open ∷ l) parted)
+
+headed_alone : (vs hs ls ts cs es : List Lexeme) → vs ≡ hs ++ ls → hs ≡ mark Open ∷ ts → ts ≡ cs ++ es → cs ≡ [] → vs ≡ mark Open ∷ es ++ ls
+headed_alone vs hs ls ts cs es split opened parted none = headed vs hs ls ts cs es split opened parted ∙ ap (λ l. mark Open ∷ (l ++ es) ++ ls) none
+
+headed_counted : (vs hs ls ts cs es bs : List Lexeme) → vs ≡ hs ++ ls → hs ≡ mark Open ∷ ts → ts ≡ cs ++ es → cs ≡ bs ++ mark Comma ∷ [] → vs ≡ mark Open ∷ (bs ++ mark Comma ∷ es) ++ ls
+headed_counted vs hs ls ts cs es bs split opened parted comma = headed vs hs ls ts cs es split opened parted ∙ ap (λ l. mark Open ∷ (l ++ es) ++ ls) comma ∙ ap (λ l. mark Open ∷ l ++ ls) (append_assoc bs (mark Comma ∷ []) es)
 
 -- what stands behind its word makes a command
 command_of : (k : Keyword) (at : Place) (vs : List Lexeme) (u : CommandTree) → IsCommandRest k at vs u → IsCommand (keyword k at ∷ vs) u
@@ -126,14 +174,14 @@ command_of words.Set at vs u (x, tree, (ts, opened, (es, closing, i))) =
     subst (λ l. IsCommand (keyword words.Set at ∷ l) u) (sym (opened ∙ ap (λ l. mark Open ∷ l) closing)) (subst (IsCommand _) (sym tree) (Grammar.set i))
 command_of words.Unset at vs u (x, tree, (ts, opened, (es, closing, i))) =
     subst (λ l. IsCommand (keyword words.Unset at ∷ l) u) (sym (opened ∙ ap (λ l. mark Open ∷ l) closing)) (subst (IsCommand _) (sym tree) (Grammar.unset i))
-command_of words.Rep at vs u (x, tree, (ts, opened, (us, ws, split, i, r))) =
-    subst (λ l. IsCommand (keyword words.Rep at ∷ l) u) (sym (opened ∙ ap (λ l. mark Open ∷ l) split)) (subst (IsCommand _) (sym tree) (Grammar.rep i (loop_end_to ws x.1 r)))
-command_of words.RepI at vs u (x, tree, (ts, opened, (us, ws, split, (cs, comma, i), (es, ls, ends_so, j, r)))) =
-    subst (λ l. IsCommand (keyword words.RepI at ∷ l) u) (sym (opened ∙ ap (λ l. mark Open ∷ l) (paired ts us ws cs es ls split comma ends_so))) (subst (IsCommand _) (sym tree) (Grammar.repi i j (loop_end_to ls x.1.1 r)))
-command_of words.While at vs u (x, tree, (ts, opened, (us, ws, split, i, r))) =
-    subst (λ l. IsCommand (keyword words.While at ∷ l) u) (sym (opened ∙ ap (λ l. mark Open ∷ l) split)) (subst (IsCommand _) (sym tree) (Grammar.while i (loop_end_to ws x.1 r)))
-command_of words.WhileI at vs u (x, tree, (ts, opened, (us, ws, split, (cs, comma, i), (es, ls, ends_so, j, r)))) =
-    subst (λ l. IsCommand (keyword words.WhileI at ∷ l) u) (sym (opened ∙ ap (λ l. mark Open ∷ l) (paired ts us ws cs es ls split comma ends_so))) (subst (IsCommand _) (sym tree) (Grammar.whilei i j (loop_end_to ls x.1.1 r)))
+command_of words.Rep at vs u (x, tree, (hs, ls, split, (ts, opened, (cs, es, parted, (none, alone), (goes_on, guard, i))), r)) =
+    loop_as words.Rep at vs (mark Open ∷ es ++ ls) u x None (Tree.turns goes_on) (headed_alone vs hs ls ts cs es split opened parted none) tree alone guard (Grammar.rep i (loop_end_to ls x.1 r))
+command_of words.RepI at vs u (x, tree, (hs, ls, split, (ts, opened, (cs, es, parted, (v, counts, (bs, comma, i)), (goes_on, guard, j))), r)) =
+    loop_as words.RepI at vs (mark Open ∷ (bs ++ mark Comma ∷ es) ++ ls) u x (Some v) (Tree.turns goes_on) (headed_counted vs hs ls ts cs es bs split opened parted comma) tree counts guard (Grammar.repi i j (loop_end_to ls x.1 r))
+command_of words.While at vs u (x, tree, (hs, ls, split, (ts, opened, (cs, es, parted, (none, alone), (goes_on, guard, i))), r)) =
+    loop_as words.While at vs (mark Open ∷ es ++ ls) u x None (Tree.while goes_on) (headed_alone vs hs ls ts cs es split opened parted none) tree alone guard (Grammar.while i (loop_end_to ls x.1 r))
+command_of words.WhileI at vs u (x, tree, (hs, ls, split, (ts, opened, (cs, es, parted, (v, counts, (bs, comma, i)), (goes_on, guard, j))), r)) =
+    loop_as words.WhileI at vs (mark Open ∷ (bs ++ mark Comma ∷ es) ++ ls) u x (Some v) (Tree.while goes_on) (headed_counted vs hs ls ts cs es bs split opened parted comma) tree counts guard (Grammar.whilei i j (loop_end_to ls x.1 r))
 command_of words.If at vs u (x, tree, (ts, opened, (us, ws, split, (es, closing, i), b))) =
     subst (λ l. IsCommand (keyword words.If at ∷ l) u) (sym (opened ∙ ap (λ l. mark Open ∷ l) (split ∙ ap (λ l. l ++ ws) closing ∙ append_assoc es (mark Close ∷ []) ws))) (subst (IsCommand _) (sym tree) (Grammar.choice i (branches_to ws x.1 b)))
 command_of _ at vs u w = absurd w

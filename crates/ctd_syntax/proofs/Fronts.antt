@@ -38,6 +38,18 @@ no_tree_exit B F view tokens e read is no_tree =
     let same : read ≡ Err e = p.1 ∙ ap Err p.2 in
     subst (λ x. FindsTree B F view x tokens) (sym same) (no_tree_as B F tokens e no_tree)
 
+-- fewer tokens may follow
+pub found_under : {T : Type 0} (A : Spelling T) (E F : Following) → ((us : List Lexeme) → F us → E us) → (tokens after : List Lexeme) (t : T) → Found A E tokens t after → Found A F tokens t after
+found_under A E F less tokens after t f = record {
+  front = f.front;
+  split = f.split;
+  spells = f.spells;
+  only = λ ts us u split h w. f.only ts us u split (less us h) w;
+}
+
+pub none_under : {T : Type 0} (A : Spelling T) (E F : Following) → ((us : List Lexeme) → F us → E us) → (tokens : List Lexeme) → NotFound A E tokens → NotFound A F tokens
+none_under A E F less tokens not ts us u split h w = not ts us u split (less us h) w
+
 -- a tree and the mark behind it
 pub before_reads : {T : Type 0} (Spells : Spelling T) (Ends : Following) (end_mark : Mark) → ((us : List Lexeme) → Ends (mark end_mark ∷ us)) → (tokens rest r : List Lexeme) (a : T) → Found Spells Ends tokens a rest → rest ≡ mark end_mark ∷ r → Found (IsBefore end_mark Spells) Always tokens a r
 before_reads Spells Ends end_mark ended tokens rest r a f e = record {

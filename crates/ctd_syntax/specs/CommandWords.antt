@@ -1,12 +1,14 @@
 -- Commands by their words; for the contracts of private functions alone.
-use Rattle.std.specs.Prelude.{◌≡◌, ◌⊎◌, ℕ, Bool, true, false, List, [], ◌∷◌}
+use Rattle.std.specs.Prelude.{◌≡◌, ◌⊎◌, ℕ, Bool, true, false, List, [], ◌∷◌, Option, Some, None}
 use Rattle.ctd_token.specs.declared.text.Place.{Place}
 use Rattle.ctd_token.specs.declared.token.Mark.TheVariants.{Open, Close, Comma}
 use Rattle.ctd_syntax.specs.declared.keyword.Keyword.{Keyword}
 use Rattle.ctd_syntax.specs.declared.keyword.Keyword.TheVariants as words
+use Rattle.ctd_syntax.specs.declared.loop_head.LoopWord.{LoopWord}
+use Rattle.ctd_syntax.specs.declared.loop_head.LoopWord.TheVariants.{Rep, RepI, While, WhileI}
 use Rattle.ctd_syntax.specs.Lexeme.{Lexeme, keyword}
 use Rattle.ctd_tree.specs.Tree
-use Rattle.ctd_tree.specs.Tree.{CommandTree, CommandList, Separator}
+use Rattle.ctd_tree.specs.Tree.{VarTree, GuardTree, CommandTree, CommandList, Separator}
 use Rattle.ctd_syntax.specs.Grammar.{IsExpr, IsNames, IsTest, IsTarget, IsTargetEnd, IsAssignments, IsCommand, IsCommands}
 use Rattle.ctd_syntax.specs.Front.{Spelling, Following, IsBefore, IsBeforeWord, IsAfter, IsBuilt, IsPair}
 
@@ -57,11 +59,37 @@ IsPatternText ts x = ts ≡ Lexeme.text x.0 x.1 ∷ []
 abbrev pub IsBlock : Spelling CommandList
 IsBlock = IsBeforeWord words.End IsCommands
 
+-- nothing
+abbrev pub IsAbsent : Spelling (Option VarTree)
+IsAbsent ts v = (ts ≡ []) × (v ≡ None)
+
+-- the counter of a loop and the comma behind it, where its word has one
+abbrev pub IsCounter : LoopWord → Spelling (Option VarTree)
+IsCounter Rep = IsAbsent
+IsCounter RepI = IsBuilt Some (IsBefore Comma IsTarget)
+IsCounter While = IsAbsent
+IsCounter WhileI = IsBuilt Some (IsBefore Comma IsTarget)
+
+-- how long a loop goes on
+abbrev pub IsGuard : LoopWord → Spelling GuardTree
+IsGuard Rep = IsBuilt Tree.turns IsExpr
+IsGuard RepI = IsBuilt Tree.turns IsExpr
+IsGuard While = IsBuilt Tree.while IsTest
+IsGuard WhileI = IsBuilt Tree.while IsTest
+
+-- how a loop begins behind its word
+abbrev pub IsLoopHead : LoopWord → Spelling (Option VarTree × GuardTree)
+IsLoopHead word = IsAfter Open (IsPair (IsCounter word) (IsGuard word))
+
 -- how a loop ends: `)` and its block; or a comma, the separator, `)` and its block
 abbrev pub IsLoopEnd : Spelling (Separator × CommandList)
 IsLoopEnd ts x =
     ((x.0 ≡ Tree.nothing) × IsAfter Close IsBlock ts x.1)
     ⊎ ((c : CommandTree) × (x.0 ≡ Tree.between c) × IsAfter Comma (IsPair (IsBefore Close IsCommand) IsBlock) ts (c, x.1))
+
+-- what stands behind the word of a loop that has this place
+abbrev pub IsLoopRest : LoopWord → Place → Spelling CommandTree
+IsLoopRest word at = IsBuilt (λ x. Tree.loop at x.0.1 x.0.0 x.1.0 x.1.1) (IsPair (IsLoopHead word) IsLoopEnd)
 
 -- how an IF ends, once its first commands are read: END; or ELSE and a block
 abbrev pub IsBranchEnd : Spelling CommandList
@@ -80,9 +108,9 @@ IsCommandRest (words.Regex number) at ts u = IsBuilt (λ x. Tree.regex at (recor
 IsCommandRest words.Assert at ts u = IsBuilt (Tree.assert at) (IsAfter Open (IsBefore Close IsTest)) ts u
 IsCommandRest words.Set at ts u = IsBuilt (Tree.set at) (IsAfter Open (IsBefore Close IsAssignments)) ts u
 IsCommandRest words.Unset at ts u = IsBuilt (Tree.unset at) (IsAfter Open (IsBefore Close IsNames)) ts u
-IsCommandRest words.Rep at ts u = IsBuilt (λ x. Tree.rep at x.0 x.1.0 x.1.1) (IsAfter Open (IsPair IsExpr IsLoopEnd)) ts u
-IsCommandRest words.RepI at ts u = IsBuilt (λ x. Tree.repi at x.0 x.1.0 x.1.1.0 x.1.1.1) (IsAfter Open (IsPair (IsBefore Comma IsTarget) (IsPair IsExpr IsLoopEnd))) ts u
-IsCommandRest words.While at ts u = IsBuilt (λ x. Tree.while at x.0 x.1.0 x.1.1) (IsAfter Open (IsPair IsTest IsLoopEnd)) ts u
-IsCommandRest words.WhileI at ts u = IsBuilt (λ x. Tree.whilei at x.0 x.1.0 x.1.1.0 x.1.1.1) (IsAfter Open (IsPair (IsBefore Comma IsTarget) (IsPair IsTest IsLoopEnd))) ts u
+IsCommandRest words.Rep at ts u = IsLoopRest Rep at ts u
+IsCommandRest words.RepI at ts u = IsLoopRest RepI at ts u
+IsCommandRest words.While at ts u = IsLoopRest While at ts u
+IsCommandRest words.WhileI at ts u = IsLoopRest WhileI at ts u
 IsCommandRest words.If at ts u = IsBuilt (λ x. Tree.choice at x.0 x.1.0 x.1.1) (IsAfter Open (IsPair (IsBefore Close IsTest) (IsPair IsCommands IsBranchEnd))) ts u
 IsCommandRest _ at ts u = ⊥

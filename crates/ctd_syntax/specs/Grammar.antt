@@ -124,10 +124,10 @@ mutual
     assert : {ts : List Lexeme} {t : TestTree} {at : Place} → IsTest ts t → IsCommand (keyword words.Assert at ∷ mark Open ∷ ts ++ mark Close ∷ []) (Tree.assert at t)
     set : {ts : List Lexeme} {assignments : List (VarTree × ExprTree)} {at : Place} → IsAssignments ts assignments → IsCommand (keyword words.Set at ∷ mark Open ∷ ts ++ mark Close ∷ []) (Tree.set at assignments)
     unset : {ts : List Lexeme} {names : List (List ℕ)} {at : Place} → IsNames ts names → IsCommand (keyword words.Unset at ∷ mark Open ∷ ts ++ mark Close ∷ []) (Tree.unset at names)
-    rep : {ts us : List Lexeme} {count : ExprTree} {between : Separator} {body : CommandList} {at : Place} → IsExpr ts count → IsRepeated us between body → IsCommand (keyword words.Rep at ∷ mark Open ∷ ts ++ us) (Tree.rep at count between body)
-    repi : {ts us vs : List Lexeme} {counter : VarTree} {count : ExprTree} {between : Separator} {body : CommandList} {at : Place} → IsTarget ts counter → IsExpr us count → IsRepeated vs between body → IsCommand (keyword words.RepI at ∷ mark Open ∷ ts ++ mark Comma ∷ us ++ vs) (Tree.repi at counter count between body)
-    while : {ts us : List Lexeme} {t : TestTree} {between : Separator} {body : CommandList} {at : Place} → IsTest ts t → IsRepeated us between body → IsCommand (keyword words.While at ∷ mark Open ∷ ts ++ us) (Tree.while at t between body)
-    whilei : {ts us vs : List Lexeme} {counter : VarTree} {t : TestTree} {between : Separator} {body : CommandList} {at : Place} → IsTarget ts counter → IsTest us t → IsRepeated vs between body → IsCommand (keyword words.WhileI at ∷ mark Open ∷ ts ++ mark Comma ∷ us ++ vs) (Tree.whilei at counter t between body)
+    rep : {ts us : List Lexeme} {count : ExprTree} {between : Separator} {body : CommandList} {at : Place} → IsExpr ts count → IsRepeated us between body → IsCommand (keyword words.Rep at ∷ mark Open ∷ ts ++ us) (Tree.loop at (Tree.turns count) None between body)
+    repi : {ts us vs : List Lexeme} {counter : VarTree} {count : ExprTree} {between : Separator} {body : CommandList} {at : Place} → IsTarget ts counter → IsExpr us count → IsRepeated vs between body → IsCommand (keyword words.RepI at ∷ mark Open ∷ ts ++ mark Comma ∷ us ++ vs) (Tree.loop at (Tree.turns count) (Some counter) between body)
+    while : {ts us : List Lexeme} {t : TestTree} {between : Separator} {body : CommandList} {at : Place} → IsTest ts t → IsRepeated us between body → IsCommand (keyword words.While at ∷ mark Open ∷ ts ++ us) (Tree.loop at (Tree.while t) None between body)
+    whilei : {ts us vs : List Lexeme} {counter : VarTree} {t : TestTree} {between : Separator} {body : CommandList} {at : Place} → IsTarget ts counter → IsTest us t → IsRepeated vs between body → IsCommand (keyword words.WhileI at ∷ mark Open ∷ ts ++ mark Comma ∷ us ++ vs) (Tree.loop at (Tree.while t) (Some counter) between body)
     choice : {ts us : List Lexeme} {t : TestTree} {then_do else_do : CommandList} {at : Place} → IsTest ts t → IsBranches us then_do else_do → IsCommand (keyword words.If at ∷ mark Open ∷ ts ++ mark Close ∷ us) (Tree.choice at t then_do else_do)
 
   -- a separator or none, the closing parenthesis, the body, and END

@@ -17,10 +17,7 @@ abbrev mutual
   command_literals (Tree.assert place t) = []
   command_literals (Tree.set place assignments) = []
   command_literals (Tree.unset place names) = []
-  command_literals (Tree.rep place count separator body) = separator_literals separator ++ literals body
-  command_literals (Tree.repi place counter count separator body) = separator_literals separator ++ literals body
-  command_literals (Tree.while place t separator body) = separator_literals separator ++ literals body
-  command_literals (Tree.whilei place counter t separator body) = separator_literals separator ++ literals body
+  command_literals (Tree.loop place guard counter separator body) = separator_literals separator ++ literals body
   command_literals (Tree.choice place t then_do else_do) = literals then_do ++ literals else_do
 
   -- of a separator

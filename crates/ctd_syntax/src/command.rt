@@ -3,25 +3,26 @@
 
 ghost use Rattle.std.specs.Prelude.{◌≡◌, ◌≤◌, ◌<◌, ◌∷◌, true, false, length, map, IfOk, IfSome, IfNone};
 ghost use Rattle.ctd_syntax.specs.Lexeme;
-ghost use Rattle.ctd_tree.specs.View.{boxed_separator, command_list, command_tree, expr_tree, target, test_tree};
-ghost use Rattle.ctd_syntax.specs.Grammar.{IsExpr, IsTest, IsTargetEnd, IsCommand, IsCommands};
+ghost use Rattle.ctd_tree.specs.Tree;
+ghost use Rattle.ctd_tree.specs.View.{action_tree, boxed_separator, boxed_target, command_list, command_tree, expr_tree, guard_tree, target};
+ghost use Rattle.ctd_syntax.specs.Grammar.{IsExpr, IsTargetEnd, IsCommand, IsCommands};
 ghost use Rattle.ctd_syntax.specs.Front.{FindsTree, Always, IsBefore, IsPair, lexeme};
-ghost use Rattle.ctd_syntax.specs.Levels.{ends};
-ghost use Rattle.ctd_syntax.specs.CommandWords.{IsCommandRest, CommandsEnd, IsBlock, IsBranchEnd, IsLoopEnd, command_begins, is_command_word};
+ghost use Rattle.ctd_syntax.specs.CommandWords.{IsCommandRest, CommandsEnd, IsBlock, IsBranchEnd, IsLoopEnd, IsLoopRest, command_begins, is_command_word};
 
-use crate::condition::{test, test_before};
+use crate::condition::test_before;
 use crate::expression::{expr, expr_before};
 use crate::front::{ParseError, after_mark, after_open, after_word, text_at, word_at};
 use crate::keyword::Keyword;
+use crate::loop_head::{LoopHead, LoopWord, loop_head};
 use crate::names::names;
 use crate::parser_token::{ParserToken, string_of};
-use crate::target::{assignments, target_before, target_end};
+use crate::target::{assignments, target_end};
 use ctd_token::{Mark, Place};
 use ctd_tree::{
-    Action, Choice, Command, Commands, Expr, IntArguments, PatternLiteral, RegexArguments,
-    RepILoop, RepLoop, Test, Var, WhileILoop, WhileLoop,
+    Action, Choice, Command, Commands, Expr, IntArguments, Loop, PatternLiteral, RegexArguments,
+    Var,
 };
-use std::alloc::Global;
+use std::alloc::{AllocError, Global};
 
 // The upper bound of INT and its target.
 fn upper_bound<'t>(
@@ -152,126 +153,46 @@ fn unset<'t>(
     Ok((Command { place, action }, rest))
 }
 
-// How a loop goes on behind its count or its test: the separator, and the commands of its block.
+// How a loop goes on behind its head: the separator, and the commands of its block.
 type LoopEnd = (Option<Box<Command>>, Commands);
 
-// The count of a loop, and how it goes on.
-#[cycle(command)]
-fn rep_tail<'t>(
-    alloc: Global,
-    tokens: &'t [ParserToken<'t>],
-) -> Result<((Box<Expr>, LoopEnd), &'t [ParserToken<'t>]), ParseError>
-    ensures tree { FindsTree (IsPair IsExpr IsLoopEnd) Always (λ x. ((expr_tree x.0.0.value, (boxed_separator x.0.1.0, command_list x.0.1.1)), map lexeme x.1.now)) result (map lexeme tokens.now) }
-    ensures shorter { IfOk result (λ x. length x.1.now ≤ length tokens.now) }
+// A loop of its parts.
+fn loop_of(alloc: Global, head: LoopHead, end: LoopEnd) -> Result<Action, AllocError>
+    ensures tree { IfOk result (λ action. (at : Place) → action_tree action at ≡ Tree.loop at (guard_tree head.1) (boxed_target head.0) (boxed_separator end.0) (command_list end.1)) }
 {
-    let (count, rest) = expr(alloc, tokens)?;
-    let count = Box::new(alloc, count)?;
-    let (end, rest) = loop_end(alloc, rest)?;
-    Ok(((count, end), rest))
-}
-
-// The test of a loop, and how it goes on.
-#[cycle(command)]
-fn while_tail<'t>(
-    alloc: Global,
-    tokens: &'t [ParserToken<'t>],
-) -> Result<((Box<Test>, LoopEnd), &'t [ParserToken<'t>]), ParseError>
-    ensures tree { FindsTree (IsPair IsTest IsLoopEnd) Always (λ x. ((test_tree x.0.0.value, (boxed_separator x.0.1.0, command_list x.0.1.1)), map lexeme x.1.now)) result (map lexeme tokens.now) }
-    ensures shorter { IfOk result (λ x. length x.1.now ≤ length tokens.now) }
-{
-    let (condition, rest) = test(alloc, None, tokens)?;
-    let (end, rest) = loop_end(alloc, rest)?;
-    Ok(((condition, end), rest))
-}
-
-// What stands behind REP.
-#[cycle(command)]
-fn rep<'t>(
-    alloc: Global,
-    place: Place,
-    tokens: &'t [ParserToken<'t>],
-) -> Result<(Command, &'t [ParserToken<'t>]), ParseError>
-    ensures tree { FindsTree (IsCommandRest Keyword.Rep place) Always (λ x. (command_tree x.0, map lexeme x.1.now)) result (map lexeme tokens.now) }
-    ensures shorter { IfOk result (λ x. length x.1.now ≤ length tokens.now) }
-{
-    let after = after_open(tokens)?;
-    let ((count, (between, body)), rest) = rep_tail(alloc, after)?;
-    let repeated = RepLoop {
-        count,
-        between,
-        body,
-    };
-    let action = Action::Rep(Box::new(alloc, repeated)?);
-    Ok((Command { place, action }, rest))
-}
-
-// What stands behind REPI.
-#[cycle(command)]
-fn repi<'t>(
-    alloc: Global,
-    place: Place,
-    tokens: &'t [ParserToken<'t>],
-) -> Result<(Command, &'t [ParserToken<'t>]), ParseError>
-    ensures tree { FindsTree (IsCommandRest Keyword.RepI place) Always (λ x. (command_tree x.0, map lexeme x.1.now)) result (map lexeme tokens.now) }
-    ensures shorter { IfOk result (λ x. length x.1.now ≤ length tokens.now) }
-{
-    let after = after_open(tokens)?;
-    let (counter, rest) = target_before(alloc, Mark::Comma, after)?;
-    let counter = Box::new(alloc, counter)?;
-    let ((count, (between, body)), rest) = rep_tail(alloc, rest)?;
-    let repeated = RepILoop {
+    let (counter, guard) = head;
+    let (between, body) = end;
+    let parts = Loop {
+        guard,
         counter,
-        count,
         between,
         body,
     };
-    let action = Action::RepI(Box::new(alloc, repeated)?);
-    Ok((Command { place, action }, rest))
+    Ok(Action::Loop(Box::new(alloc, parts)?))
 }
 
-// What stands behind WHILE.
+// What stands behind the word of a loop.
 #[cycle(command)]
-fn while_command<'t>(
+fn loop_command<'t>(
     alloc: Global,
+    word: LoopWord,
     place: Place,
     tokens: &'t [ParserToken<'t>],
 ) -> Result<(Command, &'t [ParserToken<'t>]), ParseError>
-    ensures tree { FindsTree (IsCommandRest Keyword.While place) Always (λ x. (command_tree x.0, map lexeme x.1.now)) result (map lexeme tokens.now) }
+    ensures tree { FindsTree (IsLoopRest word place) Always (λ x. (command_tree x.0, map lexeme x.1.now)) result (map lexeme tokens.now) }
     ensures shorter { IfOk result (λ x. length x.1.now ≤ length tokens.now) }
 {
-    let after = after_open(tokens)?;
-    let ((condition, (between, body)), rest) = while_tail(alloc, after)?;
-    let repeated = WhileLoop {
-        condition,
-        between,
-        body,
-    };
-    let action = Action::While(Box::new(alloc, repeated)?);
-    Ok((Command { place, action }, rest))
-}
-
-// What stands behind WHILEI.
-#[cycle(command)]
-fn whilei<'t>(
-    alloc: Global,
-    place: Place,
-    tokens: &'t [ParserToken<'t>],
-) -> Result<(Command, &'t [ParserToken<'t>]), ParseError>
-    ensures tree { FindsTree (IsCommandRest Keyword.WhileI place) Always (λ x. (command_tree x.0, map lexeme x.1.now)) result (map lexeme tokens.now) }
-    ensures shorter { IfOk result (λ x. length x.1.now ≤ length tokens.now) }
-{
-    let after = after_open(tokens)?;
-    let (counter, rest) = target_before(alloc, Mark::Comma, after)?;
-    let counter = Box::new(alloc, counter)?;
-    let ((condition, (between, body)), rest) = while_tail(alloc, rest)?;
-    let repeated = WhileILoop {
-        counter,
-        condition,
-        between,
-        body,
-    };
-    let action = Action::WhileI(Box::new(alloc, repeated)?);
-    Ok((Command { place, action }, rest))
+    let (head, rest) = loop_head(alloc, word, tokens)?;
+    match loop_end(alloc, rest) {
+        Ok((end, rest)) => {
+            let action = loop_of(alloc, head, end)?;
+            Ok((Command { place, action }, rest))
+        }
+        Err(fault) => {
+            drop(head);
+            Err(fault)
+        }
+    }
 }
 
 // The commands of both branches of an IF; where there is no ELSE, the second has none.
@@ -406,10 +327,10 @@ fn command_rest<'t>(
         Keyword::Assert => return assert(alloc, place, tokens),
         Keyword::Set => return set(alloc, place, tokens),
         Keyword::Unset => return unset(alloc, place, tokens),
-        Keyword::Rep => return rep(alloc, place, tokens),
-        Keyword::RepI => return repi(alloc, place, tokens),
-        Keyword::While => return while_command(alloc, place, tokens),
-        Keyword::WhileI => return whilei(alloc, place, tokens),
+        Keyword::Rep => return loop_command(alloc, LoopWord::Rep, place, tokens),
+        Keyword::RepI => return loop_command(alloc, LoopWord::RepI, place, tokens),
+        Keyword::While => return loop_command(alloc, LoopWord::While, place, tokens),
+        Keyword::WhileI => return loop_command(alloc, LoopWord::WhileI, place, tokens),
         Keyword::If => return if_command(alloc, place, tokens),
         Keyword::Else
         | Keyword::End

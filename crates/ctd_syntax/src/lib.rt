@@ -8,6 +8,7 @@ mod expression;
 mod front;
 mod grammar;
 mod keyword;
+mod loop_head;
 mod names;
 mod nesting;
 mod parser_token;
@@ -20,8 +21,8 @@ pub use ctd_token::{
 };
 pub use ctd_tree::{
     Action, Assignment, Assignments, Choice, Command, Commands, Compare, Expr, Exprs, IntArguments,
-    Literal, Names, Numeral, PatternLiteral, Preset, PresetFault, Presets, Program, RegexArguments,
-    RepILoop, RepLoop, Test, Var, WhileILoop, WhileLoop,
+    Literal, Loop, LoopGuard, Names, Numeral, PatternLiteral, Preset, PresetFault, Presets,
+    Program, RegexArguments, Test, Var,
 };
 pub use grammar::parse;
 pub use keyword::Keyword;

@@ -40,6 +40,11 @@ pub data TestTree : Type 0 where
   unique : (names : List (List ℕ)) → TestTree
   in_array : (e : ExprTree) (name : List ℕ) → TestTree
 
+-- how long a loop goes on: for a number of turns, or as long as a test is true
+pub data GuardTree : Type 0 where
+  turns : (count : ExprTree) → GuardTree
+  while : (t : TestTree) → GuardTree
+
 -- a command with its place, a separator or none, and a list of commands
 mutual
   pub data CommandTree : Type 0 where
@@ -52,10 +57,7 @@ mutual
     assert : (place : Place) (t : TestTree) → CommandTree
     set : (place : Place) (assignments : List (VarTree × ExprTree)) → CommandTree
     unset : (place : Place) (names : List (List ℕ)) → CommandTree
-    rep : (place : Place) (count : ExprTree) (between : Separator) (body : CommandList) → CommandTree
-    repi : (place : Place) (counter : VarTree) (count : ExprTree) (between : Separator) (body : CommandList) → CommandTree
-    while : (place : Place) (t : TestTree) (between : Separator) (body : CommandList) → CommandTree
-    whilei : (place : Place) (counter : VarTree) (t : TestTree) (between : Separator) (body : CommandList) → CommandTree
+    loop : (place : Place) (guard : GuardTree) (counter : Option VarTree) (between : Separator) (body : CommandList) → CommandTree
     choice : (place : Place) (t : TestTree) (then_do else_do : CommandList) → CommandTree
 
   -- a separator or none
@@ -80,10 +82,7 @@ abbrev mutual
   blocks (assert place t) = 0
   blocks (set place assignments) = 0
   blocks (unset place names) = 0
-  blocks (rep place count sep body) = 1 + max (separator_blocks sep) (list_blocks body)
-  blocks (repi place v count sep body) = 1 + max (separator_blocks sep) (list_blocks body)
-  blocks (while place t sep body) = 1 + max (separator_blocks sep) (list_blocks body)
-  blocks (whilei place v t sep body) = 1 + max (separator_blocks sep) (list_blocks body)
+  blocks (loop place guard counter sep body) = 1 + max (separator_blocks sep) (list_blocks body)
   blocks (choice place t a b) = 1 + max (list_blocks a) (list_blocks b)
 
   -- the same of a separator
@@ -107,8 +106,5 @@ place_of (regex place literal target) = place
 place_of (assert place t) = place
 place_of (set place assignments) = place
 place_of (unset place names) = place
-place_of (rep place count sep body) = place
-place_of (repi place counter count sep body) = place
-place_of (while place t sep body) = place
-place_of (whilei place counter t sep body) = place
+place_of (loop place guard counter sep body) = place
 place_of (choice place t a b) = place

@@ -2,7 +2,7 @@
 use Rattle.std.specs.Prelude.{ℕ, List, [], ◌∷◌, map, Option, Some, None}
 use Rattle.std.specs.Global.{Box}
 use Rattle.ctd_tree.specs.Tree
-use Rattle.ctd_tree.specs.Tree.{ExprTree, ExprList, VarTree, TestTree, CommandTree, CommandList, Separator}
+use Rattle.ctd_tree.specs.Tree.{ExprTree, ExprList, VarTree, TestTree, GuardTree, CommandTree, CommandList, Separator}
 use Rattle.ctd_token.specs.declared.text.Place.{Place}
 use Rattle.ctd_tree.specs.declared.tree.Expr.{Expr, Row_of-Expr, end_of-Expr, more_of-Expr}
 use Rattle.ctd_tree.specs.declared.tree.Expr.TheVariants.{Numeral, Text, Var', Strlen', Minus', Add', Sub', Mul', Div', Rem', Pow'}
@@ -14,12 +14,12 @@ use Rattle.ctd_tree.specs.declared.tree.Test.TheVariants.{Or', And', Not', Compa
 use Rattle.ctd_tree.specs.declared.tree.Assignment.{Assignment}
 use Rattle.ctd_tree.specs.declared.tree.Assignments.{Assignments}
 use Rattle.ctd_tree.specs.declared.tree.Action.{Action}
-use Rattle.ctd_tree.specs.declared.tree.RepLoop.{RepLoop'}
-use Rattle.ctd_tree.specs.declared.tree.RepILoop.{RepILoop', Held-RepILoop-between, None', Some'}
-use Rattle.ctd_tree.specs.declared.tree.WhileLoop.{WhileLoop'}
-use Rattle.ctd_tree.specs.declared.tree.WhileILoop.{WhileILoop'}
+use Rattle.ctd_tree.specs.declared.tree.LoopGuard.{LoopGuard}
+use Rattle.ctd_tree.specs.declared.tree.LoopGuard.TheVariants as guards
+use Rattle.ctd_tree.specs.declared.tree.Loop.{Loop', Held-Loop-between, None', Some'}
 use Rattle.ctd_tree.specs.declared.tree.Choice.{Choice'}
-use Rattle.ctd_tree.specs.declared.tree.Action.TheVariants.{Space, Newline, Eof, Int, String, Regex, Assert, Set, Unset, Rep', RepI', While', WhileI', If'}
+use Rattle.ctd_tree.specs.declared.tree.Action.TheVariants.{Space, Newline, Eof, Int, String, Regex, Assert, Set, Unset, If'}
+use Rattle.ctd_tree.specs.declared.tree.Action.TheVariants as actions
 use Rattle.ctd_tree.specs.declared.tree.Command.{Command}
 use Rattle.ctd_tree.specs.declared.tree.Commands.{Commands, Commands', out-Commands, Row_of-Command, end_of-Command, more_of-Command}
 
@@ -73,6 +73,11 @@ abbrev pub target : Option Var → Option VarTree
 target None = None
 target (Some v) = Some (var_tree v)
 
+-- the same in its box
+abbrev pub boxed_target : Option (Box Var) → Option VarTree
+boxed_target None = None
+boxed_target (Some v) = Some (var_tree v.value)
+
 -- a test
 abbrev pub test_tree : Test → TestTree
 test_tree (Or' p a q b) = Tree.or (test_tree a) (test_tree b)
@@ -83,6 +88,11 @@ test_tree (Match e) = Tree.matches (expr_tree e)
 test_tree IsEof = Tree.at_end
 test_tree (Unique names) = Tree.unique (names_of names)
 test_tree (InArray e name) = Tree.in_array (expr_tree e) name
+
+-- how long a loop goes on
+abbrev pub guard_tree : LoopGuard → GuardTree
+guard_tree (guards.Times count) = Tree.turns (expr_tree count.value)
+guard_tree (guards.While t) = Tree.while (test_tree t.value)
 
 -- an assignment
 abbrev pub assignment : Assignment → VarTree × ExprTree
@@ -100,14 +110,11 @@ abbrev mutual
   action_tree (Assert t) place = Tree.assert place (test_tree t.value)
   action_tree (Set assignments) place = Tree.set place (map assignment (assignments_of assignments.value))
   action_tree (Unset names) place = Tree.unset place (names_of names.value)
-  action_tree (Rep' p (RepLoop' count between body)) place = Tree.rep place (expr_tree count.value) (separator between) (command_list body)
-  action_tree (RepI' p (RepILoop' counter count between body)) place = Tree.repi place (var_tree counter.value) (expr_tree count.value) (separator between) (command_list body)
-  action_tree (While' p (WhileLoop' t between body)) place = Tree.while place (test_tree t.value) (separator between) (command_list body)
-  action_tree (WhileI' p (WhileILoop' counter t between body)) place = Tree.whilei place (var_tree counter.value) (test_tree t.value) (separator between) (command_list body)
+  action_tree (actions.Loop' p (Loop' guard counter between body)) place = Tree.loop place (guard_tree guard) (boxed_target counter) (separator between) (command_list body)
   action_tree (If' p (Choice' t a b)) place = Tree.choice place (test_tree t.value) (command_list a) (command_list b)
 
   -- a separator or none
-  pub separator : Held-RepILoop-between → Separator
+  pub separator : Held-Loop-between → Separator
   separator None' = Tree.nothing
   separator (Some' p place action) = Tree.between (action_tree action place)
 

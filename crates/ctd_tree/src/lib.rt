@@ -14,6 +14,5 @@ pub use numeral::Numeral;
 pub use preset::{Literal, Preset, PresetFault, Presets};
 pub use tree::{
     Action, Assignment, Assignments, Choice, Command, Commands, Compare, Expr, Exprs, IntArguments,
-    Names, PatternLiteral, Program, RegexArguments, RepILoop, RepLoop, Test, Var, WhileILoop,
-    WhileLoop,
+    Loop, LoopGuard, Names, PatternLiteral, Program, RegexArguments, Test, Var,
 };

@@ -158,53 +158,33 @@ pub enum Action {
     Set(Box<Assignments>),
     /// `UNSET(a, ..)`
     Unset(Box<Names>),
-    /// `REP(count[,separator]) .. END`
-    Rep(Box<RepLoop>),
-    /// `REPI(counter,count[,separator]) .. END`
-    RepI(Box<RepILoop>),
-    /// `WHILE(t[,separator]) .. END`
-    While(Box<WhileLoop>),
+    /// `REP(count[,separator]) .. END`, `REPI(counter,count[,separator]) .. END`, `WHILE(t[,separator]) .. END` and
     /// `WHILEI(counter,t[,separator]) .. END`
-    WhileI(Box<WhileILoop>),
+    Loop(Box<Loop>),
     /// `IF(t) .. [ELSE ..] END`
     If(Box<Choice>),
 }
 
-/// A loop of a number of turns.
+/// How long a loop goes on.
 #[derive(Drop)]
-#[cycle(command)]
-pub struct RepLoop {
-    pub count: Box<Expr>,
-    pub between: Option<Box<Command>>,
-    pub body: Commands,
+pub enum LoopGuard {
+    /// `REP`, `REPI`: for a number of turns.
+    Times(Box<Expr>),
+    /// `WHILE`, `WHILEI`: as long as the test is true.
+    While(Box<Test>),
 }
 
-/// The same with a variable that has the number of the turn.
+/// A loop.
 #[derive(Drop)]
 #[cycle(command)]
-pub struct RepILoop {
-    pub counter: Box<Var>,
-    pub count: Box<Expr>,
+pub struct Loop {
+    /// How long it goes on.
+    pub guard: LoopGuard,
+    /// `REPI`, `WHILEI`: the variable that gets the number of each turn.
+    pub counter: Option<Box<Var>>,
+    /// The command that is done between two turns, if there is one.
     pub between: Option<Box<Command>>,
-    pub body: Commands,
-}
-
-/// A loop that goes on while its test is true.
-#[derive(Drop)]
-#[cycle(command)]
-pub struct WhileLoop {
-    pub condition: Box<Test>,
-    pub between: Option<Box<Command>>,
-    pub body: Commands,
-}
-
-/// The same with a variable that has the number of the turn.
-#[derive(Drop)]
-#[cycle(command)]
-pub struct WhileILoop {
-    pub counter: Box<Var>,
-    pub condition: Box<Test>,
-    pub between: Option<Box<Command>>,
+    /// The commands that each turn does.
     pub body: Commands,
 }
 

@@ -1,7 +1,9 @@
 //! Trees as text, with a parenthesis wherever one part stands in another, `{..}` for blocks, and places behind `@`.
 
 use super::shown::Shown;
-use ctd_syntax::{Action, Assignment, Command, Compare, Expr, Name, Place, Program, Test, Var};
+use ctd_syntax::{
+    Action, Assignment, Command, Compare, Expr, Loop, LoopGuard, Name, Place, Program, Test, Var,
+};
 
 // No tree of a program is as deep as this.
 const DEPTH: u16 = 2_000;
@@ -192,10 +194,28 @@ fn write_loop(out: &mut Shown, depth: u16, between: &Option<Box<Command>>, body:
     out.put("}");
 }
 
-// A counter and the comma behind it.
-fn write_counter(out: &mut Shown, counter: &Var) {
-    write_var(out, DEPTH, counter);
-    out.put(",");
+// The counter of a loop and the comma behind it, where there is one.
+fn write_counter(out: &mut Shown, counter: &Option<Box<Var>>) {
+    if let Some(var) = counter {
+        write_var(out, DEPTH, var);
+        out.put(",");
+    }
+}
+
+fn write_guard(out: &mut Shown, guard: &LoopGuard) {
+    match guard {
+        LoopGuard::Times(count) => write_expr(out, DEPTH, count),
+        LoopGuard::While(condition) => write_test(out, DEPTH, condition),
+    }
+}
+
+fn loop_word(repeated: &Loop) -> &'static str {
+    match (&repeated.guard, &repeated.counter) {
+        (LoopGuard::Times(_), None) => "REP",
+        (LoopGuard::Times(_), Some(_)) => "REPI",
+        (LoopGuard::While(_), None) => "WHILE",
+        (LoopGuard::While(_), Some(_)) => "WHILEI",
+    }
 }
 
 fn word_of(action: &Action) -> &'static str {
@@ -209,10 +229,7 @@ fn word_of(action: &Action) -> &'static str {
         Action::Assert(_) => "ASSERT",
         Action::Set(_) => "SET",
         Action::Unset(_) => "UNSET",
-        Action::Rep(_) => "REP",
-        Action::RepI(_) => "REPI",
-        Action::While(_) => "WHILE",
-        Action::WhileI(_) => "WHILEI",
+        Action::Loop(repeated) => loop_word(repeated),
         Action::If(_) => "IF",
     }
 }
@@ -274,22 +291,9 @@ fn write_block(out: &mut Shown, depth: u16, action: &Action) {
         return out.put("...");
     };
     match action {
-        Action::Rep(repeated) => {
-            write_expr(out, DEPTH, &repeated.count);
-            write_loop(out, depth, &repeated.between, repeated.body.as_slice())
-        }
-        Action::RepI(repeated) => {
+        Action::Loop(repeated) => {
             write_counter(out, &repeated.counter);
-            write_expr(out, DEPTH, &repeated.count);
-            write_loop(out, depth, &repeated.between, repeated.body.as_slice())
-        }
-        Action::While(repeated) => {
-            write_test(out, DEPTH, &repeated.condition);
-            write_loop(out, depth, &repeated.between, repeated.body.as_slice())
-        }
-        Action::WhileI(repeated) => {
-            write_counter(out, &repeated.counter);
-            write_test(out, DEPTH, &repeated.condition);
+            write_guard(out, &repeated.guard);
             write_loop(out, depth, &repeated.between, repeated.body.as_slice())
         }
         Action::If(choice) => {

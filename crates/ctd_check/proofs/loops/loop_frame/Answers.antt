@@ -1,16 +1,17 @@
 use Rattle.std.proofs.Common.{arith, ◌∷◌, [], ap, sym, ◌∙◌}
 use Rattle.ctd_tree.specs.Tree.{list_blocks, separator_blocks}
-use Rattle.ctd_tree.specs.View.{command_trees, boxed_separator}
+use Rattle.ctd_tree.specs.View.{command_trees, boxed_separator, boxed_target}
 use Rattle.ctd_tree.proofs.Trees.{list_commands}
 use Rattle.ctd_check.specs.Loops.{loop_of, turn}
-use Rattle.ctd_check.specs.Pending.{guard_in, counter_in}
+use Rattle.ctd_check.specs.Pending.{guard_in, separator_in}
 use Rattle.ctd_check.proofs.loops.loop_frame.Goals as goal
 
 pub returns-clause-tasks : goal.returns-clause-tasks
 returns-clause-tasks c =
     let body = ap command_trees c.as_slice.ensures ∙ sym (list_commands c.args.body.now) in
-    ap (λ s. turn (loop_of c.args.place (guard_in c.args.guard) (counter_in c.args.counter) s (command_trees c.as_slice.result.now)) 0 ∷ []) c.unbox-between.ensures.same
-    ∙ ap (λ b. turn (loop_of c.args.place (guard_in c.args.guard) (counter_in c.args.counter) (boxed_separator c.args.between.now) b) 0 ∷ []) body
+    ap (λ v. turn (loop_of c.args.place (guard_in c.args.guard) v (separator_in c.unbox-between.result) (command_trees c.as_slice.result.now)) 0 ∷ []) c.unbox_counter-counter.ensures.same
+    ∙ ap (λ s. turn (loop_of c.args.place (guard_in c.args.guard) (boxed_target c.args.counter.now) s (command_trees c.as_slice.result.now)) 0 ∷ []) c.unbox-between.ensures.same
+    ∙ ap (λ b. turn (loop_of c.args.place (guard_in c.args.guard) (boxed_target c.args.counter.now) (boxed_separator c.args.between.now) b) 0 ∷ []) body
 
 pub returns-clause-blocks : goal.returns-clause-blocks
 returns-clause-blocks c =

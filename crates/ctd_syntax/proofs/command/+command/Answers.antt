@@ -2,82 +2,44 @@ use Rattle.std.proofs.Common.{refl, arith, ap, ◌∙◌}
 use Rattle.std.specs.Prelude.{map}
 use Rattle.ctd_tree.specs.Tree
 use Rattle.ctd_syntax.specs.Front.{Always, IsBefore, IsPair, lexeme}
-use Rattle.ctd_syntax.specs.Grammar.{IsExpr, IsTarget, IsTest, IsCommand, IsCommands}
-use Rattle.ctd_syntax.specs.Levels.{ends}
+use Rattle.ctd_syntax.specs.Grammar.{IsTest, IsCommand, IsCommands}
 use Rattle.ctd_syntax.specs.Tests.{test_ends}
-use Rattle.ctd_syntax.specs.CommandWords.{IsCommandRest, CommandsEnd, IsBlock, IsBranchEnd, IsLoopEnd}
-use Rattle.ctd_token.specs.declared.token.Mark.TheVariants.{Close, Comma}
+use Rattle.ctd_syntax.specs.CommandWords.{IsCommandRest, CommandsEnd, IsBlock, IsBranchEnd, IsLoopHead, IsLoopEnd, IsLoopRest}
+use Rattle.ctd_token.specs.declared.token.Mark.TheVariants.{Close}
 use Rattle.ctd_syntax.specs.declared.keyword.Keyword.TheVariants as words
-use Rattle.ctd_syntax.proofs.Fronts.{reads_as, refused_exit, before_reads, word_reads, pair_reads, first_none, second_none, no_tree_exit}
-use Rattle.ctd_syntax.proofs.CommandReads.{opened_reads, opened_none, before_loop_end, test_before_loop_end, before_branch_end, whatever, command_reads, command_none, commands_start, commands_next, commands_no_next, commands_end, begins_at, loop_end_plain, loop_end_no_block, loop_end_separated, loop_end_no_separated, branch_ended, branch_goes_on, branch_no_block, not_opened}
+use Rattle.ctd_syntax.proofs.Fronts.{reads_as, refused_as, refused_exit, built, not_built, before_reads, word_reads, pair_reads, first_none, second_none, no_tree_exit}
+use Rattle.ctd_syntax.proofs.CommandReads.{opened_reads, opened_none, before_loop_end, before_branch_end, whatever, command_reads, command_none, commands_start, commands_next, commands_no_next, commands_end, begins_at, loop_end_plain, loop_end_no_block, loop_end_separated, loop_end_no_separated, branch_ended, branch_goes_on, branch_no_block, not_opened}
 use Rattle.ctd_tree.specs.View.{command_trees}
-use Rattle.ctd_tree.specs.declared.tree.RepLoop.{rolls-RepLoop'}
-use Rattle.ctd_tree.specs.declared.tree.RepILoop.{rolls-RepILoop'}
-use Rattle.ctd_tree.specs.declared.tree.WhileLoop.{rolls-WhileLoop'}
-use Rattle.ctd_tree.specs.declared.tree.WhileILoop.{rolls-WhileILoop'}
 use Rattle.ctd_tree.specs.declared.tree.Choice.{rolls-Choice'}
-use Rattle.ctd_tree.proofs.Trees.{held_separator, list_commands, trees_then}
+use Rattle.ctd_tree.proofs.Trees.{list_commands, trees_then}
 use Rattle.ctd_syntax.proofs.command.+command.Goals as goal
 
-pub rep_tail-returns-in_err-end-clause-tree : goal.rep_tail-returns-in_err-end-clause-tree
-rep_tail-returns-in_err-end-clause-tree t c = refused_exit IsLoopEnd (IsPair IsExpr IsLoopEnd) Always Always _ (map lexeme c.in_ok-count.rest.now) (map lexeme c.args.tokens.now) _ c.from_residual-in_err-end.result c.from_residual-in_err-end.ensures.1 (second_none IsExpr IsLoopEnd (ends 1) Always before_loop_end (map lexeme c.args.tokens.now) (map lexeme c.in_ok-count.rest.now) _ c.in_ok-count.ensures.tree) c.in_err-end.ensures.tree
+pub loop_command-returns-in_err-head-clause-tree : goal.loop_command-returns-in_err-head-clause-tree
+loop_command-returns-in_err-head-clause-tree t c = refused_exit (IsLoopHead c.args.word) (IsLoopRest c.args.word c.args.place) (test_ends 1) Always _ (map lexeme c.args.tokens.now) (map lexeme c.args.tokens.now) _ c.from_residual.result c.from_residual.ensures.1 (λ not. not_built (λ x. Tree.loop c.args.place x.0.1 x.0.0 x.1.0 x.1.1) (IsPair (IsLoopHead c.args.word) IsLoopEnd) Always (map lexeme c.args.tokens.now) (first_none (IsLoopHead c.args.word) IsLoopEnd (test_ends 1) Always before_loop_end (map lexeme c.args.tokens.now) not)) c.in_err-head.ensures.tree
 
-pub rep_tail-returns-clause-tree : goal.rep_tail-returns-clause-tree
-rep_tail-returns-clause-tree t c = rw c.in_ok-count-2.ensures.ok (pair_reads IsExpr IsLoopEnd (ends 1) Always before_loop_end (map lexeme c.args.tokens.now) (map lexeme c.in_ok-count.rest.now) (map lexeme c.in_ok-end.rest.now) _ _ c.in_ok-count.ensures.tree c.in_ok-end.ensures.tree)
+pub loop_command-returns-in-Err-clause-tree : goal.loop_command-returns-in-Err-clause-tree
+loop_command-returns-in-Err-clause-tree t c = refused_as IsLoopEnd (IsLoopRest c.args.word c.args.place) Always Always (map lexeme c.in_ok-head.rest.now) (map lexeme c.args.tokens.now) c.in-Err.fault (λ not. not_built (λ x. Tree.loop c.args.place x.0.1 x.0.0 x.1.0 x.1.1) (IsPair (IsLoopHead c.args.word) IsLoopEnd) Always (map lexeme c.args.tokens.now) (second_none (IsLoopHead c.args.word) IsLoopEnd (test_ends 1) Always before_loop_end (map lexeme c.args.tokens.now) (map lexeme c.in_ok-head.rest.now) _ c.in_ok-head.ensures.tree not)) c.in-Err.ensures.tree
 
-pub while_tail-returns-in_err-end-clause-tree : goal.while_tail-returns-in_err-end-clause-tree
-while_tail-returns-in_err-end-clause-tree t c = refused_exit IsLoopEnd (IsPair IsTest IsLoopEnd) Always Always _ (map lexeme c.in_ok-condition.rest.now) (map lexeme c.args.tokens.now) _ c.from_residual-in_err-end.result c.from_residual-in_err-end.ensures.1 (second_none IsTest IsLoopEnd (test_ends 1) Always test_before_loop_end (map lexeme c.args.tokens.now) (map lexeme c.in_ok-condition.rest.now) _ c.in_ok-condition.ensures.tree) c.in_err-end.ensures.tree
+pub loop_command-returns-in_ok-action-in-Ok-clause-tree : goal.loop_command-returns-in_ok-action-in-Ok-clause-tree
+loop_command-returns-in_ok-action-in-Ok-clause-tree t c = rw (c.in_ok-action-in-Ok.ensures.tree c.args.place) (built (λ x. Tree.loop c.args.place x.0.1 x.0.0 x.1.0 x.1.1) (IsPair (IsLoopHead c.args.word) IsLoopEnd) Always (map lexeme c.args.tokens.now) (map lexeme c.in-Ok.rest.now) _ (pair_reads (IsLoopHead c.args.word) IsLoopEnd (test_ends 1) Always before_loop_end (map lexeme c.args.tokens.now) (map lexeme c.in_ok-head.rest.now) (map lexeme c.in-Ok.rest.now) _ _ c.in_ok-head.ensures.tree c.in-Ok.ensures.tree))
 
-pub while_tail-returns-clause-tree : goal.while_tail-returns-clause-tree
-while_tail-returns-clause-tree t c = pair_reads IsTest IsLoopEnd (test_ends 1) Always test_before_loop_end (map lexeme c.args.tokens.now) (map lexeme c.in_ok-condition.rest.now) (map lexeme c.in_ok-end.rest.now) _ _ c.in_ok-condition.ensures.tree c.in_ok-end.ensures.tree
+pub command_rest-returns-in-Rep-clause-tree : goal.command_rest-returns-in-Rep-clause-tree
+command_rest-returns-in-Rep-clause-tree t c = rw c.in-Rep.is c.loop_command.ensures.tree
+
+pub command_rest-returns-in-RepI-clause-tree : goal.command_rest-returns-in-RepI-clause-tree
+command_rest-returns-in-RepI-clause-tree t c = rw c.in-RepI.is c.loop_command-in-RepI.ensures.tree
+
+pub command_rest-returns-in-While-clause-tree : goal.command_rest-returns-in-While-clause-tree
+command_rest-returns-in-While-clause-tree t c = rw c.in-While.is c.loop_command-in-While.ensures.tree
+
+pub command_rest-returns-in-WhileI-clause-tree : goal.command_rest-returns-in-WhileI-clause-tree
+command_rest-returns-in-WhileI-clause-tree t c = rw c.in-WhileI.is c.loop_command-in-WhileI.ensures.tree
 
 pub branches-returns-in_err-else_do-clause-tree : goal.branches-returns-in_err-else_do-clause-tree
 branches-returns-in_err-else_do-clause-tree t c = refused_exit IsBranchEnd (IsPair IsCommands IsBranchEnd) Always Always _ (map lexeme c.in_ok-then_do.rest.now) (map lexeme c.args.tokens.now) _ c.from_residual-in_err-else_do.result c.from_residual-in_err-else_do.ensures.1 (second_none IsCommands IsBranchEnd CommandsEnd Always before_branch_end (map lexeme c.args.tokens.now) (map lexeme c.in_ok-then_do.rest.now) _ c.in_ok-then_do.ensures.tree) c.in_err-else_do.ensures.tree
 
 pub branches-returns-clause-tree : goal.branches-returns-clause-tree
 branches-returns-clause-tree t c = pair_reads IsCommands IsBranchEnd CommandsEnd Always before_branch_end (map lexeme c.args.tokens.now) (map lexeme c.in_ok-then_do.rest.now) (map lexeme c.in_ok-else_do.rest.now) _ _ c.in_ok-then_do.ensures.tree c.in_ok-else_do.ensures.tree
-
-pub rep-returns-in_err-after-clause-tree : goal.rep-returns-in_err-after-clause-tree
-rep-returns-in_err-after-clause-tree t c = no_tree_exit (IsCommandRest words.Rep c.args.place) Always _ (map lexeme c.args.tokens.now) _ c.from_residual.result c.from_residual.ensures.1 (not_opened (λ x. Tree.rep c.args.place x.0 x.1.0 x.1.1) (IsPair IsExpr IsLoopEnd) Always (map lexeme c.args.tokens.now) c.in_err-after.ensures.none)
-
-pub rep-returns-in_err-count-clause-tree : goal.rep-returns-in_err-count-clause-tree
-rep-returns-in_err-count-clause-tree t c = refused_exit (IsPair IsExpr IsLoopEnd) (IsCommandRest words.Rep c.args.place) Always Always _ (map lexeme c.in_ok-after.after.now) (map lexeme c.args.tokens.now) _ c.from_residual-in_err-count.result c.from_residual-in_err-count.ensures.1 (opened_none (λ x. Tree.rep c.args.place x.0 x.1.0 x.1.1) (IsPair IsExpr IsLoopEnd) Always (map lexeme c.args.tokens.now) (map lexeme c.in_ok-after.after.now) c.in_ok-after.ensures.found) c.in_err-count.ensures.tree
-
-pub rep-returns-clause-tree : goal.rep-returns-clause-tree
-rep-returns-clause-tree t c = rw (c.in_ok-new.ensures.ok, rolls-RepLoop', held_separator c.in_ok-count.between) (opened_reads (λ x. Tree.rep c.args.place x.0 x.1.0 x.1.1) (IsPair IsExpr IsLoopEnd) Always (map lexeme c.args.tokens.now) (map lexeme c.in_ok-after.after.now) (map lexeme c.in_ok-count.rest.now) _ c.in_ok-after.ensures.found c.in_ok-count.ensures.tree)
-
-pub while_command-returns-in_err-after-clause-tree : goal.while_command-returns-in_err-after-clause-tree
-while_command-returns-in_err-after-clause-tree t c = no_tree_exit (IsCommandRest words.While c.args.place) Always _ (map lexeme c.args.tokens.now) _ c.from_residual.result c.from_residual.ensures.1 (not_opened (λ x. Tree.while c.args.place x.0 x.1.0 x.1.1) (IsPair IsTest IsLoopEnd) Always (map lexeme c.args.tokens.now) c.in_err-after.ensures.none)
-
-pub while_command-returns-in_err-condition-clause-tree : goal.while_command-returns-in_err-condition-clause-tree
-while_command-returns-in_err-condition-clause-tree t c = refused_exit (IsPair IsTest IsLoopEnd) (IsCommandRest words.While c.args.place) Always Always _ (map lexeme c.in_ok-after.after.now) (map lexeme c.args.tokens.now) _ c.from_residual-in_err-condition.result c.from_residual-in_err-condition.ensures.1 (opened_none (λ x. Tree.while c.args.place x.0 x.1.0 x.1.1) (IsPair IsTest IsLoopEnd) Always (map lexeme c.args.tokens.now) (map lexeme c.in_ok-after.after.now) c.in_ok-after.ensures.found) c.in_err-condition.ensures.tree
-
-pub while_command-returns-clause-tree : goal.while_command-returns-clause-tree
-while_command-returns-clause-tree t c = rw (c.in_ok-new.ensures.ok, rolls-WhileLoop', held_separator c.in_ok-condition.between) (opened_reads (λ x. Tree.while c.args.place x.0 x.1.0 x.1.1) (IsPair IsTest IsLoopEnd) Always (map lexeme c.args.tokens.now) (map lexeme c.in_ok-after.after.now) (map lexeme c.in_ok-condition.rest.now) _ c.in_ok-after.ensures.found c.in_ok-condition.ensures.tree)
-
-pub repi-returns-in_err-after-clause-tree : goal.repi-returns-in_err-after-clause-tree
-repi-returns-in_err-after-clause-tree t c = no_tree_exit (IsCommandRest words.RepI c.args.place) Always _ (map lexeme c.args.tokens.now) _ c.from_residual.result c.from_residual.ensures.1 (not_opened (λ x. Tree.repi c.args.place x.0 x.1.0 x.1.1.0 x.1.1.1) (IsPair (IsBefore Comma IsTarget) (IsPair IsExpr IsLoopEnd)) Always (map lexeme c.args.tokens.now) c.in_err-after.ensures.none)
-
-pub repi-returns-in_err-counter-clause-tree : goal.repi-returns-in_err-counter-clause-tree
-repi-returns-in_err-counter-clause-tree t c = refused_exit (IsBefore Comma IsTarget) (IsCommandRest words.RepI c.args.place) Always Always _ (map lexeme c.in_ok-after.after.now) (map lexeme c.args.tokens.now) _ c.from_residual-in_err-counter.result c.from_residual-in_err-counter.ensures.1 (λ not. opened_none (λ x. Tree.repi c.args.place x.0 x.1.0 x.1.1.0 x.1.1.1) (IsPair (IsBefore Comma IsTarget) (IsPair IsExpr IsLoopEnd)) Always (map lexeme c.args.tokens.now) (map lexeme c.in_ok-after.after.now) c.in_ok-after.ensures.found (first_none (IsBefore Comma IsTarget) (IsPair IsExpr IsLoopEnd) Always Always (whatever (IsPair IsExpr IsLoopEnd)) (map lexeme c.in_ok-after.after.now) not)) c.in_err-counter.ensures.tree
-
-pub repi-returns-in_err-count-clause-tree : goal.repi-returns-in_err-count-clause-tree
-repi-returns-in_err-count-clause-tree t c = refused_exit (IsPair IsExpr IsLoopEnd) (IsCommandRest words.RepI c.args.place) Always Always _ (map lexeme c.in_ok-counter.rest.now) (map lexeme c.args.tokens.now) _ c.from_residual-in_err-count.result c.from_residual-in_err-count.ensures.1 (λ not. opened_none (λ x. Tree.repi c.args.place x.0 x.1.0 x.1.1.0 x.1.1.1) (IsPair (IsBefore Comma IsTarget) (IsPair IsExpr IsLoopEnd)) Always (map lexeme c.args.tokens.now) (map lexeme c.in_ok-after.after.now) c.in_ok-after.ensures.found (second_none (IsBefore Comma IsTarget) (IsPair IsExpr IsLoopEnd) Always Always (whatever (IsPair IsExpr IsLoopEnd)) (map lexeme c.in_ok-after.after.now) (map lexeme c.in_ok-counter.rest.now) _ c.in_ok-counter.ensures.tree not)) c.in_err-count.ensures.tree
-
-pub repi-returns-clause-tree : goal.repi-returns-clause-tree
-repi-returns-clause-tree t c = rw (c.in_ok-new.ensures.ok, rolls-RepILoop', held_separator c.in_ok-count.between, c.in_ok-counter-2.ensures.ok) (opened_reads (λ x. Tree.repi c.args.place x.0 x.1.0 x.1.1.0 x.1.1.1) (IsPair (IsBefore Comma IsTarget) (IsPair IsExpr IsLoopEnd)) Always (map lexeme c.args.tokens.now) (map lexeme c.in_ok-after.after.now) (map lexeme c.in_ok-count.rest.now) _ c.in_ok-after.ensures.found (pair_reads (IsBefore Comma IsTarget) (IsPair IsExpr IsLoopEnd) Always Always (whatever (IsPair IsExpr IsLoopEnd)) (map lexeme c.in_ok-after.after.now) (map lexeme c.in_ok-counter.rest.now) (map lexeme c.in_ok-count.rest.now) _ _ c.in_ok-counter.ensures.tree c.in_ok-count.ensures.tree))
-
-pub whilei-returns-in_err-after-clause-tree : goal.whilei-returns-in_err-after-clause-tree
-whilei-returns-in_err-after-clause-tree t c = no_tree_exit (IsCommandRest words.WhileI c.args.place) Always _ (map lexeme c.args.tokens.now) _ c.from_residual.result c.from_residual.ensures.1 (not_opened (λ x. Tree.whilei c.args.place x.0 x.1.0 x.1.1.0 x.1.1.1) (IsPair (IsBefore Comma IsTarget) (IsPair IsTest IsLoopEnd)) Always (map lexeme c.args.tokens.now) c.in_err-after.ensures.none)
-
-pub whilei-returns-in_err-counter-clause-tree : goal.whilei-returns-in_err-counter-clause-tree
-whilei-returns-in_err-counter-clause-tree t c = refused_exit (IsBefore Comma IsTarget) (IsCommandRest words.WhileI c.args.place) Always Always _ (map lexeme c.in_ok-after.after.now) (map lexeme c.args.tokens.now) _ c.from_residual-in_err-counter.result c.from_residual-in_err-counter.ensures.1 (λ not. opened_none (λ x. Tree.whilei c.args.place x.0 x.1.0 x.1.1.0 x.1.1.1) (IsPair (IsBefore Comma IsTarget) (IsPair IsTest IsLoopEnd)) Always (map lexeme c.args.tokens.now) (map lexeme c.in_ok-after.after.now) c.in_ok-after.ensures.found (first_none (IsBefore Comma IsTarget) (IsPair IsTest IsLoopEnd) Always Always (whatever (IsPair IsTest IsLoopEnd)) (map lexeme c.in_ok-after.after.now) not)) c.in_err-counter.ensures.tree
-
-pub whilei-returns-in_err-condition-clause-tree : goal.whilei-returns-in_err-condition-clause-tree
-whilei-returns-in_err-condition-clause-tree t c = refused_exit (IsPair IsTest IsLoopEnd) (IsCommandRest words.WhileI c.args.place) Always Always _ (map lexeme c.in_ok-counter.rest.now) (map lexeme c.args.tokens.now) _ c.from_residual-in_err-condition.result c.from_residual-in_err-condition.ensures.1 (λ not. opened_none (λ x. Tree.whilei c.args.place x.0 x.1.0 x.1.1.0 x.1.1.1) (IsPair (IsBefore Comma IsTarget) (IsPair IsTest IsLoopEnd)) Always (map lexeme c.args.tokens.now) (map lexeme c.in_ok-after.after.now) c.in_ok-after.ensures.found (second_none (IsBefore Comma IsTarget) (IsPair IsTest IsLoopEnd) Always Always (whatever (IsPair IsTest IsLoopEnd)) (map lexeme c.in_ok-after.after.now) (map lexeme c.in_ok-counter.rest.now) _ c.in_ok-counter.ensures.tree not)) c.in_err-condition.ensures.tree
-
-pub whilei-returns-clause-tree : goal.whilei-returns-clause-tree
-whilei-returns-clause-tree t c = rw (c.in_ok-new.ensures.ok, rolls-WhileILoop', held_separator c.in_ok-condition.between, c.in_ok-counter-2.ensures.ok) (opened_reads (λ x. Tree.whilei c.args.place x.0 x.1.0 x.1.1.0 x.1.1.1) (IsPair (IsBefore Comma IsTarget) (IsPair IsTest IsLoopEnd)) Always (map lexeme c.args.tokens.now) (map lexeme c.in_ok-after.after.now) (map lexeme c.in_ok-condition.rest.now) _ c.in_ok-after.ensures.found (pair_reads (IsBefore Comma IsTarget) (IsPair IsTest IsLoopEnd) Always Always (whatever (IsPair IsTest IsLoopEnd)) (map lexeme c.in_ok-after.after.now) (map lexeme c.in_ok-counter.rest.now) (map lexeme c.in_ok-condition.rest.now) _ _ c.in_ok-counter.ensures.tree c.in_ok-condition.ensures.tree))
 
 pub if_command-returns-in_err-after-clause-tree : goal.if_command-returns-in_err-after-clause-tree
 if_command-returns-in_err-after-clause-tree t c = no_tree_exit (IsCommandRest words.If c.args.place) Always _ (map lexeme c.args.tokens.now) _ c.from_residual.result c.from_residual.ensures.1 (not_opened (λ x. Tree.choice c.args.place x.0 x.1.0 x.1.1) (IsPair (IsBefore Close IsTest) (IsPair IsCommands IsBranchEnd)) Always (map lexeme c.args.tokens.now) c.in_err-after.ensures.none)

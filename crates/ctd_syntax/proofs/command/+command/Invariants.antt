@@ -8,17 +8,8 @@ use Rattle.ctd_syntax.proofs.command.+command.Given as goal
 abbrev pub decreases-command : goal.decreases-command
 decreases-command l = 8 * length l.tokens.now + 0
 
-abbrev pub decreases-rep : goal.decreases-rep
-decreases-rep l = 8 * length l.tokens.now + 2
-
-abbrev pub decreases-repi : goal.decreases-repi
-decreases-repi l = 8 * length l.tokens.now + 2
-
-abbrev pub decreases-while_command : goal.decreases-while_command
-decreases-while_command l = 8 * length l.tokens.now + 2
-
-abbrev pub decreases-whilei : goal.decreases-whilei
-decreases-whilei l = 8 * length l.tokens.now + 2
+abbrev pub decreases-loop_command : goal.decreases-loop_command
+decreases-loop_command l = 8 * length l.tokens.now + 2
 
 abbrev pub decreases-if_command : goal.decreases-if_command
 decreases-if_command l = 8 * length l.tokens.now + 2
@@ -43,12 +34,6 @@ decreases-branches l = 8 * length l.tokens.now + 6
 
 abbrev pub decreases-loop_end : goal.decreases-loop_end
 decreases-loop_end l = 8 * length l.tokens.now + 2
-
-abbrev pub decreases-rep_tail : goal.decreases-rep_tail
-decreases-rep_tail l = 8 * length l.tokens.now + 3
-
-abbrev pub decreases-while_tail : goal.decreases-while_tail
-decreases-while_tail l = 8 * length l.tokens.now + 3
 
 abbrev pub invariant-commands-loop-word : goal.invariant-commands-loop-word
 invariant-commands-loop-word l = record {

@@ -1,0 +1,11 @@
+use Rattle.std.specs.Prelude.{map}
+use Rattle.ctd_syntax.specs.Front.{Always, IsPair, lexeme}
+use Rattle.ctd_syntax.specs.Tests.{test_ends}
+use Rattle.ctd_syntax.specs.CommandWords.{IsCounter, IsGuard}
+use Rattle.ctd_token.specs.declared.token.Mark.TheVariants.{Open}
+use Rattle.ctd_syntax.proofs.Fronts.{after_reads, pair_reads}
+use Rattle.ctd_syntax.proofs.loop_head.loop_head.Goals as goal
+
+pub returns-in-Ok-clause-tree : goal.returns-in-Ok-clause-tree
+returns-in-Ok-clause-tree c = after_reads (IsPair (IsCounter c.args.word) (IsGuard c.args.word)) (test_ends 1) Open (map lexeme c.args.tokens.now) (map lexeme c.in_ok-after.after.now) (map lexeme c.in-Ok.rest.now) _ c.in_ok-after.ensures.found
+    (pair_reads (IsCounter c.args.word) (IsGuard c.args.word) Always (test_ends 1) (λ vs us b i h. tt) (map lexeme c.in_ok-after.after.now) (map lexeme c.in_ok-counter.rest.now) (map lexeme c.in-Ok.rest.now) _ _ c.in_ok-counter.ensures.tree c.in-Ok.ensures.tree)

@@ -1,0 +1,90 @@
+//! From tokens to the heads of loops: what stands before the separator and the block (checktestdata language specification, grammar).
+//! A tree that is not wanted is given to `drop` explicitly: an implicit drop is unfolded variant by variant in the proof.
+
+ghost use Rattle.std.specs.Prelude.{◌≤◌, ◌<◌, length, map, IfOk};
+ghost use Rattle.ctd_tree.specs.View.{boxed_target, guard_tree};
+ghost use Rattle.ctd_syntax.specs.Front.{FindsTree, Always, lexeme};
+ghost use Rattle.ctd_syntax.specs.Tests.{test_ends};
+ghost use Rattle.ctd_syntax.specs.CommandWords.{IsCounter, IsGuard, IsLoopHead};
+
+use crate::condition::test;
+use crate::expression::expr;
+use crate::front::{ParseError, after_open};
+use crate::parser_token::ParserToken;
+use crate::target::target_before;
+use ctd_token::Mark;
+use ctd_tree::{LoopGuard, Var};
+use std::alloc::Global;
+
+/// The word of a loop.
+#[derive(Clone, Copy)]
+pub(crate) enum LoopWord {
+    Rep,
+    RepI,
+    While,
+    WhileI,
+}
+
+/// How a loop begins: the variable that gets the number of each turn, if there is one, and how long the loop goes on.
+pub(crate) type LoopHead = (Option<Box<Var>>, LoopGuard);
+
+// The counter of a loop and the comma behind it, where its word has one.
+fn counter<'t>(
+    alloc: Global,
+    word: LoopWord,
+    tokens: &'t [ParserToken<'t>],
+) -> Result<(Option<Box<Var>>, &'t [ParserToken<'t>]), ParseError>
+    ensures tree { FindsTree (IsCounter word) Always (λ x. (boxed_target x.0, map lexeme x.1.now)) result (map lexeme tokens.now) }
+    ensures shorter { IfOk result (λ x. length x.1.now ≤ length tokens.now) }
+{
+    match word {
+        LoopWord::Rep | LoopWord::While => Ok((None, tokens)),
+        LoopWord::RepI | LoopWord::WhileI => {
+            let (read, rest) = target_before(alloc, Mark::Comma, tokens)?;
+            let counter = Box::new(alloc, read)?;
+            Ok((Some(counter), rest))
+        }
+    }
+}
+
+// How long a loop goes on.
+fn guard<'t>(
+    alloc: Global,
+    word: LoopWord,
+    tokens: &'t [ParserToken<'t>],
+) -> Result<(LoopGuard, &'t [ParserToken<'t>]), ParseError>
+    ensures tree { FindsTree (IsGuard word) (test_ends 1) (λ x. (guard_tree x.0, map lexeme x.1.now)) result (map lexeme tokens.now) }
+    ensures shorter { IfOk result (λ x. length x.1.now ≤ length tokens.now) }
+{
+    match word {
+        LoopWord::Rep | LoopWord::RepI => {
+            let (read, rest) = expr(alloc, tokens)?;
+            let count = Box::new(alloc, read)?;
+            Ok((LoopGuard::Times(count), rest))
+        }
+        LoopWord::While | LoopWord::WhileI => {
+            let (condition, rest) = test(alloc, None, tokens)?;
+            Ok((LoopGuard::While(condition), rest))
+        }
+    }
+}
+
+/// The head of a loop, behind its word, and what follows it.
+pub(crate) fn loop_head<'t>(
+    alloc: Global,
+    word: LoopWord,
+    tokens: &'t [ParserToken<'t>],
+) -> Result<(LoopHead, &'t [ParserToken<'t>]), ParseError>
+    ensures tree { FindsTree (IsLoopHead word) (test_ends 1) (λ x. ((boxed_target x.0.0, guard_tree x.0.1), map lexeme x.1.now)) result (map lexeme tokens.now) }
+    ensures shorter { IfOk result (λ x. length x.1.now < length tokens.now) }
+{
+    let after = after_open(tokens)?;
+    let (counter, rest) = counter(alloc, word, after)?;
+    match guard(alloc, word, rest) {
+        Ok((guard, rest)) => Ok(((counter, guard), rest)),
+        Err(fault) => {
+            drop(counter);
+            Err(fault)
+        }
+    }
+}
