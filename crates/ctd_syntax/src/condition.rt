@@ -117,7 +117,9 @@ fn compare_at<'t>(tokens: &'t [ParserToken<'t>]) -> Option<(Compare, &'t [Parser
     ensures operator { StartsWith compare_operator (λ rest. map lexeme rest.now) result (map lexeme tokens.now) }
     ensures shorter { IfSome result (λ x. length x.1.now < length tokens.now) }
 {
-    let (first, after) = tokens.split_first()?;
+    let [first, after @ ..] = tokens else {
+        return None;
+    };
     match first {
         ParserToken::Mark(Mark::Less) => Some((Compare::Less, after)),
         ParserToken::Mark(Mark::Greater) => Some((Compare::Greater, after)),
@@ -134,7 +136,9 @@ fn question_at<'t>(tokens: &'t [ParserToken<'t>]) -> Option<(Keyword, &'t [Parse
     ensures operator { StartsWith question (λ rest. map lexeme rest.now) result (map lexeme tokens.now) }
     ensures shorter { IfSome result (λ x. length x.1.now < length tokens.now) }
 {
-    let (first, after) = tokens.split_first()?;
+    let [first, after @ ..] = tokens else {
+        return None;
+    };
     match first {
         ParserToken::Keyword(Keyword::Match, _) => Some((Keyword::Match, after)),
         ParserToken::Keyword(Keyword::IsEof, _) => Some((Keyword::IsEof, after)),
@@ -172,7 +176,7 @@ fn group_at<'t>(
 fn boxed(alloc: Global, test: Test) -> Result<Box<Test>, AllocError>
     ensures { IfOk result (λ held. held.value ≡ test) }
 {
-    Ok(Box::new(alloc, test)?)
+    Box::new(alloc, test).map_err(AllocError::from)
 }
 
 // An expression and the comparison behind it.

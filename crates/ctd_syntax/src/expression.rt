@@ -44,7 +44,9 @@ fn sum_operator<'t>(tokens: &'t [ParserToken<'t>]) -> Option<(Operator, &'t [Par
     ensures operator { StartsWith sum_operator (λ rest. map lexeme rest.now) result (map lexeme tokens.now) }
     ensures shorter { IfSome result (λ x. length x.1.now < length tokens.now) }
 {
-    let (first, after) = tokens.split_first()?;
+    let [first, after @ ..] = tokens else {
+        return None;
+    };
     match first {
         ParserToken::Mark(Mark::Plus) => Some((Operator::Add, after)),
         ParserToken::Mark(Mark::Minus) => Some((Operator::Sub, after)),
@@ -57,7 +59,9 @@ fn product_operator<'t>(tokens: &'t [ParserToken<'t>]) -> Option<(Operator, &'t 
     ensures operator { StartsWith product_operator (λ rest. map lexeme rest.now) result (map lexeme tokens.now) }
     ensures shorter { IfSome result (λ x. length x.1.now < length tokens.now) }
 {
-    let (first, after) = tokens.split_first()?;
+    let [first, after @ ..] = tokens else {
+        return None;
+    };
     match first {
         ParserToken::Mark(Mark::Times) => Some((Operator::Mul, after)),
         ParserToken::Mark(Mark::Divide) => Some((Operator::Div, after)),

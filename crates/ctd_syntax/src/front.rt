@@ -50,7 +50,9 @@ pub(crate) fn after_mark<'t>(
     ensures shorter { IfSome result (λ rest. length rest.now < length tokens.now) }
     ensures none { IfNone result ((ts : List Lexeme) → map lexeme tokens.now ≡ Lexeme.mark mark ∷ ts → ⊥) }
 {
-    let (first, after) = tokens.split_first()?;
+    let [first, after @ ..] = tokens else {
+        return None;
+    };
     match first {
         ParserToken::Mark(found) if *found == mark => Some(after),
         _ => None,
@@ -79,7 +81,9 @@ pub(crate) fn name_at<'t>(
     ensures shorter { IfSome result (λ x. length x.2.now < length tokens.now) }
     ensures none { IfNone result ((bytes : List ℕ) (ts : List Lexeme) → map lexeme tokens.now ≡ Lexeme.name bytes ∷ ts → ⊥) }
 {
-    let (first, after) = tokens.split_first()?;
+    let [first, after @ ..] = tokens else {
+        return None;
+    };
     match first {
         ParserToken::Name(name, number) => Some((name, *number, after)),
         _ => None,
@@ -94,7 +98,9 @@ pub(crate) fn word_at<'t>(
     ensures shorter { IfSome result (λ x. length x.2.now < length tokens.now) }
     ensures none { IfNone result ((word : Keyword) (at : Place) (ts : List Lexeme) → map lexeme tokens.now ≡ Lexeme.keyword word at ∷ ts → ⊥) }
 {
-    let (first, after) = tokens.split_first()?;
+    let [first, after @ ..] = tokens else {
+        return None;
+    };
     match first {
         ParserToken::Keyword(word, place) => Some((*word, *place, after)),
         _ => None,
@@ -122,7 +128,9 @@ pub(crate) fn text_at<'t>(
     ensures shorter { IfSome result (λ x. length x.2.now < length tokens.now) }
     ensures none { IfNone result ((bytes : List ℕ) (at : Place) (ts : List Lexeme) → map lexeme tokens.now ≡ Lexeme.text bytes at ∷ ts → ⊥) }
 {
-    let (first, after) = tokens.split_first()?;
+    let [first, after @ ..] = tokens else {
+        return None;
+    };
     match first {
         ParserToken::Text(text, place) => Some((text, *place, after)),
         _ => None,
