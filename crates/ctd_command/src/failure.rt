@@ -3,7 +3,7 @@
 use ctd_outcome::{Fault, Reason};
 use ctd_source::LookFault;
 use ctd_value::{EvalFault, TestFault};
-use std::alloc::{AllocError, AllocFailed};
+use std::alloc::AllocError;
 use std::marker::Model;
 
 /// Why a command is not done: the data do not match it, a fault stopped it, or no memory is left.

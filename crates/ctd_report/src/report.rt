@@ -1,10 +1,9 @@
 //! What is written of a check, of a program that is not read and of the words, and the status.
 
-ghost use Rattle.std.specs.Prelude.{◌≡◌, ◌≢◌, ◌⊎◌, [], false, is_err, true, string_bytes, IfOk, OnOk, OnErr};
-ghost use Rattle.std.specs.Io.KnownBytes.{Appends};
+ghost use Rattle.std.specs.Prelude.{◌≡◌, ◌≢◌, false, string_bytes, true, IfOk};
 ghost use Rattle.ctd_token.specs.declared.fault.LoadKind.TheVariants.{Memory};
 ghost use Rattle.ctd_report.specs.Report.{check_report, load_line, load_report, on_err, on_out, open_line, open_report, outcome_line, usage_report, usage_text};
-ghost use Rattle.ctd_report.specs.Written.{AppendsPart, FlushedAfter, Leaves, change};
+ghost use Rattle.ctd_report.specs.Written.{Leaves, change};
 
 use crate::sink::Sink;
 use crate::written::{ToolFault, write_report};

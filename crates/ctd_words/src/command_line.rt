@@ -1,6 +1,6 @@
 //! The options and arguments that the command line takes, read by clap.
 
-ghost use Rattle.std.specs.Prelude.{◌≡◌, IfOk, None, Some, codes, false, is_some, map, true};
+ghost use Rattle.std.specs.Prelude.{◌≡◌, IfOk, None, Some, codes, is_some, map, true};
 ghost use Rattle.clap.specs.Built.{TakesValue};
 ghost use Rattle.clap.specs.Matches.{first_value};
 ghost use Rattle.clap.specs.Words.{FailsBy, app_of, fault_of, found_of, matches_of, rows_of, rule_of};
