@@ -59,7 +59,7 @@ IsPatternText ts x = ts ≡ Lexeme.text x.0 x.1 ∷ []
 abbrev pub IsBlock : Spelling CommandList
 IsBlock = IsBeforeWord words.End IsCommands
 
--- nothing
+-- no counter
 abbrev pub IsAbsent : Spelling (Option VarTree)
 IsAbsent ts v = (ts ≡ []) × (v ≡ None)
 
