@@ -50,11 +50,12 @@ visit() {
 # the processors.
 declare -A slack
 leave_time() {
-    local crate library
-    for crate in "${order[@]}"; do
+    local i crate library
+    for ((i = ${#order[@]} - 1; i >= 0; i--)); do
+        crate=${order[i]}
         for library in ${libraries[$crate]}; do
             [[ -v depth[$library] ]] || continue
-            local between=$((depth[$crate] - 1 - depth[$library]))
+            local between=$((${slack[$crate]:-0} + depth[$crate] - 1 - depth[$library]))
             [[ -v slack[$library] ]] && ((slack[$library] <= between)) || slack[$library]=$between
         done
     done
