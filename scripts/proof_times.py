@@ -2,7 +2,11 @@
 """Tells where the check of a crate spends its time.
 
 The prover writes a file for each module as soon as it has checked it, so the times between these files are what each module cost.
-They are right for a check from scratch with one job: rm -rf out/incremental && rt check --jobs 1 (with --test for a crate of tests).
+They are right for a check from scratch with one job (with --test for a crate of tests):
+
+    rm -rf out/incremental && mkdir -p out/incremental && rt check --jobs 1
+
+Where there is no such folder, rt begins with what it kept of the crate in another checkout.
 Prints the dearest functions, then the dearest modules: Lts is the borrow checker's part of a proof, Proof its goals."""
 import argparse
 from collections import Counter
