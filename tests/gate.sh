@@ -1,5 +1,6 @@
 #!/usr/bin/env bash
-# Rebuilds every proof and test from scratch (rt ci), then runs the program that this built as a process, at last with allocations failing.
+# Rebuilds every proof and test from scratch (rt ci), then runs the program that this built as a process, on the rows of tables too, and at
+# last with allocations failing.
 # The last line counts what passed and failed in all.
 set -u
 cd "$(dirname "${BASH_SOURCE[0]}")/.."
@@ -28,6 +29,7 @@ count() {
 count rt ci
 if [ "$failed" -eq 0 ]; then
     count tests/process.sh
+    count tests/tables.py
     count tests/allocations.py
 fi
 printf '%s passed, %s failed\n' "$passed" "$failed"

@@ -1,0 +1,140 @@
+#!/usr/bin/env python3
+"""Runs the built checker on the rows of the tables in tests/tables/, and compares both streams and the status.
+
+A table says what all of its rows share, and its columns what each row gives:
+
+    program, data   the bytes of both files: a character stands for the byte of its number, and `{3 ab}` for `ababab`
+    words           further words of the command line, as ["-w"]
+    answer          the line that is written: to standard error, with status 2, where it begins with `checktestdata: `; else to standard
+                    output, with status 0 where it is `testdata ok!` and 1 where it is another
+    steps           how many steps that takes: with a limit of one step less the run stops at it
+    reads           sizes of pieces: the data come by standard input too, in pieces of each of these sizes, each after the last was read
+
+The last line counts the rows that were answered so, as passed, and the others. usage: tests/tables.py [PROGRAM]"""
+import fcntl
+import os
+import re
+import subprocess
+import sys
+import tempfile
+import termios
+import tomllib
+from collections.abc import Iterator
+from dataclasses import dataclass, field
+from pathlib import Path
+
+HERE = Path(__file__).resolve().parent
+TOP = HERE.parent
+STEP_LIMIT = re.compile(rb"checktestdata: line \d+ column \d+: step limit reached \(program [a-z0-9 ]+\)\n")
+FOLDED = re.compile(r"\{(\d+) ([^{}]*)\}")
+OUT_OF_TIME = 60
+
+# A status, and what stands on standard output and on standard error.
+Left = tuple[int, bytes, bytes]
+
+
+@dataclass(frozen=True)
+class Row:
+    """A program and data, how the checker is called, and what it has to answer."""
+
+    program: str
+    answer: str
+    data: str = ""
+    words: list[str] = field(default_factory=list)
+    steps: int | None = None
+    reads: list[int] = field(default_factory=list)
+
+    def wanted(self) -> Left:
+        line = self.answer.encode("latin-1") + b"\n"
+        if line.startswith(b"checktestdata: "):
+            return 2, b"", line
+        return int(line != b"testdata ok!\n"), line, b""
+
+
+def rows_of(file: Path) -> Iterator[tuple[str, Row]]:
+    """The rows of the tables of a file, each with the name of its table."""
+    for table in tomllib.loads(file.read_text())["tables"]:
+        name, columns, rows = f"{file.stem}: {table.pop('name')}", table.pop("columns"), table.pop("rows")
+        for row in rows:
+            yield name, Row(**table, **dict(zip(columns, row, strict=True)))
+
+
+def bytes_of(text: str) -> bytes:
+    """The bytes that the text of a file stands for."""
+    return FOLDED.sub(lambda found: int(found[1]) * found[2], text).encode("latin-1")
+
+
+def is_held(end: int) -> bool:
+    """Whether a pipe holds bytes that were not read."""
+    return int.from_bytes(fcntl.ioctl(end, termios.FIONREAD, bytes(4)), sys.byteorder) > 0
+
+
+class Checker:
+    """The built checker, and a folder for its files."""
+
+    def __init__(self, checker: Path, folder: Path) -> None:
+        self.checker = checker
+        self.program = folder / "program"
+        self.data = folder / "data"
+
+    def run(self, words: list[str]) -> Left:
+        """What a run on the two files leaves."""
+        ended = subprocess.run(
+            [self.checker, *words, self.program, self.data],
+            stdin=subprocess.DEVNULL, capture_output=True, timeout=OUT_OF_TIME, check=False,
+        )
+        return ended.returncode, ended.stdout, ended.stderr
+
+    def run_on_pieces(self, words: list[str], data: bytes, size: int) -> Left:
+        """What a run on the program leaves that gets the data by standard input, each piece once the last was read."""
+        read_end, write_end = os.pipe()
+        with subprocess.Popen(
+            [self.checker, *words, self.program], stdin=read_end, stdout=subprocess.PIPE, stderr=subprocess.PIPE
+        ) as process:
+            for start in range(0, len(data), size):
+                os.write(write_end, data[start : start + size])
+                while is_held(read_end) and process.poll() is None:
+                    os.sched_yield()
+            os.close(write_end)
+            out, err = process.communicate(timeout=OUT_OF_TIME)
+        os.close(read_end)
+        return process.returncode, out, err
+
+    def faults(self, row: Row) -> Iterator[tuple[str, Left]]:
+        """What the runs of a row left that they should not, each with how it was run."""
+        data, wanted = bytes_of(row.data), row.wanted()
+        self.program.write_bytes(bytes_of(row.program))
+        self.data.write_bytes(data)
+        limits = [] if row.steps is None else [f"--max-steps={row.steps}"]
+        found = self.run([*row.words, *limits])
+        if found != wanted:
+            yield " ".join(["as it stands", *limits]), found
+        if row.steps:
+            words = [*row.words, f"--max-steps={row.steps - 1}"]
+            status, out, err = self.run(words)
+            if (status, out) != (2, b"") or not STEP_LIMIT.fullmatch(err):
+                yield f"with a limit of {row.steps - 1} steps", (status, out, err)
+        for size in row.reads:
+            found = self.run_on_pieces(row.words, data, size)
+            if found != wanted:
+                yield f"in pieces of {size} bytes", found
+
+
+def main() -> int:
+    words = sys.argv[1:]
+    checker = Path(words[0]).resolve() if words else TOP / "crates/checktestdata/out/checktestdata"
+    passed = failed = 0
+    with tempfile.TemporaryDirectory() as folder:
+        runs = Checker(checker, Path(folder))
+        for file in sorted((HERE / "tables").glob("*.toml")):
+            for name, row in rows_of(file):
+                faults = list(runs.faults(row))
+                passed, failed = passed + (not faults), failed + bool(faults)
+                for how, found in faults:
+                    print(f"tables: {name}: {row.program[:80]!r} on {row.data[:40]!r}, {how}: {found}, wanted {row.wanted()}")
+    print(f"{passed} passed, {failed} failed")
+    return int(failed > 0)
+
+
+if __name__ == "__main__":
+    sys.exit(main())
