@@ -92,6 +92,9 @@ class Checker:
             [self.checker, *words, self.program], stdin=read_end, stdout=subprocess.PIPE, stderr=subprocess.PIPE
         ) as process:
             for start in range(0, len(data), size):
+                # a run that has ended reads no more
+                if process.poll() is not None:
+                    break
                 os.write(write_end, data[start : start + size])
                 while is_held(read_end) and process.poll() is None:
                     os.sched_yield()

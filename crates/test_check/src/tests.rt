@@ -1,18 +1,10 @@
-//! Patterns with what they match, and plans and checks on readers in memory, a module for each subject.
+//! What no run of the built checker shows: how much of the data is read, reads that fail, limits of bytes, and patterns by themselves. The
+//! rows of programs and data stand in the tables of the repository's `tests/`.
 
-mod blanks;
 mod checks;
-mod conditions;
-mod integers;
-mod loops;
-mod nests;
 mod pattern_lengths;
-mod patterns;
 mod programs;
 mod readers;
-mod rows;
-mod strings;
-mod variables;
 
 use std::fmt::Debug;
 use std::process::Abort;

@@ -1,161 +1,318 @@
-//! How a check ends, and what it says of the data that it read.
+//! How a check ends, and what it says of the data that it read: under limits of bytes, and on readers that fail or never end.
 
-use crate::tests::readers::{
-    AMPLE, Endless, after, check_with, column, outcome_on, plan_of, rejected, stopped,
-};
-use crate::tests::rows::{PLAIN, Terms, checked, checked_many, finds};
+use crate::tests::readers::{Behind, Held};
 use crate::tests::same;
-use ctd_check::{Checked, Fault, Limits, Outcome, Plan, Reason, Seen, Site, Spot};
-use std::alloc::Global;
+use ctd_check::{Checked, FromRead, Limits, Mode, Outcome, Plan, Presets, Seen, Site, Spot, check};
+use std::alloc::{AllocError, Global};
+use std::fmt::Display;
+use std::process::Abort;
 use std::test::Fail;
 
-const LINE_OF_ONE: &str = "INT(1,10) NEWLINE";
+/// The mode and the limits of a check, and how its data are held.
+#[derive(Clone, Copy)]
+struct Terms {
+    mode: Mode,
+    steps: u64,
+    bytes: u32,
+    /// How many bytes of the data a read gives at most.
+    most: usize,
+    behind: Behind,
+}
 
-/// The first byte of the second line, where two bytes came before it.
-const SECOND_LINE: Spot = Spot {
-    line: 2,
-    column: 1,
-    offset: 2,
+/// The terms that ask for nothing.
+const PLAIN: Terms = Terms {
+    mode: Mode::Exact,
+    steps: u64::MAX,
+    bytes: u32::MAX,
+    most: 1_000_000,
+    behind: Behind::End,
 };
 
-#[test]
-fn data_that_match_are_read_to_their_end(rt: HostRuntime) -> Result<(), Fail> {
-    let found = checked(rt.alloc(), &PLAIN, LINE_OF_ONE, b"5\n")?;
-    let expected = Checked {
-        outcome: Outcome::Accepted,
-        steps: 3,
-        consumed: 2,
-        taken: 2,
-        seen: Seen::Ended,
-    };
-    same(&rt, &found, &expected, &"the check");
-    Ok(())
-}
-
-#[test]
-fn an_empty_program_wants_empty_data(rt: HostRuntime) -> Result<(), Fail> {
-    let ending = (Outcome::Accepted, Some(1), None);
-    finds(&rt, rt.alloc(), &PLAIN, "", b"", ending)?;
-    let outcome = rejected(after(0), Site::Finish, Reason::ExpectedEof);
-    let ending = (outcome, None, Some(0));
-    finds(&rt, rt.alloc(), &PLAIN, "", b"x", ending)
-}
-
-/// How three checks by one plan end; none where memory runs out.
-fn three_outcomes(alloc: Global, plan: &Plan) -> Option<(Outcome, Outcome, Outcome)> {
-    let first = outcome_on(alloc, plan, "5\n")?;
-    let second = outcome_on(alloc, plan, "5")?;
-    let third = outcome_on(alloc, plan, "5\n")?;
-    Some((first, second, third))
-}
-
-/// The same by the plan of a program.
-fn three_outcomes_of(
-    alloc: Global,
-    program: &str,
-) -> Result<Option<(Outcome, Outcome, Outcome)>, Fail> {
-    let plan = plan_of(alloc, program)?;
-    Ok(three_outcomes(alloc, &plan))
-}
-
-#[test]
-fn one_plan_serves_many_checks(rt: HostRuntime) -> Result<(), Fail> {
-    let outcomes = three_outcomes_of(rt.alloc(), LINE_OF_ONE)?.ok_or("memory")?;
-    let refused = rejected(after(1), column(11), Reason::ExpectedNewline);
-    let wanted = (Outcome::Accepted, refused, Outcome::Accepted);
-    same(&rt, &outcomes, &wanted, &"the checks");
-    Ok(())
-}
-
-#[test]
-fn each_command_and_the_end_cost_a_step(rt: HostRuntime) -> Result<(), Fail> {
-    let fault = Fault::StepLimit;
-    for (steps, outcome, consumed) in &[
-        (0, stopped(after(0), column(1), fault), 0),
-        (1, stopped(after(1), column(11), fault), 1),
-        (2, stopped(SECOND_LINE, Site::Finish, fault), 2),
-        (3, Outcome::Accepted, 2),
-    ] {
-        let terms = Terms {
-            steps: *steps,
-            ..PLAIN
-        };
-        let ending = (*outcome, Some(*steps), Some(*consumed));
-        finds(&rt, rt.alloc(), &terms, LINE_OF_ONE, b"5\n", ending)?;
-    }
-    Ok(())
-}
-
 /// The terms under which a read fails behind the data.
-const FAILING: Terms<'static> = Terms {
-    fails: true,
+const FAILING: Terms = Terms {
+    behind: Behind::Failure,
     ..PLAIN
 };
 
-#[test]
-fn a_failed_read_counts_where_its_byte_is_needed(rt: HostRuntime) -> Result<(), Fail> {
-    let outcome = rejected(after(0), column(1), Reason::OutOfRange);
-    let ending = (outcome, None, None);
-    finds(&rt, rt.alloc(), &FAILING, "INT(0,9) SPACE", b"12 ", ending)?;
-    let found = checked(rt.alloc(), &FAILING, "INT(0,9) SPACE", b"12")?;
-    let expected = Checked {
-        outcome: stopped(after(0), column(1), Fault::Read),
-        steps: 1,
-        consumed: 2,
-        taken: 2,
-        seen: Seen::Broken,
-    };
-    same(&rt, &found, &expected, &"12");
-    Ok(())
+/// The same in whitespace mode.
+const BLANKS_FAILING: Terms = Terms {
+    mode: Mode::BlanksOk,
+    ..FAILING
+};
+
+/// The terms under which ones come behind the data without end, of which a thousand bytes may be looked at.
+const ENDLESS: Terms = Terms {
+    bytes: 1_000,
+    behind: Behind::Ones,
+    ..PLAIN
+};
+
+/// The plan of a text.
+fn plan_of(alloc: Global, program: &str) -> Result<Plan, Fail> {
+    let plan = Plan::load(alloc, &mut FromRead::new(program.as_bytes()));
+    Ok(plan.ok().ok_or("the program is refused")?)
 }
 
-#[test]
-fn data_that_never_end_stop_at_the_limit(rt: HostRuntime) -> Result<(), Fail> {
+/// What a check of data by a plan finds.
+fn checked_by(
+    alloc: Global,
+    terms: &Terms,
+    plan: &Plan,
+    data: &[u8],
+) -> Result<Checked, AllocError> {
+    let mut data = FromRead::new(Held {
+        bytes: data,
+        most: terms.most,
+        behind: terms.behind,
+    });
     let limits = Limits {
-        bytes: 1_000,
-        ..AMPLE
+        steps: terms.steps,
+        bytes: terms.bytes as u64,
     };
-    let found = check_with(rt.alloc(), "INT(0,9)", Endless, limits)?;
-    let expected = Checked {
-        outcome: stopped(after(0), column(1), Fault::DataTooLong),
-        steps: 1,
-        consumed: 1_000,
-        taken: 1_001,
-        seen: Seen::Going,
-    };
-    same(&rt, &found, &expected, &"the check");
-    Ok(())
+    let presets = Presets::none(alloc);
+    check(alloc, plan, &presets, &mut data, limits, terms.mode)
 }
 
+/// What a check of data by a program finds.
+fn checked(alloc: Global, terms: &Terms, program: &str, data: &[u8]) -> Result<Checked, Fail> {
+    let plan = plan_of(alloc, program)?;
+    Ok(checked_by(alloc, terms, &plan, data)?)
+}
+
+/// What is said of a spot, as the tool would write it.
+fn said(alloc: Global, spot: Spot, place: Site, what: &impl Display) -> Result<String, AllocError> {
+    format!(in alloc;
+        "line {} column {}: {what} ({place})",
+        spot.line, spot.column
+    )
+}
+
+/// The answer of a check as the tool would write it.
+fn told(alloc: Global, outcome: Outcome) -> Result<String, AllocError> {
+    match outcome {
+        Outcome::Accepted => String::from_str(alloc, "ok"),
+        Outcome::Rejected {
+            spot,
+            place,
+            reason,
+        } => said(alloc, spot, place, &reason),
+        Outcome::Stopped { spot, place, fault } => said(alloc, spot, place, &fault),
+    }
+}
+
+/// The terms of a check, its program and data, its answer as text, the steps paid and the bytes consumed; and the bytes taken and what was
+/// seen of the data's end, where a definition says that.
+type Row = (
+    Terms,
+    &'static str,
+    &'static str,
+    &'static str,
+    (u64, u64),
+    Option<(u64, Seen)>,
+);
+
+const LINE_OF_ONE: &str = "INT(1,10) NEWLINE";
+
+const ROWS: [Row; 17] = [
+    (
+        PLAIN,
+        LINE_OF_ONE,
+        "5\n",
+        "ok",
+        (3, 2),
+        Some((2, Seen::Ended)),
+    ),
+    // A read fails behind the data, and the byte behind them is needed or not.
+    (
+        FAILING,
+        "INT(0,9) SPACE",
+        "12 ",
+        "line 1 column 1: value out of range (program line 1 column 1)",
+        (1, 2),
+        None,
+    ),
+    (
+        FAILING,
+        "INT(0,9) SPACE",
+        "12",
+        "line 1 column 1: read failed (program line 1 column 1)",
+        (1, 2),
+        Some((2, Seen::Broken)),
+    ),
+    (
+        FAILING,
+        "STRING(\"abc\")",
+        "ab",
+        "line 1 column 1: read failed (program line 1 column 1)",
+        (1, 2),
+        None,
+    ),
+    (
+        BLANKS_FAILING,
+        "",
+        "  ",
+        "line 1 column 1: read failed (program start)",
+        (0, 2),
+        None,
+    ),
+    (
+        BLANKS_FAILING,
+        "STRING(\"a\") SPACE",
+        "a  ",
+        "line 1 column 2: read failed (program line 1 column 13)",
+        (2, 3),
+        None,
+    ),
+    (
+        BLANKS_FAILING,
+        "STRING(\"a\") NEWLINE",
+        "a \n ",
+        "line 1 column 2: read failed (program line 1 column 13)",
+        (2, 4),
+        None,
+    ),
+    (
+        BLANKS_FAILING,
+        "STRING(\"a\")",
+        "a ",
+        "line 1 column 2: read failed (program end)",
+        (2, 2),
+        None,
+    ),
+    // A byte behind the limit is needed, and the data go on there or end.
+    (
+        Terms { bytes: 0, ..PLAIN },
+        LINE_OF_ONE,
+        "5\n",
+        "line 1 column 1: test data too long (program line 1 column 1)",
+        (1, 0),
+        None,
+    ),
+    (
+        Terms { bytes: 1, ..PLAIN },
+        LINE_OF_ONE,
+        "5\n",
+        "line 1 column 1: test data too long (program line 1 column 1)",
+        (1, 1),
+        None,
+    ),
+    (
+        Terms { bytes: 2, ..PLAIN },
+        LINE_OF_ONE,
+        "5\n",
+        "ok",
+        (3, 2),
+        None,
+    ),
+    (
+        Terms { bytes: 3, ..PLAIN },
+        "STRING(\"abcd\")",
+        "abcd",
+        "line 1 column 1: test data too long (program line 1 column 1)",
+        (1, 3),
+        None,
+    ),
+    (
+        Terms { bytes: 3, ..PLAIN },
+        "STRING(\"abd\")",
+        "abcd",
+        "line 1 column 1: string does not match (program line 1 column 1)",
+        (1, 2),
+        None,
+    ),
+    (
+        Terms {
+            bytes: 2,
+            ..BLANKS_FAILING
+        },
+        "",
+        "   ",
+        "line 1 column 1: test data too long (program start)",
+        (0, 2),
+        None,
+    ),
+    // Data that never end.
+    (
+        ENDLESS,
+        "INT(0,9)",
+        "",
+        "line 1 column 1: test data too long (program line 1 column 1)",
+        (1, 1_000),
+        Some((1_001, Seen::Going)),
+    ),
+    // The loop costs a step, and each turn one for itself and one for its STRING.
+    (
+        ENDLESS,
+        "WHILE(1==1) STRING(\"1\") END",
+        "",
+        "line 1 column 1001: test data too long (program line 1 column 13)",
+        (2_003, 1_000),
+        Some((1_001, Seen::Going)),
+    ),
+    (
+        Terms {
+            steps: 100_000,
+            bytes: u32::MAX,
+            ..ENDLESS
+        },
+        "WHILE(1==1) STRING(\"1\") END",
+        "",
+        "line 1 column 50000: step limit reached (program line 1 column 13)",
+        (100_000, 49_999),
+        None,
+    ),
+];
+
 #[test]
-fn data_of_the_limit_are_not_too_long(rt: HostRuntime) -> Result<(), Fail> {
-    for (bytes, outcome) in &[
-        (0, stopped(after(0), column(1), Fault::DataTooLong)),
-        (1, stopped(after(0), column(1), Fault::DataTooLong)),
-        (2, Outcome::Accepted),
-    ] {
-        let terms = Terms {
-            bytes: *bytes,
-            ..PLAIN
-        };
-        let ending = (*outcome, None, None);
-        finds(&rt, rt.alloc(), &terms, LINE_OF_ONE, b"5\n", ending)?;
+fn checks_end_as_the_rows_say(rt: HostRuntime) -> Result<(), Fail> {
+    for (terms, program, data, answer, paid, seen) in &ROWS {
+        let found = checked(rt.alloc(), terms, program, data.as_bytes())?;
+        let told = told(rt.alloc(), found.outcome)?;
+        let read = (found.taken, found.seen);
+        same(
+            &rt,
+            &(told.as_str(), (found.steps, found.consumed), read),
+            &(*answer, *paid, seen.unwrap_or(read)),
+            &(program, data, terms.bytes),
+        );
     }
     Ok(())
 }
 
 #[test]
 fn data_are_read_no_further_than_a_window(rt: HostRuntime) -> Result<(), Fail> {
-    let outcome = rejected(after(1), column(7), Reason::ExpectedEof);
+    let spaces = vec![in rt.alloc(); b' '; 70_000]?;
     for most in [1, 2, 3, 7, 65_535, 65_536, 100_000] {
         let terms = Terms { most, ..PLAIN };
-        let found = checked_many(rt.alloc(), &terms, "SPACE EOF", b' ', 70_000)?;
+        let found = checked(rt.alloc(), &terms, "SPACE EOF", &spaces)?;
         same(
             &rt,
-            &(found.outcome, found.consumed, found.taken <= 65_537),
-            &(outcome, 1, true),
+            &(found.consumed, found.taken <= 65_537),
+            &(1, true),
             &most,
         );
     }
+    Ok(())
+}
+
+/// Judges the checks by a plan of numbers with a line each, of which one may run out of memory.
+fn judge_plan(rt: &impl Abort, alloc: Global, plan: &Plan) {
+    let mut has_failed = false;
+    for (data, accepted) in &[("12\n", true), ("x\n", false), ("3\n", true)] {
+        match checked_by(alloc, &PLAIN, plan, data.as_bytes()) {
+            Ok(found) => same(rt, &(found.outcome == Outcome::Accepted), accepted, data),
+            Err(_) => {
+                same(rt, &has_failed, &false, data);
+                has_failed = true;
+            }
+        }
+    }
+}
+
+/// Under `rt try --test --fail-alloc N` one of the checks runs out of memory, and those after it answer as ever.
+#[test]
+fn a_plan_serves_any_number_of_checks(rt: HostRuntime) -> Result<(), Fail> {
+    let plan = plan_of(rt.alloc(), "REGEX(\"[0-9]+\",n[1]) NEWLINE")?;
+    judge_plan(&rt, rt.alloc(), &plan);
     Ok(())
 }

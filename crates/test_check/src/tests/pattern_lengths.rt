@@ -2,7 +2,7 @@
 
 use super::same;
 use ctd_pattern::{Pattern, PatternFault};
-use std::alloc::{AllocError, Global};
+use std::alloc::Global;
 use std::process::Abort;
 use std::test::Fail;
 
@@ -134,58 +134,30 @@ fn literals_without_a_pattern(rt: HostRuntime) {
     }
 }
 
-/// A letter with so many groups around one another.
-fn grouped(alloc: Global, depth: usize) -> Result<Vec<u8>, AllocError> {
-    let mut literal = vec![in alloc; b'('; depth]?;
-    literal.push(b'a')?;
-    for _ in 0..depth {
-        literal.push(b')')?;
-    }
-    Ok(literal)
-}
+const NUMBERS: [(&[u8], Option<usize>); 4] = [
+    (b"12 3", Some(2)),
+    (b"x1", None),
+    (b"12345", Some(5)),
+    (b"7", Some(1)),
+];
 
-/// So many groups around one another, and the length that they match of one letter.
-const NESTINGS: [(usize, Answer); 2] = [(249, Ok(Some(1))), (300, Err(PatternFault::NotPattern))];
-
-#[test]
-fn groups_within_groups(rt: HostRuntime) -> Result<(), Fail> {
-    for (depth, wanted) in &NESTINGS {
-        let literal = grouped(rt.alloc(), *depth)?;
-        let found = match_length(rt.alloc(), literal.as_slice(), b"ab");
-        same(&rt, &found, wanted, depth);
+/// Judges two matchers of a pattern of digits, each by all of the rows.
+fn judge_matchers(rt: &impl Abort, alloc: Global, pattern: &Pattern) -> Result<(), Fail> {
+    for turn in 0..2 {
+        let mut matcher = pattern.matcher(alloc)?;
+        for (window, wanted) in &NUMBERS {
+            let found = matcher.match_length(window);
+            same(rt, &found, wanted, &(turn, window));
+        }
     }
     Ok(())
-}
-
-#[test]
-fn a_pattern_with_large_counts(rt: HostRuntime) -> Result<(), Fail> {
-    let window = vec![in rt.alloc(); b'a'; 65_536]?;
-    let found = match_length(rt.alloc(), b"(a{100}){100}", &window);
-    same(&rt, &found, &Ok(Some(10_000)), &"the letters");
-    Ok(())
-}
-
-/// The lengths that two matchers of a pattern tell in turn.
-fn side_by_side(alloc: Global, pattern: &Pattern) -> Result<[Option<usize>; 5], AllocError> {
-    let mut first = pattern.matcher(alloc)?;
-    let mut second = pattern.matcher(alloc)?;
-    Ok([
-        first.match_length(b"12 3"),
-        second.match_length(b"x1"),
-        first.match_length(b"12345"),
-        first.match_length(b"x"),
-        second.match_length(b"7"),
-    ])
 }
 
 /// One pattern gives as many matchers as are wanted, and each of them any number of answers.
 #[test]
-fn matchers_side_by_side(rt: HostRuntime) -> Result<(), Fail> {
+fn a_matcher_gives_any_number_of_answers(rt: HostRuntime) -> Result<(), Fail> {
     let Ok(pattern) = Pattern::read(rt.alloc(), b"[0-9]+") else {
         return Err(Fail::new(format_args!("no pattern")));
     };
-    let found = side_by_side(rt.alloc(), &pattern)?;
-    let wanted = [Some(2), None, Some(5), None, Some(1)];
-    same(&rt, &found, &wanted, &"the lengths");
-    Ok(())
+    judge_matchers(&rt, rt.alloc(), &pattern)
 }
