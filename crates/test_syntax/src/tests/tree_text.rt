@@ -8,7 +8,8 @@ use ctd_syntax::{
 // No tree of a program is as deep as this.
 const DEPTH: u16 = 2_000;
 
-fn write_text(out: &mut Shown, bytes: &[u8]) {
+// Bytes between quotes.
+pub(super) fn write_text(out: &mut Shown, bytes: &[u8]) {
     out.put("\"");
     out.put_bytes(bytes);
     out.put("\"");
@@ -36,8 +37,17 @@ fn write_pair(out: &mut Shown, depth: u16, left: &Expr, sign: &str, right: &Expr
     };
     out.put("(");
     write_expr(out, depth, left);
+    write_operand(out, depth, sign, right);
+}
+
+// An operand between its sign and the parenthesis.
+#[cycle(expr_text)]
+fn write_operand(out: &mut Shown, depth: u16, sign: &str, operand: &Expr) {
+    let Some(depth) = depth.checked_sub(1) else {
+        return out.put("...");
+    };
     out.put(sign);
-    write_expr(out, depth, right);
+    write_expr(out, depth, operand);
     out.put(")");
 }
 
@@ -68,16 +78,8 @@ fn write_expr(out: &mut Shown, depth: u16, e: &Expr) {
         Expr::Numeral(n) => out.put_form(format_args!("{}", n.value())),
         Expr::Text(bytes) => write_text(out, bytes.as_slice()),
         Expr::Var(var) => write_var(out, depth, var),
-        Expr::Strlen(operand) => {
-            out.put("STRLEN(");
-            write_expr(out, depth, operand);
-            out.put(")");
-        }
-        Expr::Minus(operand) => {
-            out.put("(-");
-            write_expr(out, depth, operand);
-            out.put(")");
-        }
+        Expr::Strlen(operand) => write_operand(out, depth, "STRLEN(", operand),
+        Expr::Minus(operand) => write_operand(out, depth, "(-", operand),
         Expr::Add(a, b) => write_pair(out, depth, a, "+", b),
         Expr::Sub(a, b) => write_pair(out, depth, a, "-", b),
         Expr::Mul(a, b) => write_pair(out, depth, a, "*", b),
@@ -96,6 +98,14 @@ fn sign_of(by: Compare) -> &'static str {
         Compare::Equal => "==",
         Compare::Unequal => "!=",
     }
+}
+
+fn write_in_array(out: &mut Shown, operand: &Expr, name: &Name) {
+    out.put("INARRAY(");
+    write_expr(out, DEPTH, operand);
+    out.put(",");
+    out.put_bytes(name.as_slice());
+    out.put(")");
 }
 
 #[cycle(test_text)]
@@ -124,23 +134,13 @@ fn write_test(out: &mut Shown, depth: u16, t: &Test) {
             out.put(")");
         }
         Test::Compare(by, a, b) => write_pair(out, DEPTH, a, sign_of(*by), b),
-        Test::Match(operand) => {
-            out.put("MATCH(");
-            write_expr(out, DEPTH, operand);
-            out.put(")");
-        }
+        Test::Match(operand) => write_operand(out, DEPTH, "MATCH(", operand),
         Test::IsEof => out.put("ISEOF"),
         Test::Unique(names) => {
             out.put("UNIQUE");
             write_names(out, names.as_slice());
         }
-        Test::InArray(operand, name) => {
-            out.put("INARRAY(");
-            write_expr(out, DEPTH, operand);
-            out.put(",");
-            out.put_bytes(name.as_slice());
-            out.put(")");
-        }
+        Test::InArray(operand, name) => write_in_array(out, operand, name),
     }
 }
 
