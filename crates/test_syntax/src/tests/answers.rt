@@ -47,7 +47,7 @@ fn write_parsed(out: &mut Shown, alloc: Global, text: &[u8]) {
 
 /// What is answered for a text that is to be unfolded.
 pub(super) fn answer(alloc: Global, asked: &Asked, text: &str) -> Result<String, Fail> {
-    let text = unfolded(alloc, text)?;
+    let text = unfold(alloc, text)?;
     let (text, bytes) = (text.as_str(), text.as_str().as_bytes());
     let mut shown = Shown::new(alloc);
     match asked {
@@ -80,7 +80,7 @@ pub(super) fn judged(
 }
 
 /// That each text of a table has the answer beside it.
-pub(super) fn answered(
+pub(super) fn judge_rows(
     rt: &impl Abort,
     alloc: Global,
     asked: &Asked,
@@ -95,7 +95,7 @@ pub(super) fn answered(
 /// That the text of each line has the answer behind its arrow. A line with no arrow has the answer of nothing.
 ///
 /// One text of many lines is proved much sooner than a table of as many rows.
-pub(super) fn answered_lines(
+pub(super) fn judge_lines(
     rt: &impl Abort,
     alloc: Global,
     asked: &Asked,
@@ -109,7 +109,7 @@ pub(super) fn answered_lines(
 }
 
 /// The number before the first blank, and what stands behind that.
-fn counted(folded: &[u8]) -> (usize, &[u8]) {
+fn split_count(folded: &[u8]) -> (usize, &[u8]) {
     let mut count = 0usize;
     for (at, byte) in folded.iter().enumerate() {
         if *byte == b' ' {
@@ -123,11 +123,11 @@ fn counted(folded: &[u8]) -> (usize, &[u8]) {
 }
 
 /// A text in which `{199 +1}` stands for `+1` 199 times.
-pub(super) fn unfolded(alloc: Global, text: &str) -> Result<String, Fail> {
+pub(super) fn unfold(alloc: Global, text: &str) -> Result<String, Fail> {
     let mut shown = Shown::new(alloc);
     let mut folded = false;
     for part in text.as_bytes().split(|byte| *byte == b'{' || *byte == b'}') {
-        let (times, part) = if folded { counted(part) } else { (1, part) };
+        let (times, part) = if folded { split_count(part) } else { (1, part) };
         for _ in 0..times {
             shown.put_bytes(part);
         }

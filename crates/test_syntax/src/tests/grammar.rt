@@ -1,6 +1,6 @@
 //! Texts of programs with the trees that they spell, worked out by hand from the grammar.
 
-use super::answers::{Asked, answered, answered_lines};
+use super::answers::{Asked, judge_lines, judge_rows};
 use std::test::Fail;
 
 const OPERATORS: &str = r"
@@ -288,7 +288,7 @@ fn programs_have_their_trees(rt: HostRuntime) -> Result<(), Fail> {
         COMMANDS,
         BLOCKS,
     ] {
-        answered_lines(&rt, rt.alloc(), &Asked::Tree, lines)?;
+        judge_lines(&rt, rt.alloc(), &Asked::Tree, lines)?;
     }
-    answered(&rt, rt.alloc(), &Asked::Tree, &TEXTS)
+    judge_rows(&rt, rt.alloc(), &Asked::Tree, &TEXTS)
 }

@@ -1,6 +1,6 @@
 //! The numbers of the names of a program, and those of faults, which no contract tells.
 
-use super::answers::{Asked, answered, write_fault};
+use super::answers::{Asked, judge_rows, write_fault};
 use super::shown::Shown;
 use ctd_syntax::{Action, Command, LoadKind, PresetFault, parse};
 use std::alloc::Global;
@@ -36,7 +36,7 @@ const NAMES: [(&str, &str); 2] = [
 
 #[test]
 fn numbers_of_names(rt: HostRuntime) -> Result<(), Fail> {
-    answered(&rt, rt.alloc(), &Asked::Numbers, &NAMES)
+    judge_rows(&rt, rt.alloc(), &Asked::Numbers, &NAMES)
 }
 
 /// The numbers of the faults of programs, and of presets.

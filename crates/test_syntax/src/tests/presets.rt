@@ -1,6 +1,6 @@
 //! Texts of presets with what they spell, worked out by hand from their two productions.
 
-use super::answers::{Asked, answer, judged, unfolded};
+use super::answers::{Asked, answer, judged, unfold};
 use super::shown::Shown;
 use super::tree_text::write_text;
 use ctd_syntax::{Literal, Presets};
@@ -47,7 +47,7 @@ const TEXTS: [(&str, &str); 7] = [
 #[test]
 fn texts_of_presets(rt: HostRuntime) -> Result<(), Fail> {
     for (text, wanted) in &TEXTS {
-        let wanted = unfolded(rt.alloc(), wanted)?;
+        let wanted = unfold(rt.alloc(), wanted)?;
         let found = answer(rt.alloc(), &Asked::Presets, text);
         judged(&rt, found, wanted.as_str(), text)?;
     }

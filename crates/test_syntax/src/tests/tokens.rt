@@ -1,6 +1,6 @@
 //! Small texts with their tokens or their fault, worked out by hand from the language.
 
-use super::answers::{Asked, answered, answered_lines, judged, write_fault};
+use super::answers::{Asked, judge_lines, judge_rows, judged, write_fault};
 use super::shown::Shown;
 use ctd_token::{
     Bytes, KnownName, Lexer, Name, PROGRAM_LIMIT, Place, Token, TokenKind, advance, token_at,
@@ -169,16 +169,17 @@ const PLACES: [(&str, &str); 1] = [("a\nbc\n", "1:1 1:2 2:1 2:2 2:3 3:1 ")];
 
 #[test]
 fn texts_have_their_tokens(rt: HostRuntime) -> Result<(), Fail> {
-    answered_lines(&rt, rt.alloc(), &Asked::Cut, LINES)?;
-    answered(&rt, rt.alloc(), &Asked::Cut, &TEXTS)?;
-    answered(&rt, rt.alloc(), &Asked::Steps, &STEPS)?;
-    answered(&rt, rt.alloc(), &Asked::Front, &FRONTS)?;
-    answered(&rt, rt.alloc(), &Asked::Places, &PLACES)
+    judge_lines(&rt, rt.alloc(), &Asked::Cut, LINES)?;
+    judge_rows(&rt, rt.alloc(), &Asked::Cut, &TEXTS)?;
+    judge_rows(&rt, rt.alloc(), &Asked::Steps, &STEPS)?;
+    judge_rows(&rt, rt.alloc(), &Asked::Front, &FRONTS)?;
+    judge_rows(&rt, rt.alloc(), &Asked::Places, &PLACES)
 }
 
+/// Two names, and whether they are found to be the same.
 type Row = (&'static [u8], &'static [u8], bool);
 
-/// Two names, and whether they are the same. Of long names nothing is told, nor of the name of no bytes.
+// Of long names nothing is told, nor of the name of no bytes.
 const CODES: [Row; 15] = [
     (b"n1", b"n1", true),
     (b"n1", b"1n", false),
