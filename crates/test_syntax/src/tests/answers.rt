@@ -5,7 +5,7 @@ use super::presets::write_read;
 use super::shown::Shown;
 use super::tokens::{write_cut, write_front, write_places, write_steps};
 use super::tree_text::write_program;
-use ctd_syntax::{LoadFault, parse};
+use ctd_syntax::parse;
 use std::alloc::Global;
 use std::process::Abort;
 use std::test::Fail;
@@ -28,20 +28,11 @@ pub(super) enum Asked {
     Presets,
 }
 
-/// The kind of a fault, and its place where it has one.
-pub(super) fn write_fault(out: &mut Shown, fault: LoadFault) {
-    let LoadFault { kind, place } = fault;
-    out.put_form(format_args!("{kind:?}"));
-    if let Some(place) = place {
-        out.put_form(format_args!(" {}:{}", place.line, place.column));
-    }
-}
-
-/// The tree with all its parentheses, or the kind of the fault and its place.
+/// The tree with all its parentheses, or the fault.
 fn write_parsed(out: &mut Shown, alloc: Global, text: &[u8]) {
     match parse(alloc, text) {
         Ok(program) => write_program(out, &program),
-        Err(fault) => write_fault(out, fault),
+        Err(fault) => out.put_form(fault),
     }
 }
 

@@ -277,8 +277,17 @@ const TEXTS: [(&str, &str); 13] = [
     ("SPACE NEWLINE EOF", "SPACE@1:1 NEWLINE@1:7 EOF@1:15"),
 ];
 
+// Names are numbered as they first occur, and keep their numbers behind many commands.
+const NAMES: [(&str, &str); 2] = [
+    (
+        "SET(s=1,t[s]=s) UNSET(t,a,s) ASSERT(INARRAY(1,c)) UNSET(b,a,c)",
+        "1 2 0 4 2 3 ",
+    ),
+    ("UNSET(b,a) {5000 SPACE }UNSET(c,a,b)", "0 1 2 1 0 "),
+];
+
 #[test]
-fn programs_have_their_trees(rt: HostRuntime) -> Result<(), Fail> {
+fn programs_have_their_trees_and_numbers(rt: HostRuntime) -> Result<(), Fail> {
     for lines in [
         OPERATORS,
         POWERS,
@@ -290,5 +299,6 @@ fn programs_have_their_trees(rt: HostRuntime) -> Result<(), Fail> {
     ] {
         judge_lines(&rt, rt.alloc(), &Asked::Tree, lines)?;
     }
-    judge_rows(&rt, rt.alloc(), &Asked::Tree, &TEXTS)
+    judge_rows(&rt, rt.alloc(), &Asked::Tree, &TEXTS)?;
+    judge_rows(&rt, rt.alloc(), &Asked::Numbers, &NAMES)
 }

@@ -1,10 +1,8 @@
 //! The numbers of the names of a program, and those of faults, which no contract tells.
 
-use super::answers::{Asked, judge_rows, write_fault};
 use super::shown::Shown;
 use ctd_syntax::{Action, Command, LoadKind, PresetFault, parse};
 use std::alloc::Global;
-use std::test::Fail;
 
 /// The numbers of the names in each command UNSET.
 fn write_removed(out: &mut Shown, commands: &[Command]) {
@@ -21,22 +19,8 @@ fn write_removed(out: &mut Shown, commands: &[Command]) {
 pub(super) fn write_numbers(out: &mut Shown, alloc: Global, text: &[u8]) {
     match parse(alloc, text) {
         Ok(program) => write_removed(out, program.commands()),
-        Err(fault) => write_fault(out, fault),
+        Err(fault) => out.put_form(fault),
     }
-}
-
-// Names are numbered as they first occur, and keep their numbers behind many commands.
-const NAMES: [(&str, &str); 2] = [
-    (
-        "SET(s=1,t[s]=s) UNSET(t,a,s) ASSERT(INARRAY(1,c)) UNSET(b,a,c)",
-        "1 2 0 4 2 3 ",
-    ),
-    ("UNSET(b,a) {5000 SPACE }UNSET(c,a,b)", "0 1 2 1 0 "),
-];
-
-#[test]
-fn numbers_of_names(rt: HostRuntime) -> Result<(), Fail> {
-    judge_rows(&rt, rt.alloc(), &Asked::Numbers, &NAMES)
 }
 
 /// The numbers of the faults of programs, and of presets.

@@ -51,10 +51,6 @@ fn texts_of_presets(rt: HostRuntime) -> Result<(), Fail> {
         let found = answer(rt.alloc(), &Asked::Presets, text);
         judged(&rt, found, wanted.as_str(), text)?;
     }
-    Ok(())
-}
-
-#[test]
-fn no_presets(rt: HostRuntime) {
     assert!(rt; Presets::none(rt.alloc()).pins().is_empty());
+    Ok(())
 }

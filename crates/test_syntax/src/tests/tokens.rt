@@ -1,6 +1,6 @@
 //! Small texts with their tokens or their fault, worked out by hand from the language.
 
-use super::answers::{Asked, judge_lines, judge_rows, judged, write_fault};
+use super::answers::{Asked, judge_lines, judge_rows, judged};
 use super::shown::Shown;
 use ctd_token::{
     Bytes, KnownName, Lexer, Name, PROGRAM_LIMIT, Place, Token, TokenKind, advance, token_at,
@@ -32,11 +32,11 @@ fn write_tokens(out: &mut Shown, tokens: &[Token]) {
     }
 }
 
-/// What `tokens` answers for a text, written as the rows below write it: the tokens, or the kind of the fault and its place.
+/// What `tokens` answers for a text, written as the rows below write it: the tokens or the fault.
 pub(super) fn write_cut(out: &mut Shown, alloc: Global, text: &[u8]) {
     match tokens(alloc, text) {
         Ok(found) => write_tokens(out, found.as_slice()),
-        Err(fault) => write_fault(out, fault),
+        Err(fault) => out.put_form(fault),
     }
 }
 
@@ -63,12 +63,12 @@ ABCDEFGHIJKLMNOPQRSTUVWXYZ abcdefghijklmnopqrstuvwxyz0123456789 1234567890 => Wo
 {1048576  }
 {1048576 A} => Word 0-1048576 1:1
 a{1048574 0}z => Name 0-1048576 1:1
-#{1048576 $} => ProgramTooLong
+#{1048576 $} => program too long
 # Faults of tokens; the table of the built checker has more of them.
-"a\377\777\400" => BadOctal 1:7
-INT(0,1.5) => NotInProfile 1:7
-A FLOATP => NotInProfile 1:3
-INT(-170141183460469231731687303715884105728,0) => NumberTooLarge 1:6
+"a\377\777\400" => program line 1 column 7: octal escape above 255
+INT(0,1.5) => program line 1 column 7: not in this profile
+A FLOATP => program line 1 column 3: not in this profile
+INT(-170141183460469231731687303715884105728,0) => program line 1 column 6: number too large
 "##;
 
 /// Texts of several lines, and of control characters.
@@ -93,16 +93,19 @@ const TEXTS: [(&str, &str); 12] = [
         "A\n\"x\" # \"y\"\n\"#\"",
         "Word 0-1 1:1, Text [120] 2-5 2:1, Text [35] 12-15 3:1",
     ),
-    ("A \"x\ny\" \"$", "UnfinishedString 2:4"),
-    ("\n # $\n  $", "BadByte 3:3"),
+    (
+        "A \"x\ny\" \"$",
+        "program line 2 column 4: unfinished string",
+    ),
+    ("\n # $\n  $", "program line 3 column 3: unexpected byte"),
 ];
 
-/// The kind of the token that comes next, or the fault and its place, or the end.
+/// The kind of the token that comes next, or the fault, or the end.
 fn write_next(out: &mut Shown, alloc: Global, lexer: &mut Lexer<'_>) {
     match lexer.next_token(alloc) {
         Ok(Some(token)) => write_kind(out, &token.kind),
         Ok(None) => out.put("end"),
-        Err(fault) => write_fault(out, fault),
+        Err(fault) => out.put_form(fault),
     }
 }
 
@@ -115,7 +118,7 @@ pub(super) fn write_steps(out: &mut Shown, alloc: Global, text: &[u8]) {
                 out.put(", ");
             }
         }
-        Err(fault) => write_fault(out, fault),
+        Err(fault) => out.put_form(fault),
     }
 }
 
@@ -123,10 +126,10 @@ pub(super) fn write_steps(out: &mut Shown, alloc: Global, text: &[u8]) {
 const STEPS: [(&str, &str); 3] = [
     (
         "a7 # b\n <= $ c",
-        "Name, AtMost, BadByte 2:5, BadByte 2:5, ",
+        "Name, AtMost, program line 2 column 5: unexpected byte, program line 2 column 5: unexpected byte, ",
     ),
     ("12 # b", "12, end, end, end, "),
-    ("{1048577  }", "ProgramTooLong"),
+    ("{1048577  }", "program too long"),
 ];
 
 /// What `token_at` answers for some bytes: the kind and the length, or the fault.
