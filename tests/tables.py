@@ -9,6 +9,8 @@ A table says what all of its rows share, and its columns what each row gives:
                     output, with status 0 where it is `testdata ok!` and 1 where it is another
     steps           how many steps that takes: with a limit of one step less the run stops at it
     reads           sizes of pieces: the data come by standard input too, in pieces of each of these sizes, each after the last was read
+    wrong           a mark that fits nowhere in the program, of which single blanks part the tokens: cut before a token, or with that mark
+                    or the word FOO in its place and nothing behind it, it is a syntax error there; each of these counts as a row
 
 The last line counts the rows that were answered so, as passed, and the others. usage: tests/tables.py [PROGRAM]"""
 import fcntl
@@ -56,7 +58,21 @@ def rows_of(file: Path) -> Iterator[tuple[str, Row]]:
     for table in tomllib.loads(file.read_text())["tables"]:
         name, columns, rows = f"{file.stem}: {table.pop('name')}", table.pop("columns"), table.pop("rows")
         for row in rows:
-            yield name, Row(**table, **dict(zip(columns, row, strict=True)))
+            cells = {**table, **dict(zip(columns, row, strict=True))}
+            wrong = cells.pop("wrong", None)
+            yield name, Row(**cells)
+            if wrong is not None:
+                yield from ((name, part) for part in cut(cells["program"], wrong))
+
+
+def cut(program: str, wrong: str) -> Iterator[Row]:
+    """A program cut before each token behind a blank, and with a wrong token in its place."""
+    answer = "checktestdata: program line 1 column {}: syntax error"
+    for blank in re.finditer(" ", program):
+        front = program[: blank.start()]
+        yield Row(front, answer.format(len(front) + 1))
+        for token in [wrong, "FOO"]:
+            yield Row(f"{front} {token}", answer.format(len(front) + 2))
 
 
 def bytes_of(text: str) -> bytes:

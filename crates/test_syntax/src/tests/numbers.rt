@@ -1,40 +1,46 @@
-//! The numbers of the names of a program, which no contract tells.
+//! The numbers of the names of a program, and those of faults, which no contract tells.
 
-use super::answers::{same, unfolded};
-use ctd_syntax::{Action, parse};
+use super::shown::Shown;
+use ctd_syntax::{Action, Command, LoadKind, PresetFault, parse};
 use std::alloc::Global;
-use std::test::Fail;
 
-// The numbers of the names in the commands UNSET of a program.
-fn numbers(alloc: Global, text: &[u8]) -> Result<Vec<u32>, Fail> {
-    let mut numbers = Vec::new(alloc);
-    let program = parse(alloc, text)?;
-    for command in program.commands() {
+/// The numbers of the names in each command UNSET.
+fn write_removed(out: &mut Shown, commands: &[Command]) {
+    for command in commands {
         if let Action::Unset(names) = &command.action {
             for name in names.as_slice() {
-                numbers.push(name.number())?;
+                out.put_form(format_args!("{} ", name.number()));
             }
         }
     }
-    Ok(numbers)
 }
 
-#[test]
-fn names_are_numbered_as_they_first_occur(rt: HostRuntime) -> Result<(), Fail> {
-    let found = numbers(
-        rt.alloc(),
-        b"SET(s=1,t[s]=s) UNSET(t,a,s) ASSERT(INARRAY(1,c)) UNSET(b,a,c)",
-    )?;
-    let wanted = [1, 2, 0, 4, 2, 3];
-    same(&rt, &found.as_slice(), &wanted.as_slice(), &"the names");
-    Ok(())
+/// The numbers of the names in the commands UNSET of a program.
+pub(super) fn write_numbers(out: &mut Shown, alloc: Global, text: &[u8]) {
+    match parse(alloc, text) {
+        Ok(program) => write_removed(out, program.commands()),
+        Err(fault) => out.put_form(fault),
+    }
 }
 
+/// The numbers of the faults of programs, and of presets.
+const FAULTS: [u8; 13] = [
+    LoadKind::ProgramTooLong as u8,
+    LoadKind::BadByte as u8,
+    LoadKind::UnfinishedString as u8,
+    LoadKind::BadOctal as u8,
+    LoadKind::NumberTooLarge as u8,
+    LoadKind::NotInProfile as u8,
+    LoadKind::TooDeep as u8,
+    LoadKind::Syntax as u8,
+    LoadKind::BadPattern as u8,
+    LoadKind::Read as u8,
+    LoadKind::Memory as u8,
+    PresetFault::BadPreset as u8,
+    PresetFault::Memory as u8,
+];
+
 #[test]
-fn names_keep_their_numbers_behind_many_commands(rt: HostRuntime) -> Result<(), Fail> {
-    let text = unfolded(rt.alloc(), "UNSET(b,a) {5000 SPACE }UNSET(c,a,b)")?;
-    let found = numbers(rt.alloc(), text.as_str().as_bytes())?;
-    let wanted = [0, 1, 2, 1, 0];
-    same(&rt, &found.as_slice(), &wanted.as_slice(), &"the names");
-    Ok(())
+fn numbers_of_faults(rt: HostRuntime) {
+    assert_eq!(rt; FAULTS, [1, 2, 3, 4, 5, 6, 7, 8, 9, 10, 11, 1, 2]);
 }

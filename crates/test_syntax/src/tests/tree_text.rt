@@ -2,13 +2,15 @@
 
 use super::shown::Shown;
 use ctd_syntax::{
-    Action, Assignment, Command, Compare, Expr, Loop, LoopGuard, Name, Place, Program, Test, Var,
+    Action, Assignment, Choice, Command, Compare, Expr, IntArguments, Loop, LoopGuard, Name, Place,
+    Program, RegexArguments, Test, Var,
 };
 
 // No tree of a program is as deep as this.
 const DEPTH: u16 = 2_000;
 
-fn write_text(out: &mut Shown, bytes: &[u8]) {
+// Bytes between quotes.
+pub(super) fn write_text(out: &mut Shown, bytes: &[u8]) {
     out.put("\"");
     out.put_bytes(bytes);
     out.put("\"");
@@ -36,8 +38,17 @@ fn write_pair(out: &mut Shown, depth: u16, left: &Expr, sign: &str, right: &Expr
     };
     out.put("(");
     write_expr(out, depth, left);
+    write_operand(out, depth, sign, right);
+}
+
+// An operand between its sign and the parenthesis.
+#[cycle(expr_text)]
+fn write_operand(out: &mut Shown, depth: u16, sign: &str, operand: &Expr) {
+    let Some(depth) = depth.checked_sub(1) else {
+        return out.put("...");
+    };
     out.put(sign);
-    write_expr(out, depth, right);
+    write_expr(out, depth, operand);
     out.put(")");
 }
 
@@ -68,16 +79,8 @@ fn write_expr(out: &mut Shown, depth: u16, e: &Expr) {
         Expr::Numeral(n) => out.put_form(format_args!("{}", n.value())),
         Expr::Text(bytes) => write_text(out, bytes.as_slice()),
         Expr::Var(var) => write_var(out, depth, var),
-        Expr::Strlen(operand) => {
-            out.put("STRLEN(");
-            write_expr(out, depth, operand);
-            out.put(")");
-        }
-        Expr::Minus(operand) => {
-            out.put("(-");
-            write_expr(out, depth, operand);
-            out.put(")");
-        }
+        Expr::Strlen(operand) => write_operand(out, depth, "STRLEN(", operand),
+        Expr::Minus(operand) => write_operand(out, depth, "(-", operand),
         Expr::Add(a, b) => write_pair(out, depth, a, "+", b),
         Expr::Sub(a, b) => write_pair(out, depth, a, "-", b),
         Expr::Mul(a, b) => write_pair(out, depth, a, "*", b),
@@ -96,6 +99,14 @@ fn sign_of(by: Compare) -> &'static str {
         Compare::Equal => "==",
         Compare::Unequal => "!=",
     }
+}
+
+fn write_in_array(out: &mut Shown, operand: &Expr, name: &Name) {
+    out.put("INARRAY(");
+    write_expr(out, DEPTH, operand);
+    out.put(",");
+    out.put_bytes(name.as_slice());
+    out.put(")");
 }
 
 #[cycle(test_text)]
@@ -124,23 +135,13 @@ fn write_test(out: &mut Shown, depth: u16, t: &Test) {
             out.put(")");
         }
         Test::Compare(by, a, b) => write_pair(out, DEPTH, a, sign_of(*by), b),
-        Test::Match(operand) => {
-            out.put("MATCH(");
-            write_expr(out, DEPTH, operand);
-            out.put(")");
-        }
+        Test::Match(operand) => write_operand(out, DEPTH, "MATCH(", operand),
         Test::IsEof => out.put("ISEOF"),
         Test::Unique(names) => {
             out.put("UNIQUE");
             write_names(out, names.as_slice());
         }
-        Test::InArray(operand, name) => {
-            out.put("INARRAY(");
-            write_expr(out, DEPTH, operand);
-            out.put(",");
-            out.put_bytes(name.as_slice());
-            out.put(")");
-        }
+        Test::InArray(operand, name) => write_in_array(out, operand, name),
     }
 }
 
@@ -179,31 +180,14 @@ fn write_commands(out: &mut Shown, depth: u16, list: &[Command]) {
     }
 }
 
-// The separator of a loop behind a comma, where there is one; the parenthesis, and the block in braces.
-#[cycle(command_text)]
-fn write_loop(out: &mut Shown, depth: u16, between: &Option<Box<Command>>, body: &[Command]) {
-    let Some(depth) = depth.checked_sub(1) else {
-        return out.put("...");
-    };
-    if let Some(command) = between {
-        out.put(",");
-        write_command(out, depth, command);
-    }
-    out.put("){");
-    write_commands(out, depth, body);
-    out.put("}");
-}
-
-// The counter of a loop and the comma behind it, where there is one.
-fn write_counter(out: &mut Shown, counter: &Option<Box<Var>>) {
-    if let Some(var) = counter {
+// The parenthesis of a loop, its counter with a comma behind it, where there is one, and its count or test.
+fn write_guard(out: &mut Shown, repeated: &Loop) {
+    out.put("(");
+    if let Some(var) = &repeated.counter {
         write_var(out, DEPTH, var);
         out.put(",");
     }
-}
-
-fn write_guard(out: &mut Shown, guard: &LoopGuard) {
-    match guard {
+    match &repeated.guard {
         LoopGuard::Times(count) => write_expr(out, DEPTH, count),
         LoopGuard::While(condition) => write_test(out, DEPTH, condition),
     }
@@ -234,6 +218,40 @@ fn word_of(action: &Action) -> &'static str {
     }
 }
 
+// What stands behind the word of a command that opens no block.
+fn write_arguments(out: &mut Shown, action: &Action) {
+    match action {
+        Action::Space | Action::Newline | Action::Eof | Action::Loop(_) | Action::If(_) => {}
+        Action::Int(integer) => write_int(out, integer),
+        Action::String(text) => write_operand(out, DEPTH, "(", text),
+        Action::Regex(regex) => write_regex(out, regex),
+        Action::Assert(condition) => {
+            out.put("(");
+            write_test(out, DEPTH, condition);
+            out.put(")")
+        }
+        Action::Set(list) => write_assignments(out, list.as_slice()),
+        Action::Unset(names) => write_names(out, names.as_slice()),
+    }
+}
+
+fn write_int(out: &mut Shown, integer: &IntArguments) {
+    out.put("(");
+    write_expr(out, DEPTH, &integer.low);
+    out.put(",");
+    write_expr(out, DEPTH, &integer.high);
+    write_target(out, &integer.target);
+}
+
+fn write_regex(out: &mut Shown, regex: &RegexArguments) {
+    let literal = &regex.literal;
+    out.put("(");
+    write_text(out, literal.bytes.as_slice());
+    write_place(out, literal.place);
+    out.put_form(format_args!("#{}", literal.number));
+    write_target(out, &regex.target);
+}
+
 #[cycle(command_text)]
 fn write_command(out: &mut Shown, depth: u16, command: &Command) {
     let Some(depth) = depth.checked_sub(1) else {
@@ -242,70 +260,40 @@ fn write_command(out: &mut Shown, depth: u16, command: &Command) {
     out.put(word_of(&command.action));
     write_place(out, command.place);
     match &command.action {
-        Action::Space | Action::Newline | Action::Eof => {}
-        Action::Set(list) => write_assignments(out, list.as_slice()),
-        Action::Unset(names) => write_names(out, names.as_slice()),
-        other => {
-            out.put("(");
-            write_action(out, depth, other);
-        }
+        Action::Loop(repeated) => write_loop(out, depth, repeated),
+        Action::If(choice) => write_choice(out, depth, choice),
+        other => write_arguments(out, other),
     }
 }
 
-// What stands behind the parenthesis of a command.
+// The separator of a loop stands behind a comma, where there is one, and its block in braces.
 #[cycle(command_text)]
-fn write_action(out: &mut Shown, depth: u16, action: &Action) {
+fn write_loop(out: &mut Shown, depth: u16, repeated: &Loop) {
     let Some(depth) = depth.checked_sub(1) else {
         return out.put("...");
     };
-    match action {
-        Action::Int(integer) => {
-            write_expr(out, DEPTH, &integer.low);
-            out.put(",");
-            write_expr(out, DEPTH, &integer.high);
-            write_target(out, &integer.target)
-        }
-        Action::String(text) => {
-            write_expr(out, DEPTH, text);
-            out.put(")")
-        }
-        Action::Regex(regex) => {
-            let literal = &regex.literal;
-            write_text(out, literal.bytes.as_slice());
-            write_place(out, literal.place);
-            out.put_form(format_args!("#{}", literal.number));
-            write_target(out, &regex.target)
-        }
-        Action::Assert(condition) => {
-            write_test(out, DEPTH, condition);
-            out.put(")")
-        }
-        other => write_block(out, depth, other),
+    write_guard(out, repeated);
+    if let Some(command) = &repeated.between {
+        out.put(",");
+        write_command(out, depth, command);
     }
+    out.put("){");
+    write_commands(out, depth, repeated.body.as_slice());
+    out.put("}");
 }
 
-// What stands behind the parenthesis of a loop or an IF.
 #[cycle(command_text)]
-fn write_block(out: &mut Shown, depth: u16, action: &Action) {
+fn write_choice(out: &mut Shown, depth: u16, choice: &Choice) {
     let Some(depth) = depth.checked_sub(1) else {
         return out.put("...");
     };
-    match action {
-        Action::Loop(repeated) => {
-            write_counter(out, &repeated.counter);
-            write_guard(out, &repeated.guard);
-            write_loop(out, depth, &repeated.between, repeated.body.as_slice())
-        }
-        Action::If(choice) => {
-            write_test(out, DEPTH, &choice.condition);
-            out.put("){");
-            write_commands(out, depth, choice.then_do.as_slice());
-            out.put("}{");
-            write_commands(out, depth, choice.else_do.as_slice());
-            out.put("}")
-        }
-        _ => {}
-    }
+    out.put("(");
+    write_test(out, DEPTH, &choice.condition);
+    out.put("){");
+    write_commands(out, depth, choice.then_do.as_slice());
+    out.put("}{");
+    write_commands(out, depth, choice.else_do.as_slice());
+    out.put("}");
 }
 
 // The commands of a program with blanks between them.

@@ -3,6 +3,9 @@ use Rattle.test_syntax.proofs.tests.tree_text.+expr_text.Given as goal
 abbrev pub decreases-write_pair : goal.decreases-write_pair
 decreases-write_pair l = l.depth
 
+abbrev pub decreases-write_operand : goal.decreases-write_operand
+decreases-write_operand l = l.depth
+
 abbrev pub decreases-write_var : goal.decreases-write_var
 decreases-write_var l = l.depth
 
