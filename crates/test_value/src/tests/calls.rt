@@ -4,7 +4,7 @@
 
 use super::{same, store_of};
 use ctd_source::{LookFault, Plain};
-use ctd_syntax::{Action, Assignment, Name, Test, Var, parse};
+use ctd_syntax::{Action, Assignment, Command, Name, Test, Var, parse};
 use ctd_value::{
     EvalFault, Key, Store, TestFault, Value, count_of, eval, holds, locate, number_at_hand,
     number_of, set_expression, set_number, set_text, text_of, truth_at_hand, truth_in_front_of,
@@ -203,16 +203,26 @@ fn take_step(
     Ok(is)
 }
 
-/// The same with the last command of a text, behind the assignments of those before it.
-fn take_step_in(alloc: Global, store: &mut Store, text: &str, step: Step) -> Result<bool, Fail> {
-    let program = parse(alloc, text.as_bytes())?;
-    if let [before @ .., last] = program.commands() {
+/// The same with the last of some commands, behind the assignments of those before it.
+fn take_last_step(
+    alloc: Global,
+    store: &mut Store,
+    commands: &[Command],
+    step: Step,
+) -> Result<bool, EvalFault> {
+    if let [before @ .., last] = commands {
         for command in before {
             take_step(alloc, store, &command.action, Step::SetExpression)?;
         }
-        return Ok(take_step(alloc, store, &last.action, step)?);
+        return take_step(alloc, store, &last.action, step);
     }
-    Err(Fail::new("no command"))
+    Ok(false)
+}
+
+/// The same with the commands of a text.
+fn take_step_in(alloc: Global, store: &mut Store, text: &str, step: Step) -> Result<bool, Fail> {
+    let program = parse(alloc, text.as_bytes())?;
+    Ok(take_last_step(alloc, store, program.commands(), step)?)
 }
 
 /// Judges the steps of a store in turn, each behind some assignments in one text, so that names have one numbering.
@@ -234,11 +244,17 @@ pub(super) fn judge(
 /// Presets, assignments, and the steps of a store that begins with the presets, each behind the assignments.
 pub(super) type Row = (&'static str, &'static str, Steps);
 
-/// Judges the steps of the store of each row.
+/// Judges the steps of the store of a row.
+fn judge_row(rt: &impl Abort, alloc: Global, row: &Row) -> Result<(), Fail> {
+    let (pinned, filling, steps) = *row;
+    let mut store = store_of(alloc, pinned)?;
+    judge(rt, alloc, &mut store, filling, steps)
+}
+
+/// The same of each row.
 pub(super) fn judge_all(rt: &impl Abort, alloc: Global, rows: &[Row]) -> Result<(), Fail> {
-    for (pinned, filling, steps) in rows {
-        let mut store = store_of(alloc, pinned)?;
-        judge(rt, alloc, &mut store, filling, steps)?;
+    for row in rows {
+        judge_row(rt, alloc, row)?;
     }
     Ok(())
 }
