@@ -43,6 +43,7 @@ printf '5' >"$work/files/short.in"
 printf '05\n' >"$work/files/zero.in"
 printf ' \t5 \r\n  ' >"$work/files/blanks.in"
 printf 'INT(1,most) NEWLINE' >"$work/files/bounded.ctd"
+printf 'ASSERT(n==5 && m==-3)' >"$work/files/pair.ctd"
 : >"$work/files/empty"
 printf 'testdata' >"$work/files/a name with blanks.in"
 head -c 1048577 /dev/zero | tr '\0' ' ' >"$work/files/long.ctd"
@@ -84,6 +85,9 @@ expect 'a program a byte too long' 2 '' 'checktestdata: program too long\n' "$ch
 expect 'no word' 2 '' "$words" "$checker"
 expect 'three words' 2 '' "$words" "$checker" p.ctd right.in more
 expect 'a word that is not UTF-8' 2 '' "$words" "$checker" p.ctd $'\xff'
+expect 'only a word that is not UTF-8' 2 '' "$words" "$checker" $'\xff'
+expect 'a preset that is not UTF-8' 2 '' "$words" "$checker" $'-Ds="\xff"' p.ctd
+expect 'an option without its value' 2 '' "$words" "$checker" p.ctd -D
 
 help='Usage: checktestdata [OPTION]... PROGRAM [TESTDATA]
 Check TESTDATA (or standard input) against PROGRAM.
@@ -104,17 +108,29 @@ done
 expect 'help before anything else' 0 "$help" '' "$checker" p.ctd right.in -g --help
 expect 'data that do not fit, quietly' 1 '' '' "$checker" -q p.ctd short.in
 expect 'data that fit, quietly' 0 '' '' "$checker" --quiet p.ctd right.in
+expect 'standard input, quietly' 1 '' '' with_input '7' -q p.ctd
 expect 'a fault is told to the quiet too' 2 '' 'checktestdata: program line 1 column 9: syntax error\n' "$checker" -q open.ctd right.in
 expect 'nothing to write for the quiet' 0 '' '' with_full_output -q p.ctd right.in
+expect 'nothing to write for the quiet where data do not fit' 1 '' '' with_full_output -q p.ctd short.in
 expect 'blanks that differ' 1 'line 1 column 1: expected an integer (program line 1 column 1)\n' '' "$checker" p.ctd blanks.in
 expect 'blanks that may differ' 0 "$ok" '' "$checker" -w p.ctd blanks.in
 expect 'blanks that may differ, from standard input' 0 "$ok" '' with_input '\f5\v\n' --whitespace-ok p.ctd -
+expect 'blanks that may differ, with the flag at the end' 0 "$ok" '' with_input ' 7 \n' p.ctd -w
+expect 'both flags in one word' 0 '' '' "$checker" -wq p.ctd blanks.in
+expect 'both flags by their long names' 0 '' '' "$checker" --quiet --whitespace-ok p.ctd blanks.in
+expect 'flags among the files' 0 '' '' "$checker" p.ctd -q blanks.in -w
 expect 'a second newline is no blank' 1 'line 2 column 1: expected end of file (program end)\n' '' with_input '5\n\n' -w p.ctd
 expect 'a read that fails in the first blanks' 2 '' 'checktestdata: line 1 column 1: read failed (program start)\n' "$checker" -w p.ctd folder
 expect 'a preset' 0 "$ok" '' "$checker" -D most=5 bounded.ctd right.in
 expect 'a preset that is too small' 1 'line 1 column 1: value out of range (program line 1 column 1)\n' '' "$checker" -Dmost=4 bounded.ctd right.in
 expect 'the last preset of a name' 0 "$ok" '' "$checker" --define=most=4,most=5 bounded.ctd right.in
 expect 'a preset with a comma and a quote' 0 "$ok" '' "$checker" --define 'most=5,s="a,\"b"' bounded.ctd right.in
+for option in '-D n=5,m=-3' -Dn=5,m=-3 --define=n=5,m=-3; do
+    # (the option is one word or two)
+    # shellcheck disable=SC2086
+    expect "two presets by $option" 0 "$ok" '' "$checker" $option pair.ctd empty
+done
+expect 'two presets behind the files' 0 "$ok" '' "$checker" pair.ctd empty --define n=5,m=-3
 expect 'no preset' 2 '' 'checktestdata: line 1 column 1: variable has no value (program line 1 column 1)\n' "$checker" bounded.ctd right.in
 expect 'a bad preset' 2 '' 'checktestdata: bad preset\n' "$checker" -D most bounded.ctd right.in
 expect 'presets given twice' 2 '' "$words" "$checker" -D most=4 -D most=5 bounded.ctd right.in
@@ -122,11 +138,13 @@ expect 'enough steps' 0 "$ok" '' "$checker" --max-steps=3 p.ctd right.in
 expect 'a step too few' 2 '' 'checktestdata: line 2 column 1: step limit reached (program end)\n' "$checker" --max-steps 2 p.ctd right.in
 expect 'a bad step limit' 2 '' 'checktestdata: bad step limit\n' "$checker" --max-steps=18446744073709551616 p.ctd right.in
 expect 'generating is refused' 2 '' 'checktestdata: generating test data is not supported\n' "$checker" -g p.ctd
+expect 'no word for a program before generating' 2 '' "$words" "$checker" -g -Dn --max-steps=x
 expect 'generating before a bad preset' 2 '' 'checktestdata: generating test data is not supported\n' "$checker" -g -D n p.ctd
 expect 'an option of the original tool that is not here' 2 '' "$words" "$checker" -p n=5 p.ctd
 expect 'help and a word that is not UTF-8' 2 '' "$words" "$checker" --help $'\xff'
 expect 'a flag behind the files' 1 '' '' "$checker" p.ctd short.in -q
 expect 'a file whose name begins with a minus' 2 '' 'checktestdata: cannot open -q\n' "$checker" -- -q right.in
+expect 'data whose name begins with a minus' 2 '' 'checktestdata: cannot open -q\n' "$checker" -- p.ctd -q
 expect 'a closed output' 2 '' '' with_closed_output p.ctd right.in
 expect 'a full output' 2 '' '' with_full_output p.ctd right.in
 expect 'a full output for data that do not fit' 2 '' '' with_full_output p.ctd short.in

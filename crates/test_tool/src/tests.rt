@@ -1,12 +1,11 @@
-//! The tool on readers and writers in memory, a module for each subject.
+//! The tool on readers and writers in memory, a module for each subject. What a process shows is in `tests/process.sh` and in the
+//! tables of `tests/tables/` at the top of the repository.
 
-mod clipped;
-mod failing_streams;
+mod memory;
 mod processes;
 mod reports;
 mod runs;
 mod words;
-mod written;
 
 use std::fmt::Debug;
 use std::process::Abort;

@@ -2,35 +2,17 @@
 
 ghost use Rattle.std.specs.Prelude.{⊤};
 
-use crate::tests::clipped::{AMPLE, Clipped, Refusal, Room};
+use crate::tests::memory::{AMPLE, Clipped, MemoryFile, Refusal, Room, Written};
 use crate::tests::same;
 use crate::tests::words::words_of;
-use crate::tests::written::Written;
+use ctd_check::Bytes;
 use ctd_tool::{Files, ToWrite, run_words};
 use std::alloc::{AllocError, Global};
-use std::io::{Error, ErrorKind, Read, Result};
 use std::process::Abort;
 use std::test::Fail;
 
 /// An integer from 1 to 10, and the end of its line.
 const LINE_OF_ONE: &str = "INT(1,10) NEWLINE";
-
-/// A file in memory, which may fail once after its bytes and has none from then on.
-#[derive(Drop)]
-struct MemoryFile<'m> {
-    bytes: &'m [u8],
-    fails: bool,
-}
-
-impl Read for MemoryFile<'_> {
-    fn read(&mut self, buf: &mut [u8]) -> Result<usize> {
-        if self.bytes.is_empty() && self.fails {
-            self.fails = false;
-            return Err(Error::from(ErrorKind::Interrupted));
-        }
-        self.bytes.read(buf)
-    }
-}
 
 /// Files by their names, and standard input; it keeps a list of what it was asked for.
 #[derive(Drop)]
@@ -89,16 +71,10 @@ const NAMED: [(&str, &str); 4] = [
 /// A command line, the files that it asks for in order, its status, and what it writes to both streams.
 type Row = (&'static str, &'static str, u8, &'static str, &'static str);
 
-/// Whether a command line over the files of these tests answers what its row says, where reading the file of this name
-/// fails after its bytes and the output has this room.
-fn is_answered(
-    alloc: Global,
-    failing: &str,
-    room: Room,
-    row: &Row,
-) -> std::result::Result<bool, AllocError> {
-    let (line, asked, status, out_text, err_text) = row;
-    let words = words_of(alloc, line.as_bytes())?;
+/// Whether words over the files of these tests answer what a row says, where reading the file of this name fails after its bytes
+/// and the output has this room.
+fn is_answered(alloc: Global, words: &[Bytes], failing: &str, room: Room, row: &Row) -> bool {
+    let (_, asked, status_wanted, out_text, err_text) = row;
     let mut files = MemoryFiles {
         named: &NAMED,
         input: "7",
@@ -107,31 +83,44 @@ fn is_answered(
     };
     let mut out = Clipped::new(alloc, room);
     let mut err = Vec::new(alloc);
-    let status_answered = run_words(
+    let status = run_words(
         alloc,
-        words.as_slice(),
+        words,
         &mut files,
         &mut ToWrite::new(&mut out),
         &mut ToWrite::new(&mut err),
     )
     .status;
     let is_asked = files.asked.as_slice() == asked.as_bytes();
-    let answer = Ok(status_answered);
-    let out = out.bytes;
-    let is_written = Written { answer, out, err }.is(*status, out_text, err_text);
-    Ok(is_asked && is_written)
+    let written = Written {
+        answer: Ok(status),
+        out: out.bytes,
+        err,
+    };
+    written.is(Ok(*status_wanted), out_text.as_bytes(), err_text.as_bytes()) && is_asked
+}
+
+/// The same of the words of the row's command line.
+fn is_line_answered(
+    alloc: Global,
+    failing: &str,
+    room: Room,
+    row: &Row,
+) -> Result<bool, AllocError> {
+    let words = words_of(alloc, row.0.as_bytes())?;
+    Ok(is_answered(alloc, words.as_slice(), failing, room, row))
 }
 
 /// Each command line answers what its row says.
-fn judged(
+fn judge(
     rt: &impl Abort,
     alloc: Global,
     failing: &str,
     room: Room,
     rows: &[Row],
-) -> std::result::Result<(), Fail> {
+) -> Result<(), AllocError> {
     for row in rows {
-        let is = is_answered(alloc, failing, room, row)?;
+        let is = is_line_answered(alloc, failing, room, row)?;
         same(rt, &is, &true, &row.0);
     }
     Ok(())
@@ -147,8 +136,9 @@ const VERDICTS: [Row; 4] = [
 ];
 
 #[test]
-fn a_verdict_is_of_the_files_that_the_words_name(rt: HostRuntime) -> std::result::Result<(), Fail> {
-    judged(&rt, rt.alloc(), "", AMPLE, &VERDICTS)
+fn a_verdict_is_of_the_files_that_the_words_name(rt: HostRuntime) -> Result<(), Fail> {
+    judge(&rt, rt.alloc(), "", AMPLE, &VERDICTS)?;
+    Ok(())
 }
 
 const BAD_ARGUMENTS: &str = "checktestdata: bad arguments\nTry 'checktestdata --help'.\n";
@@ -181,44 +171,36 @@ const REFUSED: [Row; 6] = [
 ];
 
 #[test]
-fn a_file_that_is_refused_is_told_by_its_name(rt: HostRuntime) -> std::result::Result<(), Fail> {
-    judged(&rt, rt.alloc(), "", AMPLE, &REFUSED)
+fn a_file_that_is_refused_is_told_by_its_name(rt: HostRuntime) -> Result<(), Fail> {
+    judge(&rt, rt.alloc(), "", AMPLE, &REFUSED)?;
+    Ok(())
 }
-
-const NO_PROGRAM: &str = "checktestdata: cannot read program\n";
 
 const NO_DATA: &str = "checktestdata: line 1 column 1: read failed (program line 1 column 1)\n";
 
-// The file whose reading fails, and a command line.
-const FAILURES: [(&str, Row); 3] = [
-    (
-        "p.ctd",
-        ("p.ctd wrong.in", "p.ctd;wrong.in;", 2, "", NO_PROGRAM),
-    ),
-    (
-        "wrong.in",
-        ("p.ctd wrong.in", "p.ctd;wrong.in;", 2, "", NO_DATA),
-    ),
-    ("<input>", ("p.ctd", "p.ctd;<input>;", 2, "", NO_DATA)),
-];
+const FAILED_PROGRAM: [Row; 1] = [(
+    "p.ctd wrong.in",
+    "p.ctd;wrong.in;",
+    2,
+    "",
+    "checktestdata: cannot read program\n",
+)];
 
-#[test]
-fn a_read_that_fails_once_is_told_of_its_own_file(
-    rt: HostRuntime,
-) -> std::result::Result<(), Fail> {
-    for (failing, row) in &FAILURES {
-        judged(&rt, rt.alloc(), failing, AMPLE, &[*row])?;
-    }
-    Ok(())
-}
+const FAILED_DATA: [Row; 1] = [("p.ctd wrong.in", "p.ctd;wrong.in;", 2, "", NO_DATA)];
+
+const FAILED_INPUT: [Row; 1] = [("p.ctd", "p.ctd;<input>;", 2, "", NO_DATA)];
 
 const CUT: [Row; 1] = [("p.ctd right.in", "p.ctd;right.in;", 2, "test", "")];
 
 const UNFLUSHED: [Row; 1] = [("p.ctd right.in", "p.ctd;right.in;", 2, "testdata ok!\n", "")];
 
 #[test]
-fn a_stream_that_fails_is_status_two(rt: HostRuntime) -> std::result::Result<(), Fail> {
-    judged(&rt, rt.alloc(), "", (4, Refusal::Fails), &CUT)?;
+fn a_read_or_a_stream_that_fails_is_status_two(rt: HostRuntime) -> Result<(), Fail> {
+    judge(&rt, rt.alloc(), "p.ctd", AMPLE, &FAILED_PROGRAM)?;
+    judge(&rt, rt.alloc(), "wrong.in", AMPLE, &FAILED_DATA)?;
+    judge(&rt, rt.alloc(), "<input>", AMPLE, &FAILED_INPUT)?;
+    judge(&rt, rt.alloc(), "", (4, Refusal::Fails), &CUT)?;
     let unflushed = (100, Refusal::NeverFlushed);
-    judged(&rt, rt.alloc(), "", unflushed, &UNFLUSHED)
+    judge(&rt, rt.alloc(), "", unflushed, &UNFLUSHED)?;
+    Ok(())
 }

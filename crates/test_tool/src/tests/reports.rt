@@ -1,12 +1,71 @@
-//! The texts of reports, with their streams and statuses.
+//! Reports: their streams and statuses, and what is left of them where a stream fails.
 
+ghost use Rattle.std.specs.Prelude.{◌≡◌, false};
+
+use crate::tests::memory::{AMPLE, Clipped, Refusal, Room, Written};
 use crate::tests::same;
-use crate::tests::written::{Report, Written};
-use ctd_check::{Fault, LoadFault, LoadKind, Outcome, Place, Reason, Site, Spot};
-use ctd_tool::{ToWrite, ToolFault, UsageFault};
-use std::alloc::{AllocError, Global};
+use ctd_check::{Bytes, Fault, LoadFault, LoadKind, Outcome, Place, Reason, Site, Spot};
+use ctd_tool::{
+    Sink, ToWrite, ToolFault, UsageFault, report_usage, write_cannot_open, write_load_fault,
+    write_outcome,
+};
+use std::alloc::Global;
 use std::process::Abort;
-use std::test::Fail;
+
+/// What is reported.
+#[derive(Clone, Copy)]
+enum Report {
+    /// How a check ended.
+    Outcome(Outcome),
+    /// The same of a quiet run.
+    Quiet(Outcome),
+    /// Why a program was not read.
+    LoadFault(LoadFault),
+    /// Why words give no settings.
+    Usage(UsageFault),
+    /// That the file of this name can't be opened.
+    CannotOpen(&'static [u8]),
+}
+
+impl Report {
+    /// Writes it to two sinks.
+    fn write<O: Sink, E: Sink>(
+        self,
+        alloc: Global,
+        out: &mut O,
+        err: &mut E,
+    ) -> Result<u8, ToolFault>
+        requires out_works { O.has_failed out.old ≡ false }
+        requires err_works { E.has_failed err.old ≡ false }
+    {
+        match self {
+            Report::Outcome(outcome) => write_outcome(alloc, &outcome, false, out, err),
+            Report::Quiet(outcome) => write_outcome(alloc, &outcome, true, out, err),
+            Report::LoadFault(fault) => write_load_fault(alloc, &fault, out, err),
+            Report::Usage(fault) => report_usage(&fault, out, err),
+            Report::CannotOpen(name) => {
+                let name = Bytes::copy(alloc, name)?;
+                write_cannot_open(alloc, &name, out, err)
+            }
+        }
+    }
+}
+
+/// What is written of a report to two writers of this room.
+fn written(alloc: Global, report: Report, room: Room) -> Written {
+    let mut out = Clipped::new(alloc, room);
+    let mut err = Clipped::new(alloc, room);
+    let answer = report.write(
+        alloc,
+        &mut ToWrite::new(&mut out),
+        &mut ToWrite::new(&mut err),
+    );
+    Written {
+        answer,
+        out: out.bytes,
+        err: err.bytes,
+    }
+}
 
 const SPOT: Spot = Spot {
     line: 3,
@@ -19,292 +78,209 @@ const PLACE: Place = Place {
     column: 405,
 };
 
-/// What is written of a report.
-fn written(alloc: Global, report: Report) -> Written {
-    let mut out = Vec::new(alloc);
-    let mut err = Vec::new(alloc);
-    let answer = report.write(
-        alloc,
-        &mut ToWrite::new(&mut out),
-        &mut ToWrite::new(&mut err),
-    );
-    Written { answer, out, err }
-}
+const REJECTED: Outcome = Outcome::Rejected {
+    spot: SPOT,
+    place: Site::At(PLACE),
+    reason: Reason::ExpectedNewline,
+};
 
-/// Whether a report answers this status and writes these texts.
-fn is_written(alloc: Global, report: Report, status: u8, out: &str, err: &str) -> bool {
-    written(alloc, report).is(status, out, err)
-}
+const STOPPED: Outcome = Outcome::Stopped {
+    spot: SPOT,
+    place: Site::Finish,
+    fault: Fault::DataTooLong,
+};
 
-#[test]
-fn accepted_data_are_ok(rt: HostRuntime) {
-    let report = Report::Outcome(Outcome::Accepted);
-    assert!(rt; is_written(rt.alloc(), report, 0, "testdata ok!\n", ""));
-}
+const BROKEN: LoadFault = LoadFault {
+    kind: LoadKind::Syntax,
+    place: Some(PLACE),
+};
 
-const REASONS: [(u8, Reason, &str); 10] = [
+const OUT_OF_MEMORY: LoadFault = LoadFault {
+    kind: LoadKind::Memory,
+    place: None,
+};
+
+const REJECTED_LINE: &str =
+    "line 3 column 70001: expected a newline (program line 12 column 405)\n";
+
+const BAD_ARGUMENTS: &str = "checktestdata: bad arguments\nTry 'checktestdata --help'.\n";
+
+/// A report, its status, and what is written to both streams.
+type Row = (Report, u8, &'static str, &'static str);
+
+const ROWS: [Row; 6] = [
+    (Report::Outcome(Outcome::Accepted), 0, "testdata ok!\n", ""),
+    (Report::Outcome(REJECTED), 1, REJECTED_LINE, ""),
+    // What stops a run is told to the quiet too.
     (
-        1,
-        Reason::ExpectedSpace,
-        "line 3 column 70001: expected a space (program line 12 column 405)\n",
-    ),
-    (
+        Report::Quiet(STOPPED),
         2,
-        Reason::ExpectedNewline,
-        "line 3 column 70001: expected a newline (program line 12 column 405)\n",
+        "",
+        "checktestdata: line 3 column 70001: test data too long (program end)\n",
     ),
     (
-        3,
-        Reason::ExpectedEof,
-        "line 3 column 70001: expected end of file (program line 12 column 405)\n",
-    ),
-    (
-        4,
-        Reason::ExpectedInt,
-        "line 3 column 70001: expected an integer (program line 12 column 405)\n",
-    ),
-    (
-        5,
-        Reason::LeadingZero,
-        "line 3 column 70001: integer with a leading zero (program line 12 column 405)\n",
-    ),
-    (
-        6,
-        Reason::MinusZero,
-        "line 3 column 70001: integer with minus zero (program line 12 column 405)\n",
-    ),
-    (
-        7,
-        Reason::OutOfRange,
-        "line 3 column 70001: value out of range (program line 12 column 405)\n",
-    ),
-    (
-        8,
-        Reason::StringMismatch,
-        "line 3 column 70001: string does not match (program line 12 column 405)\n",
-    ),
-    (
-        9,
-        Reason::RegexMismatch,
-        "line 3 column 70001: regular expression does not match (program line 12 column 405)\n",
-    ),
-    (
-        10,
-        Reason::AssertFailed,
-        "line 3 column 70001: assertion failed (program line 12 column 405)\n",
-    ),
-];
-
-#[test]
-fn each_reason_has_its_number_and_text(rt: HostRuntime) {
-    for (number, reason, text) in &REASONS {
-        let outcome = Outcome::Rejected {
-            spot: SPOT,
-            place: Site::At(PLACE),
-            reason: *reason,
-        };
-        let is = is_written(rt.alloc(), Report::Outcome(outcome), 1, text, "");
-        same(&rt, &(is, *reason as u8), &(true, *number), text);
-    }
-}
-
-const SITES: [(Site, &str); 3] = [
-    (Site::Start, "program start"),
-    (Site::At(PLACE), "program line 12 column 405"),
-    (Site::Finish, "program end"),
-];
-
-const FAULTS: [(u8, Fault, &str); 11] = [
-    (1, Fault::Undefined, "variable has no value"),
-    (2, Fault::WrongType, "wrong type"),
-    (3, Fault::Overflow, "number overflow"),
-    (4, Fault::DivisionByZero, "division by zero"),
-    (5, Fault::Exponent, "bad exponent"),
-    (6, Fault::Count, "bad count"),
-    (7, Fault::Shape, "arrays have different indices"),
-    (8, Fault::StepLimit, "step limit reached"),
-    (9, Fault::MatchTooLong, "match too long"),
-    (10, Fault::DataTooLong, "test data too long"),
-    (11, Fault::Read, "read failed"),
-];
-
-/// Whether a stop at this place writes this text and site, and no verdict.
-fn is_stop_written(
-    alloc: Global,
-    place: Site,
-    fault: Fault,
-    text: &str,
-    site: &str,
-) -> Result<bool, AllocError> {
-    let outcome = Outcome::Stopped {
-        spot: SPOT,
-        place,
-        fault,
-    };
-    let err = format!(in alloc; "checktestdata: line 3 column 70001: {text} ({site})\n")?;
-    Ok(is_written(alloc, Report::Quiet(outcome), 2, "", &err))
-}
-
-#[test]
-fn each_fault_has_its_number_and_text(rt: HostRuntime) -> Result<(), Fail> {
-    for (number, fault, text) in &FAULTS {
-        for (place, site) in &SITES {
-            let is = is_stop_written(rt.alloc(), *place, *fault, text, site)?;
-            same(&rt, &(is, *fault as u8), &(true, *number), &(text, site));
-        }
-    }
-    Ok(())
-}
-
-/// The number of a fault's kind, the kind, and the text of the fault.
-type LoadRow = (u8, LoadKind, &'static str);
-
-/// Each fault at this place has the number and text of its row.
-fn load_faults_judged(rt: &impl Abort, alloc: Global, place: Option<Place>, rows: &[LoadRow]) {
-    for (number, kind, text) in rows {
-        let fault = LoadFault { kind: *kind, place };
-        let is = is_written(alloc, Report::LoadFault(fault), 2, "", text);
-        same(rt, &(is, *kind as u8), &(true, *number), text);
-    }
-}
-
-const LOAD_KINDS: [LoadRow; 8] = [
-    (
+        Report::LoadFault(BROKEN),
         2,
-        LoadKind::BadByte,
-        "checktestdata: program line 12 column 405: unexpected byte\n",
-    ),
-    (
-        3,
-        LoadKind::UnfinishedString,
-        "checktestdata: program line 12 column 405: unfinished string\n",
-    ),
-    (
-        4,
-        LoadKind::BadOctal,
-        "checktestdata: program line 12 column 405: octal escape above 255\n",
-    ),
-    (
-        5,
-        LoadKind::NumberTooLarge,
-        "checktestdata: program line 12 column 405: number too large\n",
-    ),
-    (
-        6,
-        LoadKind::NotInProfile,
-        "checktestdata: program line 12 column 405: not in this profile\n",
-    ),
-    (
-        7,
-        LoadKind::TooDeep,
-        "checktestdata: program line 12 column 405: nested too deeply\n",
-    ),
-    (
-        8,
-        LoadKind::Syntax,
+        "",
         "checktestdata: program line 12 column 405: syntax error\n",
     ),
+    (Report::Usage(UsageFault::Words), 2, "", BAD_ARGUMENTS),
     (
-        9,
-        LoadKind::BadPattern,
-        "checktestdata: program line 12 column 405: bad pattern\n",
+        Report::CannotOpen(b"no such.ctd"),
+        2,
+        "",
+        "checktestdata: cannot open no such.ctd\n",
     ),
 ];
 
-#[test]
-fn each_fault_of_a_program_has_its_number_and_text(rt: HostRuntime) {
-    load_faults_judged(&rt, rt.alloc(), Some(PLACE), &LOAD_KINDS);
-}
-
-const NO_PLACE: [LoadRow; 2] = [
-    (
-        1,
-        LoadKind::ProgramTooLong,
-        "checktestdata: program too long\n",
-    ),
-    (10, LoadKind::Read, "checktestdata: cannot read program\n"),
-];
-
-#[test]
-fn a_program_that_is_not_there_whole_has_no_place(rt: HostRuntime) {
-    load_faults_judged(&rt, rt.alloc(), None, &NO_PLACE);
+/// Judges what is answered and written of a report to two writers of this room.
+fn judge(
+    rt: &impl Abort,
+    alloc: Global,
+    report: Report,
+    room: Room,
+    answer: Result<u8, ToolFault>,
+    texts: [&str; 2],
+) {
+    let written = written(alloc, report, room);
+    let is = written.is(answer, texts[0].as_bytes(), texts[1].as_bytes());
+    same(rt, &is, &true, &texts);
 }
 
 #[test]
-fn want_of_memory_in_a_program_is_no_report(rt: HostRuntime) {
-    let fault = LoadFault {
-        kind: LoadKind::Memory,
-        place: None,
-    };
-    let written = written(rt.alloc(), Report::LoadFault(fault));
-    assert!(rt; written.is_cut(ToolFault::Memory, b"", b""));
-    assert_eq!(rt; LoadKind::Memory as u8, 11);
-}
-
-/// The number of words that give no settings, why they give none, and what is written of them.
-type UsageRow = (u8, UsageFault, &'static str, &'static str);
-
-/// Words that give no settings have the number, status and texts of their row.
-fn usage_judged(rt: &impl Abort, alloc: Global, status: u8, rows: &[UsageRow]) {
-    for (number, fault, out, err) in rows {
-        let is = is_written(alloc, Report::Usage(*fault), status, out, err);
-        same(rt, &(is, *fault as u8), &(true, *number), &(out, err));
+fn reports_have_their_texts(rt: HostRuntime) {
+    for (report, status, out, err) in &ROWS {
+        judge(&rt, rt.alloc(), *report, AMPLE, Ok(*status), [out, err]);
     }
 }
 
-const USAGE: [UsageRow; 5] = [
-    (
-        1,
-        UsageFault::Words,
-        "",
-        "checktestdata: bad arguments\nTry 'checktestdata --help'.\n",
-    ),
-    (
-        2,
-        UsageFault::BadSteps,
-        "",
-        "checktestdata: bad step limit\n",
-    ),
-    (3, UsageFault::BadPreset, "", "checktestdata: bad preset\n"),
-    (
-        4,
-        UsageFault::Generate,
-        "",
-        "checktestdata: generating test data is not supported\n",
-    ),
-    (7, UsageFault::Memory, "", "checktestdata: out of memory\n"),
-];
+const UNFLUSHED: Room = (1000, Refusal::NeverFlushed);
+
+const NONE: Room = (0, Refusal::NeverFlushed);
 
 #[test]
-fn each_fault_of_the_words_has_its_number_and_text(rt: HostRuntime) {
-    usage_judged(&rt, rt.alloc(), 2, &USAGE);
-}
-
-const HELP: &str = "Usage: checktestdata [OPTION]... PROGRAM [TESTDATA]\n\
-    Check TESTDATA (or standard input) against PROGRAM.\n  \
-    -g, --generate                     not supported\n  \
-    -D, --define=<name>=<value>[,...]  preset variables\n  \
-    -q, --quiet                        write nothing to standard output\n  \
-    -w, --whitespace-ok                accept changes of whitespace\n      \
-        --max-steps=N                  stop after N steps\n      \
-        --help                         show this text\n      \
-        --version                      show the version\n";
-
-const VERSION: &str = "checktestdata 1.0 (whole-number profile)\n";
-
-const NO_FAULTS: [UsageRow; 2] = [
-    (5, UsageFault::Help, HELP, ""),
-    (6, UsageFault::Version, VERSION, ""),
-];
-
-#[test]
-fn the_help_and_the_version_are_no_faults(rt: HostRuntime) {
-    usage_judged(&rt, rt.alloc(), 0, &NO_FAULTS);
+fn a_failed_flush_is_no_success(rt: HostRuntime) {
+    let fault = Err(ToolFault::Write);
+    let verdict = Report::Outcome(REJECTED);
+    judge(
+        &rt,
+        rt.alloc(),
+        verdict,
+        UNFLUSHED,
+        fault,
+        [REJECTED_LINE, ""],
+    );
+    let words = Report::Usage(UsageFault::Words);
+    judge(
+        &rt,
+        rt.alloc(),
+        words,
+        UNFLUSHED,
+        fault,
+        ["", BAD_ARGUMENTS],
+    );
 }
 
 #[test]
-fn a_file_that_is_not_opened_is_named(rt: HostRuntime) {
-    let report = Report::CannotOpen(b"no such.ctd");
-    let text = "checktestdata: cannot open no such.ctd\n";
-    assert!(rt; is_written(rt.alloc(), report, 2, "", text));
+fn what_writes_nothing_touches_no_stream(rt: HostRuntime) {
+    let accepted = Report::Quiet(Outcome::Accepted);
+    judge(&rt, rt.alloc(), accepted, NONE, Ok(0), ["", ""]);
+    let rejected = Report::Quiet(REJECTED);
+    judge(&rt, rt.alloc(), rejected, NONE, Ok(1), ["", ""]);
+    let no_memory = Report::LoadFault(OUT_OF_MEMORY);
+    judge(
+        &rt,
+        rt.alloc(),
+        no_memory,
+        NONE,
+        Err(ToolFault::Memory),
+        ["", ""],
+    );
+}
+
+/// Judges that a verdict and bad arguments stop where their streams fail, behind so many bytes, and that the others hold nothing.
+fn judge_cut(rt: &impl Abort, alloc: Global, room: Room) {
+    let fault = Err(ToolFault::Write);
+    if room.0 < REJECTED_LINE.len() {
+        let taken = &REJECTED_LINE.as_bytes()[..room.0];
+        let written = written(alloc, Report::Outcome(REJECTED), room);
+        same(rt, &written.is(fault, taken, b""), &true, &room.0);
+    }
+    if room.0 < BAD_ARGUMENTS.len() {
+        let taken = &BAD_ARGUMENTS.as_bytes()[..room.0];
+        let written = written(alloc, Report::Usage(UsageFault::Words), room);
+        same(rt, &written.is(fault, b"", taken), &true, &room.0);
+    }
+}
+
+#[test]
+fn a_report_stops_where_its_stream_fails(rt: HostRuntime) {
+    for refusal in [Refusal::Fails, Refusal::TakesNone] {
+        for room in 0..REJECTED_LINE.len() {
+            judge_cut(&rt, rt.alloc(), (room, refusal));
+        }
+    }
+}
+
+#[test]
+fn numbers_of_reasons_and_faults(rt: HostRuntime) {
+    let reasons = [
+        Reason::ExpectedSpace as u8,
+        Reason::ExpectedNewline as u8,
+        Reason::ExpectedEof as u8,
+        Reason::ExpectedInt as u8,
+        Reason::LeadingZero as u8,
+        Reason::MinusZero as u8,
+        Reason::OutOfRange as u8,
+        Reason::StringMismatch as u8,
+        Reason::RegexMismatch as u8,
+        Reason::AssertFailed as u8,
+        // no reason: so both arrays have one type, and `same` is proved for it once
+        0,
+    ];
+    let faults = [
+        Fault::Undefined as u8,
+        Fault::WrongType as u8,
+        Fault::Overflow as u8,
+        Fault::DivisionByZero as u8,
+        Fault::Exponent as u8,
+        Fault::Count as u8,
+        Fault::Shape as u8,
+        Fault::StepLimit as u8,
+        Fault::MatchTooLong as u8,
+        Fault::DataTooLong as u8,
+        Fault::Read as u8,
+    ];
+    same(&rt, &reasons, &[1, 2, 3, 4, 5, 6, 7, 8, 9, 10, 0], &1);
+    same(&rt, &faults, &[1, 2, 3, 4, 5, 6, 7, 8, 9, 10, 11], &2);
+}
+
+#[test]
+fn numbers_of_faults_of_programs_words_and_streams(rt: HostRuntime) {
+    let kinds = [
+        LoadKind::ProgramTooLong as u8,
+        LoadKind::BadByte as u8,
+        LoadKind::UnfinishedString as u8,
+        LoadKind::BadOctal as u8,
+        LoadKind::NumberTooLarge as u8,
+        LoadKind::NotInProfile as u8,
+        LoadKind::TooDeep as u8,
+        LoadKind::Syntax as u8,
+        LoadKind::BadPattern as u8,
+        LoadKind::Read as u8,
+        LoadKind::Memory as u8,
+    ];
+    let usage = [
+        UsageFault::Words as u8,
+        UsageFault::BadSteps as u8,
+        UsageFault::BadPreset as u8,
+        UsageFault::Generate as u8,
+        UsageFault::Help as u8,
+        UsageFault::Version as u8,
+        UsageFault::Memory as u8,
+        ToolFault::Memory as u8,
+        ToolFault::Write as u8,
+    ];
+    same(&rt, &kinds, &[1, 2, 3, 4, 5, 6, 7, 8, 9, 10, 11], &3);
+    same(&rt, &usage, &[1, 2, 3, 4, 5, 6, 7, 1, 2], &4);
 }

@@ -10,16 +10,6 @@ use std::io::{self, ErrorKind, Read};
 use std::process::Abort;
 use std::test::Fail;
 
-/// A reader that fails.
-#[derive(Drop)]
-struct Failing;
-
-impl Read for Failing {
-    fn read(&mut self, _buf: &mut [u8]) -> io::Result<usize> {
-        Err(io::Error::from(ErrorKind::Interrupted))
-    }
-}
-
 /// A reader that never ends.
 #[derive(Drop)]
 struct Endless;
@@ -114,11 +104,6 @@ fn lines(alloc: Global) -> Result<Vec<u8>, AllocError> {
     Ok(text)
 }
 
-/// Whether the window of a cursor is the one of these bytes.
-fn has_window<R: Source>(cursor: &mut Cursor<'_, R>, bytes: &[u8]) -> Result<bool, LookFault> {
-    Ok(cursor.window()? == bytes)
-}
-
 /// What is asked of a cursor, with the answer.
 #[derive(Clone, Copy)]
 enum Ask<'a> {
@@ -132,7 +117,7 @@ enum Ask<'a> {
     Next(Result<Option<u8>, LookFault>),
     /// The next byte, which is passed where there is one.
     Pass(Result<Option<u8>, LookFault>),
-    /// That these bytes come next, which are passed.
+    /// That these bytes come next, which are passed; where they are more than 1,007, with a window of them now and then.
     PassAll(&'a [u8]),
     /// Whether this byte is passed.
     PassIf(u8, Result<bool, LookFault>),
@@ -144,6 +129,8 @@ enum Ask<'a> {
     Held(&'a [u8]),
     /// Whether these bytes are the window.
     Window(&'a [u8], Result<bool, LookFault>),
+    /// That all bytes are passed in runs of up to 700, each of which moves the spot as its bytes do.
+    PassInRuns,
 }
 
 /// Passes the held bytes, and tells how many they are.
@@ -151,6 +138,61 @@ fn pass_held<R: Source>(cursor: &mut Cursor<'_, R>) -> usize {
     let count = cursor.held_run().len();
     cursor.take_many(count);
     count
+}
+
+/// Where a spot is moved by a byte.
+fn behind(spot: Spot, byte: u8) -> Spot {
+    let is_end = byte == b'\n';
+    Spot {
+        line: spot.line.saturating_add(u64::from(is_end)),
+        column: if is_end {
+            1
+        } else {
+            spot.column.saturating_add(1)
+        },
+        offset: spot.offset.saturating_add(1),
+    }
+}
+
+/// Passes all bytes in runs of 1, 2, 3, .. 700, 1, 2, .. held bytes. Whether each run moves the spot as its bytes do.
+fn passes_in_runs<R: Source>(cursor: &mut Cursor<'_, R>) -> bool {
+    let mut spot = cursor.spot();
+    for turn in 0..u32::MAX {
+        if cursor.look() == Ok(None) {
+            return true;
+        }
+        let held = cursor.held_run();
+        let count = held.len().min(1 + turn as usize % 700);
+        for byte in &held[..count] {
+            spot = behind(spot, *byte);
+        }
+        cursor.take_many(count);
+        if cursor.spot() != spot {
+            return false;
+        }
+    }
+    false
+}
+
+/// Whether the window of a cursor is the one of these bytes.
+fn has_window<R: Source>(cursor: &mut Cursor<'_, R>, bytes: &[u8]) -> Result<bool, LookFault> {
+    Ok(cursor.window()? == bytes)
+}
+
+/// Passes bytes that are the ones of a text, and now and then looks at a window of them. Whether they are.
+fn passes_all<R: Source>(cursor: &mut Cursor<'_, R>, text: &[u8]) -> bool {
+    for (i, byte) in text.iter().enumerate() {
+        if i % 50_000 == 1_007 {
+            let end = (i + WINDOW).min(text.len());
+            if has_window(cursor, &text[i..end]) != Ok(true) {
+                return false;
+            }
+        }
+        if pass(cursor) != Ok(Some(*byte)) {
+            return false;
+        }
+    }
+    true
 }
 
 /// Whether a cursor answers as it is wanted.
@@ -168,12 +210,13 @@ fn answers<R: Source>(cursor: &mut Cursor<'_, R>, ask: Ask<'_>) -> bool {
         Ask::Look(next) => cursor.look() == next,
         Ask::Next(next) => next_twice(cursor) == [next, next],
         Ask::Pass(next) => pass(cursor) == next,
-        Ask::PassAll(bytes) => first_other(cursor, bytes).is_none(),
+        Ask::PassAll(bytes) => passes_all(cursor, bytes),
         Ask::PassIf(byte, passed) => cursor.pass_if_eq(byte) == passed,
         Ask::PassInLine(count) => pass_in_line(cursor) == count,
         Ask::PassHeld(count) => pass_held(cursor) == count,
         Ask::Held(bytes) => cursor.held() == bytes.len() && cursor.held_run() == bytes,
         Ask::Window(bytes, is) => has_window(cursor, bytes) == is,
+        Ask::PassInRuns => passes_in_runs(cursor),
     }
 }
 
@@ -191,15 +234,34 @@ fn judge_start<R: Read + Drop>(
     reader: R,
     limit: u32,
     asks: &[Ask],
-) -> Result<(), Fail> {
+) -> Result<(), AllocError> {
     let mut source = FromRead::new(reader);
     let mut cursor = Cursor::start(alloc, &mut source, u64::from(limit))?;
     judge(rt, &mut cursor, asks);
+    let _source = cursor.into_source();
+    Ok(())
+}
+
+/// The same over a reader that gives these answers and is called so often in all.
+fn judge_script(
+    rt: &impl Abort,
+    alloc: Global,
+    answers: &[Option<&[u8]>],
+    wanted_calls: usize,
+    asks: &[Ask],
+) -> Result<(), AllocError> {
+    let mut calls = 0;
+    let reader = Scripted {
+        answers,
+        calls: &mut calls,
+    };
+    judge_start(rt, alloc, reader, 10, asks)?;
+    same(rt, &calls, &wanted_calls, &answers);
     Ok(())
 }
 
 /// Of a line of an x and one of a y that is not ended.
-const SPOTS: [Ask; 9] = [
+const SPOTS: &[Ask] = &[
     Ask::Seen(Seen::Going, 0),
     Ask::Pass(Ok(Some(b'x'))),
     Ask::Pass(Ok(Some(b'\n'))),
@@ -211,13 +273,8 @@ const SPOTS: [Ask; 9] = [
     Ask::Seen(Seen::Ended, 3),
 ];
 
-#[test]
-fn tells_spots_and_the_end(rt: HostRuntime) -> Result<(), Fail> {
-    judge_start(&rt, rt.alloc(), b"x\ny".as_slice(), 10, &SPOTS)
-}
-
 /// Of a line of three bytes and one of two.
-const LINES: [Ask; 8] = [
+const LINES: &[Ask] = &[
     Ask::PassInLine(0),
     Ask::Look(Ok(Some(b'a'))),
     Ask::PassInLine(3),
@@ -228,13 +285,8 @@ const LINES: [Ask; 8] = [
     Ask::Next(Ok(Some(b'\n'))),
 ];
 
-#[test]
-fn bytes_in_a_line_are_passed_at_once(rt: HostRuntime) -> Result<(), Fail> {
-    judge_start(&rt, rt.alloc(), b"abc\nde\n".as_slice(), 10, &LINES)
-}
-
 /// Of a line of an a and one that begins with a b, behind which a read fails.
-const WANTED: [Ask; 9] = [
+const WANTED: &[Ask] = &[
     Ask::PassIf(b'b', Ok(false)),
     Ask::PassIf(b'a', Ok(true)),
     Ask::PassIf(b'a', Ok(false)),
@@ -246,93 +298,33 @@ const WANTED: [Ask; 9] = [
     Ask::Spot(2, 2, 3),
 ];
 
+/// Of an a and a b, behind which a read fails.
+const FAILED_WINDOW: &[Ask] = &[
+    Ask::Window(b"ab", Err(LookFault::Read)),
+    Ask::Look(Err(LookFault::Read)),
+    Ask::Held(b"ab"),
+];
+
+/// What a reader gives in turn, how often it is called, and what a cursor over it is asked.
+type Script = (
+    &'static [Option<&'static [u8]>],
+    usize,
+    &'static [Ask<'static>],
+);
+
+const SCRIPTS: [Script; 4] = [
+    (&[Some(b"x\ny")], 2, SPOTS),
+    (&[Some(b"abc\nde\n")], 1, LINES),
+    (&[Some(b"a\n"), Some(b"b"), None, Some(b"c")], 3, WANTED),
+    (&[Some(b"ab"), None, Some(b"c")], 2, FAILED_WINDOW),
+];
+
 #[test]
-fn a_byte_is_passed_where_it_is_the_one_that_is_wanted(rt: HostRuntime) -> Result<(), Fail> {
-    let mut calls = 0;
-    let answers: [Option<&[u8]>; 4] = [Some(b"a\n"), Some(b"b"), None, Some(b"c")];
-    let reader = Scripted {
-        answers: &answers,
-        calls: &mut calls,
-    };
-    judge_start(&rt, rt.alloc(), reader, 10, &WANTED)?;
-    same(&rt, &calls, &3, &"the calls");
+fn cursors_answer_what_their_readers_give(rt: HostRuntime) -> Result<(), Fail> {
+    for (answers, calls, asks) in &SCRIPTS {
+        judge_script(&rt, rt.alloc(), answers, *calls, asks)?;
+    }
     Ok(())
-}
-
-#[test]
-fn faults_of_looks_have_their_numbers(rt: HostRuntime) {
-    same(
-        &rt,
-        &[LookFault::Read as u8, LookFault::DataTooLong as u8],
-        &[1, 2],
-        &"the numbers",
-    );
-}
-
-/// What four pulls from a source give, and the first two bytes that they give.
-fn pulled<R: Source>(source: &mut R) -> ([Result<usize, Failed>; 4], [u8; 2]) {
-    let mut room = [0; 4];
-    let counts = [
-        source.pull(&mut room),
-        source.pull(&mut room),
-        source.pull(&mut room),
-        source.pull(&mut room),
-    ];
-    (counts, [room[0], room[1]])
-}
-
-/// Judges four pulls from a reader that gives an a and a b and is asked twice.
-fn judge_pulls(rt: &impl Abort, answers: &[Option<&[u8]>], wanted: [Result<usize, Failed>; 4]) {
-    let mut calls = 0;
-    let mut source = FromRead::new(Scripted {
-        answers,
-        calls: &mut calls,
-    });
-    let found = pulled(&mut source);
-    drop(source);
-    same(rt, &(found, calls), &((wanted, *b"ab"), 2), &"the pulls");
-}
-
-#[test]
-fn a_reader_that_fails_once_is_not_asked_again(rt: HostRuntime) {
-    let answers: [Option<&[u8]>; 3] = [Some(b"ab"), None, Some(b"cd")];
-    let wanted = [Ok(2), Err(Failed), Err(Failed), Err(Failed)];
-    judge_pulls(&rt, &answers, wanted);
-}
-
-#[test]
-fn a_reader_that_ends_once_is_not_asked_again(rt: HostRuntime) {
-    let answers: [Option<&[u8]>; 3] = [Some(b"ab"), Some(b""), Some(b"cd")];
-    let wanted = [Ok(2), Ok(0), Ok(0), Ok(0)];
-    judge_pulls(&rt, &answers, wanted);
-}
-
-#[test]
-fn a_reader_is_asked_once_a_pull(rt: HostRuntime) {
-    let answers = [Some(b"a".as_slice()); 5];
-    for pulls in 0..5 {
-        let mut calls = 0;
-        let mut source = FromRead::new(Scripted {
-            answers: &answers,
-            calls: &mut calls,
-        });
-        let mut room = [0; 4];
-        for _ in 0..pulls {
-            same(&rt, &source.pull(&mut room), &Ok(1), &"a pull");
-        }
-        drop(source);
-        same(&rt, &calls, &pulls, &"the calls");
-    }
-}
-
-/// The first offset at which a cursor does not pass a byte that is the one of a text.
-fn first_other<R: Source>(cursor: &mut Cursor<'_, R>, text: &[u8]) -> Option<usize> {
-    for (offset, byte) in text.iter().enumerate() {
-        if pass(cursor) != Ok(Some(*byte)) {
-            return Some(offset);
-        }
-    }
-    None
 }
 
 #[test]
@@ -346,160 +338,155 @@ fn answers_a_failed_read_again(rt: HostRuntime) -> Result<(), Fail> {
             Ask::Window(b"", Err(LookFault::Read)),
             Ask::Seen(Seen::Broken, n as u64),
         ];
-        judge_start(&rt, rt.alloc(), text[..n].chain(Failing), 10, &asks)?;
+        let answers = [Some(&text[..n]), None, Some(b"6")];
+        let empty = usize::from(n == 0);
+        judge_script(&rt, rt.alloc(), &answers[empty..], 2 - empty, &asks)?;
     }
     Ok(())
 }
 
-/// Of an a and a b, behind which a read fails.
-const FAILED_WINDOW: [Ask; 3] = [
-    Ask::Window(b"ab", Err(LookFault::Read)),
-    Ask::Look(Err(LookFault::Read)),
-    Ask::Held(b"ab"),
-];
-
-#[test]
-fn a_failed_window_fails_the_cursor(rt: HostRuntime) -> Result<(), Fail> {
-    let text: &[u8] = b"ab";
-    judge_start(&rt, rt.alloc(), text.chain(Failing), 10, &FAILED_WINDOW)
-}
-
 /// Of ones without an end, and a limit of 1000.
-const LIMIT: [Ask; 4] = [
+const LIMIT: &[Ask] = &[
     Ask::PassAll(&[b'1'; 1_000]),
     Ask::Look(Err(LookFault::DataTooLong)),
     Ask::Spot(1, 1_001, 1_000),
     Ask::Seen(Seen::Going, 1_001),
 ];
 
+/// Of ones without an end, and a limit of a window.
+const LIMIT_OF_A_WINDOW: &[Ask] = &[
+    Ask::Look(Ok(Some(b'1'))),
+    Ask::Window(&[b'1'; WINDOW], Ok(true)),
+];
+
+/// Of ones without an end, and a limit of a byte less.
+const LIMIT_BELOW_A_WINDOW: &[Ask] = &[
+    Ask::Look(Ok(Some(b'1'))),
+    Ask::Window(b"", Err(LookFault::DataTooLong)),
+];
+
+const LIMITS: [(u32, &[Ask]); 3] = [
+    (1_000, LIMIT),
+    (65_536, LIMIT_OF_A_WINDOW),
+    (65_535, LIMIT_BELOW_A_WINDOW),
+];
+
 #[test]
 fn a_limit_stops_data_that_never_end(rt: HostRuntime) -> Result<(), Fail> {
-    judge_start(&rt, rt.alloc(), Endless, 1_000, &LIMIT)
-}
-
-/// What is looked at next, and whether there is a window.
-fn look_and_window<R: Source>(cursor: &mut Cursor<'_, R>) -> (Result<Option<u8>, LookFault>, bool) {
-    (cursor.look(), cursor.window().is_ok())
-}
-
-#[test]
-fn a_limit_is_for_what_is_looked_at(rt: HostRuntime) -> Result<(), Fail> {
-    for (len, whole) in [(WINDOW, true), (WINDOW - 1, false)] {
-        let mut source = FromRead::new(Endless);
-        let mut cursor = Cursor::start(rt.alloc(), &mut source, len as u64)?;
-        let found = look_and_window(&mut cursor);
-        same(&rt, &found, &(Ok(Some(b'1')), whole), &len);
+    for (limit, asks) in &LIMITS {
+        judge_start(&rt, rt.alloc(), Endless, *limit, asks)?;
     }
     Ok(())
 }
 
-/// Judges a cursor over a text: each byte, the end, and a window now and then.
-fn judge_reads<R: Source>(rt: &impl Abort, cursor: &mut Cursor<'_, R>, text: &[u8], most: usize) {
-    for (i, byte) in text.iter().enumerate() {
-        if i % 50_000 == 7 {
-            let end = (i + WINDOW).min(text.len());
-            same(
-                rt,
-                &has_window(cursor, &text[i..end]),
-                &Ok(true),
-                &(most, i),
-            );
-        }
-        same(rt, &pass(cursor), &Ok(Some(*byte)), &(most, i));
+/// Of lines that are passed in runs.
+const RUNS: &[Ask] = &[Ask::PassInRuns, Ask::Seen(Seen::Ended, 200_000)];
+
+/// Judges cursors over lines, however reads are cut: each byte, a window now and then, each run, and the end.
+fn judge_cuts(rt: &impl Abort, alloc: Global, text: &[u8]) -> Result<(), AllocError> {
+    let bytes = [
+        Ask::PassAll(text),
+        Ask::Look(Ok(None)),
+        Ask::Seen(Seen::Ended, 200_000),
+    ];
+    for most in [1, 2, 3, 7, 65_535, 65_536, 100_000] {
+        let reader = Cut { reader: text, most };
+        judge_start(rt, alloc, reader, 1_000_000, &bytes)?;
     }
-    same(rt, &cursor.look(), &Ok(None), &"the end");
+    judge_start(rt, alloc, text, 1_000_000, RUNS)
 }
 
 #[test]
 fn looks_are_the_same_however_reads_are_cut(rt: HostRuntime) -> Result<(), Fail> {
     let text = lines(rt.alloc())?;
-    for most in [1, 2, 3, 7, 65_535, 65_536, 100_000] {
-        let mut source = FromRead::new(Cut {
-            reader: text.as_slice(),
-            most,
-        });
-        let mut cursor = Cursor::start(rt.alloc(), &mut source, 1 << 40)?;
-        judge_reads(&rt, &mut cursor, text.as_slice(), most);
-        let _source = cursor.into_source();
-    }
+    judge_cuts(&rt, rt.alloc(), text.as_slice())?;
     Ok(())
 }
 
-/// Judges that a cursor which passes runs has the spots of one which passes bytes.
-fn judge_runs<R: Source, S: Source>(
+/// Judges pulls from a source over a reader that gives these answers, is called so often in all, and leaves these two bytes.
+fn judge_pulls(
     rt: &impl Abort,
-    cursor: &mut Cursor<'_, R>,
-    by_runs: &mut Cursor<'_, S>,
+    answers: &[Option<&[u8]>],
+    wanted: &[Result<usize, Failed>],
+    left: (usize, [u8; 2]),
 ) {
-    for turn in 0..u32::MAX {
-        if by_runs.look() == Ok(None) {
-            break;
-        }
-        let count = by_runs.held_run().len().min(1 + turn as usize % 700);
-        by_runs.take_many(count);
-        for _ in 0..count {
-            let _byte = pass(cursor);
-        }
-        same(rt, &by_runs.spot(), &cursor.spot(), &turn);
+    let mut calls = 0;
+    let mut source = FromRead::new(Scripted {
+        answers,
+        calls: &mut calls,
+    });
+    let mut room = [0; 4];
+    for count in wanted {
+        same(rt, &source.pull(&mut room), count, &answers);
     }
-    same(rt, &by_runs.spot().offset, &200_000, &"the end");
+    drop(source);
+    same(rt, &(calls, [room[0], room[1]]), &left, &answers);
 }
 
-/// The same of a cursor and another one over a text.
-fn judge_runs_of<R: Source>(
-    rt: &impl Abort,
-    alloc: Global,
-    cursor: &mut Cursor<'_, R>,
-    text: &[u8],
-) -> Result<(), AllocError> {
-    let mut source = FromRead::new(text);
-    let mut by_runs = Cursor::start(alloc, &mut source, 1 << 40)?;
-    judge_runs(rt, cursor, &mut by_runs);
-    Ok(())
-}
+/// What a reader gives in turn, what the pulls give, how often it is called, and the first two bytes that are left.
+type Pulls = (
+    &'static [Option<&'static [u8]>],
+    &'static [Result<usize, Failed>],
+    (usize, [u8; 2]),
+);
+
+const ONES: &[Option<&[u8]>] = &[Some(b"a"), Some(b"a"), Some(b"a"), Some(b"a"), Some(b"a")];
+
+const PULLS: [Pulls; 7] = [
+    // A reader that fails once is not asked again, nor is one that ends once.
+    (
+        &[Some(b"ab"), None, Some(b"cd")],
+        &[Ok(2), Err(Failed), Err(Failed), Err(Failed)],
+        (2, *b"ab"),
+    ),
+    (
+        &[Some(b"ab"), Some(b""), Some(b"cd")],
+        &[Ok(2), Ok(0), Ok(0), Ok(0)],
+        (2, *b"ab"),
+    ),
+    // A reader is asked once a pull.
+    (ONES, &[], (0, *b"\0\0")),
+    (ONES, &[Ok(1)], (1, *b"a\0")),
+    (ONES, &[Ok(1), Ok(1)], (2, *b"a\0")),
+    (ONES, &[Ok(1), Ok(1), Ok(1)], (3, *b"a\0")),
+    (ONES, &[Ok(1), Ok(1), Ok(1), Ok(1)], (4, *b"a\0")),
+];
 
 #[test]
-fn runs_pass_what_bytes_pass(rt: HostRuntime) -> Result<(), Fail> {
-    let text = lines(rt.alloc())?;
-    let mut source = FromRead::new(text.as_slice());
-    let mut cursor = Cursor::start(rt.alloc(), &mut source, 1 << 40)?;
-    judge_runs_of(&rt, rt.alloc(), &mut cursor, text.as_slice())?;
-    Ok(())
+fn a_reader_is_asked_once_a_pull_until_it_ends_or_fails(rt: HostRuntime) {
+    for (answers, wanted, left) in &PULLS {
+        judge_pulls(&rt, answers, wanted, *left);
+    }
 }
 
-/// The next byte of data behind so many of them, looked at twice.
-fn next_behind(bytes: &[u8], skipped: usize) -> [Result<Option<u8>, LookFault>; 2]
-    requires { skipped ≤ length bytes.now }
-{
-    let mut data = Plain::new(bytes, true, 10);
-    data.skip(skipped);
-    next_twice(&mut data)
-}
+/// Some data, how many of them are behind, whether a read fails at their end, their limit, and their next byte.
+type NextRow = (
+    &'static [u8],
+    usize,
+    bool,
+    u8,
+    Result<Option<u8>, LookFault>,
+);
 
-/// The next byte of some data.
-fn next_of(bytes: &[u8], broken: bool, limit: u8) -> Result<Option<u8>, LookFault> {
-    Plain::new(bytes, broken, u64::from(limit)).next_byte()
-}
+const NEXT: [NextRow; 6] = [
+    (b"ab", 1, true, 10, Ok(Some(b'b'))),
+    (b"ab", 2, true, 10, Err(LookFault::Read)),
+    (b"", 0, false, 10, Ok(None)),
+    (b"", 0, true, 10, Err(LookFault::Read)),
+    (b"x", 0, true, 0, Err(LookFault::DataTooLong)),
+    (b"", 0, false, 0, Ok(None)),
+];
 
 #[test]
 fn whole_data_tell_their_next_byte(rt: HostRuntime) {
-    same(
-        &rt,
-        &[next_behind(b"ab", 1), next_behind(b"ab", 2)],
-        &[[Ok(Some(b'b')); 2], [Err(LookFault::Read); 2]],
-        &"behind bytes",
-    );
-    let found = [
-        next_of(b"", false, 10),
-        next_of(b"", true, 10),
-        next_of(b"x", true, 0),
-        next_of(b"", false, 0),
-    ];
-    let wanted = [
-        Ok(None),
-        Err(LookFault::Read),
-        Err(LookFault::DataTooLong),
-        Ok(None),
-    ];
-    same(&rt, &found, &wanted, &"at the start");
+    for (bytes, skipped, broken, limit, wanted) in &NEXT {
+        let mut data = Plain::new(bytes, *broken, u64::from(*limit));
+        data.skip(bytes.len().min(*skipped));
+        same(
+            &rt,
+            &next_twice(&mut data),
+            &[*wanted; 2],
+            &(bytes, skipped),
+        );
+    }
 }

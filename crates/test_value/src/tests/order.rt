@@ -1,28 +1,18 @@
 //! The order of values and of keys.
 
-use super::numbers;
-use ctd_syntax::{Bytes, Name};
-use ctd_value::{Key, Value};
+use super::{key, same};
+use ctd_value::Key;
 use std::alloc::{AllocError, Global};
 use std::test::Fail;
 
-/// The name of a key, its numbers, and the string behind them, if there is one.
-type Row<'r> = (&'r [u8], &'r [i8], Option<&'r [u8]>);
-
-/// The key of a name and some numbers, behind which a string may stand.
-fn row(alloc: Global, name: &[u8], indices: &[i8], last: Option<&[u8]>) -> Result<Key, AllocError> {
-    let mut values = numbers(alloc, indices)?;
-    if let Some(bytes) = last {
-        values.push(Value::Text(Bytes::copy(alloc, bytes)?))?;
-    }
-    Ok(Key::new(Name::copy(alloc, name)?, values))
-}
+/// The name of a key, and the numbers and the strings that are its indices.
+type Row<'r> = (&'r [u8], &'r [i128], &'r [&'r [u8]]);
 
 /// The keys of some rows.
 fn keys(alloc: Global, rows: &[Row]) -> Result<Vec<Key>, AllocError> {
     let mut keys = Vec::new(alloc);
-    for (name, indices, last) in rows {
-        keys.push(row(alloc, name, indices, *last)?)?;
+    for (name, numbers, texts) in rows {
+        keys.push(key(alloc, name, numbers, texts)?)?;
     }
     Ok(keys)
 }
@@ -42,54 +32,45 @@ fn rises<T: Ord>(items: &[T]) -> bool {
     true
 }
 
-/// Some numbers, and some strings behind them.
-fn values(alloc: Global, numbers: &[i128], texts: &[&[u8]]) -> Result<Vec<Value>, AllocError> {
-    let mut values = Vec::new(alloc);
-    for n in numbers {
-        values.push(Value::Int(*n))?;
-    }
-    for bytes in texts {
-        values.push(Value::Text(Bytes::copy(alloc, bytes)?))?;
-    }
-    Ok(values)
-}
+/// Integers come before strings.
+const INDICES: Row = (
+    b"a",
+    &[i128::MIN, -1, 0, 9, 10, i128::MAX],
+    &[b"", b"10", b"9", b"99", b"\x7f", b"\x80"],
+);
 
-/// Whether those rise.
-fn values_rise(alloc: Global, numbers: &[i128], texts: &[&[u8]]) -> Result<bool, AllocError> {
-    let values = values(alloc, numbers, texts)?;
-    Ok(rises(&values))
-}
-
-#[test]
-fn integers_come_before_strings(rt: HostRuntime) -> Result<(), Fail> {
-    let numbers = [i128::MIN, -1, 0, 9, 10, i128::MAX];
-    let texts: [&[u8]; 6] = [b"", b"10", b"9", b"99", b"\x7f", b"\x80"];
-    assert!(rt; values_rise(rt.alloc(), &numbers, &texts)?);
-    Ok(())
-}
-
+/// Keys go by name, and then by the indices, place by place.
 const ROWS: [Row; 11] = [
-    (b"a", &[], None),
-    (b"a", &[-3], None),
-    (b"a", &[2], None),
-    (b"a", &[2, 1], None),
-    (b"a", &[2], Some(b"")),
-    (b"a", &[10], None),
-    (b"a", &[10, -5], None),
-    (b"a", &[10], Some(b"b")),
-    (b"ab", &[], None),
-    (b"ab", &[-9], None),
-    (b"b", &[], None),
+    (b"a", &[], &[]),
+    (b"a", &[-3], &[]),
+    (b"a", &[2], &[]),
+    (b"a", &[2, 1], &[]),
+    (b"a", &[2], &[b""]),
+    (b"a", &[10], &[]),
+    (b"a", &[10, -5], &[]),
+    (b"a", &[10], &[b"b"]),
+    (b"ab", &[], &[]),
+    (b"ab", &[-9], &[]),
+    (b"b", &[], &[]),
 ];
 
 /// Whether the keys of some rows rise.
 fn keys_rise(alloc: Global, rows: &[Row]) -> Result<bool, AllocError> {
     let keys = keys(alloc, rows)?;
-    Ok(rises(&keys))
+    Ok(rises(keys.as_slice()))
+}
+
+/// Whether the key of a row has its name and as many indices, which rise.
+fn indices_rise(alloc: Global, row: Row) -> Result<bool, AllocError> {
+    let (name, numbers, texts) = row;
+    let key = key(alloc, name, numbers, texts)?;
+    let count = numbers.len().saturating_add(texts.len());
+    Ok(key.name() == name && key.indices().len() == count && rises(key.indices()))
 }
 
 #[test]
-fn keys_go_by_name_and_then_by_index(rt: HostRuntime) -> Result<(), Fail> {
-    assert!(rt; keys_rise(rt.alloc(), &ROWS)?);
+fn keys_and_their_indices_rise(rt: HostRuntime) -> Result<(), Fail> {
+    same(&rt, &keys_rise(rt.alloc(), &ROWS)?, &true, &"keys");
+    same(&rt, &indices_rise(rt.alloc(), INDICES)?, &true, &"indices");
     Ok(())
 }

@@ -1,10 +1,28 @@
-//! A writer in memory that stops.
+//! A reader and a writer in memory that stop, and what was written.
 
+use ctd_tool::ToolFault;
 use std::alloc::Global;
-use std::io::{Error, ErrorKind, Result, Write};
+use std::io::{Error, ErrorKind, Read, Result, Write};
+
+/// A file in memory, which may fail once after its bytes and has none from then on.
+#[derive(Drop)]
+pub(crate) struct MemoryFile<'m> {
+    pub(crate) bytes: &'m [u8],
+    pub(crate) fails: bool,
+}
+
+impl Read for MemoryFile<'_> {
+    fn read(&mut self, buf: &mut [u8]) -> Result<usize> {
+        if self.bytes.is_empty() && self.fails {
+            self.fails = false;
+            return Err(Error::from(ErrorKind::Interrupted));
+        }
+        self.bytes.read(buf)
+    }
+}
 
 /// How a writer refuses bytes.
-#[derive(Clone, Copy, PartialEq, Eq, Debug)]
+#[derive(Clone, Copy, PartialEq, Eq)]
 pub(crate) enum Refusal {
     /// It answers an error.
     Fails,
@@ -55,5 +73,25 @@ impl Write for Clipped {
             return Err(Error::from(ErrorKind::Other));
         }
         Ok(())
+    }
+}
+
+/// What was written to each stream, and what was answered.
+#[derive(Drop)]
+pub(crate) struct Written {
+    pub(crate) answer: std::result::Result<u8, ToolFault>,
+    pub(crate) out: Vec<u8>,
+    pub(crate) err: Vec<u8>,
+}
+
+impl Written {
+    /// Whether this was answered and these bytes were written.
+    pub(crate) fn is(
+        self,
+        answer: std::result::Result<u8, ToolFault>,
+        out: &[u8],
+        err: &[u8],
+    ) -> bool {
+        self.answer == answer && self.out.as_slice() == out && self.err.as_slice() == err
     }
 }
