@@ -21,8 +21,8 @@ import sys
 import tempfile
 import termios
 import tomllib
-from collections.abc import Iterator
-from dataclasses import dataclass, field
+from collections.abc import Iterator, Sequence
+from dataclasses import dataclass
 from pathlib import Path
 
 HERE = Path(__file__).resolve().parent
@@ -42,9 +42,9 @@ class Row:
     program: str
     answer: str
     data: str = ""
-    words: list[str] = field(default_factory=list)
+    words: Sequence[str] = ()
     steps: int | None = None
-    reads: list[int] = field(default_factory=list)
+    reads: Sequence[int] = ()
 
     def wanted(self) -> Left:
         line = self.answer.encode("latin-1") + b"\n"
@@ -55,14 +55,18 @@ class Row:
 
 def rows_of(file: Path) -> Iterator[tuple[str, Row]]:
     """The rows of the tables of a file, each with the name of its table."""
+    cut_programs: set[Row] = set()
     for table in tomllib.loads(file.read_text())["tables"]:
-        name, columns, rows = f"{file.stem}: {table.pop('name')}", table.pop("columns"), table.pop("rows")
+        name = f"{file.stem}: {table.pop('name')}"
+        columns, rows = table.pop("columns"), table.pop("rows")
         for row in rows:
             cells = {**table, **dict(zip(columns, row, strict=True))}
             wrong = cells.pop("wrong", None)
             yield name, Row(**cells)
             if wrong is not None:
-                yield from ((name, part) for part in cut(cells["program"], wrong))
+                parts = [part for part in cut(cells["program"], wrong) if part not in cut_programs]
+                cut_programs.update(parts)
+                yield from ((name, part) for part in parts)
 
 
 def cut(program: str, wrong: str) -> Iterator[Row]:

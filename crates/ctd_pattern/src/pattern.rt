@@ -22,9 +22,15 @@ pub enum PatternFault {
 }
 
 /// A built pattern, which contracts see as the bytes of its literal.
-#[derive(Drop)]
 pub struct Pattern {
     regex: Regex,
+}
+
+// Written out, and not derived, as that of a matcher.
+impl Drop for Pattern {
+    fn drop(self) {
+        let Pattern { regex: _regex } = self;
+    }
 }
 
 impl Model for Pattern {

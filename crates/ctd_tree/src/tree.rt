@@ -205,9 +205,17 @@ pub struct Commands {
 }
 
 /// A program: a list of commands.
-#[derive(Drop)]
 pub struct Program {
     commands: Commands,
+}
+
+// Written out, and not derived, so that the crates above prove nothing of how a tree is dropped.
+impl Drop for Program {
+    fn drop(self) {
+        let Program {
+            commands: _commands,
+        } = self;
+    }
 }
 
 impl Model for Program {
