@@ -1,5 +1,5 @@
-//! The tests of `ctd_tool`, over its public calls. They are a crate of their own so that they are proved without proving
-//! the tool once more.
+//! The tests of patterns, of plans and checks, and of the tool, over the public calls. They are a crate of their own so that they are
+//! proved without proving these once more.
 #![tactic(auto)]
 
 #[cfg(test)]

@@ -1,8 +1,12 @@
-//! The tool on readers and writers in memory, a module for each subject. What a process shows is in `tests/process.sh` and in the
-//! tables of `tests/tables/` at the top of the repository.
+//! Patterns by themselves, and checks and the tool on readers and writers in memory, a module for each subject. What a process shows is in
+//! `tests/process.sh` and in the tables of `tests/tables/` at the top of the repository.
 
+mod checks;
 mod memory;
+mod pattern_lengths;
 mod processes;
+mod programs;
+mod readers;
 mod reports;
 mod runs;
 mod words;

@@ -118,7 +118,7 @@ const ROWS: [Row; 5] = [
 ];
 
 #[test]
-fn runs(rt: HostRuntime) -> Result<(), Fail> {
+fn runs_end_as_the_rows_say(rt: HostRuntime) -> Result<(), Fail> {
     for (turn, row) in ROWS.iter().enumerate() {
         same(&rt, &is_answered(rt.alloc(), row)?, &true, &turn);
     }

@@ -356,7 +356,7 @@ const STORES: [Row; 9] = [
 ];
 
 #[test]
-fn stores(rt: HostRuntime) -> Result<(), Fail> {
+fn stores_answer_their_steps(rt: HostRuntime) -> Result<(), Fail> {
     judge_all(&rt, rt.alloc(), &STORES)
 }
 
@@ -521,6 +521,6 @@ const OF_TESTS: [Row; 4] = [
 ];
 
 #[test]
-fn answers_of_tests(rt: HostRuntime) -> Result<(), Fail> {
+fn tests_answer_their_steps(rt: HostRuntime) -> Result<(), Fail> {
     judge_all(&rt, rt.alloc(), &OF_TESTS)
 }

@@ -36,7 +36,7 @@ const SMALL: [Row; 5] = [
 ];
 
 #[test]
-fn small_rows(rt: HostRuntime) -> Result<(), Fail> {
+fn small_rows_end_in_their_answers(rt: HostRuntime) -> Result<(), Fail> {
     judge_all(&rt, rt.alloc(), &SMALL)
 }
 
@@ -86,7 +86,7 @@ fn judge_assignments(rt: &impl Abort, alloc: Global, store: &mut Store) -> Resul
 
 /// Under `rt try --test --fail-alloc N` an assignment is refused, and the store answers as before.
 #[test]
-fn refused_assignments(rt: HostRuntime) -> Result<(), Fail> {
+fn a_refused_assignment_leaves_the_store_as_it_was(rt: HostRuntime) -> Result<(), Fail> {
     let mut store = store_of(rt.alloc(), "n=5")?;
     judge_assignments(&rt, rt.alloc(), &mut store)
 }
