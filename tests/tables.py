@@ -9,6 +9,7 @@ A table says what all of its rows share, and its columns what each row gives:
                     output, with status 0 where it is `testdata ok!` and 1 where it is another
     steps           how many steps that takes: with a limit of one step less the run stops at it
     reads           sizes of pieces: the data come by standard input too, in pieces of each of these sizes, each after the last was read
+    fails           whether the data come by standard input alone, and a read fails behind them; the reads behind that find the end
     wrong           a mark that fits nowhere in the program, of which single blanks part the tokens: cut before a token, or with that mark
                     or the word FOO in its place and nothing behind it, it is a syntax error there; each of these counts as a row
 
@@ -16,6 +17,7 @@ The last line counts the rows that were answered so, as passed, and the others. 
 import fcntl
 import os
 import re
+import socket
 import subprocess
 import sys
 import tempfile
@@ -45,6 +47,7 @@ class Row:
     words: Sequence[str] = ()
     steps: int | None = None
     reads: Sequence[int] = ()
+    fails: bool = False
 
     def wanted(self) -> Left:
         line = self.answer.encode("latin-1") + b"\n"
@@ -123,13 +126,30 @@ class Checker:
         os.close(read_end)
         return process.returncode, out, err
 
+    def run_on_failing(self, words: list[str], data: bytes) -> Left:
+        """What a run on the program leaves that gets the data by standard input, and then a failed read."""
+        ours, theirs = socket.socketpair()
+        # the end that is closed before it has read all makes the other's read fail
+        theirs.send(b"unread")
+        with subprocess.Popen(
+            [self.checker, *words, self.program], stdin=theirs, stdout=subprocess.PIPE, stderr=subprocess.PIPE
+        ) as process:
+            ours.sendall(data)
+            while is_held(theirs.fileno()) and process.poll() is None:
+                os.sched_yield()
+            ours.close()
+            out, err = process.communicate(timeout=OUT_OF_TIME)
+        theirs.close()
+        return process.returncode, out, err
+
     def faults(self, row: Row) -> Iterator[tuple[str, Left]]:
         """What the runs of a row left that they should not, each with how it was run."""
         data, wanted = bytes_of(row.data), row.wanted()
         self.program.write_bytes(bytes_of(row.program))
         self.data.write_bytes(data)
         limits = [] if row.steps is None else [f"--max-steps={row.steps}"]
-        found = self.run([*row.words, *limits])
+        words = [*row.words, *limits]
+        found = self.run_on_failing(words, data) if row.fails else self.run(words)
         if found != wanted:
             yield " ".join(["as it stands", *limits]), found
         if row.steps:
