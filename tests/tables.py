@@ -22,8 +22,10 @@ import subprocess
 import sys
 import tempfile
 import termios
+import threading
 import tomllib
 from collections.abc import Iterator, Sequence
+from contextlib import contextmanager
 from dataclasses import dataclass
 from pathlib import Path
 
@@ -88,8 +90,20 @@ def bytes_of(text: str) -> bytes:
 
 
 def is_held(end: int) -> bool:
-    """Whether a pipe holds bytes that were not read."""
+    """Whether a pipe or a socket holds bytes that were not read."""
     return int.from_bytes(fcntl.ioctl(end, termios.FIONREAD, bytes(4)), sys.byteorder) > 0
+
+
+def wait_until_read(process: subprocess.Popen[bytes], end: int) -> None:
+    """Waits until a process has read all that its standard input holds, or has ended."""
+    while is_held(end) and process.poll() is None:
+        os.sched_yield()
+
+
+def left_by(process: subprocess.Popen[bytes]) -> Left:
+    """What a process leaves once it ends."""
+    out, err = process.communicate()
+    return process.returncode, out, err
 
 
 class Checker:
@@ -100,65 +114,67 @@ class Checker:
         self.program = folder / "program"
         self.data = folder / "data"
 
+    @contextmanager
+    def started(self, words: list[str | Path], stdin: int | socket.socket) -> Iterator[subprocess.Popen[bytes]]:
+        """A run of the checker, which is killed where it takes too long."""
+        with subprocess.Popen([self.checker, *words], stdin=stdin, stdout=subprocess.PIPE, stderr=subprocess.PIPE) as process:
+            timer = threading.Timer(OUT_OF_TIME, process.kill)
+            timer.start()
+            try:
+                yield process
+            finally:
+                timer.cancel()
+
     def run(self, words: list[str]) -> Left:
         """What a run on the two files leaves."""
-        ended = subprocess.run(
-            [self.checker, *words, self.program, self.data],
-            stdin=subprocess.DEVNULL, capture_output=True, timeout=OUT_OF_TIME, check=False,
-        )
-        return ended.returncode, ended.stdout, ended.stderr
+        with self.started([*words, self.program, self.data], subprocess.DEVNULL) as process:
+            return left_by(process)
 
     def run_on_pieces(self, words: list[str], data: bytes, size: int) -> Left:
         """What a run on the program leaves that gets the data by standard input, each piece once the last was read."""
         read_end, write_end = os.pipe()
-        with subprocess.Popen(
-            [self.checker, *words, self.program], stdin=read_end, stdout=subprocess.PIPE, stderr=subprocess.PIPE
-        ) as process:
+        with self.started([*words, self.program], read_end) as process:
             for start in range(0, len(data), size):
                 # a run that has ended reads no more
                 if process.poll() is not None:
                     break
                 os.write(write_end, data[start : start + size])
-                while is_held(read_end) and process.poll() is None:
-                    os.sched_yield()
+                wait_until_read(process, read_end)
             os.close(write_end)
-            out, err = process.communicate(timeout=OUT_OF_TIME)
+            left = left_by(process)
         os.close(read_end)
-        return process.returncode, out, err
+        return left
 
     def run_on_failing(self, words: list[str], data: bytes) -> Left:
         """What a run on the program leaves that gets the data by standard input, and then a failed read."""
         ours, theirs = socket.socketpair()
-        # the end that is closed before it has read all makes the other's read fail
-        theirs.send(b"unread")
-        with subprocess.Popen(
-            [self.checker, *words, self.program], stdin=theirs, stdout=subprocess.PIPE, stderr=subprocess.PIPE
-        ) as process:
+        with ours, theirs, self.started([*words, self.program], theirs) as process:
+            # the end that is closed before it has read all makes the other's read fail
+            theirs.send(b"unread")
             ours.sendall(data)
-            while is_held(theirs.fileno()) and process.poll() is None:
-                os.sched_yield()
+            wait_until_read(process, theirs.fileno())
             ours.close()
-            out, err = process.communicate(timeout=OUT_OF_TIME)
-        theirs.close()
-        return process.returncode, out, err
+            return left_by(process)
 
     def faults(self, row: Row) -> Iterator[tuple[str, Left]]:
         """What the runs of a row left that they should not, each with how it was run."""
         data, wanted = bytes_of(row.data), row.wanted()
         self.program.write_bytes(bytes_of(row.program))
         self.data.write_bytes(data)
+
+        def run(words: list[str]) -> Left:
+            return self.run_on_failing(words, data) if row.fails else self.run(words)
+
         limits = [] if row.steps is None else [f"--max-steps={row.steps}"]
-        words = [*row.words, *limits]
-        found = self.run_on_failing(words, data) if row.fails else self.run(words)
+        found = run([*row.words, *limits])
         if found != wanted:
             yield " ".join(["as it stands", *limits]), found
         if row.steps:
-            words = [*row.words, f"--max-steps={row.steps - 1}"]
-            status, out, err = self.run(words)
+            status, out, err = run([*row.words, f"--max-steps={row.steps - 1}"])
             if (status, out) != (2, b"") or not STEP_LIMIT.fullmatch(err):
                 yield f"with a limit of {row.steps - 1} steps", (status, out, err)
         for size in row.reads:
-            found = self.run_on_pieces(row.words, data, size)
+            found = self.run_on_pieces([*row.words], data, size)
             if found != wanted:
                 yield f"in pieces of {size} bytes", found
 
