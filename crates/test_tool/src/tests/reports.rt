@@ -261,20 +261,7 @@ fn numbers_of_reasons_and_faults(rt: HostRuntime) {
 }
 
 #[test]
-fn numbers_of_faults_of_programs_words_and_streams(rt: HostRuntime) {
-    let kinds = [
-        LoadKind::ProgramTooLong as u8,
-        LoadKind::BadByte as u8,
-        LoadKind::UnfinishedString as u8,
-        LoadKind::BadOctal as u8,
-        LoadKind::NumberTooLarge as u8,
-        LoadKind::NotInProfile as u8,
-        LoadKind::TooDeep as u8,
-        LoadKind::Syntax as u8,
-        LoadKind::BadPattern as u8,
-        LoadKind::Read as u8,
-        LoadKind::Memory as u8,
-    ];
+fn numbers_of_faults_of_words_and_streams(rt: HostRuntime) {
     let words = [
         UsageFault::Words as u8,
         UsageFault::BadSteps as u8,
@@ -284,7 +271,6 @@ fn numbers_of_faults_of_programs_words_and_streams(rt: HostRuntime) {
         UsageFault::Version as u8,
         UsageFault::Memory as u8,
     ];
-    are_numbered(&rt, &kinds);
     are_numbered(&rt, &words);
     are_numbered(&rt, &[ToolFault::Memory as u8, ToolFault::Write as u8]);
 }
