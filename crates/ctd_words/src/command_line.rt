@@ -58,15 +58,17 @@ fn command<'a>(alloc: Global) -> Result<Command<'a>, AllocError>
     ensures checker { IfOk result (λ c. app_of c ≡ checker) }
     ensures program { IfOk result RequiresProgram }
 {
-    Command::new(alloc, "checktestdata")
-        .version("1.0")
-        .arg(flag(alloc, "generate", 'g'))?
-        .arg(define_option(alloc))?
-        .arg(flag(alloc, "quiet", 'q'))?
-        .arg(flag(alloc, "whitespace-ok", 'w'))?
-        .arg(option(alloc, "max-steps"))?
-        .arg(program_name(alloc))?
-        .arg(Arg::new(alloc, "TESTDATA"))
+    let arguments = vec![
+        in alloc;
+        flag(alloc, "generate", 'g'),
+        define_option(alloc),
+        flag(alloc, "quiet", 'q'),
+        flag(alloc, "whitespace-ok", 'w'),
+        option(alloc, "max-steps"),
+        program_name(alloc),
+        Arg::new(alloc, "TESTDATA"),
+    ]?;
+    Command::new(alloc, "checktestdata").version("1.0").args(arguments)
 }
 
 /// What clap finds in the words, the program's own name first.

@@ -1,4 +1,5 @@
 use Rattle.std.proofs.Common.{◌≡◌, ◌-◌, false, ap, ◌∙◌, arith, rules, length, take, drop, get_or, FitsSigned}
+use Rattle.std.proofs.lemmas.Grind.{common_steps}
 use Rattle.std.proofs.lemmas.Int.{to_z-of_z}
 use Rattle.std.proofs.lemmas.List.{take_rest}
 use Rattle.std.specs.Int.{w128}
@@ -21,3 +22,6 @@ returns c =
     let read = in_front c.args.bytes.now few _ negative sign m c.number_in_front-size.result.0 count c.begins_with_minus-is_negative.ensures (c.from-sign_len.ensures ∙ sign_bytes negative) (ap (take m) (take_rest c.args.bytes.now sign))
     c.number_in_front-size.ensures.number c.number_in_front-size.ensures.count c.if-count-few.false c.if-count-eq0.false form c.signed.ensures in
     simp (to_z-of_z w128 c.signed.result fits) read
+
+pub overflow_add-result : goal.overflow_add-result
+overflow_add-result c = grind (arith, common_steps)

@@ -1,4 +1,5 @@
 use Rattle.std.proofs.Common.{◌≡◌, ◌<◌, ℕ, length, refl, ap, sym, ◌∙◌, arith, subst}
+use Rattle.std.proofs.lemmas.Grind.{common_steps}
 use Rattle.std.proofs.lemmas.List.{nil_from_length}
 use Rattle.ctd_source.proofs.AdvanceLemmas.{advances_so, advances_both, advances_nowhere}
 use Rattle.ctd_command.specs.Effect.{match_bytes}
@@ -48,3 +49,6 @@ returns g c =
       sound = c.loop-rest.invariant.sound;
       matches = advances_so c.loop-rest.invariant.goes (λ d _ e store mode. e store mode ∙ ap (λ xs. match_bytes xs d (at_offset p store mode)) empty ∙ string_done d (at_offset p store mode));
     }
+
+pub loop-rest-smaller : goal.loop-rest-smaller
+loop-rest-smaller g c = grind (arith, common_steps)

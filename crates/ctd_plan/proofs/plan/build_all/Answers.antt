@@ -1,4 +1,5 @@
 use Rattle.std.proofs.Common.{◌≤◌, ◌++◌, ◌∷◌, [], List, ℕ, length, arith, ap, ◌∙◌, subst}
+use Rattle.std.proofs.lemmas.Grind.{common_steps}
 use Rattle.std.proofs.lemmas.List.{take_all}
 use Rattle.ctd_pattern.specs.Pattern.{IsPattern}
 use Rattle.ctd_plan.specs.Literals.{literals_at}
@@ -30,3 +31,18 @@ pub returns-clause-are_patterns : goal.returns-clause-are_patterns
 returns-clause-are_patterns c =
     let past : length c.args.literals.now ≤ c.loop-literal.literal-index = omega arith in
     subst (λ x. ArePatterns (literals_at x)) (take_all c.loop-literal.literal-index c.args.literals.now past) c.loop-literal.invariant.are_patterns
+
+pub returns-in_err-push-in-Ok-clause-built : goal.returns-in_err-push-in-Ok-clause-built
+returns-in_err-push-in-Ok-clause-built c = grind (arith, common_steps)
+
+pub returns-in_err-push-in-Ok-clause-are_patterns : goal.returns-in_err-push-in-Ok-clause-are_patterns
+returns-in_err-push-in-Ok-clause-are_patterns c = grind (arith, common_steps)
+
+pub returns-in_err-push-in-Ok-clause-memory : goal.returns-in_err-push-in-Ok-clause-memory
+returns-in_err-push-in-Ok-clause-memory c = grind (arith, common_steps)
+
+pub returns-in-Err-clause-memory : goal.returns-in-Err-clause-memory
+returns-in-Err-clause-memory c = grind (arith, common_steps)
+
+pub returns-clause-built : goal.returns-clause-built
+returns-clause-built c = grind (arith, common_steps)

@@ -1,4 +1,5 @@
-use Rattle.std.proofs.Common.{◌++◌, ◌∷◌, [], take, sym, ap, ◌∙◌}
+use Rattle.std.proofs.Common.{◌++◌, ◌∷◌, [], take, sym, ap, ◌∙◌, arith}
+use Rattle.std.proofs.lemmas.Grind.{common_steps}
 use Rattle.std.proofs.lemmas.List.{take_more}
 use Rattle.ctd_plan.proofs.plan.matchers_of.Goals as goal
 
@@ -10,3 +11,9 @@ loop-pattern-preserved c =
     ∙ ap (λ ms. ms ++ c.in_ok-matcher.matcher ∷ []) c.loop-pattern.invariant
     ∙ ap (λ m. take i ps ++ m ∷ []) (c.in_ok-matcher.ensures.literal ∙ c.pattern-item.is)
     ∙ sym (take_more ps i c.pattern-item.result c.loop-pattern-test.true)
+
+pub returns-in_err-push : goal.returns-in_err-push
+returns-in_err-push c = grind (arith, common_steps)
+
+pub returns : goal.returns
+returns c = grind (arith, common_steps)

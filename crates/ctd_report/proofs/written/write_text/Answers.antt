@@ -23,3 +23,6 @@ returns-clause-failed g c = search rules
 
 pub returns-clause-ok : goal.returns-clause-ok
 returns-clause-ok c = grind (arith, common_steps)
+
+pub returns-clause-flushed : goal.returns-clause-flushed
+returns-clause-flushed g c = grind (arith, common_steps)

@@ -21,3 +21,12 @@ returns-in-ASSERT c = let same : c.args.word.now ≡ codes "ASSERT" = text_from_
 
 pub returns-in-UNSET : goal.returns-in-UNSET
 returns-in-UNSET c = let same : c.args.word.now ≡ codes "UNSET" = text_from_reads _ _ (omega arith) (search rules) in sym (ap plain_word same)
+
+pub returns-in-EOF : goal.returns-in-EOF
+returns-in-EOF c = let same : c.args.word.now ≡ codes "EOF" = text_from_reads _ _ (omega arith) (search rules) in sym (ap plain_word same)
+
+pub returns-in-INT : goal.returns-in-INT
+returns-in-INT c = let same : c.args.word.now ≡ codes "INT" = text_from_reads _ _ (omega arith) (search rules) in sym (ap plain_word same)
+
+pub returns-in-SET : goal.returns-in-SET
+returns-in-SET c = let same : c.args.word.now ≡ codes "SET" = text_from_reads _ _ (omega arith) (search rules) in sym (ap plain_word same)

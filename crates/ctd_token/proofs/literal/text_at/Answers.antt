@@ -1,4 +1,5 @@
 use Rattle.std.proofs.Common.{◌≡◌, ℕ, ◌+◌, ◌-◌, ◌≤◌, [], ◌∷◌, ◌++◌, List, Some, take, drop, length, ap, ◌∙◌, sym, subst, refl, arith, append-nil, length-drop}
+use Rattle.std.proofs.lemmas.Grind.{common_steps}
 use Rattle.std.specs.Option.{option_to_list, option_or}
 use Rattle.std.proofs.lemmas.List.{take_rest}
 use Rattle.std.specs.List.{prefix_len}
@@ -48,3 +49,15 @@ loop-at-preserved c =
     let taken : at + m - at ≡ m = omega arith in
     let items = c.in_ok-extend_from_slice.ensures.items ∙ ap (λ k. c.loop-at.values.items ++ take k (drop at bytes)) taken in
     plain_on bytes c.loop-at.values.items c.extend_from_slice.new.self.items c.loop-at.bad_octal at m c.loop-at.invariant (λ k. omega (arith, c.type_inv.bytes k)) long items
+
+pub returns-in-None-clause-token : goal.returns-in-None-clause-token
+returns-in-None-clause-token c = grind (arith, common_steps)
+
+pub returns-in-Some-clause-token : goal.returns-in-Some-clause-token
+returns-in-Some-clause-token c = grind (arith, common_steps)
+
+pub loop-at-smaller : goal.loop-at-smaller
+loop-at-smaller c = grind (arith, common_steps)
+
+pub returns-clause-token : goal.returns-clause-token
+returns-clause-token c = grind (arith, common_steps)

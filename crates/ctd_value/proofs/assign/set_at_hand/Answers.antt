@@ -7,3 +7,9 @@ returns-in-Some-clause-done c = grind (arith, common_steps)
 
 pub returns-in-Some-Some-clause-done : goal.returns-in-Some-Some-clause-done
 returns-in-Some-Some-clause-done c = grind (arith, common_steps)
+
+pub overflow_cast-row : goal.overflow_cast-row
+overflow_cast-row c = grind (arith, common_steps)
+
+pub overflow_cast-column : goal.overflow_cast-column
+overflow_cast-column c = grind (arith, common_steps)

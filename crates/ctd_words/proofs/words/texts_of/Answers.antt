@@ -1,4 +1,5 @@
-use Rattle.std.proofs.Common.{◌∙◌, ◌++◌, ◌∷◌, [], ap, ap₂, sym, subst, map, All, IsUtf8}
+use Rattle.std.proofs.Common.{◌∙◌, ◌++◌, ◌∷◌, [], ap, ap₂, sym, subst, map, All, IsUtf8, arith}
+use Rattle.std.proofs.lemmas.Grind.{common_steps}
 use Rattle.std.proofs.lemmas.List.{map-append, take_more, take_all}
 use Rattle.std.proofs.lemmas.List.Elements.{All-get_or, All-more}
 use Rattle.ctd_words.proofs.words.texts_of.Goals as goal
@@ -20,3 +21,6 @@ loop-word-preserved c =
 
 pub returns-clause-text : goal.returns-clause-text
 returns-clause-text c = subst (All IsUtf8) (take_all c.loop-word.word-index c.args.words.now c.loop-word-test.false) c.loop-word.invariant.utf8
+
+pub returns-clause-ok : goal.returns-clause-ok
+returns-clause-ok c = grind (arith, common_steps)

@@ -1,4 +1,5 @@
-use Rattle.std.proofs.Common.{refl, ap, sym, ◌∙◌, subst, List, length}
+use Rattle.std.proofs.Common.{refl, ap, sym, ◌∙◌, subst, List, length, arith}
+use Rattle.std.proofs.lemmas.Grind.{common_steps}
 use Rattle.ctd_check.specs.declared.frame.Frame.{Frame}
 use Rattle.ctd_check.specs.Pending.{to_do, Fits}
 use Rattle.ctd_check.proofs.Rounds.{turn_before_last, refilled}
@@ -13,3 +14,9 @@ pub returns-clause-to_do : goal.returns-clause-to_do
 returns-clause-to_do c lap at =
     ap to_do (refilled c.args.self.now.frames.items c.go_round_in.new.frames (c.go_round_in.ensures.len ∙ ap length c.as_mut_slice.ensures.value))
     ∙ c.go_round_in.ensures.to_do lap (record { below = at.below; frame = at.frame; is = c.as_mut_slice.ensures.value ∙ at.is; done = at.done; goes_round = at.goes_round })
+
+pub invariant_of-self : goal.invariant_of-self
+invariant_of-self c = grind (arith, common_steps)
+
+pub returns-clause-len : goal.returns-clause-len
+returns-clause-len c = grind (arith, common_steps)

@@ -1,4 +1,5 @@
-use Rattle.std.proofs.Common.{ap, sym, ◌∙◌}
+use Rattle.std.proofs.Common.{ap, sym, ◌∙◌, arith}
+use Rattle.std.proofs.lemmas.Grind.{common_steps}
 use Rattle.ctd_check.specs.Pending.{top_lap}
 use Rattle.ctd_check.proofs.Rounds.{top_seen, lap_room}
 use Rattle.ctd_check.proofs.agenda.Agenda.lap.Goals as goal
@@ -9,3 +10,6 @@ returns-in-Some-clause-value c = c.as_ref.ensures.value ∙ sym (top_seen c.as_s
 pub returns-in-Some-clause-room : goal.returns-in-Some-clause-room
 returns-in-Some-clause-room c =
     lap_room c.args.self.now.left c.args.self.now.frames.items c.as_ref.result (c.as_ref.ensures.value ∙ sym (top_seen c.as_slice.result.now c.in-Some.frame.now c.in-Some.ensures.value) ∙ ap top_lap c.as_slice.ensures.value) c.args.self.now.fits
+
+pub returns-in-None-clause-value : goal.returns-in-None-clause-value
+returns-in-None-clause-value c = grind (arith, common_steps)

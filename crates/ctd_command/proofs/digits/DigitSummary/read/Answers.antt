@@ -1,4 +1,5 @@
 use Rattle.std.proofs.Common.{sym, ◌∙◌, arith}
+use Rattle.std.proofs.lemmas.Grind.{common_steps}
 use Rattle.std.proofs.lemmas.List.Sums.{prefix_len-drop_yes}
 use Rattle.std.specs.Char.{is_ascii_digit}
 use Rattle.ctd_command.proofs.SummaryLemmas.{summary_step}
@@ -14,3 +15,6 @@ loop-byte-preserved c = record {
   );
   seen = λ digits seen. summary_step _ digits c.args.bytes.now c.loop-byte.byte-index c.loop-byte-test.true (c.push.ensures _ (c.loop-byte.invariant.seen digits seen));
 }
+
+pub returns-then-not-is_ascii_digit-clause-count : goal.returns-then-not-is_ascii_digit-clause-count
+returns-then-not-is_ascii_digit-clause-count c = grind (arith, common_steps)

@@ -23,3 +23,6 @@ returns-in-Err-clause-fault c =
 
 pub returns-then-first-self-clause-end : goal.returns-then-first-self-clause-end
 returns-then-first-self-clause-end c = grind (arith, common_steps)
+
+pub returns-in-Ok-clause-next : goal.returns-in-Ok-clause-next
+returns-in-Ok-clause-next c = grind (arith, common_steps)
