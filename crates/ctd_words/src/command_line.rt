@@ -58,8 +58,7 @@ fn command<'a>(alloc: Global) -> Result<Command<'a>, AllocError>
     ensures checker { IfOk result (λ c. app_of c ≡ checker) }
     ensures program { IfOk result RequiresProgram }
 {
-    let arguments = vec![
-        in alloc;
+    let arguments = vec![in alloc;
         flag(alloc, "generate", 'g'),
         define_option(alloc),
         flag(alloc, "quiet", 'q'),
@@ -68,7 +67,9 @@ fn command<'a>(alloc: Global) -> Result<Command<'a>, AllocError>
         program_name(alloc),
         Arg::new(alloc, "TESTDATA"),
     ]?;
-    Command::new(alloc, "checktestdata").version("1.0").args(arguments)
+    Command::new(alloc, "checktestdata")
+        .version("1.0")
+        .args(arguments)
 }
 
 /// What clap finds in the words, the program's own name first.
