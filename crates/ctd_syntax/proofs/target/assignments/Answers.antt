@@ -1,4 +1,5 @@
 use Rattle.std.proofs.Common.{◌≡◌, [], ◌∷◌, ◌++◌, ap, ◌∙◌, arith}
+use Rattle.std.proofs.lemmas.Grind.{common_steps}
 use Rattle.std.specs.Prelude.{map}
 use Rattle.ctd_syntax.specs.Front.{Always, IsBefore, IsAssignment, lexeme}
 use Rattle.ctd_syntax.specs.Grammar.{IsAssignments}
@@ -32,3 +33,6 @@ returns-in-Some-after_mark-clause-tree c = rw c.from_vec.ensures (lists_end assi
 
 pub returns-clause-tree : goal.returns-clause-tree
 returns-clause-tree c = lists_unclosed assignment_list (map lexeme c.args.tokens.now) (map lexeme c.loop-after.rest.now) _ c.loop-after.invariant.partly c.in_default.ensures.none c.in-None.ensures.none
+
+pub returns-in_err-next-clause-shorter : goal.returns-in_err-next-clause-shorter
+returns-in_err-next-clause-shorter c = grind (arith, common_steps)
