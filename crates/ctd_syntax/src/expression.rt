@@ -2,6 +2,7 @@
 //! A tree that is not wanted is given to `drop` explicitly: an implicit drop is unfolded variant by variant in the proof.
 
 ghost use Rattle.std.specs.Prelude.{◌≡◌, ◌≤◌, ◌<◌, true, length, map, IfOk, IfSome};
+ghost use Rattle.ctd_tree.specs.Tree;
 ghost use Rattle.ctd_tree.specs.View.{expr_tree, expr_list, exprs_of, var_tree};
 ghost use Rattle.ctd_syntax.specs.Grammar.{IsExpr, IsProduct, IsSigned, IsPower, IsExponent, IsAtom, IsExprs, IsTarget};
 ghost use Rattle.ctd_syntax.specs.Front.{FindsTree, Found, Always, IsBefore, StartsWith, lexeme};
@@ -12,7 +13,7 @@ use crate::front::{ParseError, after_mark, name_at};
 use crate::keyword::Keyword;
 use crate::parser_token::{ParserToken, string_of};
 use ctd_token::{Mark, Name};
-use ctd_tree::{Expr, Exprs, Numeral, Var};
+use ctd_tree::{Element, Expr, Exprs, Numeral, Var};
 use std::alloc::{AllocError, Global};
 
 // The operators that join two expressions.
@@ -104,8 +105,7 @@ fn single<'t>(
         }
         ParserToken::Name(name, number) => {
             let name = Name::numbered(alloc, name, *number)?;
-            let indices = Exprs::from_vec(Vec::new(alloc));
-            Ok(Some((Expr::Var(Var { name, indices }), rest)))
+            Ok(Some((Expr::Name(name), rest)))
         }
         _ => Ok(None),
     }
@@ -258,7 +258,7 @@ fn atom<'t>(
         }
         ParserToken::Name(_, _) => {
             let (var, rest) = variable(alloc, tokens)?;
-            Ok((Expr::Var(var), rest))
+            Ok((value_of(alloc, var)?, rest))
         }
         ParserToken::Keyword(keyword, _) => {
             if *keyword != Keyword::Strlen {
@@ -279,6 +279,18 @@ fn atom<'t>(
             parenthesized(alloc, rest)
         }
     }
+}
+
+// The value of a variable.
+fn value_of(alloc: Global, var: Var) -> Result<Expr, AllocError>
+    ensures { IfOk result (λ e. expr_tree e ≡ Tree.variable var.name (expr_list (exprs_of var.indices))) }
+{
+    let Var { name, indices } = var;
+    if indices.as_slice().is_empty() {
+        return Ok(Expr::Name(name));
+    }
+    let element = Box::new(alloc, Element { name, indices })?;
+    Ok(Expr::Element(element))
 }
 
 /// The variable at the front, and what follows it.

@@ -20,9 +20,9 @@ pub use ctd_token::{
     tokens, tokens_are_longest, tokens_are_unique,
 };
 pub use ctd_tree::{
-    Action, Assignment, Assignments, Choice, Command, Commands, Compare, Expr, Exprs, IntArguments,
-    Literal, Loop, LoopGuard, Names, Numeral, PatternLiteral, Preset, PresetFault, Presets,
-    Program, RegexArguments, Test, Var,
+    Action, Assignment, Assignments, Choice, Command, Commands, Compare, Element, Expr, Exprs,
+    IntArguments, Literal, Loop, LoopGuard, Names, Numeral, PatternLiteral, Preset, PresetFault,
+    Presets, Program, RegexArguments, Test, Var,
 };
 pub use grammar::parse;
 pub use keyword::Keyword;

@@ -5,7 +5,8 @@ use Rattle.ctd_tree.specs.Tree
 use Rattle.ctd_tree.specs.Tree.{ExprTree, ExprList, VarTree, TestTree, GuardTree, CommandTree, CommandList, Separator}
 use Rattle.ctd_token.specs.declared.text.Place.{Place}
 use Rattle.ctd_tree.specs.declared.tree.Expr.{Expr, Row_of-Expr, end_of-Expr, more_of-Expr}
-use Rattle.ctd_tree.specs.declared.tree.Expr.TheVariants.{Numeral, Text, Var', Strlen', Minus', Add', Sub', Mul', Div', Rem', Pow'}
+use Rattle.ctd_tree.specs.declared.tree.Expr.TheVariants.{Numeral, Text, Name, Element', Strlen', Minus', Add', Sub', Mul', Div', Rem', Pow'}
+use Rattle.ctd_tree.specs.declared.tree.Element.{Element}
 use Rattle.ctd_tree.specs.declared.tree.Var.{Var}
 use Rattle.ctd_tree.specs.declared.tree.Exprs.{Exprs}
 use Rattle.ctd_tree.specs.declared.tree.Names.{Names}
@@ -44,7 +45,8 @@ abbrev mutual
   pub expr_tree : Expr → ExprTree
   expr_tree (Numeral n) = Tree.numeral n
   expr_tree (Text t) = Tree.text t
-  expr_tree (Var' name shape row) = Tree.variable name (expr_row row)
+  expr_tree (Name name) = Tree.variable name Tree.none
+  expr_tree (Element' p name shape row) = Tree.variable name (expr_row row)
   expr_tree (Strlen' p e) = Tree.strlen (expr_tree e)
   expr_tree (Minus' p e) = Tree.minus (expr_tree e)
   expr_tree (Add' p a q b) = Tree.sum (expr_tree a) (expr_tree b)
@@ -54,7 +56,7 @@ abbrev mutual
   expr_tree (Rem' p a q b) = Tree.remainder (expr_tree a) (expr_tree b)
   expr_tree (Pow' p a q b) = Tree.power (expr_tree a) (expr_tree b)
 
-  -- the indices of a variable, as they lie in it
+  -- the indices of an element, as they lie in it
   pub expr_row : {m : _} → Row_of-Expr m → ExprList
   expr_row end_of-Expr = Tree.none
   expr_row (more_of-Expr e rest) = Tree.some (expr_tree e) (expr_row rest)
@@ -64,7 +66,11 @@ abbrev pub expr_list : List Expr → ExprList
 expr_list [] = Tree.none
 expr_list (e ∷ es) = Tree.some (expr_tree e) (expr_list es)
 
--- a variable
+-- an element of an array
+abbrev pub element_tree : Element → ExprTree
+element_tree x = Tree.variable x.name (expr_list (exprs_of x.indices))
+
+-- a variable that a command sets
 abbrev pub var_tree : Var → VarTree
 var_tree v = record { name = v.name; indices = expr_list (exprs_of v.indices) }
 

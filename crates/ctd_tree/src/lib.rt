@@ -13,6 +13,6 @@ pub use mode::Mode;
 pub use numeral::Numeral;
 pub use preset::{Literal, Preset, PresetFault, Presets};
 pub use tree::{
-    Action, Assignment, Assignments, Choice, Command, Commands, Compare, Expr, Exprs, IntArguments,
-    Loop, LoopGuard, Names, PatternLiteral, Program, RegexArguments, Test, Var,
+    Action, Assignment, Assignments, Choice, Command, Commands, Compare, Element, Expr, Exprs,
+    IntArguments, Loop, LoopGuard, Names, PatternLiteral, Program, RegexArguments, Test, Var,
 };

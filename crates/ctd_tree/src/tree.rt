@@ -12,12 +12,14 @@ use std::marker::Model;
 #[derive(Drop)]
 #[cycle(expr)]
 pub enum Expr {
+    /// The value of a variable without indices.
+    Name(Name),
     /// A number as written.
     Numeral(Numeral),
     /// A string as it stands for.
     Text(Bytes),
-    /// The value of a variable.
-    Var(Var),
+    /// The value of a variable at its indices.
+    Element(Box<Element>),
     /// `STRLEN(e)`: the length of a string in bytes.
     Strlen(Box<Expr>),
     /// `-e`
@@ -36,10 +38,10 @@ pub enum Expr {
     Pow(Box<Expr>, Box<Expr>),
 }
 
-/// A variable: a name with its indices, of which an unindexed variable has none.
+/// An element of an array: a name with its indices.
 #[derive(Drop)]
 #[cycle(expr)]
-pub struct Var {
+pub struct Element {
     pub name: Name,
     pub indices: Exprs,
 }
@@ -49,6 +51,13 @@ pub struct Var {
 #[cycle(expr)]
 pub struct Exprs {
     items: Vec<Expr>,
+}
+
+/// A variable that a command sets: a name with its indices, of which an unindexed variable has none.
+#[derive(Drop)]
+pub struct Var {
+    pub name: Name,
+    pub indices: Exprs,
 }
 
 /// The six comparisons.

@@ -52,13 +52,18 @@ fn write_operand(out: &mut Shown, depth: u16, sign: &str, operand: &Expr) {
     out.put(")");
 }
 
+// A variable that a command sets.
+fn write_var(out: &mut Shown, var: &Var) {
+    write_indexed(out, DEPTH, &var.name, var.indices.as_slice());
+}
+
+// A name with its indices, of which there may be none.
 #[cycle(expr_text)]
-fn write_var(out: &mut Shown, depth: u16, var: &Var) {
+fn write_indexed(out: &mut Shown, depth: u16, name: &Name, indices: &[Expr]) {
     let Some(depth) = depth.checked_sub(1) else {
         return out.put("...");
     };
-    out.put_bytes(var.name.as_slice());
-    let indices = var.indices.as_slice();
+    out.put_bytes(name.as_slice());
     let mut first = true;
     for index in indices {
         out.put(if first { "[" } else { "," });
@@ -78,7 +83,8 @@ fn write_expr(out: &mut Shown, depth: u16, e: &Expr) {
     match e {
         Expr::Numeral(n) => out.put_form(format_args!("{}", n.value())),
         Expr::Text(bytes) => write_text(out, bytes.as_slice()),
-        Expr::Var(var) => write_var(out, depth, var),
+        Expr::Name(name) => out.put_bytes(name.as_slice()),
+        Expr::Element(v) => write_indexed(out, depth, &v.name, v.indices.as_slice()),
         Expr::Strlen(operand) => write_operand(out, depth, "STRLEN(", operand),
         Expr::Minus(operand) => write_operand(out, depth, "(-", operand),
         Expr::Add(a, b) => write_pair(out, depth, a, "+", b),
@@ -149,7 +155,7 @@ fn write_test(out: &mut Shown, depth: u16, t: &Test) {
 fn write_target(out: &mut Shown, target: &Option<Var>) {
     if let Some(var) = target {
         out.put(",");
-        write_var(out, DEPTH, var);
+        write_var(out, var);
     }
     out.put(")");
 }
@@ -158,7 +164,7 @@ fn write_assignments(out: &mut Shown, list: &[Assignment]) {
     let mut before = "(";
     for one in list {
         out.put(before);
-        write_var(out, DEPTH, &one.target);
+        write_var(out, &one.target);
         out.put("=");
         write_expr(out, DEPTH, &one.value);
         before = ",";
@@ -184,7 +190,7 @@ fn write_commands(out: &mut Shown, depth: u16, list: &[Command]) {
 fn write_guard(out: &mut Shown, repeated: &Loop) {
     out.put("(");
     if let Some(var) = &repeated.counter {
-        write_var(out, DEPTH, var);
+        write_var(out, var);
         out.put(",");
     }
     match &repeated.guard {

@@ -18,7 +18,6 @@ use Rattle.std.proofs.lemmas.Int.{to_z-of_z}
 use Rattle.std.proofs.lemmas.List.{map-append}
 use Rattle.std.specs.Int.{w128}
 use Rattle.ctd_tree.specs.declared.tree.Var.{Var}
-use Rattle.ctd_tree.proofs.Trees.{variable_tree}
 use Rattle.ctd_syntax.proofs.expression.+expression.Goals as goal
 
 pub atom-returns-in_err-inner-in-Some-after_mark-clause-tree : goal.atom-returns-in_err-inner-in-Some-after_mark-clause-tree
@@ -35,11 +34,11 @@ atom-returns-in_ok-bytes-in-Text-clause-tree t c = rw c.in_ok-bytes-in-Text.ensu
 pub atom-returns-in_err-var-in-Name-clause-tree : goal.atom-returns-in_err-var-in-Name-clause-tree
 atom-returns-in_err-var-in-Name-clause-tree t c = refused_exit IsTarget IsAtom (ends 4) (ends 4) _ (map lexeme c.args.tokens.now) (map lexeme c.args.tokens.now) _ c.from_residual-in_err-var-in-Name.result c.from_residual-in_err-var-in-Name.ensures.1 (variable_none (map lexeme c.args.tokens.now) (map lexeme c.in-Some.rest.now) _ (ap (map lexeme) c.in-Some.ensures.cases.0 ∙ ap (λ x. lexeme x ∷ map lexeme c.in-Some.rest.now) c.in-Name.is)) c.in_err-var-in-Name.ensures.tree
 
-pub atom-returns-in_ok-var-in-Name-clause-tree : goal.atom-returns-in_ok-var-in-Name-clause-tree
-atom-returns-in_ok-var-in-Name-clause-tree t c =
+pub atom-returns-in_ok-value_of-in-Name-clause-tree : goal.atom-returns-in_ok-value_of-in-Name-clause-tree
+atom-returns-in_ok-value_of-in-Name-clause-tree t c =
     let v : Var = c.in_ok-var-in-Name.var in
     let found = variable_reads (map lexeme c.args.tokens.now) (map lexeme c.in-Some.rest.now) (map lexeme c.in_ok-var-in-Name.rest.now) _ (var_tree v) (ap (map lexeme) c.in-Some.ensures.cases.0 ∙ ap (λ x. lexeme x ∷ map lexeme c.in-Some.rest.now) c.in-Name.is) c.in_ok-var-in-Name.ensures.tree in
-    subst (λ x. Found IsAtom (ends 4) (map lexeme c.args.tokens.now) x (map lexeme c.in_ok-var-in-Name.rest.now)) (sym (variable_tree v)) found
+    subst (λ x. Found IsAtom (ends 4) (map lexeme c.args.tokens.now) x (map lexeme c.in_ok-var-in-Name.rest.now)) (sym c.in_ok-value_of-in-Name.ensures) found
 
 pub atom-returns-then-ne-clause-tree : goal.atom-returns-then-ne-clause-tree
 atom-returns-then-ne-clause-tree t c = no_atom (map lexeme c.args.tokens.now) (map lexeme c.in-Some.rest.now) (Lexeme.keyword c.in-Keyword.keyword _) (ap (map lexeme) c.in-Some.ensures.cases.0 ∙ ap (λ x. lexeme x ∷ map lexeme c.in-Some.rest.now) c.in-Keyword.is) (not_strlen_begins c.in-Keyword.keyword _ (search (rules, c.ne.ensures, c.if-ne.ensures)))

@@ -1,15 +1,12 @@
-use Rattle.std.proofs.Common.{◌≡◌, ◌∷◌, ap, sym, subst, ◌∙◌, rules}
+use Rattle.std.proofs.Common.{◌≡◌, ◌∷◌, ap, ◌∙◌, rules}
 use Rattle.std.proofs.lemmas.Int.{to_z-of_z}
 use Rattle.std.specs.Int.{w128}
 use Rattle.std.specs.Prelude.{map}
-use Rattle.ctd_syntax.specs.Front.{Found, lexeme}
-use Rattle.ctd_syntax.specs.Grammar.{IsProduct, IsTarget}
+use Rattle.ctd_syntax.specs.Front.{lexeme}
 use Rattle.ctd_syntax.specs.Levels.{ends}
 use Rattle.ctd_syntax.specs.Lexeme.{Lexeme}
 use Rattle.ctd_tree.specs.Tree
-use Rattle.ctd_tree.specs.View.{expr_list, exprs_of, var_tree}
-use Rattle.ctd_tree.specs.declared.tree.Var.{Var}
-use Rattle.ctd_tree.proofs.Trees.{variable_tree}
+use Rattle.ctd_tree.specs.Tree.{VarTree}
 use Rattle.ctd_syntax.proofs.Atoms.{numeral_reads, variable_plain, variable_reads}
 use Rattle.ctd_syntax.proofs.Singles.{atom_is_product, no_index}
 use Rattle.ctd_syntax.proofs.expression.single.Goals as goal
@@ -23,9 +20,7 @@ pub returns-in_ok-name-in-Name-clause-tree : goal.returns-in_ok-name-in-Name-cla
 returns-in_ok-name-in-Name-clause-tree c =
     let seen : map lexeme c.args.tokens.now ≡ Lexeme.name c.in-Name.name.now ∷ map lexeme c.in-Some.rest.now = ap (map lexeme) c.in-Some.ensures.cases.0 ∙ ap (λ x. lexeme x ∷ map lexeme c.in-Some.rest.now) c.in-Name.is in
     let ends_so : ends 2 (map lexeme c.in-Some.rest.now) = c.ends_product.ensures c.if-not-ends_product.false in
-    let v : Var = record { name = c.in_ok-name-in-Name.name; indices = c.from_vec-indices.result } in
-    let none : expr_list (exprs_of v.indices) ≡ Tree.none = ap expr_list (c.from_vec-indices.ensures ∙ c.new.ensures.items) in
-    let plain : Found IsTarget (ends 4) (map lexeme c.args.tokens.now) (var_tree v) (map lexeme c.in-Some.rest.now) =
-    rw (c.in_ok-name-in-Name.ensures.equal, none) (variable_plain (map lexeme c.args.tokens.now) (map lexeme c.in-Some.rest.now) c.in-Name.name.now seen (λ r e. no_index (map lexeme c.in-Some.rest.now) r ends_so e)) in
-    let atom = variable_reads (map lexeme c.args.tokens.now) (map lexeme c.in-Some.rest.now) (map lexeme c.in-Some.rest.now) _ (var_tree v) seen plain in
-    subst (λ x. Found IsProduct (ends 2) (map lexeme c.args.tokens.now) x (map lexeme c.in-Some.rest.now)) (sym (variable_tree v)) (atom_is_product (map lexeme c.args.tokens.now) (map lexeme c.in-Some.rest.now) _ (λ r e. cc) atom ends_so)
+    let v : VarTree = record { name = c.in-Name.name.now; indices = Tree.none } in
+    let plain = variable_plain (map lexeme c.args.tokens.now) (map lexeme c.in-Some.rest.now) c.in-Name.name.now seen (λ r e. no_index (map lexeme c.in-Some.rest.now) r ends_so e) in
+    let atom = variable_reads (map lexeme c.args.tokens.now) (map lexeme c.in-Some.rest.now) (map lexeme c.in-Some.rest.now) _ v seen plain in
+    rw c.in_ok-name-in-Name.ensures.equal (atom_is_product (map lexeme c.args.tokens.now) (map lexeme c.in-Some.rest.now) _ (λ r e. cc) atom ends_so)

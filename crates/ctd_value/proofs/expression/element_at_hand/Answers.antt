@@ -1,6 +1,6 @@
 use Rattle.std.proofs.Common.{rules}
 use Rattle.ctd_value.proofs.Small.{known_in, of_one, of_two, is_one, is_two, in_register}
-use Rattle.ctd_value.proofs.expression.indexed_at_hand.Goals as goal
+use Rattle.ctd_value.proofs.expression.element_at_hand.Goals as goal
 
 pub returns-in_ok-n-in-len1 : goal.returns-in_ok-n-in-len1
 returns-in_ok-n-in-len1 c = record {
