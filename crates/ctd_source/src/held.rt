@@ -1,20 +1,23 @@
 //! The bytes that a cursor holds.
 
-ghost use Rattle.std.specs.Prelude.{◌≡◌, ◌+◌, ◌^◌, ◌<◌, ◌≤◌, ◌⊎◌, [], ◌++◌, length, take, drop, slice_get, fold, IfOk};
+ghost use Rattle.std.specs.Prelude.{◌≡◌, ◌+◌, ◌^◌, ◌<◌, ◌≤◌, [], ◌++◌, length, take, drop, slice_get, fold, IfOk};
 ghost use Rattle.circular_buffer.specs.Buffer.{buffer};
 ghost use Rattle.ctd_source.specs.TestData.{spot_after};
-ghost use Rattle.ctd_source.specs.declared.limits.TheConstants.{WINDOW};
+ghost use Rattle.ctd_source.specs.declared.limits.TheConstants.{WINDOW, PULL, ROOM};
 
-use crate::limits::WINDOW;
+use crate::limits::{PULL, ROOM, WINDOW};
 use crate::piece::Piece;
 use crate::running_spot::RunningSpot;
 use circular_buffer::HeapCircularBuffer;
 use std::alloc::{AllocError, Global};
 use std::marker::Model;
 
-/// The bytes that are held. They are in a ring, until a window is lent: then they are gathered in one piece, and what comes after
-/// them goes there too, while there is room. Bytes that are passed are only counted: they leave the ring when more are added, and
-/// the piece when its room is used up.
+/// The bytes that are held. They are in a ring, or else all in one piece.
+///
+/// Bytes that come while none are held go to the front of the ring, so a caller that never asks for a window uses no more memory than one
+/// pull needs. Once bytes come behind others, which only a window asks for, all of them go to the piece. Bytes that were passed
+/// stay where they are and are only counted, until all were passed or the room of the piece is used up; then those that are held move to its
+/// front.
 #[derive(Drop)]
 pub struct Held {
     ring: HeapCircularBuffer<u8>,
@@ -23,15 +26,15 @@ pub struct Held {
 }
 
 impl Model for Held {
-    ghost use Rattle.std.specs.Prelude.{◌≡◌, ◌+◌, ◌*◌, ◌≤◌, ◌⊎◌, [], ◌++◌, length, drop};
-    ghost use Rattle.ctd_source.specs.declared.limits.TheConstants.{WINDOW};
+    ghost use Rattle.std.specs.Prelude.{◌≡◌, ◌+◌, ◌≤◌, ◌⊎◌, [], ◌++◌, length, drop};
+    ghost use Rattle.ctd_source.specs.declared.limits.TheConstants.{WINDOW, PULL, ROOM};
     ghost use Rattle.ctd_source.specs.Holding.{Holding};
 
     ghost Value = { Holding };
 
     ghost view = { λ h. record { items = drop h.passed (h.gathered ++ h.ring.items); to_gather = length h.ring.items } };
 
-    ghost invariant = { λ h. (h.passed ≤ length h.gathered + length h.ring.items) × (length h.gathered + length h.ring.items ≤ h.passed + WINDOW) × (length h.gathered ≤ 2 * WINDOW) × (length h.ring.items ≤ WINDOW) × (h.ring.capacity ≡ WINDOW) × ((h.gathered ≡ []) ⊎ (h.ring.items ≡ [])) };
+    ghost invariant = { λ h. (h.passed ≤ length h.gathered + length h.ring.items) × (length h.gathered + length h.ring.items ≤ h.passed + WINDOW) × (length h.gathered ≤ ROOM) × (length h.ring.items ≤ PULL) × (h.ring.capacity ≡ PULL) × ((h.gathered ≡ []) ⊎ (h.ring.items ≡ [])) };
 }
 
 /// The first bytes of a ring behind those that were passed, as many as lie in one piece: some, where there are any.
@@ -68,7 +71,7 @@ fn second_run_in(ring: &HeapCircularBuffer<u8>, passed: usize) -> &[u8]
 #[cold]
 #[inline(never)]
 fn gather_from(ring: &mut HeapCircularBuffer<u8>, gathered: &mut Piece)
-    requires fits { length ring.old.items ≤ WINDOW }
+    requires fits { length ring.old.items ≤ PULL }
     requires empty { gathered.old ≡ [] }
     ensures gathered { gathered.new ≡ ring.old.items }
     ensures ring { ring.new ≡ buffer [] ring.old.capacity }
@@ -79,30 +82,32 @@ fn gather_from(ring: &mut HeapCircularBuffer<u8>, gathered: &mut Piece)
     ring.clear();
 }
 
-/// Leaves out the bytes that were passed, and puts all others into the ring.
-fn scatter(ring: &mut HeapCircularBuffer<u8>, gathered: &mut Piece, passed: usize)
-    requires passed { passed ≤ length gathered.old + length ring.old.items }
-    requires fits { length gathered.old + length ring.old.items ≤ passed + ring.old.capacity }
-    requires one { (gathered.old ≡ []) ⊎ (ring.old.items ≡ []) }
-    ensures gathered { gathered.new ≡ [] }
-    ensures ring { ring.new ≡ buffer (drop passed (gathered.old ++ ring.old.items)) ring.old.capacity }
+/// Adds bytes to a piece of which the first `passed` were passed, and makes room for them where there is too little. Returns how many of
+/// the bytes in the piece are passed ones then.
+fn add_to_piece(piece: &mut Piece, passed: usize, bytes: &[u8]) -> usize
+    requires passed { passed ≤ length piece.old }
+    requires fits { length piece.old + length bytes.now ≤ passed + WINDOW }
+    ensures passed { result ≤ length piece.new }
+    ensures fits { length piece.new ≤ result + WINDOW }
+    ensures room { length piece.new ≤ ROOM }
+    ensures kept { drop result piece.new ≡ drop passed piece.old ++ bytes.now }
 {
-    match passed.checked_sub(gathered.len()) {
-        Some(passed) => ring.truncate_front(ring.len() - passed),
-        None => {
-            ring.fill_from_slice(&gathered.bytes()[passed..]);
-        }
+    let mut passed = passed;
+    if piece.len() + bytes.len() > ROOM {
+        piece.remove_front(passed);
+        passed = 0;
     }
-    gathered.clear();
+    piece.add(bytes);
+    passed
 }
 
 impl Held {
-    /// No bytes, and room for a window of them.
+    /// No bytes, and all the room that is ever needed.
     pub(crate) fn new(alloc: Global) -> Result<Self, AllocError>
         ensures { IfOk result (λ held. held.items ≡ []) }
     {
         Ok(Held {
-            ring: HeapCircularBuffer::with_capacity(alloc, WINDOW)?,
+            ring: HeapCircularBuffer::with_capacity(alloc, PULL)?,
             gathered: Piece::new(alloc)?,
             passed: 0,
         })
@@ -170,18 +175,20 @@ impl Held {
         }
     }
 
-    /// Adds bytes behind them.
+    /// Adds the bytes of one pull behind them.
     pub(crate) fn add(&mut self, bytes: &[u8])
-        requires { length self.old.items + length bytes.now ≤ WINDOW }
+        requires pulled { length bytes.now ≤ PULL }
+        requires fits { length self.old.items + length bytes.now ≤ WINDOW }
         ensures { self.new.items ≡ self.old.items ++ bytes.now }
     {
-        let end = self.gathered.len();
-        if self.passed < end && end + bytes.len() <= 2 * WINDOW {
-            self.gathered.add(bytes);
-        } else {
-            scatter(&mut self.ring, &mut self.gathered, self.passed);
+        if self.len() == 0 {
+            self.ring.clear();
+            self.gathered.clear();
             self.passed = 0;
             self.ring.fill_from_slice(bytes);
+        } else {
+            self.gather();
+            self.passed = add_to_piece(&mut self.gathered, self.passed, bytes);
         }
     }
 

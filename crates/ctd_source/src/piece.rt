@@ -1,27 +1,26 @@
 //! Bytes in one piece.
-ghost use Rattle.std.specs.Prelude.{◌≡◌, ◌+◌, ◌*◌, ◌≤◌, [], ◌++◌, length, vec_len, vec_capacity, IfOk};
-ghost use Rattle.ctd_source.specs.declared.limits.TheConstants.{WINDOW};
+ghost use Rattle.std.specs.Prelude.{◌≡◌, ◌+◌, ◌≤◌, [], ◌++◌, length, drop, vec_len, vec_capacity, IfOk};
+ghost use Rattle.ctd_source.specs.declared.limits.TheConstants.{ROOM};
 
-use crate::limits::WINDOW;
+use crate::limits::ROOM;
 use std::alloc::{AllocError, Global};
 use std::marker::Model;
 
-/// Bytes in one piece, with room for two windows, so that what was passed has to be left out once a window at most. What it never needs of
-/// its room is never touched.
+/// Bytes in one piece, with room for `ROOM` of them. Room that was never needed is never touched.
 #[derive(Drop)]
 pub struct Piece {
     room: Vec<u8>,
 }
 
 impl Model for Piece {
-    ghost use Rattle.std.specs.Prelude.{◌*◌, ◌≤◌, ℕ, List, vec_len, vec_capacity};
-    ghost use Rattle.ctd_source.specs.declared.limits.TheConstants.{WINDOW};
+    ghost use Rattle.std.specs.Prelude.{◌≤◌, ℕ, List, vec_len, vec_capacity};
+    ghost use Rattle.ctd_source.specs.declared.limits.TheConstants.{ROOM};
 
     ghost Value = { List ℕ };
 
     ghost view = { λ p. p.room.items };
 
-    ghost invariant = { λ p. (vec_len p.room ≤ 2 * WINDOW) × (2 * WINDOW ≤ vec_capacity p.room) };
+    ghost invariant = { λ p. (vec_len p.room ≤ ROOM) × (ROOM ≤ vec_capacity p.room) };
 }
 
 impl Piece {
@@ -30,7 +29,7 @@ impl Piece {
         ensures { IfOk result (λ piece. piece ≡ []) }
     {
         Ok(Piece {
-            room: Vec::with_capacity(alloc, 2 * WINDOW)?,
+            room: Vec::with_capacity(alloc, ROOM)?,
         })
     }
 
@@ -38,7 +37,7 @@ impl Piece {
     #[inline(always)]
     pub(crate) fn len(&self) -> usize
         ensures len { result ≡ length self.now }
-        ensures within { result ≤ 2 * WINDOW }
+        ensures within { result ≤ ROOM }
     {
         self.room.len()
     }
@@ -54,12 +53,23 @@ impl Piece {
     /// Adds bytes behind them.
     #[inline(always)]
     pub(crate) fn add(&mut self, bytes: &[u8])
-        requires { length self.old + length bytes.now ≤ 2 * WINDOW }
+        requires { length self.old + length bytes.now ≤ ROOM }
         ensures { self.new ≡ self.old ++ bytes.now }
     {
         if self.room.extend_from_slice(bytes).is_err() {
             unreachable!();
         }
+    }
+
+    /// Removes the first `n`, and moves the others to the front of the room.
+    #[cold]
+    #[inline(never)]
+    pub(crate) fn remove_front(&mut self, n: usize)
+        requires { n ≤ length self.old }
+        ensures { self.new ≡ drop n self.old }
+    {
+        self.room.copy_within(n.., 0);
+        self.room.truncate(self.room.len() - n);
     }
 
     /// Leaves all of them out.
