@@ -1,4 +1,5 @@
 use Rattle.std.proofs.Common.{rules}
+use Rattle.ctd_source.specs.ReadingOn.{GivesByte-Peeks}
 use Rattle.ctd_source.proofs.next.CursorNext.next_byte.Goals as goal
 
 pub returns-clause-answer : goal.returns-clause-answer
@@ -17,4 +18,4 @@ pub returns-clause-failed : goal.returns-clause-failed
 returns-clause-failed g c = search rules
 
 pub returns-clause-reads : goal.returns-clause-reads
-returns-clause-reads g c = search rules
+returns-clause-reads g c = GivesByte-Peeks _ _ _ c.look.ensures
