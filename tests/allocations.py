@@ -1,8 +1,9 @@
 #!/usr/bin/env python3
 """Runs the built checker again and again, with one allocation failing after the other, and then with all from it on.
 
-Each run has to end as if none had failed, or with `out of memory` on standard error, nothing on standard output and status 2. The last line
-counts the command lines of which each run did so, as passed, and the others. usage: tests/allocations.py [PROGRAM]"""
+With none failing, each command line has to end as it stands here. Each other run has to end so too, or with `out of memory` on standard error,
+nothing on standard output and status 2. The last line counts the command lines of which each run did so, as passed, and the others.
+usage: tests/allocations.py [PROGRAM]"""
 import os
 import subprocess
 import sys
@@ -12,7 +13,22 @@ from pathlib import Path
 
 HERE = Path(__file__).resolve().parent
 TOP = HERE.parent
+
+# A status, and what stands on standard output and on standard error.
+Left = tuple[int, bytes, bytes]
 OUT_OF_MEMORY = (2, b"", b"checktestdata: out of memory\n")
+FITS = (0, b"testdata ok!\n", b"")
+HELP = b"""\
+Usage: checktestdata [OPTION]... PROGRAM [TESTDATA]
+Check TESTDATA (or standard input) against PROGRAM.
+  -g, --generate                     not supported
+  -D, --define=<name>=<value>[,...]  preset variables
+  -q, --quiet                        write nothing to standard output
+  -w, --whitespace-ok                accept changes of whitespace
+      --max-steps=N                  stop after N steps
+      --help                         show this text
+      --version                      show the version
+"""
 
 # What asks for memory: variables of every shape, matches that are kept, large numbers, tests over arrays, and loops.
 PROGRAM = rb"""
@@ -45,10 +61,23 @@ LONG_LINE = b'REGEX("([a-z]+ )*",line) REGEX("[0-9]",digit) NEWLINE'
 
 @dataclass(frozen=True)
 class Run:
-    """What a run left: its status and both streams; and how often it asked for memory."""
+    """What a run left, and how often it asked for memory."""
 
-    answer: tuple[int, bytes, bytes]
+    answer: Left
     asked: int
+
+
+@dataclass(frozen=True)
+class CommandLine:
+    """Words, and what the checker has to leave where no allocation fails."""
+
+    words: list[str]
+    answer: Left
+
+
+def refused(text: str) -> Left:
+    """What is left where there is no verdict."""
+    return 2, b"", f"checktestdata: {text}\n".encode()
 
 
 class Checker:
@@ -72,21 +101,21 @@ class Checker:
         asked = int(self.told.read_text()) if self.told.exists() else 0
         return Run((ended.returncode, ended.stdout, ended.stderr), asked)
 
-    def faults(self, words: list[str]) -> list[str]:
-        """What the runs of these words did that they should not."""
-        wanted = self.run(words, 0, False)
-        faults = []
+    def faults(self, line: CommandLine) -> list[str]:
+        """What the runs of a command line did that they should not."""
+        whole = self.run(line.words, 0, False)
+        faults = [] if whole.answer == line.answer else [f"with ample memory: {whole.answer}"]
         ran_out = 0
         for goes_on in (False, True):
-            for first in range(1, wanted.asked + 1):
-                answer = self.run(words, first, goes_on).answer
+            for first in range(1, whole.asked + 1):
+                answer = self.run(line.words, first, goes_on).answer
                 ran_out += answer == OUT_OF_MEMORY
-                if answer not in (wanted.answer, OUT_OF_MEMORY):
+                if answer not in (line.answer, OUT_OF_MEMORY):
                     faults.append(f"allocation {first}{' and all after it' if goes_on else ''}: {answer}")
-        return faults if ran_out else [*faults, f"never out of memory, though asked for {wanted.asked} times"]
+        return faults if ran_out else [*faults, f"never out of memory, though asked for {whole.asked} times"]
 
 
-def command_lines(folder: Path) -> dict[str, list[str]]:
+def command_lines(folder: Path) -> dict[str, CommandLine]:
     """Command lines by what they do."""
     files = {
         "p.ctd": PROGRAM,
@@ -106,22 +135,28 @@ def command_lines(folder: Path) -> dict[str, list[str]]:
     for name, content in files.items():
         (folder / name).write_bytes(content)
     paths = {name: str(folder / name) for name in files}
+    none = {name: str(folder / name) for name in ["none.ctd", "none.in"]}
+    presets = ["-q", "-D", 'n=3,k="another",u=-7', paths["p.ctd"], paths["right.in"]]
     return {
-        "data that fit": [paths["p.ctd"], paths["right.in"]],
-        "data that do not fit": [paths["p.ctd"], paths["wrong.in"]],
-        "data that fit but for blanks": ["-w", paths["p.ctd"], paths["blanks.in"]],
-        "presets, quietly": ["-q", "-D", 'n=3,k="another",u=-7', paths["p.ctd"], paths["right.in"]],
-        "a grid that becomes a map": [paths["grid.ctd"], paths["grid.in"]],
-        "a long match that is kept": [paths["long.ctd"], paths["long.in"]],
-        "long names, one of them preset": ["-D", "longestname=3", paths["names.ctd"], paths["names.in"]],
-        "a program that breaks off": [paths["open.ctd"], paths["right.in"]],
-        "a program that nests too deeply": [paths["deep.ctd"], paths["right.in"]],
-        "a bad pattern": [paths["bad.ctd"], paths["right.in"]],
-        "a program that is not there": [str(folder / "none.ctd"), paths["right.in"]],
-        "data that are not there": [paths["p.ctd"], str(folder / "none.in")],
-        "a bad preset": ["-D", "n", paths["p.ctd"], paths["right.in"]],
-        "help": ["--help"],
-        "an option that is not known": ["--lines"],
+        "data that fit": CommandLine([paths["p.ctd"], paths["right.in"]], FITS),
+        "data that do not fit": CommandLine(
+            [paths["p.ctd"], paths["wrong.in"]], (1, b"line 7 column 1: integer with minus zero (program line 12 column 3)\n", b"")
+        ),
+        "data that fit but for blanks": CommandLine(["-w", paths["p.ctd"], paths["blanks.in"]], FITS),
+        "presets, quietly": CommandLine(presets, (0, b"", b"")),
+        "a grid that becomes a map": CommandLine([paths["grid.ctd"], paths["grid.in"]], FITS),
+        "a long match that is kept": CommandLine([paths["long.ctd"], paths["long.in"]], FITS),
+        "long names, one of them preset": CommandLine(["-D", "longestname=3", paths["names.ctd"], paths["names.in"]], FITS),
+        "a program that breaks off": CommandLine([paths["open.ctd"], paths["right.in"]], refused("program line 1 column 9: syntax error")),
+        "a program that nests too deeply": CommandLine(
+            [paths["deep.ctd"], paths["right.in"]], refused("program line 1 column 207: nested too deeply")
+        ),
+        "a bad pattern": CommandLine([paths["bad.ctd"], paths["right.in"]], refused("program line 1 column 7: bad pattern")),
+        "a program that is not there": CommandLine([none["none.ctd"], paths["right.in"]], refused(f"cannot open {none['none.ctd']}")),
+        "data that are not there": CommandLine([paths["p.ctd"], none["none.in"]], refused(f"cannot open {none['none.in']}")),
+        "a bad preset": CommandLine(["-D", "n", paths["p.ctd"], paths["right.in"]], refused("bad preset")),
+        "help": CommandLine(["--help"], (0, HELP, b"")),
+        "an option that is not known": CommandLine(["--lines"], refused("bad arguments\nTry 'checktestdata --help'.")),
     }
 
 
@@ -133,8 +168,8 @@ def main() -> int:
         folder = Path(name)
         checker = Checker(program, folder)
         lines = command_lines(folder)
-        for what, words in lines.items():
-            faults = checker.faults(words)
+        for what, line in lines.items():
+            faults = checker.faults(line)
             failed += bool(faults)
             for fault in faults:
                 print(f"allocations: {what}: {fault}")

@@ -33,6 +33,8 @@ with_no_input() { "$checker" "$@" <&-; }
 with_closed_output() { "$checker" "$@" >&-; }
 with_full_output() { "$checker" "$@" >/dev/full; }
 with_full_error() { "$checker" "$@" 2>/dev/full; }
+# A standard input that gives these bytes and then stays open; a run that waits for its end is stopped.
+with_open_input() { printf '%b' "$1" >&9; timeout 60 "$checker" "${@:2}" <&9; }
 a_byte_at_a_time() { local bytes=$1; shift; { for ((i = 0; i < ${#bytes}; i++)); do printf '%s' "${bytes:i:1}"; sleep 0.01; done; } | "$checker" "$@"; }
 
 mkdir "$work/files" "$work/files/folder"
@@ -47,6 +49,14 @@ printf 'ASSERT(n==5 && m==-3)' >"$work/files/pair.ctd"
 : >"$work/files/empty"
 printf 'testdata' >"$work/files/a name with blanks.in"
 head -c 1048577 /dev/zero | tr '\0' ' ' >"$work/files/long.ctd"
+printf 'SPACE' >"$work/files/ p.ctd"
+printf 'STRING("x")' >"$work/files/p.ctd "
+printf 'STRING("y")' >"$work/files/ü p"$'\n'".ctd"
+long_name=$(printf '%250s' '' | tr ' ' n)
+printf 'STRING("z")' >"$work/files/$long_name"
+too_long_name=$(printf '%5000s' '' | tr ' ' n)
+mkfifo "$work/open"
+exec 9<>"$work/open"
 
 ok='testdata ok!\n'
 newline='line 1 column 2: expected a newline (program line 1 column 11)\n'
@@ -88,6 +98,35 @@ expect 'a word that is not UTF-8' 2 '' "$words" "$checker" p.ctd $'\xff'
 expect 'only a word that is not UTF-8' 2 '' "$words" "$checker" $'\xff'
 expect 'a preset that is not UTF-8' 2 '' "$words" "$checker" $'-Ds="\xff"' p.ctd
 expect 'an option without its value' 2 '' "$words" "$checker" p.ctd -D
+
+
+# Words that are empty, that are many, and that begin or end with blanks.
+bad_first_string='line 1 column 1: string does not match (program line 1 column 1)\n'
+expect 'an empty word for the program' 2 '' 'checktestdata: cannot open \n' "$checker" '' right.in
+expect 'an empty word for the data' 2 '' 'checktestdata: cannot open \n' "$checker" p.ctd ''
+expect 'an empty word for each' 2 '' 'checktestdata: cannot open \n' "$checker" '' ''
+expect 'an empty word alone' 2 '' 'checktestdata: cannot open \n' with_input '5\n' ''
+expect 'an empty word behind the data' 2 '' "$words" "$checker" p.ctd right.in ''
+expect 'an empty preset' 2 '' 'checktestdata: bad preset\n' "$checker" -D '' p.ctd right.in
+expect 'an empty step limit' 2 '' 'checktestdata: bad step limit\n' "$checker" --max-steps '' p.ctd right.in
+expect 'nine words that fit' 0 '' '' with_input '' -w -q --max-steps 3 -D most=5 -- bounded.ctd right.in
+expect 'nine words that do not fit' 1 '' '' with_input '5\n' -w -q --max-steps 3 -D most=5 -- bounded.ctd short.in
+expect 'ten words' 2 '' "$words" "$checker" -w -q --max-steps 3 -D most=5 -- bounded.ctd right.in more
+expect 'ten files' 2 '' "$words" "$checker" p.ctd right.in c d e f g h i j
+expect 'a name that begins with a blank' 1 'line 1 column 1: expected a space (program line 1 column 1)\n' '' "$checker" ' p.ctd' right.in
+expect 'a name that ends with a blank' 1 "$bad_first_string" '' "$checker" 'p.ctd ' right.in
+expect 'names of data with such blanks' 1 'line 1 column 1: expected an integer (program line 1 column 1)\n' '' "$checker" p.ctd ' p.ctd'
+expect 'names of data with blanks that are not there' 2 '' 'checktestdata: cannot open right.in \n' "$checker" p.ctd 'right.in '
+expect 'a name with a line feed and a letter of two bytes' 1 "$bad_first_string" '' "$checker" 'ü p'$'\n''.ctd' right.in
+expect 'such a name that is not there' 2 '' 'checktestdata: cannot open ü q\n.ctd\n' "$checker" 'ü q'$'\n''.ctd' right.in
+expect 'a name of 250 bytes' 1 "$bad_first_string" '' "$checker" "$long_name" right.in
+expect 'data with a name of 250 bytes' 1 'line 1 column 1: expected an integer (program line 1 column 1)\n' '' "$checker" p.ctd "$long_name"
+expect 'a name of 250 bytes that is not there' 2 '' "checktestdata: cannot open m${long_name:1}\n" "$checker" "m${long_name:1}" right.in
+expect 'a name that is longer than any file has' 2 '' "checktestdata: cannot open $too_long_name\n" "$checker" p.ctd "$too_long_name"
+# A verdict waits for no byte that it does not need.
+expect 'a first byte that is rejected, and no end' 1 'line 1 column 1: expected an integer (program line 1 column 1)\n' '' with_open_input x p.ctd
+expect 'a line that is rejected, and no end' 1 'line 1 column 2: expected a newline (program line 1 column 11)\n' '' with_open_input '5 ' p.ctd
+expect 'a program that is refused, and no end' 2 '' 'checktestdata: program line 1 column 9: syntax error\n' with_open_input '' open.ctd
 
 help='Usage: checktestdata [OPTION]... PROGRAM [TESTDATA]
 Check TESTDATA (or standard input) against PROGRAM.

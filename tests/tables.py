@@ -3,12 +3,14 @@
 
 A table says what all of its rows share, and its columns what each row gives:
 
-    program, data   the bytes of both files: a character stands for the byte of its number, and `{3 ab}` for `ababab`
-    words           further words of the command line, as ["-w"]
+    program, data   the bytes of both files: a character stands for the byte of its number, `{3 ab}` for `ababab`, and each `@` in such a text for
+                    the number of its turn, so `{3 n@,}` for `n0,n1,n2,`
+    words           further words of the command line, as ["-w"], with the same `{3 ab}`
     answer          the line that is written: to standard error, with status 2, where it begins with `checktestdata: `; else to standard
                     output, with status 0 where it is `testdata ok!` and 1 where it is another
     steps           how many steps that takes: with a limit of one step less the run stops at it
-    reads           sizes of pieces: the data come by standard input too, in pieces of each of these sizes, each after the last was read
+    reads           sizes of pieces: the data come by standard input too, in pieces of each of these sizes, each after the last was read; with the
+                    same limits of steps
     fails           whether the data come by standard input alone, and a read fails behind them; the reads behind that find the end
     wrong           a mark that fits nowhere in the program, of which single blanks part the tokens: cut before a token, or with that mark
                     or the word FOO in its place and nothing behind it, it is a syntax error there; each of these counts as a row
@@ -24,9 +26,10 @@ import tempfile
 import termios
 import threading
 import tomllib
-from collections.abc import Iterator, Sequence
+from collections.abc import Callable, Iterator, Sequence
 from contextlib import contextmanager
 from dataclasses import dataclass
+from functools import partial
 from pathlib import Path
 
 HERE = Path(__file__).resolve().parent
@@ -34,6 +37,8 @@ TOP = HERE.parent
 STEP_LIMIT = re.compile(rb"checktestdata: line \d+ column \d+: step limit reached \(program [a-z0-9 ]+\)\n")
 FOLDED = re.compile(r"\{(\d+) ([^{}]*)\}")
 OUT_OF_TIME = 60
+# What a pipe is made to hold, so that a piece of up to this size is one write.
+PIPE_SIZE = 1 << 20
 
 # A status, and what stands on standard output and on standard error.
 Left = tuple[int, bytes, bytes]
@@ -56,6 +61,18 @@ class Row:
         if line.startswith(b"checktestdata: "):
             return 2, b"", line
         return int(line != b"testdata ok!\n"), line, b""
+
+    def faults(self, run: Callable[[list[str]], Left], how: str) -> Iterator[tuple[str, Left]]:
+        """What runs left that they should not, each with how it was run: one with the row's steps, and one with a step less."""
+        words = [unfolded(word) for word in self.words]
+        limits = [] if self.steps is None else [f"--max-steps={self.steps}"]
+        found = run([*words, *limits])
+        if found != self.wanted():
+            yield " ".join([how, *limits]), found
+        if self.steps:
+            status, out, err = run([*words, f"--max-steps={self.steps - 1}"])
+            if (status, out) != (2, b"") or not STEP_LIMIT.fullmatch(err):
+                yield f"{how}, with a limit of {self.steps - 1} steps", (status, out, err)
 
 
 def rows_of(file: Path) -> Iterator[tuple[str, Row]]:
@@ -84,9 +101,19 @@ def cut(program: str, wrong: str) -> Iterator[Row]:
             yield Row(f"{front} {token}", answer.format(len(front) + 2))
 
 
+def unfolded(text: str) -> str:
+    """A text in which `{3 ab}` stands for `ababab`, and `{3 n@,}` for `n0,n1,n2,`."""
+
+    def repeated(found: re.Match[str]) -> str:
+        times, part = int(found[1]), found[2]
+        return "".join(part.replace("@", str(turn)) for turn in range(times)) if "@" in part else times * part
+
+    return FOLDED.sub(repeated, text)
+
+
 def bytes_of(text: str) -> bytes:
     """The bytes that the text of a file stands for."""
-    return FOLDED.sub(lambda found: int(found[1]) * found[2], text).encode("latin-1")
+    return unfolded(text).encode("latin-1")
 
 
 def is_held(end: int) -> bool:
@@ -98,6 +125,17 @@ def wait_until_read(process: subprocess.Popen[bytes], end: int) -> None:
     """Waits until a process has read all that its standard input holds, or has ended."""
     while is_held(end) and process.poll() is None:
         os.sched_yield()
+
+
+def send_to(process: subprocess.Popen[bytes], end: socket.socket, data: bytes) -> None:
+    """Sends all data, or as much as a process reads before it ends."""
+    end.setblocking(False)
+    rest = memoryview(data)
+    while rest and process.poll() is None:
+        try:
+            rest = rest[end.send(rest) :]
+        except BlockingIOError:
+            os.sched_yield()
 
 
 def left_by(process: subprocess.Popen[bytes]) -> Left:
@@ -133,6 +171,7 @@ class Checker:
     def run_on_pieces(self, words: list[str], data: bytes, size: int) -> Left:
         """What a run on the program leaves that gets the data by standard input, each piece once the last was read."""
         read_end, write_end = os.pipe()
+        fcntl.fcntl(write_end, fcntl.F_SETPIPE_SZ, PIPE_SIZE)
         with self.started([*words, self.program], read_end) as process:
             for start in range(0, len(data), size):
                 # a run that has ended reads no more
@@ -151,32 +190,19 @@ class Checker:
         with ours, theirs, self.started([*words, self.program], theirs) as process:
             # the end that is closed before it has read all makes the other's read fail
             theirs.send(b"unread")
-            ours.sendall(data)
+            send_to(process, ours, data)
             wait_until_read(process, theirs.fileno())
             ours.close()
             return left_by(process)
 
     def faults(self, row: Row) -> Iterator[tuple[str, Left]]:
         """What the runs of a row left that they should not, each with how it was run."""
-        data, wanted = bytes_of(row.data), row.wanted()
+        data = bytes_of(row.data)
         self.program.write_bytes(bytes_of(row.program))
         self.data.write_bytes(data)
-
-        def run(words: list[str]) -> Left:
-            return self.run_on_failing(words, data) if row.fails else self.run(words)
-
-        limits = [] if row.steps is None else [f"--max-steps={row.steps}"]
-        found = run([*row.words, *limits])
-        if found != wanted:
-            yield " ".join(["as it stands", *limits]), found
-        if row.steps:
-            status, out, err = run([*row.words, f"--max-steps={row.steps - 1}"])
-            if (status, out) != (2, b"") or not STEP_LIMIT.fullmatch(err):
-                yield f"with a limit of {row.steps - 1} steps", (status, out, err)
+        yield from row.faults(partial(self.run_on_failing, data=data) if row.fails else self.run, "as it stands")
         for size in row.reads:
-            found = self.run_on_pieces([*row.words], data, size)
-            if found != wanted:
-                yield f"in pieces of {size} bytes", found
+            yield from row.faults(partial(self.run_on_pieces, data=data, size=size), f"in pieces of {size} bytes")
 
 
 def main() -> int:

@@ -2,6 +2,7 @@
 //! `tests/process.sh` and in the tables of `tests/tables/` at the top of the repository.
 
 mod checks;
+mod limits;
 mod memory;
 mod pattern_lengths;
 mod processes;
@@ -10,6 +11,7 @@ mod readers;
 mod reports;
 mod runs;
 mod words;
+mod writers;
 
 use std::fmt::Debug;
 use std::process::Abort;

@@ -5,6 +5,7 @@ mod calls;
 mod cursors;
 mod memory;
 mod order;
+mod starts;
 
 use ctd_source::LookFault;
 use ctd_syntax::{Bytes, Name, Presets};

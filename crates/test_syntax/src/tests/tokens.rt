@@ -66,6 +66,9 @@ a{1048574 0}z => Name 0-1048576 1:1
 #{1048576 $} => program too long
 # Faults of tokens; the table of the built checker has more of them.
 "a\377\777\400" => program line 1 column 7: octal escape above 255
+STRING("\400 => program line 1 column 8: unfinished string
+a &b => program line 1 column 3: unexpected byte
+1END => program line 1 column 1: not in this profile
 INT(0,1.5) => program line 1 column 7: not in this profile
 A FLOATP => program line 1 column 3: not in this profile
 INT(-170141183460469231731687303715884105728,0) => program line 1 column 6: number too large

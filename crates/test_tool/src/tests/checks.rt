@@ -10,17 +10,17 @@ use std::test::Fail;
 
 /// The mode and the limits of a check, and how its data are held.
 #[derive(Clone, Copy)]
-struct Terms {
-    mode: Mode,
-    steps: u64,
-    bytes: u32,
+pub(super) struct Terms {
+    pub(super) mode: Mode,
+    pub(super) steps: u64,
+    pub(super) bytes: u32,
     /// How many bytes of the data a read gives at most.
-    most: usize,
-    behind: Behind,
+    pub(super) most: usize,
+    pub(super) behind: Behind,
 }
 
 /// The terms that ask for nothing.
-const PLAIN: Terms = Terms {
+pub(super) const PLAIN: Terms = Terms {
     mode: Mode::Exact,
     steps: u64::MAX,
     bytes: u32::MAX,
@@ -48,7 +48,7 @@ const ENDLESS: Terms = Terms {
 };
 
 /// The plan of a text.
-fn plan_of(alloc: Global, program: &str) -> Result<Plan, Fail> {
+pub(super) fn plan_of(alloc: Global, program: &str) -> Result<Plan, Fail> {
     let plan = Plan::load(alloc, &mut FromRead::new(program.as_bytes()));
     Ok(plan.ok().ok_or("the program is refused")?)
 }
@@ -74,7 +74,7 @@ fn checked_by(
 }
 
 /// What a check of data by a program finds.
-fn checked(alloc: Global, terms: &Terms, program: &str, data: &[u8]) -> Result<Checked, Fail> {
+pub(super) fn checked(alloc: Global, terms: &Terms, program: &str, data: &[u8]) -> Result<Checked, Fail> {
     let plan = plan_of(alloc, program)?;
     Ok(checked_by(alloc, terms, &plan, data)?)
 }
@@ -102,7 +102,7 @@ fn told(alloc: Global, outcome: Outcome) -> Result<String, AllocError> {
 
 /// The terms of a check, its program and data, its answer as text, the steps paid and the bytes consumed; and the bytes taken and what was
 /// seen of the data's end, where a definition says that.
-type Row = (
+pub(super) type Row = (
     Terms,
     &'static str,
     &'static str,
@@ -111,7 +111,7 @@ type Row = (
     Option<(u64, Seen)>,
 );
 
-const LINE_OF_ONE: &str = "INT(1,10) NEWLINE";
+pub(super) const LINE_OF_ONE: &str = "INT(1,10) NEWLINE";
 
 const ROWS: [Row; 17] = [
     (
@@ -263,20 +263,25 @@ const ROWS: [Row; 17] = [
     ),
 ];
 
-#[test]
-fn checks_end_as_the_rows_say(rt: HostRuntime) -> Result<(), Fail> {
-    for (terms, program, data, answer, paid, seen) in &ROWS {
-        let found = checked(rt.alloc(), terms, program, data.as_bytes())?;
-        let told = told(rt.alloc(), found.outcome)?;
+/// Judges that checks end as their rows say.
+pub(super) fn judge_rows(rt: &impl Abort, alloc: Global, rows: &[Row]) -> Result<(), Fail> {
+    for (terms, program, data, answer, paid, seen) in rows {
+        let found = checked(alloc, terms, program, data.as_bytes())?;
+        let told = told(alloc, found.outcome)?;
         let read = (found.taken, found.seen);
         same(
-            &rt,
+            rt,
             &(told.as_str(), (found.steps, found.consumed), read),
             &(*answer, *paid, seen.unwrap_or(read)),
             &(program, data, terms.bytes),
         );
     }
     Ok(())
+}
+
+#[test]
+fn checks_end_as_the_rows_say(rt: HostRuntime) -> Result<(), Fail> {
+    judge_rows(&rt, rt.alloc(), &ROWS)
 }
 
 #[test]
@@ -295,10 +300,10 @@ fn data_are_read_no_further_than_a_window(rt: HostRuntime) -> Result<(), Fail> {
     Ok(())
 }
 
-/// Judges the checks by a plan of numbers with a line each, of which one may run out of memory.
+/// Judges the checks by a plan of one number with its line, of which one may run out of memory.
 fn judge_plan(rt: &impl Abort, alloc: Global, plan: &Plan) {
     let mut has_failed = false;
-    for (data, accepted) in &[("12\n", true), ("x\n", false), ("3\n", true)] {
+    for (data, accepted) in &[("5\n", true), ("5", false), ("5\n", true)] {
         match checked_by(alloc, &PLAIN, plan, data.as_bytes()) {
             Ok(found) => same(rt, &(found.outcome == Outcome::Accepted), accepted, data),
             Err(_) => {
@@ -309,10 +314,12 @@ fn judge_plan(rt: &impl Abort, alloc: Global, plan: &Plan) {
     }
 }
 
-/// Under `rt try --test --fail-alloc N` one of the checks runs out of memory, and those after it answer as ever.
+/// Where an allocation fails one of the checks may run out of memory, and those after it answer as ever.
 #[test]
 fn a_plan_serves_any_number_of_checks(rt: HostRuntime) -> Result<(), Fail> {
-    let plan = plan_of(rt.alloc(), "REGEX(\"[0-9]+\",n[1]) NEWLINE")?;
-    judge_plan(&rt, rt.alloc(), &plan);
+    for program in [LINE_OF_ONE, "REGEX(\"[0-9]+\",n[1]) NEWLINE"] {
+        let plan = plan_of(rt.alloc(), program)?;
+        judge_plan(&rt, rt.alloc(), &plan);
+    }
     Ok(())
 }

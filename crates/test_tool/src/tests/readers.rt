@@ -11,6 +11,8 @@ pub(crate) enum Behind {
     Failure,
     /// Ones without end.
     Ones,
+    /// Spaces without end.
+    Spaces,
 }
 
 /// A reader of some bytes, of which it gives at most `most` at once.
@@ -28,6 +30,10 @@ impl Read for Held<'_> {
             Behind::Failure if self.bytes.is_empty() => Err(Error::from(ErrorKind::Other)),
             Behind::Ones if self.bytes.is_empty() => {
                 buf.fill(b'1');
+                Ok(buf.len())
+            }
+            Behind::Spaces if self.bytes.is_empty() => {
+                buf.fill(b' ');
                 Ok(buf.len())
             }
             _ => self.bytes.read(&mut buf[..most]),

@@ -14,7 +14,7 @@ use std::process::Abort;
 
 /// What is reported.
 #[derive(Clone, Copy)]
-enum Report {
+pub(super) enum Report {
     /// How a check ended.
     Outcome(Outcome),
     /// The same of a quiet run.
@@ -29,7 +29,7 @@ enum Report {
 
 impl Report {
     /// Writes it to two sinks.
-    fn write<O: Sink, E: Sink>(
+    pub(super) fn write<O: Sink, E: Sink>(
         self,
         alloc: Global,
         out: &mut O,
@@ -78,7 +78,7 @@ const PLACE: Place = Place {
     column: 405,
 };
 
-const REJECTED: Outcome = Outcome::Rejected {
+pub(super) const REJECTED: Outcome = Outcome::Rejected {
     spot: SPOT,
     place: Site::At(PLACE),
     reason: Reason::ExpectedNewline,
@@ -100,10 +100,10 @@ const OUT_OF_MEMORY: LoadFault = LoadFault {
     place: None,
 };
 
-const REJECTED_LINE: &str =
+pub(super) const REJECTED_LINE: &str =
     "line 3 column 70001: expected a newline (program line 12 column 405)\n";
 
-const BAD_ARGUMENTS: &str = "checktestdata: bad arguments\nTry 'checktestdata --help'.\n";
+pub(super) const BAD_ARGUMENTS: &str = "checktestdata: bad arguments\nTry 'checktestdata --help'.\n";
 
 /// A report, its status, and what is written to both streams.
 type Row = (Report, u8, &'static str, &'static str);

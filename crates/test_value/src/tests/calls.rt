@@ -49,8 +49,8 @@ pub(super) enum Step {
     Number(i128),
     /// The string of the expression.
     Text(&'static [u8]),
-    /// How often a loop of the expression would run.
-    Count(u64),
+    /// How often a loop of the expression would run, or its fault.
+    Count(Result<u64, EvalFault>),
     /// The number of the expression that is at hand.
     NumberAtHand(Option<i128>),
     /// The names are unset.
@@ -141,6 +141,19 @@ fn is_state_of(
     is_state_at(alloc, store, &a.target, &value, step)
 }
 
+/// Whether this is told of how often a loop of the value of an assignment would run.
+fn is_count(
+    alloc: Global,
+    store: &Store,
+    a: &Assignment,
+    wanted: Result<u64, EvalFault>,
+) -> Result<bool, EvalFault> {
+    match count_of(alloc, &a.value, store) {
+        Err(EvalFault::Memory) => Err(EvalFault::Memory),
+        told => Ok(told == wanted),
+    }
+}
+
 /// Takes a step with an assignment. Whether the answer is the one that is wanted, where it has one.
 fn take_assignment_step(
     alloc: Global,
@@ -155,7 +168,7 @@ fn take_assignment_step(
         Step::Assign => assign(alloc, store, a)?,
         Step::Number(n) => return Ok(number_of(alloc, &a.value, store)? == n),
         Step::Text(bytes) => return Ok(text_of(alloc, &a.value, store)? == bytes),
-        Step::Count(n) => return Ok(count_of(alloc, &a.value, store)? == n),
+        Step::Count(count) => return is_count(alloc, store, a, count),
         Step::NumberAtHand(n) => return Ok(number_at_hand(&a.value, store) == n),
         other => return is_state_of(alloc, store, a, other),
     }
@@ -330,9 +343,15 @@ const OF_EXPRESSIONS: Steps = &[
     ),
     ("SET(x=\"a\\n\")", Step::Text(b"a\n")),
     ("SET(x=s)", Step::Text(b"a,b")),
-    ("SET(x=3)", Step::Count(3)),
-    ("SET(x=0)", Step::Count(0)),
-    ("SET(x=18446744073709551615)", Step::Count(u64::MAX)),
+    ("SET(x=3)", Step::Count(Ok(3))),
+    ("SET(x=0)", Step::Count(Ok(0))),
+    ("SET(x=18446744073709551615)", Step::Count(Ok(u64::MAX))),
+    (
+        "SET(x=18446744073709551616)",
+        Step::Count(Err(EvalFault::Count)),
+    ),
+    ("SET(x=-1)", Step::Count(Err(EvalFault::Count))),
+    ("SET(x=\"x\")", Step::Count(Err(EvalFault::WrongType))),
 ];
 
 const KEYS: Steps = &[

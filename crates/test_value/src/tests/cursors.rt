@@ -37,10 +37,18 @@ impl<R: Read> Read for Cut<R> {
 
 /// A reader that gives its answers in turn, None for an error and 0 bytes past the last, and counts its calls.
 #[derive(Drop)]
-struct Scripted<'s> {
-    answers: &'s [Option<&'s [u8]>],
-    calls: &'s mut usize,
+pub(super) struct Scripted<'s> {
+    pub(super) answers: &'s [Option<&'s [u8]>],
+    pub(super) error: ErrorKind,
+    pub(super) calls: &'s mut usize,
 }
+
+/// The errors of readers, which are failures all alike: a read that was interrupted, one that would have to wait, and any other.
+const ERRORS: [ErrorKind; 3] = [
+    ErrorKind::Interrupted,
+    ErrorKind::WouldBlock,
+    ErrorKind::Other,
+];
 
 impl Read for Scripted<'_> {
     fn read(&mut self, buf: &mut [u8]) -> io::Result<usize> {
@@ -48,7 +56,7 @@ impl Read for Scripted<'_> {
         *self.calls = turn.saturating_add(1);
         match self.answers.get(turn) {
             None => Ok(0),
-            Some(None) => Err(io::Error::from(ErrorKind::Interrupted)),
+            Some(None) => Err(io::Error::from(self.error)),
             Some(Some(bytes)) => {
                 let count = bytes.len().min(buf.len());
                 buf[..count].copy_from_slice(&bytes[..count]);
@@ -106,7 +114,7 @@ fn lines(alloc: Global) -> Result<Vec<u8>, AllocError> {
 
 /// What is asked of a cursor, with the answer.
 #[derive(Clone, Copy)]
-enum Ask<'a> {
+pub(super) enum Ask<'a> {
     /// What it saw of the end, and how many bytes it took from its source.
     Seen(Seen, u64),
     /// The line, the column and the offset of its spot.
@@ -221,7 +229,7 @@ fn answers<R: Source>(cursor: &mut Cursor<'_, R>, ask: Ask<'_>) -> bool {
 }
 
 /// Judges a cursor by what it is asked in turn.
-fn judge<R: Source>(rt: &impl Abort, cursor: &mut Cursor<'_, R>, asks: &[Ask]) {
+pub(super) fn judge<R: Source>(rt: &impl Abort, cursor: &mut Cursor<'_, R>, asks: &[Ask]) {
     for (turn, ask) in asks.iter().enumerate() {
         same(rt, &answers(cursor, *ask), &true, &turn);
     }
@@ -242,7 +250,7 @@ fn judge_start<R: Read + Drop>(
     Ok(())
 }
 
-/// The same over a reader that gives these answers and is called so often in all.
+/// The same over a reader that gives these answers and is called so often in all, whatever its error is.
 fn judge_script(
     rt: &impl Abort,
     alloc: Global,
@@ -250,18 +258,21 @@ fn judge_script(
     wanted_calls: usize,
     asks: &[Ask],
 ) -> Result<(), AllocError> {
-    let mut calls = 0;
-    let reader = Scripted {
-        answers,
-        calls: &mut calls,
-    };
-    judge_start(rt, alloc, reader, 10, asks)?;
-    same(rt, &calls, &wanted_calls, &answers);
+    for error in ERRORS {
+        let mut calls = 0;
+        let reader = Scripted {
+            answers,
+            error,
+            calls: &mut calls,
+        };
+        judge_start(rt, alloc, reader, 10, asks)?;
+        same(rt, &calls, &wanted_calls, &answers);
+    }
     Ok(())
 }
 
 /// Of a line of an x and one of a y that is not ended.
-const SPOTS: &[Ask] = &[
+pub(super) const SPOTS: &[Ask] = &[
     Ask::Seen(Seen::Going, 0),
     Ask::Pass(Ok(Some(b'x'))),
     Ask::Pass(Ok(Some(b'\n'))),
@@ -406,6 +417,7 @@ fn looks_are_the_same_however_reads_are_cut(rt: HostRuntime) -> Result<(), Fail>
 /// Judges pulls from a source over a reader that gives these answers, is called so often in all, and leaves these two bytes.
 fn judge_pulls(
     rt: &impl Abort,
+    error: ErrorKind,
     answers: &[Option<&[u8]>],
     wanted: &[Result<usize, Failed>],
     left: (usize, [u8; 2]),
@@ -413,6 +425,7 @@ fn judge_pulls(
     let mut calls = 0;
     let mut source = FromRead::new(Scripted {
         answers,
+        error,
         calls: &mut calls,
     });
     let mut room = [0; 4];
@@ -454,8 +467,10 @@ const PULLS: [Pulls; 7] = [
 
 #[test]
 fn a_reader_is_asked_once_a_pull_until_it_ends_or_fails(rt: HostRuntime) {
-    for (answers, wanted, left) in &PULLS {
-        judge_pulls(&rt, answers, wanted, *left);
+    for error in ERRORS {
+        for (answers, wanted, left) in &PULLS {
+            judge_pulls(&rt, error, answers, wanted, *left);
+        }
     }
 }
 

@@ -1,0 +1,152 @@
+#!/usr/bin/env python3
+"""Runs the built checker with one read or write of its process failing, each in turn, and counts its reads and writes.
+
+A call that fails, with whatever error, is made once: an interrupted one is not made again. So each run has to end as it stands here, with so
+many calls, though the calls behind the failing one would be served. The last line counts the runs that did so, as passed, and the others.
+usage: tests/failing_calls.py [PROGRAM]"""
+import errno
+import os
+import subprocess
+import sys
+import tempfile
+from collections.abc import Iterator
+from dataclasses import dataclass
+from pathlib import Path
+
+HERE = Path(__file__).resolve().parent
+TOP = HERE.parent
+# An interrupted call, one that would have to wait, and one that failed; and for a write one that takes no byte.
+ERRORS = [errno.EINTR, errno.EAGAIN, errno.EIO]
+TAKES_NONE = 0
+
+PROGRAM = b"INT(1,10) NEWLINE"
+NO_PROGRAM = b"checktestdata: cannot read program\n"
+NO_FIRST_BYTE = b"checktestdata: line 1 column 1: read failed (program line 1 column 1)\n"
+NO_END = b"checktestdata: line 2 column 1: read failed (program end)\n"
+FITS = b"testdata ok!\n"
+NO_NEWLINE = b"line 1 column 2: expected a newline (program line 1 column 11)\n"
+BAD_ARGUMENTS = b"checktestdata: bad arguments\nTry 'checktestdata --help'.\n"
+
+
+@dataclass(frozen=True)
+class Left:
+    """What a run leaves: its status, both streams, and how often it read and wrote."""
+
+    status: int
+    out: bytes
+    err: bytes
+    reads: int
+    writes: int
+
+
+@dataclass(frozen=True)
+class Case:
+    """The words of a run, which calls of it fail, and what it has to leave."""
+
+    name: str
+    words: list[str]
+    calls: dict[str, int]
+    wanted: Left
+
+
+class Checker:
+    """The built checker, with a library preloaded that lets a call fail."""
+
+    def __init__(self, program: Path, folder: Path) -> None:
+        self.program = program
+        self.folder = folder
+        self.library = folder / "failing_call.so"
+        subprocess.run(["cc", "-O2", "-shared", "-fPIC", "-o", self.library, HERE / "failing_call.c"], check=True)
+
+    def run(self, case: Case) -> Left:
+        """What a run leaves, whose standard input has the data that fit."""
+        told = self.folder / "told"
+        told.unlink(missing_ok=True)
+        calls = {name: str(number) for name, number in case.calls.items()}
+        environment = {**os.environ, "LD_PRELOAD": str(self.library), "CALLS_TOLD": str(told), **calls}
+        with (self.folder / "right.in").open("rb") as data:
+            ended = subprocess.run(
+                [self.program, *case.words], stdin=data, capture_output=True, cwd=self.folder, env=environment, check=False
+            )
+        reads, writes = map(int, told.read_text().split())
+        return Left(ended.returncode, ended.stdout, ended.stderr, reads, writes)
+
+
+def failing_reads(error: int) -> Iterator[Case]:
+    """Runs in which one read fails, of the program or of the data."""
+    for data in [["right.in"], []]:
+        words = ["p.ctd", *data]
+        # The program and its end, the data and their end: each takes a read.
+        for turn, err in enumerate([NO_PROGRAM, NO_PROGRAM, NO_FIRST_BYTE, NO_END], 1):
+            yield Case(f"read {turn}", words, {"READ_FAILS": turn, "FAILS_WITH": error}, Left(2, b"", err, turn, 1))
+        # Each byte and each end takes a read.
+        for turn in range(1, len(PROGRAM) + 5):
+            behind = turn - len(PROGRAM) - 1
+            err = NO_PROGRAM if behind < 1 else [NO_FIRST_BYTE, NO_FIRST_BYTE, NO_END][behind - 1]
+            calls = {"READ_FAILS": turn, "READ_MOST": 1, "FAILS_WITH": error}
+            yield Case(f"read {turn} of a byte", words, calls, Left(2, b"", err, turn, 1))
+
+
+def texts() -> Iterator[tuple[list[str], bool, bytes, int]]:
+    """Command lines, with whether their text goes to standard output, that text, and how many reads come before it."""
+    yield ["p.ctd", "right.in"], True, FITS, 4
+    yield ["p.ctd", "short.in"], True, NO_NEWLINE, 4
+    yield ["p.ctd", "folder"], False, NO_FIRST_BYTE, 3
+    yield ["p.ctd", "right.in", "more"], False, BAD_ARGUMENTS, 0
+
+
+def failing_writes(error: int) -> Iterator[Case]:
+    """Runs in which a write fails behind so many bytes of the text, for each number of them, written in one piece or byte by byte."""
+    for words, is_out, text, reads in texts():
+        for count in range(len(text)):
+            streams = (text[:count], b"") if is_out else (b"", text[:count])
+            turn = 2 if count else 1
+            calls = {"WRITE_FAILS": turn, "WRITE_MOST": count, "FAILS_WITH": error}
+            yield Case(f"a write behind {count} bytes", words, calls, Left(2, *streams, reads, turn))
+        for count in [1, 7, len(text) - 1]:
+            streams = (text[:count], b"") if is_out else (b"", text[:count])
+            calls = {"WRITE_FAILS": count + 1, "WRITE_MOST": 1, "FAILS_WITH": error}
+            yield Case(f"a write of a byte behind {count} bytes", words, calls, Left(2, *streams, reads, count + 1))
+
+
+def unfailing() -> Iterator[Case]:
+    """Runs in which no call fails, but each moves a byte."""
+    reads = len(PROGRAM) + 1 + 3
+    for words in [["p.ctd", "right.in"], ["p.ctd"], ["p.ctd", "-"]]:
+        yield Case("no call fails", words, {}, Left(0, FITS, b"", 4, 1))
+        yield Case("each call moves a byte", words, {"READ_MOST": 1, "WRITE_MOST": 1}, Left(0, FITS, b"", reads, len(FITS)))
+
+
+def cases() -> Iterator[Case]:
+    """All runs."""
+    yield from unfailing()
+    for error in ERRORS:
+        yield from failing_reads(error)
+    for error in [*ERRORS, TAKES_NONE]:
+        yield from failing_writes(error)
+
+
+def main() -> int:
+    built = TOP / "crates/checktestdata/out/checktestdata"
+    program = Path(sys.argv[1]).resolve() if len(sys.argv) > 1 else built
+    passed = failed = 0
+    with tempfile.TemporaryDirectory() as name:
+        folder = Path(name)
+        (folder / "p.ctd").write_bytes(PROGRAM)
+        (folder / "right.in").write_bytes(b"5\n")
+        (folder / "short.in").write_bytes(b"5")
+        (folder / "folder").mkdir()
+        checker = Checker(program, folder)
+        for case in cases():
+            left = checker.run(case)
+            if left == case.wanted:
+                passed += 1
+            else:
+                failed += 1
+                print(f"failing calls: {case.name}, {' '.join(case.words)}, {case.calls}: {left}, wanted {case.wanted}")
+    print(f"{passed} passed, {failed} failed")
+    return 1 if failed else 0
+
+
+if __name__ == "__main__":
+    sys.exit(main())
