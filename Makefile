@@ -1,27 +1,85 @@
 # build: prove and compile the checker (scripts/build.sh); test: rebuild every proof and test from scratch, then run the built program;
-# install: PREFIX and DESTDIR as usual. bench: times the checker beside C written by hand (bench/README.md).
+# install, uninstall: PREFIX and DESTDIR as usual; deb, dist: a Debian package and an archive of the built program, in out/.
+# bench: times the checker beside C written by hand (bench/README.md).
+version := 1.0
+
 PREFIX ?= /usr/local
 DESTDIR ?=
+bindir ?= $(PREFIX)/bin
+datadir ?= $(PREFIX)/share
+mandir ?= $(datadir)/man
+docdir ?= $(datadir)/doc/checktestdata
+bashdir ?= $(datadir)/bash-completion/completions
+zshdir ?= $(datadir)/zsh/site-functions
+fishdir ?= $(datadir)/fish/vendor_completions.d
+vimdir ?= $(datadir)/vim/vimfiles
+# What belongs to these programs alone: the companions with the module that they share, and the grammar for editors.
+ourdir := $(datadir)/checktestdata
 
-program := crates/checktestdata/out/checktestdata
+# What is installed: programs that are built, each in the crate of its name, companions in tools/, and man pages in man/. Each program and
+# companion has completions in completions/.
+programs := checktestdata
+companions := ctd-show ctd-mutate
+modules := ctd_companion.py
+manuals := checktestdata.1 checktestdata.5 $(companions:=.1)
+texts := README.md CHANGELOG.md LICENSE-MIT LICENSE-APACHE NOTICE
+
+commands := $(programs) $(companions)
+built = crates/$(subst -,_,$(1))/out/$(subst -,_,$(1))
 sources := HANDLES crates.txt $(shell find crates -name out -prune -o \( -name '*.rt' -o -name '*.antt' \) -print)
+need_toolchain = $(if $(missing),$(error $(missing)))
+missing = $(shell scripts/missing_toolchain.sh)
+strip := $(if $(shell command -v strip),--strip)
 
-.PHONY: build test bench install clean
+.PHONY: build test bench install install-built uninstall deb dist clean
 
-build: $(program)
+build: $(foreach program,$(programs),$(call built,$(program)))
 
-$(program): $(sources)
+$(call built,checktestdata): $(sources)
+	$(need_toolchain)
 	@scripts/build.sh
 
 test:
+	$(need_toolchain)
 	@tests/gate.sh
 
 bench: build
 	@bench/whole_runs.py
 
+# Copies all files below a folder, from where they stand in it: FOLDER, TO.
+copy_tree = cd $(1) && find . -type f ! -path '*/__pycache__/*' -exec install -D -m 644 '{}' '$(DESTDIR)$(2)/{}' ';'
+
 install: build
-	install -d $(DESTDIR)$(PREFIX)/bin
-	install -m 755 $(program) $(DESTDIR)$(PREFIX)/bin/checktestdata
+	@$(MAKE) --no-print-directory install-built
+
+# The files of install, with the program as it stands.
+install-built:
+	$(foreach program,$(programs),install -D -m 755 $(strip) $(call built,$(program)) '$(DESTDIR)$(bindir)/$(program)' &&) true
+	$(foreach script,$(companions),install -D -m 755 tools/$(script) '$(DESTDIR)$(ourdir)/tools/$(script)' &&) true
+	$(foreach module,$(modules),install -D -m 644 tools/$(module) '$(DESTDIR)$(ourdir)/tools/$(module)' &&) true
+	$(foreach script,$(companions),ln -sfr '$(DESTDIR)$(ourdir)/tools/$(script)' '$(DESTDIR)$(bindir)/$(script)' &&) true
+	$(foreach page,$(manuals),install -D -m 644 man/$(page) '$(DESTDIR)$(mandir)/man$(subst .,,$(suffix $(page)))/$(page)' &&) true
+	$(foreach command,$(commands),install -D -m 644 completions/bash/$(command) '$(DESTDIR)$(bashdir)/$(command)' &&) true
+	$(foreach command,$(commands),install -D -m 644 completions/zsh/_$(command) '$(DESTDIR)$(zshdir)/_$(command)' &&) true
+	$(foreach command,$(commands),install -D -m 644 completions/fish/$(command).fish '$(DESTDIR)$(fishdir)/$(command).fish' &&) true
+	$(call copy_tree,editors/vim,$(vimdir))
+	$(call copy_tree,editors/vscode,$(ourdir)/vscode)
+	install -D -m 644 -t '$(DESTDIR)$(docdir)' $(texts)
+	$(call copy_tree,docs,$(docdir)/docs)
+	$(call copy_tree,examples,$(docdir)/examples)
+
+uninstall:
+	rm -f $(foreach command,$(commands),'$(DESTDIR)$(bindir)/$(command)')
+	rm -f $(foreach page,$(manuals),'$(DESTDIR)$(mandir)/man$(subst .,,$(suffix $(page)))/$(page)')
+	rm -f $(foreach command,$(commands),'$(DESTDIR)$(bashdir)/$(command)' '$(DESTDIR)$(zshdir)/_$(command)' '$(DESTDIR)$(fishdir)/$(command).fish')
+	cd editors/vim && find . -type f -exec rm -f '$(DESTDIR)$(vimdir)/{}' ';'
+	rm -rf '$(DESTDIR)$(ourdir)' '$(DESTDIR)$(docdir)'
+
+deb: build
+	@packaging/deb.sh $(version)
+
+dist: build
+	@packaging/dist.sh $(version)
 
 clean:
-	rm -rf crates/*/out
+	rm -rf out crates/*/out

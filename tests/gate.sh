@@ -3,7 +3,7 @@
 # last with allocations failing.
 # The last line counts what passed and failed in all.
 set -u
-cd "$(dirname "${BASH_SOURCE[0]}")/.."
+cd "$(dirname "${BASH_SOURCE[0]}")/.." || exit
 # As many checks side by side as there are processors, with one job for each: of several jobs a check takes more processor time
 # (docs/DESIGN.md).
 export RT_JOBS=${RT_JOBS:-$(nproc)}

@@ -1,0 +1,36 @@
+#!/usr/bin/env bash
+# Makes the Debian package of the built programs in out/, with dpkg-deb alone. usage: packaging/deb.sh VERSION (make deb)
+#
+# DEBFULLNAME and DEBEMAIL name another maintainer.
+set -eu
+cd "$(dirname "${BASH_SOURCE[0]}")/.."
+. packaging/common.sh
+version=$1-1
+name=checktestdata-nagdimot
+maintainer="${DEBFULLNAME:-The Nagdimot developers} <${DEBEMAIL:-maintainers@users.noreply.nagdimot.example}>"
+package=out/${name}_${version}_amd64.deb
+stage=$(mktemp -d)
+trap 'rm -rf "$stage"' EXIT
+documents=$stage/usr/share/doc/$name
+
+make --silent install-built DESTDIR="$stage" PREFIX=/usr docdir=/usr/share/doc/$name zshdir=/usr/share/zsh/vendor-completions
+sed -i '1s|.*|#!/usr/bin/python3|' "$stage"/usr/share/checktestdata/tools/ctd-*
+gzip -9n "$stage"/usr/share/man/man?/*
+
+# Debian has the licences in one file, and the changes of a package beside those of its sources.
+cat packaging/debian/copyright LICENSE-MIT <(printf '\n\n') NOTICE >"$documents/copyright"
+rm "$documents"/{LICENSE-MIT,LICENSE-APACHE,NOTICE}
+gzip -9nc CHANGELOG.md >"$documents/changelog.gz"
+rm "$documents/CHANGELOG.md"
+printf '%s (%s) unstable; urgency=medium\n\n  * Version %s.\n\n -- %s  %s\n' "$name" "$version" "$1" "$maintainer" "$(LC_ALL=C date --utc --rfc-email --date="@$SOURCE_DATE_EPOCH")" |
+    gzip -9n >"$documents/changelog.Debian.gz"
+install -D -m 644 packaging/debian/lintian-overrides "$stage/usr/share/lintian/overrides/$name"
+
+size=$(du --summarize --apparent-size --block-size=1024 "$stage" | cut -f 1)
+mkdir "$stage/DEBIAN"
+sed -e "s|@VERSION@|$version|; s|@MAINTAINER@|$maintainer|; s|@SIZE@|$size|; s|@LIBC@|$(needed_libc "$stage/usr/bin/checktestdata")|" packaging/debian/control >"$stage/DEBIAN/control"
+(cd "$stage" && find usr -type f -print0 | sort --zero-terminated | xargs --null md5sum >DEBIAN/md5sums)
+settle "$stage"
+mkdir -p out
+dpkg-deb --build --root-owner-group -Zxz "$stage" "$package" >/dev/null
+echo "$package"
