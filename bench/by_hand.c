@@ -245,7 +245,7 @@ int main(int count, char **words_given) {
     if (!strcmp(name, "run")) return count > 3 ? run(words_given) : 2;
     if (!strcmp(name, "integers")) integers();
     else if (!strcmp(name, "graph")) graph();
-    else if (!strcmp(name, "words")) words();
+    else if (!strcmp(name, "words") || !strcmp(name, "short-words")) words();
     else if (!strcmp(name, "long-string")) long_string(extra);
     else if (!strcmp(name, "lines")) lines();
     else if (!strcmp(name, "arithmetic")) arithmetic(atoll(extra));

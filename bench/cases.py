@@ -21,6 +21,8 @@ ASSERT(UNIQUE(c,d))
 
 WORDS = b'WHILE(!MATCH("\\n"),SPACE) REGEX("[a-z]+",w) END NEWLINE\n'
 
+SHORT_WORDS = b'WHILE(!MATCH("\\n"),SPACE) REGEX("[a-z]+") END NEWLINE\n'
+
 LINES = b'WHILE(!ISEOF) REGEX("[a-z]{1,1000}") NEWLINE END\n'
 
 SMALL_TESTS = b"""INT(1,10000000,t) NEWLINE
@@ -151,6 +153,17 @@ def words(files: Files, scale: float, rng: random.Random) -> None:
         data.write(" ".join(rng.choices(pool, k=max(1, int(1_000_000 * scale)))).encode() + b"\n")
 
 
+def short_words(files: Files, scale: float, rng: random.Random) -> None:
+    """Words of one to four letters, 20 MB of them: many windows of which each passes little."""
+    pool = ["".join(rng.choices(string.ascii_lowercase, k=rng.randint(1, 4))) for _ in range(5000)]
+    with files.start(SHORT_WORDS) as data:
+        before = ""
+        for count in chunks(max(1, int(5_700_000 * scale))):
+            data.write((before + " ".join(rng.choices(pool, k=count))).encode())
+            before = " "
+        data.write(b"\n")
+
+
 def long_string(files: Files, scale: float, rng: random.Random) -> None:
     n = max(1, int(200 * scale))
     text = bytes(rng.choices(string.ascii_lowercase.encode(), k=500_000))
@@ -257,6 +270,7 @@ CASES = [
     Case("integers", integers, 2.0, 6),
     Case("graph", graph, 3.0, 90),
     Case("words", words, 5.0, 6),
+    Case("short-words", short_words, 5.0, 6),
     Case("long-string", long_string, 1.5, 6),
     Case("lines", lines, 2.7, 6),
     Case("arithmetic", arithmetic, 10.0, 6),

@@ -279,6 +279,32 @@ pub(super) fn judge_rows(rt: &impl Abort, alloc: Global, rows: &[Row]) -> Result
     Ok(())
 }
 
+/// A program, its answer, the bytes consumed and the most that may be taken.
+type Reach = (&'static str, &'static str, u64, u64);
+
+const OUT_OF_RANGE: &str = "line 1 column 1: value out of range (program line 1 column 1)";
+
+const LEFT_OVER: &str = "line 1 column 2: expected end of file (program end)";
+
+/// Judges a check of data that go on behind what it reads, however reads are cut.
+fn judge_reach(rt: &impl Abort, alloc: Global, data: &[u8], reach: Reach) -> Result<(), Fail> {
+    let (program, answer, consumed, most_taken) = reach;
+    for most in [1, 2, 3, 7, 65_535, 65_536, 100_000, 1_048_575, 1_048_576] {
+        let terms = Terms { most, ..PLAIN };
+        let found = checked(alloc, &terms, program, data)?;
+        let read = (found.consumed, found.taken <= most_taken, found.seen);
+        let told = told(alloc, found.outcome)?;
+        same(
+            rt,
+            &(told.as_str(), read),
+            &(answer, (consumed, true, Seen::Going)),
+            &(program, most),
+        );
+    }
+    Ok(())
+}
+
+/// A look reads once, and a window reads no more than its 1,048,576 bytes.
 #[test]
 fn checks_end_as_the_rows_say(rt: HostRuntime) -> Result<(), Fail> {
     judge_rows(&rt, rt.alloc(), &ROWS)
@@ -286,16 +312,15 @@ fn checks_end_as_the_rows_say(rt: HostRuntime) -> Result<(), Fail> {
 
 #[test]
 fn data_are_read_no_further_than_a_window(rt: HostRuntime) -> Result<(), Fail> {
-    let spaces = vec![in rt.alloc(); b' '; 70_000]?;
-    for most in [1, 2, 3, 7, 65_535, 65_536, 100_000] {
-        let terms = Terms { most, ..PLAIN };
-        let found = checked(rt.alloc(), &terms, "SPACE EOF", &spaces)?;
-        same(
-            &rt,
-            &(found.consumed, found.taken <= 65_537),
-            &(1, true),
-            &most,
-        );
+    let mut data = vec![in rt.alloc(); b'x'; 2_000_002]?;
+    let rows: [(&[u8], Reach); 3] = [
+        (b"11", ("INT(0,9)", OUT_OF_RANGE, 2, 1_048_578)),
+        (b"  ", ("SPACE", LEFT_OVER, 1, 65_537)),
+        (b"xx", ("REGEX(\"x\")", LEFT_OVER, 1, 1_048_576)),
+    ];
+    for (front, reach) in rows {
+        data[..2].copy_from_slice(front);
+        judge_reach(&rt, rt.alloc(), &data, reach)?;
     }
     Ok(())
 }

@@ -102,10 +102,10 @@ fn pass_in_line<R: Source>(cursor: &mut Cursor<'_, R>) -> usize {
     count
 }
 
-/// Lines of 0 to 79 letters, 200,000 bytes in all.
-fn lines(alloc: Global) -> Result<Vec<u8>, AllocError> {
+/// Lines of 0 to 79 letters, `len` bytes in all.
+fn lines(alloc: Global, len: u32) -> Result<Vec<u8>, AllocError> {
     let mut text = Vec::new(alloc);
-    for i in 0..200_000u32 {
+    for i in 0..len {
         text.push(if i % 81 == i / 81 % 81 { b'\n' } else { b'a' })
             .map_err(AllocError::from)?;
     }
@@ -127,6 +127,8 @@ pub(super) enum Ask<'a> {
     Pass(Result<Option<u8>, LookFault>),
     /// That these bytes come next, which are passed; where they are more than 1,007, with a window of them now and then.
     PassAll(&'a [u8]),
+    /// That these bytes come next, seen by windows, with up to 299,993 bytes passed after each.
+    PassInWindows(&'a [u8]),
     /// Whether this byte is passed.
     PassIf(u8, Result<bool, LookFault>),
     /// How many held bytes before the next newline are passed.
@@ -137,6 +139,8 @@ pub(super) enum Ask<'a> {
     Held(&'a [u8]),
     /// Whether these bytes are the window.
     Window(&'a [u8], Result<bool, LookFault>),
+    /// The length of the window, or `None` where a byte of it is not a one.
+    Ones(Result<Option<usize>, LookFault>),
     /// That all bytes are passed in runs of up to 700, each of which moves the spot as its bytes do.
     PassInRuns,
 }
@@ -187,6 +191,13 @@ fn has_window<R: Source>(cursor: &mut Cursor<'_, R>, bytes: &[u8]) -> Result<boo
     Ok(cursor.window()? == bytes)
 }
 
+/// The length of the window of a cursor, or `None` where a byte of it is not a one.
+fn ones_in_window<R: Source>(cursor: &mut Cursor<'_, R>) -> Result<Option<usize>, LookFault> {
+    let window = cursor.window()?;
+    let is_ones = window.iter().all(|byte| *byte == b'1');
+    Ok(is_ones.then_some(window.len()))
+}
+
 /// Passes bytes that are the ones of a text, and now and then looks at a window of them. Whether they are.
 fn passes_all<R: Source>(cursor: &mut Cursor<'_, R>, text: &[u8]) -> bool {
     for (i, byte) in text.iter().enumerate() {
@@ -201,6 +212,23 @@ fn passes_all<R: Source>(cursor: &mut Cursor<'_, R>, text: &[u8]) -> bool {
         }
     }
     true
+}
+
+/// Passes all bytes, looking at a window before each 299,993 of them. Whether each window has the next bytes of a text, and the data end with it.
+fn passes_in_windows<R: Source>(cursor: &mut Cursor<'_, R>, text: &[u8]) -> bool {
+    let mut rest = text;
+    for _ in 0..=text.len() {
+        if has_window(cursor, &rest[..rest.len().min(WINDOW)]) != Ok(true) {
+            return false;
+        }
+        if rest.is_empty() {
+            return true;
+        }
+        let count = rest.len().min(cursor.held()).min(299_993);
+        cursor.take_many(count);
+        rest = &rest[count..];
+    }
+    false
 }
 
 /// Whether a cursor answers as it is wanted.
@@ -219,11 +247,13 @@ fn answers<R: Source>(cursor: &mut Cursor<'_, R>, ask: Ask<'_>) -> bool {
         Ask::Next(next) => next_twice(cursor) == [next, next],
         Ask::Pass(next) => pass(cursor) == next,
         Ask::PassAll(bytes) => passes_all(cursor, bytes),
+        Ask::PassInWindows(bytes) => passes_in_windows(cursor, bytes),
         Ask::PassIf(byte, passed) => cursor.pass_if_eq(byte) == passed,
         Ask::PassInLine(count) => pass_in_line(cursor) == count,
         Ask::PassHeld(count) => pass_held(cursor) == count,
         Ask::Held(bytes) => cursor.held() == bytes.len() && cursor.held_run() == bytes,
         Ask::Window(bytes, is) => has_window(cursor, bytes) == is,
+        Ask::Ones(count) => ones_in_window(cursor) == count,
         Ask::PassInRuns => passes_in_runs(cursor),
     }
 }
@@ -365,21 +395,18 @@ const LIMIT: &[Ask] = &[
 ];
 
 /// Of ones without an end, and a limit of a window.
-const LIMIT_OF_A_WINDOW: &[Ask] = &[
-    Ask::Look(Ok(Some(b'1'))),
-    Ask::Window(&[b'1'; WINDOW], Ok(true)),
-];
+const LIMIT_OF_A_WINDOW: &[Ask] = &[Ask::Look(Ok(Some(b'1'))), Ask::Ones(Ok(Some(WINDOW)))];
 
 /// Of ones without an end, and a limit of a byte less.
 const LIMIT_BELOW_A_WINDOW: &[Ask] = &[
     Ask::Look(Ok(Some(b'1'))),
-    Ask::Window(b"", Err(LookFault::DataTooLong)),
+    Ask::Ones(Err(LookFault::DataTooLong)),
 ];
 
 const LIMITS: [(u32, &[Ask]); 3] = [
     (1_000, LIMIT),
-    (65_536, LIMIT_OF_A_WINDOW),
-    (65_535, LIMIT_BELOW_A_WINDOW),
+    (1_048_576, LIMIT_OF_A_WINDOW),
+    (1_048_575, LIMIT_BELOW_A_WINDOW),
 ];
 
 #[test]
@@ -400,7 +427,7 @@ fn judge_cuts(rt: &impl Abort, alloc: Global, text: &[u8]) -> Result<(), AllocEr
         Ask::Look(Ok(None)),
         Ask::Seen(Seen::Ended, 200_000),
     ];
-    for most in [1, 2, 3, 7, 65_535, 65_536, 100_000] {
+    for most in [1, 2, 3, 7, 65_535, 65_536, 100_000, 1_048_575, 1_048_576] {
         let reader = Cut { reader: text, most };
         judge_start(rt, alloc, reader, 1_000_000, &bytes)?;
     }
@@ -409,8 +436,25 @@ fn judge_cuts(rt: &impl Abort, alloc: Global, text: &[u8]) -> Result<(), AllocEr
 
 #[test]
 fn looks_are_the_same_however_reads_are_cut(rt: HostRuntime) -> Result<(), Fail> {
-    let text = lines(rt.alloc())?;
+    let text = lines(rt.alloc(), 200_000)?;
     judge_cuts(&rt, rt.alloc(), text.as_slice())?;
+    Ok(())
+}
+
+/// Judges the windows of cursors over a text, with small reads and with large ones.
+fn judge_windows(rt: &impl Abort, alloc: Global, text: &[u8]) -> Result<(), AllocError> {
+    let asks = [Ask::PassInWindows(text), Ask::Look(Ok(None))];
+    for most in [1_009, 65_536] {
+        let reader = Cut { reader: text, most };
+        judge_start(rt, alloc, reader, 10_000_000, &asks)?;
+    }
+    Ok(())
+}
+
+#[test]
+fn windows_are_right_past_the_end_of_their_room(rt: HostRuntime) -> Result<(), Fail> {
+    let text = lines(rt.alloc(), 3_500_000)?;
+    judge_windows(&rt, rt.alloc(), text.as_slice())?;
     Ok(())
 }
 
