@@ -162,6 +162,7 @@ expect 'a second newline is no blank' 1 'line 2 column 1: expected end of file (
 expect 'a read that fails in the first blanks' 2 '' 'checktestdata: line 1 column 1: read failed (program start)\n' "$checker" -w p.ctd folder
 expect 'a preset' 0 "$ok" '' "$checker" -D most=5 bounded.ctd right.in
 expect 'a preset that is too small' 1 'line 1 column 1: value out of range (program line 1 column 1)\n' '' "$checker" -Dmost=4 bounded.ctd right.in
+expect 'a preset of an element' 0 "$ok" '' "$checker" --define 'most[1]=4,most=5' bounded.ctd right.in
 expect 'the last preset of a name' 0 "$ok" '' "$checker" --define=most=4,most=5 bounded.ctd right.in
 expect 'a preset with a comma and a quote' 0 "$ok" '' "$checker" --define 'most=5,s="a,\"b"' bounded.ctd right.in
 for option in '-D n=5,m=-3' -Dn=5,m=-3 --define=n=5,m=-3; do

@@ -111,7 +111,7 @@ value_of (literals.Text bytes) = values.Text bytes
 
 -- the key that a preset pins
 abbrev pub pinned_key : Preset → Key
-pinned_key p = record { name = p.name; indices = [] }
+pinned_key p = record { name = p.name; indices = map value_of p.indices }
 
 -- one preset after the other, so that the last of a key counts
 abbrev pub pins_of : List Preset → Variables

@@ -63,14 +63,15 @@ pub struct EntryRef<'s> {
 }
 
 impl Store {
-    /// The presets pinned, the last of a name, and nothing assigned; or an error where no memory is left for them.
+    /// The presets pinned, the last of a key, and nothing assigned; or an error where no memory is left for them.
     pub fn new(alloc: Global, presets: &Presets) -> Result<Store, AllocError>
         ensures pins { IfOk result (λ store. store ≡ initial presets.now) }
     {
         let mut pins = Variables::new(alloc);
         for preset in presets.pins() {
+            let indices = literal_values(alloc, preset.indices.as_slice())?;
             let value = value_of(alloc, &preset.value)?;
-            pins.insert(&preset.name, Vec::new(alloc), value)?;
+            pins.insert(&preset.name, indices, value)?;
         }
         Ok(Store {
             pins,
@@ -303,4 +304,15 @@ fn value_of(alloc: Global, literal: &Literal) -> Result<Value, AllocError>
         Literal::Int(n) => Ok(Value::Int(*n)),
         Literal::Text(bytes) => Ok(Value::Text(Bytes::copy(alloc, bytes.as_slice())?)),
     }
+}
+
+/// The values that literals are.
+fn literal_values(alloc: Global, literals: &[Literal]) -> Result<Vec<Value>, AllocError>
+    ensures values { IfOk result (λ values. values.items ≡ map value_of literals.now) }
+{
+    let mut values = Vec::new(alloc);
+    for literal in literals {
+        values.push(value_of(alloc, literal)?)?;
+    }
+    Ok(values)
 }

@@ -21,8 +21,8 @@ pub use ctd_token::{
 };
 pub use ctd_tree::{
     Action, Assignment, Assignments, Choice, Command, Commands, Compare, Element, Expr, Exprs,
-    IntArguments, Literal, Loop, LoopGuard, Names, Numeral, PatternLiteral, Preset, PresetFault,
-    Presets, Program, RegexArguments, Test, Var,
+    IntArguments, Literal, Literals, Loop, LoopGuard, Names, Numeral, PatternLiteral, Preset,
+    PresetFault, Presets, Program, RegexArguments, Test, Var,
 };
 pub use grammar::parse;
 pub use keyword::Keyword;

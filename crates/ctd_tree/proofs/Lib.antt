@@ -1,5 +1,8 @@
 pub mod Trees
 pub mod TokenFronts
 pub mod LiteralFronts
+pub mod Splits
+pub mod Separated
+pub mod PresetValues
+pub mod PresetTargets
 pub mod PresetTexts
-pub mod PresetLists

@@ -156,12 +156,12 @@ numeral_found b bs digit =
 pub no_token : (t : TokenKind) (n : ℕ) → token_at [] ≡ Ok (t, n) → ⊥
 no_token t n is = let f : wrong BadByte 0 ≡ Ok (t, n) = is in cc
 
--- a name before `=`
-pub name_front : (text rest : List ℕ) → IsToken text tokens.Name → token_at (text ++ 61 ∷ rest) ≡ Ok (tokens.Name, length text)
-name_front [] rest is = absurd (no_token tokens.Name 0 is)
-name_front (b ∷ bs) rest is =
+-- a name before what is no part of it
+pub name_front : (text rest : List ℕ) → IsToken text tokens.Name → name_len rest ≡ 0 → token_at (text ++ rest) ≡ Ok (tokens.Name, length text)
+name_front [] rest is none = absurd (no_token tokens.Name 0 is)
+name_front (b ∷ bs) rest is none =
     let of = known_of b bs (Ok (tokens.Name, length (b ∷ bs))) is in
-    name_found b (bs ++ 61 ∷ rest) of.0 ∙ ap (λ n. Ok (tokens.Name, n)) (run_on (λ c. is_lower c || is_digit c) (b ∷ bs) (61 ∷ rest) (sym of.1) refl)
+    name_found b (bs ++ rest) of.0 ∙ ap (λ n. Ok (tokens.Name, n)) (run_on (λ c. is_lower c || is_digit c) (b ∷ bs) rest (sym of.1) none)
 
 -- a name by itself
 pub name_alone : (bytes : List ℕ) (n : ℕ) → token_at bytes ≡ Ok (tokens.Name, n) → IsToken (take n bytes) tokens.Name

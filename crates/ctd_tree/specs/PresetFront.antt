@@ -1,14 +1,14 @@
 -- What stands at the front of a text of presets, and its length.
-use Rattle.std.specs.Prelude.{◌≡◌, ℕ, ◌+◌, nat_eq, if◌then◌else◌, List, [], ◌∷◌, length, take, drop, neg_ℤ, Option, Some, None, option_map, Result, Ok, Err}
+use Rattle.std.specs.Prelude.{◌≡◌, ℕ, ◌+◌, ◌≤◌, ◌⊎◌, nat_eq, if◌then◌else◌, List, [], ◌∷◌, ◌++◌, length, take, neg_ℤ, Option, Some, None, Result, Ok, Err}
 use Rattle.ctd_tree.specs.declared.preset.Literal.{Literal}
 use Rattle.ctd_tree.specs.declared.preset.Literal.TheVariants as literals
-use Rattle.ctd_tree.specs.declared.preset.Preset.{Preset}
 use Rattle.ctd_tree.specs.declared.preset.PresetFault.{PresetFault}
 use Rattle.ctd_tree.specs.declared.preset.PresetFault.TheVariants.{BadPreset, Memory}
 use Rattle.ctd_token.specs.declared.fault.TokenFault.{TokenFault}
 use Rattle.ctd_token.specs.declared.fault.TokenFault.TheVariants as scanning
 use Rattle.ctd_token.specs.declared.token.TokenKind.TheVariants as tokens
 use Rattle.ctd_token.specs.Cut.{TokenOrFault, token_at}
+use Rattle.ctd_tree.specs.Presets.{AreSeparated, IsPresetValue, IsTarget}
 
 -- a fault of a token is one of the presets
 abbrev pub fault_of : TokenFault → PresetFault
@@ -37,20 +37,36 @@ abbrev pub literal_at : List ℕ → Option (Literal × ℕ)
 literal_at [] = None
 literal_at (b ∷ bs) = if nat_eq b 45 then negated (token_at bs) else plain (token_at (b ∷ bs))
 
--- the preset of a name and of the literal behind its `=`
-abbrev pub valued : List ℕ → Literal × ℕ → Preset × ℕ
-valued name x = (record { name = name; value = x.0 }, length name + 1 + x.1)
+-- what may follow a value or a preset: nothing, a comma or a closing bracket
+abbrev pub MayFollowItem : List ℕ → Type 0
+MayFollowItem [] = Unit {0}
+MayFollowItem (b ∷ bs) = (b ≡ 44) ⊎ (b ≡ 93)
 
--- what is behind a name: `=` and a literal
-abbrev pub behind_name : (name bytes : List ℕ) → Option (Preset × ℕ)
-behind_name name [] = None
-behind_name name (b ∷ bs) = if nat_eq b 61 then option_map (valued name) (literal_at bs) else None
+-- what may follow a list of them: nothing or a closing bracket
+abbrev pub MayFollowList : List ℕ → Type 0
+MayFollowList [] = Unit {0}
+MayFollowList (b ∷ bs) = b ≡ 93
 
--- a first token that is a name, and what is behind it
-abbrev pub named : TokenOrFault → List ℕ → Option (Preset × ℕ)
-named (Ok (tokens.Name, n)) bytes = behind_name (take n bytes) (drop n bytes)
-named _ bytes = None
+-- what may follow a target: an equals sign
+abbrev pub MayFollowTarget : List ℕ → Type 0
+MayFollowTarget [] = ⊥
+MayFollowTarget (b ∷ bs) = b ≡ 61
 
--- the preset at the front of some bytes
-abbrev pub preset_at : List ℕ → Option (Preset × ℕ)
-preset_at bytes = named (token_at bytes) bytes
+-- the first bytes, as many as the number says, spell this, and no other first bytes before what may follow spell anything
+pub record IsAtFront {T : Type 0} (MayFollow : List ℕ → Type 0) (Spells : List ℕ → T → Type 0) (bytes : List ℕ) (found : T × ℕ) : Type 0 where
+  pub within : found.1 ≤ length bytes
+  pub spelled : Spells (take found.1 bytes) found.0
+  pub only : (text rest : List ℕ) (x : T) → bytes ≡ text ++ rest → MayFollow rest → Spells text x → (x ≡ found.0) × (length text ≡ found.1)
+
+-- no first bytes before what may follow spell anything
+abbrev pub NothingIsAtFront : {T : Type 0} → (MayFollow : List ℕ → Type 0) (Spells : List ℕ → T → Type 0) (bytes : List ℕ) → Type 0
+NothingIsAtFront {T} MayFollow Spells bytes = (text rest : List ℕ) (x : T) → bytes ≡ text ++ rest → MayFollow rest → Spells text x → ⊥
+
+-- what stands behind the name of a target: nothing, or indices between brackets
+pub data AreIndices : List ℕ → List Literal → Type 0 where
+  none : AreIndices [] []
+  some : (values : List ℕ) {indices : List Literal} → AreSeparated IsPresetValue values indices → AreIndices (91 ∷ (values ++ 93 ∷ [])) indices
+
+-- a target, with its name and its indices in one
+abbrev pub SpellsTarget : List ℕ → List ℕ × List Literal → Type 0
+SpellsTarget text target = IsTarget text target.0 target.1

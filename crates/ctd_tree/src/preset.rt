@@ -15,14 +15,46 @@ pub enum Literal {
     Text(Bytes),
 }
 
-/// The name of a variable and the value that stays with it.
+/// The indices of a variable as written, which contracts see as the list of them.
+#[derive(Drop)]
+pub struct Literals {
+    values: Vec<Literal>,
+}
+
+impl Model for Literals {
+    ghost use Rattle.std.specs.Prelude.{List};
+    ghost use Rattle.ctd_tree.specs.declared.preset.Literal.{Literal};
+
+    ghost Value = { List Literal };
+
+    ghost view = { λ l. l.values.items };
+}
+
+impl Literals {
+    /// A list with these literals, which takes no memory.
+    pub(crate) fn from_vec(values: Vec<Literal>) -> Literals
+        ensures same { result ≡ values.items }
+    {
+        Literals { values }
+    }
+
+    /// Lends the list.
+    pub fn as_slice(&self) -> &[Literal]
+        ensures whole { result.now ≡ self.now }
+    {
+        self.values.as_slice()
+    }
+}
+
+/// The name and the indices of a variable, of which an unindexed one has none, and the value that stays with it.
 #[derive(Drop)]
 pub struct Preset {
     pub name: Name,
+    pub indices: Literals,
     pub value: Literal,
 }
 
-/// Presets in their order, which contracts see as the list of them; the last of a name counts.
+/// Presets in their order, which contracts see as the list of them; the last of a key, which is a name with its indices, counts.
 #[derive(Drop)]
 pub struct Presets {
     items: Vec<Preset>,
@@ -46,14 +78,14 @@ impl Presets {
         Presets { items }
     }
 
-    /// The presets that a text spells, all of them and in its order: `name=value`, once or more, with
-    /// a comma between each two and no blanks.
+    /// The presets that a text spells, all of them and in its order: `name=value` or
+    /// `name[index,..]=value`, once or more, with a comma between each two and no blanks.
     ///
-    /// A name is a token of a program, and a value is a numeral, a numeral behind a minus, or a string
-    /// literal, to which the commas and escapes between its quotes belong (checktestdata language
-    /// specification, tokens). So a numeral has no leading zero and is at most 2^127 - 1. Any other
-    /// text, the empty one too, is BadPreset, and a refused growth is Memory. The time is linear in the
-    /// bytes of the text.
+    /// A name is a token of a program, and an index and a value are each a numeral, a numeral behind a
+    /// minus, or a string literal, to which the commas, brackets and escapes between its quotes belong
+    /// (checktestdata language specification, tokens). So a numeral has no leading zero and is at most
+    /// 2^127 - 1, and `-0` is 0. Any other text, the empty one too, is BadPreset, and a refused growth
+    /// is Memory. The time is linear in the bytes of the text.
     pub fn read(alloc: Global, text: &str) -> Result<Presets, PresetFault>
         ensures read { IfOk result (ArePresets text.now) }
         ensures only { IfOk result (λ ps.

@@ -1,4 +1,4 @@
-//! Texts of presets with what they spell, worked out by hand from their two productions.
+//! Texts of presets with what they spell, worked out by hand from their productions.
 
 use super::answers::{Asked, answer, judged, unfold};
 use super::shown::Shown;
@@ -7,19 +7,27 @@ use ctd_syntax::{Literal, Presets};
 use std::alloc::Global;
 use std::test::Fail;
 
-/// Each preset with its number or its string, blanks between them.
+/// A number, or a string between quotes.
+fn write_literal(out: &mut Shown, literal: &Literal) {
+    match literal {
+        Literal::Int(n) => out.put_form(format_args!("{n}")),
+        Literal::Text(bytes) => write_text(out, bytes.as_slice()),
+    }
+}
+
+/// Each preset with its indices, each between brackets, and its value, and blanks between the presets.
 fn write_presets(out: &mut Shown, presets: &Presets) {
     let mut before = "";
     for preset in presets.pins() {
         out.put(before);
         out.put_bytes(preset.name.as_slice());
-        match &preset.value {
-            Literal::Int(n) => out.put_form(format_args!("={n}")),
-            Literal::Text(bytes) => {
-                out.put("=");
-                write_text(out, bytes.as_slice());
-            }
+        for index in preset.indices.as_slice() {
+            out.put("[");
+            write_literal(out, index);
+            out.put("]");
         }
+        out.put("=");
+        write_literal(out, &preset.value);
         before = " ";
     }
 }
@@ -33,8 +41,22 @@ pub(super) fn write_read(out: &mut Shown, alloc: Global, text: &str) {
 }
 
 // In both columns `{3 ab}` stands for `ababab`. The table of the built checker has more of the short texts, and what they spell.
-const TEXTS: [(&str, &str); 7] = [
+const TEXTS: [(&str, &str); 15] = [
     ("s=\"a,b\",n=-3,n=4", "s=\"a,b\" n=-3 n=4"),
+    // Presets of elements.
+    (
+        "a[1,\"x\"]=5,a[-0]=\"b\"",
+        "a[1][\"x\"]=5 a[0]=\"b\"",
+    ),
+    (
+        "a[\"]=1,\"]=2,a[-3,0]=\"[]\"",
+        "a[\"]=1,\"]=2 a[-3][0]=\"[]\"",
+    ),
+    ("a[]=1", "BadPreset"),
+    ("a[i]=1", "BadPreset"),
+    ("a[1]", "BadPreset"),
+    ("a[1]= 5", "BadPreset"),
+    ("a[1+1]=5", "BadPreset"),
     ("n=4,n=-3,n=4", "n=4 n=-3 n=4"),
     ("s=\"\",t=\"\",n=1", "s=\"\" t=\"\" n=1"),
     ("n=5,", "BadPreset"),
@@ -42,6 +64,7 @@ const TEXTS: [(&str, &str); 7] = [
     ("{174762 a1=\"\",}n=7", "{174762 a1=\"\" }n=7"),
     ("s=\"{1000000 ,}\"", "s=\"{1000000 ,}\""),
     ("n={1000000 9}", "BadPreset"),
+    ("a[{299999 7,}7]=1", "a[{299999 7][}7]=1"),
 ];
 
 #[test]

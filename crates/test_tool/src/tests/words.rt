@@ -58,16 +58,29 @@ fn says(setup: &Setup, facts: Facts<'_>) -> bool {
     (program, testdata, setup.mode, setup.quiet, setup.limits) == facts
 }
 
-/// Whether presets are none, or else a string of these three bytes and the number -3.
+/// Whether a preset has no indices, and these three bytes as its value.
+fn is_string(preset: &Preset) -> bool {
+    match (preset.indices.as_slice(), &preset.value) {
+        ([], Literal::Text(text)) => text.as_slice() == b"a,b".as_slice(),
+        _ => false,
+    }
+}
+
+/// Whether a preset has the indices 1 and 2, and -3 as its value.
+fn is_element(preset: &Preset) -> bool {
+    match (preset.indices.as_slice(), &preset.value) {
+        ([Literal::Int(row), Literal::Int(column)], Literal::Int(n)) => {
+            (*row, *column, *n) == (1, 2, -3)
+        }
+        _ => false,
+    }
+}
+
+/// Whether presets are none, or else a string and an element.
 fn are_pinned(pins: &[Preset], pinned: bool) -> bool {
     match pins {
         [] => !pinned,
-        [first, second] => match (&first.value, &second.value) {
-            (Literal::Text(text), Literal::Int(n)) => {
-                pinned && text.as_slice() == b"a,b".as_slice() && *n == -3
-            }
-            _ => false,
-        },
+        [first, second] => pinned && is_string(first) && is_element(second),
         _ => false,
     }
 }
@@ -101,7 +114,7 @@ fn judge(
 #[test]
 fn words_give_settings(rt: HostRuntime) -> Result<(), Fail> {
     judge(&rt, rt.alloc(), "p.ctd", PLAIN, false)?;
-    let line = "--define=s=\"a,b\",m=-3 --max-steps=7 -w p.ctd -q d.in";
+    let line = "--define=s=\"a,b\",m[1,2]=-3 --max-steps=7 -w p.ctd -q d.in";
     judge(&rt, rt.alloc(), line, ALL, true)?;
     Ok(())
 }

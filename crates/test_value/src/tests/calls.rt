@@ -288,6 +288,17 @@ const PRESET: Steps = &[
     ("SET(n=5)", Step::Entries(1)),
 ];
 
+const PRESET_ELEMENTS: Steps = &[
+    ("SET(a[1]=6,a[\"1\"]=7)", Step::Has),
+    ("SET(a[1]=9,a[2]=9)", Step::Assign),
+    ("SET(a[1]=6,a[2]=9)", Step::Has),
+    ("SET(a=0)", Step::Entries(3)),
+    ("UNSET(a)", Step::Unset),
+    ("SET(a[1]=6)", Step::Has),
+    ("SET(a[2]=0,a=0,a[0]=0)", Step::Lacks),
+    ("SET(a=0)", Step::Entries(2)),
+];
+
 const SET: Steps = &[
     ("SET(a=b+2,a[0]=b+2,a[b-6,1]=b+2)", Step::SetNumber(4)),
     ("SET(a=4,a[0]=4,a[1,1]=4)", Step::Has),
@@ -362,9 +373,10 @@ const KEYS: Steps = &[
     ("SET(ab[1,\"k\"]=0)", Step::Key(b"ab", &[1], &[b"k"])),
 ];
 
-const STORES: [Row; 9] = [
+const STORES: [Row; 10] = [
     ("s=\"a,b\",n=-3,n=4", "", PRESETS),
     ("n=5", "", PRESET),
+    ("a[1]=5,a[\"1\"]=7,a[1]=6", "", PRESET_ELEMENTS),
     ("b=7", "", SET),
     ("", "", ONE_ENTRY),
     ("a=1", "", EACH_KEY_ONCE),

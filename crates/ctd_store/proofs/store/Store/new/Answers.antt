@@ -13,4 +13,4 @@ returns c =
     let same = ap length c.pins-preset-items.ensures.whole in
     let all : c.loop-preset.preset-index ≡ length presets = omega (arith, same, c.loop-preset-test.false, c.loop-preset.auto.preset-index-end) in
     let pinned = c.loop-preset.invariant ∙ ap (λ n. pins_of (take n presets)) all ∙ ap pins_of (take-length presets) in
-    record { pins = λ i. record { pins = pinned i; assigned = c.new-2.ensures.empty i } }
+    record { pins = λ i. record { pins = pinned i; assigned = c.new.ensures.empty i } }
