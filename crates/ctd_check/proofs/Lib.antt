@@ -1,6 +1,15 @@
+pub mod ActLocality
+pub mod BigSteps
+pub mod ByLooks
+pub mod CheckedData
+pub mod CommandLocality
 pub mod Concluding
 pub mod InTurn
 pub mod Knowing
+pub mod Locality
+pub mod LongerData
+pub mod Prefixes
 pub mod Rounds
 pub mod Running
 pub mod Stacks
+pub mod StepLimits

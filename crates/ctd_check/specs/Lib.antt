@@ -1,6 +1,8 @@
 pub mod Loops
 pub mod Run
 pub mod Laws
+pub mod BigSteps
+pub mod ByLooks
 pub mod Checks
 pub mod Halts
 pub mod Pending

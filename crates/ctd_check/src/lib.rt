@@ -16,4 +16,7 @@ pub use ctd_plan::Plan;
 pub use ctd_source::{Failed, FromRead, Seen, Source, Spot};
 pub use ctd_syntax::{Bytes, LoadFault, LoadKind, Place, Presets};
 pub use ctd_tree::{Limits, Mode};
-pub use laws::lists_run_in_turn;
+pub use laws::{
+    big_steps_are_the_run, commands_look_byte_by_byte, data_of_call_are_checked, lists_run_in_turn,
+    looks_a_window_ahead, step_limits_only_stop, taken_bytes_decide, unread_bytes_do_not_count,
+};
