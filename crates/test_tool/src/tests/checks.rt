@@ -49,8 +49,7 @@ const ENDLESS: Terms = Terms {
 
 /// The plan of a text.
 pub(super) fn plan_of(alloc: Global, program: &str) -> Result<Plan, Fail> {
-    let plan = Plan::load(alloc, &mut FromRead::new(program.as_bytes()));
-    Ok(plan.ok().ok_or("the program is refused")?)
+    Ok(Plan::load(alloc, &mut FromRead::new(program.as_bytes()))?)
 }
 
 /// What a check of data by a plan finds.
