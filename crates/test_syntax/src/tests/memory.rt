@@ -21,15 +21,16 @@ fn count_presets(alloc: Global, text: &str) -> Result<usize, PresetFault> {
     Ok(Presets::read(alloc, text)?.pins().len())
 }
 
-const PROGRAM: &[u8] = b"INT(1,n+1,a[i]) STRING(\"x\") REGEX(\"y\",word) ASSERT(!(1<2)&&MATCH(\"z\")||UNIQUE(a,b)) SET(x=-2^3) \
-UNSET(x,longname) REPI(i,3,SPACE) NEWLINE END WHILE(ISEOF) REP(1) END END IF(INARRAY(1,a)) ELSE EOF END";
+const PROGRAM: &str = "INT(1,n+1,a[i]) STRING(\"x\") REGEX(\"y\",word)
+ASSERT(!(1<2) && MATCH(\"z\") || UNIQUE(a,b)) SET(x=-2^3) UNSET(x,longname)
+REPI(i,3,SPACE) NEWLINE END WHILE(ISEOF) REP(1) END END IF(INARRAY(1,a)) ELSE EOF END";
 
 /// Each ends in want of memory or in its own answer.
 #[test]
 fn small_texts_end_in_their_answers(rt: HostRuntime) -> Result<(), Fail> {
     let count = count_tokens(rt.alloc(), b"INT(a1) \"x\"")?;
     assert_eq!(rt; count, 5);
-    let count = count_commands(rt.alloc(), PROGRAM)?;
+    let count = count_commands(rt.alloc(), PROGRAM.as_bytes())?;
     assert_eq!(rt; count, 9);
     let count = count_presets(rt.alloc(), "s=\"a,b\",longname=-3,n=4")?;
     assert_eq!(rt; count, 3);

@@ -73,7 +73,12 @@ fn checked_by(
 }
 
 /// What a check of data by a program finds.
-pub(super) fn checked(alloc: Global, terms: &Terms, program: &str, data: &[u8]) -> Result<Checked, Fail> {
+pub(super) fn checked(
+    alloc: Global,
+    terms: &Terms,
+    program: &str,
+    data: &[u8],
+) -> Result<Checked, Fail> {
     let plan = plan_of(alloc, program)?;
     Ok(checked_by(alloc, terms, &plan, data)?)
 }

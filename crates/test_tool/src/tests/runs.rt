@@ -87,7 +87,9 @@ fn is_answered(alloc: Global, row: &Row) -> Result<bool, AllocError> {
     };
     let (out, err) = if status < 2 { (text, "") } else { ("", text) };
     let written = run(alloc, &setup, program.as_bytes(), testdata)?;
-    if written.answer == Err(ToolFault::Memory) && written.out.is_empty() && written.err.is_empty()
+    if written.answer == Err(ToolFault::Memory)
+        && written.out.is_empty()
+        && written.err.is_empty()
     {
         return Err(AllocError);
     }
