@@ -1,18 +1,42 @@
 #!/usr/bin/env python3
-"""Runs the built checker again and again, with one allocation failing after the other, and then with all from it on.
+"""Runs the built checker again and again, with one allocation failing after the other, and then with all from it on; and so some tests of the
+crates, which show calls that no process shows.
 
-With none failing, each command line has to end as it stands here. Each other run has to end so too, or with `out of memory` on standard error,
-nothing on standard output and status 2. The last line counts the command lines of which each run did so, as passed, and the others.
-usage: tests/allocations.py [PROGRAM]"""
+With none failing, each command line has to end as it stands here, and each test has to pass. Each other run has to end so too, or with
+`out of memory` on standard error, nothing on standard output and status 2; a test, with an error that says so. The last line counts the command
+lines and tests of which each run did so, as passed, and the others.
+usage: tests/allocations.py [PROGRAM]; with PROGRAM it runs no tests"""
 import os
+import re
 import subprocess
 import sys
 import tempfile
+from collections.abc import Iterator
 from dataclasses import dataclass
 from pathlib import Path
 
 HERE = Path(__file__).resolve().parent
 TOP = HERE.parent
+
+# Tests of calls that may run out of memory, in the program that `rt ci` builds of each crate of tests.
+TESTS = {
+    "test_syntax": ["memory::small_texts_end_in_their_answers"],
+    "test_value": [
+        "calls::stores_answer_their_steps",
+        "memory::a_refused_assignment_leaves_the_store_as_it_was",
+        "memory::small_rows_end_in_their_answers",
+        "starts::a_start_reads_nothing",
+        "starts::data_of_the_greatest_limit_are_read",
+    ],
+    "test_tool": [
+        "checks::a_plan_serves_any_number_of_checks",
+        "runs::runs_end_as_the_rows_say",
+        "words::words_give_settings",
+    ],
+}
+# How the program of a crate's tests ends where a test returns an error, and what the error is then.
+FAILED_TEST = 101
+NO_MEMORY = re.compile(rb"\b(AllocFailed|AllocError|Memory)\b")
 
 # A status, and what stands on standard output and on standard error.
 Left = tuple[int, bytes, bytes]
@@ -80,39 +104,55 @@ def refused(text: str) -> Left:
     return 2, b"", f"checktestdata: {text}\n".encode()
 
 
-class Checker:
-    """The built checker, with a library preloaded that lets allocations fail."""
+class Runner:
+    """Runs programs with a library preloaded that lets allocations fail."""
 
-    def __init__(self, program: Path, folder: Path) -> None:
-        self.program = program
+    def __init__(self, folder: Path) -> None:
         self.told = folder / "told"
         self.library = folder / "failing_allocation.so"
         subprocess.run(["cc", "-O2", "-shared", "-fPIC", "-o", self.library, HERE / "failing_allocation.c"], check=True)
 
-    def run(self, words: list[str], first: int, goes_on: bool) -> Run:
+    def run(self, command: list[str], first: int, goes_on: bool) -> Run:
         """A run in which the allocation of this number fails, counted from 1, or none for 0."""
         preloaded = {"LD_PRELOAD": str(self.library), "FAILS": str(first), "FAILS_TOLD": str(self.told)}
         if goes_on:
             preloaded["FAILS_ON"] = "1"
         self.told.unlink(missing_ok=True)
         ended = subprocess.run(
-            [self.program, *words], stdin=subprocess.DEVNULL, capture_output=True, env={**os.environ, **preloaded}, check=False
+            command, stdin=subprocess.DEVNULL, capture_output=True, env={**os.environ, **preloaded}, check=False
         )
         asked = int(self.told.read_text()) if self.told.exists() else 0
         return Run((ended.returncode, ended.stdout, ended.stderr), asked)
 
-    def faults(self, line: CommandLine) -> list[str]:
-        """What the runs of a command line did that they should not."""
-        whole = self.run(line.words, 0, False)
-        faults = [] if whole.answer == line.answer else [f"with ample memory: {whole.answer}"]
-        ran_out = 0
+    def failing(self, command: list[str], asked: int) -> Iterator[tuple[str, Left]]:
+        """What each run leaves in which an allocation fails, and which it is."""
         for goes_on in (False, True):
-            for first in range(1, whole.asked + 1):
-                answer = self.run(line.words, first, goes_on).answer
-                ran_out += answer == OUT_OF_MEMORY
-                if answer not in (line.answer, OUT_OF_MEMORY):
-                    faults.append(f"allocation {first}{' and all after it' if goes_on else ''}: {answer}")
+            for first in range(1, asked + 1):
+                yield f"allocation {first}{' and all after it' if goes_on else ''}", self.run(command, first, goes_on).answer
+
+    def faults(self, program: Path, line: CommandLine) -> list[str]:
+        """What the runs of a command line of the checker did that they should not."""
+        command = [str(program), *line.words]
+        whole = self.run(command, 0, False)
+        faults = [] if whole.answer == line.answer else [f"with ample memory: {whole.answer}"]
+        ran_out = False
+        for what, answer in self.failing(command, whole.asked):
+            ran_out = ran_out or answer == OUT_OF_MEMORY
+            if answer not in (line.answer, OUT_OF_MEMORY):
+                faults.append(f"{what}: {answer}")
         return faults if ran_out else [*faults, f"never out of memory, though asked for {whole.asked} times"]
+
+    def faults_of_test(self, program: Path, test: str) -> list[str]:
+        """What the runs of a test of a crate did that they should not."""
+        command = [str(program), f"tests::{test}"]
+        whole = self.run(command, 0, False)
+        if whole.answer[0] != 0 or whole.asked == 0:
+            return [f"with ample memory: {whole.answer}, asked for {whole.asked} times"]
+        return [
+            f"{what}: {answer}"
+            for what, answer in self.failing(command, whole.asked)
+            if answer[0] != 0 and (answer[0] != FAILED_TEST or not NO_MEMORY.search(answer[2]))
+        ]
 
 
 def command_lines(folder: Path) -> dict[str, CommandLine]:
@@ -160,20 +200,26 @@ def command_lines(folder: Path) -> dict[str, CommandLine]:
     }
 
 
+def faults_of_all(program: Path, tests: bool) -> Iterator[tuple[str, list[str]]]:
+    """What the runs did that they should not, by what was run."""
+    with tempfile.TemporaryDirectory() as name:
+        runner = Runner(Path(name))
+        for what, line in command_lines(Path(name)).items():
+            yield what, runner.faults(program, line)
+        for crate, names in TESTS.items() if tests else []:
+            for test in names:
+                yield f"{crate} {test}", runner.faults_of_test(TOP / f"crates/{crate}/out/{crate}_tests", test)
+
+
 def main() -> int:
     built = TOP / "crates/checktestdata/out/checktestdata"
     program = Path(sys.argv[1]).resolve() if len(sys.argv) > 1 else built
-    failed = 0
-    with tempfile.TemporaryDirectory() as name:
-        folder = Path(name)
-        checker = Checker(program, folder)
-        lines = command_lines(folder)
-        for what, line in lines.items():
-            faults = checker.faults(line)
-            failed += bool(faults)
-            for fault in faults:
-                print(f"allocations: {what}: {fault}")
-    print(f"{len(lines) - failed} passed, {failed} failed")
+    passed = failed = 0
+    for what, faults in faults_of_all(program, tests=len(sys.argv) == 1):
+        passed, failed = passed + (not faults), failed + bool(faults)
+        for fault in faults:
+            print(f"allocations: {what}: {fault}")
+    print(f"{passed} passed, {failed} failed")
     return 1 if failed else 0
 
 

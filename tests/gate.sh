@@ -1,6 +1,6 @@
 #!/usr/bin/env bash
 # Rebuilds every proof and test from scratch (rt ci), then runs the program that this built as a process, on the rows of tables too, and at
-# last with allocations failing.
+# last with reads, writes and allocations failing.
 # The last line counts what passed and failed in all.
 set -u
 cd "$(dirname "${BASH_SOURCE[0]}")/.." || exit
@@ -30,6 +30,7 @@ count rt ci
 if [ "$failed" -eq 0 ]; then
     count tests/process.sh
     count tests/tables.py
+    count tests/failing_calls.py
     count tests/allocations.py
 fi
 printf '%s passed, %s failed\n' "$passed" "$failed"

@@ -3,6 +3,7 @@
 
 mod answers;
 mod grammar;
+mod memory;
 mod numbers;
 mod presets;
 mod shown;

@@ -3,6 +3,7 @@
 
 mod calls;
 mod cursors;
+mod large;
 mod memory;
 mod order;
 mod starts;

@@ -3,7 +3,7 @@
 use super::numbers::write_numbers;
 use super::presets::write_read;
 use super::shown::Shown;
-use super::tokens::{write_cut, write_front, write_places, write_steps};
+use super::tokens::{write_cut, write_front, write_last, write_places, write_steps};
 use super::tree_text::write_program;
 use ctd_syntax::parse;
 use std::alloc::Global;
@@ -14,6 +14,8 @@ use std::test::Fail;
 pub(super) enum Asked {
     /// Its tokens.
     Cut,
+    /// How many tokens it has, and the last of them.
+    Last,
     /// Its tokens, one after another.
     Steps,
     /// The token at its front.
@@ -43,6 +45,7 @@ pub(super) fn answer(alloc: Global, asked: &Asked, text: &str) -> Result<String,
     let mut shown = Shown::new(alloc);
     match asked {
         Asked::Cut => write_cut(&mut shown, alloc, bytes),
+        Asked::Last => write_last(&mut shown, alloc, bytes),
         Asked::Steps => write_steps(&mut shown, alloc, bytes),
         Asked::Front => write_front(&mut shown, alloc, bytes),
         Asked::Places => write_places(&mut shown, bytes),

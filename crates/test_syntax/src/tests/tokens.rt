@@ -40,6 +40,18 @@ pub(super) fn write_cut(out: &mut Shown, alloc: Global, text: &[u8]) {
     }
 }
 
+/// How many tokens a text has, and the last of them.
+pub(super) fn write_last(out: &mut Shown, alloc: Global, text: &[u8]) {
+    match tokens(alloc, text) {
+        Ok(found) => {
+            let count = found.len();
+            out.put_form(format_args!("{count} "));
+            write_tokens(out, &found[count.saturating_sub(1)..]);
+        }
+        Err(fault) => out.put_form(fault),
+    }
+}
+
 const LINES: &str = r##"
 
 #"
@@ -101,6 +113,12 @@ const TEXTS: [(&str, &str); 12] = [
         "program line 2 column 4: unfinished string",
     ),
     ("\n # $\n  $", "program line 3 column 3: unexpected byte"),
+];
+
+const MANY: [(&str, &str); 3] = [
+    ("{100000 a }", "100000 Name 199998-199999 1:199999"),
+    ("{100000 12\n}", "100000 12 299997-299999 100000:1"),
+    ("{100000 \"x\"}", "100000 Text [120] 299997-300000 1:299998"),
 ];
 
 /// The kind of the token that comes next, or the fault, or the end.
@@ -177,6 +195,7 @@ const PLACES: [(&str, &str); 1] = [("a\nbc\n", "1:1 1:2 2:1 2:2 2:3 3:1 ")];
 fn texts_have_their_tokens(rt: HostRuntime) -> Result<(), Fail> {
     judge_lines(&rt, rt.alloc(), &Asked::Cut, LINES)?;
     judge_rows(&rt, rt.alloc(), &Asked::Cut, &TEXTS)?;
+    judge_rows(&rt, rt.alloc(), &Asked::Last, &MANY)?;
     judge_rows(&rt, rt.alloc(), &Asked::Steps, &STEPS)?;
     judge_rows(&rt, rt.alloc(), &Asked::Front, &FRONTS)?;
     judge_rows(&rt, rt.alloc(), &Asked::Places, &PLACES)
@@ -231,6 +250,16 @@ fn names_hold_their_bytes_and_are_compared(rt: HostRuntime) -> Result<(), Fail> 
         right = right.saturating_add(are_right(rt.alloc(), row)? as usize);
     }
     assert_eq!(rt; right, CODES.len());
+    Ok(())
+}
+
+#[test]
+fn bytes_are_copied_whole(rt: HostRuntime) -> Result<(), Fail> {
+    let long = vec![in rt.alloc(); b'x'; 100_000]?;
+    for bytes in [b"".as_slice(), b"ab", long.as_slice()] {
+        let copied = Bytes::copy(rt.alloc(), bytes)?;
+        assert!(rt; copied.as_slice() == bytes);
+    }
     Ok(())
 }
 

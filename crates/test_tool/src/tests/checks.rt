@@ -49,8 +49,7 @@ const ENDLESS: Terms = Terms {
 
 /// The plan of a text.
 pub(super) fn plan_of(alloc: Global, program: &str) -> Result<Plan, Fail> {
-    let plan = Plan::load(alloc, &mut FromRead::new(program.as_bytes()));
-    Ok(plan.ok().ok_or("the program is refused")?)
+    Ok(Plan::load(alloc, &mut FromRead::new(program.as_bytes()))?)
 }
 
 /// What a check of data by a plan finds.
@@ -74,7 +73,12 @@ fn checked_by(
 }
 
 /// What a check of data by a program finds.
-pub(super) fn checked(alloc: Global, terms: &Terms, program: &str, data: &[u8]) -> Result<Checked, Fail> {
+pub(super) fn checked(
+    alloc: Global,
+    terms: &Terms,
+    program: &str,
+    data: &[u8],
+) -> Result<Checked, Fail> {
     let plan = plan_of(alloc, program)?;
     Ok(checked_by(alloc, terms, &plan, data)?)
 }

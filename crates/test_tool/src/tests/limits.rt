@@ -1,4 +1,4 @@
-//! The ends of the limits of a check, and how far it reads.
+//! The ends of the limits of a check.
 
 use crate::tests::checks::{LINE_OF_ONE, PLAIN, Row, Terms, checked, judge_rows, plan_of};
 use crate::tests::readers::Behind;
@@ -139,21 +139,5 @@ fn a_limit_below_the_steps_is_paid_whole(rt: HostRuntime) -> Result<(), Fail> {
             );
         }
     }
-    Ok(())
-}
-
-/// The two digits are judged behind the first byte that is none, though millions may follow.
-#[test]
-fn data_behind_a_verdict_are_left_to_their_reader(rt: HostRuntime) -> Result<(), Fail> {
-    let mut data = vec![in rt.alloc(); b'x'; 2_000_000]?;
-    data[..2].copy_from_slice(b"11");
-    let found = checked(rt.alloc(), &PLAIN, "INT(0,9)", &data)?;
-    same(
-        &rt,
-        &(found.steps, found.consumed, found.seen),
-        &(1, 2, Seen::Going),
-        &"what was seen",
-    );
-    same(&rt, &(found.taken <= 1_048_578), &true, &"what was taken");
     Ok(())
 }

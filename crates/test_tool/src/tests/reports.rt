@@ -103,7 +103,8 @@ const OUT_OF_MEMORY: LoadFault = LoadFault {
 pub(super) const REJECTED_LINE: &str =
     "line 3 column 70001: expected a newline (program line 12 column 405)\n";
 
-pub(super) const BAD_ARGUMENTS: &str = "checktestdata: bad arguments\nTry 'checktestdata --help'.\n";
+pub(super) const BAD_ARGUMENTS: &str =
+    "checktestdata: bad arguments\nTry 'checktestdata --help'.\n";
 
 /// A report, its status, and what is written to both streams.
 type Row = (Report, u8, &'static str, &'static str);

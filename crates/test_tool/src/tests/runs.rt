@@ -5,7 +5,7 @@ ghost use Rattle.std.specs.Prelude.{◌≤◌, ◌^◌, IfOk};
 use crate::tests::memory::{MemoryFile, Written};
 use crate::tests::same;
 use ctd_check::{Bytes, FromRead, Limits, Mode, Presets};
-use ctd_tool::{Setup, ToWrite, run_tool};
+use ctd_tool::{Setup, ToWrite, ToolFault, run_tool};
 use std::alloc::{AllocError, Global};
 use std::io::{self, Read};
 use std::test::Fail;
@@ -40,17 +40,20 @@ fn setup_of(alloc: Global, quiet: bool, bytes: u32) -> Result<Setup, AllocError>
     })
 }
 
-/// A run on two readers.
+/// Room for each text of these tests.
+const ROOM: usize = 100;
+
+/// A run on two readers, and on two writers that have all the room that they need.
 fn run<P: Read + Drop, D: Read + Drop>(
     alloc: Global,
     setup: &Setup,
     program: P,
     testdata: D,
-) -> Written
+) -> Result<Written, AllocError>
     requires { setup.now.limits.bytes ≤ 2 ^ 62 }
 {
-    let mut out = Vec::new(alloc);
-    let mut err = Vec::new(alloc);
+    let mut out = Vec::with_capacity(alloc, ROOM)?;
+    let mut err = Vec::with_capacity(alloc, ROOM)?;
     let answer = run_tool(
         alloc,
         setup,
@@ -59,7 +62,7 @@ fn run<P: Read + Drop, D: Read + Drop>(
         &mut ToWrite::new(&mut out),
         &mut ToWrite::new(&mut err),
     );
-    Written { answer, out, err }
+    Ok(Written { answer, out, err })
 }
 
 /// A program, data, whether a read fails once behind them, the limit of bytes, whether the run is quiet, its status, and the
@@ -74,7 +77,7 @@ type Row = (
     &'static str,
 );
 
-/// Whether a run answers what its row says.
+/// Whether a run answers what its row says. A run that is out of memory has written nothing.
 fn is_answered(alloc: Global, row: &Row) -> Result<bool, AllocError> {
     let (program, data, fails, limit, quiet, status, text) = *row;
     let setup = setup_of(alloc, quiet, limit)?;
@@ -83,7 +86,13 @@ fn is_answered(alloc: Global, row: &Row) -> Result<bool, AllocError> {
         fails,
     };
     let (out, err) = if status < 2 { (text, "") } else { ("", text) };
-    let written = run(alloc, &setup, program.as_bytes(), testdata);
+    let written = run(alloc, &setup, program.as_bytes(), testdata)?;
+    if written.answer == Err(ToolFault::Memory)
+        && written.out.is_empty()
+        && written.err.is_empty()
+    {
+        return Err(AllocError);
+    }
     Ok(written.is(Ok(status), out.as_bytes(), err.as_bytes()))
 }
 
@@ -132,7 +141,7 @@ fn is_unread(alloc: Global, program: MemoryFile<'_>, text: &str) -> Result<bool,
     let testdata = Watched {
         is_read: &mut is_read,
     };
-    let is = run(alloc, &setup, program, testdata).is(Ok(2), b"", text.as_bytes());
+    let is = run(alloc, &setup, program, testdata)?.is(Ok(2), b"", text.as_bytes());
     Ok(is && !is_read)
 }
 

@@ -3,7 +3,7 @@
 use crate::tests::same;
 use ctd_check::{Bytes, Limits, Mode};
 use ctd_syntax::{Literal, Preset};
-use ctd_tool::{Setup, settings};
+use ctd_tool::{Setup, UsageFault, settings};
 use std::alloc::{AllocError, Global};
 use std::process::Abort;
 use std::test::Fail;
@@ -86,10 +86,16 @@ fn are_pinned(pins: &[Preset], pinned: bool) -> bool {
 }
 
 /// Whether words give settings that say this, with these presets or none.
-fn give(alloc: Global, words: &[Bytes], facts: Facts<'_>, pinned: bool) -> bool {
+fn give(
+    alloc: Global,
+    words: &[Bytes],
+    facts: Facts<'_>,
+    pinned: bool,
+) -> Result<bool, AllocError> {
     match settings(alloc, words) {
-        Ok(setup) => says(&setup, facts) && are_pinned(setup.presets.pins(), pinned),
-        Err(_) => false,
+        Ok(setup) => Ok(says(&setup, facts) && are_pinned(setup.presets.pins(), pinned)),
+        Err(UsageFault::Memory) => Err(AllocError),
+        Err(_) => Ok(false),
     }
 }
 
@@ -102,12 +108,8 @@ fn judge(
     pinned: bool,
 ) -> Result<(), AllocError> {
     let words = words_of(alloc, line.as_bytes())?;
-    same(
-        rt,
-        &give(alloc, words.as_slice(), facts, pinned),
-        &true,
-        &line,
-    );
+    let is = give(alloc, words.as_slice(), facts, pinned)?;
+    same(rt, &is, &true, &line);
     Ok(())
 }
 

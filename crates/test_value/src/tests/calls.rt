@@ -233,7 +233,12 @@ fn take_last_step(
 }
 
 /// The same with the commands of a text.
-fn take_step_in(alloc: Global, store: &mut Store, text: &str, step: Step) -> Result<bool, Fail> {
+pub(super) fn take_step_in(
+    alloc: Global,
+    store: &mut Store,
+    text: &str,
+    step: Step,
+) -> Result<bool, Fail> {
     let program = parse(alloc, text.as_bytes())?;
     Ok(take_last_step(alloc, store, program.commands(), step)?)
 }

@@ -1,5 +1,5 @@
-//! Small rows on the calls that take memory. Under `rt try --test --fail-alloc N` each ends in want of memory or in its own
-//! answer.
+//! Small rows on the calls that take memory. `tests/allocations.py` at the top of the repository lets each allocation fail in
+//! turn: then each row ends in want of memory or in its own answer.
 
 use super::calls::{READ, Row, SHAPE, Step, Steps, judge, judge_all};
 use super::{key, same, store_of};
@@ -84,7 +84,7 @@ fn judge_assignments(rt: &impl Abort, alloc: Global, store: &mut Store) -> Resul
     judge(rt, alloc, store, "", PINNED)
 }
 
-/// Under `rt try --test --fail-alloc N` an assignment is refused, and the store answers as before.
+/// Where an allocation fails an assignment may be refused, and then the store answers as before.
 #[test]
 fn a_refused_assignment_leaves_the_store_as_it_was(rt: HostRuntime) -> Result<(), Fail> {
     let mut store = store_of(rt.alloc(), "n=5")?;
