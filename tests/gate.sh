@@ -1,6 +1,6 @@
 #!/usr/bin/env bash
-# Rebuilds every proof and test from scratch (rt ci), then runs the program that this built as a process, on the rows of tables too, and at
-# last with allocations failing.
+# Rebuilds every proof and test from scratch (rt ci), then runs the program that this built as a process, on the rows of tables too, with
+# allocations failing, and beside its companions, and installs and packs it.
 # The last line counts what passed and failed in all.
 set -u
 cd "$(dirname "${BASH_SOURCE[0]}")/.." || exit
@@ -31,6 +31,9 @@ if [ "$failed" -eq 0 ]; then
     count tests/process.sh
     count tests/tables.py
     count tests/allocations.py
+    count tests/companions.py
+    count tests/editors.py
+    count tests/install.sh
 fi
 printf '%s passed, %s failed\n' "$passed" "$failed"
 [ "$failed" -eq 0 ]
