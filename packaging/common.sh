@@ -1,6 +1,10 @@
 # shellcheck shell=bash
 # What the package and the archive share; read by both scripts.
 
+# Where the package and the archive are put.
+out=${OUT:-out}
+mkdir -p "$out"
+
 # The last change of the sources, in seconds, so that the same sources give the same files.
 SOURCE_DATE_EPOCH=${SOURCE_DATE_EPOCH:-$(git log -1 --format=%ct 2>/dev/null || date +%s)}
 export SOURCE_DATE_EPOCH

@@ -1,19 +1,20 @@
 #!/usr/bin/env bash
 # Makes the Debian package of the built programs in out/, with dpkg-deb alone. usage: packaging/deb.sh VERSION (make deb)
 #
-# DEBFULLNAME and DEBEMAIL name another maintainer.
+# DEBFULLNAME and DEBEMAIL name another maintainer, OUT another folder.
 set -eu
 cd "$(dirname "${BASH_SOURCE[0]}")/.."
 . packaging/common.sh
 version=$1-1
 name=checktestdata-nagdimot
 maintainer="${DEBFULLNAME:-The Nagdimot developers} <${DEBEMAIL:-maintainers@users.noreply.nagdimot.example}>"
-package=out/${name}_${version}_amd64.deb
+package=$out/${name}_${version}_amd64.deb
 stage=$(mktemp -d)
 trap 'rm -rf "$stage"' EXIT
 documents=$stage/usr/share/doc/$name
 
 make --silent install-built DESTDIR="$stage" PREFIX=/usr docdir=/usr/share/doc/$name zshdir=/usr/share/zsh/vendor-completions
+strip --remove-section=.comment --remove-section=.note "$stage"/usr/bin/checktestdata
 sed -i '1s|.*|#!/usr/bin/python3|' "$stage"/usr/share/checktestdata/tools/ctd-*
 gzip -9n "$stage"/usr/share/man/man?/*
 
@@ -31,6 +32,5 @@ mkdir "$stage/DEBIAN"
 sed -e "s|@VERSION@|$version|; s|@MAINTAINER@|$maintainer|; s|@SIZE@|$size|; s|@LIBC@|$(needed_libc "$stage/usr/bin/checktestdata")|" packaging/debian/control >"$stage/DEBIAN/control"
 (cd "$stage" && find usr -type f -print0 | sort --zero-terminated | xargs --null md5sum >DEBIAN/md5sums)
 settle "$stage"
-mkdir -p out
 dpkg-deb --build --root-owner-group -Zxz "$stage" "$package" >/dev/null
 echo "$package"

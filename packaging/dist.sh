@@ -1,5 +1,7 @@
 #!/usr/bin/env bash
 # Makes an archive of the built programs, man pages and documents in out/, and its SHA-256 sum. usage: packaging/dist.sh VERSION (make dist)
+#
+# OUT names another folder.
 set -eu
 cd "$(dirname "${BASH_SOURCE[0]}")/.."
 . packaging/common.sh
@@ -12,7 +14,6 @@ cp LICENSE-MIT LICENSE-APACHE NOTICE "$stage/$name"
 sed -e "s|@VERSION@|$1|g; s|@NAME@|$name|g; s|@LIBC@|$(needed_libc "$stage/$name/bin/checktestdata")|g" packaging/archive/README.md >"$stage/$name/README.md"
 (cd "$stage/$name" && find . -type f -printf '%P\0' | sort --zero-terminated | xargs --null sha256sum >"$stage/sums" && mv "$stage/sums" SHA256SUMS)
 settle "$stage/$name"
-mkdir -p out
-tar --create --directory="$stage" --sort=name --owner=0 --group=0 --numeric-owner "$name" | gzip -9n >"out/$name.tar.gz"
-(cd out && sha256sum "$name.tar.gz" >"$name.tar.gz.sha256")
-echo "out/$name.tar.gz"
+tar --create --directory="$stage" --sort=name --owner=0 --group=0 --numeric-owner "$name" | gzip -9n >"$out/$name.tar.gz"
+(cd "$out" && sha256sum "$name.tar.gz" >"$name.tar.gz.sha256")
+echo "$out/$name.tar.gz"

@@ -200,6 +200,11 @@ def parser(name: str, description: str, epilog: str) -> argparse.ArgumentParser:
     return words
 
 
+def given_words(words: argparse.ArgumentParser) -> argparse.Namespace:
+    """The words of the command line, options before, between and behind the files; argparse cannot have `--` and the latter at once."""
+    return words.parse_args() if "--" in sys.argv else words.parse_intermixed_args()
+
+
 def checker_of(words: argparse.ArgumentParser, given: argparse.Namespace) -> Checker:
     """The checker with the program and the options that were given; where it is not found, that is said and the run ends."""
     path = find_checker(given.checker)

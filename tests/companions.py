@@ -1,0 +1,533 @@
+#!/usr/bin/env python3
+"""Runs ctd-show and ctd-mutate with the built checker. Their reports are compared with texts that were worked out by hand.
+
+The last line counts what passed and failed. usage: tests/companions.py [PROGRAM]"""
+from __future__ import annotations
+
+import importlib.machinery
+import importlib.util
+import io
+import os
+import pty
+import shutil
+import subprocess
+import sys
+import tempfile
+import unittest
+from pathlib import Path
+from types import ModuleType
+
+TOP = Path(__file__).resolve().parent.parent
+TOOLS = TOP / "tools"
+CHECKER = TOP / "crates/checktestdata/out/checktestdata"
+OUT_OF_TIME = 60
+
+LIST = "INT(1,100000,n) NEWLINE\nREPI(i,n,SPACE)\n    INT(-9,9,a[i])\nEND\nNEWLINE\n"
+# A program that every file fits.
+ANYTHING = 'REGEX("(?s-u).*")'
+
+
+def load(name: str) -> ModuleType:
+    """A companion as a module, for what a run does not show."""
+    sys.dont_write_bytecode = True
+    sys.path.insert(0, str(TOOLS))
+    loader = importlib.machinery.SourceFileLoader(name.replace("-", "_"), str(TOOLS / name))
+    spec = importlib.util.spec_from_loader(loader.name, loader)
+    assert spec
+    module = importlib.util.module_from_spec(spec)
+    sys.modules[loader.name] = module
+    loader.exec_module(module)
+    return module
+
+
+class CompanionTest(unittest.TestCase):
+    """A folder for files, and runs of a companion in it."""
+
+    tool = ""
+
+    def setUp(self) -> None:
+        scratch = tempfile.TemporaryDirectory()
+        self.addCleanup(scratch.cleanup)
+        self.folder = Path(scratch.name)
+
+    def write(self, name: str | bytes, text: str | bytes) -> None:
+        path = os.path.join(os.fsencode(self.folder), os.fsencode(name))
+        with open(path, "wb") as file:
+            file.write(text.encode("latin-1") if isinstance(text, str) else text)
+
+    def write_checker(self, script: str) -> None:
+        """A checker that does what a script says, in the folder."""
+        self.write("checktestdata", f"#!/bin/sh\n{script}\n")
+        (self.folder / "checktestdata").chmod(0o755)
+
+    def run_tool(self, *words: str | bytes, stdin: bytes | int = b"", checker: str | None = None) -> subprocess.CompletedProcess[bytes]:
+        """A run in the folder, with another checker than the built one where one is named."""
+        call = [str(TOOLS / self.tool), "--checker", checker or str(CHECKER), *words]
+        if isinstance(stdin, bytes):
+            return subprocess.run(call, cwd=self.folder, input=stdin, capture_output=True, timeout=OUT_OF_TIME, check=False)
+        return subprocess.run(call, cwd=self.folder, stdin=stdin, capture_output=True, timeout=OUT_OF_TIME, check=False)
+
+    def assert_run(self, status: int, out: str, *words: str | bytes, stdin: bytes = b"") -> None:
+        """That a run ends with a status, has a text on standard output and nothing on standard error."""
+        ran = self.run_tool(*words, stdin=stdin)
+        self.assertEqual((ran.stdout.decode("utf-8", "surrogateescape"), ran.stderr, ran.returncode), (out, b"", status))
+
+
+class Show(CompanionTest):
+    tool = "ctd-show"
+
+    def setUp(self) -> None:
+        super().setUp()
+        self.write("list.ctd", LIST)
+        self.write("right.in", "3\n1 -2 3\n")
+
+    def test_a_file_that_fits(self) -> None:
+        self.assert_run(0, "right.in: testdata ok!\n", "list.ctd", "right.in")
+
+    def test_a_value_out_of_range(self) -> None:
+        self.write("wrong.in", "3\n1 -2 33\n")
+        self.assert_run(
+            1,
+            "wrong.in: line 2 column 6: value out of range (program line 3 column 5)\n"
+            "      2 | 1·-2·33\n"
+            "        |      ^\n"
+            "list.ctd:\n"
+            "      3 |     INT(-9,9,a[i])\n"
+            "        |     ^\n",
+            "list.ctd",
+            "wrong.in",
+        )
+
+    def test_an_assertion_at_the_start_of_a_line_shows_the_line_before(self) -> None:
+        self.write("sum.ctd", "INT(0,9,a) SPACE INT(0,9,b) NEWLINE\nASSERT(a<b)\nINT(0,9) NEWLINE\n")
+        self.write("wrong.in", "5 4\n7\n")
+        self.assert_run(
+            1,
+            "wrong.in: line 2 column 1: assertion failed (program line 2 column 1)\n"
+            "      1 | 5·4\n"
+            "      2 | 7\n"
+            "        | ^\n"
+            "sum.ctd:\n"
+            "      2 | ASSERT(a<b)\n"
+            "        | ^\n",
+            "sum.ctd",
+            "wrong.in",
+        )
+
+    def test_an_assertion_within_a_line_shows_that_line_alone(self) -> None:
+        self.write("small.ctd", "NEWLINE INT(0,9,a) ASSERT(a<5) NEWLINE")
+        self.write("wrong.in", "\n7\n")
+        self.assert_run(
+            1,
+            "wrong.in: line 2 column 2: assertion failed (program line 1 column 20)\n"
+            "      2 | 7\n"
+            "        |  ^\n"
+            "small.ctd:\n"
+            "      1 | NEWLINE INT(0,9,a) ASSERT(a<5) NEWLINE\n"
+            "        |                    ^\n",
+            "small.ctd",
+            "wrong.in",
+        )
+
+    def test_an_assertion_in_the_first_line_has_no_line_before(self) -> None:
+        self.write("never.ctd", "ASSERT(1==2)")
+        self.write("empty.in", "")
+        self.assert_run(
+            1,
+            "empty.in: line 1 column 1: assertion failed (program line 1 column 1)\n"
+            "      1 | <end of file>\n"
+            "        | ^\n"
+            "never.ctd:\n"
+            "      1 | ASSERT(1==2)\n"
+            "        | ^\n",
+            "never.ctd",
+            "empty.in",
+        )
+
+    def test_bytes_that_are_not_seen_are_shown(self) -> None:
+        self.write("text.ctd", 'REGEX("[^x]*") EOF')
+        self.write("wrong.in", b"a \tb\\\xc3\xa9\0\rx\r\n")
+        self.assert_run(
+            1,
+            "wrong.in: line 1 column 10: expected end of file (program line 1 column 16)\n"
+            "      1 | a·\\tb\\\\\\xc3\\xa9\\x00\\rx\\r\n"
+            "        |                      ^\n"
+            "text.ctd:\n"
+            '      1 | REGEX("[^x]*") EOF\n'
+            "        |                ^\n",
+            "text.ctd",
+            "wrong.in",
+        )
+
+    def test_the_end_of_the_file_is_marked(self) -> None:
+        self.write("short.in", "3\n1 -2 3")
+        self.assert_run(
+            1,
+            "short.in: line 2 column 7: expected a newline (program line 5 column 1)\n"
+            "      2 | 1·-2·3<end of file>\n"
+            "        |       ^\n"
+            "list.ctd:\n"
+            "      5 | NEWLINE\n"
+            "        | ^\n",
+            "list.ctd",
+            "short.in",
+        )
+
+    def test_the_end_of_the_program_has_no_line(self) -> None:
+        self.write("long.in", "1\n1\n\n")
+        self.assert_run(
+            1,
+            "long.in: line 3 column 1: expected end of file (program end)\n" "      3 | \n" "        | ^\n",
+            "list.ctd",
+            "long.in",
+        )
+
+    def test_a_long_line_is_cut(self) -> None:
+        # The number at column 401 is wrong: 50 bytes before it are shown, and 30 from it on.
+        self.write("long.in", "300\n" + "1 " * 200 + "x" + " 1" * 99 + "\n")
+        self.assert_run(
+            1,
+            "long.in: line 2 column 401: expected an integer (program line 3 column 5)\n"
+            f"      2 | …{'1·' * 25}x{'·1' * 14}·…\n"
+            f"        | {' ' * 51}^\n"
+            "list.ctd:\n"
+            "      3 |     INT(-9,9,a[i])\n"
+            "        |     ^\n",
+            "list.ctd",
+            "long.in",
+        )
+
+    def test_a_line_of_just_the_room_is_not_cut(self) -> None:
+        for length, shown in [(80, "x" * 80), (81, "x" * 80 + "…")]:
+            self.write("wrong.in", "x" * length + "\n")
+            ran = self.run_tool("list.ctd", "wrong.in")
+            self.assertEqual(ran.stdout.decode().splitlines()[1], f"      1 | {shown}")
+
+    def test_no_more_is_read_than_the_lines_that_are_shown(self) -> None:
+        show = load("ctd-show")
+        file = io.BytesIO(b"1\n" * 1000 + b"2\n" + b"3" * 10_000_000)
+        self.assertEqual(show.line_excerpt(file, 0, 1001, 1).text, "2")
+        self.assertLess(file.tell(), 4000)
+        self.assertEqual(show.line_start(file, 0, 1002), 2002)
+        self.assertIsNone(show.line_start(file, 0, 1003))
+
+    def test_a_line_behind_many_blocks(self) -> None:
+        self.write("numbers.ctd", "REP(200000) INT(0,9) NEWLINE END")
+        self.write("wrong.in", "7\n" * 150_000 + "77\n" + "7\n" * 49_999)
+        ran = self.run_tool("numbers.ctd", "wrong.in")
+        told = "wrong.in: line 150001 column 1: value out of range (program line 1 column 13)"
+        self.assertEqual(ran.stdout.decode().splitlines()[:3], [told, " 150001 | 77", "        | ^"])
+
+    def test_a_program_that_is_refused_is_told_once(self) -> None:
+        self.write("open.ctd", "INT(1,10) NEWLINE\nINT(1,")
+        shown = "checktestdata: program line 2 column 7: syntax error\nopen.ctd:\n      2 | INT(1,\n        |       ^\n"
+        self.assert_run(2, shown, "open.ctd", "right.in", "right.in")
+        self.assert_run(2, "open.ctd:2:7: error: syntax error\n", "--gcc", "open.ctd", "right.in", "right.in")
+
+    def test_calls_that_are_refused_are_told_once(self) -> None:
+        self.assert_run(2, "checktestdata: bad preset\n", "-D", "n", "list.ctd", "right.in", "right.in")
+        self.assert_run(2, "checktestdata: bad step limit\n", "--max-steps=x", "list.ctd", "right.in", "right.in")
+        self.assert_run(2, "checktestdata: cannot open none.ctd\n", "none.ctd", "right.in", "right.in")
+        self.assert_run(2, "none.ctd: error: cannot open none.ctd\n", "--gcc", "none.ctd", "right.in", "right.in")
+
+    def test_data_without_a_verdict(self) -> None:
+        self.assert_run(
+            2,
+            "right.in: checktestdata: line 2 column 1: step limit reached (program line 2 column 1)\n"
+            "      2 | 1·-2·3\n"
+            "        | ^\n"
+            "list.ctd:\n"
+            "      2 | REPI(i,n,SPACE)\n"
+            "        | ^\n",
+            "--max-steps=2",
+            "list.ctd",
+            "right.in",
+        )
+        self.assert_run(2, "right.in:2:1: error: no verdict: step limit reached (list.ctd:2:1)\n", "--gcc", "--max-steps=2", "list.ctd", "right.in")
+
+    def test_the_worst_status_counts(self) -> None:
+        self.write("wrong.in", "0\n")
+        self.write("same.ctd", "INT(0,9,n) ASSERT(8/n==4) NEWLINE")
+        self.write("two.in", "2\n")
+        self.write("three.in", "3\n")
+        self.write("zero.in", "0\n")
+        for names, status, counts in [
+            ("two.in two.in", 0, "2 checked, 2 fit, 0 rejected, 0 without verdict"),
+            ("three.in two.in", 1, "2 checked, 1 fit, 1 rejected, 0 without verdict"),
+            ("zero.in three.in two.in", 2, "3 checked, 1 fit, 1 rejected, 1 without verdict"),
+            ("two.in zero.in", 2, "2 checked, 1 fit, 0 rejected, 1 without verdict"),
+        ]:
+            with self.subTest(names):
+                ran = self.run_tool("same.ctd", *names.split())
+                self.assertEqual((ran.returncode, ran.stdout.decode().splitlines()[-1]), (status, counts))
+
+    def test_files_that_cannot_be_read(self) -> None:
+        (self.folder / "folder").mkdir()
+        shown = "none.in: cannot read: No such file or directory\nfolder: cannot read: Is a directory\nright.in: testdata ok!\n"
+        self.assert_run(2, shown + "3 checked, 1 fit, 0 rejected, 2 without verdict\n", "list.ctd", "none.in", "folder", "right.in")
+
+    def test_quiet(self) -> None:
+        self.write("wrong.in", "0\n")
+        ran = self.run_tool("-q", "list.ctd", "right.in", "wrong.in", "right.in")
+        self.assertEqual(ran.stdout.decode().splitlines()[0], "wrong.in: line 1 column 1: value out of range (program line 1 column 1)")
+        self.assertEqual(ran.stdout.decode().splitlines()[-1], "3 checked, 2 fit, 1 rejected, 0 without verdict")
+        self.assert_run(0, "", "--quiet", "list.ctd", "right.in")
+
+    def test_the_form_of_compilers(self) -> None:
+        self.write("wrong.in", "2\n1 10\n")
+        self.write("long.in", "1\n1\n1\n")
+        shown = "wrong.in:2:3: error: value out of range (list.ctd:3:5)\nlong.in:3:1: error: expected end of file (program end)\n"
+        self.assert_run(1, shown, "--gcc", "list.ctd", "right.in", "wrong.in", "long.in")
+        self.assert_run(2, "none.in: error: cannot read: No such file or directory\n", "--gcc", "list.ctd", "none.in")
+
+    def test_options_are_given_to_the_checker(self) -> None:
+        self.write("bound.ctd", "INT(1,most) SPACE INT(1,most) NEWLINE")
+        self.write("blanks.in", " 4  5 \n")
+        self.assert_run(0, "blanks.in: testdata ok!\n", "-w", "-D", "most=5", "bound.ctd", "blanks.in")
+        self.assert_run(0, "blanks.in: testdata ok!\n", "bound.ctd", "blanks.in", "--whitespace-ok", "--define=most=5", "--max-steps=5")
+
+    def test_the_order_is_that_of_the_files(self) -> None:
+        names = [f"{number}.in" for number in range(40)]
+        for number, name in enumerate(names):
+            self.write(name, "9\n" if number % 2 else "100000\n" + "1 " * 99_999 + "1\n")
+        ran = self.run_tool("-j", "4", "list.ctd", *names)
+        told = [line.partition(":")[0] for line in ran.stdout.decode().splitlines() if ".in:" in line]
+        self.assertEqual(told, names)
+
+    def test_standard_input(self) -> None:
+        shown = "-: line 2 column 3: value out of range (program line 3 column 5)\n      2 | 1·10\n        |   ^\n"
+        program = "list.ctd:\n      3 |     INT(-9,9,a[i])\n        |     ^\n"
+        self.assert_run(1, shown + program, "list.ctd", "-", stdin=b"2\n1 10\n")
+        self.write("wrong.in", "2\n1 10\n")
+        with open(self.folder / "wrong.in", "rb") as file:
+            self.assertEqual(self.run_tool("list.ctd", "-", stdin=file.fileno()).stdout.decode(), shown + program)
+
+    def test_an_endless_input_is_not_read_to_its_end(self) -> None:
+        with subprocess.Popen(["yes", "1"], stdout=subprocess.PIPE) as endless:
+            assert endless.stdout
+            ran = self.run_tool("list.ctd", "-", stdin=endless.stdout.fileno())
+            endless.stdout.close()
+        self.assertEqual(ran.stdout.decode().splitlines()[:2], ["-: line 3 column 1: expected end of file (program end)", "      3 | 1"])
+
+    def test_a_long_input_through_a_pipe(self) -> None:
+        ran = self.run_tool("list.ctd", "-", stdin=b"100000\n" + b"1 " * 99_999 + b"11\n")
+        self.assertEqual(ran.stdout.decode().splitlines()[0], "-: line 2 column 199999: value out of range (program line 3 column 5)")
+
+    def test_strange_names(self) -> None:
+        for name in [b"-q", b"a name.in", b"\xff.in"]:
+            with self.subTest(name):
+                self.write(name, "1\n1\n")
+                ran = self.run_tool("--", "list.ctd", name)
+                self.assertEqual((ran.stdout, ran.returncode), (name + b": testdata ok!\n", 0))
+
+    def test_a_checker_that_breaks_off(self) -> None:
+        self.write_checker("kill -9 $$")
+        ran = self.run_tool("list.ctd", "right.in", checker="./checktestdata")
+        self.assertEqual((ran.stdout, ran.returncode), (b"checktestdata: the checker was ended by signal 9\n", 2))
+
+    def test_a_checker_that_is_not_there(self) -> None:
+        ran = self.run_tool("list.ctd", "right.in", checker="./none")
+        self.assertEqual((ran.stdout, ran.returncode), (b"", 2))
+        self.assertIn(b"ctd-show: error: the checker is not found; say where it is by --checker", ran.stderr)
+
+    def test_the_checker_beside_it_and_on_the_path(self) -> None:
+        shutil.copytree(TOOLS, self.folder / "tools", ignore=shutil.ignore_patterns("__pycache__"))
+        for place in ["tools", "path"]:
+            (self.folder / place).mkdir(exist_ok=True)
+            self.write(f"{place}/checktestdata", f"#!/bin/sh\necho from {place}\n")
+            (self.folder / place / "checktestdata").chmod(0o755)
+        for place in ["tools", "path"]:
+            call = [str(self.folder / "tools/ctd-show"), "list.ctd", "right.in"]
+            ran = subprocess.run(call, cwd=self.folder, env={"PATH": f"{self.folder}/path:{os.environ['PATH']}"}, capture_output=True, check=False)
+            self.assertEqual(ran.stdout.decode(), f"right.in: from {place}\n")
+            (self.folder / place / "checktestdata").unlink()
+
+    def test_progress_on_a_terminal(self) -> None:
+        self.write_checker("cat >/dev/null\nsleep 0.8\necho testdata ok!")
+        ours, theirs = pty.openpty()
+        call = [str(TOOLS / "ctd-show"), "--checker", "./checktestdata", "-j", "1", "list.ctd", "right.in", "right.in"]
+        with subprocess.Popen(call, cwd=self.folder, stdout=subprocess.PIPE, stderr=theirs) as process:
+            os.close(theirs)
+            out, _ = process.communicate(timeout=OUT_OF_TIME)
+        self.assertEqual(out.decode(), "right.in: testdata ok!\n" * 2 + "2 checked, 2 fit, 0 rejected, 0 without verdict\n")
+        told = os.read(ours, 4096)
+        os.close(ours)
+        self.assertIn(b"1 of 2 files", told)
+        self.assertTrue(told.endswith(b"\r\x1b[K"), "the line is taken away at the end")
+
+    def test_no_progress_without_a_terminal(self) -> None:
+        self.write_checker("cat >/dev/null\nsleep 1.2\necho testdata ok!")
+        self.assertEqual(self.run_tool("list.ctd", "right.in", checker="./checktestdata").stderr, b"")
+
+    def test_a_reader_that_goes_away(self) -> None:
+        call = f"{TOOLS}/ctd-show --checker {CHECKER} list.ctd {'right.in ' * 500} | head -n 1"
+        ran = subprocess.run(["bash", "-c", call], cwd=self.folder, capture_output=True, timeout=OUT_OF_TIME, check=False)
+        self.assertEqual((ran.stdout, ran.stderr), (b"right.in: testdata ok!\n", b""))
+
+    def test_wrong_words(self) -> None:
+        for words in ["", "list.ctd", "--none list.ctd right.in", "-j 0 list.ctd right.in", "-j x list.ctd right.in"]:
+            with self.subTest(words):
+                ran = self.run_tool(*words.split())
+                self.assertEqual((ran.stdout, ran.returncode), (b"", 2))
+                self.assertIn(b"usage: ctd-show", ran.stderr)
+
+
+class Mutate(CompanionTest):
+    tool = "ctd-mutate"
+
+    def made(self, kind: str, data: bytes, *words: str) -> list[bytes]:
+        """The files of a kind that are made from data and let through by a program that every file fits."""
+        self.write("anything.ctd", ANYTHING)
+        self.write("data.in", data)
+        shutil.rmtree(self.folder / "made", ignore_errors=True)
+        self.run_tool("--only", kind, "-o", "made", *words, "anything.ctd", "data.in")
+        return [(self.folder / f"made/data.{kind}.{number}.in").read_bytes() for number in range(1, 1 + len(list((self.folder / "made").glob("*"))))]
+
+    def test_what_each_kind_makes(self) -> None:
+        for kind, data, made in [
+            ("trailing-space", b"1\n2\n", [b"1 \n2\n", b"1\n2 \n"]),
+            ("trailing-space", b"1\n2", [b"1 \n2", b"1\n2 "]),
+            ("no-last-newline", b"1\n2\n", [b"1\n2"]),
+            ("crlf", b"1\n2\n", [b"1\r\n2\n", b"1\n2\r\n"]),
+            ("crlf-everywhere", b"1\n2\n", [b"1\r\n2\r\n"]),
+            ("leading-zero", b"1 -2\n0 a7\n", [b"01 -2\n0 a7\n", b"1 -02\n0 a7\n", b"1 -2\n00 a7\n"]),
+            ("minus-zero", b"0 10 -0 0\n", [b"-0 10 -0 0\n", b"0 10 -0 -0\n"]),
+            ("plus", b"1 -2 x3 0\n", [b"+1 -2 x3 0\n", b"1 -2 x3 +0\n"]),
+            ("doubled-separator", b"1 2,3\t4\n", [b"1  2,3\t4\n", b"1 2,,3\t4\n", b"1 2,3\t\t4\n"]),
+            ("blank-line", b"1\n2\n", [b"\n1\n2\n", b"1\n\n2\n", b"1\n2\n\n"]),
+            ("byte-order-mark", b"1\n", [b"\xef\xbb\xbf1\n"]),
+            ("above-next", b"5 7\n-2\n", [b"8 7\n-2\n", b"5 -1\n-2\n"]),
+            ("above-previous", b"5 7\n-2\n", [b"5 6\n-2\n", b"5 7\n8\n"]),
+            ("below-next", b"5 7\n-2\n", [b"6 7\n-2\n", b"5 -3\n-2\n"]),
+            ("below-previous", b"5 7\n-2\n", [b"5 4\n-2\n", b"5 7\n6\n"]),
+            ("dropped-line", b"1\n2\n3", [b"2\n3", b"1\n3", b"1\n2\n"]),
+            ("doubled-line", b"1\n2\n3", [b"1\n1\n2\n3", b"1\n2\n2\n3", b"1\n2\n3\n3"]),
+            ("exchanged-lines", b"1\n2\n\n3\n", [b"2\n1\n\n3\n", b"1\n\n2\n3\n", b"1\n2\n3\n\n"]),
+            ("letter-case", b"aB1\n", [b"AB1\n", b"ab1\n"]),
+        ]:
+            with self.subTest(kind=kind, data=data):
+                self.assertEqual(self.made(kind, data), made)
+
+    def test_every_kind_is_tried_above(self) -> None:
+        listed = [line.split()[0] for line in self.run_tool("--kinds").stdout.decode().splitlines()]
+        self.assertEqual(len(listed), 18)
+
+    def test_changes_are_spread_over_the_file(self) -> None:
+        data = b"1\n2\n3\n4\n5\n6\n7\n8\n9\n"
+        self.assertEqual(self.made("dropped-line", data, "-n", "3"), [data.replace(line, b"") for line in (b"1\n", b"4\n", b"7\n")])
+
+    def test_a_change_that_changes_nothing_gives_way_to_the_next(self) -> None:
+        self.assertEqual(self.made("exchanged-lines", b"1\n1\n1\n2\n", "-n", "1"), [b"1\n1\n2\n1\n"])
+
+    def test_all_are_rejected(self) -> None:
+        self.write("number.ctd", "INT(1,10) NEWLINE")
+        self.write("right.in", "5\n")
+        self.assert_run(
+            0,
+            "                                             made  rejected  let through  no verdict\n"
+            "a space at the end of a line                    1         1            0           0\n"
+            "no line feed at the end of the file             1         1            0           0\n"
+            "a carriage return at the end of a line          1         1            0           0\n"
+            "a carriage return at the end of each line       1         1            0           0\n"
+            "a number with a leading zero                    1         1            0           0\n"
+            "a number with a plus                            1         1            0           0\n"
+            "an extra blank line                             2         2            0           0\n"
+            "a byte order mark                               1         1            0           0\n"
+            "a line dropped *                                1         1            0           0\n"
+            "a line twice *                                  1         1            0           0\n"
+            "* may be another file that fits\n"
+            "11 made, 11 rejected, 0 let through, 0 without verdict\n",
+            "number.ctd",
+            "right.in",
+        )
+
+    def test_what_is_let_through_and_what_has_no_verdict_is_listed(self) -> None:
+        # 8/n stops the check where n is 0, which is one above -1; and a pair in either order fits.
+        self.write("divide.ctd", "INT(-9,9,n) SPACE INT(-9,9) NEWLINE ASSERT(8/n<9)")
+        self.write("right.in", "5 -1\n")
+        self.assert_run(
+            1,
+            "                                             made  rejected  let through  no verdict\n"
+            "a number one above the next *                   1         0            0           1\n"
+            "a number one above the one before it *          1         0            1           0\n"
+            "* may be another file that fits\n"
+            "no verdict: a number one above the next\n"
+            '  right.in:1: "5·-1\\n" → "0·-1\\n": division by zero\n'
+            "let through: a number one above the one before it\n"
+            '  right.in:1: "5·-1\\n" → "5·6\\n"\n'
+            "2 made, 0 rejected, 1 let through, 1 without verdict\n",
+            "--only",
+            "above-next,above-previous",
+            "divide.ctd",
+            "right.in",
+        )
+
+    def test_five_of_a_kind_are_listed_or_all(self) -> None:
+        self.write("anything.ctd", ANYTHING)
+        self.write("right.in", "abcdefg\n")
+        lines = self.run_tool("--only", "letter-case", "anything.ctd", "right.in").stdout.decode().splitlines()
+        changed = ["Abcdefg", "aBcdefg", "abCdefg", "abcDefg", "abcdEfg"]
+        listed = [f'  right.in:1: "abcdefg\\n" → "{line}\\n"' for line in changed]
+        ending = ["  and 2 more", "7 made, 0 rejected, 7 let through, 0 without verdict"]
+        self.assertEqual(lines[3:], ["let through: a letter of the other case", *listed, *ending])
+        self.assertIn('"abcdefG\\n"', self.run_tool("-a", "--only", "letter-case", "anything.ctd", "right.in").stdout.decode())
+
+    def test_a_file_that_does_not_fit(self) -> None:
+        self.write("number.ctd", "INT(1,10) NEWLINE")
+        self.write("right.in", "5\n")
+        self.write("wrong.in", "11\n")
+        ran = self.run_tool("--only", "plus", "number.ctd", "wrong.in", "none.in", "right.in")
+        lines = ran.stdout.decode().splitlines()
+        self.assertEqual(lines[:2], ["wrong.in: line 1 column 1: value out of range (program line 1 column 1)", "none.in: cannot read: No such file or directory"])
+        self.assertEqual((ran.returncode, lines[-1]), (2, "1 made, 1 rejected, 0 let through, 0 without verdict"))
+
+    def test_a_program_that_is_refused(self) -> None:
+        self.write("open.ctd", "INT(1,10")
+        self.write("right.in", "5\n")
+        self.assert_run(2, "checktestdata: program line 1 column 9: syntax error\n", "open.ctd", "right.in", "right.in")
+
+    def test_files_of_one_name_in_two_folders(self) -> None:
+        self.write("anything.ctd", ANYTHING)
+        for folder in ["a", "b"]:
+            (self.folder / folder).mkdir()
+            self.write(f"{folder}/1.in", f"{folder}\n")
+        self.run_tool("--only", "byte-order-mark", "-o", "made", "anything.ctd", "a/1.in", "b/1.in", "-", stdin=b"c\n")
+        names = {path.name: path.read_bytes()[3:] for path in (self.folder / "made").iterdir()}
+        self.assertEqual(names, {"a_1.byte-order-mark.1.in": b"a\n", "b_1.byte-order-mark.1.in": b"b\n", "standard-input.byte-order-mark.1": b"c\n"})
+
+    def test_an_unknown_kind(self) -> None:
+        self.write("right.in", "5\n")
+        ran = self.run_tool("--only", "plus,none", "anything.ctd", "right.in")
+        self.assertEqual((ran.stdout, ran.returncode), (b"", 2))
+        self.assertIn(b"no kind none; --kinds lists them", ran.stderr)
+
+    def test_a_long_line_is_cut_around_the_change(self) -> None:
+        self.write("anything.ctd", ANYTHING)
+        self.write("right.in", "a" * 100 + "b" + "1" * 100 + "\n")
+        lines = self.run_tool("--only", "letter-case", "-n", "101", "-a", "anything.ctd", "right.in").stdout.decode().splitlines()
+        self.assertEqual(lines[-2], f'  right.in:1: "…{"a" * 20}b{"1" * 19}…" → "…{"a" * 20}B{"1" * 19}…"')
+
+
+class Both(unittest.TestCase):
+    def test_help_and_version(self) -> None:
+        version = subprocess.run([CHECKER, "--version"], capture_output=True, text=True, check=True).stdout.split()[1]
+        for tool in ["ctd-show", "ctd-mutate"]:
+            with self.subTest(tool):
+                shown = subprocess.run([TOOLS / tool, "--help"], capture_output=True, text=True, check=True).stdout
+                self.assertTrue(shown.startswith(f"usage: {tool} [-h]"))
+                self.assertEqual(subprocess.run([TOOLS / tool, "--version"], capture_output=True, text=True, check=True).stdout, f"{tool} {version}\n")
+
+
+def main() -> int:
+    global CHECKER
+    if len(sys.argv) > 1:
+        CHECKER = Path(sys.argv[1]).resolve()
+    suite = unittest.defaultTestLoader.loadTestsFromModule(sys.modules[__name__])
+    outcome = unittest.TextTestRunner(verbosity=0).run(suite)
+    failed = len({test.id().partition(" ")[0] for test, _ in outcome.failures + outcome.errors})
+    print(f"{outcome.testsRun - failed} passed, {failed} failed")
+    return int(failed > 0)
+
+
+if __name__ == "__main__":
+    sys.exit(main())

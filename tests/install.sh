@@ -1,0 +1,166 @@
+#!/usr/bin/env bash
+# Tries what users install: make install and uninstall, the package, the archive, man pages, and what is said without the toolchain. It
+# needs the built program, and neither a network nor root. What needs a tool that is not there is left out, and said. The last line counts
+# passed and failed.
+set -u
+top=$(cd "$(dirname "${BASH_SOURCE[0]}")/.." && pwd)
+cd "$top" || exit
+work=$(mktemp -d)
+trap 'rm -rf "$work"' EXIT
+passed=0
+failed=0
+# The make that may have called this is not to be asked by those called here.
+unset MAKEFLAGS MFLAGS MAKELEVEL PREFIX DESTDIR
+
+# expect NAME COMMAND..: the command ends with status 0; else what it wrote is shown.
+expect() {
+    local name=$1
+    shift
+    if "$@" >"$work/log" 2>&1; then
+        passed=$((passed + 1))
+    else
+        printf 'install: %s: status %s\n' "$name" $?
+        sed 's/^/    /' "$work/log"
+        failed=$((failed + 1))
+    fi
+}
+
+# has TOOL NAME: whether a tool is there; says what is left out where it is not.
+has() {
+    command -v "$1" >/dev/null 2>&1 || { printf 'install: left out %s: %s is not there\n' "$2" "$1" && false; }
+}
+
+# same WANTED FOUND: two texts are the same.
+same() {
+    diff <(printf '%s\n' "$1") <(printf '%s\n' "$2")
+}
+
+version=$(sed -n 's/^version := //p' Makefile)
+# A folder with a blank in its name.
+stage="$work/a stage"
+prefix=$stage/usr/local
+quiet_make() { make --silent --no-print-directory "$@"; }
+
+expect 'make install' quiet_make install-built DESTDIR="$stage"
+wanted='bin/checktestdata
+bin/ctd-mutate
+bin/ctd-show
+share/bash-completion/completions/checktestdata
+share/bash-completion/completions/ctd-mutate
+share/bash-completion/completions/ctd-show
+share/checktestdata/tools/ctd-mutate
+share/checktestdata/tools/ctd-show
+share/checktestdata/tools/ctd_companion.py
+share/checktestdata/vscode/language-configuration.json
+share/checktestdata/vscode/package.json
+share/checktestdata/vscode/syntaxes/checktestdata.tmLanguage.json
+share/fish/vendor_completions.d/checktestdata.fish
+share/fish/vendor_completions.d/ctd-mutate.fish
+share/fish/vendor_completions.d/ctd-show.fish
+share/man/man1/checktestdata.1
+share/man/man1/ctd-mutate.1
+share/man/man1/ctd-show.1
+share/man/man5/checktestdata.5
+share/vim/vimfiles/compiler/checktestdata.vim
+share/vim/vimfiles/ftdetect/checktestdata.vim
+share/vim/vimfiles/ftplugin/checktestdata.vim
+share/vim/vimfiles/syntax/checktestdata.vim
+share/zsh/site-functions/_checktestdata
+share/zsh/site-functions/_ctd-mutate
+share/zsh/site-functions/_ctd-show'
+installed() { (cd "$prefix" && find . ! -type d ! -path './share/doc/*' -printf '%P\n' | LC_ALL=C sort); }
+expect 'all is installed, and nothing else' same "$wanted" "$(installed)"
+documents=$prefix/share/doc/checktestdata
+expect 'the documents are installed' diff -r docs "$documents/docs"
+expect 'the examples are installed' diff -r examples "$documents/examples"
+for text in README.md CHANGELOG.md LICENSE-MIT LICENSE-APACHE NOTICE; do
+    expect "$text is installed" cmp "$text" "$documents/$text"
+done
+expect 'the installed program runs' same "checktestdata $version (whole-number profile)" "$("$prefix/bin/checktestdata" --version)"
+if has readelf 'whether the program is stripped'; then
+    expect 'the installed program is stripped' same '' "$(readelf --sections --wide "$prefix/bin/checktestdata" | grep -o '\.symtab')"
+fi
+
+# An own problem, so that it does not depend on the examples.
+printf 'INT(1,10) NEWLINE' >"$work/number.ctd"
+printf '7\n' >"$work/right.in"
+printf '77\n' >"$work/wrong.in"
+beside() { (cd "$work" && env PATH=/usr/bin:/bin "$prefix/bin/$1" number.ctd "${@:2}"); }
+expect 'ctd-show finds the checker beside it' same 'right.in: testdata ok!' "$(beside ctd-show right.in)"
+expect 'ctd-mutate finds the checker beside it' same '11 made, 11 rejected, 0 let through, 0 without verdict' "$(beside ctd-mutate right.in | tail -n 1)"
+expect 'the companions leave nothing where they stand' same "$wanted" "$(installed)"
+
+touch "$prefix/bin/other" "$prefix/share/vim/vimfiles/syntax/other.vim"
+if has mandoc 'the form of the man pages'; then
+    # (it looks for pages that are referred to in the folder that it runs in)
+    for page in man/*; do
+        expect "mandoc $page" same '' "$(cd man && mandoc -T lint "${page#man/}" 2>&1)"
+    done
+fi
+expect 'make uninstall' quiet_make uninstall DESTDIR="$stage"
+expect 'uninstall leaves what is not ours' same $'bin/other\nshare/vim/vimfiles/syntax/other.vim' "$(installed)"
+expect 'uninstall leaves no documents' test ! -e "$documents"
+expect 'install with another prefix' quiet_make install-built DESTDIR="$stage" PREFIX=/opt/tools
+expect 'another prefix' test -x "$stage/opt/tools/bin/ctd-show"
+
+# Without the toolchain one line is written, whatever is asked for.
+mkdir -p "$work/bare/crates"
+cp -r Makefile HANDLES crates.txt checktestdata scripts tests "$work/bare"
+if PATH=/usr/bin:/bin command -v rt >/dev/null; then
+    echo 'install: left out what is said without the toolchain: rt is in /usr/bin'
+else
+    line='the Rattle toolchain is missing (no command rt): install rattle-kit-13f to build, or take the built program from the package checktestdata-nagdimot or the archive checktestdata-VERSION-x86_64-linux-gnu.tar.gz'
+    without() { (cd "$work/bare" && env PATH=/usr/bin:/bin "$@" 2>&1); }
+    expect './checktestdata without the toolchain' same "checktestdata: $line" "$(without ./checktestdata p.ctd d.in)"
+    for goal in build install deb dist test bench; do
+        expect "make $goal without the toolchain" same "Makefile: *** $line.  Stop." "$(without make "$goal" | sed 's/^Makefile:[0-9]*/Makefile/')"
+    done
+fi
+
+# Each crate of the toolchain that crates.txt names is in NOTICE.
+ours=$(sed 's/:.*//' crates.txt)
+for crate in $(sed 's/.*://' crates.txt | tr -s ' ' '\n' | sort -u); do
+    grep -qx "$crate" <<<"$ours" || expect "NOTICE names $crate" grep -qw "$crate" NOTICE
+done
+expect 'the version of the grammar for VS Code' grep -q "\"version\": \"$version.0\"" editors/vscode/package.json
+
+if has shellcheck 'the form of the scripts'; then
+    expect 'shellcheck' shellcheck -x checktestdata .ci/run scripts/*.sh packaging/*.sh tests/*.sh
+    expect 'shellcheck of the completions' shellcheck --shell=bash completions/bash/*
+fi
+
+export OUT=$work/out
+archive=checktestdata-$version-x86_64-linux-gnu
+if has readelf 'the archive and the package'; then
+    libc=$(. packaging/common.sh && needed_libc crates/checktestdata/out/checktestdata)
+    expect 'the archive' packaging/dist.sh "$version"
+    cp "$OUT/$archive.tar.gz" "$work/first.tar.gz"
+    expect 'the archive again' packaging/dist.sh "$version"
+    expect 'both archives are the same' cmp "$OUT/$archive.tar.gz" "$work/first.tar.gz"
+    expect 'the sum of the archive' env --chdir="$OUT" sha256sum --check "$archive.tar.gz.sha256"
+    tar -xzf "$OUT/$archive.tar.gz" -C "$work"
+    expect 'the sums in the archive' env --chdir="$work/$archive" sha256sum --check --strict SHA256SUMS
+    expect 'the program in the archive' same "checktestdata $version (whole-number profile)" "$("$work/$archive/bin/checktestdata" --version)"
+    expect 'a companion in the archive' "$work/$archive/bin/ctd-show" "$work/number.ctd" "$work/right.in"
+    expect 'the archive says what it runs on' grep -q "x86-64 with the GNU C library $libc or later" "$work/$archive/README.md"
+    expect 'the archive has no mark that is not filled in' same '' "$(grep -o '@[A-Z]*@' "$work/$archive/README.md")"
+    if has dpkg-deb 'the package'; then
+        package=$OUT/checktestdata-nagdimot_$version-1_amd64.deb
+        field() { dpkg-deb --field "$package" "$1"; }
+        expect 'the package' packaging/deb.sh "$version"
+        expect 'the name of the package' same checktestdata-nagdimot "$(field Package)"
+        for relation in Provides Conflicts Replaces; do
+            expect "$relation" same checktestdata "$(field $relation)"
+        done
+        expect 'what the package depends on' same "libc6 (>= $libc), python3:any (>= 3.9)" "$(field Depends)"
+        dpkg-deb --extract "$package" "$work/package"
+        expect 'the program in the package' same "checktestdata $version (whole-number profile)" "$("$work/package/usr/bin/checktestdata" --version)"
+        expect 'a companion in the package' "$work/package/usr/bin/ctd-show" "$work/number.ctd" "$work/right.in"
+        if has lintian 'lintian'; then
+            expect 'lintian' lintian --fail-on error,warning,info "$package"
+        fi
+    fi
+fi
+
+printf '%s passed, %s failed\n' "$passed" "$failed"
+[ "$failed" -eq 0 ]
