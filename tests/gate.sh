@@ -1,6 +1,6 @@
 #!/usr/bin/env bash
-# Rebuilds every proof and test from scratch (rt ci), then runs the program that this built as a process, on the rows of tables too, and at
-# last with allocations failing.
+# Rebuilds every proof and test from scratch (rt ci), then runs the program that this built as a process, on the rows of tables too, with
+# allocations failing, on the examples, and as the documents say.
 # The last line counts what passed and failed in all.
 set -u
 cd "$(dirname "${BASH_SOURCE[0]}")/.."
@@ -31,6 +31,8 @@ if [ "$failed" -eq 0 ]; then
     count tests/process.sh
     count tests/tables.py
     count tests/allocations.py
+    count tests/examples.py
+    count tests/documents.py
 fi
 printf '%s passed, %s failed\n' "$passed" "$failed"
 [ "$failed" -eq 0 ]
