@@ -47,13 +47,12 @@ class Reader:
     def run(self, text: str) -> str:
         """What a command writes on both streams; `$?` in it is the status of the command before."""
         done = subprocess.run(
-            ["bash", "-c", f"(exit {self.status}); {text}"],
+            ["timeout", str(OUT_OF_TIME), "bash", "-c", f"(exit {self.status}); {text}"],
             cwd=self.folder,
             env=self.environment,
             stdin=subprocess.DEVNULL,
             stdout=subprocess.PIPE,
             stderr=subprocess.STDOUT,
-            timeout=OUT_OF_TIME,
             check=False,
         )
         self.status = done.returncode
