@@ -1,12 +1,12 @@
 #!/usr/bin/env python3
-"""Runs what the documents show: every session, every file that they write, every program.
+"""Runs what the documents show: every session, every file that they write, every program. And it follows their links.
 
 Each document has a folder of its own, in which its files are written and its commands run, one after the other, by bash. `checktestdata` is
 the built checker there, and `examples` is that of the repository. A command has to write what stands below it, on both streams together.
 A program that stands alone has to be read without a fault. How blocks are marked is told in markdown_blocks.py. A block that needs a program which
 is not there is left out, and a line says so.
 
-The last line counts the commands and programs that did what is written, as passed, and the others. usage: tests/documents.py [PROGRAM]"""
+The last line counts the commands and programs that did what is written and the links that lead somewhere, as passed, and the others. usage: tests/documents.py [PROGRAM]"""
 import os
 import shutil
 import subprocess
@@ -15,11 +15,11 @@ import tempfile
 from collections.abc import Iterator
 from pathlib import Path
 
-from markdown_blocks import Block, Command, blocks, commands
+from markdown_blocks import INDENTED, Block, Command, anchors, blocks, commands, links
 
 TOP = Path(__file__).resolve().parent.parent
 DOCUMENTS = ["README.md", "SECURITY.md", "examples/README.md", *(f"docs/{name}.md" for name in ["TUTORIAL", "COOKBOOK", "MIGRATION", "INTEGRATION", "FAQ"])]
-SESSIONS = ["console", "indented"]
+SESSIONS = ["console", INDENTED]
 OUT_OF_TIME = 60
 # README: the first command of a newcomer, which stands without a prompt
 FIRST_COMMAND = "./checktestdata examples/numbers/program.ctd examples/numbers/right.in"
@@ -87,23 +87,44 @@ def faults(reader: Reader, block: Block) -> Iterator[tuple[int, str | None]]:
         yield block.number, f"a block of the kind {block.kind!r} is no session, no file and no program"
 
 
+def fault_of_link(document: Path, link: str) -> str | None:
+    """Why a link leads nowhere."""
+    name, _, anchor = link.partition("#")
+    file = document.parent / name if name else document
+    if not file.exists():
+        return f"there is no {link}"
+    return f"there is no heading {link}" if anchor and anchor not in anchors(file) else None
+
+
+def reason_to_leave_out(block: Block) -> str | None:
+    """Why a block is not run here."""
+    if block.needs is not None and shutil.which(block.needs) is None:
+        return f"there is no {block.needs}"
+    return block.not_run
+
+
+def results_of(name: str, checker: Path, folder: Path) -> Iterator[tuple[int, str | None]]:
+    """For each command, program and link of a document the number of its line, and what is wrong with it."""
+    document, reader = TOP / name, Reader(checker, folder)
+    if name == "README.md":
+        is_right = FIRST_COMMAND in document.read_text() and reader.run(FIRST_COMMAND) == "testdata ok!\n"
+        yield 1, None if is_right else f"{FIRST_COMMAND!r} is not there, or does not write `testdata ok!`"
+    for block in blocks(document):
+        if reason := reason_to_leave_out(block):
+            print(f"documents: {name}, line {block.number}: left out: {reason}")
+        else:
+            yield from faults(reader, block)
+    for number, link in links(document):
+        yield number, fault_of_link(document, link)
+
+
 def main() -> int:
     words = sys.argv[1:]
     checker = Path(words[0]).resolve() if words else TOP / "crates/checktestdata/out/checktestdata"
     passed = failed = 0
     for name in DOCUMENTS:
         with tempfile.TemporaryDirectory() as folder:
-            reader = Reader(checker, Path(folder))
-            results: list[tuple[int, str | None]] = []
-            if name == "README.md":
-                is_right = FIRST_COMMAND in (TOP / name).read_text() and reader.run(FIRST_COMMAND) == "testdata ok!\n"
-                results.append((1, None if is_right else f"{FIRST_COMMAND!r} is not there, or does not write `testdata ok!`"))
-            for block in blocks(TOP / name):
-                missing = block.needs is not None and shutil.which(block.needs) is None
-                if missing or block.not_run is not None:
-                    print(f"documents: {name}, line {block.number}: left out: {'there is no ' + block.needs if missing else block.not_run}")
-                else:
-                    results.extend(faults(reader, block))
+            results = list(results_of(name, checker, Path(folder)))
         for number, fault in results:
             passed, failed = passed + (fault is None), failed + (fault is not None)
             if fault is not None:

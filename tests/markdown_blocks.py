@@ -1,4 +1,4 @@
-"""The blocks of code of a document in Markdown, with what the lines before them say.
+"""What a document in Markdown holds: its blocks of code, with what the lines before them say, its links and its headings.
 
     Write `one.ctd`:              a line that ends with a name and a colon says that the block is this file
     <!-- needs: parallel -->      a comment says which program the block needs
@@ -13,8 +13,11 @@ from pathlib import Path
 
 FENCE = "```"
 INDENT = "    "
+INDENTED = "indented"
 FILE_NAME = re.compile(r"`([\w./-]+)`:$")
 COMMENT = re.compile(r"<!-- (needs|not run): (.*) -->$")
+CODE = re.compile(r"`[^`]*`")
+LINK = re.compile(r"\]\(([^()\s]+)\)")
 
 
 @dataclass
@@ -54,32 +57,42 @@ def read_words_before(block: Block, before: list[str]) -> None:
         block.file = name[1]
 
 
+def opened_block(line: str, number: int, before: list[str]) -> Block | None:
+    """The block that a line of text opens, if it opens one."""
+    if line.startswith(FENCE):
+        block = Block(line[len(FENCE) :], number + 1)
+    elif line.startswith(INDENT + "$ "):
+        block = Block(INDENTED, number, [line[len(INDENT) :]])
+    else:
+        return None
+    read_words_before(block, before)
+    return block
+
+
 def blocks(document: Path) -> Iterator[Block]:
     """The fenced blocks of a document, and its indented ones that are sessions."""
     before: list[str] = []
-    open_block: Block | None = None
+    block: Block | None = None
     for number, line in enumerate(document.read_text().splitlines(), 1):
-        is_indented = open_block is not None and open_block.kind == "indented"
-        if is_indented and not line.startswith(INDENT):
-            yield open_block
-            open_block = None
-        if open_block is None:
-            if line.startswith(FENCE) or line.startswith(INDENT + "$ "):
-                is_fenced = line.startswith(FENCE)
-                open_block = Block(line[len(FENCE) :] if is_fenced else "indented", number + is_fenced)
-                read_words_before(open_block, before)
+        if block is not None and block.kind == INDENTED:
+            if line.startswith(INDENT):
+                block.lines.append(line[len(INDENT) :])
+                continue
+            yield block
+            block = None
+        if block is None:
+            block = opened_block(line, number, before)
+            if block is not None:
                 before = []
-                if not is_fenced:
-                    open_block.lines.append(line[len(INDENT) :])
             elif line:
                 before.append(line)
         elif line == FENCE:
-            yield open_block
-            open_block = None
+            yield block
+            block = None
         else:
-            open_block.lines.append(line[len(INDENT) :] if is_indented else line)
-    if open_block is not None:
-        yield open_block
+            block.lines.append(line)
+    if block is not None:
+        yield block
 
 
 def commands(block: Block) -> Iterator[Command]:
@@ -98,3 +111,27 @@ def commands(block: Block) -> Iterator[Command]:
             command.written += line + "\n"
     if command is not None:
         yield command
+
+
+def lines_of_text(document: Path) -> Iterator[tuple[int, str]]:
+    """The lines of a document outside of fenced blocks, with their numbers."""
+    is_text = True
+    for number, line in enumerate(document.read_text().splitlines(), 1):
+        if line.startswith(FENCE):
+            is_text = not is_text
+        elif is_text:
+            yield number, line
+
+
+def anchors(document: Path) -> set[str]:
+    """The names by which links reach the headings of a document."""
+    headings = [line.lstrip("#").strip().lower() for _, line in lines_of_text(document) if line.startswith("#")]
+    return {re.sub(r"[^\w\- ]", "", heading).replace(" ", "-") for heading in headings}
+
+
+def links(document: Path) -> Iterator[tuple[int, str]]:
+    """The links of a document to other files and to headings, with the numbers of their lines."""
+    for number, line in lines_of_text(document):
+        for link in LINK.finditer(CODE.sub("", line)):
+            if "://" not in link[1]:
+                yield number, link[1]
