@@ -1,6 +1,6 @@
 #!/usr/bin/env bash
 # Rebuilds every proof and test from scratch (rt ci), then runs the program that this built: as a process, on the rows of tables, with reads,
-# writes and allocations failing, beside its companions, and installed and packed.
+# writes and allocations failing, on the examples, as the documents say, beside its companions, and installed and packed.
 # The last line counts what passed and failed in all.
 set -u
 cd "$(dirname "${BASH_SOURCE[0]}")/.." || exit
@@ -35,6 +35,8 @@ if [ "$failed" -eq 0 ]; then
     count tests/companions.py
     count tests/editors.py
     count tests/install.sh
+    count tests/examples.py
+    count tests/documents.py
 fi
 printf '%s passed, %s failed\n' "$passed" "$failed"
 [ "$failed" -eq 0 ]

@@ -1,0 +1,238 @@
+#!/usr/bin/env python3
+"""Times the programs of docs/COOKBOOK.md on data that are made for them, and prints processor seconds and peak memory.
+
+The programs are those that stand in the document. The data have a fixed seed, so they are the same on every machine."""
+import argparse
+import math
+import os
+import random
+import subprocess
+import sys
+import tempfile
+from collections.abc import Callable
+from pathlib import Path
+
+TOP = Path(__file__).resolve().parent.parent
+sys.path.insert(0, str(TOP / "tests"))
+
+from markdown_blocks import blocks  # noqa: E402
+
+COOKBOOK = TOP / "docs/COOKBOOK.md"
+Pairs = list[tuple[int, int]]
+
+
+def seeded(size: int) -> random.Random:
+    return random.Random(f"cookbook {size}")
+
+
+def line(*numbers: int) -> str:
+    return " ".join(map(str, numbers)) + "\n"
+
+
+def with_pairs(head: str, pairs: Pairs) -> bytes:
+    return (head + "".join(line(*pair) for pair in pairs)).encode()
+
+
+def letters(size: int, alphabet: str = "abcdefghijklmnopqrstuvwxyz") -> str:
+    return "".join(seeded(size).choices(alphabet, k=size))
+
+
+def permutation(size: int) -> bytes:
+    numbers = list(range(1, size + 1))
+    seeded(size).shuffle(numbers)
+    return (line(size) + line(*numbers)).encode()
+
+
+def sorted_numbers(size: int) -> bytes:
+    return (line(size) + line(*sorted(seeded(size).sample(range(10**9), size)))).encode()
+
+
+def sorted_words(size: int) -> bytes:
+    source = seeded(size)
+    words = {"".join(source.choices("abcdefghijklmnopqrstuvwxyz", k=8)) for _ in range(size)}
+    return (line(len(words)) + "".join(word + "\n" for word in sorted(words))).encode()
+
+
+def parents(size: int) -> bytes:
+    source = seeded(size)
+    return (line(size) + line(*(source.randint(1, node) for node in range(1, size)))).encode()
+
+
+def tree_edges(size: int) -> Pairs:
+    """The edges of a random tree, in any order and each either way round."""
+    source = seeded(size)
+    edges = [(source.randint(1, node), node + 1) for node in range(1, size)]
+    source.shuffle(edges)
+    return [(v, u) if source.random() < 0.5 else (u, v) for u, v in edges]
+
+
+def tree(size: int) -> bytes:
+    return with_pairs(line(size), tree_edges(size))
+
+
+def connected(size: int) -> bytes:
+    edges = [*tree_edges(size), (1, size)]
+    return with_pairs(line(size, len(edges)), edges)
+
+
+def different_edges(size: int) -> bytes:
+    """About as many edges as nodes, all different, each with its smaller node first."""
+    source, nodes = seeded(size), size + 1
+    edges = {(1, 2)}
+    while len(edges) < min(size, nodes * (nodes - 1) // 2):
+        u, v = source.sample(range(1, nodes + 1), 2)
+        edges.add((min(u, v), max(u, v)))
+    order = sorted(edges)
+    source.shuffle(order)
+    return with_pairs(line(nodes, len(order)), order)
+
+
+def bipartite(size: int) -> bytes:
+    source, nodes = seeded(size), max(size, 2)
+    half = nodes // 2
+    edges = [(source.randint(1, half), source.randint(half + 1, nodes)) for _ in range(size)]
+    return with_pairs(line(nodes, size), edges)
+
+
+def acyclic(size: int) -> bytes:
+    source, nodes = seeded(size), size + 1
+    order = list(range(1, nodes + 1))
+    source.shuffle(order)
+    places = [sorted(source.sample(range(nodes), 2)) for _ in range(size)]
+    return with_pairs(line(nodes, size), [(order[first], order[second]) for first, second in places])
+
+
+def side_of(size: int) -> int:
+    """The side of a square of about so many entries."""
+    return max(2, math.isqrt(size))
+
+
+def grid(size: int) -> bytes:
+    side = side_of(size)
+    cells = "S" + letters(side * side - 1, ".#")
+    return (line(side, side) + "".join(cells[side * row : side * (row + 1)] + "\n" for row in range(side))).encode()
+
+
+def matrix(size: int) -> bytes:
+    side, source = side_of(size), seeded(size)
+    values = [[0] * side for _ in range(side)]
+    for row in range(side):
+        for column in range(row):
+            values[row][column] = values[column][row] = source.randint(1, 10**6)
+    return (line(side) + "".join(line(*row) for row in values)).encode()
+
+
+def total(size: int) -> bytes:
+    """Test cases of ten numbers or fewer, and a last one with the numbers that are left; at most 1,000 of them."""
+    source, text, cases, left = seeded(size), "", 0, size
+    while left > 0:
+        count = min(left, 10) if cases < 999 else left
+        text += line(count) + line(*source.sample(range(10**9), count))
+        cases, left = cases + 1, left - count
+    return (line(cases) + text).encode()
+
+
+def sentinel(size: int) -> bytes:
+    source = seeded(size)
+    return with_pairs("", [(source.randint(1, 1000), source.randint(1, 1000)) for _ in range(size)] + [(0, 0)])
+
+
+def optional(size: int) -> bytes:
+    source = seeded(size)
+    return (line(size) + "".join(source.choice(["add ann 42\n", "remove bob\n", "list\n"]) for _ in range(size))).encode()
+
+
+def brackets(size: int) -> bytes:
+    source, text, stack = seeded(size), "", ""
+    for left in range(2 * ((size + 1) // 2), 0, -1):
+        if stack and (len(stack) == left or source.random() < 0.5):
+            text, stack = text + stack[-1], stack[:-1]
+        else:
+            pair = source.choice(["()", "[]", "{}"])
+            text, stack = text + pair[0], stack + pair[1]
+    return (line(len(text)) + text + "\n").encode()
+
+
+def palindrome(size: int) -> bytes:
+    half = letters((size + 1) // 2)
+    return (line(size) + half + half[: size // 2][::-1] + "\n").encode()
+
+
+def decimals(size: int) -> bytes:
+    source = seeded(size)
+    return (line(size) + "".join(f"{source.randint(0, 999)}.{source.randint(0, 999999):06}\n" for _ in range(size))).encode()
+
+
+def long_string(size: int) -> bytes:
+    return (line(size) + letters(size) + "\n").encode()
+
+
+def long_line(size: int) -> bytes:
+    return (letters(size) + "\n").encode()
+
+
+# The files of the cookbook, each with what makes data of a size for it.
+IDIOMS: dict[str, Callable[[int], bytes]] = {
+    "permutation_unique.ctd": permutation,
+    "permutation.ctd": permutation,
+    "sorted.ctd": sorted_numbers,
+    "sorted_words.ctd": sorted_words,
+    "parents.ctd": parents,
+    "tree.ctd": tree,
+    "connected.ctd": connected,
+    "edges_unique.ctd": different_edges,
+    "edges.ctd": different_edges,
+    "bipartite.ctd": bipartite,
+    "acyclic.ctd": acyclic,
+    "grid.ctd": grid,
+    "matrix.ctd": matrix,
+    "total.ctd": total,
+    "sentinel.ctd": sentinel,
+    "optional.ctd": optional,
+    "brackets.ctd": brackets,
+    "palindrome.ctd": palindrome,
+    "decimals.ctd": decimals,
+    "long_string.ctd": long_string,
+    "long_line.ctd": long_line,
+}
+
+
+def programs() -> dict[str, str]:
+    """The programs of the cookbook by the names of their files."""
+    return {block.file: block.text() for block in blocks(COOKBOOK) if block.file is not None}
+
+
+def measure(checker: Path, program: Path, data: Path) -> tuple[float, float]:
+    """Processor seconds and peak memory in MB of a run, which has to accept the data."""
+    with data.open("rb") as stdin:
+        process = subprocess.Popen([checker, "-D", "maxn=1000001", program], stdin=stdin, stdout=subprocess.PIPE)
+        with process:
+            assert process.stdout is not None
+            answer = process.stdout.read()
+            _, status, usage = os.wait4(process.pid, 0)
+            process.returncode = os.waitstatus_to_exitcode(status)
+    if (answer, status) != (b"testdata ok!\n", 0):
+        raise SystemExit(f"{program.name}: {answer!r}, status {process.returncode}")
+    return usage.ru_utime + usage.ru_stime, usage.ru_maxrss / 1024
+
+
+def main() -> None:
+    parser = argparse.ArgumentParser(description=__doc__)
+    parser.add_argument("--checker", type=Path, default=TOP / "crates/checktestdata/out/checktestdata")
+    parser.add_argument("--sizes", type=int, nargs="+", default=[10**5, 10**6])
+    parser.add_argument("--runs", type=int, default=3, help="the least of so many runs is printed")
+    options = parser.parse_args()
+    texts = programs()
+    with tempfile.TemporaryDirectory() as folder:
+        for name, make in IDIOMS.items():
+            program, data, found = Path(folder, name), Path(folder, "data"), []
+            program.write_text(texts[name])
+            for size in options.sizes:
+                data.write_bytes(make(size))
+                runs = [measure(options.checker.resolve(), program, data) for _ in range(options.runs)]
+                found.append(f"{min(run[0] for run in runs):8.3f} s {min(run[1] for run in runs):7.1f} MB")
+            print(f"{name:<24}" + "  ".join(found), flush=True)
+
+
+if __name__ == "__main__":
+    main()
