@@ -7,6 +7,7 @@ so the token at which it stops is the place of the syntax error, and nobody has 
 
 import re
 from dataclasses import dataclass, field
+from functools import cached_property
 from pathlib import Path
 
 from .tokens import END
@@ -24,7 +25,12 @@ class Production:
     symbol: str
     parts: tuple[str, ...]
 
-    def is_repetition(self) -> bool:
+    @cached_property
+    def length(self) -> int:
+        return len(self.parts)
+
+    @cached_property
+    def is_group(self) -> bool:
         """Whether this is a part in braces or brackets, whose parts belong to the production around it."""
         return self.symbol[0] in "{["
 

@@ -10,7 +10,7 @@ from .values import Value
 Presets = dict[tuple[bytes, Indices], Value]
 
 NAME = re.compile(rb"[a-z][a-z0-9]*")
-NUMERAL = re.compile(rb"-?([0-9]+)")
+VALUE = re.compile(rb'-?(?P<digits>[0-9]+)|(?P<literal>"(?:[^"\\]|\\.)*+")', re.DOTALL)
 
 
 class BadPreset(Misused):
@@ -62,14 +62,13 @@ class Reader:
     def value(self) -> Value:
         """A numeral, a minus and a numeral, or a string literal."""
         try:
-            if self.text.startswith(b'"', self.index):
-                value, self.index = tokens.literal(self.text, self.index)
-                return value
-            found = NUMERAL.match(self.text, self.index)
+            found = VALUE.match(self.text, self.index)
             if found is None:
                 raise BadPreset
             self.index = found.end()
-            number = tokens.numeral(self.text, found.start(1), found.end(1))
+            if found["literal"]:
+                return tokens.literal(found["literal"], found.start())
+            number = tokens.numeral(self.text, *found.span("digits"))
             return -number if found[0].startswith(b"-") else number
         except Refused as fault:
             raise BadPreset from fault

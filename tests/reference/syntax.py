@@ -4,7 +4,7 @@ from dataclasses import dataclass
 from functools import cache
 
 from .faults import Refused
-from .grammar import State, language
+from .grammar import Production, State, language
 from .tokens import END, Token
 
 
@@ -29,47 +29,52 @@ def states() -> list[State]:
 def parse(tokens: list[Token]) -> list[Tree]:
     """The commands of a program, of which the last token is its end. Raises Refused at the first token with which no program goes on."""
     table = states()
+    # the states that led here, and what was read between each two of them
     path = [0]
     entries: list[Entry] = []
-    index = 0
-    while True:
-        token = tokens[index]
+    for token in tokens:
+        symbol = token.symbol
         state = table[path[-1]]
-        if token.symbol in state.shifts:
-            if token.symbol == END:
-                return trees_of(entries)
-            path.append(state.shifts[token.symbol])
-            entries.append(token)
-            index += 1
-        elif token.symbol in state.reductions:
-            production = state.reductions[token.symbol]
-            start = len(entries) - len(production.parts)
-            parts = entries[start:]
-            del entries[start:], path[start + 1 :]
-            entries.append(entry_of(production.symbol, parts))
+        while symbol not in state.shifts:
+            production = state.reductions.get(symbol)
+            if production is None:
+                raise Refused("syntax error", token.offset)
+            if production.length == 1:
+                path.pop()
+            else:
+                start = len(entries) - production.length
+                entries[start:] = [entry_of(production, entries[start:])]
+                del path[start + 1 :]
             path.append(table[path[-1]].shifts[production.symbol])
-        else:
-            raise Refused("syntax error", token.offset)
+            state = table[path[-1]]
+        path.append(state.shifts[symbol])
+        entries.append(token)
+    return program_of(entries)
 
 
-def entry_of(symbol: str, parts: list[Entry]) -> Entry:
-    """What a production is, from its parts."""
-    if symbol[0] in "{[":
-        return trees_of(parts)
-    if len(parts) == 1 and symbol != "program":
-        return parts[0]
+def entry_of(production: Production, parts: list[Entry]) -> Entry:
+    """What a production of several parts, or of none, is."""
     trees = trees_of(parts)
-    if symbol == "program":
+    if production.is_group:
         return trees
-    return trees[0] if len(trees) == 1 else Node(symbol, trees)
+    return trees[0] if len(trees) == 1 else Node(production.symbol, trees)
 
 
 def trees_of(entries: list[Entry]) -> list[Tree]:
-    """The trees of entries, in order. A list at the front is continued, not copied."""
-    trees = entries[0] if entries and isinstance(entries[0], list) else []
-    for entry in entries[1:] if entries and isinstance(entries[0], list) else entries:
-        if isinstance(entry, list):
-            trees.extend(entry)
-        else:
+    """The trees of entries, in order. A list at the front goes on; it is not copied."""
+    trees: list[Tree] = []
+    for index, entry in enumerate(entries):
+        if not isinstance(entry, list):
             trees.append(entry)
+        elif index == 0:
+            trees = entry
+        else:
+            trees.extend(entry)
     return trees
+
+
+def program_of(entries: list[Entry]) -> list[Tree]:
+    """The commands of a program, which stands before its end."""
+    commands, end = entries
+    assert isinstance(commands, list) and isinstance(end, Token) and end.symbol == END
+    return commands

@@ -14,19 +14,20 @@ END = "the end of the text"
 
 LEFT_OUT_WORDS = frozenset({"FLOAT", "FLOATP", "FIXED", "SCIENTIFIC"})
 
+# A backslash and the byte behind it are never the closing quote of a literal.
 PIECE = re.compile(
     rb"""
       (?P<blanks> (?: [ \t\r\n] | \#[^\n]* )+ )
+    | (?P<mark> <= | >= | == | != | && | \|\| | [()\[\],=+\-*/%^!<>] )
     | (?P<word> [A-Z]+ )
     | (?P<name> [a-z][a-z0-9]* )
     | (?P<numeral> [0-9]+ )
-    | (?P<mark> <= | >= | == | != | && | \|\| | [()\[\],=+\-*/%^!<>] )
-    | (?P<quote> " )
+    | (?P<literal> " (?: [^"\\] | \\. )*+ " )
+    | (?P<unfinished> " )
+    | (?P<unexpected> . )
     """,
-    re.VERBOSE,
+    re.VERBOSE | re.DOTALL,
 )
-# What stands between the quotes of a literal: a backslash and the byte behind it are never its closing quote.
-BETWEEN_QUOTES = re.compile(rb'(?: [^"\\] | \\. )*+', re.VERBOSE | re.DOTALL)
 ESCAPE = re.compile(rb'\\(?: ([0-7]{1,3}) | ([ntrb"\\]) | \n )', re.VERBOSE)
 SIMPLE_ESCAPES = {b"n": b"\n", b"t": b"\t", b"r": b"\r", b"b": b"\b", b'"': b'"', b"\\": b"\\"}
 
@@ -42,26 +43,27 @@ class Token(NamedTuple):
 def cut(text: bytes) -> list[Token]:
     """The tokens of a program, with one for its end. Raises Refused for the first wrong token."""
     tokens = []
-    offset = 0
-    while offset < len(text):
-        piece = PIECE.match(text, offset)
-        if piece is None:
-            raise Refused("unexpected byte", offset)
-        end = piece.end()
+    for piece in PIECE.finditer(text):
+        spelling, offset = piece[0], piece.start()
         match piece.lastgroup:
-            case "word":
-                tokens.append(Token(word(piece[0], offset), piece[0], offset))
-            case "name":
-                tokens.append(Token(NAME, piece[0], offset))
-            case "numeral":
-                tokens.append(Token(NUMERAL, numeral(text, offset, end), offset))
+            case "blanks":
+                continue
             case "mark":
-                tokens.append(Token(piece[0].decode(), piece[0], offset))
-            case "quote":
-                value, end = literal(text, offset)
-                tokens.append(Token(TEXT, value, offset))
-        offset = end
-    tokens.append(Token(END, b"", offset))
+                token = Token(spelling.decode(), spelling, offset)
+            case "word":
+                token = Token(word(spelling, offset), spelling, offset)
+            case "name":
+                token = Token(NAME, spelling, offset)
+            case "numeral":
+                token = Token(NUMERAL, numeral(text, offset, piece.end()), offset)
+            case "literal":
+                token = Token(TEXT, literal(spelling, offset), offset)
+            case "unfinished":
+                raise Refused("unfinished string", offset)
+            case _:
+                raise Refused("unexpected byte", offset)
+        tokens.append(token)
+    tokens.append(Token(END, b"", len(text)))
     return tokens
 
 
@@ -82,19 +84,16 @@ def numeral(text: bytes, offset: int, end: int) -> int:
     return int(text[offset:end])
 
 
-def literal(text: bytes, offset: int) -> tuple[bytes, int]:
-    """The bytes that a literal stands for whose opening quote stands at an offset, and the offset behind it."""
-    start = offset + 1
-    end = BETWEEN_QUOTES.match(text, start).end()
-    if text[end : end + 1] != b'"':
-        raise Refused("unfinished string", offset)
+def literal(spelling: bytes, offset: int) -> bytes:
+    """The bytes that a literal stands for; the offset is that of its opening quote."""
 
     def byte_of(escape: re.Match[bytes]) -> bytes:
         digits, simple = escape.groups()
         if digits is None:
             return SIMPLE_ESCAPES[simple] if simple else b""
         if int(digits, 8) > 255:
-            raise Refused("octal escape above 255", start + escape.start())
+            raise Refused("octal escape above 255", offset + escape.start())
         return bytes([int(digits, 8)])
 
-    return ESCAPE.sub(byte_of, text[start:end]), end + 1
+    between = spelling[1:-1]
+    return ESCAPE.sub(byte_of, spelling)[1:-1] if b"\\" in between else between

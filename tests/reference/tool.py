@@ -3,6 +3,7 @@
 import sys
 from collections.abc import Callable, Sequence
 from dataclasses import dataclass
+from functools import lru_cache
 
 from . import limits, nesting, syntax, tokens, tree
 from .commands import Command
@@ -80,6 +81,7 @@ def opened(opener: Opener, name: str | None) -> File:
     return file
 
 
+@lru_cache(maxsize=1)
 def commands_of(program: File) -> list[Command]:
     """The commands of a program. Raises Refused for the first fault in the order of docs/LANGUAGE.md."""
     if len(program.content) > limits.PROGRAM_BYTES:
