@@ -1,6 +1,6 @@
 #!/usr/bin/env bash
-# Rebuilds every proof and test from scratch (rt ci), then runs the program that this built as a process, on the rows of tables too, and at
-# last with allocations failing.
+# Rebuilds every proof and test from scratch (rt ci), then runs the program that this built as a process, on the rows of tables too, with
+# allocations failing, and at last on generated cases, of which a reference in Python knows the answers.
 # The last line counts what passed and failed in all.
 set -u
 cd "$(dirname "${BASH_SOURCE[0]}")/.."
@@ -31,6 +31,7 @@ if [ "$failed" -eq 0 ]; then
     count tests/process.sh
     count tests/tables.py
     count tests/allocations.py
+    count tests/fuzz.py
 fi
 printf '%s passed, %s failed\n' "$passed" "$failed"
 [ "$failed" -eq 0 ]

@@ -23,7 +23,7 @@ def case_of(seed: int, number: int) -> Case:
     define = presets(random) if random.random() < 0.15 else None
     settings = Settings("program", None, pinned(define), whitespace_ok, False, MOST_STEPS)
     data, needed = fitting_data(random, program, settings)
-    if random.random() < 0.55:
+    if random.random() < 0.5:
         data = changed_data(random, data)
     source = random.choices(list(Source), (80, 12, 6, 2))[0]
     limit = step_limit(random, needed)

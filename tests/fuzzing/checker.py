@@ -12,6 +12,7 @@ from .case import Case, Source
 OUT_OF_TIME = 20
 SOCKET_ROOM = 4 << 20
 KILLED = -1
+NO_VARIABLES: dict[str, str] = {}
 
 
 class Checker:
@@ -56,7 +57,7 @@ class Checker:
         else:
             name = "data" if case.source is Source.INPUT else os.devnull
             actions.append((os.POSIX_SPAWN_OPEN, 0, name, os.O_RDONLY, 0))
-        self.pid = os.posix_spawn(self.program, [b"checktestdata", *case.words], {}, file_actions=actions)
+        self.pid = os.posix_spawn(self.program, [b"checktestdata", *case.words], NO_VARIABLES, file_actions=actions)
         signal.setitimer(signal.ITIMER_REAL, OUT_OF_TIME)
         _, status = os.waitpid(self.pid, 0)
         signal.setitimer(signal.ITIMER_REAL, 0)

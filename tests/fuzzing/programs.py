@@ -7,7 +7,7 @@ from .expressions import ALL_NAMES, ARRAY_NAMES, NUMBER_NAMES, TEXT_ARRAY_NAMES,
 from .patterns import pattern
 from .spelling import literal, pattern_literal
 
-RANGES = [("0", "9"), ("1", "3"), ("1", "10"), ("-5", "5"), ("-3", "-1"), ("0", "1"), ("100", "1000"), ("5", "5"), ("3", "2")]
+RANGES = [("0", "9"), ("1", "3"), ("1", "10"), ("-5", "5"), ("-3", "-1"), ("0", "1"), ("100", "1000"), ("5", "5"), ("2", "7")]
 LARGE_RANGES = [
     ("-1000000000", "1000000000"),
     ("0", "18446744073709551616"),
@@ -65,8 +65,11 @@ class Programs(Expressions):
             # data that fit have the value of this expression
             exact = self.number(2)
             return [*exact, ",", *exact]
+        elif share < 0.98:
+            low = self.number(1)
+            return [*low, ",", *([*low, "+"] if self.chance(0.7) else []), *self.number(1)]
         else:
-            return [*self.number(1), ",", *self.number(1)]
+            least, greatest = "3", "2"
         return [least, ",", greatest]
 
     def integer(self, target: Tokens) -> Tokens:
@@ -94,7 +97,13 @@ class Programs(Expressions):
         return ["REGEX", "(", text, *([",", *target] if target else []), ")", *(self.blank(0) if self.chance(0.6) else [])]
 
     def assertion(self, depth: int) -> Tokens:
-        return ["ASSERT", "(", *self.test(2), ")"]
+        return self.judged(self.test(2))
+
+    def judged(self, test: Tokens) -> Tokens:
+        """A command that shows whether a test is true. Most of them let the run go on in both cases."""
+        if self.chance(0.35):
+            return ["ASSERT", "(", *test, ")"]
+        return ["IF", "(", *test, ")", "SPACE", "ELSE", "NEWLINE", "END"]
 
     def assignment(self, depth: int) -> Tokens:
         tokens = ["SET", "("]
@@ -121,7 +130,7 @@ class Programs(Expressions):
         if self.chance(0.3):
             tokens += ["SET", "(", name, "=", "1", ")"]
         self.scope.arrays.append(name)
-        return [*tokens, "ASSERT", "(", *(["INARRAY", "(", "2", ",", name, ")"] if self.chance(0.2) else self.test(1)), ")"]
+        return tokens + self.judged(["INARRAY", "(", "2", ",", name, ")"] if self.chance(0.2) else self.test(1))
 
     def guarded(self, depth: int) -> Tokens:
         """The test of a WHILE that mostly comes to an end."""
@@ -195,7 +204,7 @@ class Programs(Expressions):
         tokens = ["REPI", "(", "i", ",", *count, *between, ")", *body, "END", *self.blank(0)]
         if self.chance(0.6):
             checked = ",".join(names if self.chance(0.8) else names[:1]).replace(",", " , ").split()
-            tokens += ["ASSERT", "(", *(["!"] if self.chance(0.3) else []), "UNIQUE", "(", *checked, ")", ")"]
+            tokens += self.judged([*(["!"] if self.chance(0.3) else []), "UNIQUE", "(", *checked, ")"])
         return tokens
 
 

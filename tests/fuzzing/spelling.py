@@ -9,6 +9,8 @@ from random import Random
 ESCAPES = {'"': '\\"', "\\": "\\\\", "\n": "\\n", "\t": "\\t", "\r": "\\r", "\b": "\\b"}
 BLANKS = ["\n", "\n", "  ", "\t", "\r\n", " # a comment\n", "#\"END(\n", " \n "]
 JOINS = re.compile(r"[A-Za-z0-9]\Z")
+# What stands in a pattern and has another meaning in a literal.
+NEEDS_BACKSLASH = re.compile(r'\\(?=[\\ntrb0-7\n"]|\Z)|"')
 JOINED = re.compile(r"[A-Za-z0-9]")
 
 
@@ -34,7 +36,7 @@ def escaped(random: Random, text: str, index: int, plain: bool) -> str:
 def pattern_literal(random: Random, pattern: str) -> str:
     """A literal of a pattern, in which a backslash is often written once where that means the same."""
     if random.random() < 0.7:
-        return '"' + re.sub(r'\\(?=[\\ntrb0-7\n"]|\Z)|"', lambda found: "\\" + found[0], pattern) + '"'
+        return '"' + NEEDS_BACKSLASH.sub(r"\\\g<0>", pattern) + '"'
     return literal(random, pattern)
 
 

@@ -54,8 +54,7 @@ def words(random: Random, steps: int | None, whitespace_ok: bool, define: str | 
     if random.random() < 0.02:
         options.append([random.choice((b"-q", b"--quiet"))])
     if define is not None:
-        text = define.encode("utf-8")
-        options.append(random.choice(([b"-D" + text] if text else [b"-D", text], [b"-D", text], [b"--define=" + text], [b"--define", text])))
+        options.append(define_option(random, define.encode("utf-8")))
     if steps is not None:
         text = str(steps) if random.random() < 0.995 else random.choice(STEPS)
         options.append([b"--max-steps=" + text.encode()])
@@ -70,6 +69,15 @@ def words(random: Random, steps: int | None, whitespace_ok: bool, define: str | 
         options = [*files, *options] if random.random() < 0.5 else [files[0], *options, *files[1:]]
         files = []
     return tuple(word for group in [*options, *files] for word in group)
+
+
+def define_option(random: Random, text: bytes) -> list[bytes]:
+    """The option -D, in one or two words."""
+    if text and random.random() < 0.25:
+        return [b"-D" + text]
+    if random.random() < 0.3:
+        return [b"--define=" + text]
+    return [random.choice((b"-D", b"--define")), text]
 
 
 def changed_words(random: Random, given: tuple[bytes, ...]) -> tuple[bytes, ...]:

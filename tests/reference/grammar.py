@@ -47,7 +47,7 @@ class Grammar:
     def add_rules(self, text: str) -> None:
         """Adds the rules of a text in the notation of docs/LANGUAGE.md."""
         for rule in RULE.finditer(text):
-            symbols = [found.groups() for found in SYMBOL.finditer(rule[2])]
+            symbols: list[tuple[str, str, str]] = SYMBOL.findall(rule[2])
             symbols.reverse()
             self.add_alternatives(rule[1], symbols, "")
 

@@ -18,7 +18,7 @@ def commands(trees: Sequence[Tree]) -> list[Command]:
 
 
 def command(tree: Tree) -> Command:
-    parts = [tree] if isinstance(tree, Token) else tree.parts
+    parts: Sequence[Tree] = [tree] if isinstance(tree, Token) else tree.parts
     return COMMANDS[symbol(parts[0])](token(parts[0]).offset, parts)
 
 

@@ -46,9 +46,8 @@ def power(base: int, exponent: int) -> int:
     """The power, or a number out of the range where it is out of the range."""
     if not 0 <= exponent <= limits.GREATEST_COUNT:
         raise Stopped("bad exponent")
-    if base in (0, 1, -1):
-        return base ** min(exponent, 2 + exponent % 2)
-    return base ** min(exponent, 128)
+    enough = 2 + exponent % 2 if base in (0, 1, -1) else 128
+    return int(base ** min(exponent, enough))
 
 
 OPERATIONS: dict[str, Callable[[int, int], int]] = {
@@ -60,13 +59,13 @@ OPERATIONS: dict[str, Callable[[int, int], int]] = {
     "^": lambda left, right: power(left, right),
 }
 
-COMPARISONS: dict[str, Callable[[Value, Value], bool]] = {
-    "<": lambda left, right: left < right,
-    ">": lambda left, right: left > right,
-    "<=": lambda left, right: left <= right,
-    ">=": lambda left, right: left >= right,
-    "==": lambda left, right: left == right,
-    "!=": lambda left, right: left != right,
+COMPARISONS: dict[str, Callable[[int], bool]] = {
+    "<": lambda order: order < 0,
+    ">": lambda order: order > 0,
+    "<=": lambda order: order <= 0,
+    ">=": lambda order: order >= 0,
+    "==": lambda order: order == 0,
+    "!=": lambda order: order != 0,
 }
 
 
@@ -79,8 +78,15 @@ def negate(value: Value) -> int:
     return within(-number(value))
 
 
+def order(left: Value, right: Value) -> int:
+    """Less than 0, 0 or more than 0, as the left value is less than the right, equal or greater. They have to be of one type."""
+    if isinstance(left, int) and isinstance(right, int):
+        return left - right
+    if isinstance(left, bytes) and isinstance(right, bytes):
+        return (left > right) - (left < right)
+    raise Stopped("wrong type")
+
+
 def compare(comparison: str, left: Value, right: Value) -> bool:
-    """The truth of a comparison of two values that have to be of one type."""
-    if isinstance(left, int) != isinstance(right, int):
-        raise Stopped("wrong type")
-    return COMPARISONS[comparison](left, right)
+    """The truth of a comparison."""
+    return COMPARISONS[comparison](order(left, right))
