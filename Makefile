@@ -1,6 +1,7 @@
 # build: prove and compile the checker (scripts/build.sh); test: rebuild every proof and test from scratch, then run the built program;
 # install, uninstall: PREFIX and DESTDIR as usual; deb, dist: a Debian package and an archive of the built program, in out/.
-# bench: times the checker beside C written by hand (bench/README.md).
+# fuzz: compares the checker with a reference in Python on COUNT generated cases of a SEED. bench: times the checker beside C written by hand
+# (bench/README.md).
 version := 1.0
 
 PREFIX ?= /usr/local
@@ -15,6 +16,8 @@ fishdir ?= $(datadir)/fish/vendor_completions.d
 vimdir ?= $(datadir)/vim/vimfiles
 # What belongs to these programs alone: the companions with the module that they share, and the grammar for editors.
 ourdir := $(datadir)/checktestdata
+COUNT ?= 100000
+SEED ?= 1
 
 # What is installed: programs that are built, each in the crate of its name, companions in tools/, and man pages in man/. Each program and
 # companion has completions in completions/.
@@ -31,7 +34,7 @@ need_toolchain = $(if $(missing),$(error $(missing)))
 missing = $(shell scripts/missing_toolchain.sh)
 strip := $(if $(shell command -v strip),--strip)
 
-.PHONY: build test bench install install-built uninstall deb dist clean
+.PHONY: build test fuzz bench install install-built uninstall deb dist clean
 
 build: $(foreach program,$(programs),$(call built,$(program)))
 
@@ -42,6 +45,9 @@ $(call built,checktestdata): $(sources)
 test:
 	$(need_toolchain)
 	@tests/gate.sh
+
+fuzz: build
+	@tests/fuzz.py --count $(COUNT) --seed $(SEED)
 
 bench: build
 	@bench/whole_runs.py

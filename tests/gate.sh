@@ -1,6 +1,7 @@
 #!/usr/bin/env bash
 # Rebuilds every proof and test from scratch (rt ci), then runs the program that this built: as a process, on the rows of tables, with reads,
-# writes and allocations failing, on the examples, as the documents say, beside its companions, and installed and packed.
+# writes and allocations failing, on the examples, as the documents say, beside its companions, installed and packed, and at last on generated
+# cases, of which a reference in Python knows the answers.
 # The last line counts what passed and failed in all.
 set -u
 cd "$(dirname "${BASH_SOURCE[0]}")/.." || exit
@@ -37,6 +38,7 @@ if [ "$failed" -eq 0 ]; then
     count tests/install.sh
     count tests/examples.py
     count tests/documents.py
+    count tests/fuzz.py
 fi
 printf '%s passed, %s failed\n' "$passed" "$failed"
 [ "$failed" -eq 0 ]

@@ -1,0 +1,169 @@
+#!/usr/bin/env python3
+"""Compares the built checker with the reference (tests/reference) on generated cases: both streams and the status.
+
+A case depends on its seed and its number alone. Cases for which the reference has no answer are left out, such as patterns of which it knows
+nothing. A case with two answers is made smaller and printed. The last line counts the cases with one answer, as passed, and the others.
+
+    tests/fuzz.py --count 100000 --seed 1     the first 100,000 cases of seed 1
+    tests/fuzz.py --seed 1 --case 4711        one case, as it stands
+    tests/fuzz.py --self-test                 sees that each of ten wrong bodies in the reference makes a difference"""
+import argparse
+import multiprocessing
+import sys
+import tempfile
+import time
+from collections.abc import Iterator, Sequence
+from contextlib import contextmanager
+from dataclasses import dataclass, field
+from pathlib import Path
+
+from fuzzing.case import Case
+from fuzzing.cases import case_of
+from fuzzing.checker import Checker
+from fuzzing.shrink import shrunk
+from reference.faults import LeftOut
+from reference.tool import Answer
+from reference.wrong_bodies import WRONG_BODIES, WrongBody
+
+TOP = Path(__file__).resolve().parent.parent
+BUILT = TOP / "crates/checktestdata/out/checktestdata"
+CASES_OF_SELF_TEST = 20_000
+MOST_PRINTED = 10
+
+
+@dataclass
+class Summary:
+    """How many cases had one answer, how many were left out, and the numbers of those with two answers."""
+
+    passed: int = 0
+    left_out: int = 0
+    differing: list[int] = field(default_factory=list)
+
+    def add(self, other: "Summary") -> None:
+        self.passed += other.passed
+        self.left_out += other.left_out
+        self.differing += other.differing
+
+
+@contextmanager
+def checker_in_folder(program: Path) -> Iterator[Checker]:
+    """The checker, with a folder that is in memory where there is one."""
+    memory = Path("/dev/shm")
+    with tempfile.TemporaryDirectory(dir=memory if memory.is_dir() else None) as folder:
+        yield Checker(program, Path(folder))
+
+
+def answers(case: Case, checker: Checker) -> tuple[Answer, Answer] | None:
+    """The answers of the reference and of the checker, or none where the case is left out."""
+    try:
+        return case.reference_answer(), checker.answer(case)
+    except LeftOut:
+        return None
+
+
+def differs(case: Case, checker: Checker) -> bool:
+    found = answers(case, checker)
+    return found is not None and found[0] != found[1]
+
+
+def compare(program: Path, seed: int, numbers: Sequence[int]) -> Summary:
+    """Compares the answers for the cases of these numbers."""
+    summary = Summary()
+    with checker_in_folder(program) as checker:
+        for number in numbers:
+            found = answers(case_of(seed, number), checker)
+            if found is None:
+                summary.left_out += 1
+            elif found[0] == found[1]:
+                summary.passed += 1
+            else:
+                summary.differing.append(number)
+    return summary
+
+
+def compare_all(program: Path, seed: int, count: int, jobs: int) -> Summary:
+    """Compares the answers for the first cases of a seed, in this many processes."""
+    if jobs == 1:
+        return compare(program, seed, range(count))
+    summary = Summary()
+    with multiprocessing.Pool(jobs) as pool:
+        for part in pool.starmap(compare, [(program, seed, range(job, count, jobs)) for job in range(jobs)]):
+            summary.add(part)
+    return summary
+
+
+def print_case(case: Case, checker: Checker) -> None:
+    """Prints a case and its answers."""
+    print(case)
+    found = answers(case, checker)
+    if found is None:
+        print("left out")
+    else:
+        for name, answer in zip(("reference", "checker"), found):
+            print(f"{name:10} status {answer.status}, out {answer.out!r}, err {answer.err!r}")
+
+
+def fuzz(program: Path, seed: int, count: int, jobs: int) -> int:
+    """Compares cases and prints those with two answers."""
+    start = time.monotonic()
+    summary = compare_all(program, seed, count, jobs)
+    rate = count / (time.monotonic() - start)
+    with checker_in_folder(program) as checker:
+        for number in sorted(summary.differing)[:MOST_PRINTED]:
+            print(f"fuzz: case {number} of seed {seed} has two answers; made smaller:")
+            print_case(shrunk(case_of(seed, number), lambda case: differs(case, checker)), checker)
+    print(f"fuzz: {rate:.0f} cases a second; {summary.left_out} were left out")
+    print(f"{summary.passed} passed, {len(summary.differing)} failed")
+    return int(bool(summary.differing))
+
+
+def makes_a_difference(wrong: WrongBody, case: Case, right: Answer) -> bool:
+    """Whether a wrong body in the reference changes its answer."""
+    try:
+        with wrong.planted():
+            return case.reference_answer() != right
+    except LeftOut:
+        return False
+
+
+def self_test(program: Path, seed: int) -> int:
+    """Counts the wrong bodies that make a difference in some case."""
+    missing = [*WRONG_BODIES]
+    with checker_in_folder(program) as checker:
+        for number in range(CASES_OF_SELF_TEST):
+            case = case_of(seed, number)
+            found = answers(case, checker)
+            if found is None or found[0] != found[1]:
+                continue
+            for wrong in [wrong for wrong in missing if makes_a_difference(wrong, case, found[1])]:
+                print(f"fuzz: {wrong.name}: seen by case {number}")
+                missing.remove(wrong)
+            if not missing:
+                break
+    for wrong in missing:
+        print(f"fuzz: {wrong.name}: not seen by {CASES_OF_SELF_TEST} cases")
+    print(f"{len(WRONG_BODIES) - len(missing)} passed, {len(missing)} failed")
+    return int(bool(missing))
+
+
+def main() -> int:
+    parser = argparse.ArgumentParser(description=__doc__, formatter_class=argparse.RawDescriptionHelpFormatter)
+    parser.add_argument("checker", nargs="?", type=Path, default=BUILT, help="the checker (default: the one that was built here)")
+    parser.add_argument("--count", type=int, default=2_000, help="how many cases")
+    parser.add_argument("--seed", type=int, default=1)
+    parser.add_argument("--jobs", type=int, default=1, help="how many processes")
+    parser.add_argument("--case", type=int, help="prints the case of this number and its answers")
+    parser.add_argument("--self-test", action="store_true", help="looks for wrong bodies in the reference")
+    given = parser.parse_args()
+    program = given.checker.resolve()
+    if given.self_test:
+        return self_test(program, given.seed)
+    if given.case is None:
+        return fuzz(program, given.seed, given.count, given.jobs)
+    with checker_in_folder(program) as checker:
+        print_case(case_of(given.seed, given.case), checker)
+    return 0
+
+
+if __name__ == "__main__":
+    sys.exit(main())

@@ -1,0 +1,1 @@
+"""Generated cases for tests/fuzz.py: programs, data, presets and words, and how they are run and shrunk."""

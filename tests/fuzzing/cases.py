@@ -1,0 +1,64 @@
+"""The case of a seed and a number."""
+
+from random import Random
+
+from reference.faults import Fault
+from reference.presets import Presets, read_presets
+from reference.words import Settings
+
+from .case import Case, Source
+from .draft import changed_data, fitting_data
+from .programs import Programs, changed_tokens, deep_program, some_tokens
+from .spelling import text_of
+from .words import changed_words, presets, words
+
+MOST_STEPS = 400
+
+
+def case_of(seed: int, number: int) -> Case:
+    """The case of a seed and a number, and of nothing else."""
+    random = Random(f"{seed} {number}")
+    program = program_text(random)
+    whitespace_ok = random.random() < 0.2
+    define = presets(random) if random.random() < 0.15 else None
+    settings = Settings("program", None, pinned(define), whitespace_ok, False, MOST_STEPS)
+    data, needed = fitting_data(random, program, settings)
+    if random.random() < 0.5:
+        data = changed_data(random, data)
+    source = random.choices(list(Source), (80, 12, 6, 2))[0]
+    limit = step_limit(random, needed)
+    given = words(random, limit, whitespace_ok, define, source)
+    if random.random() < 0.02:
+        given = changed_words(random, given)
+    return Case(given, None if random.random() < 0.003 else program, data, source)
+
+
+def program_text(random: Random) -> bytes:
+    """The text of a program: one with a meaning, one that is nearly right, one that nests deeply, or some tokens."""
+    share = random.random()
+    if share < 0.01:
+        return text_of(random, deep_program(random))
+    if share < 0.04:
+        return text_of(random, some_tokens(random))
+    tokens = Programs(random).program()
+    if share < 0.16:
+        tokens = changed_tokens(random, tokens)
+    text = text_of(random, tokens)
+    if share < 0.18:
+        return changed_data(random, text)
+    if share < 0.1802:
+        return text + b" " * (1_048_576 - len(text) + random.randrange(2))
+    return text
+
+
+def pinned(define: str | None) -> Presets:
+    """The presets of a text, if it spells some."""
+    try:
+        return {} if define is None else read_presets(define.encode("utf-8"))
+    except Fault:
+        return {}
+
+
+def step_limit(random: Random, needed: int) -> int:
+    """A limit: far enough, or near to what the data need."""
+    return MOST_STEPS if random.random() < 0.85 else max(needed + random.choice((-2, -1, -1, 0, 0, 1)), 0)

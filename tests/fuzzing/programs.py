@@ -1,0 +1,270 @@
+"""Generated programs, as lists of tokens."""
+
+from collections.abc import Callable
+from random import Random
+
+from .expressions import ALL_NAMES, ARRAY_NAMES, NUMBER_NAMES, TEXT_ARRAY_NAMES, TEXT_NAMES, TEXTS, Expressions, Tokens
+from .patterns import pattern
+from .spelling import literal, pattern_literal
+
+RANGES = [("0", "9"), ("1", "3"), ("1", "10"), ("-5", "5"), ("-3", "-1"), ("0", "1"), ("100", "1000"), ("5", "5"), ("2", "7")]
+LARGE_RANGES = [
+    ("-1000000000", "1000000000"),
+    ("0", "18446744073709551616"),
+    ("-170141183460469231731687303715884105727-1", "170141183460469231731687303715884105727"),
+]
+
+
+class Programs(Expressions):
+    """Makes commands. They mostly have a meaning, so that a run gets far on data that fit."""
+
+    def __init__(self, random: Random) -> None:
+        super().__init__(random)
+        kinds: dict[Callable[[int], Tokens], int] = {
+            self.integer_and_blank: 28,
+            self.blank: 7,
+            self.string: 6,
+            self.regex: 12,
+            self.assertion: 8,
+            self.assignment: 9,
+            self.unset: 2,
+            self.loop: 8,
+            self.filled_array: 9,
+            self.choice: 6,
+            self.cleared_array: 2,
+            self.end: 1,
+        }
+        self.kinds = [kind for kind, weight in kinds.items() for _ in range(weight)]
+
+    def program(self) -> Tokens:
+        return self.commands(self.random.choice((1, 2, 3, 4, 5, 6, 8)), 2)
+
+    def commands(self, count: int, depth: int) -> Tokens:
+        tokens: Tokens = []
+        for _ in range(count):
+            tokens += self.random.choice(self.kinds)(depth)
+        return tokens
+
+    def blank(self, depth: int) -> Tokens:
+        return ["SPACE"] if self.chance(0.6) else ["NEWLINE"]
+
+    def end(self, depth: int) -> Tokens:
+        return ["EOF"]
+
+    def bounds(self) -> Tokens:
+        """Two bounds, with the comma between them."""
+        share = self.random.random()
+        if share < 0.6:
+            least, greatest = self.random.choice(RANGES)
+        elif share < 0.7:
+            least, greatest = self.random.choice(LARGE_RANGES)
+        elif share < 0.85:
+            least = self.random.choice(("0", "1"))
+            return [least, ",", *self.number(1)]
+        elif share < 0.93:
+            # data that fit have the value of this expression
+            exact = self.number(2)
+            return [*exact, ",", *exact]
+        elif share < 0.98:
+            low = self.number(1)
+            return [*low, ",", *([*low, "+"] if self.chance(0.7) else []), *self.number(1)]
+        else:
+            least, greatest = "3", "2"
+        return [least, ",", greatest]
+
+    def integer(self, target: Tokens) -> Tokens:
+        """INT, with a variable if a target is given."""
+        return ["INT", "(", *self.bounds(), *([",", *target] if target else []), ")"]
+
+    def integer_and_blank(self, depth: int) -> Tokens:
+        target: Tokens = []
+        if self.chance(0.6):
+            target = self.variable(NUMBER_NAMES if self.chance(0.9) else ALL_NAMES)
+        tokens = self.integer(target) + (self.blank(0) if self.chance(0.85) else [])
+        if target:
+            self.scope.numbers.append(target)
+        return tokens
+
+    def string(self, depth: int) -> Tokens:
+        return ["STRING", "(", *self.text(depth), ")"]
+
+    def regex(self, depth: int) -> Tokens:
+        target: Tokens = []
+        if self.chance(0.5):
+            target = self.variable(TEXT_NAMES if self.chance(0.9) else ALL_NAMES)
+            self.scope.texts.append(target)
+        text = pattern_literal(self.random, pattern(self.random))
+        return ["REGEX", "(", text, *([",", *target] if target else []), ")", *(self.blank(0) if self.chance(0.6) else [])]
+
+    def assertion(self, depth: int) -> Tokens:
+        return self.judged(self.test(2))
+
+    def judged(self, test: Tokens) -> Tokens:
+        """A command that shows whether a test is true. Most of them let the run go on in both cases."""
+        if self.chance(0.35):
+            return ["ASSERT", "(", *test, ")"]
+        return ["IF", "(", *test, ")", "SPACE", "ELSE", "NEWLINE", "END"]
+
+    def assignment(self, depth: int) -> Tokens:
+        tokens = ["SET", "("]
+        for index in range(self.random.choice((1, 1, 1, 2, 3))):
+            if self.chance(0.25):
+                target = self.variable(TEXT_NAMES + TEXT_ARRAY_NAMES)
+                value = self.text(1)
+                self.scope.texts.append(target)
+            else:
+                target = self.variable(NUMBER_NAMES + ARRAY_NAMES)
+                value = self.number(2)
+                self.scope.numbers.append(target)
+            tokens += [*([","] if index else []), *target, "=", *value]
+            self.scope.arrays.append(target[0])
+        return [*tokens, ")"]
+
+    def unset(self, depth: int) -> Tokens:
+        return ["UNSET", "(", self.array(), *([",", self.random.choice(ALL_NAMES)] if self.chance(0.3) else []), ")"]
+
+    def cleared_array(self, depth: int) -> Tokens:
+        """An array that is filled and unset, and then looked at."""
+        name = self.random.choice(ARRAY_NAMES)
+        tokens = ["SET", "(", name, "[", *self.index(0), "]", "=", *self.number(0), ")", "UNSET", "(", name, ")"]
+        if self.chance(0.3):
+            tokens += ["SET", "(", name, "=", "1", ")"]
+        self.scope.arrays.append(name)
+        return tokens + self.judged(["INARRAY", "(", "2", ",", name, ")"] if self.chance(0.2) else self.test(1))
+
+    def guarded(self, depth: int) -> Tokens:
+        """The test of a WHILE that mostly comes to an end."""
+        share = self.random.random()
+        if share < 0.35:
+            return ["!", "ISEOF"]
+        if share < 0.65:
+            return ["!", "MATCH", "(", literal(self.random, "\n"), ")"]
+        if share < 0.85:
+            return ["MATCH", "(", literal(self.random, "0123456789-"), ")"]
+        return self.test(1)
+
+    def loop(self, depth: int) -> Tokens:
+        """One of the four loops."""
+        word = self.random.choice(("REP", "REPI", "WHILE", "WHILEI"))
+        outer = self.scope.copy()
+        counter = self.variable(["i", "j", *NUMBER_NAMES]) if word.endswith("I") else []
+        separator = self.separator(depth)
+        head = [*counter, ","] if counter else []
+        if counter:
+            self.scope.numbers.append(counter)
+        if word.startswith("REP"):
+            head += [self.random.choice("01233")] if self.chance(0.7) else self.number(1)
+        elif counter and self.chance(0.5):
+            head += [*counter, "<", *self.number(0)]
+        else:
+            head += self.guarded(depth)
+        body = self.body(depth)
+        if self.chance(0.5):
+            self.scope = outer
+        return [word, "(", *head, *([",", *separator] if separator else []), ")", *body, "END"]
+
+    def separator(self, depth: int) -> Tokens:
+        """One command, or none."""
+        if self.chance(0.45):
+            return []
+        if self.chance(0.8):
+            return self.blank(0)
+        kinds = [self.string, self.assertion, self.assignment, self.unset, self.blank]
+        if depth > 0:
+            kinds += [self.loop, self.choice]
+        return self.random.choice(kinds)(max(depth - 1, 0))
+
+    def body(self, depth: int) -> Tokens:
+        if depth == 0 or self.chance(0.4):
+            return self.integer([]) + (self.blank(0) if self.chance(0.6) else [])
+        return self.commands(self.random.choice((0, 1, 1, 2, 3)), depth - 1)
+
+    def choice(self, depth: int) -> Tokens:
+        """IF, with or without ELSE."""
+        tokens = ["IF", "(", *(self.match() if self.chance(0.3) else self.test(1)), ")", *self.body(depth)]
+        if self.chance(0.5):
+            tokens += ["ELSE", *self.body(depth)]
+        return [*tokens, "END"]
+
+    def filled_array(self, depth: int) -> Tokens:
+        """Arrays that are read from the data, and a test of them."""
+        names = self.random.sample(ARRAY_NAMES, self.random.choice((1, 1, 2)))
+        index = ["i", "]"] if self.chance(0.8) else ["i", ",", *self.index(0), "]"]
+        body: Tokens = []
+        for number, name in enumerate(names):
+            body += [*(["SPACE"] if number else []), "INT", "(", "0", ",", self.random.choice("12359"), ",", name, "[", *index, ")"]
+        if self.chance(0.15):
+            name = self.random.choice(TEXT_ARRAY_NAMES)
+            body += ["REGEX", "(", '"[ab]"', ",", name, "[", "i", "]", ")"]
+            names.append(name)
+        count = [self.random.choice("1233455")] if self.chance(0.8) else self.number(1)
+        between = [",", *self.blank(0)] if self.chance(0.7) else []
+        self.scope.arrays += names
+        self.scope.numbers += [[name, "[", "0", "]"] for name in names]
+        tokens = ["REPI", "(", "i", ",", *count, *between, ")", *body, "END", *self.blank(0)]
+        if self.chance(0.6):
+            checked = ",".join(names if self.chance(0.8) else names[:1]).replace(",", " , ").split()
+            tokens += self.judged([*(["!"] if self.chance(0.3) else []), "UNIQUE", "(", *checked, ")"])
+        return tokens
+
+
+WORDS = "SPACE NEWLINE EOF INT STRING REGEX ASSERT SET UNSET REP REPI WHILE WHILEI IF ELSE END STRLEN MATCH ISEOF UNIQUE INARRAY FOO".split()
+MARKS = "( ) [ ] , = + - * / % ^ ! < > <= >= == != && ||".split()
+ODD = [
+    "FLOAT", "FIXED", "1.5", "1e3", "05", "00", "$", "&", "|", "\x0b", '"', '"\\400"', '"a', "a_b", "E", ".", "\xe9", "99" * 20, "170141183460469231731687303715884105728", "1E", "0x1", "'",
+]
+
+
+def some_token(random: Random) -> str:
+    """A token, or now and then what is none."""
+    share = random.random()
+    if share < 0.4:
+        return random.choice(MARKS)
+    if share < 0.7:
+        return random.choice(WORDS)
+    if share < 0.8:
+        return random.choice(ALL_NAMES)
+    if share < 0.9:
+        return random.choice(("0", "1", "17"))
+    return literal(random, random.choice(TEXTS)) if share < 0.96 else random.choice(ODD)
+
+
+def some_tokens(random: Random) -> Tokens:
+    return [some_token(random) for _ in range(random.choice((1, 2, 3, 5, 8, 20)))]
+
+
+def changed_tokens(random: Random, tokens: Tokens) -> Tokens:
+    """These tokens with one or two changes."""
+    tokens = [*tokens]
+    for _ in range(random.choice((1, 1, 1, 2))):
+        at = random.randrange(len(tokens) + 1)
+        match random.randrange(6):
+            case 0:
+                del tokens[at : at + 1]
+            case 1:
+                tokens.insert(at, some_token(random))
+            case 2:
+                tokens[at : at + 1] = [some_token(random)]
+            case 3:
+                del tokens[at:]
+            case 4:
+                tokens[at:at] = tokens[at - 3 : at]
+            case 5:
+                tokens[at : at + 2] = tokens[at : at + 2][::-1]
+    return tokens
+
+
+def deep_program(random: Random) -> Tokens:
+    """A program that nests about as deeply as it may."""
+    weight = random.choice((198, 199, 200, 200, 201, 201, 202))
+    match random.randrange(5):
+        case 0:
+            return ["ASSERT", "(", "1", *["+", "1"] * (weight - 2), "<", "0", ")"]
+        case 1:
+            return ["ASSERT", *["("] * (weight - 1), "1", "==", "1", *[")"] * (weight - 1)]
+        case 2:
+            blocks = weight - 1
+            return [*["IF", "(", "ISEOF", ")"] * blocks, *["END"] * blocks]
+        case 3:
+            return ["SET", "(", "a", "=", *["-"] * (weight - 1), "1", ",", "b", "=", *["-"] * random.randrange(5), "2", ")"]
+    return ["STRING", "(", *["a", "["] * (weight - 1), "0", *["]"] * (weight - 1), ")"]

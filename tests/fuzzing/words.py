@@ -1,0 +1,95 @@
+"""Words of the command line for generated cases."""
+
+from random import Random
+
+from .case import DATA, PROGRAM, Source
+from .expressions import ARRAY_NAMES, NUMBER_NAMES, TEXT_ARRAY_NAMES, TEXT_NAMES, TEXTS
+from .spelling import literal
+
+BAD_PRESETS = ["", "n", "n=", "n=05", "n=1,", ",n=1", "n=+1", "n=1 ", "N=1", "a[]=1", "a[i]=1", 's="', 's="\\400"', "n=--1", "a[1=2", "n=1.5", "a[1,]=2"]
+STEPS = ["x", "", "-1", "+5", "18446744073709551616", "1e3", " 5", "0x10"]
+ODD_WORDS = [b"-x", b"--lines", b"-g", b"--generate", b"-h", b"--help", b"-V", b"--version", b"\xff", b"-q", b"--quiet", b"-w", b"third", b"--", b"-", b"-D", b"", b"-qw", b"-wg"]
+
+
+def presets(random: Random) -> str:
+    """A text for -D, which is now and then a bad one."""
+    if random.random() < 0.05:
+        return random.choice(BAD_PRESETS)
+    return ",".join(preset(random) for _ in range(random.choice((1, 1, 2, 3))))
+
+
+def preset(random: Random) -> str:
+    """A variable and its value."""
+    share = random.random()
+    if share < 0.5:
+        target = random.choice([*NUMBER_NAMES, "i", "unknown"])
+    elif share < 0.7:
+        target = random.choice(TEXT_NAMES)
+    else:
+        count = random.choice((1, 1, 1, 2))
+        target = f"{random.choice(ARRAY_NAMES + TEXT_ARRAY_NAMES)}[{','.join(index(random) for _ in range(count))}]"
+    return f"{target}={value(random, target[0] in 'stwuv')}"
+
+
+def index(random: Random) -> str:
+    return random.choice(("0", "1", "2", "-0", "-1", "00", '"x"', '"a"', '""')) if random.random() < 0.95 else value(random, True)
+
+
+def value(random: Random, is_text: bool) -> str:
+    """A numeral or a string literal."""
+    if random.random() < 0.03:
+        is_text = not is_text
+    if not is_text:
+        return random.choice(("0", "1", "2", "3", "5", "-1", "-3", "10", "-0", "170141183460469231731687303715884105727"))
+    # words are UTF-8, and hold no zero byte
+    text = random.choice([text for text in TEXTS if text.isascii() and "\0" not in text])
+    return literal(random, text)
+
+
+def words(random: Random, steps: int | None, whitespace_ok: bool, define: str | None, source: Source) -> tuple[bytes, ...]:
+    """The words for these settings, in some order."""
+    options: list[list[bytes]] = []
+    if whitespace_ok:
+        options.append([random.choice((b"-w", b"--whitespace-ok"))])
+    if random.random() < 0.02:
+        options.append([random.choice((b"-q", b"--quiet"))])
+    if define is not None:
+        options.append(define_option(random, define.encode("utf-8")))
+    if steps is not None:
+        text = str(steps) if random.random() < 0.995 else random.choice(STEPS)
+        options.append([b"--max-steps=" + text.encode()])
+    files = [[PROGRAM]]
+    if source in (Source.FILE, Source.FOLDER):
+        files.append([DATA])
+    elif random.random() < 0.5:
+        files.append([b"-"])
+    random.shuffle(options)
+    if random.random() < 0.1:
+        # options may stand behind the files
+        options = [*files, *options] if random.random() < 0.5 else [files[0], *options, *files[1:]]
+        files = []
+    return tuple(word for group in [*options, *files] for word in group)
+
+
+def define_option(random: Random, text: bytes) -> list[bytes]:
+    """The option -D, in one or two words."""
+    if text and random.random() < 0.25:
+        return [b"-D" + text]
+    if random.random() < 0.3:
+        return [b"--define=" + text]
+    return [random.choice((b"-D", b"--define")), text]
+
+
+def changed_words(random: Random, given: tuple[bytes, ...]) -> tuple[bytes, ...]:
+    """These words with one or two changes."""
+    changed = [*given]
+    for _ in range(random.choice((1, 1, 2))):
+        at = random.randrange(len(changed) + 1)
+        match random.randrange(5):
+            case 0 | 1 | 2:
+                changed.insert(at, random.choice(ODD_WORDS))
+            case 3:
+                del changed[at : at + 1]
+            case 4:
+                changed[at:at] = changed[at : at + 1]
+    return tuple(changed)

@@ -1,0 +1,9 @@
+"""The limits of the language (docs/LANGUAGE.md, Limits)."""
+
+PROGRAM_BYTES = 1_048_576
+NESTING = 200
+LEAST = -(2**127)
+GREATEST = 2**127 - 1
+GREATEST_COUNT = 2**64 - 1
+STEPS = 10_000_000_000
+WINDOW = 1_048_576
