@@ -1,5 +1,5 @@
 -- What `run_tool` reports, put together from what loading and checking promise.
-use Rattle.std.proofs.Common.{◌≡◌, ◌≢◌, ◌+◌, ◌≤◌, ℕ, List, [], Ok, Err, Result, inl, inr, refl, ap, arith, sym, subst}
+use Rattle.std.proofs.Common.{◌≡◌, ◌≢◌, ◌+◌, ◌≤◌, ℕ, [], Ok, Err, Result, inl, inr, refl, ap, arith, sym, subst}
 use Rattle.ctd_source.specs.declared.source.Seen.{Seen}
 use Rattle.ctd_source.specs.declared.source.Source.{Ghosts}
 use Rattle.ctd_source.specs.Agreement.{Agrees}
