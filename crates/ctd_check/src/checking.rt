@@ -1,5 +1,6 @@
 //! The check of data against a program.
 ghost use Rattle.std.specs.Prelude.{◌≡◌, ◌+◌, ◌≤◌, ◌^◌, Err, IfOk, OnErr};
+ghost use Rattle.ctd_source.specs.CursorState.{GaveAtMost};
 ghost use Rattle.ctd_source.specs.declared.source.Seen.TheVariants.{Going};
 ghost use Rattle.ctd_tree.specs.View.{command_trees};
 ghost use Rattle.ctd_check.specs.Run.{meaning};
@@ -12,7 +13,8 @@ use crate::run::run_program;
 use ctd_command::Run;
 use ctd_outcome::{Checked, Outcome};
 use ctd_plan::Plan;
-use ctd_source::Source;
+use ctd_source::{Buffers, Cursor, Source};
+use ctd_store::Store;
 use ctd_tree::{Limits, Mode, Presets};
 use std::alloc::{AllocError, Global};
 
@@ -49,9 +51,15 @@ pub fn check<D: Source>(
     ensures ahead { IfOk result IsAhead }
     ensures within { IfOk result (λ checked. checked.taken ≤ limits.bytes + 1) }
     ensures bounded { IfOk result (λ checked. checked.steps ≤ limits.steps) }
+    // whatever it answers
+    ensures reads { GaveAtMost D.Source (limits.bytes + 1) testdata.old testdata.new }
 {
     let mut matchers = plan.matchers(alloc)?;
-    let mut run = Run::new(alloc, presets, testdata, limits.bytes, mode)?;
+    let store = Store::new(alloc, presets)?;
+    let buffers = Buffers::new(alloc)?;
+    // the source is borrowed once all of these are made
+    let cursor = Cursor::with_buffers(buffers, testdata, limits.bytes);
+    let mut run = Run::new(alloc, cursor, store, mode);
     let mut agenda = Agenda::new(plan.commands(), limits.steps);
     let ended = run_program(&mut run, &mut agenda, &mut matchers);
     drop(matchers);

@@ -1,18 +1,14 @@
 //! The state of a run: where the data are read, and the variables.
-ghost use Rattle.std.specs.Prelude.{◌≡◌, ◌<◌, ◌≤◌, ◌^◌, length, Ok, Err, IfOk, IfSome};
-ghost use Rattle.ctd_source.specs.declared.source.Seen.TheVariants.{Going};
-ghost use Rattle.ctd_source.specs.Consistency.{IsAtStart, IsConsistentWith};
+ghost use Rattle.std.specs.Prelude.{◌≡◌, ◌<◌, ◌≤◌, length, Ok, Err, IfOk, IfSome};
 ghost use Rattle.ctd_source.specs.CursorState.{state_of, source as source_now, Borrows};
-ghost use Rattle.ctd_source.specs.TestData.{TestData};
-ghost use Rattle.ctd_store.specs.Store.{initial};
 ghost use Rattle.ctd_command.specs.State.{see_next, pass};
 ghost use Rattle.ctd_command.specs.Performs.{IsSound, Performs};
 
 use crate::failure::CommandFailure;
 use ctd_source::{Cursor, Source};
-use ctd_tree::{Mode, Presets};
+use ctd_tree::Mode;
 use ctd_value::Store;
-use std::alloc::{AllocError, Global};
+use std::alloc::Global;
 
 /// The state of a run. Its commands are methods, each in the file of its kind (checktestdata language specification, commands).
 #[derive(Drop)]
@@ -27,31 +23,18 @@ pub struct Run<'d, D: Source> {
 }
 
 impl<'d, D: Source> Run<'d, D> {
-    /// A run before its first byte, for data of at most `limit` bytes, with the presets pinned.
-    pub fn new(
-        alloc: Global,
-        presets: &Presets,
-        testdata: &'d mut D,
-        limit: u64,
-        mode: Mode,
-    ) -> Result<Run<'d, D>, AllocError>
-        requires going { D.seen testdata.old ≡ Going }
-        requires limit { limit ≤ 2 ^ 62 }
-        ensures borrows { IfOk result (λ run. Borrows run.cursor testdata.entry) }
-        ensures source { IfOk result (λ run. source_now run.cursor ≡ testdata.old) }
-        ensures begins { IfOk result (λ run. IsAtStart limit (state_of run.cursor)) }
-        ensures stands { IfOk result (λ run. (d : TestData) → d.limit ≡ limit → IsConsistentWith d (state_of run.cursor)) }
-        ensures pins { IfOk result (λ run. run.store ≡ initial presets.now) }
-        ensures mode { IfOk result (λ run. run.mode ≡ mode) }
+    /// A run that goes on from this cursor, with these variables. It reads nothing.
+    pub fn new(alloc: Global, cursor: Cursor<'d, D>, store: Store, mode: Mode) -> Run<'d, D>
+        ensures cursor { result.cursor ≡ cursor.entry }
+        ensures store { result.store ≡ store }
+        ensures mode { result.mode ≡ mode }
     {
-        let store = Store::new(alloc, presets)?;
-        let cursor = Cursor::start(alloc, testdata, limit)?;
-        Ok(Run {
+        Run {
             alloc,
             cursor,
             store,
             mode,
-        })
+        }
     }
 
     /// The next byte, or none at the end.

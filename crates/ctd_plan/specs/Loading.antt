@@ -1,5 +1,5 @@
 -- What loading a program gives.
-use Rattle.std.specs.Prelude.{◌≡◌, ◌≢◌, ◌≤◌, ◌⊎◌, ◌+◌, ℕ, nat_le, if◌then◌else◌, List, ◌∷◌, ◌++◌, length, All, Option, Some, None, Result, Ok, Err}
+use Rattle.std.specs.Prelude.{◌≡◌, ◌≢◌, ◌≤◌, ◌⊎◌, ◌+◌, ℕ, nat_le, if◌then◌else◌, List, ◌∷◌, ◌++◌, length, All, IsUtf8, Option, Some, None, Result, Ok, Err}
 use Rattle.ctd_source.specs.declared.source.Source.{Ghosts}
 use Rattle.ctd_source.specs.declared.source.Seen.{Seen}
 use Rattle.ctd_source.specs.declared.source.Seen.TheVariants.{Going, Ended, Broken}
@@ -12,7 +12,10 @@ use Rattle.ctd_tree.specs.declared.tree.PatternLiteral.{PatternLiteral}
 use Rattle.ctd_tree.specs.Tree.{CommandList}
 use Rattle.ctd_syntax.specs.Numbering.{literals}
 use Rattle.ctd_syntax.specs.Reading.{IsRefused, Parses}
-use Rattle.ctd_pattern.specs.Pattern.{IsPattern}
+use Rattle.ctd_pattern.specs.declared.pattern.PatternFault.{PatternFault}
+use Rattle.ctd_pattern.specs.declared.pattern.PatternFault.TheVariants.{NotText, NotPattern, TooLarge}
+use Rattle.ctd_pattern.specs.declared.pattern.PatternFault.TheVariants as patterns
+use Rattle.ctd_pattern.specs.Pattern.{IsPattern, IsNoPattern}
 
 -- a reader that gave these bytes has them for its text once it ended; it has none where a read failed, and none yet while it goes on
 abbrev pub text_by : List ℕ → Seen → Option (Result (List ℕ) LoadKind)
@@ -28,7 +31,14 @@ program_text bytes seen = if nat_le (PROGRAM_LIMIT + 1) (length bytes) then Some
 abbrev pub ArePatterns : List PatternLiteral → Type 0
 ArePatterns ls = All (λ l. IsPattern l.bytes) ls
 
--- a literal is refused as a pattern, at its place: those before it are patterns. It may be one too, since `regex` can find it too large
+-- why no pattern is built of a literal, where memory did not run out: it is not UTF-8; it is no pattern, or nests too deep; or it is one, which `regex` finds too large
+abbrev pub IsUnbuilt : List ℕ → PatternFault → Type 0
+IsUnbuilt literal NotText = ¬ (IsUtf8 literal)
+IsUnbuilt literal NotPattern = IsNoPattern literal
+IsUnbuilt literal TooLarge = IsPattern literal
+IsUnbuilt literal patterns.Memory = ⊥
+
+-- of a literal no pattern is built, and the fault has its place: those before it are patterns
 pub record IsBadPattern (all : List PatternLiteral) (f : LoadFault) : Type 0 where
   pub kind : f.kind ≡ BadPattern
   pub before : List PatternLiteral
@@ -36,6 +46,8 @@ pub record IsBadPattern (all : List PatternLiteral) (f : LoadFault) : Type 0 whe
   pub after : List PatternLiteral
   pub split : all ≡ before ++ literal ∷ after
   pub patterns : ArePatterns before
+  pub why : PatternFault
+  pub unbuilt : IsUnbuilt literal.bytes why
   pub place : f.place ≡ Some literal.place
 
 -- a program that is spelled has such a literal

@@ -1,5 +1,5 @@
 -- What is written to the two streams, and the status.
-use Rattle.std.specs.Prelude.{ℕ, Bool, List, [], ◌≡◌, ◌⊎◌, ◌++◌, codes, if◌then◌else◌}
+use Rattle.std.specs.Prelude.{ℕ, Bool, List, [], ◌++◌, codes, if◌then◌else◌}
 use Rattle.ctd_source.specs.SpotText.{spot_text}
 use Rattle.ctd_token.specs.FaultText.{load_fault_text}
 use Rattle.ctd_token.specs.declared.fault.LoadFault.{LoadFault}
@@ -88,13 +88,3 @@ usage_report usage.Generate = on_err (usage_text usage.Generate)
 usage_report usage.Help = on_out (usage_text usage.Help) 0
 usage_report usage.Version = on_out (usage_text usage.Version) 0
 usage_report usage.Memory = on_err (usage_text usage.Memory)
-
--- what may be reported of files, whatever they hold: a check, a program that is not read, or a file that can't be opened
-abbrev pub IsFileReport : Bool → Report → Type 0
-IsFileReport quiet report =
-    ((outcome : Outcome) × (report ≡ check_report quiet outcome))
-    ⊎ (((fault : LoadFault) × (report ≡ load_report fault)) ⊎ ((name : List ℕ) × (report ≡ open_report name)))
-
--- what may be reported of a command line, whatever it is: of files, or of the words
-abbrev pub IsToolReport : Report → Type 0
-IsToolReport report = ((quiet : Bool) × IsFileReport quiet report) ⊎ ((fault : UsageFault) × (report ≡ usage_report fault))

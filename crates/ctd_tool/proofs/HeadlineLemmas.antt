@@ -1,20 +1,55 @@
--- A report of the tool is one of those that the files can give.
-use Rattle.std.proofs.Common.{ℕ, List, length, refl, arith, inl, inr}
-use Rattle.std.proofs.lemmas.List.{take_all}
-use Rattle.ctd_source.specs.declared.source.Source.{Ghosts}
+-- What `run_tool` reports, put together from what loading and checking promise.
+use Rattle.std.proofs.Common.{◌≡◌, ◌≢◌, ◌+◌, ◌≤◌, ℕ, [], Ok, Err, Result, inl, inr, refl, ap, arith, sym, subst}
 use Rattle.ctd_source.specs.declared.source.Seen.{Seen}
-use Rattle.ctd_source.specs.declared.source.Seen.TheVariants.{Going, Ended, Broken}
-use Rattle.ctd_source.specs.Agreement.{Agrees, known}
+use Rattle.ctd_source.specs.declared.source.Source.{Ghosts}
+use Rattle.ctd_source.specs.Agreement.{Agrees}
+use Rattle.ctd_source.specs.CursorState.{GaveAtMost}
+use Rattle.ctd_source.specs.ReadingOn.{gave_nothing}
+use Rattle.ctd_token.specs.declared.fault.LoadFault.{LoadFault}
+use Rattle.ctd_token.specs.declared.fault.LoadKind.TheVariants.{Memory}
+use Rattle.ctd_token.specs.declared.limits.TheConstants.{PROGRAM_LIMIT}
+use Rattle.ctd_outcome.specs.declared.outcome.Checked.{Checked}
+use Rattle.ctd_tree.specs.Tree.{CommandList}
+use Rattle.ctd_plan.specs.Loading.{LoadsFrom}
+use Rattle.ctd_check.specs.Run.{meaning}
+use Rattle.ctd_check.specs.Checks.{FindsMeaning, IsAhead}
 use Rattle.ctd_words.specs.declared.setup.Setup.{Setup}
-use Rattle.ctd_report.specs.Report.{Report, IsFileReport}
-use Rattle.ctd_tool.specs.Headline.{Call, IsReport}
+use Rattle.ctd_report.specs.Report.{check_report, load_report}
+use Rattle.ctd_tool.specs.Headline.{call, IsReport}
 
--- the bytes that were given agree with themselves
-agrees_known : (seen : Seen) (bytes : List ℕ) (limit : ℕ) → Agrees bytes seen (known bytes seen limit)
-agrees_known Going bytes limit = take_all (length bytes) bytes (omega arith)
-agrees_known Ended bytes limit = (refl, refl)
-agrees_known Broken bytes limit = (refl, refl)
+-- loading reads no more than the limit of programs and one byte
+pub loads_few : {V R : Type 0} (tree_of : V → CommandList) (G : Ghosts R) (old new : R) (result : Result V LoadFault) → LoadsFrom tree_of G old new result → GaveAtMost G (PROGRAM_LIMIT + 1) old new
+loads_few tree_of G old new result l = record { bytes = l.bytes; gave = l.gave; few = l.short }
 
-pub IsReport-IsFileReport : {P D : Type 0} {G : Ghosts P} {H : Ghosts D} (s : Setup) (program : Call G) (testdata : Call H) (report : Report) → IsReport s program testdata report → IsFileReport s.quiet report
-IsReport-IsFileReport {H} s program testdata report (inl m) = inl (_, m.means (known m.bytes (H.seen testdata.new) s.limits.bytes) refl (agrees_known (H.seen testdata.new) m.bytes s.limits.bytes))
-IsReport-IsFileReport s program testdata report (inr f) = inr (inl (f.fault, f.report_is))
+-- a source that was left alone gave nothing
+pub gave_none : {R : Type 0} (G : Ghosts R) (n : ℕ) (s : R) → GaveAtMost G n s s
+gave_none G n s = record { bytes = []; gave = gave_nothing s; few = omega arith }
+
+module _ {V P D : Type 0} (tree_of : V → CommandList) (G : Ghosts P) (H : Ghosts D) (s : Setup) (old_program new_program : P) where
+  -- a program that was loaded, and data that were checked
+  pub reports_meaning : (old new : D) (plan : V) (checked : Checked) → LoadsFrom tree_of G old_program new_program (Ok plan)
+      → FindsMeaning H old new s.limits (λ d. meaning s.mode (tree_of plan) s.presets d s.limits.steps) checked → IsAhead checked → checked.taken ≤ s.limits.bytes + 1 → checked.seen ≡ H.seen new
+      → IsReport s (call G old_program new_program) (call H old new) (check_report s.quiet checked.outcome)
+  reports_meaning old new plan checked l m ahead within seen = inl (record {
+    tree = tree_of plan;
+    text = l.bytes;
+    gave_text = l.gave;
+    loads = l.answer;
+    bytes = m.given;
+    gave = m.gave;
+    within = omega (arith, m.taken, within);
+    means = λ d limit agrees.
+        let As : Seen → Type 0 = λ x. Agrees m.given x d in
+        let f = m.finds d limit (subst As (sym seen) agrees) in
+        record {
+          report_is = ap (check_report s.quiet) f.outcome;
+          behind = omega (arith, f.consumed, m.taken, ahead.behind);
+          ahead = omega (arith, f.consumed, m.taken, ahead.ahead);
+        };
+  })
+
+  -- a program that was refused
+  pub reports_fault : (testdata : D) (fault : LoadFault) → LoadsFrom tree_of G old_program new_program (Err fault) → fault.kind ≢ Memory
+      → IsReport s (call G old_program new_program) (call H testdata testdata) (load_report fault)
+  reports_fault testdata fault l other =
+      inr (record { fault = fault; text = l.bytes; gave_text = l.gave; within = l.short; fails = l.answer other; untouched = refl; report_is = refl })

@@ -1,5 +1,5 @@
 -- What the tool answers to a command line.
-use Rattle.std.specs.Prelude.{◌≡◌, ◌⊎◌, ℕ, List, Option}
+use Rattle.std.specs.Prelude.{◌≡◌, ◌⊎◌, ℕ, List, Option, Result, Ok, Err}
 use Rattle.std.specs.declared.alloc.Global.{Global}
 use Rattle.std.specs.declared.io.buffered.BufReader.{BufReader}
 use Rattle.ctd_source.specs.declared.from_read.FromRead.{FromRead}
@@ -8,8 +8,8 @@ use Rattle.ctd_tool.specs.declared.files.Sources.{Sources}
 use Rattle.ctd_report.specs.declared.sink.Sink as sinks
 use Rattle.ctd_words.specs.declared.setup.Setup.{Setup}
 use Rattle.ctd_words.specs.declared.setup.UsageFault.{UsageFault}
-use Rattle.ctd_words.specs.declared.setup.UsageFault.TheVariants.{Memory}
-use Rattle.ctd_tool.specs.Files.{Visit, IsFilesReport}
+use Rattle.ctd_words.specs.declared.setup.UsageFault.TheVariants.{Memory, Words}
+use Rattle.ctd_tool.specs.Files.{Visit, visit, IsFilesReport}
 use Rattle.ctd_report.specs.Report.{Report, usage_report}
 use Rattle.ctd_words.specs.Settings.{IsSetup}
 use Rattle.ctd_words.specs.Usage.{IsUsageFault}
@@ -33,3 +33,10 @@ abbrev pub IsAnswer : {F R : Type 0} → (R → Option (List ℕ)) → Ghosts (F
 IsAnswer remaining G words v sources report =
     AnswersSetup remaining G words v sources report
     ⊎ (AnswersFault words v report ⊎ (report ≡ usage_report Memory))
+
+-- a process that was given words ends with the answer to them, of files that were visited and of the sources that were left; one that got no words ends with the report of why
+abbrev pub EndsProcess : {F R O E : Type 0} {S : sinks.Ghosts O} {T : sinks.Ghosts E} → (F → List ℕ → Option R → F → Type 0) → (F → R → F → Type 0) → (R → Option (List ℕ)) → Ghosts (FromRead (BufReader R Global))
+    → Change S → Change T → Result (List (List ℕ)) UsageFault → ℕ → Type 0
+EndsProcess {F} {R} opens takes_input remaining G out err (Ok words) status =
+    (old : F) × (new : F) × (sources : Option (Sources R)) × EndsWithReport out err (IsAnswer remaining G words (visit opens takes_input old new) sources) status
+EndsProcess opens takes_input remaining G out err (Err fault) status = ((fault ≡ Words) ⊎ (fault ≡ Memory)) × EndsWithReport out err (λ report. report ≡ usage_report fault) status

@@ -1,18 +1,18 @@
 //! The files, the words and the streams of the process.
 
-ghost use Rattle.std.specs.Prelude.{◌≡◌, false};
-ghost use Rattle.ctd_tool.specs.Answer.{EndsWithReport};
-ghost use Rattle.ctd_report.specs.Report.{IsToolReport};
+ghost use Rattle.std.specs.Prelude.{◌≡◌, ◌⊎◌, ℕ, false, List, Result, IfErr};
+ghost use Rattle.ctd_tool.specs.Answer.{EndsProcess};
+ghost use Rattle.ctd_words.specs.declared.setup.UsageFault.{UsageFault};
 ghost use Rattle.ctd_report.specs.Written.{change};
 
 use crate::files::Files;
 use crate::run::{run_words, usage_status};
-use ctd_check::Bytes;
+use ctd_check::{Bytes, FromRead, Source};
 use ctd_report::{Sink, ToWrite};
 use ctd_words::UsageFault;
 use std::alloc::{AllocError, Global};
 use std::fs::File;
-use std::io::{self, ErrorKind, Read, Stderr, Stdin, Stdout};
+use std::io::{self, BufReader, ErrorKind, Read, Stderr, Stdin, Stdout};
 use std::rt::Env;
 use std::str::from_utf8;
 
@@ -21,7 +21,9 @@ use std::str::from_utf8;
 pub(crate) fn words_of(
     rt: &(impl Env + AllocGlobal),
     alloc: Global,
-) -> Result<Vec<Bytes>, UsageFault> {
+) -> Result<Vec<Bytes>, UsageFault>
+    ensures faults { IfErr result (λ fault. (fault ≡ UsageFault.Words) ⊎ (fault ≡ UsageFault.Memory)) }
+{
     let args = match std::env::args(rt) {
         Ok(args) => args,
         Err(error) if error.kind() == ErrorKind::OutOfMemory => return Err(UsageFault::Memory),
@@ -81,9 +83,11 @@ impl Files for HostFiles<'_> {
 pub fn answer(rt: &HostRuntime, out: &mut ToWrite<Stdout>, err: &mut ToWrite<Stderr>) -> u8
     requires out_works { ⟦<ToWrite<Stdout> as Sink>⟧.has_failed out.old ≡ false }
     requires err_works { ⟦<ToWrite<Stderr> as Sink>⟧.has_failed err.old ≡ false }
-    ensures { EndsWithReport (change ⟦<ToWrite<Stdout> as Sink>⟧ out.old out.new)
+    ensures { (words : Result (List (List ℕ)) UsageFault) × EndsProcess ⟦<HostFiles<'static> as Files>⟧.opens ⟦<HostFiles<'static> as Files>⟧.takes_input
+        ⟦<HostFile as Read>⟧.remaining ⟦<FromRead<BufReader<HostFile>> as Source>⟧
+        (change ⟦<ToWrite<Stdout> as Sink>⟧ out.old out.new)
         (change ⟦<ToWrite<Stderr> as Sink>⟧ err.old err.new)
-        IsToolReport result }
+        words result }
 {
     let alloc = rt.alloc();
     match words_of(rt, alloc) {

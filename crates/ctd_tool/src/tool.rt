@@ -1,7 +1,9 @@
 //! A program and data, read and checked, and the report of it.
 
-ghost use Rattle.std.specs.Prelude.{◌≡◌, ◌≤◌, ◌^◌, false};
+ghost use Rattle.std.specs.Prelude.{◌≡◌, ◌+◌, ◌≤◌, ◌^◌, false};
+ghost use Rattle.ctd_source.specs.CursorState.{GaveAtMost};
 ghost use Rattle.ctd_source.specs.declared.source.Seen.TheVariants.{Going};
+ghost use Rattle.ctd_token.specs.declared.limits.TheConstants.{PROGRAM_LIMIT};
 ghost use Rattle.ctd_tool.specs.Headline.{IsReport, call};
 ghost use Rattle.ctd_report.specs.Written.{LeavesOneOf, change};
 
@@ -30,6 +32,9 @@ pub fn run_tool<P: Source, D: Source, O: Sink, E: Sink>(
     requires err_works { E.has_failed err.old ≡ false }
     ensures written { LeavesOneOf (change O.Sink out.old out.new) (change E.Sink err.old err.new)
         (IsReport setup.now (call P.Source program.old program.new) (call D.Source testdata.old testdata.new)) result }
+    // whatever it answers, of each source no more is read than its limit and one byte
+    ensures reads_program { GaveAtMost P.Source (PROGRAM_LIMIT + 1) program.old program.new }
+    ensures reads_testdata { GaveAtMost D.Source (setup.now.limits.bytes + 1) testdata.old testdata.new }
 {
     let plan = match Plan::load(alloc, program) {
         Ok(plan) => plan,

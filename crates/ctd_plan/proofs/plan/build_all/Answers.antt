@@ -1,10 +1,11 @@
-use Rattle.std.proofs.Common.{◌≤◌, ◌++◌, ◌∷◌, [], List, ℕ, length, arith, ap, ◌∙◌, subst}
+use Rattle.std.proofs.Common.{◌≢◌, ◌≤◌, ◌++◌, ◌∷◌, [], List, ℕ, length, arith, ap, ◌∙◌, subst}
 use Rattle.std.proofs.lemmas.Grind.{common_steps}
 use Rattle.std.proofs.lemmas.List.{take_all}
+use Rattle.ctd_pattern.specs.declared.pattern.PatternFault.TheVariants.{Memory}
 use Rattle.ctd_pattern.specs.Pattern.{IsPattern}
 use Rattle.ctd_plan.specs.Literals.{literals_at}
-use Rattle.ctd_plan.specs.Loading.{ArePatterns}
-use Rattle.ctd_plan.proofs.Building.{bad_at, more_built, more_patterns}
+use Rattle.ctd_plan.specs.Loading.{ArePatterns, IsUnbuilt}
+use Rattle.ctd_plan.proofs.Building.{bad_at, more_built, more_patterns, unbuilt_by}
 use Rattle.ctd_plan.proofs.Loads.{memory_alone}
 use Rattle.ctd_plan.proofs.plan.build_all.Goals as goal
 
@@ -13,8 +14,11 @@ returns-in_err-push-in-Ok-clause-bad c = memory_alone _ _ c.from_residual.ensure
 
 pub returns-in-Err-clause-bad : goal.returns-in-Err-clause-bad
 returns-in-Err-clause-bad c other =
+    let memory : c.in-Err.fault ≢ Memory = λ memory. other (ap (λ f. f.kind) (c.pattern_fault.ensures.memory memory)) in
+    let e = c.in-Err.ensures in
+    let P : List ℕ → Type 0 = λ x. IsUnbuilt x c.in-Err.fault in
     bad_at c.args.literals.now c.loop-literal.literal-index c.literal-item.result c.pattern_fault.result c.loop-literal-test.true c.literal-item.is c.loop-literal.invariant.are_patterns
-    (c.pattern_fault.ensures.bad (λ memory. other (ap (λ f. f.kind) (c.pattern_fault.ensures.memory memory))))
+    c.in-Err.fault (subst P c.as_slice.ensures.whole (unbuilt_by c.as_slice.result.now c.in-Err.fault e.not_text e.not_pattern e.too_large memory)) (c.pattern_fault.ensures.bad memory)
 
 pub loop-literal-preserved : goal.loop-literal-preserved
 loop-literal-preserved c =

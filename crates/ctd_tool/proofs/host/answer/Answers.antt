@@ -1,9 +1,8 @@
-use Rattle.std.proofs.Common.{rules}
-use Rattle.ctd_tool.proofs.AnswerLemmas.{EndsWithReport-weaker, IsAnswer-IsToolReport}
+use Rattle.std.proofs.Common.{Ok, Err}
 use Rattle.ctd_tool.proofs.host.answer.Goals as goal
 
 pub returns-in-Ok : goal.returns-in-Ok
-returns-in-Ok c = EndsWithReport-weaker _ _ _ _ _ (λ report is. IsAnswer-IsToolReport _ _ _ _ _ report is) c.run_words.ensures
+returns-in-Ok c = (Ok c.as_slice.result.now, (_, _, _, c.run_words.ensures))
 
 pub returns-in-Err : goal.returns-in-Err
-returns-in-Err c = search rules
+returns-in-Err c = (Err c.in-Err.fault, (c.in-Err.ensures.faults, c.usage_status.ensures))
