@@ -52,9 +52,9 @@ pub record StopsAtLimit (limit most : ℕ) (m : Meaning) : Type 0 where
   pub steps : m.steps ≡ limit
   pub consumed : m.consumed ≤ most
 
--- for every program, with every mode, presets and data, the meanings under all limits of steps are so
+-- a law of the meanings under each limit of steps holds for every mode, program, presets and data
 abbrev pub OfEveryProgram : ((ℕ → Meaning) → Type 0) → Type 0
-OfEveryProgram AreSo = (mode : Mode) (program : CommandList) (presets : List Preset) (d : TestData) → AreSo (λ limit. meaning mode program presets d limit)
+OfEveryProgram Law = (mode : Mode) (program : CommandList) (presets : List Preset) (d : TestData) → Law (λ limit. meaning mode program presets d limit)
 
 -- no more steps are paid than the limit
 abbrev pub StepsAreWithin : (ℕ → Meaning) → Type 0
