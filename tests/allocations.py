@@ -20,7 +20,7 @@ TOP = HERE.parent
 
 # Tests of calls that may run out of memory, in the program that `rt ci` builds of each crate of tests.
 TESTS = {
-    "test_syntax": ["memory::small_texts_end_in_their_answers"],
+    "test_syntax": ["memory::small_texts_end_in_their_answers", "tokens::bytes_are_copied_whole"],
     "test_value": [
         "calls::stores_answer_their_steps",
         "memory::a_refused_assignment_leaves_the_store_as_it_was",

@@ -31,7 +31,10 @@ const ROWS: [Row; 6] = [
         ["SET(x=STRLEN(\"", "x", "\"))"],
         Step::Count(Ok(TIMES as u64)),
     ),
-    (["SET(a[", "1,", "1]=0)"], Step::Key(b"a", &[1; TIMES + 1], &[])),
+    (
+        ["SET(a[", "1,", "1]=0)"],
+        Step::Key(b"a", &[1; TIMES + 1], &[]),
+    ),
     (
         ["ASSERT(MATCH(\"", "x", "b\"))"],
         Step::Holds(b"b", false, 10, Ok(true)),
@@ -62,7 +65,8 @@ fn long_texts_answer_their_steps(rt: HostRuntime) -> Result<(), Fail> {
 
 /// Assigns n at index 3n of a, for each n below a hundred thousand.
 fn fill(alloc: Global, store: &mut Store) -> Result<(), AllocError> {
-    for n in 0..TIMES as i128 {
+    for n in 0..TIMES as u32 {
+        let n = i128::from(n);
         let key = key(alloc, b"a", &[n.saturating_mul(3)], &[])?;
         store.assign(key, Value::Int(n))?;
     }
