@@ -44,10 +44,7 @@ pub(super) fn write_read(out: &mut Shown, alloc: Global, text: &str) {
 const TEXTS: [(&str, &str); 15] = [
     ("s=\"a,b\",n=-3,n=4", "s=\"a,b\" n=-3 n=4"),
     // Presets of elements.
-    (
-        "a[1,\"x\"]=5,a[-0]=\"b\"",
-        "a[1][\"x\"]=5 a[0]=\"b\"",
-    ),
+    ("a[1,\"x\"]=5,a[-0]=\"b\"", "a[1][\"x\"]=5 a[0]=\"b\""),
     (
         "a[\"]=1,\"]=2,a[-3,0]=\"[]\"",
         "a[\"]=1,\"]=2 a[-3][0]=\"[]\"",
