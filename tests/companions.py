@@ -159,6 +159,21 @@ class Show(CompanionTest):
             "wrong.in",
         )
 
+    def test_the_program_is_shown_as_it_stands(self) -> None:
+        self.write("text.ctd", "# \n\tSTRING(\"\\t\xc3\xa9\") NEWLINE # \xc3\xa9\n")
+        self.write("wrong.in", b"\t\xc3\xa9")
+        self.assert_run(
+            1,
+            "wrong.in: line 1 column 4: expected a newline (program line 2 column 17)\n"
+            "      1 | \\t\\xc3\\xa9<end of file>\n"
+            "        |           ^\n"
+            "text.ctd:\n"
+            '      2 |     STRING("\\té") NEWLINE # é\n'
+            "        |                   ^\n",
+            "text.ctd",
+            "wrong.in",
+        )
+
     def test_the_end_of_the_file_is_marked(self) -> None:
         self.write("short.in", "3\n1 -2 3")
         self.assert_run(
@@ -206,7 +221,7 @@ class Show(CompanionTest):
     def test_no_more_is_read_than_the_lines_that_are_shown(self) -> None:
         show = load("ctd-show")
         file = io.BytesIO(b"1\n" * 1000 + b"2\n" + b"3" * 10_000_000)
-        self.assertEqual(show.line_excerpt(file, 0, 1001, 1).text, "2")
+        self.assertEqual(show.line_excerpt(file, 0, 1001, 1, show.DATA).text, "2")
         self.assertLess(file.tell(), 4000)
         self.assertEqual(show.line_start(file, 0, 1002), 2002)
         self.assertIsNone(show.line_start(file, 0, 1003))
@@ -227,6 +242,7 @@ class Show(CompanionTest):
     def test_calls_that_are_refused_are_told_once(self) -> None:
         self.assert_run(2, "checktestdata: bad preset\n", "-D", "n", "list.ctd", "right.in", "right.in")
         self.assert_run(2, "checktestdata: bad step limit\n", "--max-steps=x", "list.ctd", "right.in", "right.in")
+        self.assert_run(2, "checktestdata: bad arguments\n", "-D", "n=1", "-D", "n=1", "list.ctd", "right.in", "right.in")
         self.assert_run(2, "checktestdata: cannot open none.ctd\n", "none.ctd", "right.in", "right.in")
         self.assert_run(2, "none.ctd: error: cannot open none.ctd\n", "--gcc", "none.ctd", "right.in", "right.in")
 

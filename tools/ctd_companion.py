@@ -129,10 +129,12 @@ def find_checker(given: str | None) -> str | None:
     return shutil.which(CHECKER)
 
 
-def visible(data: bytes, space: str = "·") -> str:
+NAMED_BYTES = {0x20: "·", 0x09: r"\t", 0x0A: r"\n", 0x0D: r"\r", 0x5C: r"\\"}
+
+
+def visible(data: bytes) -> str:
     """Bytes as text in which each can be told from any other: blanks, control characters and bytes outside ASCII are shown."""
-    named = {0x20: space, 0x09: r"\t", 0x0A: r"\n", 0x0D: r"\r", 0x5C: r"\\"}
-    return "".join(named.get(byte) or (chr(byte) if 0x20 < byte < 0x7F else f"\\x{byte:02x}") for byte in data)
+    return "".join(NAMED_BYTES.get(byte) or (chr(byte) if 0x20 < byte < 0x7F else f"\\x{byte:02x}") for byte in data)
 
 
 @dataclass
@@ -192,9 +194,9 @@ def parser(name: str, description: str, epilog: str) -> argparse.ArgumentParser:
     jobs = min(os.cpu_count() or 1, 8)
     words.add_argument("-j", "--jobs", metavar="N", type=positive, default=jobs, help="run N checks at once (default: one for each processor, at most 8)")
     words.add_argument("--checker", metavar="PATH", help="the checker (default: beside this program, or on PATH)")
-    words.add_argument("-D", "--define", metavar="NAME=VALUE,..", help="given to the checker: values of variables")
+    words.add_argument("-D", "--define", metavar="NAME=VALUE,..", action="append", default=[], help="given to the checker: values of variables")
     words.add_argument("-w", "--whitespace-ok", action="store_true", help="given to the checker: blanks may differ")
-    words.add_argument("--max-steps", metavar="N", help="given to the checker: stop a check after N steps")
+    words.add_argument("--max-steps", metavar="N", action="append", default=[], help="given to the checker: stop a check after N steps")
     words.add_argument("program", metavar="PROGRAM", help="the program of checktestdata")
     words.add_argument("data", metavar="DATA", nargs="+", help="a file of test data; - is standard input")
     return words
@@ -210,9 +212,10 @@ def checker_of(words: argparse.ArgumentParser, given: argparse.Namespace) -> Che
     path = find_checker(given.checker)
     if path is None:
         words.error("the checker is not found; say where it is by --checker")
+    # (an option that is given twice is refused by the checker)
     options = ["-w"] if given.whitespace_ok else []
-    options += [] if given.define is None else [f"--define={given.define}"]
-    options += [] if given.max_steps is None else [f"--max-steps={given.max_steps}"]
+    options += [f"--define={value}" for value in given.define]
+    options += [f"--max-steps={number}" for number in given.max_steps]
     return Checker(path, given.program, options)
 
 
