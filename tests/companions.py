@@ -376,7 +376,7 @@ class Show(CompanionTest):
         self.assertEqual(self.run_tool("list.ctd", "right.in", checker="./checktestdata").stderr, b"")
 
     def test_a_reader_that_goes_away(self) -> None:
-        call = f"{TOOLS}/ctd-show --checker {CHECKER} list.ctd {'right.in ' * 500} | head -n 1"
+        call = f"{TOOLS}/ctd-show --checker {CHECKER} list.ctd {'right.in ' * 200} | head -n 1"
         ran = subprocess.run(["bash", "-c", call], cwd=self.folder, capture_output=True, timeout=OUT_OF_TIME, check=False)
         self.assertEqual((ran.stdout, ran.stderr), (b"right.in: testdata ok!\n", b""))
 
@@ -429,8 +429,18 @@ class Mutate(CompanionTest):
         self.assertEqual(len(listed), 18)
 
     def test_changes_are_spread_over_the_file(self) -> None:
+        # In 18 bytes: the first line that begins at 0, at 9.7 or later, and at 13.4 or later.
         data = b"1\n2\n3\n4\n5\n6\n7\n8\n9\n"
-        self.assertEqual(self.made("dropped-line", data, "-n", "3"), [data.replace(line, b"") for line in (b"1\n", b"4\n", b"7\n")])
+        self.assertEqual(self.made("dropped-line", data, "-n", "3"), [data.replace(line, b"") for line in (b"1\n", b"6\n", b"8\n")])
+
+    def test_changes_are_as_many_as_are_asked_for_where_all_places_are_at_the_start(self) -> None:
+        data = b"abcdef" + b"\n" * 100
+        self.assertEqual(len(self.made("letter-case", data, "-n", "5")), 5)
+
+    def test_each_column_is_changed(self) -> None:
+        data = b"100 200 300\n" * 100
+        changed = {place for made in self.made("leading-zero", data) for place in [made.index(b" 0") % 12 if b" 0" in made else 0]}
+        self.assertEqual(len(changed), 3)
 
     def test_a_change_that_changes_nothing_gives_way_to_the_next(self) -> None:
         self.assertEqual(self.made("exchanged-lines", b"1\n1\n1\n2\n", "-n", "1"), [b"1\n1\n2\n1\n"])
@@ -526,12 +536,15 @@ class Mutate(CompanionTest):
 
 class Both(unittest.TestCase):
     def test_help_and_version(self) -> None:
-        version = subprocess.run([CHECKER, "--version"], capture_output=True, text=True, check=True).stdout.split()[1]
+        version = self.written_by(CHECKER, "--version").split()[1]
         for tool in ["ctd-show", "ctd-mutate"]:
             with self.subTest(tool):
-                shown = subprocess.run([TOOLS / tool, "--help"], capture_output=True, text=True, check=True).stdout
-                self.assertTrue(shown.startswith(f"usage: {tool} [-h]"))
-                self.assertEqual(subprocess.run([TOOLS / tool, "--version"], capture_output=True, text=True, check=True).stdout, f"{tool} {version}\n")
+                self.assertTrue(self.written_by(TOOLS / tool, "--help").startswith(f"usage: {tool} [-h]"))
+                self.assertEqual(self.written_by(TOOLS / tool, "--version"), f"{tool} {version}\n")
+
+    @staticmethod
+    def written_by(command: Path, word: str) -> str:
+        return subprocess.run([command, word], capture_output=True, text=True, check=True).stdout
 
 
 def main() -> int:
