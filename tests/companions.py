@@ -339,7 +339,9 @@ class Show(CompanionTest):
     def test_a_checker_that_breaks_off(self) -> None:
         self.write_checker("kill -9 $$")
         ran = self.run_tool("list.ctd", "right.in", checker="./checktestdata")
-        self.assertEqual((ran.stdout, ran.returncode), (b"checktestdata: the checker was ended by signal 9\n", 2))
+        self.assertEqual((ran.stdout, ran.returncode), (b"right.in: checktestdata: the checker was ended by signal 9\n", 2))
+        self.write_checker("exit 3")
+        self.assertIn(b"checktestdata: the checker ended with status 3\n", self.run_tool("list.ctd", "right.in", checker="./checktestdata").stdout)
 
     def test_a_checker_that_is_not_there(self) -> None:
         ran = self.run_tool("list.ctd", "right.in", checker="./none")
@@ -504,7 +506,8 @@ class Mutate(CompanionTest):
         self.write("wrong.in", "11\n")
         ran = self.run_tool("--only", "plus", "number.ctd", "wrong.in", "none.in", "right.in")
         lines = ran.stdout.decode().splitlines()
-        self.assertEqual(lines[:2], ["wrong.in: line 1 column 1: value out of range (program line 1 column 1)", "none.in: cannot read: No such file or directory"])
+        self.assertEqual(lines[0], "wrong.in: line 1 column 1: value out of range (program line 1 column 1)")
+        self.assertEqual(lines[1], "none.in: cannot read: No such file or directory")
         self.assertEqual((ran.returncode, lines[-1]), (2, "1 made, 1 rejected, 0 let through, 0 without verdict"))
 
     def test_a_program_that_is_refused(self) -> None:

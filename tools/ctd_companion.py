@@ -53,7 +53,8 @@ class Answer:
     @property
     def is_of_the_call(self) -> bool:
         """Whether the program, or an option, is refused: the answer is then the same for all data."""
-        return self.status == NO_VERDICT and self.in_data is None and self.message != "out of memory"
+        of_this_run = ("out of memory", "the checker ")
+        return self.status == NO_VERDICT and self.in_data is None and not self.message.startswith(of_this_run)
 
 
 def place_of(line: str | None, column: str | None) -> Place | None:
@@ -61,12 +62,12 @@ def place_of(line: str | None, column: str | None) -> Place | None:
     return None if line is None or column is None else Place(int(line), int(column))
 
 
-def answer_of(status: int, written: bytes) -> Answer:
+def answer_of(status: int, out: bytes, err: bytes) -> Answer:
     """The answer that a status and the bytes of both streams are."""
-    if status not in (FITS, REJECTED, NO_VERDICT):
-        ending = f"the checker was ended by signal {-status}" if status < 0 else f"the checker ended with status {status}"
-        return Answer(NO_VERDICT, f"{CHECKER}: {ending}", ending)
-    line = os.fsdecode(written.partition(b"\n")[0])
+    line = os.fsdecode((err if status == NO_VERDICT else out).partition(b"\n")[0])
+    if status not in (FITS, REJECTED, NO_VERDICT) or not line:
+        ending = f"was ended by signal {-status}" if status < 0 else f"ended with status {status}"
+        return Answer(NO_VERDICT, f"{CHECKER}: the checker {ending}", f"the checker {ending}")
     if found := DATA_FAULT.fullmatch(line):
         return Answer(status, line, found[3], place_of(found[1], found[2]), found[4], place_of(found[5], found[6]))
     if found := PROGRAM_FAULT.fullmatch(line):
@@ -89,14 +90,14 @@ class Checker:
     def check(self, data: bytes) -> Answer:
         """Checks data that are held."""
         ran = subprocess.run(self.words, input=data, stdout=subprocess.PIPE, stderr=subprocess.PIPE, check=False)
-        return answer_of(ran.returncode, ran.stdout + ran.stderr)
+        return answer_of(ran.returncode, ran.stdout, ran.stderr)
 
     def check_file(self, data: IO[bytes]) -> tuple[Answer, IO[bytes]]:
         """Checks the data of a file from where it stands. The second result is a file that can be read again: the same, or where it is a pipe
         a copy of what the checker was given."""
         if data.seekable():
             ran = subprocess.run(self.words, stdin=data, stdout=subprocess.PIPE, stderr=subprocess.PIPE, check=False)
-            return answer_of(ran.returncode, ran.stdout + ran.stderr), data
+            return answer_of(ran.returncode, ran.stdout, ran.stderr), data
         return self._check_pipe(data)
 
     def _check_pipe(self, data: IO[bytes]) -> tuple[Answer, IO[bytes]]:
@@ -113,19 +114,18 @@ class Checker:
             except BrokenPipeError:
                 pass
             # The checker writes one line, which the pipes have room for.
-            written = process.stdout.read() + process.stderr.read()
-        copy.seek(0)
-        return answer_of(process.returncode, written), copy
+            out, err = process.stdout.read(), process.stderr.read()
+        return answer_of(process.returncode, out, err), copy
 
 
 def find_checker(given: str | None) -> str | None:
-    """The path of the checker: what was given, or beside this program, or in the checkout that this program stands in, or on PATH."""
+    """The path of the checker: what was given, or beside this program, or as it is built in the checkout of this program, or on PATH."""
     if given is not None:
         return shutil.which(given)
     called, here = Path(sys.argv[0]).parent, Path(__file__).resolve().parent
-    for folder in (called, here, here.parent):
-        if (folder / CHECKER).is_file() and os.access(folder / CHECKER, os.X_OK):
-            return str((folder / CHECKER).resolve())
+    for path in (called / CHECKER, here / CHECKER, here.parent / "crates" / CHECKER / "out" / CHECKER):
+        if path.is_file() and os.access(path, os.X_OK):
+            return str(path.resolve())
     return shutil.which(CHECKER)
 
 
@@ -143,16 +143,15 @@ class Progress:
 
     total: int
     unit: str
-    delay: float = 1.0
-    started: float = field(default_factory=time.monotonic)
+    due: float = field(default_factory=lambda: time.monotonic() + 1)
     shown: bool = False
 
     def show(self, done: int) -> None:
-        """Says how many of all are done."""
-        if sys.stderr.isatty() and time.monotonic() - self.started >= self.delay:
+        """Says how many of all are done, at most ten times a second."""
+        if time.monotonic() >= self.due and sys.stderr.isatty():
             sys.stderr.write(f"\r\x1b[K{done} of {self.total} {self.unit}")
             sys.stderr.flush()
-            self.shown = True
+            self.due, self.shown = time.monotonic() + 0.1, True
 
     def clear(self) -> None:
         """Takes the line away, before something else is written."""
@@ -167,12 +166,10 @@ def results_in_order(work: Callable[[Task], Result], tasks: Sequence[Task], jobs
     dropped where the caller wants no more."""
     pool = ThreadPoolExecutor(jobs)
     try:
-        futures = [pool.submit(work, task) for task in tasks]
-        for future in futures:
+        for number, future in enumerate([pool.submit(work, task) for task in tasks]):
             while not wait([future], timeout=0.2).done:
-                progress.show(sum(one.done() for one in futures))
-            progress.show(sum(one.done() for one in futures))
-            progress.clear()
+                progress.show(number)
+            progress.show(number + 1)
             yield future.result()
     finally:
         progress.clear()
