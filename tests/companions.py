@@ -159,6 +159,21 @@ class Show(CompanionTest):
             "wrong.in",
         )
 
+    def test_the_program_is_shown_as_it_stands(self) -> None:
+        self.write("text.ctd", "# \n\tSTRING(\"\\t\xc3\xa9\") NEWLINE # \xc3\xa9\n")
+        self.write("wrong.in", b"\t\xc3\xa9")
+        self.assert_run(
+            1,
+            "wrong.in: line 1 column 4: expected a newline (program line 2 column 17)\n"
+            "      1 | \\t\\xc3\\xa9<end of file>\n"
+            "        |           ^\n"
+            "text.ctd:\n"
+            '      2 |     STRING("\\té") NEWLINE # é\n'
+            "        |                   ^\n",
+            "text.ctd",
+            "wrong.in",
+        )
+
     def test_the_end_of_the_file_is_marked(self) -> None:
         self.write("short.in", "3\n1 -2 3")
         self.assert_run(
@@ -206,7 +221,7 @@ class Show(CompanionTest):
     def test_no_more_is_read_than_the_lines_that_are_shown(self) -> None:
         show = load("ctd-show")
         file = io.BytesIO(b"1\n" * 1000 + b"2\n" + b"3" * 10_000_000)
-        self.assertEqual(show.line_excerpt(file, 0, 1001, 1).text, "2")
+        self.assertEqual(show.line_excerpt(file, 0, 1001, 1, show.DATA).text, "2")
         self.assertLess(file.tell(), 4000)
         self.assertEqual(show.line_start(file, 0, 1002), 2002)
         self.assertIsNone(show.line_start(file, 0, 1003))
@@ -227,6 +242,7 @@ class Show(CompanionTest):
     def test_calls_that_are_refused_are_told_once(self) -> None:
         self.assert_run(2, "checktestdata: bad preset\n", "-D", "n", "list.ctd", "right.in", "right.in")
         self.assert_run(2, "checktestdata: bad step limit\n", "--max-steps=x", "list.ctd", "right.in", "right.in")
+        self.assert_run(2, "checktestdata: bad arguments\n", "-D", "n=1", "-D", "n=1", "list.ctd", "right.in", "right.in")
         self.assert_run(2, "checktestdata: cannot open none.ctd\n", "none.ctd", "right.in", "right.in")
         self.assert_run(2, "none.ctd: error: cannot open none.ctd\n", "--gcc", "none.ctd", "right.in", "right.in")
 
@@ -323,7 +339,9 @@ class Show(CompanionTest):
     def test_a_checker_that_breaks_off(self) -> None:
         self.write_checker("kill -9 $$")
         ran = self.run_tool("list.ctd", "right.in", checker="./checktestdata")
-        self.assertEqual((ran.stdout, ran.returncode), (b"checktestdata: the checker was ended by signal 9\n", 2))
+        self.assertEqual((ran.stdout, ran.returncode), (b"right.in: checktestdata: the checker was ended by signal 9\n", 2))
+        self.write_checker("exit 3")
+        self.assertIn(b"checktestdata: the checker ended with status 3\n", self.run_tool("list.ctd", "right.in", checker="./checktestdata").stdout)
 
     def test_a_checker_that_is_not_there(self) -> None:
         ran = self.run_tool("list.ctd", "right.in", checker="./none")
@@ -360,7 +378,7 @@ class Show(CompanionTest):
         self.assertEqual(self.run_tool("list.ctd", "right.in", checker="./checktestdata").stderr, b"")
 
     def test_a_reader_that_goes_away(self) -> None:
-        call = f"{TOOLS}/ctd-show --checker {CHECKER} list.ctd {'right.in ' * 500} | head -n 1"
+        call = f"{TOOLS}/ctd-show --checker {CHECKER} list.ctd {'right.in ' * 200} | head -n 1"
         ran = subprocess.run(["bash", "-c", call], cwd=self.folder, capture_output=True, timeout=OUT_OF_TIME, check=False)
         self.assertEqual((ran.stdout, ran.stderr), (b"right.in: testdata ok!\n", b""))
 
@@ -413,8 +431,18 @@ class Mutate(CompanionTest):
         self.assertEqual(len(listed), 18)
 
     def test_changes_are_spread_over_the_file(self) -> None:
+        # In 18 bytes: the first line that begins at 0, at 9.7 or later, and at 13.4 or later.
         data = b"1\n2\n3\n4\n5\n6\n7\n8\n9\n"
-        self.assertEqual(self.made("dropped-line", data, "-n", "3"), [data.replace(line, b"") for line in (b"1\n", b"4\n", b"7\n")])
+        self.assertEqual(self.made("dropped-line", data, "-n", "3"), [data.replace(line, b"") for line in (b"1\n", b"6\n", b"8\n")])
+
+    def test_changes_are_as_many_as_are_asked_for_where_all_places_are_at_the_start(self) -> None:
+        data = b"abcdef" + b"\n" * 100
+        self.assertEqual(len(self.made("letter-case", data, "-n", "5")), 5)
+
+    def test_each_column_is_changed(self) -> None:
+        data = b"100 200 300\n" * 100
+        changed = {place for made in self.made("leading-zero", data) for place in [made.index(b" 0") % 12 if b" 0" in made else 0]}
+        self.assertEqual(len(changed), 3)
 
     def test_a_change_that_changes_nothing_gives_way_to_the_next(self) -> None:
         self.assertEqual(self.made("exchanged-lines", b"1\n1\n1\n2\n", "-n", "1"), [b"1\n1\n2\n1\n"])
@@ -478,7 +506,8 @@ class Mutate(CompanionTest):
         self.write("wrong.in", "11\n")
         ran = self.run_tool("--only", "plus", "number.ctd", "wrong.in", "none.in", "right.in")
         lines = ran.stdout.decode().splitlines()
-        self.assertEqual(lines[:2], ["wrong.in: line 1 column 1: value out of range (program line 1 column 1)", "none.in: cannot read: No such file or directory"])
+        self.assertEqual(lines[0], "wrong.in: line 1 column 1: value out of range (program line 1 column 1)")
+        self.assertEqual(lines[1], "none.in: cannot read: No such file or directory")
         self.assertEqual((ran.returncode, lines[-1]), (2, "1 made, 1 rejected, 0 let through, 0 without verdict"))
 
     def test_a_program_that_is_refused(self) -> None:
@@ -510,12 +539,15 @@ class Mutate(CompanionTest):
 
 class Both(unittest.TestCase):
     def test_help_and_version(self) -> None:
-        version = subprocess.run([CHECKER, "--version"], capture_output=True, text=True, check=True).stdout.split()[1]
+        version = self.written_by(CHECKER, "--version").split()[1]
         for tool in ["ctd-show", "ctd-mutate"]:
             with self.subTest(tool):
-                shown = subprocess.run([TOOLS / tool, "--help"], capture_output=True, text=True, check=True).stdout
-                self.assertTrue(shown.startswith(f"usage: {tool} [-h]"))
-                self.assertEqual(subprocess.run([TOOLS / tool, "--version"], capture_output=True, text=True, check=True).stdout, f"{tool} {version}\n")
+                self.assertTrue(self.written_by(TOOLS / tool, "--help").startswith(f"usage: {tool} [-h]"))
+                self.assertEqual(self.written_by(TOOLS / tool, "--version"), f"{tool} {version}\n")
+
+    @staticmethod
+    def written_by(command: Path, word: str) -> str:
+        return subprocess.run([command, word], capture_output=True, text=True, check=True).stdout
 
 
 def main() -> int:

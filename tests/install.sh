@@ -152,7 +152,8 @@ if has readelf 'the archive and the package'; then
         for relation in Provides Conflicts Replaces; do
             expect "$relation" same checktestdata "$(field $relation)"
         done
-        expect 'what the package depends on' same "libc6 (>= $libc), python3:any (>= 3.9)" "$(field Depends)"
+        expect 'what the package depends on' same "libc6 (>= $libc)" "$(field Depends)"
+        expect 'what the companions need' same 'python3:any (>= 3.9)' "$(field Recommends)"
         dpkg-deb --extract "$package" "$work/package"
         expect 'the program in the package' same "checktestdata $version (whole-number profile)" "$("$work/package/usr/bin/checktestdata" --version)"
         expect 'a companion in the package' "$work/package/usr/bin/ctd-show" "$work/number.ctd" "$work/right.in"

@@ -53,7 +53,8 @@ class Answer:
     @property
     def is_of_the_call(self) -> bool:
         """Whether the program, or an option, is refused: the answer is then the same for all data."""
-        return self.status == NO_VERDICT and self.in_data is None and self.message != "out of memory"
+        of_this_run = ("out of memory", "the checker ")
+        return self.status == NO_VERDICT and self.in_data is None and not self.message.startswith(of_this_run)
 
 
 def place_of(line: str | None, column: str | None) -> Place | None:
@@ -61,12 +62,12 @@ def place_of(line: str | None, column: str | None) -> Place | None:
     return None if line is None or column is None else Place(int(line), int(column))
 
 
-def answer_of(status: int, written: bytes) -> Answer:
+def answer_of(status: int, out: bytes, err: bytes) -> Answer:
     """The answer that a status and the bytes of both streams are."""
-    if status not in (FITS, REJECTED, NO_VERDICT):
-        ending = f"the checker was ended by signal {-status}" if status < 0 else f"the checker ended with status {status}"
-        return Answer(NO_VERDICT, f"{CHECKER}: {ending}", ending)
-    line = os.fsdecode(written.partition(b"\n")[0])
+    line = os.fsdecode((err if status == NO_VERDICT else out).partition(b"\n")[0])
+    if status not in (FITS, REJECTED, NO_VERDICT) or not line:
+        ending = f"was ended by signal {-status}" if status < 0 else f"ended with status {status}"
+        return Answer(NO_VERDICT, f"{CHECKER}: the checker {ending}", f"the checker {ending}")
     if found := DATA_FAULT.fullmatch(line):
         return Answer(status, line, found[3], place_of(found[1], found[2]), found[4], place_of(found[5], found[6]))
     if found := PROGRAM_FAULT.fullmatch(line):
@@ -89,14 +90,14 @@ class Checker:
     def check(self, data: bytes) -> Answer:
         """Checks data that are held."""
         ran = subprocess.run(self.words, input=data, stdout=subprocess.PIPE, stderr=subprocess.PIPE, check=False)
-        return answer_of(ran.returncode, ran.stdout + ran.stderr)
+        return answer_of(ran.returncode, ran.stdout, ran.stderr)
 
     def check_file(self, data: IO[bytes]) -> tuple[Answer, IO[bytes]]:
         """Checks the data of a file from where it stands. The second result is a file that can be read again: the same, or where it is a pipe
         a copy of what the checker was given."""
         if data.seekable():
             ran = subprocess.run(self.words, stdin=data, stdout=subprocess.PIPE, stderr=subprocess.PIPE, check=False)
-            return answer_of(ran.returncode, ran.stdout + ran.stderr), data
+            return answer_of(ran.returncode, ran.stdout, ran.stderr), data
         return self._check_pipe(data)
 
     def _check_pipe(self, data: IO[bytes]) -> tuple[Answer, IO[bytes]]:
@@ -113,26 +114,27 @@ class Checker:
             except BrokenPipeError:
                 pass
             # The checker writes one line, which the pipes have room for.
-            written = process.stdout.read() + process.stderr.read()
-        copy.seek(0)
-        return answer_of(process.returncode, written), copy
+            out, err = process.stdout.read(), process.stderr.read()
+        return answer_of(process.returncode, out, err), copy
 
 
 def find_checker(given: str | None) -> str | None:
-    """The path of the checker: what was given, or beside this program, or in the checkout that this program stands in, or on PATH."""
+    """The path of the checker: what was given, or beside this program, or as it is built in the checkout of this program, or on PATH."""
     if given is not None:
         return shutil.which(given)
     called, here = Path(sys.argv[0]).parent, Path(__file__).resolve().parent
-    for folder in (called, here, here.parent):
-        if (folder / CHECKER).is_file() and os.access(folder / CHECKER, os.X_OK):
-            return str((folder / CHECKER).resolve())
+    for path in (called / CHECKER, here / CHECKER, here.parent / "crates" / CHECKER / "out" / CHECKER):
+        if path.is_file() and os.access(path, os.X_OK):
+            return str(path.resolve())
     return shutil.which(CHECKER)
 
 
-def visible(data: bytes, space: str = "·") -> str:
+NAMED_BYTES = {0x20: "·", 0x09: r"\t", 0x0A: r"\n", 0x0D: r"\r", 0x5C: r"\\"}
+
+
+def visible(data: bytes) -> str:
     """Bytes as text in which each can be told from any other: blanks, control characters and bytes outside ASCII are shown."""
-    named = {0x20: space, 0x09: r"\t", 0x0A: r"\n", 0x0D: r"\r", 0x5C: r"\\"}
-    return "".join(named.get(byte) or (chr(byte) if 0x20 < byte < 0x7F else f"\\x{byte:02x}") for byte in data)
+    return "".join(NAMED_BYTES.get(byte) or (chr(byte) if 0x20 < byte < 0x7F else f"\\x{byte:02x}") for byte in data)
 
 
 @dataclass
@@ -141,16 +143,15 @@ class Progress:
 
     total: int
     unit: str
-    delay: float = 1.0
-    started: float = field(default_factory=time.monotonic)
+    due: float = field(default_factory=lambda: time.monotonic() + 1)
     shown: bool = False
 
     def show(self, done: int) -> None:
-        """Says how many of all are done."""
-        if sys.stderr.isatty() and time.monotonic() - self.started >= self.delay:
+        """Says how many of all are done, at most ten times a second."""
+        if time.monotonic() >= self.due and sys.stderr.isatty():
             sys.stderr.write(f"\r\x1b[K{done} of {self.total} {self.unit}")
             sys.stderr.flush()
-            self.shown = True
+            self.due, self.shown = time.monotonic() + 0.1, True
 
     def clear(self) -> None:
         """Takes the line away, before something else is written."""
@@ -165,12 +166,10 @@ def results_in_order(work: Callable[[Task], Result], tasks: Sequence[Task], jobs
     dropped where the caller wants no more."""
     pool = ThreadPoolExecutor(jobs)
     try:
-        futures = [pool.submit(work, task) for task in tasks]
-        for future in futures:
+        for number, future in enumerate([pool.submit(work, task) for task in tasks]):
             while not wait([future], timeout=0.2).done:
-                progress.show(sum(one.done() for one in futures))
-            progress.show(sum(one.done() for one in futures))
-            progress.clear()
+                progress.show(number)
+            progress.show(number + 1)
             yield future.result()
     finally:
         progress.clear()
@@ -192,9 +191,9 @@ def parser(name: str, description: str, epilog: str) -> argparse.ArgumentParser:
     jobs = min(os.cpu_count() or 1, 8)
     words.add_argument("-j", "--jobs", metavar="N", type=positive, default=jobs, help="run N checks at once (default: one for each processor, at most 8)")
     words.add_argument("--checker", metavar="PATH", help="the checker (default: beside this program, or on PATH)")
-    words.add_argument("-D", "--define", metavar="NAME=VALUE,..", help="given to the checker: values of variables")
+    words.add_argument("-D", "--define", metavar="NAME=VALUE,..", action="append", default=[], help="given to the checker: values of variables")
     words.add_argument("-w", "--whitespace-ok", action="store_true", help="given to the checker: blanks may differ")
-    words.add_argument("--max-steps", metavar="N", help="given to the checker: stop a check after N steps")
+    words.add_argument("--max-steps", metavar="N", action="append", default=[], help="given to the checker: stop a check after N steps")
     words.add_argument("program", metavar="PROGRAM", help="the program of checktestdata")
     words.add_argument("data", metavar="DATA", nargs="+", help="a file of test data; - is standard input")
     return words
@@ -210,9 +209,10 @@ def checker_of(words: argparse.ArgumentParser, given: argparse.Namespace) -> Che
     path = find_checker(given.checker)
     if path is None:
         words.error("the checker is not found; say where it is by --checker")
+    # (an option that is given twice is refused by the checker)
     options = ["-w"] if given.whitespace_ok else []
-    options += [] if given.define is None else [f"--define={given.define}"]
-    options += [] if given.max_steps is None else [f"--max-steps={given.max_steps}"]
+    options += [f"--define={value}" for value in given.define]
+    options += [f"--max-steps={number}" for number in given.max_steps]
     return Checker(path, given.program, options)
 
 

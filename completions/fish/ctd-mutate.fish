@@ -5,7 +5,7 @@ complete -c ctd-mutate -s w -l whitespace-ok -d 'The blanks of the data may diff
 complete -c ctd-mutate -l max-steps -x -d 'Stop a check after so many steps'
 complete -c ctd-mutate -s j -l jobs -x -d 'Run so many checks at once'
 complete -c ctd-mutate -s n -l most -x -d 'Make at most so many files of each kind from each file'
-complete -c ctd-mutate -l only -x -a '(ctd-mutate --kinds 2>/dev/null | string replace -r " .*" "")' -d 'Make these kinds alone'
+complete -c ctd-mutate -l only -x -a '(ctd-mutate --kinds 2>/dev/null | string replace -r " +" \t)' -d 'Make these kinds alone'
 complete -c ctd-mutate -l kinds -d 'List the kinds'
 complete -c ctd-mutate -s a -l all -d 'List each file that is let through'
 complete -c ctd-mutate -s o -l output -xa '(__fish_complete_directories)' -d 'Keep the files that are let through in a folder'
