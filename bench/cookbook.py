@@ -1,11 +1,11 @@
 #!/usr/bin/env python3
-"""Times the programs of docs/COOKBOOK.md on data that are made for them, and prints processor seconds and peak memory.
+"""Times the programs of docs/COOKBOOK.md on data that are made for them, and prints the processor seconds of a run.
 
-The programs are those that stand in the document. The data have a fixed seed, so they are the same on every machine."""
+The programs are those that stand in the document, with a larger limit. The data have a fixed seed, so they are the same on every machine."""
 import argparse
 import math
-import os
 import random
+import resource
 import subprocess
 import sys
 import tempfile
@@ -202,18 +202,19 @@ def programs() -> dict[str, str]:
     return {block.file: block.text() for block in blocks(COOKBOOK) if block.file is not None}
 
 
-def measure(checker: Path, program: Path, data: Path) -> tuple[float, float]:
-    """Processor seconds and peak memory in MB of a run, which has to accept the data."""
-    with data.open("rb") as stdin:
-        process = subprocess.Popen([checker, "-D", "maxn=1000001", program], stdin=stdin, stdout=subprocess.PIPE)
-        with process:
-            assert process.stdout is not None
-            answer = process.stdout.read()
-            _, status, usage = os.wait4(process.pid, 0)
-            process.returncode = os.waitstatus_to_exitcode(status)
-    if (answer, status) != (b"testdata ok!\n", 0):
-        raise SystemExit(f"{program.name}: {answer!r}, status {process.returncode}")
-    return usage.ru_utime + usage.ru_stime, usage.ru_maxrss / 1024
+def seconds_of_children() -> float:
+    """The processor seconds of all runs up to now."""
+    usage = resource.getrusage(resource.RUSAGE_CHILDREN)
+    return usage.ru_utime + usage.ru_stime
+
+
+def seconds_of_run(checker: Path, program: Path, data: Path) -> float:
+    """The processor seconds of a run, which has to accept the data."""
+    before = seconds_of_children()
+    done = subprocess.run([checker, program, data], capture_output=True, check=False)
+    if (done.stdout, done.returncode) != (b"testdata ok!\n", 0):
+        raise SystemExit(f"{program.name}: {done.stdout + done.stderr!r}, status {done.returncode}")
+    return seconds_of_children() - before
 
 
 def main() -> None:
@@ -226,11 +227,11 @@ def main() -> None:
     with tempfile.TemporaryDirectory() as folder:
         for name, make in IDIOMS.items():
             program, data, found = Path(folder, name), Path(folder, "data"), []
-            program.write_text(texts[name])
+            program.write_text(texts[name].replace("maxn=100000", "maxn=10000000"))
             for size in options.sizes:
                 data.write_bytes(make(size))
-                runs = [measure(options.checker.resolve(), program, data) for _ in range(options.runs)]
-                found.append(f"{min(run[0] for run in runs):8.3f} s {min(run[1] for run in runs):7.1f} MB")
+                least = min(seconds_of_run(options.checker.resolve(), program, data) for _ in range(options.runs))
+                found.append(f"{least:8.3f}")
             print(f"{name:<24}" + "  ".join(found), flush=True)
 
 
