@@ -1,11 +1,12 @@
 #!/usr/bin/env python3
-"""Times the programs of docs/COOKBOOK.md on data that are made for them, and prints processor seconds and peak memory.
+"""Times the programs of docs/COOKBOOK.md on data that are made for them, and prints the processor seconds of a run.
 
-The programs are those that stand in the document. The data have a fixed seed, so they are the same on every machine."""
+The programs are those that stand in the document, with a larger limit. The data have a fixed seed, so they are the same on every machine."""
 import argparse
 import math
-import os
 import random
+import re
+import resource
 import subprocess
 import sys
 import tempfile
@@ -18,6 +19,7 @@ sys.path.insert(0, str(TOP / "tests"))
 from markdown_blocks import blocks  # noqa: E402
 
 COOKBOOK = TOP / "docs/COOKBOOK.md"
+SIZES = [10**5, 10**6]
 Pairs = list[tuple[int, int]]
 
 
@@ -202,36 +204,52 @@ def programs() -> dict[str, str]:
     return {block.file: block.text() for block in blocks(COOKBOOK) if block.file is not None}
 
 
-def measure(checker: Path, program: Path, data: Path) -> tuple[float, float]:
-    """Processor seconds and peak memory in MB of a run, which has to accept the data."""
-    with data.open("rb") as stdin:
-        process = subprocess.Popen([checker, "-D", "maxn=1000001", program], stdin=stdin, stdout=subprocess.PIPE)
-        with process:
-            assert process.stdout is not None
-            answer = process.stdout.read()
-            _, status, usage = os.wait4(process.pid, 0)
-            process.returncode = os.waitstatus_to_exitcode(status)
-    if (answer, status) != (b"testdata ok!\n", 0):
-        raise SystemExit(f"{program.name}: {answer!r}, status {process.returncode}")
-    return usage.ru_utime + usage.ru_stime, usage.ru_maxrss / 1024
+def seconds_of_children() -> float:
+    """The processor seconds of all runs up to now."""
+    usage = resource.getrusage(resource.RUSAGE_CHILDREN)
+    return usage.ru_utime + usage.ru_stime
+
+
+def seconds_of_run(checker: Path, program: Path, data: Path) -> float:
+    """The processor seconds of a run, which has to accept the data."""
+    before = seconds_of_children()
+    done = subprocess.run([checker, program, data], capture_output=True, check=False)
+    if (done.stdout, done.returncode) != (b"testdata ok!\n", 0):
+        raise SystemExit(f"{program.name}: {done.stdout + done.stderr!r}, status {done.returncode}")
+    return seconds_of_children() - before
+
+
+def rounded(seconds: float) -> str:
+    """Seconds with two digits, as the document has them."""
+    return "less than 0.01 s" if seconds < 0.01 else f"{float(f'{seconds:.1e}'):.2f} s" if seconds < 1 else f"{seconds:.1f} s"
+
+
+def write(name: str, found: list[float]) -> None:
+    """Puts the costs of a program into the document."""
+    cost = f"`{name}` takes {rounded(found[0])} at 100,000 and {rounded(found[1])} at 1,000,000."
+    text, count = re.subn(rf"`{re.escape(name)}` takes .*\.", cost, COOKBOOK.read_text())
+    if count != 1:
+        raise SystemExit(f"the document has {count} costs of {name}")
+    COOKBOOK.write_text(text)
 
 
 def main() -> None:
     parser = argparse.ArgumentParser(description=__doc__)
     parser.add_argument("--checker", type=Path, default=TOP / "crates/checktestdata/out/checktestdata")
-    parser.add_argument("--sizes", type=int, nargs="+", default=[10**5, 10**6])
-    parser.add_argument("--runs", type=int, default=3, help="the least of so many runs is printed")
+    parser.add_argument("--runs", type=int, default=3, help="the least of so many runs is taken")
+    parser.add_argument("--write", action="store_true", help="put the costs into the document")
     options = parser.parse_args()
     texts = programs()
     with tempfile.TemporaryDirectory() as folder:
         for name, make in IDIOMS.items():
             program, data, found = Path(folder, name), Path(folder, "data"), []
-            program.write_text(texts[name])
-            for size in options.sizes:
+            program.write_text(texts[name].replace("maxn=100000", "maxn=10000000"))
+            for size in SIZES:
                 data.write_bytes(make(size))
-                runs = [measure(options.checker.resolve(), program, data) for _ in range(options.runs)]
-                found.append(f"{min(run[0] for run in runs):8.3f} s {min(run[1] for run in runs):7.1f} MB")
-            print(f"{name:<24}" + "  ".join(found), flush=True)
+                found.append(min(seconds_of_run(options.checker.resolve(), program, data) for _ in range(options.runs)))
+            print(f"{name:<24}" + "".join(f"{seconds:10.3f}" for seconds in found), flush=True)
+            if options.write:
+                write(name, found)
 
 
 if __name__ == "__main__":

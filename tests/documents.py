@@ -6,7 +6,8 @@ the built checker there, and `examples` is that of the repository. A command has
 A program that stands alone has to be read without a fault. How blocks are marked is told in markdown_blocks.py. A block that needs a program which
 is not there is left out, and a line says so.
 
-The last line counts the commands and programs that did what is written and the links that lead somewhere, as passed, and the others. usage: tests/documents.py [PROGRAM]"""
+The last line counts the commands and programs that did what is written and the links that lead somewhere, as passed, and the others.
+usage: tests/documents.py [PROGRAM]"""
 import os
 import shutil
 import subprocess
@@ -18,7 +19,8 @@ from pathlib import Path
 from markdown_blocks import INDENTED, Block, Command, anchors, blocks, commands, links
 
 TOP = Path(__file__).resolve().parent.parent
-DOCUMENTS = ["README.md", "SECURITY.md", "examples/README.md", *(f"docs/{name}.md" for name in ["TUTORIAL", "COOKBOOK", "MIGRATION", "INTEGRATION", "FAQ"])]
+GUIDES = ["TUTORIAL", "COOKBOOK", "MIGRATION", "INTEGRATION", "FAQ"]
+DOCUMENTS = ["README.md", "SECURITY.md", "examples/README.md", *(f"docs/{name}.md" for name in GUIDES)]
 SESSIONS = ["console", INDENTED]
 OUT_OF_TIME = 60
 # README: the first command of a newcomer, which stands without a prompt
