@@ -28,6 +28,8 @@ Check TESTDATA (or standard input) against PROGRAM.
     "version": b"checktestdata 1.0 (whole-number profile)\n",
 }
 NEWLINE = b"\n"
+# What nests as deeply as a program may is read and run by recursion.
+sys.setrecursionlimit(20_000)
 # A run of more steps takes too long here.
 MOST_STEPS = 200_000
 
@@ -55,7 +57,6 @@ Opener = Callable[[str | None], File | None]
 
 def answer(words: Sequence[bytes], opener: Opener) -> Answer:
     """The answer of the tool to these words, without its own name. Raises LeftOut where the reference has none."""
-    sys.setrecursionlimit(20_000)
     try:
         asked = settings(words)
         program = opened(opener, asked.program)
