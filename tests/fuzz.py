@@ -20,7 +20,7 @@ from pathlib import Path
 from fuzzing.case import Case
 from fuzzing.cases import case_of
 from fuzzing.checker import Checker
-from fuzzing.shrink import shrunk
+from fuzzing.shrink import shrink
 from reference.faults import LeftOut
 from reference.tool import Answer
 from reference.wrong_bodies import WRONG_BODIES, WrongBody
@@ -111,7 +111,7 @@ def fuzz(program: Path, seed: int, count: int, jobs: int) -> int:
     with checker_in_folder(program) as checker:
         for number in sorted(summary.differing)[:MOST_PRINTED]:
             print(f"fuzz: case {number} of seed {seed} has two answers; made smaller:")
-            print_case(shrunk(case_of(seed, number), lambda case: differs(case, checker)), checker)
+            print_case(shrink(case_of(seed, number), lambda case: differs(case, checker)), checker)
     print(f"fuzz: {rate:.0f} cases a second; {summary.left_out} were left out")
     print(f"{summary.passed} passed, {len(summary.differing)} failed")
     return int(bool(summary.differing))
@@ -120,7 +120,7 @@ def fuzz(program: Path, seed: int, count: int, jobs: int) -> int:
 def makes_a_difference(wrong: WrongBody, case: Case, right: Answer) -> bool:
     """Whether a wrong body in the reference changes its answer."""
     try:
-        with wrong.planted():
+        with wrong.plant():
             return case.reference_answer() != right
     except LeftOut:
         return False

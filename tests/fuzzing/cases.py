@@ -24,7 +24,7 @@ def case_of(seed: int, number: int) -> Case:
     program = program_text(random)
     whitespace_ok = random.random() < 0.2
     define = presets(random) if random.random() < 0.15 else None
-    settings = Settings("program", None, pinned(define), whitespace_ok, False, MOST_STEPS)
+    settings = Settings("program", None, presets_of(define), whitespace_ok, False, MOST_STEPS)
     data, needed = fitting_data(random, program, settings)
     if random.random() < 0.5:
         data = changed_data(random, data)
@@ -61,7 +61,7 @@ def program_text(random: Random) -> bytes:
     return text
 
 
-def pinned(define: str | None) -> Presets:
+def presets_of(define: str | None) -> Presets:
     """The presets of a text, if it spells some."""
     try:
         return {} if define is None else read_presets(define.encode("utf-8"))

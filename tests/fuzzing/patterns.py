@@ -26,10 +26,10 @@ def alternatives(random: Random, depth: int) -> str:
 
 
 def sequence(random: Random, depth: int) -> str:
-    return "".join(repeated(random, depth) for _ in range(random.choice((1, 1, 1, 2, 2, 3))))
+    return "".join(repeatable(random, depth) for _ in range(random.choice((1, 1, 1, 2, 2, 3))))
 
 
-def repeated(random: Random, depth: int) -> str:
+def repeatable(random: Random, depth: int) -> str:
     share = random.random()
     if share < 0.03:
         return random.choice(EDGES)
