@@ -8,6 +8,7 @@ so the token at which it stops is the place of the syntax error, and nobody has 
 import re
 from dataclasses import dataclass, field
 from functools import cached_property
+from itertools import chain
 from pathlib import Path
 
 from .tokens import END
@@ -78,6 +79,12 @@ class Grammar:
         assert not closing, f"{closing} is missing"
         return found + spellings
 
+    def check_names(self) -> None:
+        """Fails where a name of the grammar has no rule; those of tokens are written in capitals, and all others are quoted marks."""
+        for production in chain.from_iterable(self.productions.values()):
+            for part in production.parts:
+                assert part in self.productions or not re.fullmatch("[a-z]+", part), f"no rule for {part}"
+
     def first(self) -> dict[str, set[str]]:
         """The tokens with which each symbol can begin, and "" where it can be empty."""
         first: dict[str, set[str]] = {symbol: set() for symbol in self.productions}
@@ -135,6 +142,7 @@ class State:
 def tables(grammar: Grammar, start: str) -> list[State]:
     """The states of the parser for programs that are a start symbol and END; the first state is that of the start."""
     grammar.add(START, [(start, END)])
+    grammar.check_names()
     follow = grammar.follow()
     kernels: dict[frozenset[Item], int] = {frozenset({(grammar.productions[START][0], 0)}): 0}
     waiting = list(kernels)
