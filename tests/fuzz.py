@@ -4,7 +4,7 @@
 A case depends on its seed and its number alone. Cases for which the reference has no answer are left out, such as patterns of which it knows
 nothing. A case with two answers is made smaller and printed. The last line counts the cases with one answer, as passed, and the others.
 
-    tests/fuzz.py --count 100000 --seed 1     the first 100,000 cases of seed 1
+    tests/fuzz.py --count 100000 --seed 1     the first 100,000 cases of seed 1; --first N begins with number N
     tests/fuzz.py --seed 1 --case 4711        one case, as it stands
     tests/fuzz.py --self-test                 sees that each of ten wrong bodies in the reference makes a difference"""
 import argparse
@@ -20,7 +20,7 @@ from pathlib import Path
 from fuzzing.case import Case
 from fuzzing.cases import case_of
 from fuzzing.checker import Checker
-from fuzzing.shrink import shrunk
+from fuzzing.shrink import shrink
 from reference.faults import LeftOut
 from reference.tool import Answer
 from reference.wrong_bodies import WRONG_BODIES, WrongBody
@@ -81,13 +81,13 @@ def compare(program: Path, seed: int, numbers: Sequence[int]) -> Summary:
     return summary
 
 
-def compare_all(program: Path, seed: int, count: int, jobs: int) -> Summary:
-    """Compares the answers for the first cases of a seed, in this many processes."""
+def compare_all(program: Path, seed: int, numbers: range, jobs: int) -> Summary:
+    """Compares the answers for the cases of these numbers, in this many processes."""
     if jobs == 1:
-        return compare(program, seed, range(count))
+        return compare(program, seed, numbers)
     summary = Summary()
     with multiprocessing.Pool(jobs) as pool:
-        for part in pool.starmap(compare, [(program, seed, range(job, count, jobs)) for job in range(jobs)]):
+        for part in pool.starmap(compare, [(program, seed, numbers[job::jobs]) for job in range(jobs)]):
             summary.add(part)
     return summary
 
@@ -103,15 +103,15 @@ def print_case(case: Case, checker: Checker) -> None:
             print(f"{name:10} status {answer.status}, out {answer.out!r}, err {answer.err!r}")
 
 
-def fuzz(program: Path, seed: int, count: int, jobs: int) -> int:
+def fuzz(program: Path, seed: int, numbers: range, jobs: int) -> int:
     """Compares cases and prints those with two answers."""
     start = time.monotonic()
-    summary = compare_all(program, seed, count, jobs)
-    rate = count / (time.monotonic() - start)
+    summary = compare_all(program, seed, numbers, jobs)
+    rate = len(numbers) / (time.monotonic() - start)
     with checker_in_folder(program) as checker:
         for number in sorted(summary.differing)[:MOST_PRINTED]:
             print(f"fuzz: case {number} of seed {seed} has two answers; made smaller:")
-            print_case(shrunk(case_of(seed, number), lambda case: differs(case, checker)), checker)
+            print_case(shrink(case_of(seed, number), lambda case: differs(case, checker)), checker)
     print(f"fuzz: {rate:.0f} cases a second; {summary.left_out} were left out")
     print(f"{summary.passed} passed, {len(summary.differing)} failed")
     return int(bool(summary.differing))
@@ -120,7 +120,7 @@ def fuzz(program: Path, seed: int, count: int, jobs: int) -> int:
 def makes_a_difference(wrong: WrongBody, case: Case, right: Answer) -> bool:
     """Whether a wrong body in the reference changes its answer."""
     try:
-        with wrong.planted():
+        with wrong.plant():
             return case.reference_answer() != right
     except LeftOut:
         return False
@@ -151,6 +151,7 @@ def main() -> int:
     parser.add_argument("checker", nargs="?", type=Path, default=BUILT, help="the checker (default: the one that was built here)")
     parser.add_argument("--count", type=int, default=2_000, help="how many cases")
     parser.add_argument("--seed", type=int, default=1)
+    parser.add_argument("--first", type=int, default=0, help="the number of the first case")
     parser.add_argument("--jobs", type=int, default=1, help="how many processes")
     parser.add_argument("--case", type=int, help="prints the case of this number and its answers")
     parser.add_argument("--self-test", action="store_true", help="looks for wrong bodies in the reference")
@@ -159,7 +160,7 @@ def main() -> int:
     if given.self_test:
         return self_test(program, given.seed)
     if given.case is None:
-        return fuzz(program, given.seed, given.count, given.jobs)
+        return fuzz(program, given.seed, range(given.first, given.first + given.count), given.jobs)
     with checker_in_folder(program) as checker:
         print_case(case_of(given.seed, given.case), checker)
     return 0

@@ -38,7 +38,7 @@ class Case:
                 return File(b"")
             case "program", _:
                 return None if self.program is None else File(self.program)
-            case "data", Source.FOLDER:
+            case ("data", Source.FOLDER) | ("folder", _):
                 return File(b"", fails=True)
             case "data", _:
                 return File(self.data)

@@ -2,11 +2,12 @@
 
 from random import Random
 
+from reference import limits
 from reference.faults import Fault
 from reference.presets import Presets, read_presets
 from reference.words import Settings
 
-from .case import Case, Source
+from .case import DATA, PROGRAM, Case, Source
 from .draft import changed_data, fitting_data
 from .programs import Programs, changed_tokens, deep_program, some_tokens
 from .spelling import text_of
@@ -18,10 +19,12 @@ MOST_STEPS = 400
 def case_of(seed: int, number: int) -> Case:
     """The case of a seed and a number, and of nothing else."""
     random = Random(f"{seed} {number}")
+    if random.random() < 0.0002:
+        return long_case(random)
     program = program_text(random)
     whitespace_ok = random.random() < 0.2
     define = presets(random) if random.random() < 0.15 else None
-    settings = Settings("program", None, pinned(define), whitespace_ok, False, MOST_STEPS)
+    settings = Settings("program", None, presets_of(define), whitespace_ok, False, MOST_STEPS)
     data, needed = fitting_data(random, program, settings)
     if random.random() < 0.5:
         data = changed_data(random, data)
@@ -31,6 +34,13 @@ def case_of(seed: int, number: int) -> Case:
     if random.random() < 0.02:
         given = changed_words(random, given)
     return Case(given, None if random.random() < 0.003 else program, data, source)
+
+
+def long_case(random: Random) -> Case:
+    """A case with a string about as long as a REGEX sees."""
+    program = random.choice((b'REGEX("[a-z]*",s)NEWLINE', b'REGEX("[^b]*")NEWLINE', b'REGEX("a+?b?")REGEX("a*")', b'REP(2)REGEX("a*|b")END'))
+    data = b"a" * (limits.WINDOW + random.choice((-1, -1, 0, 1))) + random.choice((b"\n", b"", b"b", b"b\n"))
+    return Case((PROGRAM, DATA), program, data, random.choice((Source.FILE, Source.INPUT)))
 
 
 def program_text(random: Random) -> bytes:
@@ -51,7 +61,7 @@ def program_text(random: Random) -> bytes:
     return text
 
 
-def pinned(define: str | None) -> Presets:
+def presets_of(define: str | None) -> Presets:
     """The presets of a text, if it spells some."""
     try:
         return {} if define is None else read_presets(define.encode("utf-8"))

@@ -23,8 +23,8 @@ class Checker:
         os.chdir(folder)
         os.mkdir("folder")
         self.streams = [os.open(name, os.O_RDWR | os.O_CREAT) for name in ("out", "err")]
-        signal.signal(signal.SIGALRM, lambda number, frame: os.kill(self.pid, signal.SIGKILL))
         self.pid = 0
+        signal.signal(signal.SIGALRM, lambda number, frame: os.kill(self.pid, signal.SIGKILL))
 
     def answer(self, case: Case) -> Answer:
         """What the checker answers. It is killed where it takes too long, which no answer of the reference is like."""
@@ -35,9 +35,9 @@ class Checker:
         if case.source is Source.FOLDER:
             Path("data").unlink(missing_ok=True)
             os.symlink("folder", "data")
-            status = self.run(case)
+            found = self.run(case)
             os.unlink("data")
-            return status
+            return found
         write("data", case.data)
         return self.run(case)
 

@@ -2,7 +2,10 @@
 
 from random import Random
 
-BAD = ["(", "a)", "[a", "*", "a|*", "[z-a]", "a{2,1}", "a{2", "\\", "(?:", "x(+)", "\\1", "a{1000}{1000}", "[", "(?:a{999}){1200}"]
+from reference.faults import LeftOut
+from reference.patterns import BadPattern, read_pattern
+
+BAD = ["(", "a)", "[a", "*", "a|*", "[z-a]", "a{2,1}", "a{2", "\\", "(?:", "x(+)", "\\1", "a{1000}{1000}", "[", "(?:a{999}){1200}", "(" * 301 + "a" + ")" * 301]
 LETTERS = ["a", "b", "c", "x", "ab", "0", "1", "-", ",", " ", "#", "_", '"']
 SETS = ["[a-z]", "[0-9]", "[abc]", "[^a]", "[^\\n ]", "[a-c0-2]", "[.#]", "[\\d,]", "[^\\s]", "[-a]", "[]a]", "[a\\-z]", "[\\x41-\\x5a]", "[^0-9\\n]"]
 CLASSES = ["\\d", "\\w", "\\s", ".", ".", "\\.", "\\D", "\\W", "\\S", "\\n", "\\t", "\\\\", "\\x61", "\\+", "\\{"]
@@ -17,7 +20,21 @@ def pattern(random: Random) -> str:
     """A pattern, as a text of Latin-1."""
     if random.random() < 0.04:
         return random.choice(BAD) if random.random() < 0.9 else "\xff"
-    return alternatives(random, 2).encode("utf-8").decode("latin-1")
+    while True:
+        encoded = alternatives(random, 2).encode("utf-8")
+        if is_known(encoded):
+            return encoded.decode("latin-1")
+
+
+def is_known(encoded: bytes) -> bool:
+    """Whether the reference knows what a pattern matches."""
+    try:
+        read_pattern(encoded)
+    except LeftOut:
+        return False
+    except BadPattern:
+        pass
+    return True
 
 
 def alternatives(random: Random, depth: int) -> str:
@@ -26,10 +43,10 @@ def alternatives(random: Random, depth: int) -> str:
 
 
 def sequence(random: Random, depth: int) -> str:
-    return "".join(repeated(random, depth) for _ in range(random.choice((1, 1, 1, 2, 2, 3))))
+    return "".join(repeatable(random, depth) for _ in range(random.choice((1, 1, 1, 2, 2, 3))))
 
 
-def repeated(random: Random, depth: int) -> str:
+def repeatable(random: Random, depth: int) -> str:
     share = random.random()
     if share < 0.03:
         return random.choice(EDGES)

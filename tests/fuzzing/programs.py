@@ -97,9 +97,9 @@ class Programs(Expressions):
         return ["REGEX", "(", text, *([",", *target] if target else []), ")", *(self.blank(0) if self.chance(0.6) else [])]
 
     def assertion(self, depth: int) -> Tokens:
-        return self.judged(self.test(2))
+        return self.probe(self.test(2))
 
-    def judged(self, test: Tokens) -> Tokens:
+    def probe(self, test: Tokens) -> Tokens:
         """A command that shows whether a test is true. Most of them let the run go on in both cases."""
         if self.chance(0.35):
             return ["ASSERT", "(", *test, ")"]
@@ -130,9 +130,9 @@ class Programs(Expressions):
         if self.chance(0.3):
             tokens += ["SET", "(", name, "=", "1", ")"]
         self.scope.arrays.append(name)
-        return tokens + self.judged(["INARRAY", "(", "2", ",", name, ")"] if self.chance(0.2) else self.test(1))
+        return tokens + self.probe(["INARRAY", "(", "2", ",", name, ")"] if self.chance(0.2) else self.test(1))
 
-    def guarded(self, depth: int) -> Tokens:
+    def guard(self, depth: int) -> Tokens:
         """The test of a WHILE that mostly comes to an end."""
         share = self.random.random()
         if share < 0.35:
@@ -157,7 +157,7 @@ class Programs(Expressions):
         elif counter and self.chance(0.5):
             head += [*counter, "<", *self.number(0)]
         else:
-            head += self.guarded(depth)
+            head += self.guard(depth)
         body = self.body(depth)
         if self.chance(0.5):
             self.scope = outer
@@ -204,7 +204,7 @@ class Programs(Expressions):
         tokens = ["REPI", "(", "i", ",", *count, *between, ")", *body, "END", *self.blank(0)]
         if self.chance(0.6):
             checked = ",".join(names if self.chance(0.8) else names[:1]).replace(",", " , ").split()
-            tokens += self.judged([*(["!"] if self.chance(0.3) else []), "UNIQUE", "(", *checked, ")"])
+            tokens += self.probe([*(["!"] if self.chance(0.3) else []), "UNIQUE", "(", *checked, ")"])
         return tokens
 
 

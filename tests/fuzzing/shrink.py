@@ -11,16 +11,16 @@ PARTS = re.compile(rb'[A-Z]+|[a-z][a-z0-9]*|[0-9]+|"(?:[^"\\]|\\.)*"|#[^\n]*|.',
 Differs = Callable[[Case], bool]
 
 
-def shrunk(case: Case, differs: Differs) -> Case:
+def shrink(case: Case, differs: Differs) -> Case:
     """A case that still differs, of which no word, no part of the program and no byte can be left out alone."""
     while True:
-        smaller = shrunk_once(case, differs)
+        smaller = shrink_once(case, differs)
         if smaller == case:
             return case
         case = smaller
 
 
-def shrunk_once(case: Case, differs: Differs) -> Case:
+def shrink_once(case: Case, differs: Differs) -> Case:
     words = shortest([*case.words], lambda words: differs(replace(case, words=tuple(words))))
     case = replace(case, words=tuple(words))
     if case.program is not None:

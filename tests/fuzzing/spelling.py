@@ -19,10 +19,10 @@ def literal(random: Random, text: str) -> str:
     if text.isalnum() and random.random() < 0.95:
         return f'"{text}"'
     plain = random.random() < 0.8
-    return '"' + "".join(escaped(random, text, index, plain) for index in range(len(text))) + '"'
+    return '"' + "".join(escape(random, text, index, plain) for index in range(len(text))) + '"'
 
 
-def escaped(random: Random, text: str, index: int, plain: bool) -> str:
+def escape(random: Random, text: str, index: int, plain: bool) -> str:
     """A character of a literal: by its shortest escape if it needs one, or by any way to write it."""
     character = text[index]
     if plain or random.random() < 0.5:
@@ -46,13 +46,13 @@ def text_of(random: Random, tokens: Sequence[str]) -> bytes:
     if style < 0.4:
         text = " ".join(tokens)
     else:
-        text = "".join(spaced(random, tokens, 0.05 if style < 0.8 else 0.5))
+        text = "".join(with_blanks(random, tokens, 0.05 if style < 0.8 else 0.5))
     if random.random() < 0.1:
         text += random.choice(BLANKS)
     return text.encode("latin-1")
 
 
-def spaced(random: Random, tokens: Sequence[str], share: float) -> list[str]:
+def with_blanks(random: Random, tokens: Sequence[str], share: float) -> list[str]:
     """These tokens, and blanks: where they would be one token else, and elsewhere for this share of them."""
     parts: list[str] = []
     joins = False

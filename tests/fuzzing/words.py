@@ -8,7 +8,8 @@ from .spelling import literal
 
 BAD_PRESETS = ["", "n", "n=", "n=05", "n=1,", ",n=1", "n=+1", "n=1 ", "N=1", "a[]=1", "a[i]=1", 's="', 's="\\400"', "n=--1", "a[1=2", "n=1.5", "a[1,]=2"]
 STEPS = ["x", "", "-1", "+5", "18446744073709551616", "1e3", " 5", "0x10"]
-ODD_WORDS = [b"-x", b"--lines", b"-g", b"--generate", b"-h", b"--help", b"-V", b"--version", b"\xff", b"-q", b"--quiet", b"-w", b"third", b"--", b"-", b"-D", b"", b"-qw", b"-wg"]
+ODD_WORDS = [b"-x", b"--lines", b"-g", b"--generate", b"-h", b"--help", b"-V", b"--version", b"\xff", b"-q", b"--quiet", b"-w", b"third", b"folder", b"--", b"-", b"-D", b"", b"-qw", b"-wg", b"-wDn=1", b"-D=n=1", b"--max-steps",
+    b"--max-steps=5", b"--quiet=1", b"--define=", b"--def=n=1", b"-Dn=1", b"-q=", b"--help=1", b"-wh", b"-Dh", b"---", b"--=1", b"-1", b"-gV"]
 
 
 def presets(random: Random) -> str:

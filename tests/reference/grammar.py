@@ -8,6 +8,7 @@ so the token at which it stops is the place of the syntax error, and nobody has 
 import re
 from dataclasses import dataclass, field
 from functools import cached_property
+from itertools import chain
 from pathlib import Path
 
 from .tokens import END
@@ -17,10 +18,13 @@ RULE = re.compile(r"^([a-z]+) += ((?:.|\n +)*)$", re.MULTILINE)
 SYMBOL = re.compile(r'"([^"]+)"|([A-Za-z]+)|([{}\[\]|])')
 START = "start"
 
+# The symbols that spell another, in order.
+Spelling = tuple[str, ...]
+
 
 @dataclass(frozen=True)
 class Production:
-    """One way to spell a symbol. A part of a production in braces or brackets is a symbol of its own, which begins with one of them."""
+    """One way to spell a symbol. What stands in braces is spelled by a symbol of its own, which begins with a brace."""
 
     symbol: str
     parts: tuple[str, ...]
@@ -30,9 +34,9 @@ class Production:
         return len(self.parts)
 
     @cached_property
-    def is_group(self) -> bool:
-        """Whether this is a part in braces or brackets, whose parts belong to the production around it."""
-        return self.symbol[0] in "{["
+    def is_repetition(self) -> bool:
+        """Whether this spells what stands in braces, which belongs to the production around it."""
+        return self.symbol.startswith("{")
 
 
 @dataclass
@@ -41,44 +45,45 @@ class Grammar:
 
     productions: dict[str, list[Production]] = field(default_factory=dict)
 
-    def add(self, symbol: str, parts: list[str]) -> None:
-        self.productions.setdefault(symbol, []).append(Production(symbol, tuple(parts)))
+    def add(self, symbol: str, spellings: list[Spelling]) -> None:
+        self.productions.setdefault(symbol, []).extend(Production(symbol, parts) for parts in spellings)
 
     def add_rules(self, text: str) -> None:
         """Adds the rules of a text in the notation of docs/LANGUAGE.md."""
         for rule in RULE.finditer(text):
-            symbols: list[tuple[str, str, str]] = SYMBOL.findall(rule[2])
-            symbols.reverse()
-            self.add_alternatives(rule[1], symbols, "")
+            marks: list[tuple[str, str, str]] = SYMBOL.findall(rule[2])
+            marks.reverse()
+            self.add(rule[1], self.alternatives(marks, ""))
 
-    def add_alternatives(self, symbol: str, symbols: list[tuple[str, str, str]], closing: str) -> None:
-        """Takes alternatives up to a closing brace or bracket, or to the end of the rule."""
-        parts: list[str] = []
-        while symbols:
-            quoted, name, mark = symbols.pop()
+    def alternatives(self, marks: list[tuple[str, str, str]], closing: str) -> list[Spelling]:
+        """All spellings up to a closing brace or bracket, or to the end of the rule; takes them off the end of the list."""
+        found: list[Spelling] = []
+        spellings: list[Spelling] = [()]
+        while marks:
+            quoted, name, mark = marks.pop()
             if quoted or name:
-                parts.append(quoted or name)
-            elif mark in ("{", "["):
-                inner = f"{mark}{len(self.productions)}"
-                # any number of times: none, or once more
-                first = [inner] if mark == "{" else []
-                self.add(inner, [])
-                self.add_part(inner, first, symbols, "}" if mark == "{" else "]")
-                parts.append(inner)
+                spellings = [(*spelling, quoted or name) for spelling in spellings]
+            elif mark == "[":
+                inner = self.alternatives(marks, "]")
+                spellings = [spelling + once for spelling in spellings for once in ((), *inner)]
+            elif mark == "{":
+                symbol = f"{{{len(self.productions)}"
+                self.add(symbol, [()])
+                self.add(symbol, [(symbol, *once) for once in self.alternatives(marks, "}")])
+                spellings = [(*spelling, symbol) for spelling in spellings]
             else:
-                self.add(symbol, parts)
+                found += spellings
                 if mark == closing:
-                    return
-                parts = []
+                    return found
+                spellings = [()]
         assert not closing, f"{closing} is missing"
-        self.add(symbol, parts)
+        return found + spellings
 
-    def add_part(self, symbol: str, first: list[str], symbols: list[tuple[str, str, str]], closing: str) -> None:
-        """Takes what stands in braces or brackets, and their end."""
-        before = len(self.productions[symbol])
-        self.add_alternatives(symbol, symbols, closing)
-        added = self.productions[symbol][before:]
-        self.productions[symbol][before:] = [Production(symbol, (*first, *one.parts)) for one in added]
+    def check_names(self) -> None:
+        """Fails where a name of the grammar has no rule; those of tokens are written in capitals, and all others are quoted marks."""
+        for production in chain.from_iterable(self.productions.values()):
+            for part in production.parts:
+                assert part in self.productions or not re.fullmatch("[a-z]+", part), f"no rule for {part}"
 
     def first(self) -> dict[str, set[str]]:
         """The tokens with which each symbol can begin, and "" where it can be empty."""
@@ -136,7 +141,8 @@ class State:
 
 def tables(grammar: Grammar, start: str) -> list[State]:
     """The states of the parser for programs that are a start symbol and END; the first state is that of the start."""
-    grammar.add(START, [start, END])
+    grammar.add(START, [(start, END)])
+    grammar.check_names()
     follow = grammar.follow()
     kernels: dict[frozenset[Item], int] = {frozenset({(grammar.productions[START][0], 0)}): 0}
     waiting = list(kernels)

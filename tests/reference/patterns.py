@@ -137,7 +137,7 @@ class Reader:
             case "(":
                 return self.group()
             case "[":
-                return OneOf(self.bracketed())
+                return OneOf(self.bracket_set())
             case "\\":
                 return self.escape()
             case ".":
@@ -191,10 +191,10 @@ class Reader:
         if character == "b" and not self.next_is("{") and self.flags.unicode:
             return Edge("b")
         if character == "x":
-            return OneOf(self.members((self.hexadecimal(),), (), False))
-        return self.one(self.escaped(character))
+            return OneOf(self.members((self.hexadecimal_range(),), (), False))
+        return self.one(self.escape_character(character))
 
-    def escaped(self, character: str) -> str:
+    def escape_character(self, character: str) -> str:
         """The character that an escape stands for."""
         if character in SIMPLE_ESCAPES:
             return SIMPLE_ESCAPES[character]
@@ -204,14 +204,14 @@ class Reader:
             raise BadPattern("a back reference")
         raise LeftOut("an unusual escape")
 
-    def hexadecimal(self) -> tuple[int, int]:
+    def hexadecimal_range(self) -> tuple[int, int]:
         digits = self.text[self.index : self.index + 2]
         if not re.fullmatch(r"[0-9A-Fa-f]{2}", digits):
             raise LeftOut("an unusual escape")
         self.index += 2
         return int(digits, 16), int(digits, 16)
 
-    def bracketed(self) -> CharacterSet:
+    def bracket_set(self) -> CharacterSet:
         """A set in brackets, of which the first was taken."""
         negated = self.next_is("^")
         if negated:
@@ -245,10 +245,10 @@ class Reader:
         if character in "dswDSW":
             return character
         if character == "x":
-            return self.hexadecimal()[0]
+            return self.hexadecimal_range()[0]
         if character == "b":
             raise LeftOut("an unusual escape")
-        return ord(self.escaped(character))
+        return ord(self.escape_character(character))
 
     def range_from(self, low: int) -> tuple[int, int]:
         high = self.member()

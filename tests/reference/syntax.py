@@ -10,14 +10,14 @@ from .tokens import END, Token
 
 @dataclass(slots=True)
 class Node:
-    """A symbol of the grammar, and what it was spelled by: at least two parts, for one that is spelled by one part is that part."""
+    """A symbol of the grammar, and what it is spelled by: several parts. A symbol that is spelled by one part is that part."""
 
     symbol: str
     parts: "list[Tree]"
 
 
 Tree = Node | Token
-# What stands on the parser's stack: a tree, or the trees of a part in braces or brackets.
+# What stands on the parser's stack: a tree, or the trees of what stands in braces.
 Entry = Tree | list[Tree]
 
 
@@ -55,9 +55,7 @@ def parse(tokens: list[Token]) -> list[Tree]:
 def entry_of(production: Production, parts: list[Entry]) -> Entry:
     """What a production of several parts, or of none, is."""
     trees = trees_of(parts)
-    if production.is_group:
-        return trees
-    return trees[0] if len(trees) == 1 else Node(production.symbol, trees)
+    return trees if production.is_repetition else Node(production.symbol, trees)
 
 
 def trees_of(entries: list[Entry]) -> list[Tree]:

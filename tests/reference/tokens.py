@@ -14,17 +14,18 @@ END = "the end of the text"
 
 LEFT_OUT_WORDS = frozenset({"FLOAT", "FLOATP", "FIXED", "SCIENTIFIC"})
 
-# A backslash and the byte behind it are never the closing quote of a literal.
+# A token, with the blanks and comments before it. A backslash and the byte behind it are never the closing quote of a literal.
 PIECE = re.compile(
     rb"""
-      (?P<blanks> (?: [ \t\r\n] | \#[^\n]* )+ )
-    | (?P<mark> <= | >= | == | != | && | \|\| | [()\[\],=+\-*/%^!<>] )
-    | (?P<word> [A-Z]+ )
-    | (?P<name> [a-z][a-z0-9]* )
-    | (?P<numeral> [0-9]+ )
+    (?: [ \t\r\n]++ | \#[^\n]*+ )*+
+    (?: (?P<mark> <= | >= | == | != | && | \|\| | [()\[\],=+\-*/%^!<>] )
+    | (?P<word> [A-Z]++ )
+    | (?P<name> [a-z][a-z0-9]*+ )
+    | (?P<numeral> [0-9]++ )
     | (?P<literal> " (?: [^"\\] | \\. )*+ " )
+    | (?P<end> \Z )
     | (?P<unfinished> " )
-    | (?P<unexpected> . )
+    | (?P<unexpected> . ) )
     """,
     re.VERBOSE | re.DOTALL,
 )
@@ -42,12 +43,11 @@ class Token(NamedTuple):
 
 def cut(text: bytes) -> list[Token]:
     """The tokens of a program, with one for its end. Raises Refused for the first wrong token."""
-    tokens = []
+    tokens: list[Token] = []
     for piece in PIECE.finditer(text):
-        spelling, offset = piece[0], piece.start()
-        match piece.lastgroup:
-            case "blanks":
-                continue
+        kind = piece.lastgroup or ""
+        spelling, offset = piece[kind], piece.start(kind)
+        match kind:
             case "mark":
                 token = Token(spelling.decode(), spelling, offset)
             case "word":
@@ -58,13 +58,14 @@ def cut(text: bytes) -> list[Token]:
                 token = Token(NUMERAL, numeral(text, offset, piece.end()), offset)
             case "literal":
                 token = Token(TEXT, literal(spelling, offset), offset)
+            case "end":
+                return [*tokens, Token(END, b"", offset)]
             case "unfinished":
                 raise Refused("unfinished string", offset)
             case _:
                 raise Refused("unexpected byte", offset)
         tokens.append(token)
-    tokens.append(Token(END, b"", len(text)))
-    return tokens
+    raise AssertionError("each text has an end")
 
 
 def word(spelling: bytes, offset: int) -> str:
@@ -79,9 +80,11 @@ def numeral(text: bytes, offset: int, end: int) -> int:
     """The number of the digits from an offset to an end."""
     if text[end : end + 1] in (b".", b"e", b"E") or (text[offset : offset + 1] == b"0" and end - offset > 1):
         raise Refused("not in this profile", offset)
-    if end - offset > len(str(limits.GREATEST)) or int(text[offset:end]) > limits.GREATEST:
+    # no number of more than 39 digits is small enough
+    number = int(text[offset : min(end, offset + 40)])
+    if number > limits.GREATEST:
         raise Refused("number too large", offset)
-    return int(text[offset:end])
+    return number
 
 
 def literal(spelling: bytes, offset: int) -> bytes:

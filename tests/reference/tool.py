@@ -13,6 +13,7 @@ from .run import Run
 from .store import Store
 from .words import Asked, Settings, settings
 
+# The texts of both options, which tests/process.sh has too.
 TEXTS = {
     "help": b"""\
 Usage: checktestdata [OPTION]... PROGRAM [TESTDATA]
@@ -28,6 +29,8 @@ Check TESTDATA (or standard input) against PROGRAM.
     "version": b"checktestdata 1.0 (whole-number profile)\n",
 }
 NEWLINE = b"\n"
+# What nests as deeply as a program may is read and run by recursion.
+sys.setrecursionlimit(20_000)
 # A run of more steps takes too long here.
 MOST_STEPS = 200_000
 
@@ -55,11 +58,10 @@ Opener = Callable[[str | None], File | None]
 
 def answer(words: Sequence[bytes], opener: Opener) -> Answer:
     """The answer of the tool to these words, without its own name. Raises LeftOut where the reference has none."""
-    sys.setrecursionlimit(20_000)
     try:
         asked = settings(words)
-        program = opened(opener, asked.program)
-        data = opened(opener, None if asked.data in (None, "-") else asked.data)
+        program = file_of(opener, asked.program)
+        data = file_of(opener, None if asked.data in (None, "-") else asked.data)
         return verdict(asked, commands_of(program), data, program.content)
     except Asked as question:
         return Answer(0, out=TEXTS[question.option])
@@ -74,7 +76,7 @@ def without_verdict(text: str) -> Answer:
     return Answer(2, err=f"checktestdata: {text}\n".encode())
 
 
-def opened(opener: Opener, name: str | None) -> File:
+def file_of(opener: Opener, name: str | None) -> File:
     file = opener(name)
     if file is None:
         raise Misused(f"cannot open {name}")
@@ -100,15 +102,15 @@ def verdict(asked: Settings, commands: Sequence[Command], data: File, text: byte
     try:
         run.whole(commands)
     except Rejected as fault:
-        return Answer(1, out=b"" if asked.quiet else f"{located(run, fault.message, text)}\n".encode())
+        return Answer(1, out=b"" if asked.quiet else f"{with_places(run, fault.message, text)}\n".encode())
     except Stopped as fault:
         if run.steps_left == 0 and asked.steps > MOST_STEPS:
             raise LeftOut("a long run") from fault
-        return without_verdict(located(run, fault.message, text))
+        return without_verdict(with_places(run, fault.message, text))
     return Answer(0, out=b"" if asked.quiet else b"testdata ok!\n")
 
 
-def located(run: Run, message: str, text: bytes) -> str:
+def with_places(run: Run, message: str, text: bytes) -> str:
     """A message with its places in the data and in the program."""
     site = run.site if isinstance(run.site, str) else f"program {place(text, run.site)}"
     return f"{place(run.data.content, run.spot)}: {message} ({site})"

@@ -18,7 +18,7 @@ from .tokens import Token
 right_repeat = Loop.repeat
 right_takes_turn = Loop.takes_turn
 right_take_integer = Data.take_integer
-right_located = tool.located
+right_with_places = tool.with_places
 right_power = values.power
 right_parse = syntax.parse
 
@@ -54,9 +54,9 @@ def remainder(left: int, right: int) -> int:
     return left % abs(right)
 
 
-def located(run: Run, message: str, text: bytes) -> str:
+def with_places(run: Run, message: str, text: bytes) -> str:
     run.spot = run.data.taken
-    return right_located(run, message, text)
+    return right_with_places(run, message, text)
 
 
 def power(base: int, exponent: int) -> int:
@@ -94,7 +94,7 @@ class WrongBody:
     body: object
 
     @contextmanager
-    def planted(self) -> Iterator[None]:
+    def plant(self) -> Iterator[None]:
         """The reference is wrong for a while, and forgets which programs it has read."""
         tool.commands_of.cache_clear()
         with patch.object(self.owner, self.attribute, self.body):
@@ -107,7 +107,7 @@ WRONG_BODIES = [
     WrongBody("a false test costs no step", Loop, "takes_turn", takes_turn),
     WrongBody("INT skips blanks with -w", BlanksMayDiffer, "take_integer", take_integer),
     WrongBody("the remainder is never negative", values, "remainder", remainder),
-    WrongBody("a message tells where the data were left", tool, "located", located),
+    WrongBody("a message tells where the data were left", tool, "with_places", with_places),
     WrongBody("an overflow goes before a bad exponent", values, "power", power),
     WrongBody("UNIQUE looks at each array alone", Unique, "holds", holds),
     WrongBody("UNSET keeps the values with indices", Store, "unset", unset),
