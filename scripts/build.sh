@@ -1,12 +1,14 @@
 #!/usr/bin/env bash
-# Proves and compiles the checker, each crate once those below it are proved, and says on standard error what it does.
+# Proves and compiles the checker, each crate once those below it are proved, and says on standard error what it does. Given the name of a
+# static library of crates.txt, it makes that: libNAME.a in out/build of the crate. TOOLCHAIN is the toolchain that compiles, if not the kit's.
 #
 # It calls the toolchain's rattle and not rt: the libraries of `rt lib` hold their proofs too, which every crate above reads again. With
 # --statements they hold what was proved alone, as they do in the gate. What is built lies in out/build of each crate.
 set -eu
 top=$(cd "$(dirname "${BASH_SOURCE[0]}")/.." && pwd)
-program=checktestdata
+program=${1:-checktestdata}
 kit=$(dirname "$(rt doc)")
+toolchain=${TOOLCHAIN:-$kit/toolchain}
 logs=$(mktemp -d)
 statements=()
 if "$kit/bin/rattle" build --help | grep -q -e --statements; then
@@ -26,10 +28,11 @@ trap finish EXIT
 trap 'exit 130' INT
 trap 'exit 143' TERM
 
-# The libraries of each crate, by crates.txt.
-declare -A libraries
+# The libraries of each crate, and which crates are static libraries, by crates.txt.
+declare -A libraries is_static
 while IFS=: read -r crate rest; do
     libraries[${crate%% *}]=$rest
+    [[ $crate != *\ staticlib* ]] || is_static[${crate%% *}]=1
 done < <(sed -e 's/#.*//' -e '/^ *$/d' "$top/crates.txt")
 
 # The crates that a crate stands on, and then the crate itself; and how many of these stand on each other.
@@ -61,11 +64,15 @@ leave_time() {
     done
 }
 
-# Where a crate is built: a library, or the object file of the program.
+# Where a crate is built: a library, a static library, or the object file of the program.
 built() {
-    local kind=rlib
-    [ "$1" != "$program" ] || kind=o
-    echo "$top/crates/$1/out/build/$1.$kind"
+    local file=$1.rlib
+    if [[ -v is_static[$1] ]]; then
+        file=lib$1.a
+    elif [ "$1" = "$program" ]; then
+        file=$1.o
+    fi
+    echo "$top/crates/$1/out/build/$file"
 }
 
 # Whether a crate is built, and nothing that it is made of is newer.
@@ -119,20 +126,29 @@ prove() {
 
 # Proves the program, compiles it and links it.
 compile() {
-    build "$program" src/main.rt --toolchain "$kit/toolchain" &&
-        "$kit/bin/rattle-link" --target x86_64-unknown-linux-gnu --toolchain "$kit/toolchain" -o "$1" \
+    build "$program" src/main.rt --toolchain "$toolchain" &&
+        "$kit/bin/rattle-link" --target x86_64-unknown-linux-gnu --toolchain "$toolchain" -o "$1" \
             "$(built "$program")" "$kit/c/libos_c.a" "$kit/c/liblibc_c.a" >>"$logs/$program" 2>&1
+}
+
+# Proves the static library and compiles it.
+compile_library() {
+    build "$program" src/lib.rt --crate-type staticlib --toolchain "$toolchain"
 }
 
 visit "$program"
 leave_time
 checker=$top/crates/$program/out/$program
-rm -f "$checker"
+[[ -v is_static[$program] ]] || rm -f "$checker"
 for crate in "${order[@]}"; do
     [ "$crate" = "$program" ] || prove "$crate" &
 done
 wait
 [ ! -e "$logs/failed" ] || exit 1
 echo "compiling $program" >&2
-compile "$checker" || { cat "$logs/$program" >&2; exit 1; }
+if [[ -v is_static[$program] ]]; then
+    compile_library
+else
+    compile "$checker"
+fi || { cat "$logs/$program" >&2; exit 1; }
 printf 'built in %s min %s s\n' $((SECONDS / 60)) $((SECONDS % 60)) >&2

@@ -1,0 +1,20 @@
+use Rattle.std.proofs.Common.{◌≡◌, Err, inl, rules}
+use Rattle.ctd_tool.proofs.AnswerLemmas.{EndsWithReport-weaker, LeavesOneOf-EndsWithReport, BreaksOff-EndsWithReport}
+use Rattle.ctd_report.specs.declared.written.ToolFault.TheVariants.{Write}
+use Rattle.ctd_embed.proofs.SourceLemmas.{report_in_memory}
+use Rattle.ctd_embed.proofs.run.run_words.Goals as goal
+
+pub returns-in-Ok-run_tool : goal.returns-in-Ok-run_tool
+returns-in-Ok-run_tool g c =
+    let s = c.in-Ok.setup in
+    EndsWithReport-weaker _ _ _ _ _
+    (λ report is. inl (s, c.in-Ok.ensures.setup, report_in_memory s c.args.program.now c.args.testdata.now _ _ report c.new-program.ensures c.new-testdata.ensures is))
+    (LeavesOneOf-EndsWithReport _ _ _ _ (rw c.in-Ok-run_tool.is at c.run_tool.ensures.written))
+
+pub returns : goal.returns
+returns g c =
+    let s = c.in-Ok.setup in
+    let fault_is : c.run_tool.result ≡ Err Write = search rules in
+    EndsWithReport-weaker _ _ _ _ _
+    (λ report is. inl (s, c.in-Ok.ensures.setup, report_in_memory s c.args.program.now c.args.testdata.now _ _ report c.new-program.ensures c.new-testdata.ensures is))
+    (BreaksOff-EndsWithReport _ _ _ (rw fault_is at c.run_tool.ensures.written))

@@ -1,0 +1,101 @@
+// A headless Chromium that is asked over a pipe, and a server for the page. No package is needed.
+import { spawn } from "node:child_process";
+import fs from "node:fs";
+import http from "node:http";
+import os from "node:os";
+import path from "node:path";
+
+const TYPES = { ".html": "text/html", ".css": "text/css", ".js": "text/javascript", ".json": "application/json", ".wasm": "application/wasm" };
+
+// Serves the files of a folder to this machine, and gives the address.
+export function serve(folder) {
+  const server = http.createServer((request, response) => {
+    const file = path.join(folder, path.basename(new URL(request.url, "http://localhost").pathname) || "index.html");
+    if (!fs.existsSync(file)) return response.writeHead(404).end();
+    response.writeHead(200, { "content-type": TYPES[path.extname(file)] ?? "text/plain" }).end(fs.readFileSync(file));
+  });
+  return new Promise((done) =>
+    server.listen(0, "127.0.0.1", () => done({ address: `http://127.0.0.1:${server.address().port}`, close: () => server.close() })),
+  );
+}
+
+// One tab of a new browser. $CHROMIUM is the program.
+export class Tab {
+  static async open(url) {
+    const tab = new Tab();
+    const { targetId } = await tab.#send("Target.createTarget", { url: "about:blank" });
+    tab.session = (await tab.#send("Target.attachToTarget", { targetId, flatten: true })).sessionId;
+    await tab.ask("Page.enable");
+    await tab.ask("Page.navigate", { url });
+    return tab;
+  }
+
+  constructor() {
+    this.home = fs.mkdtempSync(path.join(os.tmpdir(), "chromium-"));
+    this.waiting = new Map();
+    this.count = 0;
+    const words = ["--headless=new", "--no-sandbox", "--disable-gpu", "--remote-debugging-pipe", `--user-data-dir=${this.home}`];
+    this.child = spawn(process.env.CHROMIUM ?? "chromium", words, { stdio: ["ignore", "ignore", "ignore", "pipe", "pipe"] });
+    this.child.on("error", (error) => {
+      console.error(`no browser: ${error.message}`);
+      process.exit(1);
+    });
+    let held = "";
+    this.child.stdio[4].on("data", (bytes) => {
+      const messages = (held + bytes).split("\0");
+      held = messages.pop();
+      for (const message of messages.map((text) => JSON.parse(text))) this.#receive(message);
+    });
+  }
+
+  #receive(message) {
+    const { done, failed } = this.waiting.get(message.id) ?? {};
+    this.waiting.delete(message.id);
+    if (message.error) failed?.(new Error(message.error.message));
+    else done?.(message.result);
+  }
+
+  #send(method, params = {}, sessionId = undefined) {
+    this.count += 1;
+    const id = this.count;
+    return new Promise((done, failed) => {
+      this.waiting.set(id, { done, failed });
+      this.child.stdio[3].write(JSON.stringify({ id, method, params, sessionId }) + "\0");
+    });
+  }
+
+  ask(method, params = {}) {
+    return this.#send(method, params, this.session);
+  }
+
+  // The value of an expression in the page.
+  async evaluate(expression) {
+    const { result, exceptionDetails } = await this.ask("Runtime.evaluate", { expression, awaitPromise: true, returnByValue: true });
+    if (exceptionDetails) throw new Error(exceptionDetails.exception?.description ?? exceptionDetails.text);
+    return result.value;
+  }
+
+  // Waits until an expression is true in the page.
+  async wait(expression) {
+    for (let turn = 0; turn < 600; turn++) {
+      if (await this.evaluate(`Boolean(${expression})`)) return;
+      await new Promise((done) => setTimeout(done, 50));
+    }
+    throw new Error(`waited too long for ${expression}`);
+  }
+
+  async screenshot(file) {
+    const { data } = await this.ask("Page.captureScreenshot", { format: "png" });
+    fs.writeFileSync(file, Buffer.from(data, "base64"));
+  }
+
+  close() {
+    return new Promise((done) => {
+      this.child.on("exit", () => {
+        fs.rmSync(this.home, { recursive: true, force: true });
+        done();
+      });
+      this.#send("Browser.close").catch(() => {});
+    });
+  }
+}
