@@ -1,12 +1,15 @@
 # build: prove and compile the checker (scripts/build.sh); test: rebuild every proof and test from scratch, then run the built program;
 # install, uninstall: PREFIX and DESTDIR as usual; deb, dist: a Debian package and an archive of the built program, in out/.
-# fuzz: compares the checker with a reference in Python on COUNT generated cases of a SEED. bench: times the checker beside C written by hand
-# (bench/README.md).
+# lib: builds the libraries for C and Python, and installs them as install does; page: makes the page for the browser in web/out; test-lib and
+# test-page test these (docs/EMBEDDING.md). fuzz: compares the checker with a reference in Python on COUNT generated cases of a SEED. bench:
+# times the checker beside C written by hand (bench/README.md).
 version := 1.0
 
 PREFIX ?= /usr/local
 DESTDIR ?=
 bindir ?= $(PREFIX)/bin
+libdir ?= $(PREFIX)/lib
+includedir ?= $(PREFIX)/include
 datadir ?= $(PREFIX)/share
 mandir ?= $(datadir)/man
 docdir ?= $(datadir)/doc/checktestdata
@@ -16,6 +19,7 @@ fishdir ?= $(datadir)/fish/vendor_completions.d
 vimdir ?= $(datadir)/vim/vimfiles
 # What belongs to these programs alone: the companions with the module that they share, and the grammar for editors.
 ourdir := $(datadir)/checktestdata
+pythondir ?= $(ourdir)/python
 COUNT ?= 100000
 SEED ?= 1
 
@@ -32,9 +36,10 @@ built = crates/$(subst -,_,$(1))/out/$(subst -,_,$(1))
 sources := HANDLES crates.txt $(shell find crates -name out -prune -o \( -name '*.rt' -o -name '*.antt' \) -print)
 need_toolchain = $(if $(missing),$(error $(missing)))
 missing = $(shell scripts/missing_toolchain.sh)
+embedded := crates/ctd_embed/out/build/libctd_embed.a
 strip := $(if $(shell command -v strip),--strip)
 
-.PHONY: build test fuzz bench install install-built uninstall deb dist clean
+.PHONY: build build-lib test test-lib test-page fuzz bench install install-built lib page uninstall deb dist clean
 
 build: $(foreach program,$(programs),$(call built,$(program)))
 
@@ -42,9 +47,28 @@ $(call built,checktestdata): $(sources)
 	$(need_toolchain)
 	@scripts/build.sh
 
+# The program comes first, since both are made over the same libraries.
+$(embedded): $(sources) | build
+	$(need_toolchain)
+	@embed/build.sh
+
+embed/out/libchecktestdata.so.1: $(embedded) embed/link.sh
+	@embed/link.sh
+
+build-lib: embed/out/libchecktestdata.so.1
+
+page: $(embedded)
+	@web/build.sh
+
 test:
 	$(need_toolchain)
 	@tests/gate.sh
+
+test-lib: build-lib
+	@embed/test.py
+
+test-page: page
+	@node web/test/page.js
 
 fuzz: build
 	@tests/fuzz.py --count $(COUNT) --seed $(SEED)
@@ -74,10 +98,20 @@ install-built:
 	$(call copy_tree,docs,$(docdir)/docs)
 	$(call copy_tree,examples,$(docdir)/examples)
 
+lib: build-lib
+	install -D -m 644 embed/out/libchecktestdata.a '$(DESTDIR)$(libdir)/libchecktestdata.a'
+	install -D -m 755 embed/out/libchecktestdata.so.1 '$(DESTDIR)$(libdir)/libchecktestdata.so.1'
+	ln -sf libchecktestdata.so.1 '$(DESTDIR)$(libdir)/libchecktestdata.so'
+	install -D -m 644 embed/checktestdata.h '$(DESTDIR)$(includedir)/checktestdata.h'
+	install -d '$(DESTDIR)$(libdir)/pkgconfig'
+	sed -e 's|@prefix@|$(PREFIX)|; s|@libdir@|$(libdir)|; s|@includedir@|$(includedir)|; s|@version@|$(version)|' embed/checktestdata.pc.in >'$(DESTDIR)$(libdir)/pkgconfig/checktestdata.pc'
+	install -D -m 644 embed/python/checktestdata.py '$(DESTDIR)$(pythondir)/checktestdata.py'
+
 uninstall:
 	rm -f $(foreach command,$(commands),'$(DESTDIR)$(bindir)/$(command)')
 	rm -f $(foreach page,$(manuals),'$(DESTDIR)$(mandir)/man$(subst .,,$(suffix $(page)))/$(page)')
 	rm -f $(foreach command,$(commands),'$(DESTDIR)$(bashdir)/$(command)' '$(DESTDIR)$(zshdir)/_$(command)' '$(DESTDIR)$(fishdir)/$(command).fish')
+	rm -f '$(DESTDIR)$(libdir)'/libchecktestdata.a '$(DESTDIR)$(libdir)'/libchecktestdata.so* '$(DESTDIR)$(libdir)/pkgconfig/checktestdata.pc' '$(DESTDIR)$(includedir)/checktestdata.h'
 	cd editors/vim && find . -type f -exec rm -f '$(DESTDIR)$(vimdir)/{}' ';'
 	rm -rf '$(DESTDIR)$(ourdir)' '$(DESTDIR)$(docdir)'
 
@@ -88,4 +122,4 @@ dist: build
 	@packaging/dist.sh $(version)
 
 clean:
-	rm -rf out crates/*/out
+	rm -rf out crates/*/out embed/out web/out

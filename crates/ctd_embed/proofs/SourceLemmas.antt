@@ -71,7 +71,7 @@ report_in_memory {G} {H} s program testdata p d report sp sd (inl m) =
     inl (record {
       tree = m.tree;
       loads = loads_all (G.seen p.new) m.text program m.tree (given_of G p.old p.new m.text program sp m.gave_text) m.loads;
-      report_is = m.means (data_of testdata s.limits.bytes) refl (agrees_all (H.seen d.new) m.bytes testdata s.limits.bytes (given_of H d.old d.new m.bytes testdata sd m.gave));
+      report_is = (m.means (data_of testdata s.limits.bytes) refl (agrees_all (H.seen d.new) m.bytes testdata s.limits.bytes (given_of H d.old d.new m.bytes testdata sd m.gave))).report_is;
     })
 report_in_memory {G} s program testdata p d report sp sd (inr f) =
     inr (record {
