@@ -35,7 +35,9 @@ class Reader:
         self.status = 0
         (folder / "checktestdata").symlink_to(checker)
         (folder / "examples").symlink_to(TOP / "examples")
-        self.environment = {**os.environ, "PATH": f"{folder}:{os.environ['PATH']}", "LC_ALL": "C.UTF-8"}
+        # a make in a document is not one of the make that runs the tests
+        outside = {name: value for name, value in os.environ.items() if name not in ["MAKEFLAGS", "MAKELEVEL", "MFLAGS"]}
+        self.environment = {**outside, "PATH": f"{folder}:{os.environ['PATH']}", "LC_ALL": "C.UTF-8"}
 
     def write(self, block: Block) -> None:
         """Writes the file that a block is."""
