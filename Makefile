@@ -23,16 +23,17 @@ pythondir ?= $(ourdir)/python
 COUNT ?= 100000
 SEED ?= 1
 
-# What is installed: programs that are built, each in the crate of its name, companions in tools/, and man pages in man/. Each program and
-# companion has completions in completions/.
+# What is installed: programs that are built, each in the crate of its name, and companions in tools/, each with completions in
+# completions/ and a man page in man/; further man pages, and texts.
 programs := checktestdata
 companions := ctd-show ctd-mutate
 modules := ctd_companion.py
-manuals := checktestdata.1 checktestdata.5 $(companions:=.1)
+commands := $(programs) $(companions)
+manuals := $(commands:=.1) checktestdata.5
 texts := README.md CHANGELOG.md LICENSE-MIT LICENSE-APACHE NOTICE
 
-commands := $(programs) $(companions)
 built = crates/$(subst -,_,$(1))/out/$(subst -,_,$(1))
+all_built := $(foreach program,$(programs),$(call built,$(program)))
 sources := HANDLES crates.txt $(shell find crates -name out -prune -o \( -name '*.rt' -o -name '*.antt' \) -print)
 need_toolchain = $(if $(missing),$(error $(missing)))
 missing = $(shell scripts/missing_toolchain.sh)
@@ -41,9 +42,9 @@ strip := $(if $(shell command -v strip),--strip)
 
 .PHONY: build build-lib test test-lib test-page fuzz bench install install-built lib page uninstall deb dist clean
 
-build: $(foreach program,$(programs),$(call built,$(program)))
+build: $(all_built)
 
-$(call built,checktestdata): $(sources)
+$(all_built) &: $(sources)
 	$(need_toolchain)
 	@scripts/build.sh
 
@@ -77,7 +78,7 @@ bench: build
 	@bench/whole_runs.py
 
 # Copies all files below a folder, from where they stand in it: FOLDER, TO.
-copy_tree = cd $(1) && find . -type f ! -path '*/__pycache__/*' -exec install -D -m 644 '{}' '$(DESTDIR)$(2)/{}' ';'
+copy_tree = cd $(1) && find . -type f -print0 | xargs -0 -I '{}' install -D -m 644 '{}' '$(DESTDIR)$(2)/{}'
 
 install: build
 	@$(MAKE) --no-print-directory install-built

@@ -524,6 +524,20 @@ class Mutate(CompanionTest):
         names = {path.name: path.read_bytes()[3:] for path in (self.folder / "made").iterdir()}
         self.assertEqual(names, {"a_1.byte-order-mark.1.in": b"a\n", "b_1.byte-order-mark.1.in": b"b\n", "standard-input.byte-order-mark.1": b"c\n"})
 
+    def test_a_folder_that_cannot_be_made(self) -> None:
+        self.write("anything.ctd", ANYTHING)
+        self.write("right.in", "5\n")
+        ran = self.run_tool("-o", "right.in/made", "anything.ctd", "right.in")
+        self.assertEqual((ran.stdout, ran.returncode), (b"", 2))
+        self.assertEqual(ran.stderr, b"ctd-mutate: [Errno 20] Not a directory: 'right.in/made'\n")
+
+    def test_the_mark_is_explained_where_it_is_used(self) -> None:
+        self.write("anything.ctd", ANYTHING)
+        self.write("right.in", "5\n")
+        for kind, explained in [("plus", False), ("dropped-line", True)]:
+            out = self.run_tool("--only", kind, "anything.ctd", "right.in").stdout.decode()
+            self.assertEqual("* may be another file that fits" in out, explained)
+
     def test_an_unknown_kind(self) -> None:
         self.write("right.in", "5\n")
         ran = self.run_tool("--only", "plus,none", "anything.ctd", "right.in")

@@ -85,7 +85,7 @@ fi
 printf 'INT(1,10) NEWLINE' >"$work/number.ctd"
 printf '7\n' >"$work/right.in"
 printf '77\n' >"$work/wrong.in"
-beside() { (cd "$work" && env PATH=/usr/bin:/bin "$prefix/bin/$1" number.ctd "${@:2}"); }
+beside() { (cd "$work" && "$prefix/bin/$1" number.ctd "${@:2}"); }
 expect 'ctd-show finds the checker beside it' same 'right.in: testdata ok!' "$(beside ctd-show right.in)"
 expect 'ctd-mutate finds the checker beside it' same '11 made, 11 rejected, 0 let through, 0 without verdict' "$(beside ctd-mutate right.in | tail -n 1)"
 expect 'the companions leave nothing where they stand' same "$wanted" "$(installed)"
@@ -156,7 +156,8 @@ if has readelf 'the archive and the package'; then
         expect 'what the companions need' same 'python3:any (>= 3.9)' "$(field Recommends)"
         dpkg-deb --extract "$package" "$work/package"
         expect 'the program in the package' same "checktestdata $version (whole-number profile)" "$("$work/package/usr/bin/checktestdata" --version)"
-        expect 'a companion in the package' "$work/package/usr/bin/ctd-show" "$work/number.ctd" "$work/right.in"
+        expect 'a companion in the package' python3 "$work/package/usr/bin/ctd-show" "$work/number.ctd" "$work/right.in"
+        expect 'the Python of the package' same '#!/usr/bin/python3' "$(head -n 1 "$work/package/usr/bin/ctd-show")"
         if has lintian 'lintian'; then
             expect 'lintian' lintian --fail-on error,warning,info "$package"
         fi

@@ -217,8 +217,8 @@ def checker_of(words: argparse.ArgumentParser, given: argparse.Namespace) -> Che
 
 
 def run(main: Callable[[], int]) -> int:
-    """Runs a companion: what it writes is UTF-8, with names of files as the bytes that they are; a reader that goes away and an
-    interrupt end it without a traceback."""
+    """Runs a companion: what it writes is UTF-8, with names of files as the bytes that they are; a reader that goes away, an interrupt
+    and a fault of the system end it without a traceback."""
     for stream in (sys.stdout, sys.stderr):
         if isinstance(stream, io.TextIOWrapper):
             stream.reconfigure(encoding="utf-8", errors="surrogateescape")
@@ -228,6 +228,9 @@ def run(main: Callable[[], int]) -> int:
         return status
     except BrokenPipeError:
         os.dup2(os.open(os.devnull, os.O_WRONLY), sys.stdout.fileno())
+        return NO_VERDICT
+    except OSError as error:
+        print(f"{Path(sys.argv[0]).name}: {error}", file=sys.stderr)
         return NO_VERDICT
     except KeyboardInterrupt:
         return INTERRUPTED

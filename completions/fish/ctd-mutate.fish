@@ -8,7 +8,7 @@ complete -c ctd-mutate -s n -l most -x -d 'Make at most so many files of each ki
 complete -c ctd-mutate -l only -x -a '(ctd-mutate --kinds 2>/dev/null | string replace -r " +" \t)' -d 'Make these kinds alone'
 complete -c ctd-mutate -l kinds -d 'List the kinds'
 complete -c ctd-mutate -s a -l all -d 'List each file that is let through'
-complete -c ctd-mutate -s o -l output -xa '(__fish_complete_directories)' -d 'Keep the files that are let through in a folder'
+complete -c ctd-mutate -s o -l output -xa '(__fish_complete_directories)' -d 'Keep the files that are not rejected in a folder'
 complete -c ctd-mutate -l checker -r -d 'The checker'
 complete -c ctd-mutate -s h -l help -d 'Show the help'
 complete -c ctd-mutate -s V -l version -d 'Show the version'
