@@ -1,8 +1,9 @@
 #!/usr/bin/env python3
 """Compares the built checker with the reference (tests/reference) on generated cases: both streams and the status.
 
-A case depends on its seed and its number alone. Cases for which the reference has no answer are left out, such as patterns of which it knows
-nothing. A case with two answers is made smaller and printed. The last line counts the cases with one answer, as passed, and the others.
+A case depends on its seed and its number alone. Cases for which the reference has no answer are left out, such as patterns of which it
+knows nothing. A case with two answers is made smaller and printed. The last line counts the cases with one answer, as passed, and the
+others.
 
     tests/fuzz.py --count 100000 --seed 1     the first 100,000 cases of seed 1; --first N begins with number N
     tests/fuzz.py --seed 1 --case 4711        one case, as it stands

@@ -9,11 +9,18 @@ from reference.words import Settings
 
 from .case import DATA, PROGRAM, Case, Source
 from .draft import changed_data, fitting_data
+from .expressions import Scope
 from .programs import Programs, changed_tokens, deep_program, some_tokens
 from .spelling import text_of
 from .words import changed_words, presets, words
 
 MOST_STEPS = 400
+LONG_PROGRAMS = [
+    b'REGEX("[a-z]*",s)NEWLINE STRING(s)',
+    b'REGEX("[^b]*")NEWLINE',
+    b'REGEX("a+?b?")REGEX("a*")',
+    b'REP(2)REGEX("a*|b")END',
+]
 
 
 def case_of(seed: int, number: int) -> Case:
@@ -21,9 +28,9 @@ def case_of(seed: int, number: int) -> Case:
     random = Random(f"{seed} {number}")
     if random.random() < 0.0002:
         return long_case(random)
-    program = program_text(random)
+    program, scope = program_text(random)
     whitespace_ok = random.random() < 0.2
-    define = presets(random) if random.random() < 0.15 else None
+    define = presets(random, scope) if random.random() < 0.15 else None
     settings = Settings("program", None, presets_of(define), whitespace_ok, False, MOST_STEPS)
     data, needed = fitting_data(random, program, settings)
     if random.random() < 0.5:
@@ -38,27 +45,28 @@ def case_of(seed: int, number: int) -> Case:
 
 def long_case(random: Random) -> Case:
     """A case with a string about as long as a REGEX sees."""
-    program = random.choice((b'REGEX("[a-z]*",s)NEWLINE', b'REGEX("[^b]*")NEWLINE', b'REGEX("a+?b?")REGEX("a*")', b'REP(2)REGEX("a*|b")END'))
+    program = random.choice(LONG_PROGRAMS)
     data = b"a" * (limits.WINDOW + random.choice((-1, -1, 0, 1))) + random.choice((b"\n", b"", b"b", b"b\n"))
     return Case((PROGRAM, DATA), program, data, random.choice((Source.FILE, Source.INPUT)))
 
 
-def program_text(random: Random) -> bytes:
-    """The text of a program: one with a meaning, one that is nearly right, one that nests deeply, or some tokens."""
+def program_text(random: Random) -> tuple[bytes, Scope]:
+    """The text of a program and what it gives values: one with a meaning or nearly so, one that nests deeply, or some tokens."""
     share = random.random()
     if share < 0.01:
-        return text_of(random, deep_program(random))
+        return text_of(random, deep_program(random)), Scope()
     if share < 0.04:
-        return text_of(random, some_tokens(random))
-    tokens = Programs(random).program()
+        return text_of(random, some_tokens(random)), Scope()
+    programs = Programs(random)
+    tokens = programs.program()
     if share < 0.16:
         tokens = changed_tokens(random, tokens)
     text = text_of(random, tokens)
-    if share < 0.18:
-        return changed_data(random, text)
-    if share < 0.1802:
-        return text + b" " * (1_048_576 - len(text) + random.randrange(2))
-    return text
+    if 0.16 < share < 0.18:
+        text = changed_data(random, text)
+    elif 0.18 < share < 0.1802:
+        text += b" " * (limits.PROGRAM_BYTES - len(text) + random.randrange(2))
+    return text, programs.scope
 
 
 def presets_of(define: str | None) -> Presets:

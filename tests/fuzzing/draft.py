@@ -60,7 +60,13 @@ class Draft(Data):
             self.wanted = bytes([self.random.choice(sorted(free))])
         return self.wanted in allowed
 
+    def skip_first_blanks(self) -> None:
+        if self.blanks_may_differ:
+            self.write(self.blanks(0))
+
     def take_end(self) -> None:
+        if self.blanks_may_differ and not self.ended:
+            self.write(self.blanks(0))
         self.ended = True
 
     def take_space(self) -> None:
@@ -163,4 +169,7 @@ def changed_data(random: Random, data: bytes) -> bytes:
     return bytes(changed)
 
 
-INSERTED = [b" ", b" ", b"\n", b"\n", b"0", b"-", b"1", b"9", b"a", b"  ", b"\t", b"\r", b"\v\f", b"-0", b"00", b"12345678901234567890" * 3, b"\xff", b"\xc3"]
+INSERTED = [
+    b" ", b" ", b"\n", b"\n", b"0", b"-", b"1", b"9", b"a", b"  ", b"\t", b"\r", b"\v\f", b"-0", b"00",
+    b"12345678901234567890" * 3, b"\xff", b"\xc3",
+]

@@ -208,10 +208,13 @@ class Programs(Expressions):
         return tokens
 
 
-WORDS = "SPACE NEWLINE EOF INT STRING REGEX ASSERT SET UNSET REP REPI WHILE WHILEI IF ELSE END STRLEN MATCH ISEOF UNIQUE INARRAY FOO".split()
+WORDS = """
+SPACE NEWLINE EOF INT STRING REGEX ASSERT SET UNSET REP REPI WHILE WHILEI IF ELSE END STRLEN MATCH ISEOF UNIQUE INARRAY FOO
+""".split()
 MARKS = "( ) [ ] , = + - * / % ^ ! < > <= >= == != && ||".split()
 ODD = [
-    "FLOAT", "FIXED", "1.5", "1e3", "05", "00", "$", "&", "|", "\x0b", '"', '"\\400"', '"a', "a_b", "E", ".", "\xe9", "99" * 20, "170141183460469231731687303715884105728", "1E", "0x1", "'",
+    *"FLOAT FIXED 1.5 1e3 05 00 $ & | a_b E . 1E 0x1 '".split(),
+    *("\x0b", "\xe9", '"', '"\\400"', '"a', "99" * 20, "170141183460469231731687303715884105728"),
 ]
 
 

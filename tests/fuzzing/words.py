@@ -1,27 +1,37 @@
 """Words of the command line for generated cases."""
 
+import re
 from random import Random
 
 from .case import DATA, PROGRAM, Source
-from .expressions import ARRAY_NAMES, NUMBER_NAMES, TEXT_ARRAY_NAMES, TEXT_NAMES, TEXTS
+from .expressions import ARRAY_NAMES, NUMBER_NAMES, TEXT_ARRAY_NAMES, TEXT_NAMES, TEXTS, Scope
 from .spelling import literal
 
-BAD_PRESETS = ["", "n", "n=", "n=05", "n=1,", ",n=1", "n=+1", "n=1 ", "N=1", "a[]=1", "a[i]=1", 's="', 's="\\400"', "n=--1", "a[1=2", "n=1.5", "a[1,]=2"]
-STEPS = ["x", "", "-1", "+5", "18446744073709551616", "1e3", " 5", "0x10"]
-ODD_WORDS = [b"-x", b"--lines", b"-g", b"--generate", b"-h", b"--help", b"-V", b"--version", b"\xff", b"-q", b"--quiet", b"-w", b"third", b"folder", b"--", b"-", b"-D", b"", b"-qw", b"-wg", b"-wDn=1", b"-D=n=1", b"--max-steps",
-    b"--max-steps=5", b"--quiet=1", b"--define=", b"--def=n=1", b"-Dn=1", b"-q=", b"--help=1", b"-wh", b"-Dh", b"---", b"--=1", b"-1", b"-gV"]
+# A variable of a program as a preset can have it.
+CONSTANT_INDICES = re.compile(r'[a-z0-9]+(\[([0-9]+|"[a-z]*")(,([0-9]+|"[a-z]*"))*\])?')
+BAD_PRESETS = ["", "n=1 ", 's="', 's="\\400"', *"n n= n=05 n=1, ,n=1 n=+1 N=1 a[]=1 a[i]=1 n=--1 a[1=2 n=1.5 a[1,]=2".split()]
+BAD_STEPS = ["", " 5", *"x -1 +5 18446744073709551616 1e3 0x10".split()]
+ODD_WORDS = [
+    b"",
+    b"\xff",
+    *b"-x --lines -g --generate -h --help -V --version -q --quiet -w third folder -- - -D -qw -wg -wDn=1 -D=n=1 --max-steps".split(),
+    *b"--max-steps=5 --quiet=1 --define= --def=n=1 -Dn=1 -q= --help=1 -wh -Dh --- --=1 -1 -gV".split(),
+]
 
 
-def presets(random: Random) -> str:
-    """A text for -D, which is now and then a bad one."""
+def presets(random: Random, scope: Scope) -> str:
+    """A text for -D, mostly for variables of a program; it is now and then a bad one."""
     if random.random() < 0.05:
         return random.choice(BAD_PRESETS)
-    return ",".join(preset(random) for _ in range(random.choice((1, 1, 2, 3))))
+    return ",".join(preset(random, scope) for _ in range(random.choice((1, 1, 2, 3))))
 
 
-def preset(random: Random) -> str:
+def preset(random: Random, scope: Scope) -> str:
     """A variable and its value."""
     share = random.random()
+    used = random.choice([*scope.numbers, *scope.texts, *([name] for name in scope.arrays), [""]])
+    if share < 0.75 and CONSTANT_INDICES.fullmatch("".join(used)):
+        return f"{''.join(used)}={value(random, used in scope.texts)}"
     if share < 0.5:
         target = random.choice([*NUMBER_NAMES, "i", "unknown"])
     elif share < 0.7:
@@ -57,7 +67,7 @@ def words(random: Random, steps: int | None, whitespace_ok: bool, define: str | 
     if define is not None:
         options.append(define_option(random, define.encode("utf-8")))
     if steps is not None:
-        text = str(steps) if random.random() < 0.995 else random.choice(STEPS)
+        text = str(steps) if random.random() < 0.995 else random.choice(BAD_STEPS)
         options.append([b"--max-steps=" + text.encode()])
     files = [[PROGRAM]]
     if source in (Source.FILE, Source.FOLDER):
