@@ -308,23 +308,31 @@ fn judge_reach(rt: &impl Abort, alloc: Global, data: &[u8], reach: Reach) -> Res
     Ok(())
 }
 
-/// A look reads once, and a window reads no more than its 1,048,576 bytes.
 #[test]
 fn checks_end_as_the_rows_say(rt: HostRuntime) -> Result<(), Fail> {
     judge_rows(&rt, rt.alloc(), &ROWS)
 }
 
+/// These bytes, and then so many `x`.
+fn followed_by_letters(alloc: Global, front: &[u8], count: usize) -> Result<Vec<u8>, AllocError> {
+    let letters = vec![in alloc; b'x'; count]?;
+    let mut data = Vec::new(alloc);
+    data.extend_from_slice(front)?;
+    data.extend_from_slice(letters.as_slice())?;
+    Ok(data)
+}
+
+/// A look reads once, and a window reads no more than its 1,048,576 bytes.
 #[test]
 fn data_are_read_no_further_than_a_window(rt: HostRuntime) -> Result<(), Fail> {
-    let mut data = vec![in rt.alloc(); b'x'; 2_000_002]?;
     let rows: [(&[u8], Reach); 3] = [
         (b"11", ("INT(0,9)", OUT_OF_RANGE, 2, 1_048_578)),
         (b"  ", ("SPACE", LEFT_OVER, 1, 65_537)),
         (b"xx", ("REGEX(\"x\")", LEFT_OVER, 1, 1_048_576)),
     ];
     for (front, reach) in rows {
-        data[..2].copy_from_slice(front);
-        judge_reach(&rt, rt.alloc(), &data, reach)?;
+        let data = followed_by_letters(rt.alloc(), front, 2_000_000)?;
+        judge_reach(&rt, rt.alloc(), data.as_slice(), reach)?;
     }
     Ok(())
 }
