@@ -297,11 +297,11 @@ const PRESET_ELEMENTS: Steps = &[
     ("SET(a[1]=6,a[\"1\"]=7)", Step::Has),
     ("SET(a[1]=9,a[2]=9)", Step::Assign),
     ("SET(a[1]=6,a[2]=9)", Step::Has),
-    ("SET(a=0)", Step::Entries(3)),
+    ("SET(a[1]=6)", Step::Entries(3)),
     ("UNSET(a)", Step::Unset),
     ("SET(a[1]=6)", Step::Has),
     ("SET(a[2]=0,a=0,a[0]=0)", Step::Lacks),
-    ("SET(a=0)", Step::Entries(2)),
+    ("SET(a[1]=6)", Step::Entries(2)),
 ];
 
 const SET: Steps = &[
