@@ -3,7 +3,7 @@
 from collections.abc import Callable
 from random import Random
 
-from .expressions import ALL_NAMES, ARRAY_NAMES, NUMBER_NAMES, TEXT_ARRAY_NAMES, TEXT_NAMES, TEXTS, Expressions, Tokens
+from .expressions import ALL_NAMES, ARRAY_NAMES, NUMBER_NAMES, TEXT_ARRAY_NAMES, TEXT_NAMES, TEXTS, Expressions, Scope, Tokens
 from .patterns import pattern
 from .spelling import literal, pattern_literal
 
@@ -18,8 +18,9 @@ LARGE_RANGES = [
 class Programs(Expressions):
     """Makes commands. They mostly have a meaning, so that a run gets far on data that fit."""
 
-    def __init__(self, random: Random) -> None:
-        super().__init__(random)
+    def __init__(self, random: Random, scope: Scope) -> None:
+        """The scope: what has values before the program begins."""
+        super().__init__(random, scope)
         kinds: dict[Callable[[int], Tokens], int] = {
             self.integer_and_blank: 28,
             self.blank: 7,
