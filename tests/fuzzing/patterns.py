@@ -16,6 +16,8 @@ CLASSES = ["\\d", "\\w", "\\s", ".", ".", "\\.", "\\D", "\\W", "\\S", "\\n", "\\
 WIDE = ["\u00e9", "\u00df", "\u20ac", "\U0001f600", "[\u00e0-\u00ff]", "[^\u00e9]", "\\xe9"]
 COUNTS = ["*", "+", "?", "{2}", "{1,3}", "{0,2}", "{2,}", "*?", "+?", "??", "{1,2}?"]
 FLAGS = ["(?s)", "(?m)", "(?-u)", "(?s:.)", "(?-u:\\xff)", "(?-u:[^a])", "(?s-u:.)"]
+# What flags do, and where they end.
+FLAGGED = ["(?m)a$\\n^b", "(?m:$)\\n", "(?m)^$", "(?:(?s)a).", "(?:(?-u)[^a])[^a]", "(?s)a.|b.", "(?:(?m)a$)\\n?", "(?s:a.)."]
 EDGES = ["^", "$", "\\b", "\\A", "\\z"]
 
 
@@ -24,7 +26,7 @@ def pattern(random: Random) -> str:
     if random.random() < 0.04:
         return random.choice(BAD) if random.random() < 0.9 else "\xff"
     while True:
-        encoded = alternatives(random, 2).encode("utf-8")
+        encoded = (random.choice(FLAGGED) if random.random() < 0.03 else alternatives(random, 2)).encode("utf-8")
         if is_known(encoded):
             return encoded.decode("latin-1")
 

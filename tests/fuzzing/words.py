@@ -28,7 +28,10 @@ def preset(random: Random, scope: Scope) -> str:
     """A variable and its value."""
     share = random.random()
     is_text = random.random() < 0.25
-    if share < 0.4:
+    if share < 0.1 and scope.numbers:
+        # of two for one variable the last counts
+        target = scope.numbers[0]
+    elif share < 0.4:
         target = [random.choice(TEXT_NAMES if is_text else [*NUMBER_NAMES, "i"])]
     else:
         target = [random.choice(TEXT_ARRAY_NAMES if is_text else ARRAY_NAMES)]
