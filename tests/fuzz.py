@@ -10,9 +10,9 @@ others.
     tests/fuzz.py --self-test                 sees that each of ten wrong bodies in the reference makes a difference"""
 import argparse
 import multiprocessing
+import os
 import sys
 import tempfile
-import time
 from collections.abc import Iterator, Sequence
 from contextlib import contextmanager
 from dataclasses import dataclass, field
@@ -104,16 +104,22 @@ def print_case(case: Case, checker: Checker) -> None:
             print(f"{name:10} status {answer.status}, out {answer.out!r}, err {answer.err!r}")
 
 
+def processor_seconds() -> float:
+    """The time that this process and its children had a processor."""
+    spent = os.times()
+    return spent.user + spent.system + spent.children_user + spent.children_system
+
+
 def fuzz(program: Path, seed: int, numbers: range, jobs: int) -> int:
     """Compares cases and prints those with two answers."""
-    start = time.monotonic()
+    start = processor_seconds()
     summary = compare_all(program, seed, numbers, jobs)
-    rate = len(numbers) / (time.monotonic() - start)
+    rate = len(numbers) / (processor_seconds() - start)
     with checker_in_folder(program) as checker:
         for number in sorted(summary.differing)[:MOST_PRINTED]:
             print(f"fuzz: case {number} of seed {seed} has two answers; made smaller:")
             print_case(shrink(case_of(seed, number), lambda case: differs(case, checker)), checker)
-    print(f"fuzz: {rate:.0f} cases a second; {summary.left_out} were left out")
+    print(f"fuzz: {rate:.0f} cases a second of a processor; {summary.left_out} were left out")
     print(f"{summary.passed} passed, {len(summary.differing)} failed")
     return int(bool(summary.differing))
 

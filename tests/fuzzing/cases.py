@@ -28,9 +28,9 @@ def case_of(seed: int, number: int) -> Case:
     random = Random(f"{seed} {number}")
     if random.random() < 0.0002:
         return long_case(random)
-    program, scope = program_text(random)
+    define, scope = presets(random) if random.random() < 0.2 else (None, Scope())
+    program = program_text(random, scope)
     whitespace_ok = random.random() < 0.2
-    define = presets(random, scope) if random.random() < 0.15 else None
     settings = Settings("program", None, presets_of(define), whitespace_ok, False, MOST_STEPS)
     data, needed = fitting_data(random, program, settings)
     if random.random() < 0.5:
@@ -50,23 +50,22 @@ def long_case(random: Random) -> Case:
     return Case((PROGRAM, DATA), program, data, random.choice((Source.FILE, Source.INPUT)))
 
 
-def program_text(random: Random) -> tuple[bytes, Scope]:
-    """The text of a program and what it gives values: one with a meaning or nearly so, one that nests deeply, or some tokens."""
+def program_text(random: Random, scope: Scope) -> bytes:
+    """The text of a program for variables with presets: one with a meaning or nearly so, one that nests deeply, or some tokens."""
     share = random.random()
     if share < 0.01:
-        return text_of(random, deep_program(random)), Scope()
+        return text_of(random, deep_program(random))
     if share < 0.04:
-        return text_of(random, some_tokens(random)), Scope()
-    programs = Programs(random)
-    tokens = programs.program()
+        return text_of(random, some_tokens(random))
+    tokens = Programs(random, scope).program()
     if share < 0.16:
         tokens = changed_tokens(random, tokens)
     text = text_of(random, tokens)
     if 0.16 < share < 0.18:
-        text = changed_data(random, text)
-    elif 0.18 < share < 0.1802:
-        text += b" " * (limits.PROGRAM_BYTES - len(text) + random.randrange(2))
-    return text, programs.scope
+        return changed_data(random, text)
+    if 0.18 < share < 0.1802:
+        return text + b" " * (limits.PROGRAM_BYTES - len(text) + random.randrange(2))
+    return text
 
 
 def presets_of(define: str | None) -> Presets:

@@ -9,7 +9,7 @@ from reference.tool import Answer
 
 from .case import Case, Source
 
-OUT_OF_TIME = 20
+OUT_OF_TIME = 120
 SOCKET_ROOM = 4 << 20
 KILLED = -1
 NO_VARIABLES: dict[str, str] = {}

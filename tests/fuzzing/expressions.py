@@ -46,9 +46,9 @@ class Scope:
 class Expressions:
     """Makes expressions and tests over the variables of a scope. Now and then they are wrong in their types or values."""
 
-    def __init__(self, random: Random) -> None:
+    def __init__(self, random: Random, scope: Scope) -> None:
         self.random = random
-        self.scope = Scope()
+        self.scope = scope
 
     def chance(self, share: float) -> bool:
         return self.random.random() < share
@@ -89,6 +89,8 @@ class Expressions:
         if share < 0.84:
             return ["STRLEN", "(", *self.text(depth - 1), ")"]
         if share < 0.87:
+            if self.chance(0.2):
+                return [self.random.choice("012"), "^", self.random.choice(("18446744073709551615", "18446744073709551616"))]
             minus = ["-"] if self.chance(0.1) else []
             return [*self.number(0), "^", *minus, *self.number(depth - 1 if self.chance(0.3) else 0)]
         return [*self.number(depth - 1), self.random.choice(OPERATORS), *self.number(depth - 1)]

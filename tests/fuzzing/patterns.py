@@ -5,7 +5,8 @@ from random import Random
 from reference.faults import LeftOut
 from reference.patterns import BadPattern, read_pattern
 
-BAD = [*"( a) [a * a|* [z-a] a{2,1} a{2 \\ (?: x(+) \\1 a{1000}{1000} [ (?:a{999}){1200}".split(), "(" * 301 + "a" + ")" * 301]
+BAD = [*"( a) [a * a|* [z-a] a{2,1} a{2 \\ (?: x(+) \\1 [".split(), "(" * 301 + "a" + ")" * 301, "\xff"]
+TOO_LARGE = ["a{1000}{1000}", "(?:a{999}){1200}"]
 LETTERS = ["a", "b", "c", "x", "ab", "0", "1", "-", ",", " ", "#", "_", '"']
 SETS = [
     "[a-z]", "[0-9]", "[abc]", "[^a]", "[^\\n ]", "[a-c0-2]", "[.#]", "[\\d,]", "[^\\s]", "[-a]", "[]a]", "[a\\-z]",
@@ -16,15 +17,18 @@ CLASSES = ["\\d", "\\w", "\\s", ".", ".", "\\.", "\\D", "\\W", "\\S", "\\n", "\\
 WIDE = ["\u00e9", "\u00df", "\u20ac", "\U0001f600", "[\u00e0-\u00ff]", "[^\u00e9]", "\\xe9"]
 COUNTS = ["*", "+", "?", "{2}", "{1,3}", "{0,2}", "{2,}", "*?", "+?", "??", "{1,2}?"]
 FLAGS = ["(?s)", "(?m)", "(?-u)", "(?s:.)", "(?-u:\\xff)", "(?-u:[^a])", "(?s-u:.)"]
+# What flags do, and where they end.
+FLAGGED = ["(?m)a$\\n^b", "(?m:$)\\n", "(?m)^$", "(?:(?s)a).", "(?:(?-u)[^a])[^a]", "(?s)a.|b.", "(?:(?m)a$)\\n?", "(?s:a.)."]
 EDGES = ["^", "$", "\\b", "\\A", "\\z"]
 
 
 def pattern(random: Random) -> str:
     """A pattern, as a text of Latin-1."""
     if random.random() < 0.04:
-        return random.choice(BAD) if random.random() < 0.9 else "\xff"
+        # the checker takes its time for these
+        return random.choice(BAD if random.random() < 0.98 else TOO_LARGE)
     while True:
-        encoded = alternatives(random, 2).encode("utf-8")
+        encoded = (random.choice(FLAGGED) if random.random() < 0.03 else alternatives(random, 2)).encode("utf-8")
         if is_known(encoded):
             return encoded.decode("latin-1")
 

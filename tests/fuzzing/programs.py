@@ -3,7 +3,7 @@
 from collections.abc import Callable
 from random import Random
 
-from .expressions import ALL_NAMES, ARRAY_NAMES, NUMBER_NAMES, TEXT_ARRAY_NAMES, TEXT_NAMES, TEXTS, Expressions, Tokens
+from .expressions import ALL_NAMES, ARRAY_NAMES, NUMBER_NAMES, TEXT_ARRAY_NAMES, TEXT_NAMES, TEXTS, Expressions, Scope, Tokens
 from .patterns import pattern
 from .spelling import literal, pattern_literal
 
@@ -18,8 +18,9 @@ LARGE_RANGES = [
 class Programs(Expressions):
     """Makes commands. They mostly have a meaning, so that a run gets far on data that fit."""
 
-    def __init__(self, random: Random) -> None:
-        super().__init__(random)
+    def __init__(self, random: Random, scope: Scope) -> None:
+        """The scope: what has values before the program begins."""
+        super().__init__(random, scope)
         kinds: dict[Callable[[int], Tokens], int] = {
             self.integer_and_blank: 28,
             self.blank: 7,
@@ -217,6 +218,8 @@ ODD = [
     *("\x0b", "\xe9", '"', '"\\400"', '"a', "99" * 20, "170141183460469231731687303715884105728"),
 ]
 
+WEIGHED = "( [ IF REP REPI WHILE WHILEI + - * / % ^ && || ! < == + ^ ! > <= >= != ( [ IF , , ELSE = = ) ] END 1 a SPACE".split()
+
 
 def some_token(random: Random) -> str:
     """A token, or now and then what is none."""
@@ -260,14 +263,17 @@ def changed_tokens(random: Random, tokens: Tokens) -> Tokens:
 def deep_program(random: Random) -> Tokens:
     """A program that nests about as deeply as it may."""
     weight = random.choice((198, 199, 200, 200, 201, 201, 202))
-    match random.randrange(5):
-        case 0:
-            return ["ASSERT", "(", "1", *["+", "1"] * (weight - 2), "<", "0", ")"]
-        case 1:
-            return ["ASSERT", *["("] * (weight - 1), "1", "==", "1", *[")"] * (weight - 1)]
+    match random.randrange(7):
+        case 0 | 1:
+            # no program, but the first token that is too deep tells how each is weighed
+            return random.choices(WEIGHED, k=450)
         case 2:
+            return ["ASSERT", "(", "1", *["+", "1"] * (weight - 2), "<", "0", ")"]
+        case 3:
+            return ["ASSERT", *["("] * (weight - 1), "1", "==", "1", *[")"] * (weight - 1)]
+        case 4:
             blocks = weight - 1
             return [*["IF", "(", "ISEOF", ")"] * blocks, *["END"] * blocks]
-        case 3:
+        case 5:
             return ["SET", "(", "a", "=", *["-"] * (weight - 1), "1", ",", "b", "=", *["-"] * random.randrange(5), "2", ")"]
     return ["STRING", "(", *["a", "["] * (weight - 1), "0", *["]"] * (weight - 1), ")"]

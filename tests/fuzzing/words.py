@@ -1,15 +1,12 @@
 """Words of the command line for generated cases."""
 
-import re
 from random import Random
 
 from .case import DATA, PROGRAM, Source
 from .expressions import ARRAY_NAMES, NUMBER_NAMES, TEXT_ARRAY_NAMES, TEXT_NAMES, TEXTS, Scope
 from .spelling import literal
 
-# A variable of a program as a preset can have it.
-CONSTANT_INDICES = re.compile(r'[a-z0-9]+(\[([0-9]+|"[a-z]*")(,([0-9]+|"[a-z]*"))*\])?')
-BAD_PRESETS = ["", "n=1 ", 's="', 's="\\400"', *"n n= n=05 n=1, ,n=1 n=+1 N=1 a[]=1 a[i]=1 n=--1 a[1=2 n=1.5 a[1,]=2".split()]
+BAD_PRESETS = ["", "n=1 ", 's="', 's="\\400"', *"n n= n=05 n=1, ,n=1 n=+1 N=1 a[]=1 a[i]=1 n=--1 a[1=2 n=1.5 a[1,]=2 a[00]=1".split()]
 BAD_STEPS = ["", " 5", *"x -1 +5 18446744073709551616 1e3 0x10".split()]
 ODD_WORDS = [
     b"",
@@ -19,31 +16,34 @@ ODD_WORDS = [
 ]
 
 
-def presets(random: Random, scope: Scope) -> str:
-    """A text for -D, mostly for variables of a program; it is now and then a bad one."""
-    if random.random() < 0.05:
-        return random.choice(BAD_PRESETS)
-    return ",".join(preset(random, scope) for _ in range(random.choice((1, 1, 2, 3))))
+def presets(random: Random) -> tuple[str, Scope]:
+    """A text for -D, and the variables that it gives values; now and then it is a bad one."""
+    scope = Scope()
+    if random.random() < 0.04:
+        return random.choice(BAD_PRESETS), scope
+    return ",".join(preset(random, scope) for _ in range(random.choice((1, 1, 2, 3)))), scope
 
 
 def preset(random: Random, scope: Scope) -> str:
     """A variable and its value."""
     share = random.random()
-    used = random.choice([*scope.numbers, *scope.texts, *([name] for name in scope.arrays), [""]])
-    if share < 0.75 and CONSTANT_INDICES.fullmatch("".join(used)):
-        return f"{''.join(used)}={value(random, used in scope.texts)}"
-    if share < 0.5:
-        target = random.choice([*NUMBER_NAMES, "i", "unknown"])
-    elif share < 0.7:
-        target = random.choice(TEXT_NAMES)
+    is_text = random.random() < 0.25
+    if share < 0.1 and scope.numbers:
+        # of two for one variable the last counts
+        target = scope.numbers[0]
+    elif share < 0.4:
+        target = [random.choice(TEXT_NAMES if is_text else [*NUMBER_NAMES, "i"])]
     else:
-        count = random.choice((1, 1, 1, 2))
-        target = f"{random.choice(ARRAY_NAMES + TEXT_ARRAY_NAMES)}[{','.join(index(random) for _ in range(count))}]"
-    return f"{target}={value(random, target[0] in 'stwuv')}"
+        target = [random.choice(TEXT_ARRAY_NAMES if is_text else ARRAY_NAMES)]
+        if share < 0.9:
+            target += ["[", index(random), *([",", index(random)] if share < 0.5 else []), "]"]
+    (scope.texts if is_text else scope.numbers).append(target)
+    scope.arrays.append(target[0])
+    return f"{''.join(target)}={value(random, is_text)}"
 
 
 def index(random: Random) -> str:
-    return random.choice(("0", "1", "2", "-0", "-1", "00", '"x"', '"a"', '""')) if random.random() < 0.95 else value(random, True)
+    return value(random, True) if random.random() < 0.03 else random.choice(("0", "0", "1", "1", "2", "-0", "-1", '"x"', '"a"', '""'))
 
 
 def value(random: Random, is_text: bool) -> str:
