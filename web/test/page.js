@@ -42,7 +42,7 @@ async function testMarks(tab) {
   await tab.evaluate(`${set("program", "INT(1,5) NEWLINE\nINT(1,5) NEWLINE")}; ${set("data", "3\n7\n")}`);
   expect("a rejected line", await answerAfter(tab, press), "line 2 column 1: value out of range (program line 2 column 1)\n");
   const shown = (id) => tab.evaluate(`[document.getElementById("${id}").hidden, document.querySelector("#${id} code").textContent, document.querySelector("#${id} mark").textContent]`);
-  expect("the line of the data", await shown("data-around"), [false, "7↵", "7"]);
+  expect("the line of the data", await shown("data-around"), [false, "7", "7"]);
   expect("the line of the program", await shown("program-around"), [false, "INT(1,5) NEWLINE", "I"]);
   expect("the status", await tab.evaluate(`document.getElementById("answer").className`), "rejected");
 }
