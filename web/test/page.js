@@ -56,6 +56,19 @@ async function testOptions(tab) {
   await tab.evaluate(`${set("steps", "")}; ${set("presets", "")}; document.getElementById("whitespace").checked = false`);
 }
 
+// The link of docs/EMBEDDING.md opens its program and its preset.
+async function testLinkOfTheGuide(tab, address) {
+  const guide = fs.readFileSync(path.join(web, "..", "docs", "EMBEDDING.md"), "utf8");
+  const link = /^index\.html#.*$/m.exec(guide)[0];
+  await tab.ask("Page.navigate", { url: "about:blank" });
+  await tab.ask("Page.navigate", { url: `${address}/${link}` });
+  await tab.wait(`document.getElementById("program")?.value`);
+  const shown = await tab.evaluate(`["program", "presets"].map((id) => document.getElementById(id).value)`);
+  expect("the link of the guide", shown, ["INT(1,10) NEWLINE", "n=5"]);
+  await tab.wait(`!document.getElementById("check").disabled`);
+  await tab.evaluate(set("presets", ""));
+}
+
 async function testLink(tab, address) {
   const program = 'STRING("ü &=#+%") EOF';
   await tab.evaluate(`${set("program", program)}; document.getElementById("link").click()`);
@@ -134,6 +147,7 @@ async function main() {
   await testExamples(tab);
   await testMarks(tab);
   await testOptions(tab);
+  await testLinkOfTheGuide(tab, server.address);
   await testLink(tab, server.address);
   await testFile(tab);
   await testKeyboard(tab);
