@@ -119,7 +119,7 @@ class PythonModule(unittest.TestCase):
             for name, row in tables.rows_of(file):
                 if row.fails:
                     continue
-                words = "\0".join(["checktestdata", *row.words, "--", "program", "testdata"]).encode()
+                words = "\0".join(["checktestdata", *map(tables.unfolded, row.words), "--", "program", "testdata"]).encode()
                 program, data = (tables.bytes_of(text) for text in (row.program, row.data))
                 status, out, err = row.wanted()
                 result = checktestdata._run(words, program, data)

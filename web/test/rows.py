@@ -24,7 +24,7 @@ def cases() -> Iterator[dict]:
             if row.steps is not None:
                 limits += [([f"--max-steps={row.steps}"], False), ([f"--max-steps={row.steps - 1}"], True)]
             for limit, stops in limits:
-                yield {"name": name, "row": [[*row.words, *limit], program, data], "wanted": wanted, "stops": stops}
+                yield {"name": name, "row": [[*map(tables.unfolded, row.words), *limit], program, data], "wanted": wanted, "stops": stops}
 
 
 json.dump(list(cases()), sys.stdout)
