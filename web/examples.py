@@ -24,7 +24,7 @@ def examples(top: Path) -> Iterator[dict[str, str]]:
             yield {
                 "name": f"{folder.name}: {data.stem}",
                 "program": programs[0].read_text(),
-                "data": data.read_text(encoding="latin-1"),
+                "data": data.read_bytes().decode("latin-1"),
                 "answer": answer.read_text() if answer.exists() else "testdata ok!\n",
             }
 

@@ -6,6 +6,8 @@ const VERDICTS = ["accepted", "rejected", "no-verdict"];
 
 // The bytes of the program file that was chosen; null once the text is edited, since then the text counts.
 let programFile = null;
+// The bytes of the example that was chosen, which a text area may change (it has one kind of line end); null once the text is edited.
+let exampleData = null;
 let worker = null;
 
 const compiled = fetch(new URL("checktestdata.wasm", import.meta.url))
@@ -44,7 +46,7 @@ async function check() {
   };
   worker.onmessage = ({ data }) => finish(data);
   worker.onerror = (event) => finish({ error: event.message });
-  const data = field("data-file").files[0] ?? new Blob([field("data").value]);
+  const data = field("data-file").files[0] ?? new Blob([exampleData ?? field("data").value]);
   worker.postMessage({ module: await compiled, options: options(), program, data });
 }
 
@@ -86,7 +88,9 @@ function setProgram(text) {
   programFile = null;
 }
 
+// Sets the data to bytes, of which each is one character here.
 function setData(text) {
+  exampleData = Uint8Array.from(text, (byte) => byte.charCodeAt(0));
   field("data").value = text;
   dropFile();
 }
@@ -139,6 +143,9 @@ field("link").onclick = copyLink;
 field("program").oninput = () => {
   programFile = null;
   field("program-file").value = "";
+};
+field("data").oninput = () => {
+  exampleData = null;
 };
 field("program-file").onchange = async () => {
   const file = field("program-file").files[0];

@@ -25,7 +25,8 @@ async function answerAfter(tab, action) {
   return tab.evaluate(`document.getElementById("answer").textContent`);
 }
 
-const set = (id, value) => `document.getElementById(${JSON.stringify(id)}).value = ${JSON.stringify(value)}`;
+const set = (id, value) =>
+  `(document.getElementById(${JSON.stringify(id)}).value = ${JSON.stringify(value)}, document.getElementById(${JSON.stringify(id)}).oninput?.())`;
 const press = `document.getElementById("check").click()`;
 
 async function testExamples(tab) {
