@@ -5,7 +5,7 @@ use Rattle.ctd_source.specs.declared.limits.TheConstants.{WINDOW}
 use Rattle.ctd_source.specs.declared.spot.LookFault.{LookFault}
 use Rattle.ctd_source.specs.declared.spot.LookFault.TheVariants as looks
 use Rattle.ctd_source.specs.TestData.{TestData, next_byte, look, visible}
-use Rattle.ctd_tree.specs.Tree.{TestTree}
+use Rattle.ctd_program.specs.Tree.{TestTree}
 use Rattle.ctd_store.specs.declared.value.Value.{Value}
 use Rattle.ctd_store.specs.Store.{History, Key}
 use Rattle.ctd_value.specs.Fault.{ValueFault, TruthFault, with_fault}

@@ -4,11 +4,11 @@ use Rattle.std.specs.Prelude.{⊤, if◌then◌else◌, pos}
 use Rattle.std.specs.List.{prefix_len}
 use Rattle.ctd_source.specs.TestData.{TestData, visible, next_byte}
 use Rattle.ctd_token.specs.declared.text.Place.{Place}
-use Rattle.ctd_tree.specs.declared.mode.Mode.{Mode}
-use Rattle.ctd_tree.specs.declared.mode.Mode.TheVariants.{Exact, BlanksOk}
-use Rattle.ctd_tree.specs.declared.preset.Preset.{Preset}
-use Rattle.ctd_tree.specs.Tree
-use Rattle.ctd_tree.specs.Tree.{ExprTree, VarTree, TestTree, GuardTree, CommandTree, CommandList, Separator, place_of}
+use Rattle.ctd_program.specs.declared.mode.Mode.{Mode}
+use Rattle.ctd_program.specs.declared.mode.Mode.TheVariants.{Exact, BlanksOk}
+use Rattle.ctd_program.specs.declared.preset.Preset.{Preset}
+use Rattle.ctd_program.specs.Tree
+use Rattle.ctd_program.specs.Tree.{ExprTree, VarTree, TestTree, GuardTree, CommandTree, CommandList, Separator, place_of}
 use Rattle.ctd_store.specs.declared.value.Value.TheVariants as values
 use Rattle.ctd_value.specs.Fault.{ValueFault, TruthFault, with_fault}
 use Rattle.ctd_value.specs.Truth.{truth}

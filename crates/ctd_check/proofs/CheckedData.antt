@@ -8,7 +8,7 @@ use Rattle.ctd_source.specs.declared.source.Seen.TheVariants.{Going, Ended, Brok
 use Rattle.ctd_source.specs.TestData.{TestData}
 use Rattle.ctd_source.specs.Agreement.{Agrees, data_of_call}
 use Rattle.ctd_source.specs.CursorState.{Gave}
-use Rattle.ctd_tree.specs.declared.limits.Limits.{Limits}
+use Rattle.ctd_program.specs.declared.limits.Limits.{Limits}
 use Rattle.ctd_outcome.specs.declared.outcome.Checked.{Checked}
 use Rattle.ctd_outcome.specs.declared.outcome.Outcome.{Outcome}
 use Rattle.ctd_check.specs.Run.{Meaning, Finds}

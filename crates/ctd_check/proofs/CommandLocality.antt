@@ -8,10 +8,10 @@ use Rattle.ctd_source.specs.declared.limits.TheConstants.{WINDOW}
 use Rattle.ctd_source.specs.declared.spot.LookFault.{LookFault}
 use Rattle.ctd_source.specs.declared.spot.LookFault.TheVariants as looks
 use Rattle.ctd_source.specs.TestData.{TestData, next_byte, look, visible, is_byte}
-use Rattle.ctd_tree.specs.declared.mode.Mode.{Mode}
-use Rattle.ctd_tree.specs.declared.mode.Mode.TheVariants.{Exact, BlanksOk}
-use Rattle.ctd_tree.specs.Tree
-use Rattle.ctd_tree.specs.Tree.{ExprTree, VarTree, TestTree, GuardTree, CommandTree, CommandList, Separator}
+use Rattle.ctd_program.specs.declared.mode.Mode.{Mode}
+use Rattle.ctd_program.specs.declared.mode.Mode.TheVariants.{Exact, BlanksOk}
+use Rattle.ctd_program.specs.Tree
+use Rattle.ctd_program.specs.Tree.{ExprTree, VarTree, TestTree, GuardTree, CommandTree, CommandList, Separator}
 use Rattle.ctd_pattern.specs.Pattern.{length_at_start}
 use Rattle.ctd_store.specs.declared.value.Value.{Value}
 use Rattle.ctd_store.specs.declared.value.Value.TheVariants as values

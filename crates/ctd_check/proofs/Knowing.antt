@@ -1,11 +1,11 @@
 -- What is to be done finds its patterns.
 use Rattle.std.proofs.Common.{◌≡◌, ◌<◌, Result, Ok, Err, OnOk, ℕ, zero, suc, refl, List, [], ◌∷◌, ◌++◌, length, get_or, Some, sym, ◌∙◌, subst}
 use Rattle.std.proofs.lemmas.Option.{slice_get_within, slice_get-get_or}
-use Rattle.ctd_tree.specs.declared.tree.PatternLiteral.{PatternLiteral}
-use Rattle.ctd_tree.specs.Tree
-use Rattle.ctd_tree.specs.Tree.{CommandList, Separator}
+use Rattle.ctd_program.specs.declared.tree.PatternLiteral.{PatternLiteral}
+use Rattle.ctd_program.specs.Tree
+use Rattle.ctd_program.specs.Tree.{CommandList, Separator}
 use Rattle.ctd_syntax.specs.Numbering.{command_literals, separator_literals, literals}
-use Rattle.ctd_plan.specs.Numbered.{IsAmong, AreAmong}
+use Rattle.ctd_loader.specs.Numbered.{IsAmong, AreAmong}
 use Rattle.ctd_check.specs.Known.{AreKnown}
 use Rattle.ctd_check.specs.Loops.{Task, Loop, turn, tasks, separated}
 

@@ -6,9 +6,9 @@ use Rattle.ctd_source.specs.declared.spot.Spot.{Spot}
 use Rattle.ctd_source.specs.declared.source.Seen.TheVariants.{Going, Broken}
 use Rattle.ctd_source.specs.TestData.{TestData, spot_at}
 use Rattle.ctd_source.specs.Agreement.{Agrees, known}
-use Rattle.ctd_tree.specs.declared.mode.Mode.{Mode}
-use Rattle.ctd_tree.specs.declared.preset.Preset.{Preset}
-use Rattle.ctd_tree.specs.Tree.{CommandList}
+use Rattle.ctd_program.specs.declared.mode.Mode.{Mode}
+use Rattle.ctd_program.specs.declared.preset.Preset.{Preset}
+use Rattle.ctd_program.specs.Tree.{CommandList}
 use Rattle.ctd_outcome.specs.declared.reason.Fault.TheVariants.{StepLimit, Read}
 use Rattle.ctd_outcome.specs.declared.outcome.Site.{Site}
 use Rattle.ctd_outcome.specs.declared.outcome.Site.TheVariants.{Start}

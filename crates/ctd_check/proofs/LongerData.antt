@@ -8,8 +8,8 @@ use Rattle.ctd_source.specs.declared.spot.LookFault.TheVariants.{Read, DataTooLo
 use Rattle.ctd_source.specs.TestData.{TestData, next_byte, first_of, look, visible, spot_at}
 use Rattle.ctd_source.proofs.Agreeing.{spot_by_front}
 use Rattle.ctd_source.proofs.Visible.{seen_byte}
-use Rattle.ctd_tree.specs.Tree
-use Rattle.ctd_tree.specs.Tree.{TestTree}
+use Rattle.ctd_program.specs.Tree
+use Rattle.ctd_program.specs.Tree.{TestTree}
 use Rattle.ctd_store.specs.Store.{History}
 use Rattle.ctd_value.specs.Fault.{TruthFault, ◌>>=◌, with_fault, Look}
 use Rattle.ctd_value.specs.Truth.{truth, is_end, is_one_of, as_test}

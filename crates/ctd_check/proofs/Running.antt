@@ -8,23 +8,23 @@ use Rattle.ctd_source.specs.TestData.{TestData, spot_at}
 use Rattle.ctd_source.proofs.AdvanceLemmas.{advances_so, advances_both, advances_nowhere}
 use Rattle.ctd_source.specs.Received.{AdvancesSuchThat}
 use Rattle.ctd_token.specs.declared.text.Place.{Place}
-use Rattle.ctd_tree.specs.declared.tree.Action.{Action}
-use Rattle.ctd_tree.specs.declared.tree.Action.TheVariants.{Space, Newline, Eof, Int, String, Regex, Assert, Set, Unset, If'}
-use Rattle.ctd_tree.specs.declared.tree.Action.TheVariants as actions
-use Rattle.ctd_tree.specs.declared.tree.Loop.{Loop'}
-use Rattle.ctd_tree.specs.declared.tree.Choice.{Choice'}
-use Rattle.ctd_tree.specs.declared.tree.Command.{Command}
-use Rattle.ctd_tree.specs.Tree.{place_of, CommandList}
-use Rattle.ctd_tree.specs.View.{action_tree, command_tree}
-use Rattle.ctd_tree.specs.declared.preset.Preset.{Preset}
-use Rattle.ctd_tree.specs.declared.tree.PatternLiteral.{PatternLiteral}
+use Rattle.ctd_program.specs.declared.tree.Action.{Action}
+use Rattle.ctd_program.specs.declared.tree.Action.TheVariants.{Space, Newline, Eof, Int, String, Regex, Assert, Set, Unset, If'}
+use Rattle.ctd_program.specs.declared.tree.Action.TheVariants as actions
+use Rattle.ctd_program.specs.declared.tree.Loop.{Loop'}
+use Rattle.ctd_program.specs.declared.tree.Choice.{Choice'}
+use Rattle.ctd_program.specs.declared.tree.Command.{Command}
+use Rattle.ctd_program.specs.Tree.{place_of, CommandList}
+use Rattle.ctd_program.specs.View.{action_tree, command_tree}
+use Rattle.ctd_program.specs.declared.preset.Preset.{Preset}
+use Rattle.ctd_program.specs.declared.tree.PatternLiteral.{PatternLiteral}
 use Rattle.ctd_command.specs.declared.machine.Run.{Run}
 use Rattle.ctd_command.specs.declared.failure.CommandFailure.{CommandFailure}
 use Rattle.ctd_command.specs.declared.failure.Failure.TheVariants.{Rejected, Stopped, Memory}
 use Rattle.ctd_outcome.specs.declared.reason.Fault.TheVariants.{StepLimit}
 use Rattle.ctd_command.specs.State.{State, Effect}
 use Rattle.ctd_command.specs.Blanks.{first_skip}
-use Rattle.ctd_tree.specs.declared.mode.Mode.{Mode}
+use Rattle.ctd_program.specs.declared.mode.Mode.{Mode}
 use Rattle.ctd_command.specs.Performs.{Does, answering, state, Performs}
 use Rattle.ctd_check.specs.declared.agenda.Agenda.{Agenda}
 use Rattle.ctd_outcome.specs.declared.outcome.Site.{Site}

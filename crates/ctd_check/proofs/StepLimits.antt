@@ -1,9 +1,9 @@
 -- How a run depends on its limit of steps.
 use Rattle.std.proofs.Common.{◌≡◌, ℕ, zero, suc, ◌+◌, ◌-◌, ◌<◌, ◌≤◌, List, [], ◌∷◌, ◌++◌, ◌⊎◌, inl, inr, refl, ap, sym, ◌∙◌, subst, arith, le_refl, le_trans, eq-or-lt_of_le}
 use Rattle.ctd_source.specs.TestData.{TestData, spot_at}
-use Rattle.ctd_tree.specs.declared.mode.Mode.{Mode}
-use Rattle.ctd_tree.specs.declared.preset.Preset.{Preset}
-use Rattle.ctd_tree.specs.Tree.{CommandList}
+use Rattle.ctd_program.specs.declared.mode.Mode.{Mode}
+use Rattle.ctd_program.specs.declared.preset.Preset.{Preset}
+use Rattle.ctd_program.specs.Tree.{CommandList}
 use Rattle.ctd_outcome.specs.declared.outcome.Site.{Site}
 use Rattle.ctd_outcome.specs.declared.outcome.Site.TheVariants.{Start}
 use Rattle.ctd_outcome.specs.declared.outcome.Outcome.{Outcome}

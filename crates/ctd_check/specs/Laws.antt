@@ -5,11 +5,11 @@ use Rattle.ctd_source.specs.declared.source.Source.{Ghosts}
 use Rattle.ctd_source.specs.TestData.{TestData}
 use Rattle.ctd_source.specs.declared.source.Seen.TheVariants.{Going, Broken}
 use Rattle.ctd_source.specs.Agreement.{Agrees, known, data_of_call}
-use Rattle.ctd_tree.specs.declared.mode.Mode.{Mode}
-use Rattle.ctd_tree.specs.declared.preset.Preset.{Preset}
-use Rattle.ctd_tree.specs.declared.limits.Limits.{Limits}
-use Rattle.ctd_tree.specs.Tree
-use Rattle.ctd_tree.specs.Tree.{CommandList}
+use Rattle.ctd_program.specs.declared.mode.Mode.{Mode}
+use Rattle.ctd_program.specs.declared.preset.Preset.{Preset}
+use Rattle.ctd_program.specs.declared.limits.Limits.{Limits}
+use Rattle.ctd_program.specs.Tree
+use Rattle.ctd_program.specs.Tree.{CommandList}
 use Rattle.ctd_outcome.specs.declared.outcome.Checked.{Checked}
 use Rattle.ctd_outcome.specs.declared.reason.Fault.TheVariants.{StepLimit, Read}
 use Rattle.ctd_outcome.specs.declared.outcome.Outcome.{Outcome}

@@ -1,11 +1,11 @@
 -- The run of a program as a list of tasks, one step for each.
 use Rattle.std.specs.Prelude.{◌≡◌, ℕ, zero, suc, ◌-◌, ⊤, List, [], ◌∷◌, ◌++◌}
 use Rattle.ctd_source.specs.TestData.{TestData, spot_at}
-use Rattle.ctd_tree.specs.declared.preset.Preset.{Preset}
-use Rattle.ctd_tree.specs.Tree
-use Rattle.ctd_tree.specs.Tree.{CommandTree, CommandList, place_of}
+use Rattle.ctd_program.specs.declared.preset.Preset.{Preset}
+use Rattle.ctd_program.specs.Tree
+use Rattle.ctd_program.specs.Tree.{CommandTree, CommandList, place_of}
 use Rattle.ctd_store.specs.Store.{initial}
-use Rattle.ctd_tree.specs.declared.mode.Mode.{Mode}
+use Rattle.ctd_program.specs.declared.mode.Mode.{Mode}
 use Rattle.ctd_outcome.specs.declared.reason.Fault.TheVariants.{StepLimit}
 use Rattle.ctd_command.specs.State.{State, Effect, done, rejected, faulty, Act, ◌>>=◌, give}
 use Rattle.ctd_command.specs.Effect.{int, string, assert, set, unset_all}

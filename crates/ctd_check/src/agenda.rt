@@ -1,8 +1,8 @@
 //! What a run has still to do: its frames, and the steps that are left.
 ghost use Rattle.std.specs.Prelude.{◌≡◌, ℕ, ◌≤◌, ◌<◌, ◌+◌, ◌-◌, ◌^◌, ◌++◌, ◌∷◌, [], length, is_some, true, false, None, Some, OnOk, IfErr, IfNone, IfSome};
 ghost use Rattle.std.specs.Option.{option_copied};
-ghost use Rattle.ctd_tree.specs.Tree.{blocks, list_blocks};
-ghost use Rattle.ctd_tree.specs.View.{command_tree, command_trees};
+ghost use Rattle.ctd_program.specs.Tree.{blocks, list_blocks};
+ghost use Rattle.ctd_program.specs.View.{command_tree, command_trees};
 ghost use Rattle.ctd_check.specs.Loops.{start, tasks, finish};
 ghost use Rattle.ctd_check.specs.declared.frame.Lap.{Lap};
 ghost use Rattle.ctd_check.specs.Pending.{Fits, fits_prop, to_do, top_lap, frame_tasks, left_tasks, round_tasks, lap_blocks, frame_blocks, lap_turn, IsAtTurn, IsListDone, IsWithin};

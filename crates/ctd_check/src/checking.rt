@@ -2,7 +2,7 @@
 ghost use Rattle.std.specs.Prelude.{◌≡◌, ◌+◌, ◌≤◌, ◌^◌, Err, IfOk, OnErr};
 ghost use Rattle.ctd_source.specs.CursorState.{GaveAtMost};
 ghost use Rattle.ctd_source.specs.declared.source.Seen.TheVariants.{Going};
-ghost use Rattle.ctd_tree.specs.View.{command_trees};
+ghost use Rattle.ctd_program.specs.View.{command_trees};
 ghost use Rattle.ctd_check.specs.Run.{meaning};
 ghost use Rattle.ctd_check.specs.Checks.{FindsMeaning, IsAhead};
 ghost use Rattle.ctd_check.specs.Halts.{Concludes};
@@ -12,10 +12,10 @@ use crate::halt::Halt;
 use crate::run::run_program;
 use ctd_command::Run;
 use ctd_outcome::{Checked, Outcome};
-use ctd_plan::Plan;
+use ctd_loader::Plan;
 use ctd_source::{Buffers, Cursor, Source};
 use ctd_store::Store;
-use ctd_tree::{Limits, Mode, Presets};
+use ctd_program::{Limits, Mode, Presets};
 use std::alloc::{AllocError, Global};
 
 /// The outcome of a run that came to its end; the error is for a run that ran out of memory, and for no other.

@@ -5,7 +5,7 @@ use Rattle.std.specs.Result.{IsErr, IsErrAnd}
 use Rattle.ctd_source.specs.declared.source.Source.{Ghosts}
 use Rattle.ctd_source.specs.TestData.{TestData}
 use Rattle.ctd_source.proofs.AdvanceLemmas.{advances_so, advances_nowhere}
-use Rattle.ctd_tree.specs.Tree.{ExprTree, VarTree}
+use Rattle.ctd_program.specs.Tree.{ExprTree, VarTree}
 use Rattle.ctd_store.specs.declared.value.Value.{Value}
 use Rattle.ctd_store.specs.Store.{History, Key, assign}
 use Rattle.ctd_value.specs.declared.fault.EvalFault.{EvalFault}

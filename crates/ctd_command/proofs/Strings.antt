@@ -17,7 +17,7 @@ use Rattle.ctd_store.specs.Store.{History}
 use Rattle.ctd_value.specs.Fault.{with_fault}
 use Rattle.ctd_command.specs.declared.failure.CommandFailure.{CommandFailure}
 use Rattle.ctd_command.specs.declared.failure.Failure.TheVariants.{Stopped}
-use Rattle.ctd_tree.specs.declared.mode.Mode.{Mode}
+use Rattle.ctd_program.specs.declared.mode.Mode.{Mode}
 use Rattle.ctd_outcome.specs.declared.reason.Reason.TheVariants.{StringMismatch}
 use Rattle.ctd_command.specs.State.{State, Effect, Act, done, rejected, faulty, proceed, give, told, fault_of_look}
 use Rattle.ctd_command.specs.Effect.{differ, compare, match_bytes}

@@ -8,7 +8,7 @@ use Rattle.ctd_source.specs.Consistency.{IsConsistentWith}
 use Rattle.ctd_source.specs.CursorState.{state_of, ReadsOn}
 use Rattle.ctd_source.specs.TestData.{TestData, next_byte}
 use Rattle.ctd_source.proofs.AdvanceLemmas.{advances_so, advances_nowhere, advances_reading}
-use Rattle.ctd_tree.specs.Tree.{TestTree}
+use Rattle.ctd_program.specs.Tree.{TestTree}
 use Rattle.ctd_store.specs.Store.{History}
 use Rattle.ctd_value.specs.declared.fault.EvalFault.{EvalFault}
 use Rattle.ctd_value.specs.declared.fault.EvalFault.TheVariants as evals

@@ -3,7 +3,7 @@ use Rattle.std.specs.Prelude.{ℕ, Result}
 use Rattle.ctd_source.specs.TestData.{TestData}
 use Rattle.ctd_store.specs.Store.{History}
 use Rattle.ctd_command.specs.declared.failure.CommandFailure.{CommandFailure}
-use Rattle.ctd_tree.specs.declared.mode.Mode.{Mode}
+use Rattle.ctd_program.specs.declared.mode.Mode.{Mode}
 use Rattle.ctd_command.specs.State.{Act}
 use Rattle.ctd_command.specs.Performs.{Does}
 

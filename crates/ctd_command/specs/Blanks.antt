@@ -2,8 +2,8 @@
 use Rattle.std.specs.Prelude.{ℕ, Bool, false, ◌||◌, nat_eq, ⊤, Option, Some, None, if◌then◌else◌}
 use Rattle.std.specs.List.{prefix_len}
 use Rattle.ctd_source.specs.TestData.{visible}
-use Rattle.ctd_tree.specs.declared.mode.Mode.{Mode}
-use Rattle.ctd_tree.specs.declared.mode.Mode.TheVariants.{Exact, BlanksOk}
+use Rattle.ctd_program.specs.declared.mode.Mode.{Mode}
+use Rattle.ctd_program.specs.declared.mode.Mode.TheVariants.{Exact, BlanksOk}
 use Rattle.ctd_outcome.specs.declared.reason.Reason.TheVariants.{ExpectedSpace, ExpectedNewline}
 use Rattle.ctd_command.specs.State.{Act, ◌>>=◌, give, reject, pass, see_next}
 use Rattle.ctd_command.specs.Effect.{one_byte, eof}

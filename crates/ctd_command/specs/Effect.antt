@@ -2,7 +2,7 @@
 use Rattle.std.specs.Prelude.{ℕ, Bool, nat_eq, ⊤, List, [], ◌∷◌, length, fold, ℤ, Option, Some, None, Result, Ok, Err, if◌then◌else◌}
 use Rattle.std.specs.List.{common_prefix_len}
 use Rattle.ctd_source.specs.TestData.{visible, is_byte}
-use Rattle.ctd_tree.specs.Tree.{ExprTree, VarTree, TestTree}
+use Rattle.ctd_program.specs.Tree.{ExprTree, VarTree, TestTree}
 use Rattle.ctd_store.specs.declared.value.Value.{Value}
 use Rattle.ctd_store.specs.declared.value.Value.TheVariants as values
 use Rattle.ctd_store.specs.Store.{Key, assign, unset}

@@ -4,7 +4,7 @@ use Rattle.ctd_source.specs.declared.source.Source.{Ghosts}
 use Rattle.ctd_source.specs.CursorState.{state_of}
 use Rattle.ctd_source.specs.TestData.{TestData}
 use Rattle.ctd_source.specs.Received.{AdvancesSuchThat}
-use Rattle.ctd_tree.specs.Tree.{ExprTree}
+use Rattle.ctd_program.specs.Tree.{ExprTree}
 use Rattle.ctd_value.specs.Val.{number_of}
 use Rattle.ctd_command.specs.declared.machine.Run.{Run}
 use Rattle.ctd_outcome.specs.declared.reason.Fault.{Fault}

@@ -1,7 +1,7 @@
 -- REGEX: a match at the start of the window.
 use Rattle.std.specs.Prelude.{ℕ, nat_eq, ⊤, List, length, take, Option, Some, None, if◌then◌else◌}
 use Rattle.ctd_source.specs.declared.limits.TheConstants.{WINDOW}
-use Rattle.ctd_tree.specs.Tree.{VarTree}
+use Rattle.ctd_program.specs.Tree.{VarTree}
 use Rattle.ctd_pattern.specs.Pattern.{length_at_start}
 use Rattle.ctd_store.specs.declared.value.Value.TheVariants as values
 use Rattle.ctd_outcome.specs.declared.reason.Reason.TheVariants.{RegexMismatch}

@@ -1,6 +1,6 @@
 //! ASSERT.
 
-ghost use Rattle.ctd_tree.specs.View.{test_tree};
+ghost use Rattle.ctd_program.specs.View.{test_tree};
 ghost use Rattle.ctd_command.specs.Effect.{assert};
 ghost use Rattle.ctd_command.specs.Performs.{IsSound, Performs};
 
@@ -8,7 +8,7 @@ use crate::failure::CommandFailure;
 use crate::machine::Run;
 use ctd_outcome::Reason;
 use ctd_source::Source;
-use ctd_tree::Test;
+use ctd_program::Test;
 
 impl<'d, D: Source> Run<'d, D> {
     /// ASSERT: a test that is false rejects the data.

@@ -1,6 +1,6 @@
 //! SET and UNSET.
 ghost use Rattle.std.specs.Prelude.{◌≡◌, fold, map, Ok};
-ghost use Rattle.ctd_tree.specs.View.{assignment};
+ghost use Rattle.ctd_program.specs.View.{assignment};
 ghost use Rattle.ctd_store.specs.Store.{unset};
 ghost use Rattle.ctd_command.specs.Effect.{give_value, set, unset_all};
 ghost use Rattle.ctd_command.specs.Performs.{IsSound, Performs};
@@ -9,7 +9,7 @@ use crate::failure::CommandFailure;
 use crate::machine::Run;
 use ctd_source::Source;
 use ctd_token::Name;
-use ctd_tree::Assignment;
+use ctd_program::Assignment;
 use ctd_value::{Store, set_expression};
 
 /// Removes from each name all that was assigned to it.

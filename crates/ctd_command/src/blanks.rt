@@ -11,7 +11,7 @@ use crate::failure::CommandFailure;
 use crate::machine::Run;
 use ctd_outcome::Reason;
 use ctd_source::{Cursor, LookFault, Source};
-use ctd_tree::Mode;
+use ctd_program::Mode;
 
 /// Whether a byte is a blank.
 fn is_blank(byte: u8) -> bool

@@ -7,7 +7,7 @@ use crate::failure::CommandFailure;
 use crate::machine::Run;
 use ctd_outcome::Reason;
 use ctd_source::Source;
-use ctd_tree::Mode;
+use ctd_program::Mode;
 
 impl<'d, D: Source> Run<'d, D> {
     /// SPACE: passes one byte 0x20, or under `BlanksOk` as many blanks as there are, one at least; else it is ExpectedSpace.

@@ -1,6 +1,6 @@
 //! Expressions, variables and tests, as the commands of a run use them.
 ghost use Rattle.std.specs.Prelude.{Ok, IfSome};
-ghost use Rattle.ctd_tree.specs.View.{expr_tree, var_tree, test_tree, target};
+ghost use Rattle.ctd_program.specs.View.{expr_tree, var_tree, test_tree, target};
 ghost use Rattle.ctd_store.specs.declared.value.Value.TheVariants as values;
 ghost use Rattle.ctd_value.specs.Val.{count, number_of};
 ghost use Rattle.ctd_command.specs.State.{evaluate};
@@ -10,7 +10,7 @@ ghost use Rattle.ctd_command.specs.Performs.{IsSound, Performs};
 use crate::failure::CommandFailure;
 use crate::machine::Run;
 use ctd_source::Source;
-use ctd_tree::{Expr, Test, Var};
+use ctd_program::{Expr, Test, Var};
 use ctd_value::{
     count_of, holds, number_at_hand, number_of, set_number, truth_at_hand, truth_in_front_of,
 };

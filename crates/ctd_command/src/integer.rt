@@ -2,7 +2,7 @@
 ghost use Rattle.std.specs.Prelude.{◌≡◌, OnOk, IfSome, None, true};
 ghost use Rattle.ctd_source.specs.CursorState.{state_of};
 ghost use Rattle.ctd_source.specs.Received.{AdvancesSuchThat};
-ghost use Rattle.ctd_tree.specs.View.{expr_tree, target};
+ghost use Rattle.ctd_program.specs.View.{expr_tree, target};
 ghost use Rattle.ctd_command.specs.Effect.{int, integer};
 ghost use Rattle.ctd_command.specs.Integer.{is_minus, signed};
 ghost use Rattle.ctd_command.specs.Passing.{IsInFront, PassesMinus, PassesDigits};
@@ -12,7 +12,7 @@ use crate::digits::{DigitSummary, FEW, number_in_front};
 use crate::failure::CommandFailure;
 use crate::machine::Run;
 use ctd_source::{Cursor, LookFault, Source};
-use ctd_tree::{Expr, Var};
+use ctd_program::{Expr, Var};
 
 /// An integer at the front of some bytes.
 #[derive(Clone, Copy)]

@@ -6,7 +6,7 @@ ghost use Rattle.ctd_command.specs.Performs.{IsSound, Performs};
 
 use crate::failure::CommandFailure;
 use ctd_source::{Cursor, Source};
-use ctd_tree::Mode;
+use ctd_program::Mode;
 use ctd_value::Store;
 use std::alloc::Global;
 

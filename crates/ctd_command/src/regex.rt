@@ -1,7 +1,7 @@
 //! REGEX: a match of its pattern at the start of the window.
 ghost use Rattle.std.specs.Prelude.{◌≡◌, ◌≤◌, length, Some, IfOk};
 ghost use Rattle.ctd_source.specs.CursorState.{state_of};
-ghost use Rattle.ctd_tree.specs.View.{target, var_tree};
+ghost use Rattle.ctd_program.specs.View.{target, var_tree};
 ghost use Rattle.ctd_command.specs.Regex.{matched_len, regex, shorter_match};
 ghost use Rattle.ctd_command.specs.Performs.{IsSound, Performs, AlwaysDoes};
 
@@ -10,7 +10,7 @@ use crate::machine::Run;
 use ctd_outcome::{Fault, Reason};
 use ctd_pattern::Matcher;
 use ctd_source::{Source, WINDOW};
-use ctd_tree::Var;
+use ctd_program::Var;
 use ctd_value::set_text;
 
 /// The length of a match, unless it fills the window.

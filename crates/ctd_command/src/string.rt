@@ -5,7 +5,7 @@ ghost use Rattle.ctd_source.specs.Consistency.{IsBounded};
 ghost use Rattle.ctd_source.specs.CursorState.{state_of, MovesPast};
 ghost use Rattle.ctd_source.specs.Received.{AdvancesSuchThat};
 ghost use Rattle.ctd_source.specs.TestData.{is_newline};
-ghost use Rattle.ctd_tree.specs.View.{expr_tree};
+ghost use Rattle.ctd_program.specs.View.{expr_tree};
 ghost use Rattle.ctd_command.specs.Effect.{string, match_bytes};
 ghost use Rattle.ctd_command.specs.Alone.{DoesAlone};
 ghost use Rattle.ctd_command.specs.Passing.{PassesSome};
@@ -15,7 +15,7 @@ use crate::failure::CommandFailure;
 use crate::machine::Run;
 use ctd_outcome::Reason;
 use ctd_source::{Cursor, LookFault, Source};
-use ctd_tree::Expr;
+use ctd_program::Expr;
 use ctd_value::text_of;
 
 /// How many bytes at the front of two lists agree.

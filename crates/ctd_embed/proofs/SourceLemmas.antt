@@ -9,9 +9,9 @@ use Rattle.ctd_source.specs.CursorState.{Gave}
 use Rattle.ctd_token.specs.declared.limits.TheConstants.{PROGRAM_LIMIT}
 use Rattle.ctd_token.specs.declared.fault.LoadFault.{LoadFault}
 use Rattle.ctd_token.specs.declared.fault.LoadKind.TheVariants.{ProgramTooLong}
-use Rattle.ctd_tree.specs.Tree.{CommandList}
-use Rattle.ctd_plan.specs.Loading.{IsLoaded, TextMayFail, Loads, MayFail}
-use Rattle.ctd_words.specs.declared.setup.Setup.{Setup}
+use Rattle.ctd_program.specs.Tree.{CommandList}
+use Rattle.ctd_loader.specs.Loading.{IsLoaded, TextMayFail, Loads, MayFail}
+use Rattle.ctd_arguments.specs.declared.setup.Setup.{Setup}
 use Rattle.ctd_report.specs.Report.{Report}
 use Rattle.ctd_tool.specs.Headline.{Call, IsReport}
 use Rattle.ctd_embed.specs.MemorySource.{StartsWith}

@@ -4,7 +4,7 @@ use Rattle.std.specs.Io.KnownBytes.{Appends}
 use Rattle.ctd_report.specs.declared.sink.Sink.{Ghosts}
 use Rattle.ctd_report.specs.Written.{Change, change}
 use Rattle.ctd_tool.specs.Answer.{EndsWithReport}
-use Rattle.ctd_words.specs.declared.setup.UsageFault.TheVariants.{Memory}
+use Rattle.ctd_arguments.specs.declared.setup.UsageFault.TheVariants.{Memory}
 use Rattle.ctd_report.specs.Report.{Report, usage_report}
 use Rattle.ctd_embed.specs.Buffers.{HoldReport}
 use Rattle.ctd_embed.specs.InMemory.{IsAnswerTo}

@@ -3,14 +3,14 @@ use Rattle.std.specs.Prelude.{◌≡◌, ◌⊎◌, ℕ, false, List}
 use Rattle.ctd_source.specs.TestData.{TestData}
 use Rattle.ctd_source.specs.declared.source.Seen.TheVariants.{Ended}
 use Rattle.ctd_token.specs.declared.fault.LoadFault.{LoadFault}
-use Rattle.ctd_tree.specs.Tree.{CommandList}
-use Rattle.ctd_plan.specs.Loading.{Loads, MayFail}
+use Rattle.ctd_program.specs.Tree.{CommandList}
+use Rattle.ctd_loader.specs.Loading.{Loads, MayFail}
 use Rattle.ctd_check.specs.Run.{meaning}
-use Rattle.ctd_words.specs.declared.setup.Setup.{Setup}
-use Rattle.ctd_words.specs.declared.setup.UsageFault.{UsageFault}
-use Rattle.ctd_words.specs.declared.setup.UsageFault.TheVariants.{Memory}
-use Rattle.ctd_words.specs.Settings.{IsSetup}
-use Rattle.ctd_words.specs.Usage.{IsUsageFault}
+use Rattle.ctd_arguments.specs.declared.setup.Setup.{Setup}
+use Rattle.ctd_arguments.specs.declared.setup.UsageFault.{UsageFault}
+use Rattle.ctd_arguments.specs.declared.setup.UsageFault.TheVariants.{Memory}
+use Rattle.ctd_arguments.specs.Settings.{IsSetup}
+use Rattle.ctd_arguments.specs.Usage.{IsUsageFault}
 use Rattle.ctd_report.specs.Report.{Report, check_report, load_report, usage_report}
 
 -- the data are exactly these bytes, and no read of them fails

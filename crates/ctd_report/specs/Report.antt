@@ -7,8 +7,8 @@ use Rattle.ctd_outcome.specs.ReasonText.{fault_text, reason_text}
 use Rattle.ctd_outcome.specs.OutcomeText.{site_text}
 use Rattle.ctd_outcome.specs.declared.outcome.Outcome.{Outcome}
 use Rattle.ctd_outcome.specs.declared.outcome.Outcome.TheVariants.{Accepted, Rejected, Stopped}
-use Rattle.ctd_words.specs.declared.setup.UsageFault.{UsageFault}
-use Rattle.ctd_words.specs.declared.setup.UsageFault.TheVariants as usage
+use Rattle.ctd_arguments.specs.declared.setup.UsageFault.{UsageFault}
+use Rattle.ctd_arguments.specs.declared.setup.UsageFault.TheVariants as usage
 
 -- what is written to standard output and to standard error, and the status
 pub record Report : Type 0 where

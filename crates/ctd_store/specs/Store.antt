@@ -5,9 +5,9 @@ use Rattle.std.specs.FinMap.{find, put, is_sorted}
 use Rattle.std.specs.declared.cmp.Ordering.{Ordering}
 use Rattle.std.specs.declared.cmp.Ordering.TheVariants.{Greater}
 use Rattle.std.specs.Ordering.{ordering_then}
-use Rattle.ctd_tree.specs.declared.preset.Literal.{Literal}
-use Rattle.ctd_tree.specs.declared.preset.Literal.TheVariants as literals
-use Rattle.ctd_tree.specs.declared.preset.Preset.{Preset}
+use Rattle.ctd_program.specs.declared.preset.Literal.{Literal}
+use Rattle.ctd_program.specs.declared.preset.Literal.TheVariants as literals
+use Rattle.ctd_program.specs.declared.preset.Preset.{Preset}
 use Rattle.ctd_store.specs.declared.value.Value.{Value}
 use Rattle.ctd_store.specs.declared.value.Value.TheVariants as values
 use Rattle.ctd_store.specs.Order.{bytes_cmp, values_cmp, same_bytes, same_values}

@@ -15,7 +15,7 @@ use crate::row_and_map::Row;
 use crate::value::{Key, Value};
 use crate::variables::{Variables, has_value};
 use ctd_token::{Bytes, Name};
-use ctd_tree::{Literal, Preset, Presets};
+use ctd_program::{Literal, Preset, Presets};
 use std::alloc::{AllocError, Global};
 use std::marker::Model;
 

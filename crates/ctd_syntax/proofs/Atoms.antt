@@ -1,8 +1,8 @@
 -- Signs, powers and atoms are told by the next token.
 use Rattle.std.proofs.Common.{◌≡◌, ℕ, ◌<◌, List, [], ◌∷◌, ◌++◌, refl, sym, ap, ◌∙◌, subst, append_assoc, arith, ◌⊎◌, inl, inr, ℤ, Bool, true, false}
 use Rattle.ctd_syntax.specs.Lexeme.{Lexeme, keyword, mark}
-use Rattle.ctd_tree.specs.Tree
-use Rattle.ctd_tree.specs.Tree.{ExprTree, ExprList, VarTree}
+use Rattle.ctd_program.specs.Tree
+use Rattle.ctd_program.specs.Tree.{ExprTree, ExprList, VarTree}
 use Rattle.ctd_syntax.specs.Grammar.{IsExpr, IsSigned, unsigned, minus, IsPower, atom, power, IsExponent, positive, negative, IsAtom, numeral, text, variable, strlen, group, IsTarget, IsVariable, unindexed, indexed, IsExprs}
 use Rattle.ctd_syntax.specs.Front.{Found, NotFound, Always, IsBefore}
 use Rattle.ctd_syntax.specs.Levels.{ends}

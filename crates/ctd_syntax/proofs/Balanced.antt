@@ -1,7 +1,7 @@
 -- The tokens of an expression, a test or a list open what they close, and no command begins among them.
 use Rattle.std.proofs.Common.{◌≡◌, List, [], ◌∷◌, ◌++◌, ℕ, Option, refl, subst, append_assoc}
 use Rattle.ctd_syntax.specs.Lexeme.{Lexeme, mark, keyword}
-use Rattle.ctd_tree.specs.Tree.{ExprTree, ExprList, VarTree, TestTree}
+use Rattle.ctd_program.specs.Tree.{ExprTree, ExprList, VarTree, TestTree}
 use Rattle.ctd_syntax.specs.Grammar
 use Rattle.ctd_syntax.specs.Grammar.{IsExpr, IsProduct, IsSigned, IsPower, IsExponent, IsAtom, IsVariable, IsExprs, IsNames, IsTest, IsBoth, IsNegated, IsSimpleTest, IsTargetEnd, IsAssignments, compare_mark}
 use Rattle.ctd_syntax.specs.Nesting.{change_of}
@@ -9,8 +9,8 @@ use Rattle.ctd_token.specs.declared.text.Place.{Place}
 use Rattle.ctd_syntax.specs.declared.nesting.Change.{Change}
 use Rattle.ctd_syntax.specs.declared.nesting.Change.TheVariants.{Opens, Closes, Restarts, Grows, Keeps}
 use Rattle.ctd_token.specs.declared.token.Mark.TheVariants.{Open, Close, OpenIndex, CloseIndex, Comma, Assign, Plus, Minus, Times, Divide, Percent, Caret, Bang, OrOr, AndAnd}
-use Rattle.ctd_tree.specs.declared.tree.Compare.{Compare}
-use Rattle.ctd_tree.specs.declared.tree.Compare.TheVariants.{Less, Greater, AtMost, AtLeast, Equal, Unequal}
+use Rattle.ctd_program.specs.declared.tree.Compare.{Compare}
+use Rattle.ctd_program.specs.declared.tree.Compare.TheVariants.{Less, Greater, AtMost, AtLeast, Equal, Unequal}
 use Rattle.ctd_syntax.specs.declared.keyword.Keyword.{Keyword}
 use Rattle.ctd_syntax.specs.declared.keyword.Keyword.TheVariants as words
 

@@ -2,9 +2,9 @@
 use Rattle.std.proofs.Common.{◌≡◌, ℕ, zero, suc, List, [], ◌∷◌, ◌++◌, Bool, true, false, if◌then◌else◌, Option, refl, sym, ap, ◌∙◌, subst, append_assoc, append-nil}
 use Rattle.std.proofs.lemmas.List.{append_cancel_right}
 use Rattle.ctd_syntax.specs.Lexeme.{Lexeme, mark, keyword}
-use Rattle.ctd_tree.specs.Tree
-use Rattle.ctd_tree.specs.Tree.{VarTree, CommandTree, CommandList, Separator}
-use Rattle.ctd_tree.proofs.Trees.{joined}
+use Rattle.ctd_program.specs.Tree
+use Rattle.ctd_program.specs.Tree.{VarTree, CommandTree, CommandList, Separator}
+use Rattle.ctd_program.proofs.Trees.{joined}
 use Rattle.ctd_syntax.specs.Grammar
 use Rattle.ctd_syntax.specs.Grammar.{IsTargetEnd, IsCommand, IsRepeated, IsBranches, IsCommands}
 use Rattle.ctd_syntax.specs.Front.{Found, Always}

@@ -1,9 +1,9 @@
 -- A command is told by its word, and a list of commands ends where no word of a command follows.
 use Rattle.std.proofs.Common.{◌≡◌, ◌⊎◌, inl, inr, ℕ, List, [], ◌∷◌, ◌++◌, true, false, Option, Some, None, refl, sym, ap, ◌∙◌, subst, append_assoc, append-nil, arith}
 use Rattle.ctd_syntax.specs.Lexeme.{Lexeme, mark, keyword}
-use Rattle.ctd_tree.proofs.Trees.{joined}
-use Rattle.ctd_tree.specs.Tree
-use Rattle.ctd_tree.specs.Tree.{VarTree, GuardTree, CommandTree, CommandList, Separator}
+use Rattle.ctd_program.proofs.Trees.{joined}
+use Rattle.ctd_program.specs.Tree
+use Rattle.ctd_program.specs.Tree.{VarTree, GuardTree, CommandTree, CommandList, Separator}
 use Rattle.ctd_syntax.specs.Grammar
 use Rattle.ctd_syntax.specs.Grammar.{IsTarget, IsTargetEnd, IsCommand, IsCommands, IsRepeated, IsBranches}
 use Rattle.ctd_syntax.specs.Front.{Found, NotFound, Always, IsBefore, IsAfter, IsBuilt, IsPair, Spelling, Following}

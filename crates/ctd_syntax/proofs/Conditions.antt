@@ -1,8 +1,8 @@
 -- A test without operators is told by its first token, and a parenthesis by what it holds.
 use Rattle.std.proofs.Common.{◌≡◌, ℕ, ◌<◌, List, [], ◌∷◌, ◌++◌, Some, None, refl, sym, ap, ◌∙◌, subst, append_assoc, arith, Bool, true, false}
 use Rattle.ctd_syntax.specs.Lexeme.{Lexeme, mark, keyword}
-use Rattle.ctd_tree.specs.Tree
-use Rattle.ctd_tree.specs.Tree.{ExprTree, ExprList, TestTree}
+use Rattle.ctd_program.specs.Tree
+use Rattle.ctd_program.specs.Tree.{ExprTree, ExprList, TestTree}
 use Rattle.ctd_syntax.specs.Grammar
 use Rattle.ctd_syntax.specs.Grammar.{IsExpr, IsProduct, IsSigned, IsPower, IsAtom, IsVariable, IsNames, IsTest, IsNegated, IsSimpleTest, compare_mark}
 use Rattle.ctd_syntax.specs.Front.{Found, NotFound, Always, IsBefore, IsAfter, IsPair, IsName, Spelling, operator_at, after_operator}
@@ -10,8 +10,8 @@ use Rattle.ctd_syntax.specs.Levels.{binding, ends}
 use Rattle.ctd_syntax.specs.Tests.{question, IsTestCall, IsLeft, IsCompared, compare_operator, holds_test}
 use Rattle.ctd_token.specs.declared.token.Mark.TheVariants.{Open, Close, Comma, Plus, Minus, Times, Divide, Percent, Caret, Bang}
 use Rattle.ctd_token.specs.declared.token.Mark.TheVariants as marks
-use Rattle.ctd_tree.specs.declared.tree.Compare.{Compare}
-use Rattle.ctd_tree.specs.declared.tree.Compare.TheVariants.{Less, Greater, AtMost, AtLeast, Equal, Unequal}
+use Rattle.ctd_program.specs.declared.tree.Compare.{Compare}
+use Rattle.ctd_program.specs.declared.tree.Compare.TheVariants.{Less, Greater, AtMost, AtLeast, Equal, Unequal}
 use Rattle.ctd_syntax.specs.declared.keyword.Keyword.{Keyword}
 use Rattle.ctd_syntax.specs.declared.keyword.Keyword.TheVariants.{Match, IsEof, Unique, InArray, Strlen}
 use Rattle.ctd_syntax.proofs.Chains.{operator_is}

@@ -1,13 +1,13 @@
 -- Parentheses hold a test or an expression, and the tokens between them tell which.
 use Rattle.std.proofs.Common.{◌≡◌, ℕ, suc, List, [], ◌∷◌, ◌++◌, Some, refl, ap, ◌∙◌, append_assoc, Bool, true, false}
 use Rattle.ctd_syntax.specs.Lexeme.{Lexeme, mark}
-use Rattle.ctd_tree.specs.Tree.{ExprTree, ExprList, TestTree}
+use Rattle.ctd_program.specs.Tree.{ExprTree, ExprList, TestTree}
 use Rattle.ctd_syntax.specs.Grammar
 use Rattle.ctd_syntax.specs.Grammar.{IsExpr, IsProduct, IsSigned, IsPower, IsExponent, IsAtom, IsVariable, IsExprs, IsTest, IsBoth, IsNegated, IsSimpleTest, compare_mark}
 use Rattle.ctd_syntax.specs.Tests.{holds_test}
 use Rattle.ctd_token.specs.declared.token.Mark.TheVariants.{Open, Close, Plus, Minus, Times, Divide, Percent, Caret, Comma, CloseIndex, OrOr, AndAnd}
-use Rattle.ctd_tree.specs.declared.tree.Compare.{Compare}
-use Rattle.ctd_tree.specs.declared.tree.Compare.TheVariants.{Less, Greater, AtMost, AtLeast, Equal, Unequal}
+use Rattle.ctd_program.specs.declared.tree.Compare.{Compare}
+use Rattle.ctd_program.specs.declared.tree.Compare.TheVariants.{Less, Greater, AtMost, AtLeast, Equal, Unequal}
 
 -- whether a test stands within so many parentheses
 abbrev H : ℕ → List Lexeme → Bool

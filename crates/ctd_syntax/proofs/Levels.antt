@@ -1,7 +1,7 @@
 -- Sums and products are levels of operators.
 use Rattle.std.proofs.Common.{◌≡◌, ℕ, ◌<◌, List, [], ◌∷◌, ◌++◌, Option, Some, None, refl, sym, ap, ◌∙◌, subst, append_assoc, append-nil, arith}
 use Rattle.ctd_syntax.specs.Lexeme.{Lexeme, mark}
-use Rattle.ctd_tree.specs.Tree.{ExprTree}
+use Rattle.ctd_program.specs.Tree.{ExprTree}
 use Rattle.ctd_syntax.specs.Grammar.{IsExpr, product, sum, difference, IsProduct, signed, times, quotient, remainder, IsSigned}
 use Rattle.ctd_syntax.specs.Front.{after_operator, operator_at}
 use Rattle.ctd_syntax.specs.Levels.{binding, ends, sum_operator, product_operator, join}

@@ -2,13 +2,13 @@
 use Rattle.std.proofs.Common.{◌≡◌, ◌⊎◌, inl, inr, ℕ, ◌+◌, List, [], ◌∷◌, ◌++◌, length, Option, refl, sym, ap, ap₂, ◌∙◌, subst, append_assoc, append-nil, arith}
 use Rattle.std.specs.List.{range_with_len}
 use Rattle.std.proofs.lemmas.List.{map-append, length-map}
-use Rattle.ctd_tree.specs.declared.tree.PatternLiteral.{PatternLiteral}
+use Rattle.ctd_program.specs.declared.tree.PatternLiteral.{PatternLiteral}
 use Rattle.ctd_syntax.specs.declared.keyword.Keyword.{Keyword}
 use Rattle.ctd_syntax.specs.declared.keyword.Keyword.TheVariants as words
 use Rattle.ctd_token.specs.declared.token.Token.{Token}
 use Rattle.ctd_token.specs.declared.token.Mark.TheVariants.{Close, CloseIndex, Comma}
 use Rattle.ctd_syntax.specs.Lexeme.{Lexeme, mark, keyword, lexeme_of, with_number, regex_count, numbered_word, word_count}
-use Rattle.ctd_tree.specs.Tree.{VarTree, CommandTree, CommandList, Separator}
+use Rattle.ctd_program.specs.Tree.{VarTree, CommandTree, CommandList, Separator}
 use Rattle.ctd_syntax.specs.Grammar
 use Rattle.ctd_syntax.specs.Grammar.{IsTargetEnd, IsCommand, IsRepeated, IsBranches, IsCommands}
 use Rattle.ctd_syntax.specs.Numbering.{command_literals, separator_literals, literals, numbers_of, IsNumbered}

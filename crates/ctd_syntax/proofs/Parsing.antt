@@ -2,7 +2,7 @@
 use Rattle.std.proofs.Common.{◌≡◌, ℕ, List, [], ◌∷◌, ◌++◌, length, None, true, false, refl, sym, ap, ◌∙◌, subst, append-nil, arith, eqb-true}
 use Rattle.std.specs.Prelude.{map, ◌==◌}
 use Rattle.ctd_syntax.specs.Lexeme.{Lexeme}
-use Rattle.ctd_tree.specs.Tree.{CommandList}
+use Rattle.ctd_program.specs.Tree.{CommandList}
 use Rattle.ctd_syntax.specs.Front.{Found, NotFound}
 use Rattle.ctd_syntax.specs.Grammar.{IsCommands}
 use Rattle.ctd_syntax.specs.CommandWords.{CommandsEnd}

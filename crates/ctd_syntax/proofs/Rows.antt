@@ -2,14 +2,14 @@
 use Rattle.std.proofs.Common.{◌≡◌, ℕ, List, [], ◌∷◌, ◌++◌, Option, Some, None, refl, sym, ap, ◌∙◌, subst, append_assoc, append-nil, arith}
 use Rattle.std.specs.Prelude.{map}
 use Rattle.ctd_syntax.specs.Lexeme.{Lexeme, mark}
-use Rattle.ctd_tree.specs.Tree
-use Rattle.ctd_tree.specs.Tree.{ExprTree, ExprList}
+use Rattle.ctd_program.specs.Tree
+use Rattle.ctd_program.specs.Tree.{ExprTree, ExprList}
 use Rattle.ctd_syntax.specs.Grammar.{IsExpr, IsExprs, IsNames, one, more}
 use Rattle.ctd_syntax.specs.Grammar as grammar
 use Rattle.ctd_syntax.specs.Front.{Found, NotFound, Spelling, Following, Always, IsBefore, IsName, operator_at}
 use Rattle.ctd_syntax.specs.Levels.{ends}
-use Rattle.ctd_tree.specs.View.{expr_tree, expr_list}
-use Rattle.ctd_tree.specs.declared.tree.Expr.{Expr}
+use Rattle.ctd_program.specs.View.{expr_tree, expr_list}
+use Rattle.ctd_program.specs.declared.tree.Expr.{Expr}
 use Rattle.ctd_token.specs.declared.token.Mark.{Mark}
 use Rattle.ctd_token.specs.declared.token.Mark.TheVariants.{Comma, Close, CloseIndex}
 use Rattle.ctd_syntax.proofs.Chains.{Chain, stop, step, Level, Partly, start, no_start, next, no_next, finish}

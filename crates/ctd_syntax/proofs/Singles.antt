@@ -1,7 +1,7 @@
 -- An atom is a product where no tighter operator stands before it or behind it.
 use Rattle.std.proofs.Common.{◌≡◌, ◌<◌, List, ◌∷◌, subst, arith}
 use Rattle.ctd_syntax.specs.Lexeme.{Lexeme, mark}
-use Rattle.ctd_tree.specs.Tree.{ExprTree}
+use Rattle.ctd_program.specs.Tree.{ExprTree}
 use Rattle.ctd_syntax.specs.Grammar.{IsAtom, IsProduct}
 use Rattle.ctd_syntax.specs.Front.{Found}
 use Rattle.ctd_syntax.specs.Levels.{ends}

@@ -2,10 +2,10 @@
 use Rattle.std.proofs.Common.{◌≡◌, ℕ, ◌+◌, ◌≤◌, List, [], ◌∷◌, ◌++◌, length, arith, Option, Some, None, option_map, Bool, false, if◌then◌else◌, nat_lt, refl, sym, ap, ◌∙◌, subst, append_assoc, append-nil}
 use Rattle.std.proofs.lemmas.Bool.{le-ltb}
 use Rattle.ctd_syntax.specs.Lexeme.{Lexeme}
-use Rattle.ctd_tree.specs.Tree
-use Rattle.ctd_tree.specs.View.{command_tree, command_trees}
-use Rattle.ctd_tree.specs.declared.tree.Command.{Command}
-use Rattle.ctd_tree.proofs.Trees.{joined}
+use Rattle.ctd_program.specs.Tree
+use Rattle.ctd_program.specs.View.{command_tree, command_trees}
+use Rattle.ctd_program.specs.declared.tree.Command.{Command}
+use Rattle.ctd_program.proofs.Trees.{joined}
 use Rattle.ctd_token.specs.Lexing.{IsEnd}
 use Rattle.ctd_token.specs.declared.limits.TheConstants.{NESTING_LIMIT, PROGRAM_LIMIT}
 use Rattle.ctd_syntax.specs.Nesting.{change_of, step, start, weight, too_deep}

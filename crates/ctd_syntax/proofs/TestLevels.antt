@@ -1,8 +1,8 @@
 -- `||` and `&&` are levels of operators.
 use Rattle.std.proofs.Common.{◌≡◌, ◌<◌, List, [], ◌∷◌, ◌++◌, Option, Some, None, refl, sym, ap, ◌∙◌, subst, append_assoc, append-nil, arith}
 use Rattle.ctd_syntax.specs.Lexeme.{Lexeme, mark}
-use Rattle.ctd_tree.specs.Tree
-use Rattle.ctd_tree.specs.Tree.{TestTree}
+use Rattle.ctd_program.specs.Tree
+use Rattle.ctd_program.specs.Tree.{TestTree}
 use Rattle.ctd_syntax.specs.Grammar.{IsTest, both, or, IsBoth, negated, and, IsNegated}
 use Rattle.ctd_syntax.specs.Front.{operator_at}
 use Rattle.ctd_syntax.specs.Levels.{ends}

@@ -7,8 +7,8 @@ use Rattle.ctd_syntax.specs.declared.keyword.Keyword.TheVariants as words
 use Rattle.ctd_syntax.specs.declared.loop_head.LoopWord.{LoopWord}
 use Rattle.ctd_syntax.specs.declared.loop_head.LoopWord.TheVariants.{Rep, RepI, While, WhileI}
 use Rattle.ctd_syntax.specs.Lexeme.{Lexeme, keyword}
-use Rattle.ctd_tree.specs.Tree
-use Rattle.ctd_tree.specs.Tree.{VarTree, GuardTree, CommandTree, CommandList, Separator}
+use Rattle.ctd_program.specs.Tree
+use Rattle.ctd_program.specs.Tree.{VarTree, GuardTree, CommandTree, CommandList, Separator}
 use Rattle.ctd_syntax.specs.Grammar.{IsExpr, IsNames, IsTest, IsTarget, IsTargetEnd, IsAssignments, IsCommand, IsCommands}
 use Rattle.ctd_syntax.specs.Front.{Spelling, Following, IsBefore, IsBeforeWord, IsAfter, IsBuilt, IsPair}
 

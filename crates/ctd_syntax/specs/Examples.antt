@@ -6,7 +6,7 @@ use Rattle.ctd_token.specs.declared.token.Token.{Token}
 use Rattle.ctd_token.specs.declared.text.Place.{Place}
 use Rattle.std.proofs.Common.{lit≤}
 use Rattle.ctd_syntax.specs.declared.keyword.Keyword.TheVariants as words
-use Rattle.ctd_tree.specs.Tree
+use Rattle.ctd_program.specs.Tree
 use Rattle.ctd_syntax.specs.Lexeme.{Lexeme, mark, keyword}
 use Rattle.ctd_syntax.specs.Nesting.{start, too_deep}
 use Rattle.ctd_syntax.specs.Grammar.{IsExpr, IsProduct, IsSigned, IsPower, product, difference, signed, unsigned, minus, atom, power, positive, negative, numeral, space, newline, int, done, then}

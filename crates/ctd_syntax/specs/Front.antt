@@ -6,7 +6,7 @@ use Rattle.ctd_token.specs.declared.token.Mark.{Mark}
 use Rattle.ctd_token.specs.declared.token.Mark.TheVariants.{Assign}
 use Rattle.ctd_token.specs.declared.token.Token.{Token}
 use Rattle.ctd_token.specs.declared.token.TokenKind.TheVariants as tokens
-use Rattle.ctd_tree.specs.Tree.{ExprTree, VarTree, CommandList}
+use Rattle.ctd_program.specs.Tree.{ExprTree, VarTree, CommandList}
 use Rattle.ctd_syntax.specs.Grammar.{IsExpr, IsTarget}
 use Rattle.ctd_syntax.specs.Lexeme.{Lexeme, mark, span_of}
 use Rattle.ctd_syntax.specs.Nesting.{start, too_deep}

@@ -4,8 +4,8 @@ use Rattle.ctd_token.specs.declared.token.Mark.TheVariants.{Plus, Minus, Times, 
 use Rattle.ctd_syntax.specs.declared.expression.Operator.{Operator}
 use Rattle.ctd_syntax.specs.declared.expression.Operator.TheVariants.{Add, Sub, Mul, Div, Rem}
 use Rattle.ctd_syntax.specs.Lexeme.{Lexeme, mark}
-use Rattle.ctd_tree.specs.Tree
-use Rattle.ctd_tree.specs.Tree.{ExprTree}
+use Rattle.ctd_program.specs.Tree
+use Rattle.ctd_program.specs.Tree.{ExprTree}
 
 -- two expressions with an operator between them
 abbrev pub join : Operator → ExprTree → ExprTree → ExprTree

@@ -1,9 +1,9 @@
 -- The literals of REGEX in a program, and their numbers.
 use Rattle.std.specs.Prelude.{◌≡◌, ℕ, List, [], ◌∷◌, ◌++◌, length, map}
 use Rattle.std.specs.List.{range_with_len}
-use Rattle.ctd_tree.specs.declared.tree.PatternLiteral.{PatternLiteral}
-use Rattle.ctd_tree.specs.Tree
-use Rattle.ctd_tree.specs.Tree.{CommandTree, CommandList, Separator}
+use Rattle.ctd_program.specs.declared.tree.PatternLiteral.{PatternLiteral}
+use Rattle.ctd_program.specs.Tree
+use Rattle.ctd_program.specs.Tree.{CommandTree, CommandList, Separator}
 
 -- the literals of a command, those of its separator and of the commands within it too, in the order of the text
 abbrev mutual

@@ -10,7 +10,7 @@ use Rattle.ctd_syntax.specs.Lexeme.{Lexeme, lexeme_of, with_number, regex_count}
 use Rattle.ctd_token.specs.Cut.{Cuts}
 use Rattle.ctd_syntax.specs.Nesting.{start, too_deep}
 use Rattle.ctd_syntax.specs.Grammar.{IsCommands}
-use Rattle.ctd_tree.specs.Tree.{CommandList, list_blocks}
+use Rattle.ctd_program.specs.Tree.{CommandList, list_blocks}
 
 -- the tokens of a program as the grammar sees them, where so many words REGEX stand before
 abbrev pub lexemes_from : List ℕ → ℕ → List Token → List Lexeme

@@ -2,9 +2,9 @@
 use Rattle.std.specs.Prelude.{◌≡◌, ◌+◌, ℕ, List, ◌++◌}
 use Rattle.ctd_token.specs.Lexing.{Uncut, IsNext}
 use Rattle.ctd_token.specs.declared.token.Token.{Token}
-use Rattle.ctd_tree.specs.Tree.{CommandList}
-use Rattle.ctd_tree.specs.View.{command_trees}
-use Rattle.ctd_tree.specs.declared.tree.Command.{Command}
+use Rattle.ctd_program.specs.Tree.{CommandList}
+use Rattle.ctd_program.specs.View.{command_trees}
+use Rattle.ctd_program.specs.declared.tree.Command.{Command}
 use Rattle.ctd_syntax.specs.Grammar.{IsCommands}
 use Rattle.ctd_syntax.specs.Lexeme.{Lexeme, lexeme_of, with_number, regex_count}
 

@@ -4,13 +4,13 @@ use Rattle.ctd_token.specs.declared.token.Mark.TheVariants as marks
 use Rattle.ctd_token.specs.declared.token.Mark.TheVariants.{Open, Close, Comma, Bang, AndAnd, OrOr}
 use Rattle.ctd_syntax.specs.declared.keyword.Keyword.{Keyword}
 use Rattle.ctd_syntax.specs.declared.keyword.Keyword.TheVariants.{Match, IsEof, Unique, InArray}
-use Rattle.ctd_tree.specs.declared.tree.Compare.{Compare}
-use Rattle.ctd_tree.specs.declared.tree.Compare.TheVariants as comparisons
+use Rattle.ctd_program.specs.declared.tree.Compare.{Compare}
+use Rattle.ctd_program.specs.declared.tree.Compare.TheVariants as comparisons
 use Rattle.ctd_syntax.specs.declared.condition.TokenRole.{TokenRole}
 use Rattle.ctd_syntax.specs.declared.condition.TokenRole.TheVariants.{Tests, Opens, Closes, Keeps}
 use Rattle.ctd_syntax.specs.Lexeme.{Lexeme, mark, keyword}
-use Rattle.ctd_tree.specs.Tree
-use Rattle.ctd_tree.specs.Tree.{ExprTree, TestTree}
+use Rattle.ctd_program.specs.Tree
+use Rattle.ctd_program.specs.Tree.{ExprTree, TestTree}
 use Rattle.ctd_syntax.specs.Grammar.{IsExpr, IsNames, compare_mark}
 use Rattle.ctd_syntax.specs.Front.{Spelling, IsAfter, IsBefore, IsPair, IsName}
 use Rattle.ctd_syntax.specs.Levels.{binding}

@@ -3,8 +3,8 @@
 
 ghost use Rattle.std.specs.Prelude.{◌≡◌, ◌≤◌, ◌<◌, ◌∷◌, true, false, length, map, IfOk, IfSome, IfNone};
 ghost use Rattle.ctd_syntax.specs.Lexeme;
-ghost use Rattle.ctd_tree.specs.Tree;
-ghost use Rattle.ctd_tree.specs.View.{action_tree, boxed_separator, boxed_target, command_list, command_tree, expr_tree, guard_tree, target};
+ghost use Rattle.ctd_program.specs.Tree;
+ghost use Rattle.ctd_program.specs.View.{action_tree, boxed_separator, boxed_target, command_list, command_tree, expr_tree, guard_tree, target};
 ghost use Rattle.ctd_syntax.specs.Grammar.{IsExpr, IsTargetEnd, IsCommand, IsCommands};
 ghost use Rattle.ctd_syntax.specs.Front.{FindsTree, Always, IsBefore, IsPair, lexeme};
 ghost use Rattle.ctd_syntax.specs.CommandWords.{IsCommandRest, CommandsEnd, IsBlock, IsBranchEnd, IsLoopEnd, IsLoopRest, command_begins, is_command_word};
@@ -18,7 +18,7 @@ use crate::names::names;
 use crate::parser_token::{ParserToken, string_of};
 use crate::target::{assignments, target_end};
 use ctd_token::{Mark, Place};
-use ctd_tree::{
+use ctd_program::{
     Action, Choice, Command, Commands, Expr, IntArguments, Loop, PatternLiteral, RegexArguments,
     Var,
 };

@@ -4,7 +4,7 @@
 ghost use Rattle.std.specs.Prelude.{◌≡◌, ◌≤◌, ◌<◌, ◌++◌, [], ◌∷◌, ℕ, List, true, false, length, map, drop, IfOk, IfSome, IfNone, Some};
 ghost use Rattle.ctd_syntax.specs.Lexeme;
 ghost use Rattle.ctd_syntax.specs.Lexeme.{Lexeme};
-ghost use Rattle.ctd_tree.specs.View.{expr_tree, test_tree};
+ghost use Rattle.ctd_program.specs.View.{expr_tree, test_tree};
 ghost use Rattle.ctd_syntax.specs.Grammar.{IsTest, IsBoth, IsNegated, IsSimpleTest};
 ghost use Rattle.ctd_syntax.specs.Front.{FindsTree, Always, IsBefore, IsName, StartsWith, lexeme};
 ghost use Rattle.ctd_syntax.specs.Levels.{ends};
@@ -16,7 +16,7 @@ use crate::keyword::Keyword;
 use crate::names::names;
 use crate::parser_token::ParserToken;
 use ctd_token::{Mark, Name};
-use ctd_tree::{Compare, Expr, Test};
+use ctd_program::{Compare, Expr, Test};
 use std::alloc::{AllocError, Global};
 
 // What a token says of the parentheses that it stands in.

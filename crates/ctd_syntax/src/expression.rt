@@ -2,8 +2,8 @@
 //! A tree that is not wanted is given to `drop` explicitly: an implicit drop is unfolded variant by variant in the proof.
 
 ghost use Rattle.std.specs.Prelude.{◌≡◌, ◌≤◌, ◌<◌, true, length, map, IfOk, IfSome};
-ghost use Rattle.ctd_tree.specs.Tree;
-ghost use Rattle.ctd_tree.specs.View.{expr_tree, expr_list, exprs_of, var_tree};
+ghost use Rattle.ctd_program.specs.Tree;
+ghost use Rattle.ctd_program.specs.View.{expr_tree, expr_list, exprs_of, var_tree};
 ghost use Rattle.ctd_syntax.specs.Grammar.{IsExpr, IsProduct, IsSigned, IsPower, IsExponent, IsAtom, IsExprs, IsTarget};
 ghost use Rattle.ctd_syntax.specs.Front.{FindsTree, Found, Always, IsBefore, StartsWith, lexeme};
 ghost use Rattle.ctd_syntax.specs.Levels.{binding, ends, sum_operator, product_operator, join};
@@ -13,7 +13,7 @@ use crate::front::{ParseError, after_mark, name_at};
 use crate::keyword::Keyword;
 use crate::parser_token::{ParserToken, string_of};
 use ctd_token::{Mark, Name};
-use ctd_tree::{Element, Expr, Exprs, Numeral, Var};
+use ctd_program::{Element, Expr, Exprs, Numeral, Var};
 use std::alloc::{AllocError, Global};
 
 // The operators that join two expressions.

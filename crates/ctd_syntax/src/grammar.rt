@@ -4,7 +4,7 @@ ghost use Rattle.std.specs.Prelude.{◌≡◌, ◌≤◌, ◌<◌, None, length,
 ghost use Rattle.ctd_syntax.specs.Front.{lexeme, AreLexemes, NestsTooDeep, SpellsNone};
 ghost use Rattle.ctd_syntax.specs.Numbering.{IsNumbered};
 ghost use Rattle.ctd_syntax.specs.Reading.{IsFault, Parses};
-ghost use Rattle.ctd_tree.specs.View.{command_trees};
+ghost use Rattle.ctd_program.specs.View.{command_trees};
 
 use crate::command::commands;
 use crate::front::ParseError;
@@ -12,7 +12,7 @@ use crate::nesting::first_too_deep;
 use crate::parser_token::{ParserToken, parser_tokens};
 use crate::stretches::program_in_stretches;
 use ctd_token::{LoadFault, LoadKind, PROGRAM_LIMIT, Place, Token, advance, tokens};
-use ctd_tree::Program;
+use ctd_program::Program;
 use std::alloc::Global;
 
 // The place of the first of the last `left` tokens, or the end of the text.

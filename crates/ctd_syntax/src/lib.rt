@@ -1,5 +1,5 @@
 //! From the text of a program to its tree. It passes on the tokens, places and faults of `ctd_token`, and the trees and presets of
-//! `ctd_tree`.
+//! `ctd_program`.
 #![tactic(auto)]
 
 mod command;
@@ -19,7 +19,7 @@ pub use ctd_token::{
     Bytes, LoadFault, LoadKind, Mark, NESTING_LIMIT, Name, PROGRAM_LIMIT, Place, Token, TokenKind,
     tokens, tokens_are_longest, tokens_are_unique,
 };
-pub use ctd_tree::{
+pub use ctd_program::{
     Action, Assignment, Assignments, Choice, Command, Commands, Compare, Element, Expr, Exprs,
     IntArguments, Literal, Literals, Loop, LoopGuard, Names, Numeral, PatternLiteral, Preset,
     PresetFault, Presets, Program, RegexArguments, Test, Var,

@@ -2,7 +2,7 @@
 //! A tree that is not wanted is given to `drop` explicitly: an implicit drop is unfolded variant by variant in the proof.
 
 ghost use Rattle.std.specs.Prelude.{◌≤◌, ◌<◌, length, map, IfOk};
-ghost use Rattle.ctd_tree.specs.View.{boxed_target, guard_tree};
+ghost use Rattle.ctd_program.specs.View.{boxed_target, guard_tree};
 ghost use Rattle.ctd_syntax.specs.Front.{FindsTree, Always, lexeme};
 ghost use Rattle.ctd_syntax.specs.Tests.{test_ends};
 ghost use Rattle.ctd_syntax.specs.CommandWords.{IsCounter, IsGuard, IsLoopHead};
@@ -13,7 +13,7 @@ use crate::front::{ParseError, after_open};
 use crate::parser_token::ParserToken;
 use crate::target::target_before;
 use ctd_token::Mark;
-use ctd_tree::{LoopGuard, Var};
+use ctd_program::{LoopGuard, Var};
 use std::alloc::Global;
 
 /// The word of a loop.

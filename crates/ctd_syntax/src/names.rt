@@ -1,14 +1,14 @@
 //! From tokens to lists of names (checktestdata language specification, grammar).
 
 ghost use Rattle.std.specs.Prelude.{◌≤◌, length, map, IfOk};
-ghost use Rattle.ctd_tree.specs.View.{names_of};
+ghost use Rattle.ctd_program.specs.View.{names_of};
 ghost use Rattle.ctd_syntax.specs.Grammar.{IsNames};
 ghost use Rattle.ctd_syntax.specs.Front.{FindsTree, Always, IsBefore, lexeme};
 
 use crate::front::{ParseError, after_mark, name_at};
 use crate::parser_token::ParserToken;
 use ctd_token::{Mark, Name};
-use ctd_tree::Names;
+use ctd_program::Names;
 use std::alloc::Global;
 
 /// The names at the front, with commas between them, and the parenthesis behind them, and what

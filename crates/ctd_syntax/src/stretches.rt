@@ -6,14 +6,14 @@ ghost use Rattle.ctd_syntax.specs.Front.{lexeme};
 ghost use Rattle.ctd_syntax.specs.Numbering.{IsNumbered};
 ghost use Rattle.ctd_syntax.specs.Reading.{Parses};
 ghost use Rattle.ctd_syntax.specs.Stretches.{ReadsOff};
-ghost use Rattle.ctd_tree.specs.View.{command_trees};
+ghost use Rattle.ctd_program.specs.View.{command_trees};
 
 use crate::command::command;
 use crate::front::ParseError;
 use crate::nesting::Nesting;
 use crate::parser_token::{ParserToken, ParserTokens};
 use ctd_token::{LoadFault, LoadKind, PROGRAM_LIMIT};
-use ctd_tree::{Command, Commands, Program};
+use ctd_program::{Command, Commands, Program};
 use std::alloc::{AllocError, Global};
 
 // How many tokens a stretch has at least, but for the last.

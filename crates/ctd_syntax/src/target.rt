@@ -3,7 +3,7 @@
 
 ghost use Rattle.std.specs.Prelude.{◌≡◌, ◌≤◌, length, map, IfOk};
 ghost use Rattle.ctd_syntax.specs.Lexeme;
-ghost use Rattle.ctd_tree.specs.View.{assignment, assignments_of, target, var_tree};
+ghost use Rattle.ctd_program.specs.View.{assignment, assignments_of, target, var_tree};
 ghost use Rattle.ctd_syntax.specs.Grammar.{IsTarget, IsTargetEnd, IsAssignments};
 ghost use Rattle.ctd_syntax.specs.Front.{FindsTree, Always, IsAssignment, IsBefore, lexeme};
 ghost use Rattle.ctd_syntax.specs.Levels.{binding, ends};
@@ -12,7 +12,7 @@ use crate::expression::{expr, variable};
 use crate::front::{ParseError, after_mark};
 use crate::parser_token::ParserToken;
 use ctd_token::Mark;
-use ctd_tree::{Assignment, Assignments, Var};
+use ctd_program::{Assignment, Assignments, Var};
 use std::alloc::Global;
 
 /// The variable at the front and a mark behind it, and what follows the mark.

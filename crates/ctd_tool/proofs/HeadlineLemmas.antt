@@ -9,11 +9,11 @@ use Rattle.ctd_token.specs.declared.fault.LoadFault.{LoadFault}
 use Rattle.ctd_token.specs.declared.fault.LoadKind.TheVariants.{Memory}
 use Rattle.ctd_token.specs.declared.limits.TheConstants.{PROGRAM_LIMIT}
 use Rattle.ctd_outcome.specs.declared.outcome.Checked.{Checked}
-use Rattle.ctd_tree.specs.Tree.{CommandList}
-use Rattle.ctd_plan.specs.Loading.{LoadsFrom}
+use Rattle.ctd_program.specs.Tree.{CommandList}
+use Rattle.ctd_loader.specs.Loading.{LoadsFrom}
 use Rattle.ctd_check.specs.Run.{meaning}
 use Rattle.ctd_check.specs.Checks.{FindsMeaning, IsAhead}
-use Rattle.ctd_words.specs.declared.setup.Setup.{Setup}
+use Rattle.ctd_arguments.specs.declared.setup.Setup.{Setup}
 use Rattle.ctd_report.specs.Report.{check_report, load_report}
 use Rattle.ctd_tool.specs.Headline.{call, IsReport}
 

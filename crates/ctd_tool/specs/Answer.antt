@@ -6,13 +6,13 @@ use Rattle.ctd_source.specs.declared.from_read.FromRead.{FromRead}
 use Rattle.ctd_source.specs.declared.source.Source.{Ghosts}
 use Rattle.ctd_tool.specs.declared.files.Sources.{Sources}
 use Rattle.ctd_report.specs.declared.sink.Sink as sinks
-use Rattle.ctd_words.specs.declared.setup.Setup.{Setup}
-use Rattle.ctd_words.specs.declared.setup.UsageFault.{UsageFault}
-use Rattle.ctd_words.specs.declared.setup.UsageFault.TheVariants.{Memory, Words}
+use Rattle.ctd_arguments.specs.declared.setup.Setup.{Setup}
+use Rattle.ctd_arguments.specs.declared.setup.UsageFault.{UsageFault}
+use Rattle.ctd_arguments.specs.declared.setup.UsageFault.TheVariants.{Memory, Words}
 use Rattle.ctd_tool.specs.Files.{Visit, visit, IsFilesReport}
 use Rattle.ctd_report.specs.Report.{Report, usage_report}
-use Rattle.ctd_words.specs.Settings.{IsSetup}
-use Rattle.ctd_words.specs.Usage.{IsUsageFault}
+use Rattle.ctd_arguments.specs.Settings.{IsSetup}
+use Rattle.ctd_arguments.specs.Usage.{IsUsageFault}
 use Rattle.ctd_report.specs.Written.{Change, WritesAll, BreaksOff}
 
 -- one of these reports was written whole, and the status is its own; or a stream failed in it, and the status is 2

@@ -8,7 +8,7 @@ use Rattle.ctd_source.specs.declared.from_read.FromRead.{FromRead}
 use Rattle.ctd_source.specs.declared.source.Source.{Ghosts}
 use Rattle.ctd_source.specs.declared.source.Seen.TheVariants.{Going}
 use Rattle.ctd_tool.specs.declared.files.Sources.{Sources}
-use Rattle.ctd_words.specs.declared.setup.Setup.{Setup}
+use Rattle.ctd_arguments.specs.declared.setup.Setup.{Setup}
 use Rattle.ctd_tool.specs.Headline.{IsReport, call}
 use Rattle.ctd_report.specs.Report.{Report, open_report}
 

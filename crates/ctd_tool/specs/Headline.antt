@@ -7,10 +7,10 @@ use Rattle.ctd_source.specs.Agreement.{Agrees}
 use Rattle.ctd_source.specs.CursorState.{Gave}
 use Rattle.ctd_token.specs.declared.fault.LoadFault.{LoadFault}
 use Rattle.ctd_token.specs.declared.limits.TheConstants.{PROGRAM_LIMIT}
-use Rattle.ctd_tree.specs.Tree.{CommandList}
-use Rattle.ctd_plan.specs.Loading.{Loads, MayFail}
+use Rattle.ctd_program.specs.Tree.{CommandList}
+use Rattle.ctd_loader.specs.Loading.{Loads, MayFail}
 use Rattle.ctd_check.specs.Run.{Meaning, meaning}
-use Rattle.ctd_words.specs.declared.setup.Setup.{Setup}
+use Rattle.ctd_arguments.specs.declared.setup.Setup.{Setup}
 use Rattle.ctd_report.specs.Report.{Report, check_report, load_report}
 
 -- a source as a call begins and as it ends

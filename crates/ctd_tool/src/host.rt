@@ -2,14 +2,14 @@
 
 ghost use Rattle.std.specs.Prelude.{◌≡◌, ◌⊎◌, ℕ, false, List, Result, IfErr};
 ghost use Rattle.ctd_tool.specs.Answer.{EndsProcess};
-ghost use Rattle.ctd_words.specs.declared.setup.UsageFault.{UsageFault};
+ghost use Rattle.ctd_arguments.specs.declared.setup.UsageFault.{UsageFault};
 ghost use Rattle.ctd_report.specs.Written.{change};
 
 use crate::files::Files;
 use crate::run::{run_words, usage_status};
 use ctd_check::{Bytes, FromRead, Source};
 use ctd_report::{Sink, ToWrite};
-use ctd_words::UsageFault;
+use ctd_arguments::UsageFault;
 use std::alloc::{AllocError, Global};
 use std::fs::File;
 use std::io::{self, BufReader, ErrorKind, Read, Stderr, Stdin, Stdout};

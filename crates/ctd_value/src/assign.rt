@@ -1,7 +1,7 @@
 //! Values for variables (checktestdata language specification, SET).
 
 ghost use Rattle.std.specs.Prelude.{◌≡◌, ◌≢◌, true, false, Ok, Err, IfSome, IfNone, OnErr};
-ghost use Rattle.ctd_tree.specs.View.{expr_tree, var_tree};
+ghost use Rattle.ctd_program.specs.View.{expr_tree, var_tree};
 ghost use Rattle.ctd_store.specs.Lent.{value_lent};
 ghost use Rattle.ctd_store.specs.declared.value.Value.TheVariants as values;
 ghost use Rattle.ctd_value.specs.Fault.{Gives};
@@ -12,7 +12,7 @@ use crate::expression::{eval, index_values, plain_number, small};
 use crate::fault::EvalFault;
 use ctd_store::{Lent, Store, Value};
 use ctd_token::Bytes;
-use ctd_tree::{Expr, Var};
+use ctd_program::{Expr, Var};
 use std::alloc::Global;
 
 /// Gives a variable a value, once its indices are evaluated; a pinned variable stays as it is. After a fault the variables

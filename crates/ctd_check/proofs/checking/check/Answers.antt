@@ -1,5 +1,5 @@
 use Rattle.std.proofs.Common.{◌-◌, ◌++◌, ◌∷◌, [], ap, ◌∙◌, sym, rules}
-use Rattle.ctd_tree.specs.View.{command_trees}
+use Rattle.ctd_program.specs.View.{command_trees}
 use Rattle.ctd_store.specs.Store.{initial}
 use Rattle.ctd_command.specs.Performs.{state}
 use Rattle.ctd_check.specs.Loops.{tasks, finish}

@@ -1,6 +1,6 @@
 use Rattle.std.proofs.Common.{max, arith, refl}
-use Rattle.ctd_tree.specs.Tree.{list_blocks}
-use Rattle.ctd_tree.specs.View.{command_list}
+use Rattle.ctd_program.specs.Tree.{list_blocks}
+use Rattle.ctd_program.specs.View.{command_list}
 use Rattle.ctd_syntax.specs.Numbering.{literals}
 use Rattle.ctd_command.proofs.Acts.{and_then, early_answering, given_as}
 use Rattle.ctd_check.specs.Pending.{left_tasks}

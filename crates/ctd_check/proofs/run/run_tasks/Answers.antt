@@ -1,6 +1,6 @@
 use Rattle.std.proofs.Common.{◌∷◌, arith, ap, sym, ◌∙◌, refl, Err}
 use Rattle.ctd_source.proofs.AdvanceLemmas.{advances_so, advances_both}
-use Rattle.ctd_tree.specs.View.{command_tree}
+use Rattle.ctd_program.specs.View.{command_tree}
 use Rattle.ctd_command.specs.Performs.{state}
 use Rattle.ctd_check.specs.Loops.{start}
 use Rattle.ctd_check.specs.Run.{run}

@@ -1,5 +1,5 @@
 use Rattle.std.specs.Prelude.{map}
-use Rattle.ctd_tree.specs.Tree
+use Rattle.ctd_program.specs.Tree
 use Rattle.ctd_syntax.specs.Front.{Always, IsBefore, lexeme}
 use Rattle.ctd_syntax.specs.Grammar.{IsAssignments}
 use Rattle.ctd_syntax.specs.CommandWords.{IsCommandRest}

@@ -1,6 +1,6 @@
 use Rattle.std.proofs.Common.{◌≤◌, length, ◌+◌, ◌*◌}
 use Rattle.std.specs.Prelude.{map}
-use Rattle.ctd_tree.specs.View.{test_tree}
+use Rattle.ctd_program.specs.View.{test_tree}
 use Rattle.ctd_syntax.specs.Grammar.{IsTest, IsBoth, IsNegated}
 use Rattle.ctd_syntax.specs.Front.{lexeme}
 use Rattle.ctd_syntax.specs.Tests.{test_ends}

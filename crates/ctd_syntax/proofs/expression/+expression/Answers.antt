@@ -1,7 +1,7 @@
 use Rattle.std.proofs.Common.{◌≡◌, [], ◌∷◌, ◌++◌, sym, ap, ◌∙◌, subst, rules, arith}
 use Rattle.std.specs.Prelude.{map}
 use Rattle.ctd_syntax.specs.Lexeme.{Lexeme, mark}
-use Rattle.ctd_tree.specs.View.{expr_tree, var_tree, expr_list, exprs_of}
+use Rattle.ctd_program.specs.View.{expr_tree, var_tree, expr_list, exprs_of}
 use Rattle.ctd_syntax.specs.Grammar.{IsExpr, IsExprs, IsProduct, IsSigned, IsPower, IsExponent, IsAtom, IsTarget}
 use Rattle.ctd_syntax.specs.Front.{Found, Always, IsBefore, lexeme}
 use Rattle.ctd_syntax.specs.Levels.{ends}
@@ -11,13 +11,13 @@ use Rattle.ctd_syntax.proofs.Levels.{sums, products}
 use Rattle.ctd_syntax.proofs.Fronts.{reads_as, refused_as, refused_exit, before_reads}
 use Rattle.ctd_syntax.proofs.Rows.{index_list, list_of, list_view, lists_none, lists_start, lists_next, lists_no_next, lists_end, lists_unclosed}
 use Rattle.ctd_syntax.proofs.Atoms.{minus_reads, minus_none, power_is_signed, no_power_signed, power_reads, power_none, atom_is_power, no_atom_power, negative_reads, negative_none, power_is_exponent, no_power_exponent, numeral_reads, text_reads, variable_reads, variable_none, variable_plain, variable_indexed, variable_bad_index, not_strlen_begins, strlen_reads, strlen_none, group_reads, group_none, not_open_begins, no_atom}
-use Rattle.ctd_tree.specs.Tree
+use Rattle.ctd_program.specs.Tree
 use Rattle.ctd_syntax.specs.declared.parser_token.ParserToken.TheVariants as parser_tokens
 use Rattle.ctd_syntax.specs.declared.keyword.Keyword.TheVariants.{Strlen}
 use Rattle.std.proofs.lemmas.Int.{to_z-of_z}
 use Rattle.std.proofs.lemmas.List.{map-append}
 use Rattle.std.specs.Int.{w128}
-use Rattle.ctd_tree.specs.declared.tree.Var.{Var}
+use Rattle.ctd_program.specs.declared.tree.Var.{Var}
 use Rattle.ctd_syntax.proofs.expression.+expression.Goals as goal
 
 pub atom-returns-in_err-inner-in-Some-after_mark-clause-tree : goal.atom-returns-in_err-inner-in-Some-after_mark-clause-tree

@@ -1,6 +1,6 @@
 use Rattle.std.proofs.Common.{◌≤◌, length, ◌+◌, ◌*◌}
 use Rattle.std.specs.Prelude.{map}
-use Rattle.ctd_tree.specs.View.{expr_tree}
+use Rattle.ctd_program.specs.View.{expr_tree}
 use Rattle.ctd_syntax.specs.Grammar.{IsExpr, IsProduct, IsSigned}
 use Rattle.ctd_syntax.specs.Front.{lexeme}
 use Rattle.ctd_syntax.specs.Levels.{ends, sum_operator, product_operator, join}

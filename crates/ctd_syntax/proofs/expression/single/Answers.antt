@@ -5,8 +5,8 @@ use Rattle.std.specs.Prelude.{map}
 use Rattle.ctd_syntax.specs.Front.{lexeme}
 use Rattle.ctd_syntax.specs.Levels.{ends}
 use Rattle.ctd_syntax.specs.Lexeme.{Lexeme}
-use Rattle.ctd_tree.specs.Tree
-use Rattle.ctd_tree.specs.Tree.{VarTree}
+use Rattle.ctd_program.specs.Tree
+use Rattle.ctd_program.specs.Tree.{VarTree}
 use Rattle.ctd_syntax.proofs.Atoms.{numeral_reads, variable_plain, variable_reads}
 use Rattle.ctd_syntax.proofs.Singles.{atom_is_product, no_index}
 use Rattle.ctd_syntax.proofs.expression.single.Goals as goal

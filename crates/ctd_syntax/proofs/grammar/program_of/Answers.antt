@@ -5,8 +5,8 @@ use Rattle.ctd_syntax.specs.Grammar.{IsCommands}
 use Rattle.ctd_syntax.specs.CommandWords.{CommandsEnd}
 use Rattle.ctd_syntax.specs.Nesting.{start, too_deep}
 use Rattle.ctd_syntax.specs.Reading.{Parses, lexemes}
-use Rattle.ctd_tree.specs.View.{command_list, command_trees}
-use Rattle.ctd_tree.proofs.Trees.{list_commands}
+use Rattle.ctd_program.specs.View.{command_list, command_trees}
+use Rattle.ctd_program.proofs.Trees.{list_commands}
 use Rattle.ctd_syntax.proofs.Numbers.{reads_numbered}
 use Rattle.ctd_syntax.proofs.Parsing.{parsed, spelled_only, left_over, unspelled, of_any_cut, nothing, something}
 use Rattle.ctd_syntax.proofs.grammar.program_of.Goals as goal

@@ -1,7 +1,7 @@
 use Rattle.std.proofs.Common.{◌≡◌, ◌∷◌, ◌++◌, [], sym, ap, ◌∙◌, append_assoc, append-nil}
 use Rattle.std.specs.Prelude.{map}
-use Rattle.ctd_tree.specs.View.{command_trees}
-use Rattle.ctd_tree.proofs.Trees.{trees_then}
+use Rattle.ctd_program.specs.View.{command_trees}
+use Rattle.ctd_program.proofs.Trees.{trees_then}
 use Rattle.ctd_syntax.specs.Front.{lexeme}
 use Rattle.ctd_syntax.specs.CommandWords.{command_begins}
 use Rattle.ctd_syntax.proofs.Boundaries.{found_begins}

@@ -1,7 +1,7 @@
 use Rattle.std.proofs.Common.{◌≡◌, List, ◌++◌, length}
 use Rattle.std.specs.Prelude.{map}
-use Rattle.ctd_tree.specs.View.{command_trees}
-use Rattle.ctd_tree.specs.declared.tree.Command.{Command}
+use Rattle.ctd_program.specs.View.{command_trees}
+use Rattle.ctd_program.specs.declared.tree.Command.{Command}
 use Rattle.ctd_syntax.specs.Front.{lexeme}
 use Rattle.ctd_syntax.proofs.CommandReads.{PartCommands}
 use Rattle.ctd_syntax.proofs.stretches.all_commands.Given as goal

@@ -1,5 +1,5 @@
 use Rattle.std.proofs.Common.{sym, ◌∙◌, subst}
-use Rattle.ctd_tree.specs.View.{command_trees}
+use Rattle.ctd_program.specs.View.{command_trees}
 use Rattle.ctd_syntax.specs.Numbering.{IsNumbered}
 use Rattle.ctd_syntax.proofs.Numbers.{reads_numbered}
 use Rattle.ctd_syntax.proofs.stretches.program_in_stretches.Goals as goal

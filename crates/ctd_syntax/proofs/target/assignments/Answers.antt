@@ -4,7 +4,7 @@ use Rattle.std.specs.Prelude.{map}
 use Rattle.ctd_syntax.specs.Front.{Always, IsBefore, IsAssignment, lexeme}
 use Rattle.ctd_syntax.specs.Grammar.{IsAssignments}
 use Rattle.ctd_syntax.specs.Levels.{ends}
-use Rattle.ctd_tree.specs.View.{assignment}
+use Rattle.ctd_program.specs.View.{assignment}
 use Rattle.ctd_token.specs.declared.token.Mark.TheVariants.{Close}
 use Rattle.ctd_syntax.proofs.Fronts.{refused_exit}
 use Rattle.std.proofs.lemmas.List.{map-append}

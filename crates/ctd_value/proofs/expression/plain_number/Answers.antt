@@ -1,5 +1,5 @@
 use Rattle.std.proofs.Common.{◌≡◌, Ok, IfSome, subst, sym}
-use Rattle.ctd_tree.specs.View.{expr_tree}
+use Rattle.ctd_program.specs.View.{expr_tree}
 use Rattle.ctd_store.specs.declared.value.Value.TheVariants as values
 use Rattle.ctd_value.specs.Val.{val}
 use Rattle.ctd_value.proofs.Small.{named_at}

@@ -1,5 +1,5 @@
 use Rattle.std.proofs.lemmas.Option.{IfSome_then}
-use Rattle.ctd_tree.specs.View.{test_tree}
+use Rattle.ctd_program.specs.View.{test_tree}
 use Rattle.ctd_command.proofs.Telling.{answered_at_once}
 use Rattle.ctd_command.proofs.machine.Run.answer_at_hand.Goals as goal
 

@@ -1,7 +1,7 @@
 use Rattle.std.proofs.Common.{◌+◌, drop, map, ap, ◌∙◌, arith}
 use Rattle.std.proofs.lemmas.List.{drop_all}
 use Rattle.ctd_source.proofs.AdvanceLemmas.{advances_so, advances_both}
-use Rattle.ctd_tree.specs.View.{assignment}
+use Rattle.ctd_program.specs.View.{assignment}
 use Rattle.ctd_command.specs.State.{proceed}
 use Rattle.ctd_command.specs.Effect.{set}
 use Rattle.ctd_command.specs.Performs.{state}

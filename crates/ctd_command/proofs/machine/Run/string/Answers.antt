@@ -1,5 +1,5 @@
 use Rattle.std.proofs.Common.{Ok, Err, ap}
-use Rattle.ctd_tree.specs.View.{expr_tree}
+use Rattle.ctd_program.specs.View.{expr_tree}
 use Rattle.ctd_value.specs.Fault.{with_fault}
 use Rattle.ctd_value.specs.Val.{text_of}
 use Rattle.ctd_command.specs.Effect.{match_bytes}

@@ -1,0 +1,31 @@
+use Rattle.std.proofs.Common.{◌≡◌, ◌∙◌, ap, sym, option_map, Option, None, Some, refl, true, false, is_some, unwrap_or, List, ℕ, subst, codes}
+use Rattle.std.specs.Borrow.{Bor}
+use Rattle.clap.specs.Words.{Text, first_of, found_of}
+use Rattle.ctd_arguments.specs.Settings.{ArePresetsOf, IsStepLimitOf, file_of, mode_by}
+use Rattle.clap.proofs.WalkLemmas.{first_value-rows}
+use Rattle.ctd_arguments.specs.Usage.{is_on, value_in}
+use Rattle.ctd_arguments.proofs.words.setup_of.Goals as goal
+
+-- a value that is there is the text that is lent
+lent : (o : Option (Bor (List ℕ))) (v : Option Text) (other : Bor (List ℕ)) → option_map (λ t. t.now) o ≡ v → is_some v ≡ true → v ≡ Some (unwrap_or o other).now
+lent None v other is given = let none : is_some v ≡ false = ap is_some (sym is) in cc
+lent (Some t) v other is given = sym is
+
+pub returns-clause-setup : goal.returns-clause-setup
+returns-clause-setup c = λ words found.
+    let rows = found.1 in
+    let named : is_some (value_in words (codes "PROGRAM")) ≡ true =
+    ap is_some (sym (first_value-rows (found_of c.args.matches.now) (codes "PROGRAM") ∙ ap (first_of (codes "PROGRAM")) rows)) ∙ c.requires.named in
+    let copied = c.in_ok-copy.ensures.equal ∙ c.as_bytes.ensures.value ∙ ap (λ (t : Bor (List ℕ)). t.now) c.unwrap_or-program.ensures in
+    record {
+      taken = found.0;
+      checks = sym (c.is_set.ensures ∙ ap (is_on (codes "generate")) rows) ∙ c.if-is_set.false;
+      program = subst (λ name. value_in words (codes "PROGRAM") ≡ Some name) (sym copied)
+          (lent c.value_of-3.result _ _ (c.value_of-3.ensures ∙ ap (first_of (codes "PROGRAM")) rows) named);
+      testdata = c.in_ok-file_named.ensures ∙ ap file_of (c.value_of-4.ensures ∙ ap (first_of (codes "TESTDATA")) rows);
+      presets = subst (λ v. ArePresetsOf v c.in_ok-presets.presets) (c.value_of.ensures ∙ ap (first_of (codes "define")) rows) c.in_ok-presets.ensures;
+      mode = c.mode_of.ensures ∙ ap (λ r. mode_by (is_on (codes "whitespace-ok") r)) rows;
+      quiet = c.is_set-2.ensures ∙ ap (is_on (codes "quiet")) rows;
+      bytes = refl;
+      steps = subst (λ v. IsStepLimitOf v c.in_ok-steps.steps) (c.value_of-2.ensures ∙ ap (first_of (codes "max-steps")) rows) c.in_ok-steps.ensures;
+    }

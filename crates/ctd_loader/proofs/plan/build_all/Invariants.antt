@@ -1,0 +1,11 @@
+use Rattle.std.proofs.Common.{◌≡◌, take}
+use Rattle.ctd_loader.specs.Numbered.{texts_of}
+use Rattle.ctd_loader.specs.Literals.{literals_at}
+use Rattle.ctd_loader.specs.Loading.{ArePatterns}
+use Rattle.ctd_loader.proofs.plan.build_all.Given as goal
+
+abbrev pub invariant-loop-literal : goal.invariant-loop-literal
+invariant-loop-literal l = record {
+  built : l.patterns.items ≡ texts_of (literals_at (take l.literal-index l.literals));
+  are_patterns : ArePatterns (literals_at (take l.literal-index l.literals));
+}

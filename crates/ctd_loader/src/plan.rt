@@ -1,0 +1,156 @@
+//! A program that was read, as it is run.
+ghost use Rattle.std.specs.Prelude.{◌≡◌, ◌≢◌, ◌≤◌, None, Some, length, IfOk, IfErr};
+ghost use Rattle.ctd_source.specs.declared.source.Seen.TheVariants.{Going};
+ghost use Rattle.ctd_token.specs.declared.limits.TheConstants.{PROGRAM_LIMIT};
+ghost use Rattle.ctd_program.specs.Tree.{list_blocks};
+ghost use Rattle.ctd_program.specs.View.{command_trees};
+ghost use Rattle.ctd_syntax.specs.Numbering.{IsNumbered, literals};
+ghost use Rattle.ctd_loader.specs.Numbered.{texts_of};
+ghost use Rattle.ctd_loader.specs.Literals.{literals_at};
+ghost use Rattle.ctd_loader.specs.Loading.{ArePatterns, IsBadPattern};
+
+use crate::literals::literals_of;
+use crate::text::receive;
+use ctd_pattern::{Matcher, Pattern, PatternFault};
+use ctd_source::Source;
+use ctd_syntax::{Command, LoadFault, LoadKind, PROGRAM_LIMIT, PatternLiteral, Program, parse};
+use std::alloc::{AllocError, Global};
+use std::marker::Model;
+
+/// A program that was read, ready for any number of checks, which contracts see as the list of its commands.
+#[derive(Drop)]
+pub struct Plan {
+    program: Program,
+    /// The patterns of its literals, in the order of the text, so that each stands at its literal's number.
+    patterns: Vec<Pattern>,
+    ghost shallow: { list_blocks (command_trees program) ≤ 200 },
+    ghost numbered: { IsNumbered (command_trees program) },
+    ghost built: { patterns.items ≡ texts_of (literals (command_trees program)) },
+}
+
+impl Model for Plan {
+    ghost use Rattle.std.specs.Prelude.{List};
+    ghost use Rattle.std.specs.Coded.{codes};
+    ghost use Rattle.ctd_program.specs.declared.tree.Command.{Command};
+    ghost use Rattle.ctd_program.specs.contracts.tree.Command as c;
+
+    ghost Value = { List Command };
+
+    ghost coded = { Prim.hlevel (codes, c.the_row.coded) };
+
+    ghost view = { λ p. p.program };
+}
+
+/// The fault of a literal of which no pattern was built.
+fn pattern_fault(literal: &PatternLiteral, fault: PatternFault) -> LoadFault
+    ensures bad { fault ≢ PatternFault.Memory → result ≡ record { kind = LoadKind.BadPattern; place = Some literal.now.place } }
+    ensures memory { fault ≡ PatternFault.Memory → result ≡ record { kind = LoadKind.Memory; place = None } }
+{
+    match fault {
+        PatternFault::NotText | PatternFault::NotPattern | PatternFault::TooLarge => LoadFault {
+            kind: LoadKind::BadPattern,
+            place: Some(literal.place),
+        },
+        PatternFault::Memory => LoadFault {
+            kind: LoadKind::Memory,
+            place: None,
+        },
+    }
+}
+
+/// Builds the patterns of literals, in order.
+fn build_all(alloc: Global, literals: &[&PatternLiteral]) -> Result<Vec<Pattern>, LoadFault>
+    ensures built { IfOk result (λ patterns. patterns.items ≡ texts_of (literals_at literals.now)) }
+    ensures are_patterns { IfOk result (λ _. ArePatterns (literals_at literals.now)) }
+    ensures bad { IfErr result (λ fault. fault.kind ≢ LoadKind.Memory → IsBadPattern (literals_at literals.now) fault) }
+    ensures memory { IfErr result (λ fault. fault.kind ≡ LoadKind.Memory → fault.place ≡ None) }
+{
+    let mut patterns = Vec::new(alloc);
+    for literal in literals {
+        match Pattern::read(alloc, literal.bytes.as_slice()) {
+            Ok(pattern) => patterns.push(pattern)?,
+            Err(fault) => return Err(pattern_fault(literal, fault)),
+        }
+    }
+    Ok(patterns)
+}
+
+/// Builds the patterns of commands, in the order of the text.
+fn patterns_in(alloc: Global, commands: &[Command]) -> Result<Vec<Pattern>, LoadFault>
+    ensures built { IfOk result (λ patterns. patterns.items ≡ texts_of (literals (command_trees commands.now))) }
+    ensures are_patterns { IfOk result (λ _. ArePatterns (literals (command_trees commands.now))) }
+    ensures bad { IfErr result (λ fault. fault.kind ≢ LoadKind.Memory → IsBadPattern (literals (command_trees commands.now)) fault) }
+    ensures memory { IfErr result (λ fault. fault.kind ≡ LoadKind.Memory → fault.place ≡ None) }
+{
+    let found = literals_of(alloc, commands)?;
+    build_all(alloc, found.as_slice())
+}
+
+/// A matcher for each pattern, in order.
+fn matchers_of(alloc: Global, patterns: &[Pattern]) -> Result<Vec<Matcher<'_>>, AllocError>
+    ensures same { IfOk result (λ matchers. matchers.items ≡ patterns.now) }
+{
+    let mut matchers = Vec::new(alloc);
+    for pattern in patterns {
+        let matcher = pattern.matcher(alloc)?;
+        matchers.push(matcher)?;
+    }
+    Ok(matchers)
+}
+
+impl Plan {
+    ghost use Rattle.ctd_loader.specs.Numbered.{AreAmong};
+    ghost use Rattle.ctd_loader.specs.Loading.{LoadsFrom, TextLoadsAs};
+
+    /// The commands, with at most 200 blocks open at each.
+    pub fn commands(&self) -> &[Command]
+        ensures whole { result.now ≡ self.now }
+        ensures shallow { list_blocks (command_trees result.now) ≤ 200 }
+    {
+        self.program.commands()
+    }
+
+    /// What searches for each of its patterns, in their order, with tables that no earlier search has filled.
+    pub fn matchers(&self, alloc: Global) -> Result<Vec<Matcher<'_>>, AllocError>
+        ensures numbered { IfOk result (λ matchers. AreAmong matchers.items (literals (command_trees self.now))) }
+    {
+        matchers_of(alloc, self.patterns.as_slice())
+    }
+
+    /// The plan of a complete text.
+    fn read(alloc: Global, text: &[u8]) -> Result<Plan, LoadFault>
+        requires { length text.now ≤ PROGRAM_LIMIT }
+        ensures loads { TextLoadsAs command_trees result text.now }
+        ensures memory { IfErr result (λ fault. fault.kind ≡ LoadKind.Memory → fault.place ≡ None) }
+    {
+        let program = parse(alloc, text)?;
+        let patterns = patterns_in(alloc, program.commands())?;
+        Ok(Plan { program, patterns })
+    }
+
+    /// Reads a program to its end: the commands that its text is.
+    ///
+    /// The source is read until it ends, until a read fails (`Read`), or until a byte more than a program may have came
+    /// (`ProgramTooLong`). The text is then read as `ctd_syntax::parse` reads it. A literal of REGEX that is not UTF-8, or of which
+    /// `regex` builds no pattern though it has the memory, is `BadPattern`, at its place; the first of them counts.
+    pub fn load<P: Source>(alloc: Global, program: &mut P) -> Result<Plan, LoadFault>
+        requires { P.seen program.old ≡ Going }
+        ensures loads { LoadsFrom command_trees P.Source program.old program.new result }
+        ensures memory { IfErr result (λ fault. fault.kind ≡ LoadKind.Memory → fault.place ≡ None) }
+    {
+        let text = receive(alloc, program, PROGRAM_LIMIT + 1)?;
+        if text.bytes.len() > PROGRAM_LIMIT {
+            return Err(LoadFault {
+                kind: LoadKind::ProgramTooLong,
+                place: None,
+            });
+        }
+        if text.failed {
+            return Err(LoadFault {
+                kind: LoadKind::Read,
+                place: None,
+            });
+        }
+        Plan::read(alloc, &text.bytes)
+    }
+}

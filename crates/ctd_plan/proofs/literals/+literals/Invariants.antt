@@ -1,8 +1,0 @@
-use Rattle.std.proofs.Common.{◌≡◌, ◌++◌, drop}
-use Rattle.ctd_tree.specs.View.{command_trees}
-use Rattle.ctd_syntax.specs.Numbering.{literals}
-use Rattle.ctd_plan.specs.Literals.{literals_at}
-use Rattle.ctd_plan.proofs.literals.+literals.Given as goal
-
-abbrev pub invariant-list_literals-loop-command : goal.invariant-list_literals-loop-command
-invariant-list_literals-loop-command l = literals_at l.found.items ++ literals (command_trees (drop l.command-index l.commands)) ≡ literals_at l.initial.found.items ++ literals (command_trees l.commands)

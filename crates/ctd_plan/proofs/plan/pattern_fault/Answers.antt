@@ -1,5 +1,0 @@
-use Rattle.std.proofs.Common.{rules}
-use Rattle.ctd_plan.proofs.plan.pattern_fault.Goals as goal
-
-pub returns-in-NotText : goal.returns-in-NotText
-returns-in-NotText c = search rules

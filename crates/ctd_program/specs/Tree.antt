@@ -1,0 +1,110 @@
+-- The trees of programs, apart from where they lie in memory.
+use Rattle.std.specs.Prelude.{ℕ, ℤ, List, ◌+◌, max, Option}
+use Rattle.ctd_token.specs.declared.text.Place.{Place}
+use Rattle.ctd_program.specs.declared.tree.Compare.{Compare}
+use Rattle.ctd_program.specs.declared.tree.PatternLiteral.{PatternLiteral}
+
+-- an expression, and a list of them
+mutual
+  pub data ExprTree : Type 0 where
+    numeral : (n : ℤ) → ExprTree
+    text : (bytes : List ℕ) → ExprTree
+    variable : (name : List ℕ) (indices : ExprList) → ExprTree
+    strlen : (e : ExprTree) → ExprTree
+    minus : (e : ExprTree) → ExprTree
+    sum : (a b : ExprTree) → ExprTree
+    difference : (a b : ExprTree) → ExprTree
+    times : (a b : ExprTree) → ExprTree
+    quotient : (a b : ExprTree) → ExprTree
+    remainder : (a b : ExprTree) → ExprTree
+    power : (a b : ExprTree) → ExprTree
+
+  -- expressions one after the other
+  pub data ExprList : Type 0 where
+    none : ExprList
+    some : (e : ExprTree) (rest : ExprList) → ExprList
+
+-- a variable: its name and its indices
+pub record VarTree : Type 0 where
+  pub name : List ℕ
+  pub indices : ExprList
+
+-- a test
+pub data TestTree : Type 0 where
+  or : (a b : TestTree) → TestTree
+  and : (a b : TestTree) → TestTree
+  not : (t : TestTree) → TestTree
+  compare : (by : Compare) (a b : ExprTree) → TestTree
+  matches : (e : ExprTree) → TestTree
+  at_end : TestTree
+  unique : (names : List (List ℕ)) → TestTree
+  in_array : (e : ExprTree) (name : List ℕ) → TestTree
+
+-- how long a loop goes on: for a number of turns, or as long as a test is true
+pub data GuardTree : Type 0 where
+  turns : (count : ExprTree) → GuardTree
+  while : (t : TestTree) → GuardTree
+
+-- a command with its place, a separator or none, and a list of commands
+mutual
+  pub data CommandTree : Type 0 where
+    space : (place : Place) → CommandTree
+    newline : (place : Place) → CommandTree
+    eof : (place : Place) → CommandTree
+    int : (place : Place) (low high : ExprTree) (target : Option VarTree) → CommandTree
+    string : (place : Place) (e : ExprTree) → CommandTree
+    regex : (place : Place) (literal : PatternLiteral) (target : Option VarTree) → CommandTree
+    assert : (place : Place) (t : TestTree) → CommandTree
+    set : (place : Place) (assignments : List (VarTree × ExprTree)) → CommandTree
+    unset : (place : Place) (names : List (List ℕ)) → CommandTree
+    loop : (place : Place) (guard : GuardTree) (counter : Option VarTree) (between : Separator) (body : CommandList) → CommandTree
+    choice : (place : Place) (t : TestTree) (then_do else_do : CommandList) → CommandTree
+
+  -- a separator or none
+  pub data Separator : Type 0 where
+    nothing : Separator
+    between : (c : CommandTree) → Separator
+
+  -- commands one after the other
+  pub data CommandList : Type 0 where
+    done : CommandList
+    then : (c : CommandTree) (rest : CommandList) → CommandList
+
+-- how many blocks are open at a command at most
+abbrev mutual
+  pub blocks : CommandTree → ℕ
+  blocks (space place) = 0
+  blocks (newline place) = 0
+  blocks (eof place) = 0
+  blocks (int place low high target) = 0
+  blocks (string place e) = 0
+  blocks (regex place literal target) = 0
+  blocks (assert place t) = 0
+  blocks (set place assignments) = 0
+  blocks (unset place names) = 0
+  blocks (loop place guard counter sep body) = 1 + max (separator_blocks sep) (list_blocks body)
+  blocks (choice place t a b) = 1 + max (list_blocks a) (list_blocks b)
+
+  -- the same of a separator
+  pub separator_blocks : Separator → ℕ
+  separator_blocks nothing = 0
+  separator_blocks (between c) = blocks c
+
+  -- the greatest of a list
+  pub list_blocks : CommandList → ℕ
+  list_blocks done = 0
+  list_blocks (then c rest) = max (blocks c) (list_blocks rest)
+
+-- the place of a command's word
+abbrev pub place_of : CommandTree → Place
+place_of (space place) = place
+place_of (newline place) = place
+place_of (eof place) = place
+place_of (int place low high target) = place
+place_of (string place e) = place
+place_of (regex place literal target) = place
+place_of (assert place t) = place
+place_of (set place assignments) = place
+place_of (unset place names) = place
+place_of (loop place guard counter sep body) = place
+place_of (choice place t a b) = place
