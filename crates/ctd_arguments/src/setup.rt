@@ -1,7 +1,7 @@
 //! What the command line asks for.
 
-use ctd_token::Bytes;
 use ctd_program::{Limits, Mode, Presets};
+use ctd_token::Bytes;
 
 /// The files to be checked and how: what the words of the command line ask for.
 #[derive(Drop)]

@@ -12,8 +12,8 @@ use crate::command_line::matches_in;
 use crate::setup::{Setup, UsageFault};
 use clap::error::ErrorKind;
 use clap::{ArgMatches, Error};
-use ctd_token::Bytes;
 use ctd_program::{Limits, Mode, PresetFault, Presets};
+use ctd_token::Bytes;
 use std::alloc::{AllocError, Global};
 use std::str::from_utf8;
 

@@ -11,11 +11,11 @@ use crate::agenda::Agenda;
 use crate::halt::Halt;
 use crate::run::run_program;
 use ctd_command::Run;
-use ctd_outcome::{Checked, Outcome};
 use ctd_loader::Plan;
+use ctd_outcome::{Checked, Outcome};
+use ctd_program::{Limits, Mode, Presets};
 use ctd_source::{Buffers, Cursor, Source};
 use ctd_store::Store;
-use ctd_program::{Limits, Mode, Presets};
 use std::alloc::{AllocError, Global};
 
 /// The outcome of a run that came to its end; the error is for a run that ran out of memory, and for no other.

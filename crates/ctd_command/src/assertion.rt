@@ -7,8 +7,8 @@ ghost use Rattle.ctd_command.specs.Performs.{IsSound, Performs};
 use crate::failure::CommandFailure;
 use crate::machine::Run;
 use ctd_outcome::Reason;
-use ctd_source::Source;
 use ctd_program::Test;
+use ctd_source::Source;
 
 impl<'d, D: Source> Run<'d, D> {
     /// ASSERT: a test that is false rejects the data.

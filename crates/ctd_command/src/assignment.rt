@@ -7,9 +7,9 @@ ghost use Rattle.ctd_command.specs.Performs.{IsSound, Performs};
 
 use crate::failure::CommandFailure;
 use crate::machine::Run;
+use ctd_program::Assignment;
 use ctd_source::Source;
 use ctd_token::Name;
-use ctd_program::Assignment;
 use ctd_value::{Store, set_expression};
 
 /// Removes from each name all that was assigned to it.

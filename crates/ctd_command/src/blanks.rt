@@ -10,8 +10,8 @@ ghost use Rattle.ctd_command.specs.Performs.{IsSound, Performs};
 use crate::failure::CommandFailure;
 use crate::machine::Run;
 use ctd_outcome::Reason;
-use ctd_source::{Cursor, LookFault, Source};
 use ctd_program::Mode;
+use ctd_source::{Cursor, LookFault, Source};
 
 /// Whether a byte is a blank.
 fn is_blank(byte: u8) -> bool

@@ -6,8 +6,8 @@ ghost use Rattle.ctd_command.specs.Performs.{IsSound, Performs};
 use crate::failure::CommandFailure;
 use crate::machine::Run;
 use ctd_outcome::Reason;
-use ctd_source::Source;
 use ctd_program::Mode;
+use ctd_source::Source;
 
 impl<'d, D: Source> Run<'d, D> {
     /// SPACE: passes one byte 0x20, or under `BlanksOk` as many blanks as there are, one at least; else it is ExpectedSpace.

@@ -9,8 +9,8 @@ ghost use Rattle.ctd_command.specs.Performs.{IsSound, Performs};
 
 use crate::failure::CommandFailure;
 use crate::machine::Run;
-use ctd_source::Source;
 use ctd_program::{Expr, Test, Var};
+use ctd_source::Source;
 use ctd_value::{
     count_of, holds, number_at_hand, number_of, set_number, truth_at_hand, truth_in_front_of,
 };

@@ -11,8 +11,8 @@ ghost use Rattle.ctd_command.specs.Performs.{IsSound, Performs, IsBetween};
 use crate::digits::{DigitSummary, FEW, number_in_front};
 use crate::failure::CommandFailure;
 use crate::machine::Run;
-use ctd_source::{Cursor, LookFault, Source};
 use ctd_program::{Expr, Var};
+use ctd_source::{Cursor, LookFault, Source};
 
 /// An integer at the front of some bytes.
 #[derive(Clone, Copy)]

@@ -5,8 +5,8 @@ ghost use Rattle.ctd_command.specs.State.{see_next, pass};
 ghost use Rattle.ctd_command.specs.Performs.{IsSound, Performs};
 
 use crate::failure::CommandFailure;
-use ctd_source::{Cursor, Source};
 use ctd_program::Mode;
+use ctd_source::{Cursor, Source};
 use ctd_value::Store;
 use std::alloc::Global;
 

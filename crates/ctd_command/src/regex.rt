@@ -9,8 +9,8 @@ use crate::failure::CommandFailure;
 use crate::machine::Run;
 use ctd_outcome::{Fault, Reason};
 use ctd_pattern::Matcher;
-use ctd_source::{Source, WINDOW};
 use ctd_program::Var;
+use ctd_source::{Source, WINDOW};
 use ctd_value::set_text;
 
 /// The length of a match, unless it fills the window.

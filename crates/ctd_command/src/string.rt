@@ -14,8 +14,8 @@ ghost use Rattle.ctd_command.specs.Performs.{IsSound, Performs};
 use crate::failure::CommandFailure;
 use crate::machine::Run;
 use ctd_outcome::Reason;
-use ctd_source::{Cursor, LookFault, Source};
 use ctd_program::Expr;
+use ctd_source::{Cursor, LookFault, Source};
 use ctd_value::text_of;
 
 /// How many bytes at the front of two lists agree.

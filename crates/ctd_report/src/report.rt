@@ -7,9 +7,9 @@ ghost use Rattle.ctd_report.specs.Written.{Leaves, change};
 
 use crate::sink::Sink;
 use crate::written::{ToolFault, write_report};
+use ctd_arguments::UsageFault;
 use ctd_outcome::Outcome;
 use ctd_token::{Bytes, LoadFault, LoadKind};
-use ctd_arguments::UsageFault;
 use std::alloc::{AllocError, Global};
 
 /// The status of data that match, and of a help or a version that was asked for.

@@ -14,8 +14,8 @@ use crate::lent::Lent;
 use crate::row_and_map::Row;
 use crate::value::{Key, Value};
 use crate::variables::{Variables, has_value};
-use ctd_token::{Bytes, Name};
 use ctd_program::{Literal, Preset, Presets};
+use ctd_token::{Bytes, Name};
 use std::alloc::{AllocError, Global};
 use std::marker::Model;
 

@@ -17,11 +17,11 @@ use crate::loop_head::{LoopHead, LoopWord, loop_head};
 use crate::names::names;
 use crate::parser_token::{ParserToken, string_of};
 use crate::target::{assignments, target_end};
-use ctd_token::{Mark, Place};
 use ctd_program::{
     Action, Choice, Command, Commands, Expr, IntArguments, Loop, PatternLiteral, RegexArguments,
     Var,
 };
+use ctd_token::{Mark, Place};
 use std::alloc::{AllocError, Global};
 
 // The upper bound of INT and its target.

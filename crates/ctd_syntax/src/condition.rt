@@ -15,8 +15,8 @@ use crate::front::{ParseError, after_mark, after_open, name_at};
 use crate::keyword::Keyword;
 use crate::names::names;
 use crate::parser_token::ParserToken;
-use ctd_token::{Mark, Name};
 use ctd_program::{Compare, Expr, Test};
+use ctd_token::{Mark, Name};
 use std::alloc::{AllocError, Global};
 
 // What a token says of the parentheses that it stands in.

@@ -12,8 +12,8 @@ ghost use Rattle.ctd_syntax.specs.Lexeme;
 use crate::front::{ParseError, after_mark, name_at};
 use crate::keyword::Keyword;
 use crate::parser_token::{ParserToken, string_of};
-use ctd_token::{Mark, Name};
 use ctd_program::{Element, Expr, Exprs, Numeral, Var};
+use ctd_token::{Mark, Name};
 use std::alloc::{AllocError, Global};
 
 // The operators that join two expressions.

@@ -11,8 +11,8 @@ use crate::front::ParseError;
 use crate::nesting::first_too_deep;
 use crate::parser_token::{ParserToken, parser_tokens};
 use crate::stretches::program_in_stretches;
-use ctd_token::{LoadFault, LoadKind, PROGRAM_LIMIT, Place, Token, advance, tokens};
 use ctd_program::Program;
+use ctd_token::{LoadFault, LoadKind, PROGRAM_LIMIT, Place, Token, advance, tokens};
 use std::alloc::Global;
 
 // The place of the first of the last `left` tokens, or the end of the text.

@@ -15,14 +15,14 @@ mod parser_token;
 mod stretches;
 mod target;
 
-pub use ctd_token::{
-    Bytes, LoadFault, LoadKind, Mark, NESTING_LIMIT, Name, PROGRAM_LIMIT, Place, Token, TokenKind,
-    tokens, tokens_are_longest, tokens_are_unique,
-};
 pub use ctd_program::{
     Action, Assignment, Assignments, Choice, Command, Commands, Compare, Element, Expr, Exprs,
     IntArguments, Literal, Literals, Loop, LoopGuard, Names, Numeral, PatternLiteral, Preset,
     PresetFault, Presets, Program, RegexArguments, Test, Var,
+};
+pub use ctd_token::{
+    Bytes, LoadFault, LoadKind, Mark, NESTING_LIMIT, Name, PROGRAM_LIMIT, Place, Token, TokenKind,
+    tokens, tokens_are_longest, tokens_are_unique,
 };
 pub use grammar::parse;
 pub use keyword::Keyword;

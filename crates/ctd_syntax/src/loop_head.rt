@@ -12,8 +12,8 @@ use crate::expression::expr;
 use crate::front::{ParseError, after_open};
 use crate::parser_token::ParserToken;
 use crate::target::target_before;
-use ctd_token::Mark;
 use ctd_program::{LoopGuard, Var};
+use ctd_token::Mark;
 use std::alloc::Global;
 
 /// The word of a loop.

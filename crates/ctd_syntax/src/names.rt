@@ -7,8 +7,8 @@ ghost use Rattle.ctd_syntax.specs.Front.{FindsTree, Always, IsBefore, lexeme};
 
 use crate::front::{ParseError, after_mark, name_at};
 use crate::parser_token::ParserToken;
-use ctd_token::{Mark, Name};
 use ctd_program::Names;
+use ctd_token::{Mark, Name};
 use std::alloc::Global;
 
 /// The names at the front, with commas between them, and the parenthesis behind them, and what

@@ -12,8 +12,8 @@ use crate::command::command;
 use crate::front::ParseError;
 use crate::nesting::Nesting;
 use crate::parser_token::{ParserToken, ParserTokens};
-use ctd_token::{LoadFault, LoadKind, PROGRAM_LIMIT};
 use ctd_program::{Command, Commands, Program};
+use ctd_token::{LoadFault, LoadKind, PROGRAM_LIMIT};
 use std::alloc::{AllocError, Global};
 
 // How many tokens a stretch has at least, but for the last.

@@ -11,8 +11,8 @@ ghost use Rattle.ctd_syntax.specs.Levels.{binding, ends};
 use crate::expression::{expr, variable};
 use crate::front::{ParseError, after_mark};
 use crate::parser_token::ParserToken;
-use ctd_token::Mark;
 use ctd_program::{Assignment, Assignments, Var};
+use ctd_token::Mark;
 use std::alloc::Global;
 
 /// The variable at the front and a mark behind it, and what follows the mark.

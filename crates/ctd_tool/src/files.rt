@@ -5,9 +5,9 @@ ghost use Rattle.ctd_tool.specs.Files.{IsFilesReport, IsRunReport, StartsOn, vis
 ghost use Rattle.ctd_report.specs.Written.{LeavesOneOf, change};
 
 use crate::tool::run_tool;
+use ctd_arguments::Setup;
 use ctd_check::{FromRead, Source};
 use ctd_report::{Sink, ToolFault, write_cannot_open};
-use ctd_arguments::Setup;
 use std::alloc::Global;
 use std::io::{BufReader, Read};
 

@@ -7,9 +7,9 @@ ghost use Rattle.ctd_report.specs.Written.{change};
 
 use crate::files::Files;
 use crate::run::{run_words, usage_status};
+use ctd_arguments::UsageFault;
 use ctd_check::{Bytes, FromRead, Source};
 use ctd_report::{Sink, ToWrite};
-use ctd_arguments::UsageFault;
 use std::alloc::{AllocError, Global};
 use std::fs::File;
 use std::io::{self, BufReader, ErrorKind, Read, Stderr, Stdin, Stdout};

@@ -7,11 +7,11 @@ mod host;
 mod run;
 mod tool;
 
+pub use ctd_arguments::{Setup, UsageFault, settings};
 pub use ctd_report::{
     Sink, ToWrite, ToolFault, Writer, report_usage, write_cannot_open, write_load_fault,
     write_outcome,
 };
-pub use ctd_arguments::{Setup, UsageFault, settings};
 pub use files::{Files, Ran, Sources, check_files};
 pub use host::answer;
 pub use run::{Ended, run_words, usage_status};

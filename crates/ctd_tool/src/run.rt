@@ -7,9 +7,9 @@ ghost use Rattle.ctd_report.specs.Report.{usage_report};
 ghost use Rattle.ctd_report.specs.Written.{change};
 
 use crate::files::{Files, Ran, Sources, check_files};
+use ctd_arguments::{UsageFault, settings};
 use ctd_check::{Bytes, FromRead, Source};
 use ctd_report::{NO_VERDICT, Sink, ToolFault, report_usage};
-use ctd_arguments::{UsageFault, settings};
 use std::alloc::Global;
 use std::io::{BufReader, Read};
 

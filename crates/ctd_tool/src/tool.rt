@@ -7,9 +7,9 @@ ghost use Rattle.ctd_token.specs.declared.limits.TheConstants.{PROGRAM_LIMIT};
 ghost use Rattle.ctd_tool.specs.Headline.{IsReport, call};
 ghost use Rattle.ctd_report.specs.Written.{LeavesOneOf, change};
 
+use ctd_arguments::Setup;
 use ctd_check::{LoadKind, Plan, Source, check};
 use ctd_report::{Sink, ToolFault, write_load_fault, write_outcome};
-use ctd_arguments::Setup;
 use std::alloc::Global;
 
 /// Reads the program, checks the data against it, writes the report and answers the status: the report of the program's

@@ -10,9 +10,9 @@ ghost use Rattle.ctd_value.specs.Setting.{with_variable, with_expression};
 
 use crate::expression::{eval, index_values, plain_number, small};
 use crate::fault::EvalFault;
+use ctd_program::{Expr, Var};
 use ctd_store::{Lent, Store, Value};
 use ctd_token::Bytes;
-use ctd_program::{Expr, Var};
 use std::alloc::Global;
 
 /// Gives a variable a value, once its indices are evaluated; a pinned variable stays as it is. After a fault the variables
