@@ -1,4 +1,4 @@
-# build: prove and compile the checker (scripts/build.sh); test: rebuild every proof and test from scratch, then run the built program;
+# build: prove and compile the programs, with all processors (scripts/crates.mk); test: rebuild every proof and test from scratch, then run the built program;
 # install, uninstall: PREFIX and DESTDIR as usual; deb, dist: a Debian package and an archive of the built program, in out/.
 # lib: builds the libraries for C and Python, and installs them as install does; page: makes the page for the browser in web/out; test-lib and
 # test-page test these (docs/EMBEDDING.md). fuzz: compares the checker with a reference in Python on COUNT generated cases of a SEED. bench:
@@ -44,14 +44,20 @@ strip := $(if $(shell command -v strip),--strip)
 
 build: $(all_built)
 
+# The crates have a makefile of their own. It uses all processors, unless this make was given a number of jobs (-j).
+crates = $(MAKE) --no-print-directory --silent $(if $(filter -j% --jobserver%,$(MAKEFLAGS)),,-j$(shell nproc)) -f scripts/crates.mk
+
+# A program that is up to date may be older than a source that it is not made of, such as a test: so touch.
 $(all_built) &: $(sources)
 	$(need_toolchain)
-	@scripts/build.sh
+	+@$(crates) $(all_built)
+	@touch $(all_built)
 
-# The program comes first, since both are made over the same libraries.
+# The programs come first, since all are made over the same libraries.
 $(embedded): $(sources) | build
 	$(need_toolchain)
-	@embed/build.sh
+	+@embed/build.sh
+	@touch $@
 
 embed/out/libchecktestdata.so.1: $(embedded) embed/link.sh
 	@embed/link.sh

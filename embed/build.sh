@@ -24,4 +24,4 @@ done
 exec '$kit/toolchain/bin/clang' "\$@"
 END
 chmod +x "$work/bin/clang"
-TOOLCHAIN=$work "$top/scripts/build.sh" ctd_embed
+TOOLCHAIN=$work make --no-print-directory --silent --directory="$top" -f scripts/crates.mk crates/ctd_embed/out/build/libctd_embed.a
