@@ -1,11 +1,14 @@
 #!/usr/bin/env python3
 """Runs the built checker on the rows of the tables in tests/tables/, and compares both streams and the status.
 
-A table says what all of its rows share, and its columns what each row gives:
+A table says what all of its rows share, and its columns what each row gives. A row is a program with data, or a command line. In its texts a
+character stands for the byte of its number, `{3 ab}` for `ababab`, and each `@` in such a part for the number of its turn, so `{3 n@,}` for
+`n0,n1,n2,`.
 
-    program, data   the bytes of both files: a character stands for the byte of its number, `{3 ab}` for `ababab`, and each `@` in such a text for
-                    the number of its turn, so `{3 n@,}` for `n0,n1,n2,`
-    words           further words of the command line, as ["-w"], with the same `{3 ab}`
+A program with data is run on two files that have these columns:
+
+    program, data   the bytes of both files
+    words           further words of the command line, as ["-w"], in UTF-8
     answer          the line that is written: to standard error, with status 2, where it begins with `checktestdata: `; else to standard
                     output, with status 0 where it is `testdata ok!` and 1 where it is another
     steps           how many steps that takes: with a limit of one step less the run stops at it
@@ -14,6 +17,15 @@ A table says what all of its rows share, and its columns what each row gives:
     fails           whether the data come by standard input alone, and a read fails behind them; the reads behind that find the end
     wrong           a mark that fits nowhere in the program, of which single blanks part the tokens: cut before a token, or with that mark
                     or the word FOO in its place and nothing behind it, it is a syntax error there; each of these counts as a row
+
+A command line is run in a folder with the `files` that its document lists at the top; a name that ends with a slash is a folder. Its columns:
+
+    case            what it is about
+    words           all words of the command line
+    stdin           what standard input gives before its end
+    stays_open      whether standard input has no end, so that a run that waits for it is killed
+    status          the status that it ends with
+    out, err        what it writes to standard output and to standard error
 
 The last line counts the rows that were answered so, as passed, and the others. usage: tests/tables.py [PROGRAM]"""
 import fcntl
@@ -31,9 +43,11 @@ from contextlib import contextmanager
 from dataclasses import dataclass
 from functools import partial
 from pathlib import Path
+from typing import Any
 
-HERE = Path(__file__).resolve().parent
-TOP = HERE.parent
+from results import checker_to_test, print_results
+
+TABLES = Path(__file__).resolve().parent / "tables"
 STEP_LIMIT = re.compile(rb"checktestdata: line \d+ column \d+: step limit reached \(program [a-z0-9 ]+\)\n")
 FOLDED = re.compile(r"\{(\d+) ([^{}]*)\}")
 OUT_OF_TIME = 60
@@ -46,7 +60,7 @@ Left = tuple[int, bytes, bytes]
 
 @dataclass(frozen=True)
 class Row:
-    """A program and data, how the checker is called, and what it has to answer."""
+    """A program with data, how the checker is called, and what it has to answer."""
 
     program: str
     answer: str
@@ -75,20 +89,61 @@ class Row:
                 yield f"{how}, with a limit of {self.steps - 1} steps", (status, out, err)
 
 
-def rows_of(file: Path) -> Iterator[tuple[str, Row]]:
-    """The rows of the tables of a file, each with the name of its table."""
-    cut_programs: set[Row] = set()
+@dataclass(frozen=True)
+class CommandLine:
+    """How the checker is called, and what it has to leave."""
+
+    case: str
+    words: Sequence[str]
+    status: int
+    out: str = ""
+    err: str = ""
+    stdin: str = ""
+    stays_open: bool = False
+
+    def wanted(self) -> Left:
+        return self.status, bytes_of(self.out), bytes_of(self.err)
+
+
+def cells_of(file: Path) -> Iterator[tuple[str, dict[str, Any]]]:
+    """The rows of a file of tables as they stand, each by its columns and with the name of its table."""
     for table in tomllib.loads(file.read_text())["tables"]:
         name = f"{file.stem}: {table.pop('name')}"
         columns, rows = table.pop("columns"), table.pop("rows")
         for row in rows:
-            cells = {**table, **dict(zip(columns, row, strict=True))}
-            wrong = cells.pop("wrong", None)
-            yield name, Row(**cells)
-            if wrong is not None:
-                parts = [part for part in cut(cells["program"], wrong) if part not in cut_programs]
-                cut_programs.update(parts)
-                yield from ((name, part) for part in parts)
+            yield name, {**table, **dict(zip(columns, row, strict=True))}
+
+
+def rows_of(file: Path) -> Iterator[tuple[str, Row]]:
+    """The programs with data of a file of tables, each with the name of its table."""
+    cut_programs: set[Row] = set()
+    for name, cells in cells_of(file):
+        if "program" not in cells:
+            continue
+        wrong = cells.pop("wrong", None)
+        yield name, Row(**cells)
+        if wrong is not None:
+            parts = [part for part in cut(cells["program"], wrong) if part not in cut_programs]
+            cut_programs.update(parts)
+            yield from ((name, part) for part in parts)
+
+
+def command_lines_of(file: Path) -> Iterator[tuple[str, CommandLine]]:
+    """The command lines of a file of tables, each with the name of its table."""
+    for name, cells in cells_of(file):
+        if "program" not in cells:
+            yield name, CommandLine(**cells)
+
+
+def write_files(file: Path, folder: Path) -> None:
+    """Writes the files that a file of tables lists."""
+    for name, text in tomllib.loads(file.read_text()).get("files", {}).items():
+        path = os.path.join(os.fsencode(folder), bytes_of(name))
+        if name.endswith("/"):
+            os.mkdir(path)
+        else:
+            with open(path, "wb") as written:
+                written.write(bytes_of(text))
 
 
 def cut(program: str, wrong: str) -> Iterator[Row]:
@@ -145,17 +200,19 @@ def left_by(process: subprocess.Popen[bytes]) -> Left:
 
 
 class Checker:
-    """The built checker, and a folder for its files."""
+    """The built checker, and the folder that it runs in."""
 
     def __init__(self, checker: Path, folder: Path) -> None:
         self.checker = checker
+        self.folder = folder
         self.program = folder / "program"
         self.data = folder / "data"
 
     @contextmanager
-    def started(self, words: list[str | Path], stdin: int | socket.socket) -> Iterator[subprocess.Popen[bytes]]:
+    def started(self, words: Sequence[str | bytes | Path], stdin: int | socket.socket) -> Iterator[subprocess.Popen[bytes]]:
         """A run of the checker, which is killed where it takes too long."""
-        with subprocess.Popen([self.checker, *words], stdin=stdin, stdout=subprocess.PIPE, stderr=subprocess.PIPE) as process:
+        call = [self.checker, *words]
+        with subprocess.Popen(call, cwd=self.folder, stdin=stdin, stdout=subprocess.PIPE, stderr=subprocess.PIPE) as process:
             timer = threading.Timer(OUT_OF_TIME, process.kill)
             timer.start()
             try:
@@ -195,6 +252,17 @@ class Checker:
             ours.close()
             return left_by(process)
 
+    def run_line(self, line: CommandLine) -> Left:
+        """What a run with the words of a command line leaves."""
+        read_end, write_end = os.pipe()
+        with open(read_end, "rb") as theirs, open(write_end, "wb") as ours:
+            ours.write(bytes_of(line.stdin))
+            ours.flush()
+            if not line.stays_open:
+                ours.close()
+            with self.started([bytes_of(word) for word in line.words], theirs.fileno()) as process:
+                return left_by(process)
+
     def faults(self, row: Row) -> Iterator[tuple[str, Left]]:
         """What the runs of a row left that they should not, each with how it was run."""
         data = bytes_of(row.data)
@@ -205,21 +273,23 @@ class Checker:
             yield from row.faults(partial(self.run_on_pieces, data=data, size=size), f"in pieces of {size} bytes")
 
 
-def main() -> int:
-    words = sys.argv[1:]
-    checker = Path(words[0]).resolve() if words else TOP / "crates/checktestdata/out/checktestdata"
-    passed = failed = 0
-    with tempfile.TemporaryDirectory() as folder:
-        runs = Checker(checker, Path(folder))
-        for file in sorted((HERE / "tables").glob("*.toml")):
-            for name, row in rows_of(file):
-                faults = list(runs.faults(row))
-                passed, failed = passed + (not faults), failed + bool(faults)
-                for how, found in faults:
-                    print(f"tables: {name}: {row.program[:80]!r} on {row.data[:40]!r}, {how}: {found}, wanted {row.wanted()}")
-    print(f"{passed} passed, {failed} failed")
-    return int(failed > 0)
+def results_of(file: Path, checker: Checker) -> Iterator[tuple[str, list[str]]]:
+    """Each row of a file of tables with what was wrong in its runs."""
+    for name, row in rows_of(file):
+        faults = [f"{how}: {found}, wanted {row.wanted()}" for how, found in checker.faults(row)]
+        yield f"{name}: {row.program[:80]!r} on {row.data[:40]!r}", faults
+    for name, line in command_lines_of(file):
+        found = checker.run_line(line)
+        yield f"{name}: {line.case}", [] if found == line.wanted() else [f"{found}, wanted {line.wanted()}"]
+
+
+def all_results(program: Path) -> Iterator[tuple[str, list[str]]]:
+    """The results of each file of tables, which has a folder of its own."""
+    for file in sorted(TABLES.glob("*.toml")):
+        with tempfile.TemporaryDirectory() as folder:
+            write_files(file, Path(folder))
+            yield from results_of(file, Checker(program, Path(folder)))
 
 
 if __name__ == "__main__":
-    sys.exit(main())
+    sys.exit(print_results("tables", all_results(checker_to_test())))
