@@ -45,12 +45,12 @@ strip := $(if $(shell command -v strip),--strip)
 build: $(all_built)
 
 # The crates have a makefile of their own. It uses all processors, unless this make was given a number of jobs (-j).
-crates = $(MAKE) --no-print-directory --silent $(if $(filter -j% --jobserver%,$(MAKEFLAGS)),,-j$(shell nproc)) -f scripts/crates.mk
+make_crates = $(MAKE) --no-print-directory --silent $(if $(filter -j% --jobserver%,$(MAKEFLAGS)),,-j$(shell nproc)) -f scripts/crates.mk
 
 # A program that is up to date may be older than a source that it is not made of, such as a test: so touch.
 $(all_built) &: $(sources)
 	$(need_toolchain)
-	+@$(crates) $(all_built)
+	+@$(make_crates) $(all_built)
 	@touch $(all_built)
 
 # The programs come first, since all are made over the same libraries.

@@ -15,8 +15,8 @@ from collections.abc import Iterator
 from dataclasses import dataclass
 from pathlib import Path
 
-HERE = Path(__file__).resolve().parent
-TOP = HERE.parent
+from results import TOP, checker_to_test, print_results
+
 
 # Tests of calls that may run out of memory, in the program that `rt ci` builds of each crate of tests.
 TESTS = {
@@ -112,7 +112,7 @@ class Runner:
     def __init__(self, folder: Path) -> None:
         self.told = folder / "told"
         self.library = folder / "failing_allocation.so"
-        subprocess.run(["cc", "-O2", "-shared", "-fPIC", "-o", self.library, HERE / "failing_allocation.c"], check=True)
+        subprocess.run(["cc", "-O2", "-shared", "-fPIC", "-o", self.library, TOP / "tests/failing_allocation.c"], check=True)
 
     def run(self, command: list[str], first: int, goes_on: bool) -> Run:
         """A run in which the allocation of this number fails, counted from 1, or none for 0."""
@@ -202,7 +202,7 @@ def command_lines(folder: Path) -> dict[str, CommandLine]:
     }
 
 
-def faults_of_all(program: Path, tests: bool) -> Iterator[tuple[str, list[str]]]:
+def all_results(program: Path, tests: bool) -> Iterator[tuple[str, list[str]]]:
     """What the runs did that they should not, by what was run."""
     with tempfile.TemporaryDirectory() as name:
         runner = Runner(Path(name))
@@ -213,17 +213,5 @@ def faults_of_all(program: Path, tests: bool) -> Iterator[tuple[str, list[str]]]
                 yield f"{crate} {test}", runner.faults_of_test(TOP / f"crates/{crate}/out/{crate}_tests", test)
 
 
-def main() -> int:
-    built = TOP / "crates/checktestdata/out/checktestdata"
-    program = Path(sys.argv[1]).resolve() if len(sys.argv) > 1 else built
-    passed = failed = 0
-    for what, faults in faults_of_all(program, tests=len(sys.argv) == 1):
-        passed, failed = passed + (not faults), failed + bool(faults)
-        for fault in faults:
-            print(f"allocations: {what}: {fault}")
-    print(f"{passed} passed, {failed} failed")
-    return 1 if failed else 0
-
-
 if __name__ == "__main__":
-    sys.exit(main())
+    sys.exit(print_results("allocations", all_results(checker_to_test(), tests=len(sys.argv) == 1)))

@@ -17,9 +17,10 @@ import unittest
 from pathlib import Path
 from types import ModuleType
 
-TOP = Path(__file__).resolve().parent.parent
+from results import TOP, checker_to_test, run_unit_tests
+
 TOOLS = TOP / "tools"
-CHECKER = TOP / "crates/checktestdata/out/checktestdata"
+CHECKER = checker_to_test()
 OUT_OF_TIME = 60
 
 LIST = "INT(1,100000,n) NEWLINE\nREPI(i,n,SPACE)\n    INT(-9,9,a[i])\nEND\nNEWLINE\n"
@@ -564,16 +565,5 @@ class Both(unittest.TestCase):
         return subprocess.run([command, word], capture_output=True, text=True, check=True).stdout
 
 
-def main() -> int:
-    global CHECKER
-    if len(sys.argv) > 1:
-        CHECKER = Path(sys.argv[1]).resolve()
-    suite = unittest.defaultTestLoader.loadTestsFromModule(sys.modules[__name__])
-    outcome = unittest.TextTestRunner(verbosity=0).run(suite)
-    failed = len({test.id().partition(" ")[0] for test, _ in outcome.failures + outcome.errors})
-    print(f"{outcome.testsRun - failed} passed, {failed} failed")
-    return int(failed > 0)
-
-
 if __name__ == "__main__":
-    sys.exit(main())
+    sys.exit(run_unit_tests("companions"))

@@ -17,8 +17,8 @@ from collections.abc import Iterator
 from pathlib import Path
 
 from markdown_blocks import INDENTED, Block, Command, anchors, blocks, commands, links
+from results import TOP, checker_to_test, print_results
 
-TOP = Path(__file__).resolve().parent.parent
 GUIDES = ["TUTORIAL", "COOKBOOK", "MIGRATION", "INTEGRATION", "FAQ"]
 DOCUMENTS = ["README.md", "SECURITY.md", "examples/README.md", *(f"docs/{name}.md" for name in GUIDES)]
 SESSIONS = ["console", INDENTED]
@@ -122,20 +122,13 @@ def results_of(name: str, checker: Path, folder: Path) -> Iterator[tuple[int, st
         yield number, fault_of_link(document, link)
 
 
-def main() -> int:
-    words = sys.argv[1:]
-    checker = Path(words[0]).resolve() if words else TOP / "crates/checktestdata/out/checktestdata"
-    passed = failed = 0
+def all_results(checker: Path) -> Iterator[tuple[str, list[str]]]:
+    """The results of each document, which has a folder of its own."""
     for name in DOCUMENTS:
         with tempfile.TemporaryDirectory() as folder:
-            results = list(results_of(name, checker, Path(folder)))
-        for number, fault in results:
-            passed, failed = passed + (fault is None), failed + (fault is not None)
-            if fault is not None:
-                print(f"documents: {name}, line {number}: {fault}")
-    print(f"{passed} passed, {failed} failed")
-    return int(failed > 0)
+            for number, fault in results_of(name, checker, Path(folder)):
+                yield f"{name}, line {number}", [] if fault is None else [fault]
 
 
 if __name__ == "__main__":
-    sys.exit(main())
+    sys.exit(print_results("documents", all_results(checker_to_test())))

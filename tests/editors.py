@@ -20,8 +20,9 @@ from collections.abc import Iterator
 from pathlib import Path
 from typing import Any
 
-TOP = Path(__file__).resolve().parent.parent
-CHECKER = TOP / "crates/checktestdata/out/checktestdata"
+from results import TOP, checker_to_test, run_unit_tests
+
+CHECKER = checker_to_test()
 COMMANDS = ["checktestdata", "ctd-show", "ctd-mutate"]
 OUT_OF_TIME = 20
 # What is on the help and not offered: it is refused.
@@ -339,18 +340,5 @@ class TextMate(unittest.TestCase):
         self.assertEqual((len(words), vim, grammar), (21, words, words))
 
 
-def main() -> int:
-    global CHECKER
-    if len(sys.argv) > 1:
-        CHECKER = Path(sys.argv[1]).resolve()
-    suite = unittest.defaultTestLoader.loadTestsFromModule(sys.modules[__name__])
-    outcome = unittest.TextTestRunner(verbosity=0).run(suite)
-    for test, why in outcome.skipped:
-        print(f"editors: left out {test.id().removeprefix('__main__.')}: {why}")
-    failed = len({test.id().partition(" ")[0] for test, _ in outcome.failures + outcome.errors})
-    print(f"{outcome.testsRun - failed - len(outcome.skipped)} passed, {failed} failed")
-    return int(failed > 0)
-
-
 if __name__ == "__main__":
-    sys.exit(main())
+    sys.exit(run_unit_tests("editors"))

@@ -1,8 +1,9 @@
 #!/usr/bin/env python3
-"""Runs the problem packages of examples/, and the programs of the cookbook on data that are made for them.
+"""Runs the examples, and the programs of the cookbook on data that are made for them.
 
-Of each package, the files of data/sample and data/secret fit, and each file of data/invalid_inputs gets the message in the `.txt` beside it.
-Then the samples are spoilt: a jury wants status 1 for each of these, and never status 2.
+A small example has its data beside its program, each file with its message in the `.txt` beside it. Of a problem package, the files of
+data/sample and data/secret fit, and each file of data/invalid_inputs gets the message in the `.txt` beside it. Then the samples are spoilt: a
+jury wants status 1 for each of these, and never status 2.
 
 The last line counts the files that were answered so, as passed, and the others. usage: tests/examples.py [PROGRAM]"""
 import subprocess
@@ -11,17 +12,17 @@ import tempfile
 from collections.abc import Iterator
 from pathlib import Path
 
-TOP = Path(__file__).resolve().parent.parent
-sys.path.insert(0, str(TOP / "bench"))
+from results import TOP, checker_to_test, print_results
 
+sys.path.insert(0, str(TOP / "bench"))
 from cookbook import IDIOMS, programs  # noqa: E402
 
 FITS = "testdata ok!"
 SMALL_SIZES = [1, 2, 3, 7, 100]
 OUT_OF_TIME = 60
 
-# A name for the report, the program, the data, and how the answer begins.
-Case = tuple[str, Path, bytes, str]
+# A name for the report, the program, the data (a file, or bytes for standard input), and how the answer begins.
+Case = tuple[str, Path, Path | bytes, str]
 
 
 def spoilt(sample: bytes) -> Iterator[tuple[str, bytes, str]]:
@@ -37,17 +38,26 @@ def spoilt(sample: bytes) -> Iterator[tuple[str, bytes, str]]:
     yield "all bytes", bytes(range(256)), "line 1 column 1: expected an integer (program line "
 
 
+def name_in_repository(file: Path) -> str:
+    return str(file.relative_to(TOP))
+
+
+def cases_with_messages(program: Path, folder: Path) -> Iterator[Case]:
+    """The files of data of a folder that have their message beside them."""
+    for file in sorted(folder.glob("*.in")):
+        yield name_in_repository(file), program, file, file.with_suffix(".txt").read_text().rstrip("\n")
+
+
 def cases_of_package(program: Path) -> Iterator[Case]:
     """The files of a problem package, and its spoilt samples."""
-    package = program.parent.parent
-    for folder in ["sample", "secret"]:
-        for file in sorted((package / "data" / folder).glob("*.in")):
-            yield str(file.relative_to(TOP)), program, file.read_bytes(), FITS
-    for file in sorted((package / "data/invalid_inputs").glob("*.in")):
-        yield str(file.relative_to(TOP)), program, file.read_bytes(), file.with_suffix(".txt").read_text().rstrip("\n")
-    for file in sorted((package / "data/sample").glob("*.in")):
-        for how, data, message in spoilt(file.read_bytes()):
-            yield f"{file.relative_to(TOP)}, {how}", program, data, message
+    data = program.parent.parent / "data"
+    samples = sorted(data.glob("sample/*.in"))
+    for file in [*samples, *sorted(data.glob("secret/*.in"))]:
+        yield name_in_repository(file), program, file, FITS
+    yield from cases_with_messages(program, data / "invalid_inputs")
+    for file in samples:
+        for how, spoilt_data, message in spoilt(file.read_bytes()):
+            yield f"{name_in_repository(file)}, {how}", program, spoilt_data, message
 
 
 def cases_of_cookbook(folder: Path) -> Iterator[Case]:
@@ -60,31 +70,31 @@ def cases_of_cookbook(folder: Path) -> Iterator[Case]:
             yield f"{name} of the cookbook, size {size}", program, make(size), FITS
 
 
-def fault(checker: Path, case: Case) -> str | None:
+def faults(checker: Path, case: Case) -> list[str]:
     """What is wrong with the answer to a case: its text, its stream or its status."""
-    name, program, data, message = case
-    done = subprocess.run([checker, program], input=data, capture_output=True, timeout=OUT_OF_TIME, check=False)
+    _, program, data, message = case
+    words, given = ([checker, program], data) if isinstance(data, bytes) else ([checker, program, data], b"")
+    done = subprocess.run(words, input=given, capture_output=True, timeout=OUT_OF_TIME, check=False)
     line = done.stdout.decode("latin-1")
     is_right = line.startswith(message) and line.count("\n") == 1 and done.stderr == b""
     if is_right and done.returncode == int(message != FITS):
-        return None
-    return f"{name}: {line!r}, {done.stderr!r}, status {done.returncode}, wanted {message!r}"
+        return []
+    return [f"{line!r}, {done.stderr!r}, status {done.returncode}, wanted {message!r}"]
+
+
+def cases(folder: Path) -> Iterator[Case]:
+    """All cases; the programs of the cookbook are written to the folder."""
+    for program in sorted(TOP.glob("examples/*/program.ctd")):
+        yield from cases_with_messages(program, program.parent)
+    for program in sorted(TOP.glob("examples/*/input_validators/*.ctd")):
+        yield from cases_of_package(program)
+    yield from cases_of_cookbook(folder)
 
 
 def main() -> int:
-    words = sys.argv[1:]
-    checker = Path(words[0]).resolve() if words else TOP / "crates/checktestdata/out/checktestdata"
-    passed = failed = 0
+    checker = checker_to_test()
     with tempfile.TemporaryDirectory() as folder:
-        cases = [case for program in sorted(TOP.glob("examples/*/input_validators/*.ctd")) for case in cases_of_package(program)]
-        cases.extend(cases_of_cookbook(Path(folder)))
-        for case in cases:
-            found = fault(checker, case)
-            passed, failed = passed + (found is None), failed + (found is not None)
-            if found is not None:
-                print(f"examples: {found}")
-    print(f"{passed} passed, {failed} failed")
-    return int(failed > 0)
+        return print_results("examples", ((case[0], faults(checker, case)) for case in cases(Path(folder))))
 
 
 if __name__ == "__main__":

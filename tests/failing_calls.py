@@ -13,8 +13,8 @@ from collections.abc import Iterator
 from dataclasses import dataclass
 from pathlib import Path
 
-HERE = Path(__file__).resolve().parent
-TOP = HERE.parent
+from results import TOP, checker_to_test, print_results
+
 # An interrupted call, one that would have to wait, and one that failed; and for a write one that takes no byte.
 ERRORS = [errno.EINTR, errno.EAGAIN, errno.EIO]
 TAKES_NONE = 0
@@ -56,7 +56,7 @@ class Checker:
         self.program = program
         self.folder = folder
         self.library = folder / "failing_call.so"
-        subprocess.run(["cc", "-O2", "-shared", "-fPIC", "-o", self.library, HERE / "failing_call.c"], check=True)
+        subprocess.run(["cc", "-O2", "-shared", "-fPIC", "-o", self.library, TOP / "tests/failing_call.c"], check=True)
 
     def run(self, case: Case) -> Left:
         """What a run leaves, whose standard input has the data that fit."""
@@ -126,10 +126,14 @@ def cases() -> Iterator[Case]:
         yield from failing_writes(error)
 
 
+def faults(checker: Checker, case: Case) -> list[str]:
+    """What a run left that it should not."""
+    left = checker.run(case)
+    return [] if left == case.wanted else [f"{left}, wanted {case.wanted}"]
+
+
 def main() -> int:
-    built = TOP / "crates/checktestdata/out/checktestdata"
-    program = Path(sys.argv[1]).resolve() if len(sys.argv) > 1 else built
-    passed = failed = 0
+    program = checker_to_test()
     with tempfile.TemporaryDirectory() as name:
         folder = Path(name)
         (folder / "p.ctd").write_bytes(PROGRAM)
@@ -137,15 +141,8 @@ def main() -> int:
         (folder / "short.in").write_bytes(b"5")
         (folder / "folder").mkdir()
         checker = Checker(program, folder)
-        for case in cases():
-            left = checker.run(case)
-            if left == case.wanted:
-                passed += 1
-            else:
-                failed += 1
-                print(f"failing calls: {case.name}, {' '.join(case.words)}, {case.calls}: {left}, wanted {case.wanted}")
-    print(f"{passed} passed, {failed} failed")
-    return 1 if failed else 0
+        results = ((f"{case.name}, {' '.join(case.words)}, {case.calls}", faults(checker, case)) for case in cases())
+        return print_results("failing calls", results)
 
 
 if __name__ == "__main__":

@@ -25,9 +25,8 @@ from fuzzing.shrink import shrink
 from reference.faults import LeftOut
 from reference.tool import Answer
 from reference.wrong_bodies import WRONG_BODIES, WrongBody
+from results import BUILT, print_counts
 
-TOP = Path(__file__).resolve().parent.parent
-BUILT = TOP / "crates/checktestdata/out/checktestdata"
 CASES_OF_SELF_TEST = 20_000
 MOST_PRINTED = 10
 
@@ -120,8 +119,7 @@ def fuzz(program: Path, seed: int, numbers: range, jobs: int) -> int:
             print(f"fuzz: case {number} of seed {seed} has two answers; made smaller:")
             print_case(shrink(case_of(seed, number), lambda case: differs(case, checker)), checker)
     print(f"fuzz: {rate:.0f} cases a second of a processor; {summary.left_out} were left out")
-    print(f"{summary.passed} passed, {len(summary.differing)} failed")
-    return int(bool(summary.differing))
+    return print_counts(summary.passed, len(summary.differing))
 
 
 def makes_a_difference(wrong: WrongBody, case: Case, right: Answer) -> bool:
@@ -149,8 +147,7 @@ def self_test(program: Path, seed: int) -> int:
                 break
     for wrong in missing:
         print(f"fuzz: {wrong.name}: not seen by {CASES_OF_SELF_TEST} cases")
-    print(f"{len(WRONG_BODIES) - len(missing)} passed, {len(missing)} failed")
-    return int(bool(missing))
+    return print_counts(len(WRONG_BODIES) - len(missing), len(missing))
 
 
 def main() -> int:

@@ -7,9 +7,8 @@ from .conditions import And, Comparison, Condition, InArray, IsEof, Match, Not, 
 from .expressions import Expression, Length, Literal, Negation, Operation, Variable
 from .faults import Refused
 from .loops import Rep, While
-from .matching import Pattern
 from .patterns import BadPattern, read_pattern
-from .syntax import Node, Tree
+from .syntax import Tree
 from .tokens import NAME, Token
 
 
