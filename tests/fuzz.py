@@ -161,6 +161,8 @@ def main() -> int:
     parser.add_argument("--self-test", action="store_true", help="looks for wrong bodies in the reference")
     given = parser.parse_args()
     program = given.checker.resolve()
+    if not program.is_file():
+        parser.error(f"there is no {program}: make build makes it")
     if given.self_test:
         return self_test(program, given.seed)
     if given.case is None:

@@ -1,7 +1,7 @@
 #!/usr/bin/env bash
-# Rebuilds every proof and test from scratch (rt ci), then runs the program that this built: as a process, on the rows of tables, with reads,
-# writes and allocations failing, on the examples, as the documents say, beside its companions, installed and packed, and at last on generated
-# cases, of which a reference in Python knows the answers.
+# Rebuilds every proof and test from scratch (rt ci), then runs the program that this built: on the rows of tables, with streams that are closed
+# or full, with reads, writes and allocations failing, on the examples, as the documents say, beside its companions, installed and packed, and
+# at last on generated cases, of which a reference in Python knows the answers. The rules of the build are tried with a stub for the prover.
 # The last line counts what passed and failed in all.
 set -u
 cd "$(dirname "${BASH_SOURCE[0]}")/.." || exit
@@ -13,7 +13,7 @@ trap 'rm -f "$log"' EXIT
 passed=0
 failed=0
 
-# Runs a command and adds the counts of its last line; a command that ends badly and tells no failure counts as one.
+# Runs a command and adds the counts of its last line. A command that has no such line, or fails without a failure in it, counts as a failure.
 count() {
     "$@" | tee "$log"
     local status=${PIPESTATUS[0]} counts
@@ -29,12 +29,13 @@ count() {
 
 count rt ci
 if [ "$failed" -eq 0 ]; then
-    count tests/process.sh
     count tests/tables.py
+    count tests/process.sh
     count tests/failing_calls.py
     count tests/allocations.py
     count tests/companions.py
     count tests/editors.py
+    count tests/build.py
     count tests/install.sh
     count tests/examples.py
     count tests/documents.py

@@ -105,14 +105,14 @@ expect 'another prefix' test -x "$stage/opt/tools/bin/ctd-show"
 
 # Without the toolchain one line is written, whatever is asked for.
 mkdir -p "$work/bare/crates"
-cp -r Makefile HANDLES crates.txt checktestdata scripts tests "$work/bare"
+cp -r Makefile HANDLES crates.txt checktestdata scripts tests embed web "$work/bare"
 if PATH=/usr/bin:/bin command -v rt >/dev/null; then
     echo 'install: left out what is said without the toolchain: rt is in /usr/bin'
 else
     line='the Rattle toolchain is missing (no command rt): install rattle-kit-13f to build, or take the built program from the package checktestdata-nagdimot or the archive checktestdata-VERSION-x86_64-linux-gnu.tar.gz'
     without() { (cd "$work/bare" && env PATH=/usr/bin:/bin "$@" 2>&1); }
     expect './checktestdata without the toolchain' same "checktestdata: $line" "$(without ./checktestdata p.ctd d.in)"
-    for goal in build install deb dist test bench; do
+    for goal in build install deb dist test bench fuzz lib page test-lib test-page; do
         expect "make $goal without the toolchain" same "Makefile: *** $line.  Stop." "$(without make "$goal" | sed 's/^Makefile:[0-9]*/Makefile/')"
     done
 fi
@@ -125,7 +125,7 @@ done
 expect 'the version of the grammar for VS Code' grep -q "\"version\": \"$version.0\"" editors/vscode/package.json
 
 if has shellcheck 'the form of the scripts'; then
-    expect 'shellcheck' shellcheck -x checktestdata .ci/run scripts/*.sh packaging/*.sh tests/*.sh
+    expect 'shellcheck' shellcheck -x checktestdata .ci/run scripts/*.sh packaging/*.sh tests/*.sh embed/*.sh web/*.sh
     expect 'shellcheck of the completions' shellcheck --shell=bash completions/bash/*
 fi
 

@@ -13,7 +13,7 @@ from .run import Run
 from .store import Store
 from .words import Asked, Settings, settings
 
-# The texts of both options, which tests/process.sh has too.
+# The texts of both options, which tests/tables/process.toml has too.
 TEXTS = {
     "help": b"""\
 Usage: checktestdata [OPTION]... PROGRAM [TESTDATA]
