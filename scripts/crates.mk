@@ -18,39 +18,41 @@ TOOLCHAIN ?= $(kit)/toolchain
 processors := $(shell nproc)
 statements := $(findstring --statements,$(shell $(rattle) build --help))
 
+# What crates.txt says: the crates, those of them that are static libraries, and what follows the colon of a crate.
 lines := sed -e 's/[\#].*//' -e '/^ *$$/d' crates.txt
 crates := $(shell $(lines) | sed -e 's/[ :].*//')
-static_libraries := $(shell $(lines) | sed -n -e 's/ .*staticlib.*:.*//p')
+static_libraries := $(shell $(lines) | sed -n -e 's/ [^:]*staticlib.*//p')
+libraries_of = $(shell $(lines) | sed -n -E -e 's/^$(1)( [^:]*)?://p')
 programs := $(patsubst crates/%/src/main.rt,%,$(wildcard crates/*/src/main.rt))
 
-# The file that a proved crate becomes, with its path. A program becomes an object file first.
-file_of = $(if $(filter $(1),$(programs)),$(1).o,$(if $(filter $(1),$(static_libraries)),lib$(1).a,$(1).rlib))
-built = crates/$(1)/out/build/$(call file_of,$(1))
+# One of three, for a program, a static library and another library: CRATE, the three.
+by_kind = $(if $(filter $(1),$(programs)),$(2),$(if $(filter $(1),$(static_libraries)),$(3),$(4)))
 
-# The libraries that a crate names, those of them that are proved here, and the files that a crate is proved from.
-libraries_of = $(shell $(lines) | sed -n -e 's/^$(1)[ a-z_0-9=]*://p')
-ours = $(filter $(crates),$(1))
-sources_of = $(shell find $(wildcard $(addprefix crates/$(1)/,src specs proofs)))
+# The file that rattle makes of a crate, an object file if it is a program; those of several crates, of which the toolchain's have none.
+built = crates/$(1)/out/build/$(call by_kind,$(1),$(1).o,lib$(1).a,$(1).rlib)
+built_of = $(foreach crate,$(filter $(crates),$(1)),$(call built,$(crate)))
+sources_of = $(shell find crates/$(1)/src crates/$(1)/specs crates/$(1)/proofs 2>/dev/null)
 
-# The words for rattle, which runs in the folder of a crate: for a library, and for what is compiled.
-extern = --extern $(1)=$(if $(call ours,$(1)),../../$(call built,$(1)),'$(kit)/rlibs/$(1).rlib')
+# The words for rattle, which runs in the folder of a crate.
+extern = --extern $(1)=$(if $(filter $(crates),$(1)),../../$(call built,$(1)),'$(kit)/rlibs/$(1).rlib')
 search := -L 'dependency=$(kit)/rlibs' $(foreach crate,$(crates),-L dependency=../$(crate)/out/build)
 logic := --antt-project '$(kit)/rattle/logic/antt-project.json' --logic-built '$(kit)/logic_built'
-compiled := --toolchain '$(TOOLCHAIN)'
-kind_of = $(if $(filter $(1),$(programs)),$(compiled),$(if $(filter $(1),$(static_libraries)),--crate-type staticlib $(compiled),$(statements)))
-root_of = $(if $(filter $(1),$(programs)),src/main.rt,src/lib.rt)
+compiler := --toolchain '$(TOOLCHAIN)'
+root_of = $(call by_kind,$(1),src/main.rt,src/lib.rt,src/lib.rt)
+kind_of = $(call by_kind,$(1),$(compiler),--crate-type staticlib $(compiler),$(statements))
 
 # The rule of a crate: CRATE, its libraries.
 define rule
-$(call built,$(1)): $(rattle) $(call sources_of,$(1)) $(foreach library,$(call ours,$(2)),$(call built,$(library)))
-	@scripts/prove.sh $(1) '$(rattle)' build $(call root_of,$(1)) --crate-name $(1) $(foreach library,std $(2),$(call extern,$(library))) $(search) $(logic) --jobs $(processors) $(call kind_of,$(1)) -o ../../$(call built,$(1))
+$(call built,$(1)): $(rattle) $(call sources_of,$(1)) $(call built_of,$(2))
+	@scripts/prove.sh $(1) '$(rattle)' build $(call root_of,$(1)) --crate-name $(1) --jobs $(processors) \
+		$(foreach library,std $(2),$(call extern,$(library))) $(search) $(logic) $(call kind_of,$(1)) -o ../../$(call built,$(1))
 endef
 $(foreach crate,$(crates),$(eval $(call rule,$(crate),$(call libraries_of,$(crate)))))
 
-# The rule of a program: its object file, with the toolchain's C code.
+# The rule of a program, which is linked with the toolchain's C code.
 define link
 crates/$(1)/out/$(1): $(call built,$(1))
-	@'$(kit)/bin/rattle-link' --target x86_64-unknown-linux-gnu --toolchain '$(TOOLCHAIN)' -o $$@ $$< '$(kit)/c/libos_c.a' '$(kit)/c/liblibc_c.a'
+	@'$(kit)/bin/rattle-link' --target x86_64-unknown-linux-gnu $(compiler) -o $$@ $$< '$(kit)/c/libos_c.a' '$(kit)/c/liblibc_c.a'
 endef
 $(foreach program,$(programs),$(eval $(call link,$(program))))
 
