@@ -1,5 +1,5 @@
-# build: prove and compile the programs, with all processors (scripts/crates.mk); test: rebuild every proof and test from scratch, then run the built program;
-# install, uninstall: PREFIX and DESTDIR as usual; deb, dist: a Debian package and an archive of the built program, in out/.
+# build: prove and compile the programs, with all processors (scripts/crates.mk); test: rebuild every proof and test from scratch, then run the
+# built program; install, uninstall: PREFIX and DESTDIR as usual; deb, dist: a Debian package and an archive of the built program, in out/.
 # lib: builds the libraries for C and Python, and installs them as install does; page: makes the page for the browser in web/out; test-lib and
 # test-page test these (docs/EMBEDDING.md). fuzz: compares the checker with a reference in Python on COUNT generated cases of a SEED. bench:
 # times the checker beside C written by hand (bench/README.md).

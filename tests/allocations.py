@@ -15,6 +15,7 @@ from collections.abc import Iterator
 from dataclasses import dataclass
 from pathlib import Path
 
+from reference.tool import TEXTS
 from results import TOP, checker_to_test, print_results
 
 
@@ -44,17 +45,6 @@ NO_MEMORY = re.compile(rb"\b(AllocFailed|AllocError|Memory)\b")
 Left = tuple[int, bytes, bytes]
 OUT_OF_MEMORY = (2, b"", b"checktestdata: out of memory\n")
 FITS = (0, b"testdata ok!\n", b"")
-HELP = b"""\
-Usage: checktestdata [OPTION]... PROGRAM [TESTDATA]
-Check TESTDATA (or standard input) against PROGRAM.
-  -g, --generate                     not supported
-  -D, --define=<name>=<value>[,...]  preset variables
-  -q, --quiet                        write nothing to standard output
-  -w, --whitespace-ok                accept changes of whitespace
-      --max-steps=N                  stop after N steps
-      --help                         show this text
-      --version                      show the version
-"""
 
 # What asks for memory: variables of every shape, matches that are kept, large numbers, tests over arrays, and loops.
 PROGRAM = rb"""
@@ -197,7 +187,7 @@ def command_lines(folder: Path) -> dict[str, CommandLine]:
         "a program that is not there": CommandLine([none["none.ctd"], paths["right.in"]], refused(f"cannot open {none['none.ctd']}")),
         "data that are not there": CommandLine([paths["p.ctd"], none["none.in"]], refused(f"cannot open {none['none.in']}")),
         "a bad preset": CommandLine(["-D", "n", paths["p.ctd"], paths["right.in"]], refused("bad preset")),
-        "help": CommandLine(["--help"], (0, HELP, b"")),
+        "help": CommandLine(["--help"], (0, TEXTS["help"], b"")),
         "an option that is not known": CommandLine(["--lines"], refused("bad arguments\nTry 'checktestdata --help'.")),
     }
 
