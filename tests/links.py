@@ -1,8 +1,8 @@
 #!/usr/bin/env python3
-"""Follows the links of all documents, and sees that the table of docs/DESIGN.md says where a rule stands.
+"""Follows the links of all documents, and sees that docs/DESIGN.md says where a rule stands.
 
-A link leads to a file or a folder, and with a `#` to a heading of it or to an `<a id="..">`. In a row of the table each name that stands before
-"in" and a link is a word of the file that the link leads to, and docs/LANGUAGE.md has a link to each row.
+A link leads to a file or a folder, and with a `#` to a heading of it or to an `<a id="..">`. In docs/DESIGN.md, names that stand before "in" and a
+link are words of the file that the link leads to. docs/LANGUAGE.md has a link to each row of the table with an `<a id="..">`.
 
 The last line counts the links and names that are right, as passed, and the others. usage: tests/links.py"""
 import re
@@ -17,7 +17,7 @@ TOP = Path(__file__).resolve().parent.parent
 DESIGN = TOP / "docs/DESIGN.md"
 LANGUAGE = TOP / "docs/LANGUAGE.md"
 MARK = re.compile(r'<a id="([^"]+)"></a>')
-NAMED = re.compile(r"((?:`\w+`(?:, )?)+) in \[`[^\]]*`\]\(([^)]+)\)")
+NAMED = re.compile(r"((?:`\w+`(?:, |,? and )?)+)\sin\s\[`[^\]]*`\]\(([^)]+)\)")
 
 
 def documents() -> list[Path]:
@@ -41,20 +41,19 @@ def fault_of_link(document: Path, link: str) -> str | None:
     return f"there is no {mark} in {name or 'this document'}" if mark and mark not in marks(file) else None
 
 
-def faults_of_row(row: str) -> Iterator[str | None]:
-    """For the mark of a row and for each name in it what is wrong with it."""
+def fault_of_row(row: str) -> str | None:
+    """Whether docs/LANGUAGE.md leads to a row."""
     mark = MARK.search(row)
-    if mark is None:
-        yield "a row has no mark"
-    elif f"DESIGN.md#{mark[1]}" not in LANGUAGE.read_text():
-        yield f"docs/LANGUAGE.md has no link to {mark[1]}"
-    else:
-        yield None
-    for names, link in NAMED.findall(row):
-        file = DESIGN.parent / link
+    return None if mark is None or f"DESIGN.md#{mark[1]}" in LANGUAGE.read_text() else f"docs/LANGUAGE.md has no link to {mark[1]}"
+
+
+def faults_of_names(text: str) -> Iterator[tuple[int, str | None]]:
+    """For each name that stands before "in" and a link the number of its line, and what is wrong with it."""
+    for found in NAMED.finditer(text):
+        file = DESIGN.parent / found[2]
         words = set(re.findall(r"\w+", file.read_text())) if file.is_file() else set()
-        for name in re.findall(r"`(\w+)`", names):
-            yield None if name in words else f"there is no {name} in {link}"
+        for name in re.findall(r"`(\w+)`", found[1]):
+            yield text[: found.start()].count("\n") + 1, None if name in words else f"there is no {name} in {found[2]}"
 
 
 def results() -> Iterator[tuple[Path, int, str | None]]:
@@ -63,8 +62,9 @@ def results() -> Iterator[tuple[Path, int, str | None]]:
             yield document, number, fault_of_link(document, link)
     for number, line in lines_of_text(DESIGN):
         if MARK.search(line):
-            for fault in faults_of_row(line):
-                yield DESIGN, number, fault
+            yield DESIGN, number, fault_of_row(line)
+    for number, fault in faults_of_names(DESIGN.read_text()):
+        yield DESIGN, number, fault
 
 
 def main() -> int:
