@@ -1,0 +1,81 @@
+#!/usr/bin/env python3
+"""Follows the links of all documents, and sees that docs/DESIGN.md says where a rule stands.
+
+A link leads to a file or a folder, and with a `#` to a heading of it or to an `<a id="..">`. In docs/DESIGN.md, names that stand before "in" and a
+link are words of the file that the link leads to. docs/LANGUAGE.md has a link to each row of the table with an `<a id="..">`.
+
+The last line counts the links and names that are right, as passed, and the others. usage: tests/links.py"""
+import re
+import subprocess
+import sys
+from collections.abc import Iterator
+from pathlib import Path
+
+from markdown_blocks import anchors, lines_of_text, links
+
+TOP = Path(__file__).resolve().parent.parent
+DESIGN = TOP / "docs/DESIGN.md"
+LANGUAGE = TOP / "docs/LANGUAGE.md"
+MARK = re.compile(r'<a id="([^"]+)"></a>')
+NAMED = re.compile(r"((?:`\w+`(?:, |,? and )?)+)\sin\s\[`[^\]]*`\]\(([^)]+)\)")
+
+
+def documents() -> list[Path]:
+    """The documents that the repository keeps."""
+    listed = subprocess.run(["git", "ls-files", "*.md"], cwd=TOP, capture_output=True, text=True, check=False)
+    if listed.returncode == 0 and listed.stdout:
+        return [TOP / name for name in listed.stdout.splitlines()]
+    return sorted(path for path in TOP.rglob("*.md") if "out" not in path.parts)
+
+
+def marks(document: Path) -> set[str]:
+    """What links may name of a document behind a `#`."""
+    return anchors(document) | set(MARK.findall(document.read_text()))
+
+
+def fault_of_link(document: Path, link: str) -> str | None:
+    name, _, mark = link.partition("#")
+    file = document.parent / name if name else document
+    if not file.exists():
+        return f"there is no {link}"
+    return f"there is no {mark} in {name or 'this document'}" if mark and mark not in marks(file) else None
+
+
+def fault_of_row(row: str) -> str | None:
+    """Whether docs/LANGUAGE.md leads to a row."""
+    mark = MARK.search(row)
+    return None if mark is None or f"DESIGN.md#{mark[1]}" in LANGUAGE.read_text() else f"docs/LANGUAGE.md has no link to {mark[1]}"
+
+
+def faults_of_names(text: str) -> Iterator[tuple[int, str | None]]:
+    """For each name that stands before "in" and a link the number of its line, and what is wrong with it."""
+    for found in NAMED.finditer(text):
+        file = DESIGN.parent / found[2]
+        words = set(re.findall(r"\w+", file.read_text())) if file.is_file() else set()
+        for name in re.findall(r"`(\w+)`", found[1]):
+            yield text[: found.start()].count("\n") + 1, None if name in words else f"there is no {name} in {found[2]}"
+
+
+def results() -> Iterator[tuple[Path, int, str | None]]:
+    for document in documents():
+        for number, link in links(document):
+            yield document, number, fault_of_link(document, link)
+    for number, line in lines_of_text(DESIGN):
+        if MARK.search(line):
+            yield DESIGN, number, fault_of_row(line)
+    for number, fault in faults_of_names(DESIGN.read_text()):
+        yield DESIGN, number, fault
+
+
+def main() -> int:
+    passed = failed = 0
+    for document, number, fault in results():
+        passed, failed = passed + (fault is None), failed + (fault is not None)
+        if fault is not None:
+            print(f"links: {document.relative_to(TOP)}, line {number}: {fault}")
+    print(f"{passed} passed, {failed} failed")
+    return int(failed > 0)
+
+
+if __name__ == "__main__":
+    sys.exit(main())
