@@ -1,5 +1,4 @@
-pub mod Alone
-pub mod ArraysSeen
+pub mod Scalar
 pub mod Firsts
 pub mod Laid
 pub mod Lookups
@@ -7,9 +6,8 @@ pub mod Maps
 pub mod Members
 pub mod Merged
 pub mod Named
-pub mod NamedAt
+pub mod Slots
 pub mod Rows
 pub mod StoreLaws
-pub mod Telling
 pub mod Gridded
 pub mod AnyLaid

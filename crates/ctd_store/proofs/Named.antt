@@ -54,7 +54,7 @@ not_there x k vs none = elim (same_bytes x k) as (λ b. same_bytes x k ≡ b →
   | false ↦ λ _. refl
 ] refl
 
--- what is found where an array is laid over variables without its name
+-- what is found where an array is overlay_row over variables without its name
 laid_over : (x k : List ℕ) (a : Array) (vs : Variables) → find bytes_cmp k vs ≡ None → find bytes_cmp x (with_array k a vs) ≡ cond (same_bytes x k) (given a) (find bytes_cmp x vs)
 laid_over x k [] vs none = not_there x k vs none
 laid_over x k (e ∷ es) vs none = find-put bytes_cmp nat_list_cmp_total x k (e ∷ es) vs
@@ -122,7 +122,7 @@ twice q n at v vs ps placed is e =
 first_absent : (n : ℕ) (v : List ℕ × Array) (vs : Variables) (ps : Positions) → T (have_positions n (v ∷ vs) ps) → IsAbsent v.0 vs
 first_absent n v vs ps placed at is = twice v.0 n at v vs ps placed is refl
 
--- what is found where the first array is laid over the others
+-- what is found where the first array is overlay_row over the others
 found_first : (x : List ℕ) (n : ℕ) (v : List ℕ × Array) (vs : Variables) (ps : Positions) → T (have_positions n (v ∷ vs) ps) → find bytes_cmp x (in_order (v ∷ vs)) ≡ cond (same_bytes x v.0) (given v.1) (find bytes_cmp x (in_order vs))
 found_first x n v vs ps placed = laid_over x v.0 v.1 (in_order vs) (missing v.0 vs (first_absent n v vs ps placed))
 
@@ -236,6 +236,12 @@ added vs ps q e es placed absent =
     same_entries bytes_cmp nat_list_cmp_total exact_bytes _ _
     (sorted_in_order (vs ++ (q, e ∷ es) ∷ [])) (is_sorted-put bytes_cmp nat_list_cmp_total q (e ∷ es) (in_order vs) (sorted_in_order vs))
     (λ x. found_added x 0 vs ps q (e ∷ es) placed absent ∙ sym (find-put bytes_cmp nat_list_cmp_total x q (e ∷ es) (in_order vs)))
+
+-- one with no entries changes nothing
+pub added_empty : (vs : Variables) (ps : Positions) (q : List ℕ) → T (have_positions 0 vs ps) → IsAbsent q vs → in_order (vs ++ (q, []) ∷ []) ≡ in_order vs
+added_empty vs ps q placed absent =
+    same_entries bytes_cmp nat_list_cmp_total exact_bytes _ _ (sorted_in_order (vs ++ (q, []) ∷ [])) (sorted_in_order vs)
+    (λ x. found_added x 0 vs ps q [] placed absent ∙ sym (not_there x q (in_order vs) (missing q vs absent)))
 
 both : (a b : Bool) → T a → T b → T (a && b)
 both true b p h = h

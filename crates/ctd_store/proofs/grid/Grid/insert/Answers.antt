@@ -2,6 +2,7 @@ use Rattle.std.proofs.Common.{◌≡◌, ap, ◌∙◌, ◌+◌, ◌<◌, ◌≤
 use Rattle.std.specs.Prelude.{◌-◌}
 use Rattle.std.specs.FinMap.{put}
 use Rattle.ctd_store.specs.Grid.{grid}
+use Rattle.ctd_store.specs.ValueRef.{value_of_ref}
 use Rattle.ctd_store.specs.Order.{values_cmp}
 use Rattle.ctd_store.specs.Store.{cell}
 use Rattle.ctd_store.proofs.Gridded.{begun, unchanged_in_grid, written_in_grid}
@@ -28,9 +29,9 @@ returns-clause-done c _ =
     let row : c.base_for-self-inside.result + at ≡ c.args.row = omega (arith, c.if-row-self.false) in
     let column : old.base + place ≡ c.args.column = omega (arith, c.if-column-row.false) in
     let within : place ≤ length old.values.items = omega (arith, c.if-column-row-2.false, c.len-else-column-row.ensures) in
-    written_in_grid c.base_for-self-inside.result at place items old (record { base = old.base; values = c.write.new.values }) c.args.value
+    written_in_grid c.base_for-self-inside.result at place items old (record { base = old.base; values = c.write.new.values }) (value_of_ref c.args.value)
     in_range c.index_mut-row.ensures.value refl within c.in_ok-write.ensures.ok
-    ∙ (λ k. put values_cmp (cell (row k) (column k)) c.args.value ((begun c.self.inside.base c.base_for-self-inside.result items (λ filled. c.base_for-self-inside.ensures.kept (omega (arith, filled, c.len.ensures))) ∙ c.self.view_is) k))
+    ∙ (λ k. put values_cmp (cell (row k) (column k)) (value_of_ref c.args.value) ((begun c.self.inside.base c.base_for-self-inside.result items (λ filled. c.base_for-self-inside.ensures.kept (omega (arith, filled, c.len.ensures))) ∙ c.self.view_is) k))
 
 pub returns-in_err-add_row-clause-err : goal.returns-in_err-add_row-clause-err
 returns-in_err-add_row-clause-err c =
@@ -43,7 +44,7 @@ returns-then-at-len-2-clause-done c _ =
     let items = c.self.inside.rows.items in
     let row : c.base_for-self-inside.result + length items ≡ c.args.row = omega (arith, c.if-row-self.false, c.if-at-len-2.true, c.len-3.ensures) in
     c.in_ok-add_row.ensures.ok c.base_for-self-inside.result
-    ∙ (λ k. put values_cmp (cell (row k) c.args.column) c.args.value ((begun c.self.inside.base c.base_for-self-inside.result items (λ filled. c.base_for-self-inside.ensures.kept (omega (arith, filled, c.len.ensures))) ∙ c.self.view_is) k))
+    ∙ (λ k. put values_cmp (cell (row k) c.args.column) (value_of_ref c.args.value) ((begun c.self.inside.base c.base_for-self-inside.result items (λ filled. c.base_for-self-inside.ensures.kept (omega (arith, filled, c.len.ensures))) ∙ c.self.view_is) k))
 
 pub write-requires : goal.write-requires
 write-requires c = omega (arith, c.if-column-row.false, c.if-column-row-2.false, c.len-else-column-row.ensures)
