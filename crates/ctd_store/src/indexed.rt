@@ -63,9 +63,9 @@ impl Indexed {
         }
     }
 
-    /// The value at one number or two, where it stands in the row or in the grid; none says nothing.
+    /// The value at one number or two, where it stands in the row or in the grid. `None` means: take the general path.
     #[inline(always)]
-    pub(crate) fn at_hand(&self, index: Index<'_>) -> Option<&Value>
+    pub(crate) fn fast_value(&self, index: Index<'_>) -> Option<&Value>
         ensures value { IfSome result (λ x. find values_cmp (indices_at index.entry) self.now ≡ Some x.now) }
     {
         match (&self.form, index) {
@@ -75,7 +75,7 @@ impl Indexed {
         }
     }
 
-    /// The values, where they are a row alone; none says nothing.
+    /// The values, where they are a row alone. `None` means: take the general path.
     #[inline(always)]
     pub(crate) fn row(&self) -> Option<Row<'_>>
         ensures value { IfSome result (λ row. self.now ≡ overlay_row row.base row.values.now []) }
@@ -86,8 +86,78 @@ impl Indexed {
         }
     }
 
-    /// Gives an index list a value; after an error all is as it was.
+    /// Gives a number a value; after an error all is as it was.
     #[inline(always)]
+    pub(crate) fn insert_one(
+        &mut self,
+        alloc: Global,
+        number: usize,
+        value: ValueRef<'_>,
+    ) -> Result<(), AllocError>
+        ensures ok { OnOk result (self.new ≡ put values_cmp (slot number) (value_of_ref value.entry) self.old) }
+        ensures err { OnErr result (self.new ≡ self.old) }
+    {
+        match &mut self.form {
+            Form::Plain(plain) => plain.insert_one(alloc, number, value),
+            Form::Grid(_) => self.insert_out_of_line(alloc, Index::One(number), value),
+        }
+    }
+
+    /// Gives two numbers a value; after an error all is as it was.
+    #[inline(always)]
+    pub(crate) fn insert_two(
+        &mut self,
+        alloc: Global,
+        row: usize,
+        column: usize,
+        value: ValueRef<'_>,
+    ) -> Result<(), AllocError>
+        ensures ok { OnOk result (self.new ≡ put values_cmp (cell row column) (value_of_ref value.entry) self.old) }
+        ensures err { OnErr result (self.new ≡ self.old) }
+    {
+        if self.insert_in_grid(alloc, row, column, value)? {
+            return Ok(());
+        }
+        self.insert_out_of_line(alloc, Index::Two(row, column), value)
+    }
+
+    /// Gives two numbers a value, where the values are a grid whose rows have a place for it, and tells whether it did. Else all is as it
+    /// was; so it is after an error.
+    #[inline(always)]
+    fn insert_in_grid(
+        &mut self,
+        alloc: Global,
+        row: usize,
+        column: usize,
+        value: ValueRef<'_>,
+    ) -> Result<bool, AllocError>
+        ensures done { result ≡ Ok true → self.new ≡ put values_cmp (cell row column) (value_of_ref value.entry) self.old }
+        ensures stays { result ≡ Ok false → self.new ≡ self.old }
+        ensures err { OnErr result (self.new ≡ self.old) }
+    {
+        match &mut self.form {
+            Form::Grid(grid) => grid.insert_in_row(alloc, row, column, value),
+            Form::Plain(_) => Ok(false),
+        }
+    }
+
+    /// Gives an index list a value; after an error all is as it was. In line, so that only this rare way makes room for what it passes on.
+    #[inline(always)]
+    fn insert_out_of_line(
+        &mut self,
+        alloc: Global,
+        index: Index<'_>,
+        value: ValueRef<'_>,
+    ) -> Result<(), AllocError>
+        ensures ok { OnOk result (self.new ≡ put values_cmp (indices_at index.entry) (value_of_ref value.entry) self.old) }
+        ensures err { OnErr result (self.new ≡ self.old) }
+    {
+        self.insert(alloc, index, value)
+    }
+
+    /// Gives an index list a value; after an error all is as it was. Out of line: keeps the caller small.
+    #[cold]
+    #[inline(never)]
     pub(crate) fn insert(
         &mut self,
         alloc: Global,
@@ -110,7 +180,6 @@ impl Indexed {
 
     /// Gives two numbers a value, where the values are a grid with a place for it, or there is none yet, and tells whether it did. Else
     /// all is as it was; so it is after an error.
-    #[inline(always)]
     fn insert_at_cell(
         &mut self,
         alloc: Global,
@@ -136,8 +205,6 @@ impl Indexed {
     }
 
     /// Gives an index list a value in the row or the map, into which a grid is spread for it; after an error all is as it was.
-    #[cold]
-    #[inline(never)]
     fn insert_elsewhere(
         &mut self,
         alloc: Global,
