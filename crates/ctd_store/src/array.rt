@@ -7,12 +7,12 @@ ghost use Rattle.std.specs.FinMap.{find, put};
 ghost use Rattle.ctd_store.specs.Index.{indices_at, indices_of};
 ghost use Rattle.ctd_store.specs.ValueRef.{value_of_ref};
 ghost use Rattle.ctd_store.specs.Order.{values_cmp, same_value, same_values};
-ghost use Rattle.ctd_store.specs.Showing.{entry, not_among};
+ghost use Rattle.ctd_store.specs.Showing.{entry, visible_entries};
 ghost use Rattle.ctd_store.specs.Store.{has_indices, index_lists, overlay_row};
 
 use crate::index::{Index, Indices};
 use crate::indexed::Indexed;
-use crate::row_and_map::{Row, shows};
+use crate::row_and_map::{Row, is_visible};
 use crate::store::EntryRef;
 use crate::value::Value;
 use crate::value_ref::ValueRef;
@@ -156,7 +156,7 @@ impl Array {
         hidden: Option<&Array>,
         entries: &mut Vec<EntryRef<'s>>,
     ) -> Result<(), AllocError>
-        ensures added { OnOk result (map entry entries.new.items ≡ map entry entries.old.items ++ not_among (unwrap_or (option_copied hidden.entry) []) self.now) }
+        ensures added { OnOk result (map entry entries.new.items ≡ map entry entries.old.items ++ visible_entries (unwrap_or (option_copied hidden.entry) []) self.now) }
         ensures once { IsDistinct same_values (index_lists self.now) }
     {
         match &self.scalar {
@@ -170,12 +170,12 @@ impl Array {
 
     /// Whether a value is among those at whose index lists the hidden array, if there is one, has none. Allocates nothing.
     fn has_value(&self, hidden: Option<&Array>, value: ValueRef<'_>) -> bool
-        ensures value { result ≡ list_any (λ e. same_value (value_of_ref value.entry) e.1) (not_among (unwrap_or (option_copied hidden.entry) []) self.now) }
+        ensures value { result ≡ list_any (λ e. same_value (value_of_ref value.entry) e.1) (visible_entries (unwrap_or (option_copied hidden.entry) []) self.now) }
         ensures once { IsDistinct same_values (index_lists self.now) }
     {
         match &self.scalar {
             Some(scalar) => {
-                if shows(hidden, &[], scalar, value) {
+                if is_visible(hidden, &[], scalar, value) {
                     return true;
                 }
                 self.indexed.has_value(hidden, value)
@@ -243,7 +243,7 @@ pub(crate) fn add_entries<'s>(
     hidden: Option<&Array>,
     entries: &mut Vec<EntryRef<'s>>,
 ) -> Result<(), AllocError>
-    ensures added { OnOk result (map entry entries.new.items ≡ map entry entries.old.items ++ not_among (unwrap_or (option_copied hidden.entry) []) (unwrap_or (option_copied array.entry) [])) }
+    ensures added { OnOk result (map entry entries.new.items ≡ map entry entries.old.items ++ visible_entries (unwrap_or (option_copied hidden.entry) []) (unwrap_or (option_copied array.entry) [])) }
     ensures once { IsDistinct same_values (index_lists (unwrap_or (option_copied array.entry) [])) }
 {
     match array {
@@ -255,7 +255,7 @@ pub(crate) fn add_entries<'s>(
 /// Whether a value is among those of an array, if there is one, at whose index lists the hidden array, if there is one, has
 /// none. Allocates nothing.
 pub(crate) fn has_value(array: Option<&Array>, hidden: Option<&Array>, value: ValueRef<'_>) -> bool
-    ensures value { result ≡ list_any (λ e. same_value (value_of_ref value.entry) e.1) (not_among (unwrap_or (option_copied hidden.entry) []) (unwrap_or (option_copied array.entry) [])) }
+    ensures value { result ≡ list_any (λ e. same_value (value_of_ref value.entry) e.1) (visible_entries (unwrap_or (option_copied hidden.entry) []) (unwrap_or (option_copied array.entry) [])) }
     ensures once { IsDistinct same_values (index_lists (unwrap_or (option_copied array.entry) [])) }
 {
     match array {
@@ -271,7 +271,7 @@ pub(crate) fn add_entry<'s>(
     value: &'s Value,
     entries: &mut Vec<EntryRef<'s>>,
 ) -> Result<(), AllocError>
-    ensures added { OnOk result (map entry entries.new.items ≡ map entry entries.old.items ++ not_among (unwrap_or (option_copied hidden.entry) []) ((indices_of indices.entry, value.now) ∷ [])) }
+    ensures added { OnOk result (map entry entries.new.items ≡ map entry entries.old.items ++ visible_entries (unwrap_or (option_copied hidden.entry) []) ((indices_of indices.entry, value.now) ∷ [])) }
 {
     if !has_indices(hidden, indices.as_slice()) {
         entries.push(EntryRef { indices, value })?;

@@ -8,7 +8,7 @@ ghost use Rattle.ctd_store.specs.Grid.{cells, grid, put_each};
 ghost use Rattle.ctd_store.specs.Index.{indices_of};
 ghost use Rattle.ctd_store.specs.ValueRef.{value_of_ref};
 ghost use Rattle.ctd_store.specs.Order.{values_cmp, same_value};
-ghost use Rattle.ctd_store.specs.Showing.{entry, not_among};
+ghost use Rattle.ctd_store.specs.Showing.{entry, visible_entries};
 ghost use Rattle.ctd_store.specs.Store.{cell, has_indices};
 ghost use Rattle.ctd_store.specs.declared.value.Value.TheVariants as values;
 
@@ -178,7 +178,7 @@ impl Grid {
         hidden: Option<&Array>,
         entries: &mut Vec<EntryRef<'s>>,
     ) -> Result<(), AllocError>
-        ensures added { OnOk result (map entry entries.new.items ≡ map entry entries.old.items ++ not_among (unwrap_or (option_copied hidden.entry) []) self.now) }
+        ensures added { OnOk result (map entry entries.new.items ≡ map entry entries.old.items ++ visible_entries (unwrap_or (option_copied hidden.entry) []) self.now) }
     {
         for at in 0..self.rows.len() {
             add_row_entries(hidden, self.base, at, &self.rows[at], entries)?;
@@ -188,7 +188,7 @@ impl Grid {
 
     /// Whether a value is among those at whose index lists the hidden array, if there is one, has none. Allocates nothing.
     pub(crate) fn has_value(&self, hidden: Option<&Array>, value: ValueRef<'_>) -> bool
-        ensures value { result ≡ list_any (λ e. same_value (value_of_ref value.entry) e.1) (not_among (unwrap_or (option_copied hidden.entry) []) self.now) }
+        ensures value { result ≡ list_any (λ e. same_value (value_of_ref value.entry) e.1) (visible_entries (unwrap_or (option_copied hidden.entry) []) self.now) }
     {
         for at in 0..self.rows.len() {
             if row_has_value(hidden, self.base, at, &self.rows[at], value) {
@@ -283,7 +283,7 @@ fn add_row_entries<'s>(
     row: &'s GridRow,
     entries: &mut Vec<EntryRef<'s>>,
 ) -> Result<(), AllocError>
-    ensures added { OnOk result (map entry entries.new.items ≡ map entry entries.old.items ++ not_among (unwrap_or (option_copied hidden.entry) []) (cells (base + at) row.now.base row.now.values.items)) }
+    ensures added { OnOk result (map entry entries.new.items ≡ map entry entries.old.items ++ visible_entries (unwrap_or (option_copied hidden.entry) []) (cells (base + at) row.now.base row.now.values.items)) }
 {
     for column in 0..row.values.len() {
         let indices = cell_indices(base, at, row.base, column);
@@ -300,7 +300,7 @@ fn row_has_value(
     row: &GridRow,
     value: ValueRef<'_>,
 ) -> bool
-    ensures value { result ≡ list_any (λ e. same_value (value_of_ref value.entry) e.1) (not_among (unwrap_or (option_copied hidden.entry) []) (cells (base + at) row.now.base row.now.values.items)) }
+    ensures value { result ≡ list_any (λ e. same_value (value_of_ref value.entry) e.1) (visible_entries (unwrap_or (option_copied hidden.entry) []) (cells (base + at) row.now.base row.now.values.items)) }
 {
     for column in 0..row.values.len() {
         if value.order(ValueRef::of(&row.values[column])).is_eq() {

@@ -72,7 +72,7 @@ impl<'i> Index<'i> {
         }
     }
 
-    /// The same in memory of its own.
+    /// The values of the index list, in a list of their own.
     pub(crate) fn to_list(self, alloc: Global) -> Result<Vec<Value>, AllocError>
         ensures same { IfOk result (λ list. list.items ≡ indices_at self.entry) }
     {

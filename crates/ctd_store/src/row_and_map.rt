@@ -10,7 +10,7 @@ ghost use Rattle.ctd_store.specs.declared.index.Index.TheVariants as indexes;
 ghost use Rattle.ctd_store.specs.declared.value.Value.TheVariants.{Int, Text};
 ghost use Rattle.ctd_store.specs.ValueRef.{value_of_ref};
 ghost use Rattle.ctd_store.specs.Order.{values_cmp, same_value};
-ghost use Rattle.ctd_store.specs.Showing.{entry, not_among};
+ghost use Rattle.ctd_store.specs.Showing.{entry, visible_entries};
 ghost use Rattle.ctd_store.specs.Store.{Array as Entries, has_indices, overlay_row, slot, order_of_slot};
 
 use crate::array::{Array, add_entry, has_indices};
@@ -71,7 +71,7 @@ impl RowAndMap {
         }
     }
 
-    /// Whether there are no values; false says nothing.
+    /// Whether there are no values. `false` means: take the general path.
     pub(crate) fn is_empty(&self) -> bool
         ensures none { IsTrue result → self.now ≡ [] }
     {
@@ -90,7 +90,7 @@ impl RowAndMap {
 
     /// The value at a number, where it stands in the row. `None` means: take the general path.
     #[inline(always)]
-    pub(crate) fn in_row(&self, number: usize) -> Option<&Value>
+    pub(crate) fn value_in_row(&self, number: usize) -> Option<&Value>
         ensures value { IfSome result (λ x. find values_cmp (slot number) self.now ≡ Some x.now) }
     {
         match number_below(self.base, self.dense.len(), number) {
@@ -178,7 +178,7 @@ impl RowAndMap {
         hidden: Option<&Array>,
         entries: &mut Vec<EntryRef<'s>>,
     ) -> Result<(), AllocError>
-        ensures added { OnOk result (map entry entries.new.items ≡ map entry entries.old.items ++ not_among (unwrap_or (option_copied hidden.entry) []) self.now) }
+        ensures added { OnOk result (map entry entries.new.items ≡ map entry entries.old.items ++ visible_entries (unwrap_or (option_copied hidden.entry) []) self.now) }
     {
         let row = Row {
             base: self.base,
@@ -193,14 +193,14 @@ impl RowAndMap {
 
     /// Whether a value is among those at whose index lists the hidden array, if there is one, has none. Allocates nothing.
     pub(crate) fn has_value(&self, hidden: Option<&Array>, value: ValueRef<'_>) -> bool
-        ensures value { result ≡ list_any (λ e. same_value (value_of_ref value.entry) e.1) (not_among (unwrap_or (option_copied hidden.entry) []) self.now) }
+        ensures value { result ≡ list_any (λ e. same_value (value_of_ref value.entry) e.1) (visible_entries (unwrap_or (option_copied hidden.entry) []) self.now) }
     {
         if slots_have_value(hidden, self.base, &self.dense, value) {
             return true;
         }
         for (indices, stored) in &self.rest {
             let indices = indices.as_slice();
-            if shows(hidden, indices, stored, value)
+            if is_visible(hidden, indices, stored, value)
                 && slot_below(self.base, self.dense.len(), indices).is_none()
             {
                 return true;
@@ -223,7 +223,7 @@ fn add_through<'s>(
 ) -> Result<usize, AllocError>
     requires { from ≤ length row.values.now }
     ensures within { IfOk result (λ next. next ≤ length row.entry.values.now) }
-    ensures added { IfOk result (λ next. (later : Entries) → map entry entries.new.items ++ not_among (unwrap_or (option_copied hidden.entry) []) (overlay_row (row.entry.base + next) (drop next row.entry.values.now) later) ≡ map entry entries.old.items ++ not_among (unwrap_or (option_copied hidden.entry) []) (overlay_row (row.entry.base + from) (drop from row.entry.values.now) ((indices.now, value.now) ∷ later))) }
+    ensures added { IfOk result (λ next. (later : Entries) → map entry entries.new.items ++ visible_entries (unwrap_or (option_copied hidden.entry) []) (overlay_row (row.entry.base + next) (drop next row.entry.values.now) later) ≡ map entry entries.old.items ++ visible_entries (unwrap_or (option_copied hidden.entry) []) (overlay_row (row.entry.base + from) (drop from row.entry.values.now) ((indices.now, value.now) ∷ later))) }
 {
     let count = row.values.len();
     let at = first_not_before(row.base, from, count, indices);
@@ -247,7 +247,7 @@ fn add_slots<'s>(
     entries: &mut Vec<EntryRef<'s>>,
 ) -> Result<(), AllocError>
     requires { to ≤ length row.values.now }
-    ensures added { OnOk result (map entry entries.new.items ≡ map entry entries.old.items ++ not_among (unwrap_or (option_copied hidden.entry) []) (overlay_row (row.entry.base + from) (drop from (take to row.entry.values.now)) [])) }
+    ensures added { OnOk result (map entry entries.new.items ≡ map entry entries.old.items ++ visible_entries (unwrap_or (option_copied hidden.entry) []) (overlay_row (row.entry.base + from) (drop from (take to row.entry.values.now)) [])) }
 {
     for at in from..to {
         add_entry(hidden, slot_indices(row.base, at), &row.values[at], entries)?;
@@ -276,10 +276,10 @@ fn slots_have_value(
     values: &[Value],
     value: ValueRef<'_>,
 ) -> bool
-    ensures value { result ≡ list_any (λ e. same_value (value_of_ref value.entry) e.1) (not_among (unwrap_or (option_copied hidden.entry) []) (overlay_row base values.now [])) }
+    ensures value { result ≡ list_any (λ e. same_value (value_of_ref value.entry) e.1) (visible_entries (unwrap_or (option_copied hidden.entry) []) (overlay_row base values.now [])) }
 {
     for at in 0..values.len() {
-        if shows_at(hidden, base, at, &values[at], value) {
+        if is_visible_at(hidden, base, at, &values[at], value) {
             return true;
         }
     }
@@ -288,7 +288,7 @@ fn slots_have_value(
 
 /// Whether a value is the one at a place from a base on, and the hidden array, if there is one, has none there.
 #[inline(always)]
-fn shows_at(
+fn is_visible_at(
     hidden: Option<&Array>,
     base: usize,
     at: usize,
@@ -302,7 +302,7 @@ fn shows_at(
 }
 
 /// Whether a value is the one at an index list, and the hidden array, if there is one, has none there.
-pub(crate) fn shows(
+pub(crate) fn is_visible(
     hidden: Option<&Array>,
     indices: &[Value],
     stored: &Value,

@@ -111,22 +111,22 @@ impl Store {
         ensures value { option_copied result ≡ value_at self.now (record { name = name.now; indices = indices_at index.entry }) }
         ensures listed { option_copied result ≡ find values_cmp (indices_at index.entry) (values_of self.now name.now) }
     {
-        match self.fast_value(name, index) {
+        match self.fast_value_at(name, index) {
             Some(value) => Some(value),
             None => self.value_by_list(name, index),
         }
     }
 
-    /// The same, where nothing of the name is pinned, the hint leads to it and the value is found without a search. `None` means: take the general path.
+    /// The value of a name at an index, where it is found without a search. `None` means: take the general path.
     #[inline(always)]
-    fn fast_value(&self, name: &Name, index: Index<'_>) -> Option<&Value>
+    pub fn fast_value_at(&self, name: &Name, index: Index<'_>) -> Option<&Value>
         ensures value { IfSome result (λ x. value_at self.now (record { name = name.now; indices = indices_at index.entry }) ≡ Some x.now) }
     {
         let at = fast_position(&self.slots, &self.positions, name)?;
         self.slots[at].fast_value(index)
     }
 
-    /// The same of any name and index. It makes room for the values of the index only where it is needed.
+    /// The value of a name at an index, by a search. In line, so that only this rare way makes room for the values of the index.
     #[inline(always)]
     fn value_by_list(&self, name: &Name, index: Index<'_>) -> Option<&Value>
         ensures value { option_copied result ≡ value_at self.now (record { name = name.now; indices = indices_at index.entry }) }
@@ -134,7 +134,7 @@ impl Store {
         self.value_at_list(name, index.to_indices().as_slice())
     }
 
-    /// The same of an index list.
+    /// The value of a name at an index list, by a search. Out of line: keeps the caller small.
     #[cold]
     #[inline(never)]
     fn value_at_list(&self, name: &Name, indices: &[Value]) -> Option<&Value>
@@ -282,8 +282,7 @@ fn fast_position(slots: &[Slot], positions: &Positions, name: &Name) -> Option<u
     }
 }
 
-/// Where a name stands in a list, by its bytes: where its hint leads, or else by a search. A function of its own, so that its
-/// registers are saved only where it is needed.
+/// Where a name stands in a list, by its bytes: where its hint leads, or else by a search. Out of line: keeps the caller small.
 #[cold]
 #[inline(never)]
 fn position_by_search(slots: &[Slot], positions: &Positions, name: &Name) -> Option<usize>
@@ -300,7 +299,7 @@ fn position_by_search(slots: &[Slot], positions: &Positions, name: &Name) -> Opt
     }
 }
 
-/// Whether a short name stands at a position of a list; false says nothing.
+/// Whether a short name stands at a position of a list. `false` means: take the general path.
 #[inline(always)]
 fn has_short_name(slots: &[Slot], at: usize, name: &Name) -> bool
     ensures there { result ≡ true → name_in slots.now at ≡ Some name.now }

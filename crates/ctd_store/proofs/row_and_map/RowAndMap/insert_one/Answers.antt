@@ -4,7 +4,7 @@ use Rattle.std.specs.FinMap.{put}
 use Rattle.ctd_store.specs.Order.{values_cmp}
 use Rattle.ctd_store.specs.Store.{slot, overlay_row}
 use Rattle.ctd_store.specs.ValueRef.{value_of_ref}
-use Rattle.ctd_store.proofs.Laid.{written_at}
+use Rattle.ctd_store.proofs.Overlay.{written_at}
 use Rattle.ctd_store.proofs.Maps.{seen}
 use Rattle.ctd_store.proofs.row_and_map.RowAndMap.insert_one.Goals as goal
 
