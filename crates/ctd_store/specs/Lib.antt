@@ -2,6 +2,8 @@ pub mod Order
 pub mod Store
 pub mod OrderLaws
 pub mod StoreLaws
-pub mod Lent
+pub mod ValueRef
 pub mod Grid
+pub mod Index
+pub mod Slot
 pub mod Showing

@@ -1,5 +1,5 @@
 -- What has been assigned and pinned, and what a variable stands for.
-use Rattle.std.specs.Prelude.{◌≡◌, ℕ, ℤ, suc, pos, ◌+◌, nat_eq, nat_lt, true, false, Bool, not, ◌&&◌, List, [], ◌∷◌, ◌++◌, filter, fold, map, is_some, slice_get, option_map, Option, Some, None, IfSome, if◌then◌else◌}
+use Rattle.std.specs.Prelude.{ℕ, suc, pos, ◌+◌, nat_eq, nat_lt, true, false, Bool, not, ◌&&◌, List, [], ◌∷◌, ◌++◌, filter, fold, map, is_some, slice_get, option_map, Option, Some, None, if◌then◌else◌}
 use Rattle.std.specs.Option.{option_or, unwrap_or}
 use Rattle.std.specs.FinMap.{find, put, is_sorted}
 use Rattle.std.specs.declared.cmp.Ordering.{Ordering}
@@ -33,23 +33,19 @@ slot n = values.Int (pos n) ∷ []
 abbrev pub cell : ℕ → ℕ → List Value
 cell m n = values.Int (pos m) ∷ values.Int (pos n) ∷ []
 
--- an array, with values at the numbers from n on laid over it
-abbrev pub laid : ℕ → List Value → Array → Array
-laid n [] array = array
-laid n (x ∷ xs) array = put values_cmp (slot n) x (laid (suc n) xs array)
+-- an array, with values at the numbers from n on overlay_row over it
+abbrev pub overlay_row : ℕ → List Value → Array → Array
+overlay_row n [] array = array
+overlay_row n (x ∷ xs) array = put values_cmp (slot n) x (overlay_row (suc n) xs array)
 
--- an array, with the value without indices laid over it, if there is one
-abbrev pub with_alone : Option Value → Array → Array
-with_alone None array = array
-with_alone (Some x) array = put values_cmp [] x array
+-- an array, with the value without indices overlay_row over it, if there is one
+abbrev pub with_scalar : Option Value → Array → Array
+with_scalar None array = array
+with_scalar (Some x) array = put values_cmp [] x array
 
 -- whether an array is in order and has no value without indices
 abbrev pub is_indexed : Array → Bool
 is_indexed array = is_sorted values_cmp array && not (is_some (find values_cmp [] array))
-
--- a number that is kept beside a value, if there is one, is that value
-abbrev pub AgreesWith : Option ℤ → Option Value → Type 0
-AgreesWith small alone = IfSome small (λ n. alone ≡ Some (values.Int n))
 
 -- how the index list at a place from a number on stands to an index list, where there are so many; any further is after each
 abbrev pub order_of_slot : ℕ → ℕ → ℕ → List Value → Ordering
@@ -59,7 +55,7 @@ order_of_slot base at count indices = if nat_lt at count then values_cmp (slot (
 abbrev pub Variables : Type 0
 Variables = List (List ℕ × Array)
 
--- the variables, with the array of a name laid over them, if it has entries
+-- the variables, with the array of a name overlay_row over them, if it has entries
 abbrev pub with_array : List ℕ → Array → Variables → Variables
 with_array name [] variables = variables
 with_array name (e ∷ es) variables = put bytes_cmp name (e ∷ es) variables
@@ -113,9 +109,13 @@ value_of (literals.Text bytes) = values.Text bytes
 abbrev pub pinned_key : Preset → Key
 pinned_key p = record { name = p.name; indices = map value_of p.indices }
 
+-- the same variables, with a preset pinned
+abbrev pub with_pin : Variables → Preset → Variables
+with_pin pins p = with_value (pinned_key p) (value_of p.value) pins
+
 -- one preset after the other, so that the last of a key counts
 abbrev pub pins_of : List Preset → Variables
-pins_of presets = fold (λ pins p. with_value (pinned_key p) (value_of p.value) pins) [] presets
+pins_of presets = fold with_pin [] presets
 
 -- the presets pinned, and nothing assigned
 abbrev pub initial : List Preset → History

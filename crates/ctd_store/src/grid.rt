@@ -5,17 +5,19 @@ ghost use Rattle.std.specs.List.{list_any};
 ghost use Rattle.std.specs.Option.{option_copied, unwrap_or, IfSome, IfNone};
 ghost use Rattle.std.specs.FinMap.{find, put};
 ghost use Rattle.ctd_store.specs.Grid.{cells, grid, put_each};
-ghost use Rattle.ctd_store.specs.Lent.{value_lent};
+ghost use Rattle.ctd_store.specs.Index.{indices_of};
+ghost use Rattle.ctd_store.specs.ValueRef.{value_of_ref};
 ghost use Rattle.ctd_store.specs.Order.{values_cmp, same_value};
-ghost use Rattle.ctd_store.specs.Showing.{entry, indices_of, not_among};
+ghost use Rattle.ctd_store.specs.Showing.{entry, visible_entries};
 ghost use Rattle.ctd_store.specs.Store.{cell, has_indices};
 ghost use Rattle.ctd_store.specs.declared.value.Value.TheVariants as values;
 
-use crate::lent::Lent;
-use crate::row_and_map::{RowAndMap, clear_list, place_below, write, write_in_room};
-use crate::store::{EntryRef, Indices};
+use crate::array::{Array, add_entry, has_indices};
+use crate::index::{Index, Indices};
+use crate::row_and_map::{RowAndMap, clear_list, place_below, write};
+use crate::store::EntryRef;
 use crate::value::Value;
-use crate::variables::{Array, add_entry, has_indices};
+use crate::value_ref::ValueRef;
 use std::alloc::{AllocError, Global};
 use std::marker::Model;
 
@@ -49,9 +51,9 @@ impl Grid {
         alloc: Global,
         row: usize,
         column: usize,
-        value: Value,
+        value: ValueRef<'_>,
     ) -> Result<Grid, AllocError>
-        ensures entries { IfOk result (λ grid. grid ≡ (cell row column, value) ∷ []) }
+        ensures entries { IfOk result (λ grid. grid ≡ (cell row column, value_of_ref value.entry) ∷ []) }
     {
         let mut rows = Vec::new(alloc);
         add_row(alloc, &mut rows, column, value)?;
@@ -69,7 +71,7 @@ impl Grid {
         Some(&row.values[at])
     }
 
-    /// The value at a row and a column of 64 bits, where the grid has it; none says nothing.
+    /// The value at a row and a column of 64 bits, where the grid has it. `None` means: take the general path.
     #[inline(always)]
     pub(crate) fn at(&self, row: usize, column: usize) -> Option<&Value>
         ensures value { IfSome result (λ x. find values_cmp (cell row column) self.now ≡ Some x.now) }
@@ -84,62 +86,72 @@ impl Grid {
         value_at(&self.rows[at], column)
     }
 
-    /// Gives a row and a column a value, where they stand in the grid or just behind the values of a row, or begin the next row.
-    /// Else the value is given back, and all is as it was; so it is after an error. A grid with no rows begins anywhere.
+    /// Gives a row and a column a value, where the grid has the row and the column stands in it or just behind it, and tells whether it did.
+    /// Else all is as it was; so it is after an error.
+    #[inline(always)]
+    pub(crate) fn insert_in_row(
+        &mut self,
+        alloc: Global,
+        row: usize,
+        column: usize,
+        value: ValueRef<'_>,
+    ) -> Result<bool, AllocError>
+        ensures done { result ≡ Ok true → self.new ≡ put values_cmp (cell row column) (value_of_ref value.entry) self.old }
+        ensures stays { result ≡ Ok false → self.new ≡ self.old }
+        ensures err { OnErr result (self.new ≡ self.old) }
+    {
+        if row < self.base {
+            return Ok(false);
+        }
+        let at = row - self.base;
+        if at >= self.rows.len() {
+            return Ok(false);
+        }
+        let row = &mut self.rows[at];
+        if column < row.base || column - row.base > row.values.len() {
+            return Ok(false);
+        }
+        write(alloc, &mut row.values, column - row.base, value)?;
+        Ok(true)
+    }
+
+    /// Gives a row and a column a value, where they stand in the grid or just behind the values of a row, or begin the next row, and
+    /// tells whether it did. Else all is as it was; so it is after an error. A grid with no rows begins anywhere.
     pub(crate) fn insert(
         &mut self,
         alloc: Global,
         row: usize,
         column: usize,
-        value: Value,
-    ) -> Result<Option<Value>, AllocError>
-        ensures done { result ≡ Ok None → self.new ≡ put values_cmp (cell row column) value self.old }
-        ensures given_back { IfOk result (λ back. IfSome back (λ v. (v ≡ value) × (self.new ≡ self.old))) }
+        value: ValueRef<'_>,
+    ) -> Result<bool, AllocError>
+        ensures done { result ≡ Ok true → self.new ≡ put values_cmp (cell row column) (value_of_ref value.entry) self.old }
+        ensures stays { result ≡ Ok false → self.new ≡ self.old }
+        ensures err { OnErr result (self.new ≡ self.old) }
+    {
+        if self.insert_in_row(alloc, row, column, value)? {
+            return Ok(true);
+        }
+        self.begin_row(alloc, row, column, value)
+    }
+
+    /// Begins the next row with a value, or the first one anywhere, and tells whether it did. Else all is as it was; so it is after an error.
+    fn begin_row(
+        &mut self,
+        alloc: Global,
+        row: usize,
+        column: usize,
+        value: ValueRef<'_>,
+    ) -> Result<bool, AllocError>
+        ensures done { result ≡ Ok true → self.new ≡ put values_cmp (cell row column) (value_of_ref value.entry) self.old }
+        ensures stays { result ≡ Ok false → self.new ≡ self.old }
         ensures err { OnErr result (self.new ≡ self.old) }
     {
         self.base = base_for(self.base, self.rows.len(), row);
-        if row < self.base {
-            return Ok(Some(value));
+        if row < self.base || row - self.base != self.rows.len() {
+            return Ok(false);
         }
-        let at = row - self.base;
-        if at > self.rows.len() {
-            return Ok(Some(value));
-        }
-        if at == self.rows.len() {
-            add_row(alloc, &mut self.rows, column, value)?;
-            return Ok(None);
-        }
-        let row = &mut self.rows[at];
-        if column < row.base || column - row.base > row.values.len() {
-            return Ok(Some(value));
-        }
-        write(&mut row.values, column - row.base, value)?;
-        Ok(None)
-    }
-
-    /// The same, where that takes no memory and no new row.
-    #[inline(always)]
-    pub(crate) fn insert_in_room(
-        &mut self,
-        row: usize,
-        column: usize,
-        value: Value,
-    ) -> Option<Value>
-        ensures done { IfNone result (self.new ≡ put values_cmp (cell row column) value self.old) }
-        ensures given_back { IfSome result (λ v. (v ≡ value) × (self.new ≡ self.old)) }
-    {
-        if row < self.base {
-            return Some(value);
-        }
-        let at = row - self.base;
-        if at >= self.rows.len() {
-            return Some(value);
-        }
-        let row = &mut self.rows[at];
-        if column < row.base {
-            return Some(value);
-        }
-        write_in_room(&mut row.values, column - row.base, value)
+        add_row(alloc, &mut self.rows, column, value)?;
+        Ok(true)
     }
 
     /// Removes all values; few rows keep their room for the next ones.
@@ -166,7 +178,7 @@ impl Grid {
         hidden: Option<&Array>,
         entries: &mut Vec<EntryRef<'s>>,
     ) -> Result<(), AllocError>
-        ensures added { OnOk result (map entry entries.new.items ≡ map entry entries.old.items ++ not_among (unwrap_or (option_copied hidden.entry) []) self.now) }
+        ensures added { OnOk result (map entry entries.new.items ≡ map entry entries.old.items ++ visible_entries (unwrap_or (option_copied hidden.entry) []) self.now) }
     {
         for at in 0..self.rows.len() {
             add_row_entries(hidden, self.base, at, &self.rows[at], entries)?;
@@ -175,8 +187,8 @@ impl Grid {
     }
 
     /// Whether a value is among those at whose index lists the hidden array, if there is one, has none. Allocates nothing.
-    pub(crate) fn has_value(&self, hidden: Option<&Array>, value: Lent<'_>) -> bool
-        ensures value { result ≡ list_any (λ e. same_value (value_lent value.entry) e.1) (not_among (unwrap_or (option_copied hidden.entry) []) self.now) }
+    pub(crate) fn has_value(&self, hidden: Option<&Array>, value: ValueRef<'_>) -> bool
+        ensures value { result ≡ list_any (λ e. same_value (value_of_ref value.entry) e.1) (visible_entries (unwrap_or (option_copied hidden.entry) []) self.now) }
     {
         for at in 0..self.rows.len() {
             if row_has_value(hidden, self.base, at, &self.rows[at], value) {
@@ -223,19 +235,18 @@ fn value_at(row: &GridRow, column: usize) -> Option<&Value>
 }
 
 /// Adds a row with a single value, with room for as many as the row before it has; after an error the rows are as they were.
-#[inline(never)]
 fn add_row(
     alloc: Global,
     rows: &mut Vec<GridRow>,
     column: usize,
-    value: Value,
+    value: ValueRef<'_>,
 ) -> Result<(), AllocError>
-    ensures ok { OnOk result ((base : ℕ) → grid base rows.new.items ≡ put values_cmp (cell (base + length rows.old.items) column) value (grid base rows.old.items)) }
+    ensures ok { OnOk result ((base : ℕ) → grid base rows.new.items ≡ put values_cmp (cell (base + length rows.old.items) column) (value_of_ref value.entry) (grid base rows.old.items)) }
     ensures err { OnErr result (rows.new.items ≡ rows.old.items) }
 {
     let room = rows.last().map_or(1, |row| row.values.len());
     let mut values = Vec::with_capacity(alloc, room)?;
-    values.push(value)?;
+    values.push(value.to_value(alloc)?)?;
     rows.push(GridRow {
         base: column,
         values,
@@ -254,26 +265,14 @@ fn spread_row(
     ensures added { OnOk result (spread.new ≡ put_each (cells (base + at) row.now.base row.now.values.items) spread.old) }
 {
     for column in 0..row.values.len() {
-        let indices = cell_list(alloc, base, at, row.base, column)?;
-        spread.insert(indices, row.values[column].copy(alloc)?)?;
+        let indices = cell_indices(base, at, row.base, column);
+        spread.insert(
+            alloc,
+            Index::List(indices.as_slice()),
+            ValueRef::of(&row.values[column]),
+        )?;
     }
     Ok(())
-}
-
-/// The index list of the row and the column at places from two bases on, in memory of its own.
-fn cell_list(
-    alloc: Global,
-    base: usize,
-    at: usize,
-    first: usize,
-    column: usize,
-) -> Result<Vec<Value>, AllocError>
-    ensures value { IfOk result (λ list. list.items ≡ cell (base + at) (first + column)) }
-{
-    let mut indices = Vec::with_capacity(alloc, 2)?;
-    indices.push_reserved(Value::Int(base as i128 + at as i128));
-    indices.push_reserved(Value::Int(first as i128 + column as i128));
-    Ok(indices)
 }
 
 /// Adds the entries of the row at a place from a base on to others, but for those that the hidden array, if there is one, hides.
@@ -284,7 +283,7 @@ fn add_row_entries<'s>(
     row: &'s GridRow,
     entries: &mut Vec<EntryRef<'s>>,
 ) -> Result<(), AllocError>
-    ensures added { OnOk result (map entry entries.new.items ≡ map entry entries.old.items ++ not_among (unwrap_or (option_copied hidden.entry) []) (cells (base + at) row.now.base row.now.values.items)) }
+    ensures added { OnOk result (map entry entries.new.items ≡ map entry entries.old.items ++ visible_entries (unwrap_or (option_copied hidden.entry) []) (cells (base + at) row.now.base row.now.values.items)) }
 {
     for column in 0..row.values.len() {
         let indices = cell_indices(base, at, row.base, column);
@@ -299,12 +298,12 @@ fn row_has_value(
     base: usize,
     at: usize,
     row: &GridRow,
-    value: Lent<'_>,
+    value: ValueRef<'_>,
 ) -> bool
-    ensures value { result ≡ list_any (λ e. same_value (value_lent value.entry) e.1) (not_among (unwrap_or (option_copied hidden.entry) []) (cells (base + at) row.now.base row.now.values.items)) }
+    ensures value { result ≡ list_any (λ e. same_value (value_of_ref value.entry) e.1) (visible_entries (unwrap_or (option_copied hidden.entry) []) (cells (base + at) row.now.base row.now.values.items)) }
 {
     for column in 0..row.values.len() {
-        if value.order(Lent::of(&row.values[column])).is_eq() {
+        if value.order(ValueRef::of(&row.values[column])).is_eq() {
             let indices = cell_indices(base, at, row.base, column);
             if !has_indices(hidden, indices.as_slice()) {
                 return true;

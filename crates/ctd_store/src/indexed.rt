@@ -1,44 +1,46 @@
 //! Index lists with their values: a grid where the indices are two numbers, and else a row and a map.
 
-ghost use Rattle.std.specs.Prelude.{◌≡◌, ◌++◌, [], map, Some, None, Ok, IfOk, OnOk, OnErr};
+ghost use Rattle.std.specs.Prelude.{◌≡◌, ◌++◌, [], map, true, false, Some, Ok, IfOk, OnOk, OnErr};
 ghost use Rattle.std.specs.List.{list_any};
 ghost use Rattle.std.specs.Option.{option_copied, unwrap_or, IfSome, IfNone};
 ghost use Rattle.std.specs.FinMap.{find, put};
-ghost use Rattle.ctd_store.specs.Lent.{value_lent};
+ghost use Rattle.ctd_store.specs.Index.{indices_at};
+ghost use Rattle.ctd_store.specs.ValueRef.{value_of_ref};
 ghost use Rattle.ctd_store.specs.Order.{values_cmp, same_value};
-ghost use Rattle.ctd_store.specs.Showing.{entry, not_among};
-ghost use Rattle.ctd_store.specs.Store.{cell, laid, slot};
+ghost use Rattle.ctd_store.specs.Showing.{entry, visible_entries};
+ghost use Rattle.ctd_store.specs.Store.{cell, overlay_row, slot};
 
+use crate::array::Array;
 use crate::grid::Grid;
-use crate::lent::Lent;
+use crate::index::Index;
 use crate::row_and_map::{Row, RowAndMap};
 use crate::store::EntryRef;
 use crate::value::Value;
-use crate::variables::Array;
+use crate::value_ref::ValueRef;
 use std::alloc::{AllocError, Global};
 use std::marker::Model;
 use std::mem::replace;
 
 /// The two forms. An array becomes a grid by its first value, and ceases to be one by the first that has no place in it.
 #[derive(Drop)]
-enum Form {
-    Plain(RowAndMap),
+enum ArrayRepr {
+    RowAndMap(RowAndMap),
     Grid(Grid),
 }
 
 /// Index lists with their values, each index list once, which contracts see as the list of them in order.
 #[derive(Drop)]
 pub(crate) struct Indexed {
-    form: Form,
+    form: ArrayRepr,
 }
 
 impl Model for Indexed {
-    ghost use Rattle.ctd_store.specs.Showing.{formed};
+    ghost use Rattle.ctd_store.specs.Showing.{entries_in};
     ghost use Rattle.ctd_store.specs.Store.{Array};
 
     ghost Value = { Array };
 
-    ghost view = { λ a. formed a.form };
+    ghost view = { λ a. entries_in a.form };
 }
 
 impl Indexed {
@@ -47,7 +49,7 @@ impl Indexed {
         ensures empty { result ≡ [] }
     {
         Indexed {
-            form: Form::Plain(RowAndMap::new(alloc)),
+            form: ArrayRepr::RowAndMap(RowAndMap::new(alloc)),
         }
     }
 
@@ -56,81 +58,148 @@ impl Indexed {
         ensures value { option_copied result ≡ find values_cmp indices.now self.now }
     {
         match &self.form {
-            Form::Plain(plain) => plain.get(indices),
-            Form::Grid(grid) => grid.get(indices),
+            ArrayRepr::RowAndMap(plain) => plain.get(indices),
+            ArrayRepr::Grid(grid) => grid.get(indices),
         }
     }
 
-    /// The value at a number, where it stands in the row; none says nothing.
+    /// The value at one number or two, where it stands in the row or in the grid. `None` means: take the general path.
     #[inline(always)]
-    pub(crate) fn in_row(&self, number: usize) -> Option<&Value>
-        ensures value { IfSome result (λ x. find values_cmp (slot number) self.now ≡ Some x.now) }
+    pub(crate) fn fast_value(&self, index: Index<'_>) -> Option<&Value>
+        ensures value { IfSome result (λ x. find values_cmp (indices_at index.entry) self.now ≡ Some x.now) }
     {
-        match &self.form {
-            Form::Plain(plain) => plain.in_row(number),
-            Form::Grid(_) => None,
+        match (&self.form, index) {
+            (ArrayRepr::RowAndMap(plain), Index::One(number)) => plain.value_in_row(number),
+            (ArrayRepr::Grid(grid), Index::Two(row, column)) => grid.at(row, column),
+            _ => None,
         }
     }
 
-    /// The value at two numbers, where it stands in the grid; none says nothing.
-    #[inline(always)]
-    pub(crate) fn in_grid(&self, row: usize, column: usize) -> Option<&Value>
-        ensures value { IfSome result (λ x. find values_cmp (cell row column) self.now ≡ Some x.now) }
-    {
-        match &self.form {
-            Form::Plain(_) => None,
-            Form::Grid(grid) => grid.at(row, column),
-        }
-    }
-
-    /// The values, where they are a row alone; none says nothing.
+    /// The values, where they are a row alone. `None` means: take the general path.
     #[inline(always)]
     pub(crate) fn row(&self) -> Option<Row<'_>>
-        ensures value { IfSome result (λ row. self.now ≡ laid row.base row.values.now []) }
+        ensures value { IfSome result (λ row. self.now ≡ overlay_row row.base row.values.now []) }
     {
         match &self.form {
-            Form::Plain(plain) => plain.row(),
-            Form::Grid(_) => None,
+            ArrayRepr::RowAndMap(plain) => plain.row(),
+            ArrayRepr::Grid(_) => None,
         }
     }
 
-    /// Gives an index list a value; after an error all is as it was.
-    pub(crate) fn insert(&mut self, indices: Vec<Value>, value: Value) -> Result<(), AllocError>
-        ensures ok { OnOk result (self.new ≡ put values_cmp indices.items value self.old) }
+    /// Gives a number a value; after an error all is as it was.
+    #[inline(always)]
+    pub(crate) fn insert_one(
+        &mut self,
+        alloc: Global,
+        number: usize,
+        value: ValueRef<'_>,
+    ) -> Result<(), AllocError>
+        ensures ok { OnOk result (self.new ≡ put values_cmp (slot number) (value_of_ref value.entry) self.old) }
         ensures err { OnErr result (self.new ≡ self.old) }
     {
-        let alloc = *indices.allocator();
-        let Some((row, column)) = cell_of(&indices) else {
-            return self.insert_elsewhere(alloc, indices, value);
-        };
-        match self.insert_at_cell(alloc, row, column, value)? {
-            None => Ok(()),
-            Some(value) => self.insert_elsewhere(alloc, indices, value),
+        match &mut self.form {
+            ArrayRepr::RowAndMap(plain) => plain.insert_one(alloc, number, value),
+            ArrayRepr::Grid(_) => self.insert_out_of_line(alloc, Index::One(number), value),
         }
     }
 
-    /// Gives two numbers a value, where the values are a grid with a place for it, or there is none yet. Else the value is given
-    /// back, and all is as it was; so it is after an error.
+    /// Gives two numbers a value; after an error all is as it was.
+    #[inline(always)]
+    pub(crate) fn insert_two(
+        &mut self,
+        alloc: Global,
+        row: usize,
+        column: usize,
+        value: ValueRef<'_>,
+    ) -> Result<(), AllocError>
+        ensures ok { OnOk result (self.new ≡ put values_cmp (cell row column) (value_of_ref value.entry) self.old) }
+        ensures err { OnErr result (self.new ≡ self.old) }
+    {
+        if self.insert_in_grid(alloc, row, column, value)? {
+            return Ok(());
+        }
+        self.insert_out_of_line(alloc, Index::Two(row, column), value)
+    }
+
+    /// Gives two numbers a value, where the values are a grid whose rows have a place for it, and tells whether it did. Else all is as it
+    /// was; so it is after an error.
+    #[inline(always)]
+    fn insert_in_grid(
+        &mut self,
+        alloc: Global,
+        row: usize,
+        column: usize,
+        value: ValueRef<'_>,
+    ) -> Result<bool, AllocError>
+        ensures done { result ≡ Ok true → self.new ≡ put values_cmp (cell row column) (value_of_ref value.entry) self.old }
+        ensures stays { result ≡ Ok false → self.new ≡ self.old }
+        ensures err { OnErr result (self.new ≡ self.old) }
+    {
+        match &mut self.form {
+            ArrayRepr::Grid(grid) => grid.insert_in_row(alloc, row, column, value),
+            ArrayRepr::RowAndMap(_) => Ok(false),
+        }
+    }
+
+    /// Gives an index list a value; after an error all is as it was. In line, so that only this rare way makes room for what it passes on.
+    #[inline(always)]
+    fn insert_out_of_line(
+        &mut self,
+        alloc: Global,
+        index: Index<'_>,
+        value: ValueRef<'_>,
+    ) -> Result<(), AllocError>
+        ensures ok { OnOk result (self.new ≡ put values_cmp (indices_at index.entry) (value_of_ref value.entry) self.old) }
+        ensures err { OnErr result (self.new ≡ self.old) }
+    {
+        self.insert(alloc, index, value)
+    }
+
+    /// Gives an index list a value; after an error all is as it was. Out of line: keeps the caller small.
+    #[cold]
+    #[inline(never)]
+    pub(crate) fn insert(
+        &mut self,
+        alloc: Global,
+        index: Index<'_>,
+        value: ValueRef<'_>,
+    ) -> Result<(), AllocError>
+        ensures ok { OnOk result (self.new ≡ put values_cmp (indices_at index.entry) (value_of_ref value.entry) self.old) }
+        ensures err { OnErr result (self.new ≡ self.old) }
+    {
+        if let Index::Two(row, column) = index {
+            if self.insert_at_cell(alloc, row, column, value)? {
+                return Ok(());
+            }
+        }
+        match &mut self.form {
+            ArrayRepr::RowAndMap(plain) => plain.insert(alloc, index, value),
+            ArrayRepr::Grid(_) => self.insert_elsewhere(alloc, index, value),
+        }
+    }
+
+    /// Gives two numbers a value, where the values are a grid with a place for it, or there is none yet, and tells whether it did. Else
+    /// all is as it was; so it is after an error.
     fn insert_at_cell(
         &mut self,
         alloc: Global,
         row: usize,
         column: usize,
-        value: Value,
-    ) -> Result<Option<Value>, AllocError>
-        ensures done { result ≡ Ok None → self.new ≡ put values_cmp (cell row column) value self.old }
-        ensures given_back { IfOk result (λ back. IfSome back (λ v. (v ≡ value) × (self.new ≡ self.old))) }
+        value: ValueRef<'_>,
+    ) -> Result<bool, AllocError>
+        ensures done { result ≡ Ok true → self.new ≡ put values_cmp (cell row column) (value_of_ref value.entry) self.old }
+        ensures stays { result ≡ Ok false → self.new ≡ self.old }
         ensures err { OnErr result (self.new ≡ self.old) }
     {
         match &mut self.form {
-            Form::Grid(grid) => grid.insert(alloc, row, column, value),
-            Form::Plain(plain) => {
+            ArrayRepr::Grid(grid) => grid.insert(alloc, row, column, value),
+            ArrayRepr::RowAndMap(plain) => {
                 if !plain.is_empty() {
-                    return Ok(Some(value));
+                    return Ok(false);
                 }
                 let grid = Grid::of_one(alloc, row, column, value)?;
-                drop(replace(&mut self.form, Form::Grid(grid)));
-                Ok(None)
+                drop(replace(&mut self.form, ArrayRepr::Grid(grid)));
+                Ok(true)
             }
         }
     }
@@ -139,50 +208,20 @@ impl Indexed {
     fn insert_elsewhere(
         &mut self,
         alloc: Global,
-        indices: Vec<Value>,
-        value: Value,
+        index: Index<'_>,
+        value: ValueRef<'_>,
     ) -> Result<(), AllocError>
-        ensures ok { OnOk result (self.new ≡ put values_cmp indices.items value self.old) }
+        ensures ok { OnOk result (self.new ≡ put values_cmp (indices_at index.entry) (value_of_ref value.entry) self.old) }
         ensures err { OnErr result (self.new ≡ self.old) }
     {
         match &mut self.form {
-            Form::Plain(plain) => plain.insert(indices, value),
-            Form::Grid(grid) => {
+            ArrayRepr::RowAndMap(plain) => plain.insert(alloc, index, value),
+            ArrayRepr::Grid(grid) => {
                 let mut plain = grid.spread(alloc)?;
-                plain.insert(indices, value)?;
-                drop(replace(&mut self.form, Form::Plain(plain)));
+                plain.insert(alloc, index, value)?;
+                drop(replace(&mut self.form, ArrayRepr::RowAndMap(plain)));
                 Ok(())
             }
-        }
-    }
-
-    /// Gives the index list of a number a value, where it stands in the row or just behind it and that takes no memory; else the
-    /// value is given back, and all is as it was.
-    #[inline(always)]
-    pub(crate) fn insert_in_row(&mut self, number: usize, value: Value) -> Option<Value>
-        ensures done { IfNone result (self.new ≡ put values_cmp (slot number) value self.old) }
-        ensures given_back { IfSome result (λ v. (v ≡ value) × (self.new ≡ self.old)) }
-    {
-        match &mut self.form {
-            Form::Plain(plain) => plain.insert_in_row(number, value),
-            Form::Grid(_) => Some(value),
-        }
-    }
-
-    /// The same of the index list of two numbers and the grid.
-    #[inline(always)]
-    pub(crate) fn insert_in_grid(
-        &mut self,
-        row: usize,
-        column: usize,
-        value: Value,
-    ) -> Option<Value>
-        ensures done { IfNone result (self.new ≡ put values_cmp (cell row column) value self.old) }
-        ensures given_back { IfSome result (λ v. (v ≡ value) × (self.new ≡ self.old)) }
-    {
-        match &mut self.form {
-            Form::Plain(_) => Some(value),
-            Form::Grid(grid) => grid.insert_in_room(row, column, value),
         }
     }
 
@@ -191,8 +230,8 @@ impl Indexed {
         ensures empty { self.new ≡ [] }
     {
         match &mut self.form {
-            Form::Plain(plain) => plain.clear(),
-            Form::Grid(grid) => grid.clear(),
+            ArrayRepr::RowAndMap(plain) => plain.clear(),
+            ArrayRepr::Grid(grid) => grid.clear(),
         }
     }
 
@@ -202,33 +241,21 @@ impl Indexed {
         hidden: Option<&Array>,
         entries: &mut Vec<EntryRef<'s>>,
     ) -> Result<(), AllocError>
-        ensures added { OnOk result (map entry entries.new.items ≡ map entry entries.old.items ++ not_among (unwrap_or (option_copied hidden.entry) []) self.now) }
+        ensures added { OnOk result (map entry entries.new.items ≡ map entry entries.old.items ++ visible_entries (unwrap_or (option_copied hidden.entry) []) self.now) }
     {
         match &self.form {
-            Form::Plain(plain) => plain.add_entries(hidden, entries),
-            Form::Grid(grid) => grid.add_entries(hidden, entries),
+            ArrayRepr::RowAndMap(plain) => plain.add_entries(hidden, entries),
+            ArrayRepr::Grid(grid) => grid.add_entries(hidden, entries),
         }
     }
 
     /// Whether a value is among those at whose index lists the hidden array, if there is one, has none. Allocates nothing.
-    pub(crate) fn has_value(&self, hidden: Option<&Array>, value: Lent<'_>) -> bool
-        ensures value { result ≡ list_any (λ e. same_value (value_lent value.entry) e.1) (not_among (unwrap_or (option_copied hidden.entry) []) self.now) }
+    pub(crate) fn has_value(&self, hidden: Option<&Array>, value: ValueRef<'_>) -> bool
+        ensures value { result ≡ list_any (λ e. same_value (value_of_ref value.entry) e.1) (visible_entries (unwrap_or (option_copied hidden.entry) []) self.now) }
     {
         match &self.form {
-            Form::Plain(plain) => plain.has_value(hidden, value),
-            Form::Grid(grid) => grid.has_value(hidden, value),
+            ArrayRepr::RowAndMap(plain) => plain.has_value(hidden, value),
+            ArrayRepr::Grid(grid) => grid.has_value(hidden, value),
         }
-    }
-}
-
-/// The two numbers that an index list is, where both are not below 0 and have 64 bits; none says nothing.
-fn cell_of(indices: &[Value]) -> Option<(usize, usize)>
-    ensures value { IfSome result (λ p. indices.now ≡ cell p.0 p.1) }
-{
-    match indices {
-        [Value::Int(row), Value::Int(column)] => {
-            Some((usize::try_from(*row).ok()?, usize::try_from(*column).ok()?))
-        }
-        _ => None,
     }
 }

@@ -1,19 +1,23 @@
 //! Index lists with their values: a row of values for the numbers from 0 or 1 on, and an ordered map for all others.
 
-ghost use Rattle.std.specs.Prelude.{◌≡◌, ◌≢◌, ℕ, suc, pos, ◌+◌, ◌<◌, ◌≤◌, length, take, drop, [], ◌∷◌, ◌++◌, map, not, ◌&&◌, true, false, Some, IfOk, IsTrue, OnOk, OnErr, vec_len, vec_capacity};
+ghost use Rattle.std.specs.Prelude.{◌≡◌, ◌≢◌, ℕ, suc, pos, ◌+◌, ◌<◌, ◌≤◌, length, take, drop, [], ◌∷◌, ◌++◌, map, not, ◌&&◌, true, false, Some, IfOk, T, IsTrue, OnOk, OnErr};
 ghost use Rattle.std.specs.List.{list_any};
 ghost use Rattle.std.specs.Option.{option_copied, unwrap_or, IfSome, IfNone};
-ghost use Rattle.std.specs.FinMap.{find, put};
+ghost use Rattle.std.specs.FinMap.{find, put, is_sorted};
 ghost use Rattle.std.specs.declared.cmp.Ordering.TheVariants.{Less};
-ghost use Rattle.ctd_store.specs.Lent.{value_lent};
+ghost use Rattle.ctd_store.specs.Index.{indices_at, indices_of};
+ghost use Rattle.ctd_store.specs.declared.index.Index.TheVariants as indexes;
+ghost use Rattle.ctd_store.specs.declared.value.Value.TheVariants.{Int, Text};
+ghost use Rattle.ctd_store.specs.ValueRef.{value_of_ref};
 ghost use Rattle.ctd_store.specs.Order.{values_cmp, same_value};
-ghost use Rattle.ctd_store.specs.Showing.{entry, indices_of, not_among};
-ghost use Rattle.ctd_store.specs.Store.{Array as Entries, has_indices, laid, slot, order_of_slot};
+ghost use Rattle.ctd_store.specs.Showing.{entry, visible_entries};
+ghost use Rattle.ctd_store.specs.Store.{Array as Entries, has_indices, overlay_row, slot, order_of_slot};
 
-use crate::lent::Lent;
-use crate::store::{EntryRef, Indices};
+use crate::array::{Array, add_entry, has_indices};
+use crate::index::{Index, Indices};
+use crate::store::EntryRef;
 use crate::value::Value;
-use crate::variables::{Array, add_entry, has_indices};
+use crate::value_ref::ValueRef;
 use std::alloc::{AllocError, Global};
 use std::cmp::Ordering;
 use std::collections::BTreeMap;
@@ -46,11 +50,11 @@ impl Model for RowAndMap {
     ghost use Rattle.std.specs.Prelude.{T, map};
     ghost use Rattle.std.specs.FinMap.{is_sorted};
     ghost use Rattle.ctd_store.specs.Order.{values_cmp};
-    ghost use Rattle.ctd_store.specs.Store.{Array, laid};
+    ghost use Rattle.ctd_store.specs.Store.{Array, overlay_row};
 
     ghost Value = { Array };
 
-    ghost view = { λ a. laid a.base a.dense.items (map (λ e. (e.0.items, e.1)) a.rest.entries) };
+    ghost view = { λ a. overlay_row a.base a.dense.items (map (λ e. (e.0.items, e.1)) a.rest.entries) };
 
     ghost invariant = { λ a. T (is_sorted values_cmp (map (λ e. (e.0.items, e.1)) a.rest.entries)) };
 }
@@ -67,7 +71,7 @@ impl RowAndMap {
         }
     }
 
-    /// Whether there are no values; false says nothing.
+    /// Whether there are no values. `false` means: take the general path.
     pub(crate) fn is_empty(&self) -> bool
         ensures none { IsTrue result → self.now ≡ [] }
     {
@@ -84,26 +88,21 @@ impl RowAndMap {
         }
     }
 
-    /// The value at a number, where it stands in the row; none says nothing.
+    /// The value at a number, where it stands in the row. `None` means: take the general path.
     #[inline(always)]
-    pub(crate) fn in_row(&self, number: usize) -> Option<&Value>
+    pub(crate) fn value_in_row(&self, number: usize) -> Option<&Value>
         ensures value { IfSome result (λ x. find values_cmp (slot number) self.now ≡ Some x.now) }
     {
-        if number < self.base {
-            return None;
-        }
-        let at = number - self.base;
-        if at < self.dense.len() {
-            Some(&self.dense[at])
-        } else {
-            None
+        match number_below(self.base, self.dense.len(), number) {
+            Some(at) => Some(&self.dense[at]),
+            None => None,
         }
     }
 
-    /// The values, where they are a row alone; none says nothing.
+    /// The values, where they are a row alone. `None` means: take the general path.
     #[inline(always)]
     pub(crate) fn row(&self) -> Option<Row<'_>>
-        ensures value { IfSome result (λ row. self.now ≡ laid row.base row.values.now []) }
+        ensures value { IfSome result (λ row. self.now ≡ overlay_row row.base row.values.now []) }
     {
         if self.rest.is_empty() {
             Some(Row {
@@ -115,36 +114,54 @@ impl RowAndMap {
         }
     }
 
-    /// Gives an index list a value; after an error all is as it was.
-    pub(crate) fn insert(&mut self, indices: Vec<Value>, value: Value) -> Result<(), AllocError>
-        ensures ok { OnOk result (self.new ≡ put values_cmp indices.items value self.old) }
+    /// Gives a number a value; after an error all is as it was.
+    #[inline(always)]
+    pub(crate) fn insert_one(
+        &mut self,
+        alloc: Global,
+        number: usize,
+        value: ValueRef<'_>,
+    ) -> Result<(), AllocError>
+        ensures ok { OnOk result (self.new ≡ put values_cmp (slot number) (value_of_ref value.entry) self.old) }
         ensures err { OnErr result (self.new ≡ self.old) }
     {
-        self.base = base_for(self.base, self.dense.len(), &indices);
-        match slot_below(self.base, self.dense.len() + 1, &indices) {
-            Some(at) => {
-                drop(indices);
-                write(&mut self.dense, at, value)
-            }
-            None => {
-                self.rest.insert(indices, value)?;
-                Ok(())
-            }
+        match number_below(self.base, self.dense.len() + 1, number) {
+            Some(at) => write(alloc, &mut self.dense, at, value),
+            None => self.insert_out_of_line(alloc, Index::One(number), value),
         }
     }
 
-    /// Gives the index list of a number a value, where it stands in the row or just behind it and that takes no memory; else the
-    /// value is given back, and all is as it was.
+    /// Gives an index list a value; after an error all is as it was. In line, so that only this rare way makes room for what it passes on.
     #[inline(always)]
-    pub(crate) fn insert_in_row(&mut self, number: usize, value: Value) -> Option<Value>
-        ensures done { IfNone result (self.new ≡ put values_cmp (slot number) value self.old) }
-        ensures given_back { IfSome result (λ v. (v ≡ value) × (self.new ≡ self.old)) }
+    fn insert_out_of_line(
+        &mut self,
+        alloc: Global,
+        index: Index<'_>,
+        value: ValueRef<'_>,
+    ) -> Result<(), AllocError>
+        ensures ok { OnOk result (self.new ≡ put values_cmp (indices_at index.entry) (value_of_ref value.entry) self.old) }
+        ensures err { OnErr result (self.new ≡ self.old) }
     {
-        if number < self.base {
-            return Some(value);
+        self.insert(alloc, index, value)
+    }
+
+    /// Gives an index list a value; after an error all is as it was. Out of line: keeps the caller small.
+    #[cold]
+    #[inline(never)]
+    pub(crate) fn insert(
+        &mut self,
+        alloc: Global,
+        index: Index<'_>,
+        value: ValueRef<'_>,
+    ) -> Result<(), AllocError>
+        ensures ok { OnOk result (self.new ≡ put values_cmp (indices_at index.entry) (value_of_ref value.entry) self.old) }
+        ensures err { OnErr result (self.new ≡ self.old) }
+    {
+        self.base = base_for(self.base, self.dense.len(), index);
+        match place_in_row(self.base, self.dense.len() + 1, index) {
+            Some(at) => write(alloc, &mut self.dense, at, value),
+            None => insert_in_map(alloc, &mut self.rest, index, value),
         }
-        let at = number - self.base;
-        write_in_room(&mut self.dense, at, value)
     }
 
     /// Removes all values; a short row keeps its room for the next ones.
@@ -161,7 +178,7 @@ impl RowAndMap {
         hidden: Option<&Array>,
         entries: &mut Vec<EntryRef<'s>>,
     ) -> Result<(), AllocError>
-        ensures added { OnOk result (map entry entries.new.items ≡ map entry entries.old.items ++ not_among (unwrap_or (option_copied hidden.entry) []) self.now) }
+        ensures added { OnOk result (map entry entries.new.items ≡ map entry entries.old.items ++ visible_entries (unwrap_or (option_copied hidden.entry) []) self.now) }
     {
         let row = Row {
             base: self.base,
@@ -175,15 +192,15 @@ impl RowAndMap {
     }
 
     /// Whether a value is among those at whose index lists the hidden array, if there is one, has none. Allocates nothing.
-    pub(crate) fn has_value(&self, hidden: Option<&Array>, value: Lent<'_>) -> bool
-        ensures value { result ≡ list_any (λ e. same_value (value_lent value.entry) e.1) (not_among (unwrap_or (option_copied hidden.entry) []) self.now) }
+    pub(crate) fn has_value(&self, hidden: Option<&Array>, value: ValueRef<'_>) -> bool
+        ensures value { result ≡ list_any (λ e. same_value (value_of_ref value.entry) e.1) (visible_entries (unwrap_or (option_copied hidden.entry) []) self.now) }
     {
         if slots_have_value(hidden, self.base, &self.dense, value) {
             return true;
         }
         for (indices, stored) in &self.rest {
             let indices = indices.as_slice();
-            if shows(hidden, indices, stored, value)
+            if is_visible(hidden, indices, stored, value)
                 && slot_below(self.base, self.dense.len(), indices).is_none()
             {
                 return true;
@@ -206,16 +223,16 @@ fn add_through<'s>(
 ) -> Result<usize, AllocError>
     requires { from ≤ length row.values.now }
     ensures within { IfOk result (λ next. next ≤ length row.entry.values.now) }
-    ensures added { IfOk result (λ next. (later : Entries) → map entry entries.new.items ++ not_among (unwrap_or (option_copied hidden.entry) []) (laid (row.entry.base + next) (drop next row.entry.values.now) later) ≡ map entry entries.old.items ++ not_among (unwrap_or (option_copied hidden.entry) []) (laid (row.entry.base + from) (drop from row.entry.values.now) ((indices.now, value.now) ∷ later))) }
+    ensures added { IfOk result (λ next. (later : Entries) → map entry entries.new.items ++ visible_entries (unwrap_or (option_copied hidden.entry) []) (overlay_row (row.entry.base + next) (drop next row.entry.values.now) later) ≡ map entry entries.old.items ++ visible_entries (unwrap_or (option_copied hidden.entry) []) (overlay_row (row.entry.base + from) (drop from row.entry.values.now) ((indices.now, value.now) ∷ later))) }
 {
     let count = row.values.len();
     let at = first_not_before(row.base, from, count, indices);
     add_slots(hidden, row, from, at, entries)?;
     if order_of_slot(row.base, at, count, indices).is_eq() {
-        add_entry(hidden, Indices::Listed(indices), &row.values[at], entries)?;
+        add_entry(hidden, Indices::List(indices), &row.values[at], entries)?;
         Ok(at + 1)
     } else {
-        add_entry(hidden, Indices::Listed(indices), value, entries)?;
+        add_entry(hidden, Indices::List(indices), value, entries)?;
         Ok(at)
     }
 }
@@ -230,7 +247,7 @@ fn add_slots<'s>(
     entries: &mut Vec<EntryRef<'s>>,
 ) -> Result<(), AllocError>
     requires { to ≤ length row.values.now }
-    ensures added { OnOk result (map entry entries.new.items ≡ map entry entries.old.items ++ not_among (unwrap_or (option_copied hidden.entry) []) (laid (row.entry.base + from) (drop from (take to row.entry.values.now)) [])) }
+    ensures added { OnOk result (map entry entries.new.items ≡ map entry entries.old.items ++ visible_entries (unwrap_or (option_copied hidden.entry) []) (overlay_row (row.entry.base + from) (drop from (take to row.entry.values.now)) [])) }
 {
     for at in from..to {
         add_entry(hidden, slot_indices(row.base, at), &row.values[at], entries)?;
@@ -253,11 +270,16 @@ fn first_not_before(base: usize, from: usize, count: usize, indices: &[Value]) -
 }
 
 /// Whether a value is among those of a row at whose numbers the hidden array, if there is one, has none.
-fn slots_have_value(hidden: Option<&Array>, base: usize, values: &[Value], value: Lent<'_>) -> bool
-    ensures value { result ≡ list_any (λ e. same_value (value_lent value.entry) e.1) (not_among (unwrap_or (option_copied hidden.entry) []) (laid base values.now [])) }
+fn slots_have_value(
+    hidden: Option<&Array>,
+    base: usize,
+    values: &[Value],
+    value: ValueRef<'_>,
+) -> bool
+    ensures value { result ≡ list_any (λ e. same_value (value_of_ref value.entry) e.1) (visible_entries (unwrap_or (option_copied hidden.entry) []) (overlay_row base values.now [])) }
 {
     for at in 0..values.len() {
-        if shows_at(hidden, base, at, &values[at], value) {
+        if is_visible_at(hidden, base, at, &values[at], value) {
             return true;
         }
     }
@@ -266,67 +288,130 @@ fn slots_have_value(hidden: Option<&Array>, base: usize, values: &[Value], value
 
 /// Whether a value is the one at a place from a base on, and the hidden array, if there is one, has none there.
 #[inline(always)]
-fn shows_at(hidden: Option<&Array>, base: usize, at: usize, stored: &Value, value: Lent<'_>) -> bool
-    ensures value { result ≡ (same_value (value_lent value.entry) stored.now && not (has_indices (unwrap_or (option_copied hidden.entry) []) (slot (base + at)))) }
+fn is_visible_at(
+    hidden: Option<&Array>,
+    base: usize,
+    at: usize,
+    stored: &Value,
+    value: ValueRef<'_>,
+) -> bool
+    ensures value { result ≡ (same_value (value_of_ref value.entry) stored.now && not (has_indices (unwrap_or (option_copied hidden.entry) []) (slot (base + at)))) }
 {
-    value.order(Lent::of(stored)).is_eq() && !has_indices(hidden, slot_indices(base, at).as_slice())
+    value.order(ValueRef::of(stored)).is_eq()
+        && !has_indices(hidden, slot_indices(base, at).as_slice())
 }
 
 /// Whether a value is the one at an index list, and the hidden array, if there is one, has none there.
-pub(crate) fn shows(
+pub(crate) fn is_visible(
     hidden: Option<&Array>,
     indices: &[Value],
     stored: &Value,
-    value: Lent<'_>,
+    value: ValueRef<'_>,
 ) -> bool
-    ensures value { result ≡ (same_value (value_lent value.entry) stored.now && not (has_indices (unwrap_or (option_copied hidden.entry) []) indices.now)) }
+    ensures value { result ≡ (same_value (value_of_ref value.entry) stored.now && not (has_indices (unwrap_or (option_copied hidden.entry) []) indices.now)) }
 {
-    value.order(Lent::of(stored)).is_eq() && !has_indices(hidden, indices)
+    value.order(ValueRef::of(stored)).is_eq() && !has_indices(hidden, indices)
 }
 
 /// Gives a slot of a list a value, where one past its end is a slot too; after an error all is as it was.
 #[inline(always)]
-pub(crate) fn write(values: &mut Vec<Value>, at: usize, value: Value) -> Result<(), AllocError>
+pub(crate) fn write(
+    alloc: Global,
+    values: &mut Vec<Value>,
+    at: usize,
+    value: ValueRef<'_>,
+) -> Result<(), AllocError>
     requires { at ≤ length values.old.items }
-    ensures ok { OnOk result (values.new.items ≡ take at values.old.items ++ value ∷ drop (suc at) values.old.items) }
+    ensures ok { OnOk result (values.new.items ≡ take at values.old.items ++ value_of_ref value.entry ∷ drop (suc at) values.old.items) }
     ensures err { OnErr result (values.new.items ≡ values.old.items) }
 {
     if at < values.len() {
-        drop(replace(&mut values[at], value));
-    } else {
-        if values.len() >= values.capacity() {
-            grow(values)?;
-        }
-        values.push_reserved(value);
+        return write_over(alloc, values, at, value);
     }
+    push(alloc, values, value)
+}
+
+/// Gives a slot that is there a value; after an error all is as it was.
+#[inline(always)]
+fn write_over(
+    alloc: Global,
+    values: &mut Vec<Value>,
+    at: usize,
+    value: ValueRef<'_>,
+) -> Result<(), AllocError>
+    requires { at < length values.old.items }
+    ensures ok { OnOk result (values.new.items ≡ take at values.old.items ++ value_of_ref value.entry ∷ drop (suc at) values.old.items) }
+    ensures err { OnErr result (values.new.items ≡ values.old.items) }
+{
+    value.put_into(alloc, &mut values[at])
+}
+
+/// Adds a value behind others; after an error all is as it was.
+#[inline(always)]
+fn push(alloc: Global, values: &mut Vec<Value>, value: ValueRef<'_>) -> Result<(), AllocError>
+    ensures ok { OnOk result (values.new.items ≡ values.old.items ++ value_of_ref value.entry ∷ []) }
+    ensures err { OnErr result (values.new.items ≡ values.old.items) }
+{
+    match value {
+        ValueRef::Int(n) => push_number(values, n),
+        ValueRef::Text(bytes) => push_text(alloc, values, bytes),
+    }
+}
+
+/// Adds a number behind others; after an error all is as it was.
+#[inline(always)]
+fn push_number(values: &mut Vec<Value>, n: i128) -> Result<(), AllocError>
+    ensures ok { OnOk result (values.new.items ≡ values.old.items ++ Int n ∷ []) }
+    ensures err { OnErr result (values.new.items ≡ values.old.items) }
+{
+    if values.len() >= values.capacity() {
+        return push_grown(values, n);
+    }
+    values.push_reserved(Value::Int(n));
     Ok(())
 }
 
-/// The same, where the slot is there or there is room for it; else the value is given back, and all is as it was.
-#[inline(always)]
-pub(crate) fn write_in_room(values: &mut Vec<Value>, at: usize, value: Value) -> Option<Value>
-    ensures within { IfNone result (at ≤ length values.old.items) }
-    ensures done { IfNone result (values.new.items ≡ take at values.old.items ++ value ∷ drop (suc at) values.old.items) }
-    ensures given_back { IfSome result (λ v. (v ≡ value) × (values.new.items ≡ values.old.items)) }
+/// Makes room for a number and adds it behind others; after an error all is as it was. Out of line: keeps the caller small.
+#[cold]
+#[inline(never)]
+fn push_grown(values: &mut Vec<Value>, n: i128) -> Result<(), AllocError>
+    ensures ok { OnOk result (values.new.items ≡ values.old.items ++ Int n ∷ []) }
+    ensures err { OnErr result (values.new.items ≡ values.old.items) }
 {
-    if at < values.len() {
-        drop(replace(&mut values[at], value));
-        return None;
-    }
-    if at > values.len() || at >= values.capacity() {
-        return Some(value);
-    }
-    values.push_reserved(value);
-    None
+    values.reserve(1)?;
+    values.push_reserved(Value::Int(n));
+    Ok(())
 }
 
-/// Makes room for one more value; the values stay. A function of its own, so that a list with room pays nothing for it.
+/// Adds a copy of a string behind others; after an error all is as it was.
 #[inline(never)]
-fn grow(values: &mut Vec<Value>) -> Result<(), AllocError>
-    ensures items { values.new.items ≡ values.old.items }
-    ensures room { OnOk result (vec_len values.new < vec_capacity values.new) }
+fn push_text(alloc: Global, values: &mut Vec<Value>, bytes: &[u8]) -> Result<(), AllocError>
+    ensures ok { OnOk result (values.new.items ≡ values.old.items ++ Text bytes.now ∷ []) }
+    ensures err { OnErr result (values.new.items ≡ values.old.items) }
 {
-    values.reserve(1)
+    values.reserve(1)?;
+    values.push_reserved(ValueRef::Text(bytes).to_value(alloc)?);
+    Ok(())
+}
+
+/// Gives an index list a value in a map; after an error all is as it was.
+#[cold]
+#[inline(never)]
+fn insert_in_map(
+    alloc: Global,
+    rest: &mut BTreeMap<Vec<Value>, Value>,
+    index: Index<'_>,
+    value: ValueRef<'_>,
+) -> Result<(), AllocError>
+    ensures ok { OnOk result (map (λ e. (e.0.items, e.1)) rest.new.entries ≡ put values_cmp (indices_at index.entry) (value_of_ref value.entry) (map (λ e. (e.0.items, e.1)) rest.old.entries)) }
+    ensures was_sorted { OnOk result (T (is_sorted values_cmp (map (λ e. (e.0.items, e.1)) rest.old.entries))) }
+    ensures sorted { T (is_sorted values_cmp (map (λ e. (e.0.items, e.1)) rest.old.entries)) → T (is_sorted values_cmp (map (λ e. (e.0.items, e.1)) rest.new.entries)) }
+    ensures err { OnErr result (rest.new.entries ≡ rest.old.entries) }
+{
+    let indices = index.to_list(alloc)?;
+    let value = value.to_value(alloc)?;
+    rest.insert(indices, value)?;
+    Ok(())
 }
 
 /// Removes all elements of a list; if it has much room, also that.
@@ -343,18 +428,45 @@ pub(crate) fn clear_list<T: Drop>(list: &mut Vec<T>)
 
 /// Where a row begins once an index list gets a value. A row with no values begins at 1 if that is the index list, and
 /// else at 0.
-fn base_for(base: usize, count: usize, indices: &[Value]) -> usize
+#[inline(always)]
+fn base_for(base: usize, count: usize, index: Index<'_>) -> usize
     ensures kept { 0 < count → result ≡ base }
-    ensures from_one { count ≡ 0 → indices.now ≡ slot 1 → result ≡ 1 }
-    ensures from_zero { count ≡ 0 → indices.now ≢ slot 1 → result ≡ 0 }
+    ensures from_one { count ≡ 0 → index.entry ≡ indexes.One 1 → result ≡ 1 }
+    ensures from_zero { count ≡ 0 → index.entry ≢ indexes.One 1 → result ≡ 0 }
 {
     if count > 0 {
         return base;
     }
-    match indices {
-        [Value::Int(1)] => 1,
+    match index {
+        Index::One(1) => 1,
         _ => 0,
     }
+}
+
+/// Where an index list stands from a base on, where it is a number below a bound there.
+#[inline(always)]
+fn place_in_row(base: usize, bound: usize, index: Index<'_>) -> Option<usize>
+    ensures found { IfSome result (λ n. (n < bound) × (indices_at index.entry ≡ slot (base + n))) }
+    ensures none { IfNone result ((n : ℕ) → n < bound → indices_at index.entry ≢ slot (base + n)) }
+{
+    match index {
+        Index::One(n) => number_below(base, bound, n),
+        Index::List(indices) => slot_below(base, bound, indices),
+        Index::Scalar | Index::Two(_, _) => None,
+    }
+}
+
+/// Where a number of 64 bits stands from a base on, where it is below a bound there.
+#[inline(always)]
+fn number_below(base: usize, bound: usize, number: usize) -> Option<usize>
+    ensures found { IfSome result (λ n. (n < bound) × (number ≡ base + n)) }
+    ensures none { IfNone result ((n : ℕ) → n < bound → number ≢ base + n) }
+{
+    if number < base {
+        return None;
+    }
+    let at = number - base;
+    if at < bound { Some(at) } else { None }
 }
 
 /// Where an index list stands from a base on, where it is a number below a bound there.

@@ -1,58 +1,47 @@
 //! The variables: what is pinned, and what is assigned.
 
-ghost use Rattle.std.specs.Prelude.{◌≡◌, ◌≢◌, [], true, false, Some, IfSome, IfNone, IfOk, OnOk, OnErr, IsOk, IsTrue, IsPermutation, AllPairs, map};
+ghost use Rattle.std.specs.Prelude.{◌≡◌, ◌≢◌, ◌↔◌, ℕ, [], ◌∷◌, ◌++◌, true, length, None, Some, IfSome, IfNone, IfOk, OnOk, OnErr, IsOk, IsTrue, IsPermutation, AllPairs, map};
 ghost use Rattle.std.specs.List.{list_any};
-ghost use Rattle.std.specs.Option.{option_copied};
-ghost use Rattle.std.specs.FinMap.{find};
-ghost use Rattle.ctd_store.specs.Lent.{value_lent};
-ghost use Rattle.ctd_store.specs.Order.{values_cmp, same_value};
-ghost use Rattle.ctd_store.specs.Store.{cell, initial, slot, is_pinned, value_at, assign, unset, values_of, value_of, has_indices, laid};
-ghost use Rattle.ctd_store.specs.Showing.{entry, indices_of};
-ghost use Rattle.ctd_store.specs.declared.value.Value.TheVariants as values;
+ghost use Rattle.std.specs.Option.{option_copied, unwrap_or};
+ghost use Rattle.std.specs.FinMap.{find, put};
+ghost use Rattle.ctd_store.specs.Index.{indices_at, indices_of};
+ghost use Rattle.ctd_store.specs.ValueRef.{value_of_ref};
+ghost use Rattle.ctd_store.specs.Order.{bytes_cmp, values_cmp, same_value};
+ghost use Rattle.ctd_store.specs.Slot.{name_in};
+ghost use Rattle.ctd_store.specs.Store.{initial, is_pinned, value_at, array_of, assign, unset, values_of, value_of, with_pin, with_value, has_indices, overlay_row};
+ghost use Rattle.ctd_store.specs.Showing.{entry};
 
-use crate::lent::Lent;
+use crate::array::{Array, add_entries, get, has_value};
+use crate::index::{Index, Indices};
+use crate::positions::Positions;
 use crate::row_and_map::Row;
+use crate::slot::Slot;
 use crate::value::{Key, Value};
-use crate::variables::{Variables, has_value};
+use crate::value_ref::ValueRef;
 use ctd_program::{Literal, Preset, Presets};
-use ctd_token::{Bytes, Name};
+use ctd_token::Name;
 use std::alloc::{AllocError, Global};
 use std::marker::Model;
 
 /// The variables with their values. A pinned variable keeps the value of its preset.
 #[derive(Drop)]
 pub struct Store {
-    pins: Variables,
-    assigned: Variables,
+    // Each name once, in the order in which they came.
+    slots: Vec<Slot>,
+    // Where each name stands in the list.
+    positions: Positions,
 }
 
 impl Model for Store {
-    ghost use Rattle.ctd_store.specs.Store.{History};
+    ghost use Rattle.std.specs.Prelude.{T};
+    ghost use Rattle.ctd_store.specs.Slot.{arrays_by, pins_in, values_in};
+    ghost use Rattle.ctd_store.specs.Store.{History, in_order, have_positions};
 
     ghost Value = { History };
 
-    ghost view = { λ s. record { pins = s.pins; assigned = s.assigned } };
-}
+    ghost view = { λ s. record { pins = in_order (arrays_by pins_in s.slots.items); assigned = in_order (arrays_by values_in s.slots.items) } };
 
-/// The indices of an entry: one or two numbers that are stored nowhere, or a list where it stands.
-#[derive(Drop)]
-pub enum Indices<'s> {
-    One([Value; 1]),
-    Two([Value; 2]),
-    Listed(&'s [Value]),
-}
-
-impl Indices<'_> {
-    /// The values of the indices.
-    pub fn as_slice(&self) -> &[Value]
-        ensures value { result.now ≡ indices_of self.now }
-    {
-        match self {
-            Indices::One(index) => index.as_slice(),
-            Indices::Two(indices) => indices.as_slice(),
-            Indices::Listed(indices) => indices,
-        }
-    }
+    ghost invariant = { λ s. T (have_positions 0 (arrays_by pins_in s.slots.items) s.positions) × T (have_positions 0 (arrays_by values_in s.slots.items) s.positions) };
 }
 
 /// The indices of an entry of a name, and its value.
@@ -67,107 +56,117 @@ impl Store {
     pub fn new(alloc: Global, presets: &Presets) -> Result<Store, AllocError>
         ensures pins { IfOk result (λ store. store ≡ initial presets.now) }
     {
-        let mut pins = Variables::new(alloc);
+        let mut store = Store {
+            slots: Vec::new(alloc),
+            positions: Positions::new(alloc),
+        };
         for preset in presets.pins() {
-            let indices = literal_values(alloc, preset.indices.as_slice())?;
-            let value = value_of(alloc, &preset.value)?;
-            pins.insert(&preset.name, indices, value)?;
+            store.pin(alloc, preset)?;
         }
-        Ok(Store {
-            pins,
-            assigned: Variables::new(alloc),
-        })
+        Ok(store)
+    }
+
+    /// Pins what a preset says.
+    fn pin(&mut self, alloc: Global, preset: &Preset) -> Result<(), AllocError>
+        ensures ok { OnOk result (self.new ≡ record { pins = with_pin self.old.pins preset.now; assigned = self.old.assigned }) }
+    {
+        let indices = literal_values(alloc, preset.indices.as_slice())?;
+        let value = literal_ref(&preset.value);
+        self.pin_at(alloc, &preset.name, Index::List(indices.as_slice()), value)
+    }
+
+    /// Pins a name at an index to a value.
+    fn pin_at(
+        &mut self,
+        alloc: Global,
+        name: &Name,
+        index: Index<'_>,
+        value: ValueRef<'_>,
+    ) -> Result<(), AllocError>
+        ensures ok { OnOk result (self.new ≡ record { pins = with_value (record { name = name.now; indices = indices_at index.entry }) (value_of_ref value.entry) self.old.pins; assigned = self.old.assigned }) }
+    {
+        match position(&self.slots, &self.positions, name) {
+            Some(at) => self.slots[at].pin(alloc, index, value),
+            None => add_pin(
+                alloc,
+                &mut self.slots,
+                &mut self.positions,
+                name,
+                index,
+                value,
+            ),
+        }
     }
 
     /// The value of a key: its pin, or else what was assigned last. Allocates nothing.
     pub fn get(&self, key: &Key) -> Option<&Value>
         ensures value { option_copied result ≡ value_at self.now key.now }
     {
-        self.value_at(key.stored_name(), key.indices())
+        self.value_at(key.stored_name(), Index::of(key.indices()))
     }
 
-    /// The value of a name at some indices: its pin, or else what was assigned last. Allocates nothing.
+    /// The value of a name at an index: its pin, or else what was assigned last. Allocates nothing.
     #[inline(always)]
-    pub fn value_at(&self, name: &Name, indices: &[Value]) -> Option<&Value>
-        ensures value { option_copied result ≡ value_at self.now (record { name = name.now; indices = indices.now }) }
-        ensures listed { option_copied result ≡ find values_cmp indices.now (values_of self.now name.now) }
+    pub fn value_at(&self, name: &Name, index: Index<'_>) -> Option<&Value>
+        ensures value { option_copied result ≡ value_at self.now (record { name = name.now; indices = indices_at index.entry }) }
+        ensures listed { option_copied result ≡ find values_cmp (indices_at index.entry) (values_of self.now name.now) }
     {
-        // Mostly nothing is pinned.
-        if self.pins.is_empty() {
-            return self.assigned.get(name, indices);
-        }
-        self.pinned_or_assigned(name, indices)
-    }
-
-    /// The value of a name without indices, where nothing is pinned and the name's hint leads to it; none says nothing.
-    #[inline(always)]
-    pub fn hinted(&self, name: &Name) -> Option<&Value>
-        ensures value { IfSome result (λ x. value_at self.now (record { name = name.now; indices = [] }) ≡ Some x.now) }
-    {
-        if self.pins.is_empty() {
-            self.assigned.hinted(name)
-        } else {
-            None
-        }
-    }
-
-    /// The number of 64 bits that a name has without indices, where nothing is pinned and the name's hint leads to it; none says
-    /// nothing.
-    #[inline(always)]
-    pub fn small(&self, name: &Name) -> Option<i64>
-        ensures value { IfSome result (λ n. value_at self.now (record { name = name.now; indices = [] }) ≡ Some (values.Int n)) }
-    {
-        if self.pins.is_empty() {
-            self.assigned.small(name)
-        } else {
-            None
-        }
-    }
-
-    /// The value of a name at a number, where nothing is pinned and no search is needed; none says nothing.
-    #[inline(always)]
-    pub fn in_row(&self, name: &Name, number: usize) -> Option<&Value>
-        ensures value { IfSome result (λ x. value_at self.now (record { name = name.now; indices = slot number }) ≡ Some x.now) }
-    {
-        if self.pins.is_empty() {
-            self.assigned.in_row(name, number)
-        } else {
-            None
-        }
-    }
-
-    /// The value of a name at two numbers, where nothing is pinned and no search is needed; none says nothing.
-    #[inline(always)]
-    pub fn in_grid(&self, name: &Name, row: usize, column: usize) -> Option<&Value>
-        ensures value { IfSome result (λ x. value_at self.now (record { name = name.now; indices = cell row column }) ≡ Some x.now) }
-    {
-        if self.pins.is_empty() {
-            self.assigned.in_grid(name, row, column)
-        } else {
-            None
-        }
-    }
-
-    /// The values of a name, where nothing is pinned and they are a row alone; none says nothing.
-    #[inline(always)]
-    pub fn row(&self, name: &Name) -> Option<Row<'_>>
-        ensures value { IfSome result (λ row. values_of self.now name.now ≡ laid row.base row.values.now []) }
-    {
-        if self.pins.is_empty() {
-            self.assigned.array(name)?.row()
-        } else {
-            None
-        }
-    }
-
-    /// The value of a name at some indices, where something is pinned.
-    #[inline(never)]
-    fn pinned_or_assigned(&self, name: &Name, indices: &[Value]) -> Option<&Value>
-        ensures value { option_copied result ≡ value_at self.now (record { name = name.now; indices = indices.now }) }
-    {
-        match self.pins.get(name, indices) {
+        match self.fast_value_at(name, index) {
             Some(value) => Some(value),
-            None => self.assigned.get(name, indices),
+            None => self.value_by_list(name, index),
+        }
+    }
+
+    /// The value of a name at an index, where it is found without a search. `None` means: take the general path.
+    #[inline(always)]
+    pub fn fast_value_at(&self, name: &Name, index: Index<'_>) -> Option<&Value>
+        ensures value { IfSome result (λ x. value_at self.now (record { name = name.now; indices = indices_at index.entry }) ≡ Some x.now) }
+    {
+        let at = fast_position(&self.slots, &self.positions, name)?;
+        self.slots[at].fast_value(index)
+    }
+
+    /// The value of a name at an index, by a search. In line, so that only this rare way makes room for the values of the index.
+    #[inline(always)]
+    fn value_by_list(&self, name: &Name, index: Index<'_>) -> Option<&Value>
+        ensures value { option_copied result ≡ value_at self.now (record { name = name.now; indices = indices_at index.entry }) }
+    {
+        self.value_at_list(name, index.to_indices().as_slice())
+    }
+
+    /// The value of a name at an index list, by a search. Out of line: keeps the caller small.
+    #[cold]
+    #[inline(never)]
+    fn value_at_list(&self, name: &Name, indices: &[Value]) -> Option<&Value>
+        ensures value { option_copied result ≡ value_at self.now (record { name = name.now; indices = indices.now }) }
+    {
+        let (pins, assigned) = self.arrays(name);
+        match get(pins, indices) {
+            Some(value) => Some(value),
+            None => get(assigned, indices),
+        }
+    }
+
+    /// What is pinned of a name and what is assigned to it. Allocates nothing.
+    #[inline(always)]
+    fn arrays(&self, name: &Name) -> (Option<&Array>, Option<&Array>)
+        ensures pins { unwrap_or (option_copied result.0) [] ≡ array_of name.now self.now.pins }
+        ensures assigned { unwrap_or (option_copied result.1) [] ≡ array_of name.now self.now.assigned }
+    {
+        match position(&self.slots, &self.positions, name) {
+            Some(at) => self.slots[at].arrays(),
+            None => (None, None),
+        }
+    }
+
+    /// The values of a name, where nothing of it is pinned and they are a row alone. `None` means: take the general path.
+    pub fn row(&self, name: &Name) -> Option<Row<'_>>
+        ensures value { IfSome result (λ row. values_of self.now name.now ≡ overlay_row row.base row.values.now []) }
+    {
+        let (pins, assigned) = self.arrays(name);
+        match pins {
+            Some(_) => None,
+            None => assigned?.row(),
         }
     }
 
@@ -175,18 +174,18 @@ impl Store {
     pub fn has_indices(&self, name: &Name, indices: &[Value]) -> bool
         ensures value { result ≡ has_indices (values_of self.now name.now) indices.now }
     {
-        self.value_at(name, indices).is_some()
+        self.value_at(name, Index::List(indices)).is_some()
     }
 
     /// Whether a value is among those of a name. Allocates nothing.
-    pub fn has_value(&self, name: &Name, value: Lent<'_>) -> bool
-        ensures value { result ≡ list_any (λ e. same_value (value_lent value.entry) e.1) (values_of self.now name.now) }
+    pub fn has_value(&self, name: &Name, value: ValueRef<'_>) -> bool
+        ensures value { result ≡ list_any (λ e. same_value (value_of_ref value.entry) e.1) (values_of self.now name.now) }
     {
-        let pinned = self.pins.array(name);
-        if has_value(pinned, None, value) {
+        let (pins, assigned) = self.arrays(name);
+        if has_value(pins, None, value) {
             return true;
         }
-        has_value(self.assigned.array(name), pinned, value)
+        has_value(assigned, pins, value)
     }
 
     /// Gives a key a value. A pinned key stays as it is, and that takes no memory; after an error the variables are as they
@@ -197,82 +196,80 @@ impl Store {
         ensures err { OnErr result (self.new ≡ self.old) }
     {
         let (name, indices) = key.into_parts();
-        self.assign_at(&name, indices, value)
+        let alloc = *indices.allocator();
+        self.assign_at(alloc, &name, Index::of(&indices), ValueRef::of(&value))
     }
 
-    /// Gives a name a value at an index list, as `assign` does; takes no memory for a name that was assigned to before.
+    /// Gives a name a value at an index, as `assign` does. A number takes no memory at an index that has a value, and neither does a string
+    /// that is no longer than the one in its place.
     #[inline(always)]
     pub fn assign_at(
         &mut self,
+        alloc: Global,
         name: &Name,
-        indices: Vec<Value>,
-        value: Value,
+        index: Index<'_>,
+        value: ValueRef<'_>,
     ) -> Result<(), AllocError>
-        ensures ok { OnOk result (self.new ≡ assign self.old (record { name = name.now; indices = indices.items }) value) }
-        ensures pinned { IsTrue (is_pinned self.old (record { name = name.now; indices = indices.items })) → IsOk result }
+        ensures ok { OnOk result (self.new ≡ assign self.old (record { name = name.now; indices = indices_at index.entry }) (value_of_ref value.entry)) }
+        ensures pinned { IsTrue (is_pinned self.old (record { name = name.now; indices = indices_at index.entry })) → IsOk result }
         ensures err { OnErr result (self.new ≡ self.old) }
     {
-        if !self.is_pinned(name, &indices) {
-            self.assigned.insert(name, indices, value)?;
-        }
-        Ok(())
-    }
-
-    /// Gives a name a value at one number, where nothing is pinned and that takes neither a search nor memory; else the value is given
-    /// back, and all is as it was.
-    #[inline(always)]
-    pub fn assign_in_row(&mut self, name: &Name, number: usize, value: Value) -> Option<Value>
-        ensures done { IfNone result (self.new ≡ assign self.old (record { name = name.now; indices = slot number }) value) }
-        ensures given_back { IfSome result (λ v. (v ≡ value) × (self.new ≡ self.old)) }
-    {
-        if self.pins.is_empty() {
-            self.assigned.insert_in_row(name, number, value)
-        } else {
-            Some(value)
+        match fast_position(&self.slots, &self.positions, name) {
+            Some(at) => self.slots[at].assign(alloc, index, value),
+            None => self.assign_out_of_line(alloc, name, index, value),
         }
     }
 
-    /// The same of two numbers.
+    /// Gives a name a value at an index, by a search for the name. In line, so that only this rare way makes room for what it passes on.
     #[inline(always)]
-    pub fn assign_in_grid(
+    fn assign_out_of_line(
         &mut self,
+        alloc: Global,
         name: &Name,
-        row: usize,
-        column: usize,
-        value: Value,
-    ) -> Option<Value>
-        ensures done { IfNone result (self.new ≡ assign self.old (record { name = name.now; indices = cell row column }) value) }
-        ensures given_back { IfSome result (λ v. (v ≡ value) × (self.new ≡ self.old)) }
+        index: Index<'_>,
+        value: ValueRef<'_>,
+    ) -> Result<(), AllocError>
+        ensures ok { OnOk result (self.new ≡ assign self.old (record { name = name.now; indices = indices_at index.entry }) (value_of_ref value.entry)) }
+        ensures pinned { IsTrue (is_pinned self.old (record { name = name.now; indices = indices_at index.entry })) → IsOk result }
+        ensures err { OnErr result (self.new ≡ self.old) }
     {
-        if self.pins.is_empty() {
-            self.assigned.insert_in_grid(name, row, column, value)
-        } else {
-            Some(value)
+        self.assign_by_search(alloc, name, index, value)
+    }
+
+    /// Gives a name a value at an index, by a search for the name. Out of line: keeps the caller small.
+    #[cold]
+    #[inline(never)]
+    fn assign_by_search(
+        &mut self,
+        alloc: Global,
+        name: &Name,
+        index: Index<'_>,
+        value: ValueRef<'_>,
+    ) -> Result<(), AllocError>
+        ensures ok { OnOk result (self.new ≡ assign self.old (record { name = name.now; indices = indices_at index.entry }) (value_of_ref value.entry)) }
+        ensures pinned { IsTrue (is_pinned self.old (record { name = name.now; indices = indices_at index.entry })) → IsOk result }
+        ensures err { OnErr result (self.new ≡ self.old) }
+    {
+        match position(&self.slots, &self.positions, name) {
+            Some(at) => self.slots[at].assign(alloc, index, value),
+            None => add_value(
+                alloc,
+                &mut self.slots,
+                &mut self.positions,
+                name,
+                index,
+                value,
+            ),
         }
-    }
-
-    /// Puts a value in place of one of its kind that a name has without indices, where nothing is pinned and that takes neither a
-    /// search nor memory, and tells whether it did; else all is as it was, and nothing is said.
-    #[inline(always)]
-    pub fn overwrite(&mut self, name: &Name, value: Lent<'_>) -> bool
-        ensures done { result ≡ true → self.new ≡ assign self.old (record { name = name.now; indices = [] }) (value_lent value.entry) }
-        ensures stays { result ≡ false → self.new ≡ self.old }
-    {
-        self.pins.is_empty() && self.assigned.overwrite(name, value)
-    }
-
-    /// Whether a preset pins a name at some indices.
-    fn is_pinned(&self, name: &Name, indices: &[Value]) -> bool
-        ensures value { result ≡ is_pinned self.now (record { name = name.now; indices = indices.now }) }
-    {
-        !self.pins.is_empty() && self.pins.get(name, indices).is_some()
     }
 
     /// Removes all that was assigned to a name, at whatever indices; pins stay. Allocates nothing.
     pub fn unset(&mut self, name: &Name)
         ensures value { self.new ≡ unset self.old name.now }
     {
-        self.assigned.remove(name);
+        if let Some(at) = position(&self.slots, &self.positions, name) {
+            self.slots[at].values.clear();
+        }
     }
 
     /// Each key of a name that has a value, once and with its value, in no stated order; or an error where no memory is left
@@ -288,21 +285,137 @@ impl Store {
     pub fn entries_of(&self, alloc: Global, name: &Name) -> Result<Vec<EntryRef<'_>>, AllocError>
         ensures value { IfOk result (λ list. map entry list.items ≡ values_of self.now name.now) }
     {
+        let (pins, assigned) = self.arrays(name);
         let mut entries = Vec::new(alloc);
-        self.pins.add_entries(name, None, &mut entries)?;
-        self.assigned
-            .add_entries(name, self.pins.array(name), &mut entries)?;
+        add_entries(pins, None, &mut entries)?;
+        add_entries(assigned, pins, &mut entries)?;
         Ok(entries)
     }
 }
 
-/// The value that a literal is.
-fn value_of(alloc: Global, literal: &Literal) -> Result<Value, AllocError>
-    ensures value { IfOk result (λ value. value ≡ value_of literal.now) }
+/// Where a name stands in a list. Only where its hint leads elsewhere, the name is searched for.
+#[inline(always)]
+fn position(slots: &[Slot], positions: &Positions, name: &Name) -> Option<usize>
+    ensures found { IfSome result (λ at. name_in slots.now at ≡ Some name.now) }
+    ensures none { IfNone result ((at : ℕ) → find bytes_cmp name.now positions.now ≡ Some at → name_in slots.now at ≢ Some name.now) }
+{
+    match fast_position(slots, positions, name) {
+        Some(at) => Some(at),
+        None => position_by_search(slots, positions, name),
+    }
+}
+
+/// Where a short name stands in a list, where its hint leads there. `None` means: take the general path.
+#[inline(always)]
+fn fast_position(slots: &[Slot], positions: &Positions, name: &Name) -> Option<usize>
+    ensures found { IfSome result (λ at. name_in slots.now at ≡ Some name.now) }
+{
+    let at = positions.hint(name);
+    if has_short_name(slots, at, name) {
+        Some(at)
+    } else {
+        None
+    }
+}
+
+/// Where a name stands in a list, by its bytes: where its hint leads, or else by a search. Out of line: keeps the caller small.
+#[cold]
+#[inline(never)]
+fn position_by_search(slots: &[Slot], positions: &Positions, name: &Name) -> Option<usize>
+    ensures found { IfSome result (λ at. name_in slots.now at ≡ Some name.now) }
+    ensures none { IfNone result ((at : ℕ) → find bytes_cmp name.now positions.now ≡ Some at → name_in slots.now at ≢ Some name.now) }
+{
+    let at = positions.hint(name);
+    if has_name(slots, at, name) {
+        return Some(at);
+    }
+    match positions.get(name) {
+        Some(at) if has_name(slots, at, name) => Some(at),
+        _ => None,
+    }
+}
+
+/// Whether a short name stands at a position of a list. `false` means: take the general path.
+#[inline(always)]
+fn has_short_name(slots: &[Slot], at: usize, name: &Name) -> bool
+    ensures there { result ≡ true → name_in slots.now at ≡ Some name.now }
+{
+    match slots.get(at) {
+        Some(slot) => slot.name.is_same_short(name),
+        None => false,
+    }
+}
+
+/// Whether a name stands at a position of a list.
+fn has_name(slots: &[Slot], at: usize, name: &Name) -> bool
+    ensures value { IsTrue result ↔ (name_in slots.now at ≡ Some name.now) }
+{
+    match slots.get(at) {
+        Some(slot) => slot.name.as_slice() == name.as_slice(),
+        None => false,
+    }
+}
+
+/// Adds a name with a single value; after an error the list and the positions are as they were.
+fn add_value(
+    alloc: Global,
+    slots: &mut Vec<Slot>,
+    positions: &mut Positions,
+    name: &Name,
+    index: Index<'_>,
+    value: ValueRef<'_>,
+) -> Result<(), AllocError>
+    ensures ok { OnOk result ((slots.new.items ≡ slots.old.items ++ record { name = name.now; pins = None; values = (indices_at index.entry, value_of_ref value.entry) ∷ [] } ∷ []) × (positions.new ≡ put bytes_cmp name.now (length slots.old.items) positions.old)) }
+    ensures err { OnErr result ((slots.new.items ≡ slots.old.items) × (positions.new ≡ positions.old)) }
+{
+    let mut slot = Slot::new(alloc, name)?;
+    slot.values.insert(alloc, index, value)?;
+    add_slot(alloc, slots, positions, name, slot)
+}
+
+/// Adds a name with a single pin; after an error the list and the positions are as they were.
+fn add_pin(
+    alloc: Global,
+    slots: &mut Vec<Slot>,
+    positions: &mut Positions,
+    name: &Name,
+    index: Index<'_>,
+    value: ValueRef<'_>,
+) -> Result<(), AllocError>
+    ensures ok { OnOk result ((slots.new.items ≡ slots.old.items ++ record { name = name.now; pins = Some ((indices_at index.entry, value_of_ref value.entry) ∷ []); values = [] } ∷ []) × (positions.new ≡ put bytes_cmp name.now (length slots.old.items) positions.old)) }
+    ensures err { OnErr result ((slots.new.items ≡ slots.old.items) × (positions.new ≡ positions.old)) }
+{
+    let mut slot = Slot::new(alloc, name)?;
+    let mut pins = Array::new(alloc);
+    pins.insert(alloc, index, value)?;
+    slot.pins = Some(pins);
+    add_slot(alloc, slots, positions, name, slot)
+}
+
+/// Adds a slot with its name; after an error the list and the positions are as they were.
+fn add_slot(
+    alloc: Global,
+    slots: &mut Vec<Slot>,
+    positions: &mut Positions,
+    name: &Name,
+    slot: Slot,
+) -> Result<(), AllocError>
+    ensures ok { OnOk result ((slots.new.items ≡ slots.old.items ++ slot ∷ []) × (positions.new ≡ put bytes_cmp name.now (length slots.old.items) positions.old)) }
+    ensures err { OnErr result ((slots.new.items ≡ slots.old.items) × (positions.new ≡ positions.old)) }
+{
+    slots.reserve(1)?;
+    positions.insert(alloc, name, slots.len())?;
+    slots.push_reserved(slot);
+    Ok(())
+}
+
+/// The value that a literal is, where it stands.
+fn literal_ref(literal: &Literal) -> ValueRef<'_>
+    ensures value { value_of_ref result ≡ value_of literal.now }
 {
     match literal {
-        Literal::Int(n) => Ok(Value::Int(*n)),
-        Literal::Text(bytes) => Ok(Value::Text(Bytes::copy(alloc, bytes.as_slice())?)),
+        Literal::Int(n) => ValueRef::Int(*n),
+        Literal::Text(bytes) => ValueRef::Text(bytes.as_slice()),
     }
 }
 
@@ -312,7 +425,7 @@ fn literal_values(alloc: Global, literals: &[Literal]) -> Result<Vec<Value>, All
 {
     let mut values = Vec::new(alloc);
     for literal in literals {
-        values.push(value_of(alloc, literal)?)?;
+        values.push(literal_ref(literal).to_value(alloc)?)?;
     }
     Ok(values)
 }

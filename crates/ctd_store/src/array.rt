@@ -1,0 +1,290 @@
+//! The array of a name: index lists with their values, in their order.
+
+ghost use Rattle.std.specs.Prelude.{◌≡◌, [], ◌∷◌, ◌++◌, map, true, false, Some, IfSome, OnOk, OnErr};
+ghost use Rattle.std.specs.List.{IsDistinct, list_any};
+ghost use Rattle.std.specs.Option.{option_copied, unwrap_or};
+ghost use Rattle.std.specs.FinMap.{find, put};
+ghost use Rattle.ctd_store.specs.Index.{indices_at, indices_of};
+ghost use Rattle.ctd_store.specs.ValueRef.{value_of_ref};
+ghost use Rattle.ctd_store.specs.Order.{values_cmp, same_value, same_values};
+ghost use Rattle.ctd_store.specs.Showing.{entry, visible_entries};
+ghost use Rattle.ctd_store.specs.Store.{has_indices, index_lists, overlay_row};
+
+use crate::index::{Index, Indices};
+use crate::indexed::Indexed;
+use crate::row_and_map::{Row, is_visible};
+use crate::store::EntryRef;
+use crate::value::Value;
+use crate::value_ref::ValueRef;
+use std::alloc::{AllocError, Global};
+use std::marker::Model;
+use std::mem::replace;
+
+/// Index lists with their values, each index list once, which contracts see as the list of them in order.
+#[derive(Drop)]
+pub(crate) struct Array {
+    // The value without indices, which is asked for most.
+    scalar: Option<Value>,
+    // The values at one index or more.
+    indexed: Indexed,
+}
+
+impl Model for Array {
+    ghost use Rattle.std.specs.Prelude.{T};
+    ghost use Rattle.ctd_store.specs.Store.{Array, with_scalar, is_indexed};
+
+    ghost Value = { Array };
+
+    ghost view = { λ a. with_scalar a.scalar a.indexed };
+
+    ghost invariant = { λ a. T (is_indexed a.indexed) };
+}
+
+impl Array {
+    /// The array with no values; takes no memory.
+    pub(crate) fn new(alloc: Global) -> Array
+        ensures empty { result ≡ [] }
+    {
+        Array {
+            scalar: None,
+            indexed: Indexed::new(alloc),
+        }
+    }
+
+    /// The value without indices, or at one number or two where it stands in the row or in the grid. `None` means: take the general path.
+    #[inline(always)]
+    pub(crate) fn fast_value(&self, index: Index<'_>) -> Option<&Value>
+        ensures value { IfSome result (λ x. find values_cmp (indices_at index.entry) self.now ≡ Some x.now) }
+    {
+        match index {
+            Index::Scalar => self.scalar(),
+            Index::One(_) => self.indexed.fast_value(index),
+            Index::Two(_, _) => self.indexed.fast_value(index),
+            Index::List(_) => None,
+        }
+    }
+
+    /// The value at an index, where that is the value without indices. `None` means: take the general path.
+    #[inline(always)]
+    pub(crate) fn fast_scalar(&self, index: Index<'_>) -> Option<&Value>
+        ensures value { IfSome result (λ x. find values_cmp (indices_at index.entry) self.now ≡ Some x.now) }
+    {
+        match index {
+            Index::Scalar => self.scalar(),
+            Index::One(_) | Index::Two(_, _) | Index::List(_) => None,
+        }
+    }
+
+    /// The value without indices.
+    #[inline(always)]
+    fn scalar(&self) -> Option<&Value>
+        ensures value { option_copied result ≡ find values_cmp [] self.now }
+    {
+        self.scalar.as_ref()
+    }
+
+    /// The value at an index list. Allocates nothing.
+    pub(crate) fn get(&self, indices: &[Value]) -> Option<&Value>
+        ensures value { option_copied result ≡ find values_cmp indices.now self.now }
+    {
+        if indices.is_empty() {
+            self.scalar()
+        } else {
+            self.indexed.get(indices)
+        }
+    }
+
+    /// The values, where they are a row alone. `None` means: take the general path.
+    #[inline(always)]
+    pub(crate) fn row(&self) -> Option<Row<'_>>
+        ensures value { IfSome result (λ row. self.now ≡ overlay_row row.base row.values.now []) }
+    {
+        match self.scalar {
+            Some(_) => None,
+            None => self.indexed.row(),
+        }
+    }
+
+    /// Gives an index list a value; after an error all is as it was.
+    #[inline(always)]
+    pub(crate) fn insert(
+        &mut self,
+        alloc: Global,
+        index: Index<'_>,
+        value: ValueRef<'_>,
+    ) -> Result<(), AllocError>
+        ensures ok { OnOk result (self.new ≡ put values_cmp (indices_at index.entry) (value_of_ref value.entry) self.old) }
+        ensures err { OnErr result (self.new ≡ self.old) }
+    {
+        match index {
+            Index::Scalar => set_scalar(alloc, &mut self.scalar, value),
+            Index::One(number) => self.indexed.insert_one(alloc, number, value),
+            Index::Two(row, column) => self.indexed.insert_two(alloc, row, column, value),
+            Index::List(indices) => self.insert_by_list(alloc, indices, value),
+        }
+    }
+
+    /// Gives the index list of a slice a value; after an error all is as it was.
+    #[inline(never)]
+    fn insert_by_list(
+        &mut self,
+        alloc: Global,
+        indices: &[Value],
+        value: ValueRef<'_>,
+    ) -> Result<(), AllocError>
+        ensures ok { OnOk result (self.new ≡ put values_cmp indices.now (value_of_ref value.entry) self.old) }
+        ensures err { OnErr result (self.new ≡ self.old) }
+    {
+        if indices.is_empty() {
+            set_scalar(alloc, &mut self.scalar, value)
+        } else {
+            self.indexed.insert(alloc, Index::List(indices), value)
+        }
+    }
+
+    /// Removes all values.
+    pub(crate) fn clear(&mut self)
+        ensures empty { self.new ≡ [] }
+    {
+        drop(replace(&mut self.scalar, None));
+        self.indexed.clear();
+    }
+
+    /// Adds the entries to others, but for those at whose index lists the hidden array, if there is one, has a value.
+    fn add_entries<'s>(
+        &'s self,
+        hidden: Option<&Array>,
+        entries: &mut Vec<EntryRef<'s>>,
+    ) -> Result<(), AllocError>
+        ensures added { OnOk result (map entry entries.new.items ≡ map entry entries.old.items ++ visible_entries (unwrap_or (option_copied hidden.entry) []) self.now) }
+        ensures once { IsDistinct same_values (index_lists self.now) }
+    {
+        match &self.scalar {
+            Some(value) => {
+                add_entry(hidden, Indices::List(&[]), value, entries)?;
+                self.indexed.add_entries(hidden, entries)
+            }
+            None => self.indexed.add_entries(hidden, entries),
+        }
+    }
+
+    /// Whether a value is among those at whose index lists the hidden array, if there is one, has none. Allocates nothing.
+    fn has_value(&self, hidden: Option<&Array>, value: ValueRef<'_>) -> bool
+        ensures value { result ≡ list_any (λ e. same_value (value_of_ref value.entry) e.1) (visible_entries (unwrap_or (option_copied hidden.entry) []) self.now) }
+        ensures once { IsDistinct same_values (index_lists self.now) }
+    {
+        match &self.scalar {
+            Some(scalar) => {
+                if is_visible(hidden, &[], scalar, value) {
+                    return true;
+                }
+                self.indexed.has_value(hidden, value)
+            }
+            None => self.indexed.has_value(hidden, value),
+        }
+    }
+}
+
+/// Puts a value in the place of another or of none; after an error all is as it was.
+#[inline(always)]
+fn set_scalar(
+    alloc: Global,
+    scalar: &mut Option<Value>,
+    value: ValueRef<'_>,
+) -> Result<(), AllocError>
+    ensures ok { OnOk result (scalar.new ≡ Some (value_of_ref value.entry)) }
+    ensures err { OnErr result (scalar.new ≡ scalar.old) }
+{
+    match scalar {
+        Some(stored) => value.put_into(alloc, stored),
+        None => begin_scalar(alloc, scalar, value),
+    }
+}
+
+/// Puts a first value in its place. In line, so that only this rare way makes room for the value that it passes on.
+#[inline(always)]
+fn begin_scalar(
+    alloc: Global,
+    scalar: &mut Option<Value>,
+    value: ValueRef<'_>,
+) -> Result<(), AllocError>
+    ensures ok { OnOk result (scalar.new ≡ Some (value_of_ref value.entry)) }
+    ensures err { OnErr result (scalar.new ≡ scalar.old) }
+{
+    put_scalar(alloc, scalar, value)
+}
+
+/// Puts a value in the place of another or of none. Out of line: keeps the caller small.
+#[cold]
+#[inline(never)]
+fn put_scalar(
+    alloc: Global,
+    scalar: &mut Option<Value>,
+    value: ValueRef<'_>,
+) -> Result<(), AllocError>
+    ensures ok { OnOk result (scalar.new ≡ Some (value_of_ref value.entry)) }
+    ensures err { OnErr result (scalar.new ≡ scalar.old) }
+{
+    drop(replace(scalar, Some(value.to_value(alloc)?)));
+    Ok(())
+}
+
+/// The value that an array, if there is one, has at an index list. Allocates nothing.
+pub(crate) fn get<'s>(array: Option<&'s Array>, indices: &[Value]) -> Option<&'s Value>
+    ensures value { option_copied result ≡ find values_cmp indices.now (unwrap_or (option_copied array.entry) []) }
+{
+    array?.get(indices)
+}
+
+/// Adds the entries of an array, if there is one, to others, but for those at whose index lists the hidden array, if there is one, has a
+/// value.
+pub(crate) fn add_entries<'s>(
+    array: Option<&'s Array>,
+    hidden: Option<&Array>,
+    entries: &mut Vec<EntryRef<'s>>,
+) -> Result<(), AllocError>
+    ensures added { OnOk result (map entry entries.new.items ≡ map entry entries.old.items ++ visible_entries (unwrap_or (option_copied hidden.entry) []) (unwrap_or (option_copied array.entry) [])) }
+    ensures once { IsDistinct same_values (index_lists (unwrap_or (option_copied array.entry) [])) }
+{
+    match array {
+        Some(array) => array.add_entries(hidden, entries),
+        None => Ok(()),
+    }
+}
+
+/// Whether a value is among those of an array, if there is one, at whose index lists the hidden array, if there is one, has
+/// none. Allocates nothing.
+pub(crate) fn has_value(array: Option<&Array>, hidden: Option<&Array>, value: ValueRef<'_>) -> bool
+    ensures value { result ≡ list_any (λ e. same_value (value_of_ref value.entry) e.1) (visible_entries (unwrap_or (option_copied hidden.entry) []) (unwrap_or (option_copied array.entry) [])) }
+    ensures once { IsDistinct same_values (index_lists (unwrap_or (option_copied array.entry) [])) }
+{
+    match array {
+        Some(array) => array.has_value(hidden, value),
+        None => false,
+    }
+}
+
+/// Adds an entry to others where the hidden array, if there is one, has no value at its index list.
+pub(crate) fn add_entry<'s>(
+    hidden: Option<&Array>,
+    indices: Indices<'s>,
+    value: &'s Value,
+    entries: &mut Vec<EntryRef<'s>>,
+) -> Result<(), AllocError>
+    ensures added { OnOk result (map entry entries.new.items ≡ map entry entries.old.items ++ visible_entries (unwrap_or (option_copied hidden.entry) []) ((indices_of indices.entry, value.now) ∷ [])) }
+{
+    if !has_indices(hidden, indices.as_slice()) {
+        entries.push(EntryRef { indices, value })?;
+    }
+    Ok(())
+}
+
+/// Whether an array, if there is one, has a value at an index list.
+pub(crate) fn has_indices(array: Option<&Array>, indices: &[Value]) -> bool
+    ensures value { result ≡ has_indices (unwrap_or (option_copied array.entry) []) indices.now }
+{
+    match array {
+        Some(array) => array.get(indices).is_some(),
+        None => false,
+    }
+}
