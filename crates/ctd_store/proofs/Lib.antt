@@ -1,6 +1,6 @@
 pub mod Scalar
 pub mod Firsts
-pub mod Laid
+pub mod Overlay
 pub mod Lookups
 pub mod Maps
 pub mod Members
@@ -10,4 +10,4 @@ pub mod Slots
 pub mod Rows
 pub mod StoreLaws
 pub mod Gridded
-pub mod AnyLaid
+pub mod AnyVisible

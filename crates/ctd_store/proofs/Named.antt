@@ -14,7 +14,7 @@ use Rattle.std.proofs.lemmas.Map.Lookups.{exact_bytes}
 use Rattle.ctd_store.specs.declared.value.Value.{Value}
 use Rattle.ctd_store.specs.Order.{bytes_cmp, same_bytes, values_cmp}
 use Rattle.ctd_store.specs.Store.{Array, Variables, Positions, array_of, with_array, in_order, name_at, is_position, have_positions}
-use Rattle.ctd_store.proofs.Laid.{left_of, right_of}
+use Rattle.ctd_store.proofs.Overlay.{left_of, right_of}
 
 -- two names are one or two
 pub same_as : (q k : List ℕ) → same_bytes q k ≡ true → q ≡ k
@@ -55,9 +55,9 @@ not_there x k vs none = elim (same_bytes x k) as (λ b. same_bytes x k ≡ b →
 ] refl
 
 -- what is found where an array is overlay_row over variables without its name
-laid_over : (x k : List ℕ) (a : Array) (vs : Variables) → find bytes_cmp k vs ≡ None → find bytes_cmp x (with_array k a vs) ≡ cond (same_bytes x k) (given a) (find bytes_cmp x vs)
-laid_over x k [] vs none = not_there x k vs none
-laid_over x k (e ∷ es) vs none = find-put bytes_cmp nat_list_cmp_total x k (e ∷ es) vs
+overlay_over : (x k : List ℕ) (a : Array) (vs : Variables) → find bytes_cmp k vs ≡ None → find bytes_cmp x (with_array k a vs) ≡ cond (same_bytes x k) (given a) (find bytes_cmp x vs)
+overlay_over x k [] vs none = not_there x k vs none
+overlay_over x k (e ∷ es) vs none = find-put bytes_cmp nat_list_cmp_total x k (e ∷ es) vs
 
 sorted_with : (k : List ℕ) (a : Array) (vs : Variables) → T (is_sorted bytes_cmp vs) → T (is_sorted bytes_cmp (with_array k a vs))
 sorted_with k [] vs sorted = sorted
@@ -124,7 +124,7 @@ first_absent n v vs ps placed at is = twice v.0 n at v vs ps placed is refl
 
 -- what is found where the first array is overlay_row over the others
 found_first : (x : List ℕ) (n : ℕ) (v : List ℕ × Array) (vs : Variables) (ps : Positions) → T (have_positions n (v ∷ vs) ps) → find bytes_cmp x (in_order (v ∷ vs)) ≡ cond (same_bytes x v.0) (given v.1) (find bytes_cmp x (in_order vs))
-found_first x n v vs ps placed = laid_over x v.0 v.1 (in_order vs) (missing v.0 vs (first_absent n v vs ps placed))
+found_first x n v vs ps placed = overlay_over x v.0 v.1 (in_order vs) (missing v.0 vs (first_absent n v vs ps placed))
 
 doubled : {X : Type 0} (b : Bool) (x y z : X) → cond b x z ≡ cond b x (cond b y z)
 doubled true x y z = refl
@@ -147,14 +147,14 @@ found_set : (x : List ℕ) (n at : ℕ) (vs : Variables) (ps : Positions) (q : L
 found_set x n at [] ps q a b placed is = absurd (nothing (q, a) is)
 found_set x n zero (v ∷ vs) ps q a b placed is =
     let name : v.0 ≡ q = ap (λ w. w.0) (same_some v (q, a) is) in
-    laid_over x q b (in_order vs) (ap (λ k. find bytes_cmp k (in_order vs)) (sym name) ∙ missing v.0 vs (first_absent n v vs ps placed))
+    overlay_over x q b (in_order vs) (ap (λ k. find bytes_cmp k (in_order vs)) (sym name) ∙ missing v.0 vs (first_absent n v vs ps placed))
     ∙ doubled (same_bytes x q) (given b) (given v.1) (find bytes_cmp x (in_order vs))
     ∙ ap (cond (same_bytes x q) (given b)) (ap (λ k. cond (same_bytes x k) (given v.1) (find bytes_cmp x (in_order vs))) (sym name) ∙ sym (found_first x n v vs ps placed))
 found_set x n (suc at) (v ∷ vs) ps q a b placed is =
     let apart : q ≢ v.0 = twice q n at v vs ps placed (name_of q a at vs is) in
     let after = found_set x (suc n) at vs ps q a b (right_of _ _ placed) is in
     let first = found_set v.0 (suc n) at vs ps q a b (right_of _ _ placed) is in
-    laid_over x v.0 v.1 (in_order (slice_set vs at (q, b)))
+    overlay_over x v.0 v.1 (in_order (slice_set vs at (q, b)))
     (first ∙ ap (λ t. cond t (given b) (find bytes_cmp v.0 (in_order vs))) (differs v.0 q (λ e. apart (sym e))) ∙ missing v.0 vs (first_absent n v vs ps placed))
     ∙ ap (cond (same_bytes x v.0) (given v.1)) after
     ∙ swapped (same_bytes x v.0) (same_bytes x q) (given v.1) (given b) (find bytes_cmp x (in_order vs)) (apart_tests x q v.0 apart)
@@ -218,12 +218,12 @@ none_left_out q vs absent =
 -- what is found where an array is added behind the others
 found_added : (x : List ℕ) (n : ℕ) (vs : Variables) (ps : Positions) (q : List ℕ) (b : Array) → T (have_positions n vs ps) → IsAbsent q vs
     → find bytes_cmp x (in_order (vs ++ (q, b) ∷ [])) ≡ cond (same_bytes x q) (given b) (find bytes_cmp x (in_order vs))
-found_added x n [] ps q b placed absent = laid_over x q b [] refl
+found_added x n [] ps q b placed absent = overlay_over x q b [] refl
 found_added x n (v ∷ vs) ps q b placed absent =
     let apart : q ≢ v.0 = not_first q v vs absent in
     let after = found_added x (suc n) vs ps q b (right_of _ _ placed) (absent_after q v vs absent) in
     let first = found_added v.0 (suc n) vs ps q b (right_of _ _ placed) (absent_after q v vs absent) in
-    laid_over x v.0 v.1 (in_order (vs ++ (q, b) ∷ []))
+    overlay_over x v.0 v.1 (in_order (vs ++ (q, b) ∷ []))
     (first ∙ ap (λ t. cond t (given b) (find bytes_cmp v.0 (in_order vs))) (differs v.0 q (λ e. apart (sym e))) ∙ missing v.0 vs (first_absent n v vs ps placed))
     ∙ ap (cond (same_bytes x v.0) (given v.1)) after
     ∙ swapped (same_bytes x v.0) (same_bytes x q) (given v.1) (given b) (find bytes_cmp x (in_order vs)) (apart_tests x q v.0 apart)

@@ -9,17 +9,17 @@ use Rattle.ctd_store.specs.Order.{values_cmp}
 use Rattle.ctd_store.specs.OrderLaws.{values_total}
 use Rattle.ctd_store.specs.Store.{Array, History, array_of, values_of, first_of_each, slot, overlay_row}
 use Rattle.ctd_store.proofs.Firsts.{all_first}
-use Rattle.ctd_store.proofs.Laid.{differs, slots_apart, tied, laid_each_once}
-use Rattle.ctd_store.proofs.Merged.{laid_before}
+use Rattle.ctd_store.proofs.Overlay.{differs, slots_apart, tied, overlay_each_once}
+use Rattle.ctd_store.proofs.Merged.{overlay_before}
 
 -- values with the numbers from n on
 abbrev pub numbered : ℕ → List Value → Array
 numbered n [] = []
 numbered n (x ∷ xs) = (slot n, x) ∷ numbered (suc n) xs
 
-pub laid_scalar : (n : ℕ) (xs : List Value) → overlay_row n xs [] ≡ numbered n xs
-laid_scalar n [] = refl
-laid_scalar n (x ∷ xs) = laid_before n x xs [] tt ∙ ap (λ r. (slot n, x) ∷ r) (laid_scalar (suc n) xs)
+pub row_only : (n : ℕ) (xs : List Value) → overlay_row n xs [] ≡ numbered n xs
+row_only n [] = refl
+row_only n (x ∷ xs) = overlay_before n x xs [] tt ∙ ap (λ r. (slot n, x) ∷ r) (row_only (suc n) xs)
 
 any_numbered : (F : Value → Bool) (n : ℕ) (xs : List Value) → list_any (λ e. F e.1) (numbered n xs) ≡ list_any F xs
 any_numbered F n [] = refl
@@ -27,7 +27,7 @@ any_numbered F n (x ∷ xs) = ap (λ b. F x || b) (any_numbered F (suc n) xs)
 
 -- some entry of a row has a value of a kind just where one of its values is of it
 pub any_in_row : (F : Value → Bool) (n : ℕ) (xs : List Value) → list_any (λ e. F e.1) (overlay_row n xs []) ≡ list_any F xs
-any_in_row F n xs = ap (list_any (λ e. F e.1)) (laid_scalar n xs) ∙ any_numbered F n xs
+any_in_row F n xs = ap (list_any (λ e. F e.1)) (row_only n xs) ∙ any_numbered F n xs
 
 -- an array has these values at the numbers from n on
 abbrev pub Found : Array → ℕ → List Value → Type 0
@@ -54,7 +54,7 @@ pub whole_row : (h : History) (name : List ℕ) (a : Array) (n : ℕ) (row : Lis
 whole_row h name a n row none there is =
     ap (λ ps. first_of_each (ps ++ array_of name h.assigned)) none
     ∙ ap first_of_each (sym there ∙ is)
-    ∙ all_first (overlay_row n row []) (laid_each_once n row [] tt)
+    ∙ all_first (overlay_row n row []) (overlay_each_once n row [] tt)
 
 pub if_none_weaker : {X : Type 0} (o : Option X) (P Q : Type 0) → (P → Q) → IfNone o P → IfNone o Q
 if_none_weaker None P Q f h = f h

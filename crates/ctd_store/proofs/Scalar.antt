@@ -9,10 +9,10 @@ use Rattle.ctd_store.specs.declared.value.Value.{Value}
 use Rattle.ctd_store.specs.Index.{HasIndices}
 use Rattle.ctd_store.specs.Order.{values_cmp}
 use Rattle.ctd_store.specs.OrderLaws.{values_total}
-use Rattle.ctd_store.specs.Showing.{not_among}
+use Rattle.ctd_store.specs.Showing.{visible_entries}
 use Rattle.ctd_store.specs.Store.{Array, with_scalar, is_indexed}
 use Rattle.ctd_store.proofs.Firsts.{HasEachOnce}
-use Rattle.ctd_store.proofs.Laid.{put_other, put_again, sorted_each_once, left_of, right_of}
+use Rattle.ctd_store.proofs.Overlay.{put_other, put_again, sorted_each_once, left_of, right_of}
 use Rattle.ctd_store.proofs.Merged.{added}
 
 no_successor : (n : ℕ) → (suc n == 0) ≡ true → ⊥
@@ -89,7 +89,7 @@ scalar_first x (([], w) ∷ es) h = absurd (right_of (is_sorted values_cmp (([],
 scalar_first x ((i ∷ is, w) ∷ es) h = refl
 
 -- and is added before the others
-pub added_scalar : (hidden sofar more total : Array) (x : Value) (es : Array) → T (is_indexed es) → sofar ++ not_among hidden (put values_cmp [] x es) ≡ total → more ≡ sofar ++ not_among hidden (([], x) ∷ []) → more ++ not_among hidden es ≡ total
+pub added_scalar : (hidden sofar more total : Array) (x : Value) (es : Array) → T (is_indexed es) → sofar ++ visible_entries hidden (put values_cmp [] x es) ≡ total → more ≡ sofar ++ visible_entries hidden (([], x) ∷ []) → more ++ visible_entries hidden es ≡ total
 added_scalar hidden sofar more total x es h before is = added hidden sofar more (put values_cmp [] x es) es total ([], x) before (scalar_first x es h) is
 
 -- the value without indices, if there is one

@@ -7,12 +7,12 @@ ghost use Rattle.std.specs.FinMap.{find, put};
 ghost use Rattle.ctd_store.specs.Index.{indices_at, indices_of};
 ghost use Rattle.ctd_store.specs.ValueRef.{value_of_ref};
 ghost use Rattle.ctd_store.specs.Order.{values_cmp, same_value, same_values};
-ghost use Rattle.ctd_store.specs.Showing.{entry, not_among};
+ghost use Rattle.ctd_store.specs.Showing.{entry, visible_entries};
 ghost use Rattle.ctd_store.specs.Store.{has_indices, index_lists, overlay_row};
 
 use crate::index::{Index, Indices};
 use crate::indexed::Indexed;
-use crate::row_and_map::{Row, shows};
+use crate::row_and_map::{Row, is_visible};
 use crate::store::EntryRef;
 use crate::value::Value;
 use crate::value_ref::ValueRef;
@@ -51,16 +51,27 @@ impl Array {
         }
     }
 
-    /// The value without indices, or at one number or two where it stands in the row or in the grid; none says nothing.
+    /// The value without indices, or at one number or two where it stands in the row or in the grid. `None` means: take the general path.
     #[inline(always)]
-    pub(crate) fn at_hand(&self, index: Index<'_>) -> Option<&Value>
+    pub(crate) fn fast_value(&self, index: Index<'_>) -> Option<&Value>
         ensures value { IfSome result (λ x. find values_cmp (indices_at index.entry) self.now ≡ Some x.now) }
     {
         match index {
             Index::Scalar => self.scalar(),
-            Index::One(_) => self.indexed.at_hand(index),
-            Index::Two(_, _) => self.indexed.at_hand(index),
+            Index::One(_) => self.indexed.fast_value(index),
+            Index::Two(_, _) => self.indexed.fast_value(index),
             Index::List(_) => None,
+        }
+    }
+
+    /// The value at an index, where that is the value without indices. `None` means: take the general path.
+    #[inline(always)]
+    pub(crate) fn fast_scalar(&self, index: Index<'_>) -> Option<&Value>
+        ensures value { IfSome result (λ x. find values_cmp (indices_at index.entry) self.now ≡ Some x.now) }
+    {
+        match index {
+            Index::Scalar => self.scalar(),
+            Index::One(_) | Index::Two(_, _) | Index::List(_) => None,
         }
     }
 
@@ -83,7 +94,7 @@ impl Array {
         }
     }
 
-    /// The values, where they are a row alone; none says nothing.
+    /// The values, where they are a row alone. `None` means: take the general path.
     #[inline(always)]
     pub(crate) fn row(&self) -> Option<Row<'_>>
         ensures value { IfSome result (λ row. self.now ≡ overlay_row row.base row.values.now []) }
@@ -105,10 +116,29 @@ impl Array {
         ensures ok { OnOk result (self.new ≡ put values_cmp (indices_at index.entry) (value_of_ref value.entry) self.old) }
         ensures err { OnErr result (self.new ≡ self.old) }
     {
-        if index.is_scalar() {
+        match index {
+            Index::Scalar => set_scalar(alloc, &mut self.scalar, value),
+            Index::One(number) => self.indexed.insert_one(alloc, number, value),
+            Index::Two(row, column) => self.indexed.insert_two(alloc, row, column, value),
+            Index::List(indices) => self.insert_by_list(alloc, indices, value),
+        }
+    }
+
+    /// Gives the index list of a slice a value; after an error all is as it was.
+    #[inline(never)]
+    fn insert_by_list(
+        &mut self,
+        alloc: Global,
+        indices: &[Value],
+        value: ValueRef<'_>,
+    ) -> Result<(), AllocError>
+        ensures ok { OnOk result (self.new ≡ put values_cmp indices.now (value_of_ref value.entry) self.old) }
+        ensures err { OnErr result (self.new ≡ self.old) }
+    {
+        if indices.is_empty() {
             set_scalar(alloc, &mut self.scalar, value)
         } else {
-            self.indexed.insert(alloc, index, value)
+            self.indexed.insert(alloc, Index::List(indices), value)
         }
     }
 
@@ -126,7 +156,7 @@ impl Array {
         hidden: Option<&Array>,
         entries: &mut Vec<EntryRef<'s>>,
     ) -> Result<(), AllocError>
-        ensures added { OnOk result (map entry entries.new.items ≡ map entry entries.old.items ++ not_among (unwrap_or (option_copied hidden.entry) []) self.now) }
+        ensures added { OnOk result (map entry entries.new.items ≡ map entry entries.old.items ++ visible_entries (unwrap_or (option_copied hidden.entry) []) self.now) }
         ensures once { IsDistinct same_values (index_lists self.now) }
     {
         match &self.scalar {
@@ -140,12 +170,12 @@ impl Array {
 
     /// Whether a value is among those at whose index lists the hidden array, if there is one, has none. Allocates nothing.
     fn has_value(&self, hidden: Option<&Array>, value: ValueRef<'_>) -> bool
-        ensures value { result ≡ list_any (λ e. same_value (value_of_ref value.entry) e.1) (not_among (unwrap_or (option_copied hidden.entry) []) self.now) }
+        ensures value { result ≡ list_any (λ e. same_value (value_of_ref value.entry) e.1) (visible_entries (unwrap_or (option_copied hidden.entry) []) self.now) }
         ensures once { IsDistinct same_values (index_lists self.now) }
     {
         match &self.scalar {
             Some(scalar) => {
-                if shows(hidden, &[], scalar, value) {
+                if is_visible(hidden, &[], scalar, value) {
                     return true;
                 }
                 self.indexed.has_value(hidden, value)
@@ -167,11 +197,36 @@ fn set_scalar(
 {
     match scalar {
         Some(stored) => value.put_into(alloc, stored),
-        None => {
-            drop(replace(scalar, Some(value.to_value(alloc)?)));
-            Ok(())
-        }
+        None => begin_scalar(alloc, scalar, value),
     }
+}
+
+/// Puts a first value in its place. In line, so that only this rare way makes room for the value that it passes on.
+#[inline(always)]
+fn begin_scalar(
+    alloc: Global,
+    scalar: &mut Option<Value>,
+    value: ValueRef<'_>,
+) -> Result<(), AllocError>
+    ensures ok { OnOk result (scalar.new ≡ Some (value_of_ref value.entry)) }
+    ensures err { OnErr result (scalar.new ≡ scalar.old) }
+{
+    put_scalar(alloc, scalar, value)
+}
+
+/// Puts a value in the place of another or of none. Out of line: keeps the caller small.
+#[cold]
+#[inline(never)]
+fn put_scalar(
+    alloc: Global,
+    scalar: &mut Option<Value>,
+    value: ValueRef<'_>,
+) -> Result<(), AllocError>
+    ensures ok { OnOk result (scalar.new ≡ Some (value_of_ref value.entry)) }
+    ensures err { OnErr result (scalar.new ≡ scalar.old) }
+{
+    drop(replace(scalar, Some(value.to_value(alloc)?)));
+    Ok(())
 }
 
 /// The value that an array, if there is one, has at an index list. Allocates nothing.
@@ -188,7 +243,7 @@ pub(crate) fn add_entries<'s>(
     hidden: Option<&Array>,
     entries: &mut Vec<EntryRef<'s>>,
 ) -> Result<(), AllocError>
-    ensures added { OnOk result (map entry entries.new.items ≡ map entry entries.old.items ++ not_among (unwrap_or (option_copied hidden.entry) []) (unwrap_or (option_copied array.entry) [])) }
+    ensures added { OnOk result (map entry entries.new.items ≡ map entry entries.old.items ++ visible_entries (unwrap_or (option_copied hidden.entry) []) (unwrap_or (option_copied array.entry) [])) }
     ensures once { IsDistinct same_values (index_lists (unwrap_or (option_copied array.entry) [])) }
 {
     match array {
@@ -200,7 +255,7 @@ pub(crate) fn add_entries<'s>(
 /// Whether a value is among those of an array, if there is one, at whose index lists the hidden array, if there is one, has
 /// none. Allocates nothing.
 pub(crate) fn has_value(array: Option<&Array>, hidden: Option<&Array>, value: ValueRef<'_>) -> bool
-    ensures value { result ≡ list_any (λ e. same_value (value_of_ref value.entry) e.1) (not_among (unwrap_or (option_copied hidden.entry) []) (unwrap_or (option_copied array.entry) [])) }
+    ensures value { result ≡ list_any (λ e. same_value (value_of_ref value.entry) e.1) (visible_entries (unwrap_or (option_copied hidden.entry) []) (unwrap_or (option_copied array.entry) [])) }
     ensures once { IsDistinct same_values (index_lists (unwrap_or (option_copied array.entry) [])) }
 {
     match array {
@@ -216,7 +271,7 @@ pub(crate) fn add_entry<'s>(
     value: &'s Value,
     entries: &mut Vec<EntryRef<'s>>,
 ) -> Result<(), AllocError>
-    ensures added { OnOk result (map entry entries.new.items ≡ map entry entries.old.items ++ not_among (unwrap_or (option_copied hidden.entry) []) ((indices_of indices.entry, value.now) ∷ [])) }
+    ensures added { OnOk result (map entry entries.new.items ≡ map entry entries.old.items ++ visible_entries (unwrap_or (option_copied hidden.entry) []) ((indices_of indices.entry, value.now) ∷ [])) }
 {
     if !has_indices(hidden, indices.as_slice()) {
         entries.push(EntryRef { indices, value })?;

@@ -8,7 +8,7 @@ ghost use Rattle.ctd_store.specs.Grid.{cells, grid, put_each};
 ghost use Rattle.ctd_store.specs.Index.{indices_of};
 ghost use Rattle.ctd_store.specs.ValueRef.{value_of_ref};
 ghost use Rattle.ctd_store.specs.Order.{values_cmp, same_value};
-ghost use Rattle.ctd_store.specs.Showing.{entry, not_among};
+ghost use Rattle.ctd_store.specs.Showing.{entry, visible_entries};
 ghost use Rattle.ctd_store.specs.Store.{cell, has_indices};
 ghost use Rattle.ctd_store.specs.declared.value.Value.TheVariants as values;
 
@@ -71,7 +71,7 @@ impl Grid {
         Some(&row.values[at])
     }
 
-    /// The value at a row and a column of 64 bits, where the grid has it; none says nothing.
+    /// The value at a row and a column of 64 bits, where the grid has it. `None` means: take the general path.
     #[inline(always)]
     pub(crate) fn at(&self, row: usize, column: usize) -> Option<&Value>
         ensures value { IfSome result (λ x. find values_cmp (cell row column) self.now ≡ Some x.now) }
@@ -86,9 +86,37 @@ impl Grid {
         value_at(&self.rows[at], column)
     }
 
+    /// Gives a row and a column a value, where the grid has the row and the column stands in it or just behind it, and tells whether it did.
+    /// Else all is as it was; so it is after an error.
+    #[inline(always)]
+    pub(crate) fn insert_in_row(
+        &mut self,
+        alloc: Global,
+        row: usize,
+        column: usize,
+        value: ValueRef<'_>,
+    ) -> Result<bool, AllocError>
+        ensures done { result ≡ Ok true → self.new ≡ put values_cmp (cell row column) (value_of_ref value.entry) self.old }
+        ensures stays { result ≡ Ok false → self.new ≡ self.old }
+        ensures err { OnErr result (self.new ≡ self.old) }
+    {
+        if row < self.base {
+            return Ok(false);
+        }
+        let at = row - self.base;
+        if at >= self.rows.len() {
+            return Ok(false);
+        }
+        let row = &mut self.rows[at];
+        if column < row.base || column - row.base > row.values.len() {
+            return Ok(false);
+        }
+        write(alloc, &mut row.values, column - row.base, value)?;
+        Ok(true)
+    }
+
     /// Gives a row and a column a value, where they stand in the grid or just behind the values of a row, or begin the next row, and
     /// tells whether it did. Else all is as it was; so it is after an error. A grid with no rows begins anywhere.
-    #[inline(always)]
     pub(crate) fn insert(
         &mut self,
         alloc: Global,
@@ -100,23 +128,29 @@ impl Grid {
         ensures stays { result ≡ Ok false → self.new ≡ self.old }
         ensures err { OnErr result (self.new ≡ self.old) }
     {
-        self.base = base_for(self.base, self.rows.len(), row);
-        if row < self.base {
-            return Ok(false);
-        }
-        let at = row - self.base;
-        if at > self.rows.len() {
-            return Ok(false);
-        }
-        if at == self.rows.len() {
-            add_row(alloc, &mut self.rows, column, value)?;
+        if self.insert_in_row(alloc, row, column, value)? {
             return Ok(true);
         }
-        let row = &mut self.rows[at];
-        if column < row.base || column - row.base > row.values.len() {
+        self.begin_row(alloc, row, column, value)
+    }
+
+    /// Begins the next row with a value, or the first one anywhere, and tells whether it did. Else all is as it was; so it is after an error.
+    fn begin_row(
+        &mut self,
+        alloc: Global,
+        row: usize,
+        column: usize,
+        value: ValueRef<'_>,
+    ) -> Result<bool, AllocError>
+        ensures done { result ≡ Ok true → self.new ≡ put values_cmp (cell row column) (value_of_ref value.entry) self.old }
+        ensures stays { result ≡ Ok false → self.new ≡ self.old }
+        ensures err { OnErr result (self.new ≡ self.old) }
+    {
+        self.base = base_for(self.base, self.rows.len(), row);
+        if row < self.base || row - self.base != self.rows.len() {
             return Ok(false);
         }
-        write(alloc, &mut row.values, column - row.base, value)?;
+        add_row(alloc, &mut self.rows, column, value)?;
         Ok(true)
     }
 
@@ -144,7 +178,7 @@ impl Grid {
         hidden: Option<&Array>,
         entries: &mut Vec<EntryRef<'s>>,
     ) -> Result<(), AllocError>
-        ensures added { OnOk result (map entry entries.new.items ≡ map entry entries.old.items ++ not_among (unwrap_or (option_copied hidden.entry) []) self.now) }
+        ensures added { OnOk result (map entry entries.new.items ≡ map entry entries.old.items ++ visible_entries (unwrap_or (option_copied hidden.entry) []) self.now) }
     {
         for at in 0..self.rows.len() {
             add_row_entries(hidden, self.base, at, &self.rows[at], entries)?;
@@ -154,7 +188,7 @@ impl Grid {
 
     /// Whether a value is among those at whose index lists the hidden array, if there is one, has none. Allocates nothing.
     pub(crate) fn has_value(&self, hidden: Option<&Array>, value: ValueRef<'_>) -> bool
-        ensures value { result ≡ list_any (λ e. same_value (value_of_ref value.entry) e.1) (not_among (unwrap_or (option_copied hidden.entry) []) self.now) }
+        ensures value { result ≡ list_any (λ e. same_value (value_of_ref value.entry) e.1) (visible_entries (unwrap_or (option_copied hidden.entry) []) self.now) }
     {
         for at in 0..self.rows.len() {
             if row_has_value(hidden, self.base, at, &self.rows[at], value) {
@@ -201,7 +235,6 @@ fn value_at(row: &GridRow, column: usize) -> Option<&Value>
 }
 
 /// Adds a row with a single value, with room for as many as the row before it has; after an error the rows are as they were.
-#[inline(never)]
 fn add_row(
     alloc: Global,
     rows: &mut Vec<GridRow>,
@@ -250,7 +283,7 @@ fn add_row_entries<'s>(
     row: &'s GridRow,
     entries: &mut Vec<EntryRef<'s>>,
 ) -> Result<(), AllocError>
-    ensures added { OnOk result (map entry entries.new.items ≡ map entry entries.old.items ++ not_among (unwrap_or (option_copied hidden.entry) []) (cells (base + at) row.now.base row.now.values.items)) }
+    ensures added { OnOk result (map entry entries.new.items ≡ map entry entries.old.items ++ visible_entries (unwrap_or (option_copied hidden.entry) []) (cells (base + at) row.now.base row.now.values.items)) }
 {
     for column in 0..row.values.len() {
         let indices = cell_indices(base, at, row.base, column);
@@ -267,7 +300,7 @@ fn row_has_value(
     row: &GridRow,
     value: ValueRef<'_>,
 ) -> bool
-    ensures value { result ≡ list_any (λ e. same_value (value_of_ref value.entry) e.1) (not_among (unwrap_or (option_copied hidden.entry) []) (cells (base + at) row.now.base row.now.values.items)) }
+    ensures value { result ≡ list_any (λ e. same_value (value_of_ref value.entry) e.1) (visible_entries (unwrap_or (option_copied hidden.entry) []) (cells (base + at) row.now.base row.now.values.items)) }
 {
     for column in 0..row.values.len() {
         if value.order(ValueRef::of(&row.values[column])).is_eq() {

@@ -61,7 +61,7 @@ impl<'i> Index<'i> {
     }
 
     /// The index list with its numbers as values.
-    pub(crate) fn spelled(self) -> Indices<'i>
+    pub(crate) fn to_indices(self) -> Indices<'i>
         ensures same { indices_of result ≡ indices_at self.entry }
     {
         match self {
@@ -72,11 +72,11 @@ impl<'i> Index<'i> {
         }
     }
 
-    /// The same in memory of its own.
+    /// The values of the index list, in a list of their own.
     pub(crate) fn to_list(self, alloc: Global) -> Result<Vec<Value>, AllocError>
         ensures same { IfOk result (λ list. list.items ≡ indices_at self.entry) }
     {
-        copy_all(alloc, self.spelled().as_slice())
+        copy_all(alloc, self.to_indices().as_slice())
     }
 }
 

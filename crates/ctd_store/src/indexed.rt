@@ -7,7 +7,7 @@ ghost use Rattle.std.specs.FinMap.{find, put};
 ghost use Rattle.ctd_store.specs.Index.{indices_at};
 ghost use Rattle.ctd_store.specs.ValueRef.{value_of_ref};
 ghost use Rattle.ctd_store.specs.Order.{values_cmp, same_value};
-ghost use Rattle.ctd_store.specs.Showing.{entry, not_among};
+ghost use Rattle.ctd_store.specs.Showing.{entry, visible_entries};
 ghost use Rattle.ctd_store.specs.Store.{cell, overlay_row, slot};
 
 use crate::array::Array;
@@ -23,24 +23,24 @@ use std::mem::replace;
 
 /// The two forms. An array becomes a grid by its first value, and ceases to be one by the first that has no place in it.
 #[derive(Drop)]
-enum Form {
-    Plain(RowAndMap),
+enum ArrayRepr {
+    RowAndMap(RowAndMap),
     Grid(Grid),
 }
 
 /// Index lists with their values, each index list once, which contracts see as the list of them in order.
 #[derive(Drop)]
 pub(crate) struct Indexed {
-    form: Form,
+    form: ArrayRepr,
 }
 
 impl Model for Indexed {
-    ghost use Rattle.ctd_store.specs.Showing.{formed};
+    ghost use Rattle.ctd_store.specs.Showing.{entries_in};
     ghost use Rattle.ctd_store.specs.Store.{Array};
 
     ghost Value = { Array };
 
-    ghost view = { λ a. formed a.form };
+    ghost view = { λ a. entries_in a.form };
 }
 
 impl Indexed {
@@ -49,7 +49,7 @@ impl Indexed {
         ensures empty { result ≡ [] }
     {
         Indexed {
-            form: Form::Plain(RowAndMap::new(alloc)),
+            form: ArrayRepr::RowAndMap(RowAndMap::new(alloc)),
         }
     }
 
@@ -58,36 +58,106 @@ impl Indexed {
         ensures value { option_copied result ≡ find values_cmp indices.now self.now }
     {
         match &self.form {
-            Form::Plain(plain) => plain.get(indices),
-            Form::Grid(grid) => grid.get(indices),
+            ArrayRepr::RowAndMap(plain) => plain.get(indices),
+            ArrayRepr::Grid(grid) => grid.get(indices),
         }
     }
 
-    /// The value at one number or two, where it stands in the row or in the grid; none says nothing.
+    /// The value at one number or two, where it stands in the row or in the grid. `None` means: take the general path.
     #[inline(always)]
-    pub(crate) fn at_hand(&self, index: Index<'_>) -> Option<&Value>
+    pub(crate) fn fast_value(&self, index: Index<'_>) -> Option<&Value>
         ensures value { IfSome result (λ x. find values_cmp (indices_at index.entry) self.now ≡ Some x.now) }
     {
         match (&self.form, index) {
-            (Form::Plain(plain), Index::One(number)) => plain.in_row(number),
-            (Form::Grid(grid), Index::Two(row, column)) => grid.at(row, column),
+            (ArrayRepr::RowAndMap(plain), Index::One(number)) => plain.value_in_row(number),
+            (ArrayRepr::Grid(grid), Index::Two(row, column)) => grid.at(row, column),
             _ => None,
         }
     }
 
-    /// The values, where they are a row alone; none says nothing.
+    /// The values, where they are a row alone. `None` means: take the general path.
     #[inline(always)]
     pub(crate) fn row(&self) -> Option<Row<'_>>
         ensures value { IfSome result (λ row. self.now ≡ overlay_row row.base row.values.now []) }
     {
         match &self.form {
-            Form::Plain(plain) => plain.row(),
-            Form::Grid(_) => None,
+            ArrayRepr::RowAndMap(plain) => plain.row(),
+            ArrayRepr::Grid(_) => None,
         }
     }
 
-    /// Gives an index list a value; after an error all is as it was.
+    /// Gives a number a value; after an error all is as it was.
     #[inline(always)]
+    pub(crate) fn insert_one(
+        &mut self,
+        alloc: Global,
+        number: usize,
+        value: ValueRef<'_>,
+    ) -> Result<(), AllocError>
+        ensures ok { OnOk result (self.new ≡ put values_cmp (slot number) (value_of_ref value.entry) self.old) }
+        ensures err { OnErr result (self.new ≡ self.old) }
+    {
+        match &mut self.form {
+            ArrayRepr::RowAndMap(plain) => plain.insert_one(alloc, number, value),
+            ArrayRepr::Grid(_) => self.insert_out_of_line(alloc, Index::One(number), value),
+        }
+    }
+
+    /// Gives two numbers a value; after an error all is as it was.
+    #[inline(always)]
+    pub(crate) fn insert_two(
+        &mut self,
+        alloc: Global,
+        row: usize,
+        column: usize,
+        value: ValueRef<'_>,
+    ) -> Result<(), AllocError>
+        ensures ok { OnOk result (self.new ≡ put values_cmp (cell row column) (value_of_ref value.entry) self.old) }
+        ensures err { OnErr result (self.new ≡ self.old) }
+    {
+        if self.insert_in_grid(alloc, row, column, value)? {
+            return Ok(());
+        }
+        self.insert_out_of_line(alloc, Index::Two(row, column), value)
+    }
+
+    /// Gives two numbers a value, where the values are a grid whose rows have a place for it, and tells whether it did. Else all is as it
+    /// was; so it is after an error.
+    #[inline(always)]
+    fn insert_in_grid(
+        &mut self,
+        alloc: Global,
+        row: usize,
+        column: usize,
+        value: ValueRef<'_>,
+    ) -> Result<bool, AllocError>
+        ensures done { result ≡ Ok true → self.new ≡ put values_cmp (cell row column) (value_of_ref value.entry) self.old }
+        ensures stays { result ≡ Ok false → self.new ≡ self.old }
+        ensures err { OnErr result (self.new ≡ self.old) }
+    {
+        match &mut self.form {
+            ArrayRepr::Grid(grid) => grid.insert_in_row(alloc, row, column, value),
+            ArrayRepr::RowAndMap(_) => Ok(false),
+        }
+    }
+
+    /// Gives an index list a value; after an error all is as it was. In line, so that only this rare way makes room for what it passes on.
+    #[inline(always)]
+    fn insert_out_of_line(
+        &mut self,
+        alloc: Global,
+        index: Index<'_>,
+        value: ValueRef<'_>,
+    ) -> Result<(), AllocError>
+        ensures ok { OnOk result (self.new ≡ put values_cmp (indices_at index.entry) (value_of_ref value.entry) self.old) }
+        ensures err { OnErr result (self.new ≡ self.old) }
+    {
+        self.insert(alloc, index, value)
+    }
+
+    /// Gives an index list a value; after an error all is as it was. Out of line: keeps the caller small.
+    #[cold]
+    #[inline(never)]
     pub(crate) fn insert(
         &mut self,
         alloc: Global,
@@ -103,14 +173,13 @@ impl Indexed {
             }
         }
         match &mut self.form {
-            Form::Plain(plain) => plain.insert(alloc, index, value),
-            Form::Grid(_) => self.insert_elsewhere(alloc, index, value),
+            ArrayRepr::RowAndMap(plain) => plain.insert(alloc, index, value),
+            ArrayRepr::Grid(_) => self.insert_elsewhere(alloc, index, value),
         }
     }
 
     /// Gives two numbers a value, where the values are a grid with a place for it, or there is none yet, and tells whether it did. Else
     /// all is as it was; so it is after an error.
-    #[inline(always)]
     fn insert_at_cell(
         &mut self,
         alloc: Global,
@@ -123,21 +192,19 @@ impl Indexed {
         ensures err { OnErr result (self.new ≡ self.old) }
     {
         match &mut self.form {
-            Form::Grid(grid) => grid.insert(alloc, row, column, value),
-            Form::Plain(plain) => {
+            ArrayRepr::Grid(grid) => grid.insert(alloc, row, column, value),
+            ArrayRepr::RowAndMap(plain) => {
                 if !plain.is_empty() {
                     return Ok(false);
                 }
                 let grid = Grid::of_one(alloc, row, column, value)?;
-                drop(replace(&mut self.form, Form::Grid(grid)));
+                drop(replace(&mut self.form, ArrayRepr::Grid(grid)));
                 Ok(true)
             }
         }
     }
 
     /// Gives an index list a value in the row or the map, into which a grid is spread for it; after an error all is as it was.
-    #[cold]
-    #[inline(never)]
     fn insert_elsewhere(
         &mut self,
         alloc: Global,
@@ -148,11 +215,11 @@ impl Indexed {
         ensures err { OnErr result (self.new ≡ self.old) }
     {
         match &mut self.form {
-            Form::Plain(plain) => plain.insert(alloc, index, value),
-            Form::Grid(grid) => {
+            ArrayRepr::RowAndMap(plain) => plain.insert(alloc, index, value),
+            ArrayRepr::Grid(grid) => {
                 let mut plain = grid.spread(alloc)?;
                 plain.insert(alloc, index, value)?;
-                drop(replace(&mut self.form, Form::Plain(plain)));
+                drop(replace(&mut self.form, ArrayRepr::RowAndMap(plain)));
                 Ok(())
             }
         }
@@ -163,8 +230,8 @@ impl Indexed {
         ensures empty { self.new ≡ [] }
     {
         match &mut self.form {
-            Form::Plain(plain) => plain.clear(),
-            Form::Grid(grid) => grid.clear(),
+            ArrayRepr::RowAndMap(plain) => plain.clear(),
+            ArrayRepr::Grid(grid) => grid.clear(),
         }
     }
 
@@ -174,21 +241,21 @@ impl Indexed {
         hidden: Option<&Array>,
         entries: &mut Vec<EntryRef<'s>>,
     ) -> Result<(), AllocError>
-        ensures added { OnOk result (map entry entries.new.items ≡ map entry entries.old.items ++ not_among (unwrap_or (option_copied hidden.entry) []) self.now) }
+        ensures added { OnOk result (map entry entries.new.items ≡ map entry entries.old.items ++ visible_entries (unwrap_or (option_copied hidden.entry) []) self.now) }
     {
         match &self.form {
-            Form::Plain(plain) => plain.add_entries(hidden, entries),
-            Form::Grid(grid) => grid.add_entries(hidden, entries),
+            ArrayRepr::RowAndMap(plain) => plain.add_entries(hidden, entries),
+            ArrayRepr::Grid(grid) => grid.add_entries(hidden, entries),
         }
     }
 
     /// Whether a value is among those at whose index lists the hidden array, if there is one, has none. Allocates nothing.
     pub(crate) fn has_value(&self, hidden: Option<&Array>, value: ValueRef<'_>) -> bool
-        ensures value { result ≡ list_any (λ e. same_value (value_of_ref value.entry) e.1) (not_among (unwrap_or (option_copied hidden.entry) []) self.now) }
+        ensures value { result ≡ list_any (λ e. same_value (value_of_ref value.entry) e.1) (visible_entries (unwrap_or (option_copied hidden.entry) []) self.now) }
     {
         match &self.form {
-            Form::Plain(plain) => plain.has_value(hidden, value),
-            Form::Grid(grid) => grid.has_value(hidden, value),
+            ArrayRepr::RowAndMap(plain) => plain.has_value(hidden, value),
+            ArrayRepr::Grid(grid) => grid.has_value(hidden, value),
         }
     }
 }

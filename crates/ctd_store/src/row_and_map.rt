@@ -1,15 +1,16 @@
 //! Index lists with their values: a row of values for the numbers from 0 or 1 on, and an ordered map for all others.
 
-ghost use Rattle.std.specs.Prelude.{◌≡◌, ◌≢◌, ℕ, suc, pos, ◌+◌, ◌<◌, ◌≤◌, length, take, drop, [], ◌∷◌, ◌++◌, map, not, ◌&&◌, true, false, Some, IfOk, T, IsTrue, OnOk, OnErr, vec_len, vec_capacity};
+ghost use Rattle.std.specs.Prelude.{◌≡◌, ◌≢◌, ℕ, suc, pos, ◌+◌, ◌<◌, ◌≤◌, length, take, drop, [], ◌∷◌, ◌++◌, map, not, ◌&&◌, true, false, Some, IfOk, T, IsTrue, OnOk, OnErr};
 ghost use Rattle.std.specs.List.{list_any};
 ghost use Rattle.std.specs.Option.{option_copied, unwrap_or, IfSome, IfNone};
 ghost use Rattle.std.specs.FinMap.{find, put, is_sorted};
 ghost use Rattle.std.specs.declared.cmp.Ordering.TheVariants.{Less};
 ghost use Rattle.ctd_store.specs.Index.{indices_at, indices_of};
 ghost use Rattle.ctd_store.specs.declared.index.Index.TheVariants as indexes;
+ghost use Rattle.ctd_store.specs.declared.value.Value.TheVariants.{Int, Text};
 ghost use Rattle.ctd_store.specs.ValueRef.{value_of_ref};
 ghost use Rattle.ctd_store.specs.Order.{values_cmp, same_value};
-ghost use Rattle.ctd_store.specs.Showing.{entry, not_among};
+ghost use Rattle.ctd_store.specs.Showing.{entry, visible_entries};
 ghost use Rattle.ctd_store.specs.Store.{Array as Entries, has_indices, overlay_row, slot, order_of_slot};
 
 use crate::array::{Array, add_entry, has_indices};
@@ -70,7 +71,7 @@ impl RowAndMap {
         }
     }
 
-    /// Whether there are no values; false says nothing.
+    /// Whether there are no values. `false` means: take the general path.
     pub(crate) fn is_empty(&self) -> bool
         ensures none { IsTrue result → self.now ≡ [] }
     {
@@ -87,9 +88,9 @@ impl RowAndMap {
         }
     }
 
-    /// The value at a number, where it stands in the row; none says nothing.
+    /// The value at a number, where it stands in the row. `None` means: take the general path.
     #[inline(always)]
-    pub(crate) fn in_row(&self, number: usize) -> Option<&Value>
+    pub(crate) fn value_in_row(&self, number: usize) -> Option<&Value>
         ensures value { IfSome result (λ x. find values_cmp (slot number) self.now ≡ Some x.now) }
     {
         match number_below(self.base, self.dense.len(), number) {
@@ -98,7 +99,7 @@ impl RowAndMap {
         }
     }
 
-    /// The values, where they are a row alone; none says nothing.
+    /// The values, where they are a row alone. `None` means: take the general path.
     #[inline(always)]
     pub(crate) fn row(&self) -> Option<Row<'_>>
         ensures value { IfSome result (λ row. self.now ≡ overlay_row row.base row.values.now []) }
@@ -113,8 +114,40 @@ impl RowAndMap {
         }
     }
 
-    /// Gives an index list a value; after an error all is as it was.
+    /// Gives a number a value; after an error all is as it was.
     #[inline(always)]
+    pub(crate) fn insert_one(
+        &mut self,
+        alloc: Global,
+        number: usize,
+        value: ValueRef<'_>,
+    ) -> Result<(), AllocError>
+        ensures ok { OnOk result (self.new ≡ put values_cmp (slot number) (value_of_ref value.entry) self.old) }
+        ensures err { OnErr result (self.new ≡ self.old) }
+    {
+        match number_below(self.base, self.dense.len() + 1, number) {
+            Some(at) => write(alloc, &mut self.dense, at, value),
+            None => self.insert_out_of_line(alloc, Index::One(number), value),
+        }
+    }
+
+    /// Gives an index list a value; after an error all is as it was. In line, so that only this rare way makes room for what it passes on.
+    #[inline(always)]
+    fn insert_out_of_line(
+        &mut self,
+        alloc: Global,
+        index: Index<'_>,
+        value: ValueRef<'_>,
+    ) -> Result<(), AllocError>
+        ensures ok { OnOk result (self.new ≡ put values_cmp (indices_at index.entry) (value_of_ref value.entry) self.old) }
+        ensures err { OnErr result (self.new ≡ self.old) }
+    {
+        self.insert(alloc, index, value)
+    }
+
+    /// Gives an index list a value; after an error all is as it was. Out of line: keeps the caller small.
+    #[cold]
+    #[inline(never)]
     pub(crate) fn insert(
         &mut self,
         alloc: Global,
@@ -145,7 +178,7 @@ impl RowAndMap {
         hidden: Option<&Array>,
         entries: &mut Vec<EntryRef<'s>>,
     ) -> Result<(), AllocError>
-        ensures added { OnOk result (map entry entries.new.items ≡ map entry entries.old.items ++ not_among (unwrap_or (option_copied hidden.entry) []) self.now) }
+        ensures added { OnOk result (map entry entries.new.items ≡ map entry entries.old.items ++ visible_entries (unwrap_or (option_copied hidden.entry) []) self.now) }
     {
         let row = Row {
             base: self.base,
@@ -160,14 +193,14 @@ impl RowAndMap {
 
     /// Whether a value is among those at whose index lists the hidden array, if there is one, has none. Allocates nothing.
     pub(crate) fn has_value(&self, hidden: Option<&Array>, value: ValueRef<'_>) -> bool
-        ensures value { result ≡ list_any (λ e. same_value (value_of_ref value.entry) e.1) (not_among (unwrap_or (option_copied hidden.entry) []) self.now) }
+        ensures value { result ≡ list_any (λ e. same_value (value_of_ref value.entry) e.1) (visible_entries (unwrap_or (option_copied hidden.entry) []) self.now) }
     {
         if slots_have_value(hidden, self.base, &self.dense, value) {
             return true;
         }
         for (indices, stored) in &self.rest {
             let indices = indices.as_slice();
-            if shows(hidden, indices, stored, value)
+            if is_visible(hidden, indices, stored, value)
                 && slot_below(self.base, self.dense.len(), indices).is_none()
             {
                 return true;
@@ -190,7 +223,7 @@ fn add_through<'s>(
 ) -> Result<usize, AllocError>
     requires { from ≤ length row.values.now }
     ensures within { IfOk result (λ next. next ≤ length row.entry.values.now) }
-    ensures added { IfOk result (λ next. (later : Entries) → map entry entries.new.items ++ not_among (unwrap_or (option_copied hidden.entry) []) (overlay_row (row.entry.base + next) (drop next row.entry.values.now) later) ≡ map entry entries.old.items ++ not_among (unwrap_or (option_copied hidden.entry) []) (overlay_row (row.entry.base + from) (drop from row.entry.values.now) ((indices.now, value.now) ∷ later))) }
+    ensures added { IfOk result (λ next. (later : Entries) → map entry entries.new.items ++ visible_entries (unwrap_or (option_copied hidden.entry) []) (overlay_row (row.entry.base + next) (drop next row.entry.values.now) later) ≡ map entry entries.old.items ++ visible_entries (unwrap_or (option_copied hidden.entry) []) (overlay_row (row.entry.base + from) (drop from row.entry.values.now) ((indices.now, value.now) ∷ later))) }
 {
     let count = row.values.len();
     let at = first_not_before(row.base, from, count, indices);
@@ -214,7 +247,7 @@ fn add_slots<'s>(
     entries: &mut Vec<EntryRef<'s>>,
 ) -> Result<(), AllocError>
     requires { to ≤ length row.values.now }
-    ensures added { OnOk result (map entry entries.new.items ≡ map entry entries.old.items ++ not_among (unwrap_or (option_copied hidden.entry) []) (overlay_row (row.entry.base + from) (drop from (take to row.entry.values.now)) [])) }
+    ensures added { OnOk result (map entry entries.new.items ≡ map entry entries.old.items ++ visible_entries (unwrap_or (option_copied hidden.entry) []) (overlay_row (row.entry.base + from) (drop from (take to row.entry.values.now)) [])) }
 {
     for at in from..to {
         add_entry(hidden, slot_indices(row.base, at), &row.values[at], entries)?;
@@ -243,10 +276,10 @@ fn slots_have_value(
     values: &[Value],
     value: ValueRef<'_>,
 ) -> bool
-    ensures value { result ≡ list_any (λ e. same_value (value_of_ref value.entry) e.1) (not_among (unwrap_or (option_copied hidden.entry) []) (overlay_row base values.now [])) }
+    ensures value { result ≡ list_any (λ e. same_value (value_of_ref value.entry) e.1) (visible_entries (unwrap_or (option_copied hidden.entry) []) (overlay_row base values.now [])) }
 {
     for at in 0..values.len() {
-        if shows_at(hidden, base, at, &values[at], value) {
+        if is_visible_at(hidden, base, at, &values[at], value) {
             return true;
         }
     }
@@ -255,7 +288,7 @@ fn slots_have_value(
 
 /// Whether a value is the one at a place from a base on, and the hidden array, if there is one, has none there.
 #[inline(always)]
-fn shows_at(
+fn is_visible_at(
     hidden: Option<&Array>,
     base: usize,
     at: usize,
@@ -269,7 +302,7 @@ fn shows_at(
 }
 
 /// Whether a value is the one at an index list, and the hidden array, if there is one, has none there.
-pub(crate) fn shows(
+pub(crate) fn is_visible(
     hidden: Option<&Array>,
     indices: &[Value],
     stored: &Value,
@@ -295,13 +328,10 @@ pub(crate) fn write(
     if at < values.len() {
         return write_over(alloc, values, at, value);
     }
-    if values.len() >= values.capacity() {
-        grow(values)?;
-    }
-    add(alloc, values, value)
+    push(alloc, values, value)
 }
 
-/// The same of a slot that is there.
+/// Gives a slot that is there a value; after an error all is as it was.
 #[inline(always)]
 fn write_over(
     alloc: Global,
@@ -316,14 +346,51 @@ fn write_over(
     value.put_into(alloc, &mut values[at])
 }
 
-/// Adds a value behind others, for which there is room.
+/// Adds a value behind others; after an error all is as it was.
 #[inline(always)]
-fn add(alloc: Global, values: &mut Vec<Value>, value: ValueRef<'_>) -> Result<(), AllocError>
-    requires { vec_len values.old < vec_capacity values.old }
+fn push(alloc: Global, values: &mut Vec<Value>, value: ValueRef<'_>) -> Result<(), AllocError>
     ensures ok { OnOk result (values.new.items ≡ values.old.items ++ value_of_ref value.entry ∷ []) }
     ensures err { OnErr result (values.new.items ≡ values.old.items) }
 {
-    values.push_reserved(value.to_value(alloc)?);
+    match value {
+        ValueRef::Int(n) => push_number(values, n),
+        ValueRef::Text(bytes) => push_text(alloc, values, bytes),
+    }
+}
+
+/// Adds a number behind others; after an error all is as it was.
+#[inline(always)]
+fn push_number(values: &mut Vec<Value>, n: i128) -> Result<(), AllocError>
+    ensures ok { OnOk result (values.new.items ≡ values.old.items ++ Int n ∷ []) }
+    ensures err { OnErr result (values.new.items ≡ values.old.items) }
+{
+    if values.len() >= values.capacity() {
+        return push_grown(values, n);
+    }
+    values.push_reserved(Value::Int(n));
+    Ok(())
+}
+
+/// Makes room for a number and adds it behind others; after an error all is as it was. Out of line: keeps the caller small.
+#[cold]
+#[inline(never)]
+fn push_grown(values: &mut Vec<Value>, n: i128) -> Result<(), AllocError>
+    ensures ok { OnOk result (values.new.items ≡ values.old.items ++ Int n ∷ []) }
+    ensures err { OnErr result (values.new.items ≡ values.old.items) }
+{
+    values.reserve(1)?;
+    values.push_reserved(Value::Int(n));
+    Ok(())
+}
+
+/// Adds a copy of a string behind others; after an error all is as it was.
+#[inline(never)]
+fn push_text(alloc: Global, values: &mut Vec<Value>, bytes: &[u8]) -> Result<(), AllocError>
+    ensures ok { OnOk result (values.new.items ≡ values.old.items ++ Text bytes.now ∷ []) }
+    ensures err { OnErr result (values.new.items ≡ values.old.items) }
+{
+    values.reserve(1)?;
+    values.push_reserved(ValueRef::Text(bytes).to_value(alloc)?);
     Ok(())
 }
 
@@ -345,16 +412,6 @@ fn insert_in_map(
     let value = value.to_value(alloc)?;
     rest.insert(indices, value)?;
     Ok(())
-}
-
-/// Makes room for one more value; the values stay. A function of its own, so that a list with room pays nothing for it.
-#[cold]
-#[inline(never)]
-fn grow(values: &mut Vec<Value>) -> Result<(), AllocError>
-    ensures items { values.new.items ≡ values.old.items }
-    ensures room { OnOk result (vec_len values.new < vec_capacity values.new) }
-{
-    values.reserve(1)
 }
 
 /// Removes all elements of a list; if it has much room, also that.

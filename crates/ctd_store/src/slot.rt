@@ -49,20 +49,59 @@ impl Slot {
         (self.pins.as_ref(), Some(&self.values))
     }
 
-    /// The value at an index, where nothing of the name is pinned and it is at hand; none says nothing.
+    /// The value at an index, where no search is needed for it. `None` means: take the general path.
     #[inline(always)]
-    pub(crate) fn at_hand(&self, index: Index<'_>) -> Option<&Value>
+    pub(crate) fn fast_value(&self, index: Index<'_>) -> Option<&Value>
         ensures value { IfSome result (λ x. option_or (find values_cmp (indices_at index.entry) (pins_in self.now)) (find values_cmp (indices_at index.entry) self.now.values) ≡ Some x.now) }
     {
-        match self.pins {
-            Some(_) => None,
-            None => self.values.at_hand(index),
+        match &self.pins {
+            Some(pins) => pins.fast_scalar(index),
+            None => self.values.fast_value(index),
         }
     }
 
     /// Gives an index list a value, unless a preset pins it; after an error all is as it was.
     #[inline(always)]
     pub(crate) fn assign(
+        &mut self,
+        alloc: Global,
+        index: Index<'_>,
+        value: ValueRef<'_>,
+    ) -> Result<(), AllocError>
+        ensures name { self.new.name ≡ self.old.name }
+        ensures pins { pins_in self.new ≡ pins_in self.old }
+        ensures ok { OnOk result (self.new ≡ with_unpinned (indices_at index.entry) (value_of_ref value.entry) self.old) }
+        ensures pinned { IsTrue (has_indices (pins_in self.old) (indices_at index.entry)) → IsOk result }
+        ensures err { OnErr result (self.new ≡ self.old) }
+    {
+        match self.pins {
+            None => self.values.insert(alloc, index, value),
+            Some(_) => self.assign_beside_pins(alloc, index, value),
+        }
+    }
+
+    /// Gives an index list a value, unless a preset pins it; after an error all is as it was. In line, so that only this way makes room for
+    /// what it passes on.
+    #[inline(always)]
+    fn assign_beside_pins(
+        &mut self,
+        alloc: Global,
+        index: Index<'_>,
+        value: ValueRef<'_>,
+    ) -> Result<(), AllocError>
+        ensures name { self.new.name ≡ self.old.name }
+        ensures pins { pins_in self.new ≡ pins_in self.old }
+        ensures ok { OnOk result (self.new ≡ with_unpinned (indices_at index.entry) (value_of_ref value.entry) self.old) }
+        ensures pinned { IsTrue (has_indices (pins_in self.old) (indices_at index.entry)) → IsOk result }
+        ensures err { OnErr result (self.new ≡ self.old) }
+    {
+        self.assign_unpinned(alloc, index, value)
+    }
+
+    /// Gives an index list a value, unless a preset pins it; after an error all is as it was. Out of line: keeps the caller small.
+    #[cold]
+    #[inline(never)]
+    fn assign_unpinned(
         &mut self,
         alloc: Global,
         index: Index<'_>,
@@ -104,7 +143,6 @@ impl Slot {
     }
 
     /// Whether a preset pins an index list.
-    #[inline(always)]
     fn is_pinned(&self, index: Index<'_>) -> bool
         ensures value { result ≡ has_indices (pins_in self.now) (indices_at index.entry) }
     {
@@ -116,9 +154,8 @@ impl Slot {
 }
 
 /// Whether an array has a value at an index.
-#[inline(always)]
 fn is_among(array: &Array, index: Index<'_>) -> bool
     ensures value { result ≡ has_indices array.now (indices_at index.entry) }
 {
-    array.get(index.spelled().as_slice()).is_some()
+    array.get(index.to_indices().as_slice()).is_some()
 }

@@ -111,30 +111,30 @@ impl Store {
         ensures value { option_copied result ≡ value_at self.now (record { name = name.now; indices = indices_at index.entry }) }
         ensures listed { option_copied result ≡ find values_cmp (indices_at index.entry) (values_of self.now name.now) }
     {
-        match self.at_hand(name, index) {
+        match self.fast_value_at(name, index) {
             Some(value) => Some(value),
             None => self.value_by_list(name, index),
         }
     }
 
-    /// The same, where nothing of the name is pinned, the hint leads to it and the value is found without a search; none says nothing.
+    /// The value of a name at an index, where it is found without a search. `None` means: take the general path.
     #[inline(always)]
-    fn at_hand(&self, name: &Name, index: Index<'_>) -> Option<&Value>
+    pub fn fast_value_at(&self, name: &Name, index: Index<'_>) -> Option<&Value>
         ensures value { IfSome result (λ x. value_at self.now (record { name = name.now; indices = indices_at index.entry }) ≡ Some x.now) }
     {
-        let at = hinted_position(&self.slots, &self.positions, name)?;
-        self.slots[at].at_hand(index)
+        let at = fast_position(&self.slots, &self.positions, name)?;
+        self.slots[at].fast_value(index)
     }
 
-    /// The same of any name and index. It makes room for the values of the index only where it is needed.
+    /// The value of a name at an index, by a search. In line, so that only this rare way makes room for the values of the index.
     #[inline(always)]
     fn value_by_list(&self, name: &Name, index: Index<'_>) -> Option<&Value>
         ensures value { option_copied result ≡ value_at self.now (record { name = name.now; indices = indices_at index.entry }) }
     {
-        self.value_at_list(name, index.spelled().as_slice())
+        self.value_at_list(name, index.to_indices().as_slice())
     }
 
-    /// The same of an index list.
+    /// The value of a name at an index list, by a search. Out of line: keeps the caller small.
     #[cold]
     #[inline(never)]
     fn value_at_list(&self, name: &Name, indices: &[Value]) -> Option<&Value>
@@ -159,7 +159,7 @@ impl Store {
         }
     }
 
-    /// The values of a name, where nothing of it is pinned and they are a row alone; none says nothing.
+    /// The values of a name, where nothing of it is pinned and they are a row alone. `None` means: take the general path.
     pub fn row(&self, name: &Name) -> Option<Row<'_>>
         ensures value { IfSome result (λ row. values_of self.now name.now ≡ overlay_row row.base row.values.now []) }
     {
@@ -216,7 +216,7 @@ impl Store {
     {
         match position(&self.slots, &self.positions, name) {
             Some(at) => self.slots[at].assign(alloc, index, value),
-            None => add_value(
+            None => add_value_out_of_line(
                 alloc,
                 &mut self.slots,
                 &mut self.positions,
@@ -263,15 +263,15 @@ fn position(slots: &[Slot], positions: &Positions, name: &Name) -> Option<usize>
     ensures found { IfSome result (λ at. name_in slots.now at ≡ Some name.now) }
     ensures none { IfNone result ((at : ℕ) → find bytes_cmp name.now positions.now ≡ Some at → name_in slots.now at ≢ Some name.now) }
 {
-    match hinted_position(slots, positions, name) {
+    match fast_position(slots, positions, name) {
         Some(at) => Some(at),
-        None => searched_position(slots, positions, name),
+        None => position_by_search(slots, positions, name),
     }
 }
 
-/// Where a short name stands in a list, where its hint leads there; none says nothing.
+/// Where a short name stands in a list, where its hint leads there. `None` means: take the general path.
 #[inline(always)]
-fn hinted_position(slots: &[Slot], positions: &Positions, name: &Name) -> Option<usize>
+fn fast_position(slots: &[Slot], positions: &Positions, name: &Name) -> Option<usize>
     ensures found { IfSome result (λ at. name_in slots.now at ≡ Some name.now) }
 {
     let at = positions.hint(name);
@@ -282,11 +282,10 @@ fn hinted_position(slots: &[Slot], positions: &Positions, name: &Name) -> Option
     }
 }
 
-/// Where a name stands in a list, by its bytes: where its hint leads, or else by a search. A function of its own, so that its
-/// registers are saved only where it is needed.
+/// Where a name stands in a list, by its bytes: where its hint leads, or else by a search. Out of line: keeps the caller small.
 #[cold]
 #[inline(never)]
-fn searched_position(slots: &[Slot], positions: &Positions, name: &Name) -> Option<usize>
+fn position_by_search(slots: &[Slot], positions: &Positions, name: &Name) -> Option<usize>
     ensures found { IfSome result (λ at. name_in slots.now at ≡ Some name.now) }
     ensures none { IfNone result ((at : ℕ) → find bytes_cmp name.now positions.now ≡ Some at → name_in slots.now at ≢ Some name.now) }
 {
@@ -300,7 +299,7 @@ fn searched_position(slots: &[Slot], positions: &Positions, name: &Name) -> Opti
     }
 }
 
-/// Whether a short name stands at a position of a list; false says nothing.
+/// Whether a short name stands at a position of a list. `false` means: take the general path.
 #[inline(always)]
 fn has_short_name(slots: &[Slot], at: usize, name: &Name) -> bool
     ensures there { result ≡ true → name_in slots.now at ≡ Some name.now }
@@ -321,7 +320,24 @@ fn has_name(slots: &[Slot], at: usize, name: &Name) -> bool
     }
 }
 
-/// Adds a name with a single value; after an error the list and the positions are as they were.
+/// Adds a name with a single value; after an error the list and the positions are as they were. In line, so that only this rare way makes room
+/// for what it passes on.
+#[inline(always)]
+fn add_value_out_of_line(
+    alloc: Global,
+    slots: &mut Vec<Slot>,
+    positions: &mut Positions,
+    name: &Name,
+    index: Index<'_>,
+    value: ValueRef<'_>,
+) -> Result<(), AllocError>
+    ensures ok { OnOk result ((slots.new.items ≡ slots.old.items ++ record { name = name.now; pins = None; values = (indices_at index.entry, value_of_ref value.entry) ∷ [] } ∷ []) × (positions.new ≡ put bytes_cmp name.now (length slots.old.items) positions.old)) }
+    ensures err { OnErr result ((slots.new.items ≡ slots.old.items) × (positions.new ≡ positions.old)) }
+{
+    add_value(alloc, slots, positions, name, index, value)
+}
+
+/// Adds a name with a single value; after an error the list and the positions are as they were. Out of line: keeps the caller small.
 #[cold]
 #[inline(never)]
 fn add_value(

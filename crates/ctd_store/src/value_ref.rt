@@ -33,12 +33,13 @@ impl<'v> ValueRef<'v> {
     }
 
     /// A copy of the value; a number takes no memory.
+    #[inline(always)]
     pub fn to_value(self, alloc: Global) -> Result<Value, AllocError>
         ensures same { IfOk result (λ value. value ≡ value_of_ref self.entry) }
     {
         match self {
             ValueRef::Int(n) => Ok(Value::Int(n)),
-            ValueRef::Text(bytes) => Ok(Value::Text(Bytes::copy(alloc, bytes)?)),
+            ValueRef::Text(bytes) => text_value(alloc, bytes),
         }
     }
 
@@ -72,17 +73,13 @@ impl<'v> ValueRef<'v> {
         if self.replaces(value) {
             return Ok(());
         }
-        self.put_copy(alloc, value)
-    }
-
-    /// The same by a copy.
-    #[inline(always)]
-    fn put_copy(self, alloc: Global, value: &mut Value) -> Result<(), AllocError>
-        ensures ok { OnOk result (value.new ≡ value_of_ref self.entry) }
-        ensures err { OnErr result (value.new ≡ value.old) }
-    {
-        drop(replace(value, self.to_value(alloc)?));
-        Ok(())
+        match self {
+            ValueRef::Int(n) => {
+                put_number(value, n);
+                Ok(())
+            }
+            ValueRef::Text(bytes) => put_text(alloc, value, bytes),
+        }
     }
 
     /// The number, where it is one and has 64 bits.
@@ -108,4 +105,32 @@ impl<'v> ValueRef<'v> {
             (ValueRef::Text(a), ValueRef::Text(b)) => a.cmp(b),
         }
     }
+}
+
+/// Puts a number in the place of a value.
+#[cold]
+#[inline(never)]
+fn put_number(value: &mut Value, n: i128)
+    ensures same { value.new ≡ values.Int n }
+{
+    drop(replace(value, Value::Int(n)));
+}
+
+/// Puts a copy of a string in the place of a value; after an error that value is as it was.
+#[cold]
+#[inline(never)]
+fn put_text(alloc: Global, value: &mut Value, bytes: &[u8]) -> Result<(), AllocError>
+    ensures ok { OnOk result (value.new ≡ values.Text bytes.now) }
+    ensures err { OnErr result (value.new ≡ value.old) }
+{
+    drop(replace(value, text_value(alloc, bytes)?));
+    Ok(())
+}
+
+/// The string with a copy of these bytes.
+#[inline(never)]
+fn text_value(alloc: Global, bytes: &[u8]) -> Result<Value, AllocError>
+    ensures same { IfOk result (λ value. value ≡ values.Text bytes.now) }
+{
+    Ok(Value::Text(Bytes::copy(alloc, bytes)?))
 }

@@ -38,16 +38,16 @@ invariant_of-self-in-None c =
     let items = c.self.inside.slots.items in
     let s : Slot = record { name = c.args.name.now; pins = None; values = (indices_at c.args.index, value_of_ref c.args.value) ∷ [] } in
     let unknown = subst (λ l. (at : ℕ) → find bytes_cmp c.args.name.now c.self.inside.positions ≡ Some at → name_in l at ≢ Some c.args.name.now) c.deref.ensures.value c.in-None.ensures.none in (
-      all_placed pins_in c.add_value.result items c.add_value.new.slots.items c.self.inside.positions c.add_value.new.positions s c.self.invariant.0 unknown c.add_value.ensures.ok c.add_value.ensures.err,
-      all_placed values_in c.add_value.result items c.add_value.new.slots.items c.self.inside.positions c.add_value.new.positions s c.self.invariant.1 unknown c.add_value.ensures.ok c.add_value.ensures.err,
+      all_placed pins_in c.add_value_out_of_line.result items c.add_value_out_of_line.new.slots.items c.self.inside.positions c.add_value_out_of_line.new.positions s c.self.invariant.0 unknown c.add_value_out_of_line.ensures.ok c.add_value_out_of_line.ensures.err,
+      all_placed values_in c.add_value_out_of_line.result items c.add_value_out_of_line.new.slots.items c.self.inside.positions c.add_value_out_of_line.new.positions s c.self.invariant.1 unknown c.add_value_out_of_line.ensures.ok c.add_value_out_of_line.ensures.err,
     )
 
 pub returns-in-None-clause-ok : goal.returns-in-None-clause-ok
 returns-in-None-clause-ok c =
     let items = c.self.inside.slots.items in
     let unknown = subst (λ l. (at : ℕ) → find bytes_cmp c.args.name.now c.self.inside.positions ≡ Some at → name_in l at ≢ Some c.args.name.now) c.deref.ensures.value c.in-None.ensures.none in
-    on_ok_weaker c.add_value.result (λ e.
-    assigned_behind items c.add_value.new.slots.items c.self.inside.positions c.args.name.now c.args.self.now (indices_at c.args.index) (value_of_ref c.args.value) c.self.invariant.0 c.self.invariant.1 unknown c.self.view_is e.0) c.add_value.ensures.ok
+    on_ok_weaker c.add_value_out_of_line.result (λ e.
+    assigned_behind items c.add_value_out_of_line.new.slots.items c.self.inside.positions c.args.name.now c.args.self.now (indices_at c.args.index) (value_of_ref c.args.value) c.self.invariant.0 c.self.invariant.1 unknown c.self.view_is e.0) c.add_value_out_of_line.ensures.ok
 
 pub returns-in-None-clause-pinned : goal.returns-in-None-clause-pinned
 returns-in-None-clause-pinned c pinned =
