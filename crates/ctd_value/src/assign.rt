@@ -38,10 +38,6 @@ pub fn set_text(alloc: Global, v: &Var, bytes: &[u8], store: &mut Store) -> Resu
     ensures no_count { result ≢ Err EvalFault.Count }
     ensures no_shape { result ≢ Err EvalFault.Shape }
 {
-    if v.indices.as_slice().is_empty() {
-        store.assign_at(alloc, &v.name, Index::Scalar, ValueRef::Text(bytes))?;
-        return Ok(());
-    }
     set_variable(alloc, v, ValueRef::Text(bytes), store)
 }
 
@@ -76,7 +72,7 @@ fn set_to_any_expression(
     set_variable(alloc, v, ValueRef::of(&value), store)
 }
 
-/// Sets a variable with indices to a number. Where its index is a name with a fast_i64 number, nothing is kept over a call.
+/// Sets a variable with indices to a number. Where its index is a name, nothing is kept over a call.
 #[inline(never)]
 fn set_element_to_number(
     alloc: Global,
@@ -123,19 +119,37 @@ fn set_variable(
     ensures no_shape { result ≢ Err EvalFault.Shape }
 {
     match v.indices.as_slice() {
+        [] => Ok(store.assign_at(alloc, &v.name, Index::Scalar, value)?),
         [index] => match fast_index(index, store) {
             Some(at) => Ok(store.assign_at(alloc, &v.name, Index::One(at), value)?),
-            None => set_by_list(alloc, v, value, store),
+            None => set_out_of_line(alloc, v, value, store),
         },
         [row, column] => match (fast_index(row, store), fast_index(column, store)) {
             (Some(m), Some(n)) => Ok(store.assign_at(alloc, &v.name, Index::Two(m, n), value)?),
-            _ => set_by_list(alloc, v, value, store),
+            _ => set_out_of_line(alloc, v, value, store),
         },
-        _ => set_by_list(alloc, v, value, store),
+        _ => set_out_of_line(alloc, v, value, store),
     }
 }
 
-/// Sets a variable to a value, by the list of the values of its indices.
+/// Sets a variable to a value, by the list of the values of its indices. In line, so that only this rare way makes room for what it passes
+/// on.
+#[inline(always)]
+fn set_out_of_line(
+    alloc: Global,
+    v: &Var,
+    value: ValueRef<'_>,
+    store: &mut Store,
+) -> Result<(), EvalFault>
+    ensures value { Gives (map_ok (λ _. store.new) result) (with_variable (var_tree v.now) (value_of_ref value.entry) store.old) }
+    ensures err { OnErr result (store.new ≡ store.old) }
+    ensures no_count { result ≢ Err EvalFault.Count }
+    ensures no_shape { result ≢ Err EvalFault.Shape }
+{
+    set_by_list(alloc, v, value, store)
+}
+
+/// Sets a variable to a value, by the list of the values of its indices. Out of line: keeps the caller small.
 #[cold]
 #[inline(never)]
 fn set_by_list(
