@@ -214,9 +214,45 @@ impl Store {
         ensures pinned { IsTrue (is_pinned self.old (record { name = name.now; indices = indices_at index.entry })) → IsOk result }
         ensures err { OnErr result (self.new ≡ self.old) }
     {
+        match fast_position(&self.slots, &self.positions, name) {
+            Some(at) => self.slots[at].assign(alloc, index, value),
+            None => self.assign_out_of_line(alloc, name, index, value),
+        }
+    }
+
+    /// Gives a name a value at an index, by a search for the name. In line, so that only this rare way makes room for what it passes on.
+    #[inline(always)]
+    fn assign_out_of_line(
+        &mut self,
+        alloc: Global,
+        name: &Name,
+        index: Index<'_>,
+        value: ValueRef<'_>,
+    ) -> Result<(), AllocError>
+        ensures ok { OnOk result (self.new ≡ assign self.old (record { name = name.now; indices = indices_at index.entry }) (value_of_ref value.entry)) }
+        ensures pinned { IsTrue (is_pinned self.old (record { name = name.now; indices = indices_at index.entry })) → IsOk result }
+        ensures err { OnErr result (self.new ≡ self.old) }
+    {
+        self.assign_by_search(alloc, name, index, value)
+    }
+
+    /// Gives a name a value at an index, by a search for the name. Out of line: keeps the caller small.
+    #[cold]
+    #[inline(never)]
+    fn assign_by_search(
+        &mut self,
+        alloc: Global,
+        name: &Name,
+        index: Index<'_>,
+        value: ValueRef<'_>,
+    ) -> Result<(), AllocError>
+        ensures ok { OnOk result (self.new ≡ assign self.old (record { name = name.now; indices = indices_at index.entry }) (value_of_ref value.entry)) }
+        ensures pinned { IsTrue (is_pinned self.old (record { name = name.now; indices = indices_at index.entry })) → IsOk result }
+        ensures err { OnErr result (self.new ≡ self.old) }
+    {
         match position(&self.slots, &self.positions, name) {
             Some(at) => self.slots[at].assign(alloc, index, value),
-            None => add_value_out_of_line(
+            None => add_value(
                 alloc,
                 &mut self.slots,
                 &mut self.positions,
@@ -320,26 +356,7 @@ fn has_name(slots: &[Slot], at: usize, name: &Name) -> bool
     }
 }
 
-/// Adds a name with a single value; after an error the list and the positions are as they were. In line, so that only this rare way makes room
-/// for what it passes on.
-#[inline(always)]
-fn add_value_out_of_line(
-    alloc: Global,
-    slots: &mut Vec<Slot>,
-    positions: &mut Positions,
-    name: &Name,
-    index: Index<'_>,
-    value: ValueRef<'_>,
-) -> Result<(), AllocError>
-    ensures ok { OnOk result ((slots.new.items ≡ slots.old.items ++ record { name = name.now; pins = None; values = (indices_at index.entry, value_of_ref value.entry) ∷ [] } ∷ []) × (positions.new ≡ put bytes_cmp name.now (length slots.old.items) positions.old)) }
-    ensures err { OnErr result ((slots.new.items ≡ slots.old.items) × (positions.new ≡ positions.old)) }
-{
-    add_value(alloc, slots, positions, name, index, value)
-}
-
-/// Adds a name with a single value; after an error the list and the positions are as they were. Out of line: keeps the caller small.
-#[cold]
-#[inline(never)]
+/// Adds a name with a single value; after an error the list and the positions are as they were.
 fn add_value(
     alloc: Global,
     slots: &mut Vec<Slot>,

@@ -20,6 +20,6 @@ returns-in_err-add_row-clause-err c =
 pub returns-clause-done : goal.returns-clause-done
 returns-clause-done c _ =
     let items = c.self.inside.rows.items in
-    let row : c.base_for-self-inside.result + length items ≡ c.args.row = omega (arith, c.if-row-self.false, c.if-row-self-2.false, c.len-2.ensures) in
+    let row : c.base_for-self-inside.result + length items ≡ c.args.row = omega (arith, c.if-row-self.false, c.if-row-self-2.false, c.len-else-row-self.ensures) in
     c.in_ok-add_row.ensures.ok c.base_for-self-inside.result
     ∙ (λ k. put values_cmp (cell (row k) c.args.column) (value_of_ref c.args.value) ((begun c.self.inside.base c.base_for-self-inside.result items (λ filled. c.base_for-self-inside.ensures.kept (omega (arith, filled, c.len.ensures))) ∙ c.self.view_is) k))

@@ -14,7 +14,7 @@ always (Err e) p = p
 
 pub returns-in_err-write-clause-err : goal.returns-in_err-write-clause-err
 returns-in_err-write-clause-err c =
-    always c.from_residual-in_err-write.result (unchanged_in_grid c.self.inside.base (c.args.row - c.self.inside.base) c.self.inside.rows.items c.index_mut-row.result.now (record { base = c.index_mut-row.result.now.base; values = c.write.new.values })
+    always c.from_residual.result (unchanged_in_grid c.self.inside.base (c.args.row - c.self.inside.base) c.self.inside.rows.items c.index_mut-row.result.now (record { base = c.index_mut-row.result.now.base; values = c.write.new.values })
     c.index_mut-row.ensures.value refl c.in_err-write.ensures.err
     ∙ c.self.view_is)
 
