@@ -1,13 +1,12 @@
 -- The slots of names, and what one or the other of their arrays are, in the order of the names.
-use Rattle.std.proofs.Common.{◌≡◌, ◌≢◌, Bool, true, false, IsTrue, is_some, Result, Ok, Err, OnOk, OnErr, if◌then◌else◌, ℕ, zero, suc, ◌<◌, T, not, filter, List, [], ◌∷◌, ◌++◌, length, get_or, Option, Some, None, refl, ap, sym, subst, ◌∙◌, arith}
+use Rattle.std.proofs.Common.{◌≡◌, ◌≢◌, Bool, true, false, IsTrue, Result, Ok, Err, OnOk, OnErr, if◌then◌else◌, ℕ, zero, suc, ◌<◌, T, not, filter, List, [], ◌∷◌, ◌++◌, length, get_or, Some, None, refl, ap, sym, subst, ◌∙◌, arith}
 use Rattle.std.specs.Prelude.{slice_get, slice_set}
 use Rattle.std.specs.FinMap.{find, put}
-use Rattle.std.proofs.lemmas.Map.Lookups.{exact_bytes}
 use Rattle.ctd_store.specs.declared.slot.Slot.{Slot}
 use Rattle.ctd_store.specs.declared.value.Value.{Value}
 use Rattle.ctd_store.specs.Order.{bytes_cmp, same_bytes, values_cmp}
 use Rattle.ctd_store.specs.Slot.{arrays_by, name_in, pins_in, values_in, with_unpinned}
-use Rattle.ctd_store.specs.Store.{Key, Array, Variables, Positions, History, array_of, in_order, name_at, have_positions, with_value, has_indices, is_pinned, assign}
+use Rattle.ctd_store.specs.Store.{Array, Variables, Positions, History, array_of, in_order, name_at, have_positions, with_value, has_indices, assign}
 use Rattle.ctd_store.proofs.Lookups.{put_in}
 use Rattle.ctd_store.proofs.Named.{IsAbsent, nothing, same_some, absent, missing_array, array_at, written_at, emptied_at, none_left_out, positions_set, positions_added, put_filled, added, added_empty}
 

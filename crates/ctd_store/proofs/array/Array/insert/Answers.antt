@@ -16,23 +16,23 @@ returns-in-Scalar-clause-ok c = on_ok_weaker c.set_scalar.result (λ e.
     ∙ ap (λ q. put values_cmp (indices_at q) (value_of_ref c.args.value) c.args.self.now) (sym c.in-Scalar.is)) c.set_scalar.ensures.ok
 
 pub invariant_of-self-in-One : goal.invariant_of-self-in-One
-invariant_of-self-in-One c = indexed_after c.insert_one.result (slot c.in-One.number) (value_of_ref c.args.value) c.self.inside.indexed c.insert_one.new.self tt c.self.invariant c.insert_one.ensures.ok c.insert_one.ensures.err
+invariant_of-self-in-One c = indexed_after c.insert_one.result (slot c.in-One.number) (value_of_ref c.args.value) c.self-in-One.inside.indexed c.insert_one.new.self tt c.self-in-One.invariant c.insert_one.ensures.ok c.insert_one.ensures.err
 
 pub returns-in-One-clause-ok : goal.returns-in-One-clause-ok
 returns-in-One-clause-ok c = on_ok_weaker c.insert_one.result (λ e.
-    ap (with_scalar c.self.inside.scalar) e
-    ∙ written_indexed (slot c.in-One.number) (value_of_ref c.args.value) c.self.inside.scalar c.self.inside.indexed tt c.self.invariant
-    ∙ ap (put values_cmp (slot c.in-One.number) (value_of_ref c.args.value)) c.self.view_is
+    ap (with_scalar c.self-in-One.inside.scalar) e
+    ∙ written_indexed (slot c.in-One.number) (value_of_ref c.args.value) c.self-in-One.inside.scalar c.self-in-One.inside.indexed tt c.self-in-One.invariant
+    ∙ ap (put values_cmp (slot c.in-One.number) (value_of_ref c.args.value)) c.self-in-One.view_is
     ∙ ap (λ q. put values_cmp (indices_at q) (value_of_ref c.args.value) c.args.self.now) (sym c.in-One.is)) c.insert_one.ensures.ok
 
 pub invariant_of-self-in-Two : goal.invariant_of-self-in-Two
-invariant_of-self-in-Two c = indexed_after c.insert_two.result (cell c.in-Two.row c.in-Two.column) (value_of_ref c.args.value) c.self.inside.indexed c.insert_two.new.self tt c.self.invariant c.insert_two.ensures.ok c.insert_two.ensures.err
+invariant_of-self-in-Two c = indexed_after c.insert_two.result (cell c.in-Two.row c.in-Two.column) (value_of_ref c.args.value) c.self-in-Two.inside.indexed c.insert_two.new.self tt c.self-in-Two.invariant c.insert_two.ensures.ok c.insert_two.ensures.err
 
 pub returns-in-Two-clause-ok : goal.returns-in-Two-clause-ok
 returns-in-Two-clause-ok c = on_ok_weaker c.insert_two.result (λ e.
-    ap (with_scalar c.self.inside.scalar) e
-    ∙ written_indexed (cell c.in-Two.row c.in-Two.column) (value_of_ref c.args.value) c.self.inside.scalar c.self.inside.indexed tt c.self.invariant
-    ∙ ap (put values_cmp (cell c.in-Two.row c.in-Two.column) (value_of_ref c.args.value)) c.self.view_is
+    ap (with_scalar c.self-in-Two.inside.scalar) e
+    ∙ written_indexed (cell c.in-Two.row c.in-Two.column) (value_of_ref c.args.value) c.self-in-Two.inside.scalar c.self-in-Two.inside.indexed tt c.self-in-Two.invariant
+    ∙ ap (put values_cmp (cell c.in-Two.row c.in-Two.column) (value_of_ref c.args.value)) c.self-in-Two.view_is
     ∙ ap (λ q. put values_cmp (indices_at q) (value_of_ref c.args.value) c.args.self.now) (sym c.in-Two.is)) c.insert_two.ensures.ok
 
 pub returns-in-List-clause-ok : goal.returns-in-List-clause-ok

@@ -1,7 +1,6 @@
-use Rattle.std.proofs.Common.{◌≡◌, ap, ◌∙◌, ◌+◌, ◌<◌, ◌≤◌, length, Result, Ok, Err, OnErr, refl, arith}
+use Rattle.std.proofs.Common.{◌≡◌, ◌∙◌, ◌+◌, ◌<◌, ◌≤◌, length, Result, Ok, Err, OnErr, refl, arith}
 use Rattle.std.specs.Prelude.{◌-◌}
 use Rattle.std.specs.FinMap.{put}
-use Rattle.ctd_store.specs.Grid.{grid}
 use Rattle.ctd_store.specs.ValueRef.{value_of_ref}
 use Rattle.ctd_store.specs.Order.{values_cmp}
 use Rattle.ctd_store.specs.Store.{cell}
