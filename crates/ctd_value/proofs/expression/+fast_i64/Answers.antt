@@ -86,20 +86,6 @@ fast_operation-returns-in_ok-fast_i64-in-Minus t c = record {
       (in_register c.in_ok-fast_i64-in-Minus.field-0 (search rules) c.in_ok-fast_i64-in-Minus.ensures.value) c.checked_neg.ensures;
 }
 
-pub fast_element_value-returns-in_ok-fast_index-in-len1 : goal.fast_element_value-returns-in_ok-fast_index-in-len1
-fast_element_value-returns-in_ok-fast_index-in-len1 t c = record {
-  value = element_known c.value_at.result c.args.v.now c.as_slice.result.now _ c.args.store.now c.as_slice.ensures
-      (of_one c.as_slice.result.now c.index-item.result _ c.args.store.now (is_one c.as_slice.result.now c.index-item.result c.in-len1.len_at_least c.in-len1.len_below c.index-item.is) c.in_ok-fast_index-in-len1.ensures.value)
-      c.value_at.ensures.value;
-}
-
-pub fast_element_value-returns-in_ok-fast_index-in-len2 : goal.fast_element_value-returns-in_ok-fast_index-in-len2
-fast_element_value-returns-in_ok-fast_index-in-len2 t c = record {
-  value = element_known c.value_at-in-len2.result c.args.v.now c.as_slice.result.now _ c.args.store.now c.as_slice.ensures
-      (of_two c.as_slice.result.now c.row-item.result c.column-item.result _ _ c.args.store.now (is_two c.as_slice.result.now c.row-item.result c.column-item.result c.in-len2.len_at_least c.in-len2.len_below c.row-item.is c.column-item.is) c.in_ok-row-in-len2.ensures.value c.in_ok-fast_index-in-len2.ensures.value)
-      c.value_at-in-len2.ensures.value;
-}
-
 pub fast_element_at_any-returns-in_ok-value_at-in-len1 : goal.fast_element_at_any-returns-in_ok-value_at-in-len1
 fast_element_at_any-returns-in_ok-value_at-in-len1 t c = record {
   value = then_number c.i64_of.result _ c.in_ok-value_at-in-len1.field-0.now
