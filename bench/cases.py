@@ -69,6 +69,11 @@ SET(depth[1]=0)
 REPI(i,n-1,SPACE) INT(1,i+1,p) SET(depth[i+2]=depth[p]+1) END NEWLINE
 """
 
+PRESET_BOUND = b"""SET(maxn=10)
+INT(1,1000000,n) NEWLINE
+REP(n) INT(1,maxn,x) SPACE INT(x,maxn,y) NEWLINE END
+"""
+
 PERMUTATION = b"""INT(1,1000000,n) NEWLINE
 REPI(i,n,SPACE) INT(1,n,p[i]) END NEWLINE
 ASSERT(UNIQUE(p))
@@ -113,10 +118,13 @@ class Files:
     def options(self) -> list[str]:
         return self.base.with_suffix(".opts").read_text().split()
 
+    def set_options(self, options: str) -> None:
+        self.base.with_suffix(".opts").write_text(options)
+
     def start(self, program: bytes, options: str = "") -> BinaryIO:
         """Writes the program and the options, and opens the data for writing."""
         self.program.write_bytes(program)
-        self.base.with_suffix(".opts").write_text(options)
+        self.set_options(options)
         return self.data.open("wb")
 
 
@@ -145,6 +153,12 @@ def graph(files: Files, scale: float, rng: random.Random) -> None:
         while len(seen) < edges:
             seen[rng.randint(1, 1_000_000), rng.randint(1, 1_000_000)] = None
         data.write("".join(f"{a} {b}\n" for a, b in seen).encode())
+
+
+def other_preset(files: Files, scale: float, rng: random.Random) -> None:
+    """The graph, with a preset of a name that it does not use."""
+    graph(files, scale, rng)
+    files.set_options("-D zz=1")
 
 
 def words(files: Files, scale: float, rng: random.Random) -> None:
@@ -247,6 +261,22 @@ def tree(files: Files, scale: float, rng: random.Random) -> None:
         data.write(b"%d\n" % n + " ".join(str(rng.randint(1, i + 1)) for i in range(n - 1)).encode() + b"\n")
 
 
+def pinned_element(files: Files, scale: float, rng: random.Random) -> None:
+    """The tree, with the depth of its root given by a preset."""
+    tree(files, scale, rng)
+    files.set_options("-D depth[1]=0")
+
+
+def preset_bound(files: Files, scale: float, rng: random.Random) -> None:
+    """Pairs of numbers up to a bound that a preset gives."""
+    n = max(1, int(1_000_000 * scale))
+    with files.start(PRESET_BOUND, "-D maxn=100000") as data:
+        data.write(b"%d\n" % n)
+        for _ in range(n):
+            x = rng.randint(1, 100_000)
+            data.write(b"%d %d\n" % (x, rng.randint(x, 100_000)))
+
+
 def permutation(files: Files, scale: float, rng: random.Random) -> None:
     n = max(1, int(1_000_000 * scale))
     row = list(range(1, n + 1))
@@ -282,6 +312,9 @@ CASES = [
     Case("names", names, None, 300),
     Case("tree", tree, None, 100),
     Case("permutation", permutation, None, 100),
+    Case("other-preset", other_preset, None, 90),
+    Case("preset-bound", preset_bound, None, 6),
+    Case("pinned-element", pinned_element, None, 100),
     Case("tokens", tokens, None, 6),
     Case("program", program, None, 20),
 ]

@@ -1,5 +1,0 @@
-use Rattle.std.proofs.Common.{rules}
-use Rattle.ctd_value.proofs.assign.set_number.Goals as goal
-
-pub returns-then-overwrite-clause-value : goal.returns-then-overwrite-clause-value
-returns-then-overwrite-clause-value c = search rules
