@@ -1,7 +1,7 @@
 #!/usr/bin/env bash
-# Rebuilds every proof and test from scratch (rt ci), then runs the program that this built: as a process, on the rows of tables, with reads,
-# writes and allocations failing, on the examples, as the documents say, beside its companions, installed and packed, and at last on generated
-# cases, of which a reference in Python knows the answers.
+# Sees that the definitions stand where docs/TRUST.md says, and rebuilds every proof and test from scratch (rt ci). Then it runs the program that
+# this built: as a process, on the rows of tables, with reads, writes and allocations failing, on the examples, as the documents say, beside its
+# companions, installed and packed, and at last on generated cases, of which a reference in Python knows the answers.
 # The last line counts what passed and failed in all.
 set -u
 cd "$(dirname "${BASH_SOURCE[0]}")/.." || exit
@@ -27,6 +27,7 @@ count() {
     fi
 }
 
+count scripts/believed.py
 count rt ci
 if [ "$failed" -eq 0 ]; then
     count tests/process.sh
