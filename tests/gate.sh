@@ -1,7 +1,8 @@
 #!/usr/bin/env bash
-# Rebuilds every proof and test from scratch (rt ci), then runs the program that this built: on the rows of tables, with streams that are closed
-# or full, with reads, writes and allocations failing, on the examples, as the documents say, beside its companions, installed and packed, and
-# at last on generated cases, of which a reference in Python knows the answers. The rules of the build are tried with a stub for the prover.
+# Sees that the definitions stand where docs/TRUST.md says, and rebuilds every proof and test from scratch (rt ci). Then it runs the program that
+# this built: on the rows of tables, with streams that are closed or full, with reads, writes and allocations failing, on the examples, as the
+# documents say, beside its companions, installed and packed, and at last on generated cases, of which a reference in Python knows the answers.
+# The rules of the build are tried with a stub for the prover.
 # The last line counts what passed and failed in all.
 set -u
 cd "$(dirname "${BASH_SOURCE[0]}")/.." || exit
@@ -27,6 +28,7 @@ count() {
     fi
 }
 
+count scripts/believed.py
 count rt ci
 if [ "$failed" -eq 0 ]; then
     count tests/tables.py
@@ -39,6 +41,7 @@ if [ "$failed" -eq 0 ]; then
     count tests/install.sh
     count tests/examples.py
     count tests/documents.py
+    count tests/links.py
     count tests/fuzz.py
 fi
 printf '%s passed, %s failed\n' "$passed" "$failed"

@@ -13,7 +13,7 @@ use Rattle.ctd_program.specs.Tree.{CommandList}
 use Rattle.ctd_loader.specs.Loading.{IsLoaded, TextMayFail, Loads, MayFail}
 use Rattle.ctd_arguments.specs.declared.setup.Setup.{Setup}
 use Rattle.ctd_report.specs.Report.{Report}
-use Rattle.ctd_tool.specs.Headline.{Call, IsReport}
+use Rattle.ctd_tool.specs.Theorem.{Call, IsReport, of_meaning, of_program_fault}
 use Rattle.ctd_embed.specs.MemorySource.{StartsWith}
 use Rattle.ctd_embed.specs.InMemory.{data_of, IsReportBy}
 
@@ -67,13 +67,13 @@ agrees_all Broken text bytes limit g = absurd (g.never_broken refl)
 -- the report on two sources in memory is that on their bytes
 pub report_in_memory : {P D : Type 0} {G : Ghosts P} {H : Ghosts D} (s : Setup) (program testdata : List ℕ) (p : Call G) (d : Call H) (report : Report)
     → StartsWith G program p.old → StartsWith H testdata d.old → IsReport s p d report → IsReportBy s program testdata report
-report_in_memory {G} {H} s program testdata p d report sp sd (inl m) =
+report_in_memory {G} {H} s program testdata p d report sp sd (of_meaning m) =
     inl (record {
       tree = m.tree;
       loads = loads_all (G.seen p.new) m.text program m.tree (given_of G p.old p.new m.text program sp m.gave_text) m.loads;
       report_is = (m.means (data_of testdata s.limits.bytes) refl (agrees_all (H.seen d.new) m.bytes testdata s.limits.bytes (given_of H d.old d.new m.bytes testdata sd m.gave))).report_is;
     })
-report_in_memory {G} s program testdata p d report sp sd (inr f) =
+report_in_memory {G} s program testdata p d report sp sd (of_program_fault f) =
     inr (record {
       fault = f.fault;
       fails = fails_all (G.seen p.new) f.text program f.fault (given_of G p.old p.new f.text program sp f.gave_text) f.fails;

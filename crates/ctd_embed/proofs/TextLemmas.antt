@@ -3,7 +3,8 @@ use Rattle.std.proofs.Common.{◌≡◌, ℕ, List, [], Option, Some, None, take
 use Rattle.std.specs.Io.KnownBytes.{Appends}
 use Rattle.ctd_report.specs.declared.sink.Sink.{Ghosts}
 use Rattle.ctd_report.specs.Written.{Change, change}
-use Rattle.ctd_tool.specs.Answer.{EndsWithReport}
+use Rattle.ctd_tool.specs.Theorem.{EndsWithReport, whole, broken_off}
+use Rattle.ctd_tool.proofs.AnswerLemmas.{EndsWithReport-weaker}
 use Rattle.ctd_arguments.specs.declared.setup.UsageFault.TheVariants.{Memory}
 use Rattle.ctd_report.specs.Report.{Report, usage_report}
 use Rattle.ctd_embed.specs.Buffers.{HoldReport}
@@ -30,11 +31,11 @@ nothing_of_stream {G} stream text h same =
 -- the two streams hold a report, with its status; or the starts of its texts, with the status 2
 hold_report : {O E : Type 0} {S : Ghosts O} {T : Ghosts E} (o : Change S) (e : Change T) (IsReport : Report → Type 0) (status : ℕ) (out err : List ℕ)
     → Holds o out → Holds e err → EndsWithReport o e IsReport status → HoldReport IsReport out err status
-hold_report o e IsReport status out err ho he (r, is, inl all) =
+hold_report o e IsReport status out err ho he (whole r is all) =
     (r, is, inl (text_of_stream o out r.out ho all.out_text.bytes, text_of_stream e err r.err he all.err_text.bytes, all.status_is))
-hold_report o e IsReport status out err ho he (r, is, inr (inl f, two)) =
+hold_report o e IsReport status out err ho he (broken_off r is (inl f) two) =
     (r, is, inr ((f.0.bytes.0, text_of_stream o out (take f.0.bytes.0 r.out) ho f.0.bytes.2), (0, nothing_of_stream e err he f.1), two))
-hold_report o e IsReport status out err ho he (r, is, inr (inr f, two)) =
+hold_report o e IsReport status out err ho he (broken_off r is (inr f) two) =
     (r, is, inr ((0, nothing_of_stream o out ho f.1), (f.0.bytes.0, text_of_stream e err (take f.0.bytes.0 r.err) he f.0.bytes.2), two))
 
 -- the two streams hold an answer to the words
@@ -51,4 +52,4 @@ pub hold_memory : {O E : Type 0} {S : Ghosts O} {T : Ghosts E} (old_out new_out 
     → EndsWithReport (change S old_out new_out) (change T old_err new_err) (λ report. report ≡ usage_report Memory) status → HoldReport (IsAnswerTo text program testdata) out err status
 hold_memory {S} {T} old_out new_out old_err new_err text program testdata status out err eo to ee te h =
     hold_report (change S old_out new_out) (change T old_err new_err) (IsAnswerTo text program testdata) status out err (record { empty = eo; text_is = to }) (record { empty = ee; text_is = te })
-    (h.0, inr (inr h.1), h.2)
+    (EndsWithReport-weaker (change S old_out new_out) (change T old_err new_err) _ _ status (λ report is. inr (inr is)) h)

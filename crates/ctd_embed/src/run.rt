@@ -2,7 +2,7 @@
 
 ghost use Rattle.std.specs.Prelude.{◌≡◌, ◌==◌, false};
 ghost use Rattle.std.specs.List.{slice_split};
-ghost use Rattle.ctd_tool.specs.Answer.{EndsWithReport};
+ghost use Rattle.ctd_tool.specs.Theorem.{EndsWithReport};
 ghost use Rattle.ctd_report.specs.Written.{change};
 ghost use Rattle.ctd_embed.specs.Buffers.{HoldReport};
 ghost use Rattle.ctd_embed.specs.InMemory.{IsAnswerTo};

@@ -1,5 +1,5 @@
 -- What `run_tool` reports, put together from what loading and checking promise.
-use Rattle.std.proofs.Common.{◌≡◌, ◌≢◌, ◌+◌, ◌≤◌, ℕ, [], Ok, Err, Result, inl, inr, refl, ap, arith, sym, subst}
+use Rattle.std.proofs.Common.{◌≡◌, ◌≢◌, ◌+◌, ◌≤◌, ℕ, [], Ok, Err, Result, refl, ap, arith, sym, subst}
 use Rattle.ctd_source.specs.declared.source.Seen.{Seen}
 use Rattle.ctd_source.specs.declared.source.Source.{Ghosts}
 use Rattle.ctd_source.specs.Agreement.{Agrees}
@@ -15,7 +15,7 @@ use Rattle.ctd_check.specs.Run.{meaning}
 use Rattle.ctd_check.specs.Checks.{FindsMeaning, IsAhead}
 use Rattle.ctd_arguments.specs.declared.setup.Setup.{Setup}
 use Rattle.ctd_report.specs.Report.{check_report, load_report}
-use Rattle.ctd_tool.specs.Headline.{call, IsReport}
+use Rattle.ctd_tool.specs.Theorem.{call, IsReport, of_meaning, of_program_fault}
 
 -- loading reads no more than the limit of programs and one byte
 pub loads_few : {V R : Type 0} (tree_of : V → CommandList) (G : Ghosts R) (old new : R) (result : Result V LoadFault) → LoadsFrom tree_of G old new result → GaveAtMost G (PROGRAM_LIMIT + 1) old new
@@ -30,7 +30,7 @@ module _ {V P D : Type 0} (tree_of : V → CommandList) (G : Ghosts P) (H : Ghos
   pub reports_meaning : (old new : D) (plan : V) (checked : Checked) → LoadsFrom tree_of G old_program new_program (Ok plan)
       → FindsMeaning H old new s.limits (λ d. meaning s.mode (tree_of plan) s.presets d s.limits.steps) checked → IsAhead checked → checked.taken ≤ s.limits.bytes + 1 → checked.seen ≡ H.seen new
       → IsReport s (call G old_program new_program) (call H old new) (check_report s.quiet checked.outcome)
-  reports_meaning old new plan checked l m ahead within seen = inl (record {
+  reports_meaning old new plan checked l m ahead within seen = of_meaning (record {
     tree = tree_of plan;
     text = l.bytes;
     gave_text = l.gave;
@@ -52,4 +52,4 @@ module _ {V P D : Type 0} (tree_of : V → CommandList) (G : Ghosts P) (H : Ghos
   pub reports_fault : (testdata : D) (fault : LoadFault) → LoadsFrom tree_of G old_program new_program (Err fault) → fault.kind ≢ Memory
       → IsReport s (call G old_program new_program) (call H testdata testdata) (load_report fault)
   reports_fault testdata fault l other =
-      inr (record { fault = fault; text = l.bytes; gave_text = l.gave; within = l.short; fails = l.answer other; untouched = refl; report_is = refl })
+      of_program_fault (record { fault = fault; text = l.bytes; gave_text = l.gave; within = l.short; fails = l.answer other; untouched = refl; report_is = refl })

@@ -1,3 +1,1 @@
-pub mod Answer
-pub mod Files
-pub mod Headline
+pub mod Theorem

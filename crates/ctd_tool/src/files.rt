@@ -1,7 +1,7 @@
 //! Files, and the two sources of a run that are made of them.
 
 ghost use Rattle.std.specs.Prelude.{◌≡◌, ◌≤◌, ◌^◌, ℕ, List, Option, Some, false, IfErr, IfOk};
-ghost use Rattle.ctd_tool.specs.Files.{IsFilesReport, IsRunReport, StartsOn, visit};
+ghost use Rattle.ctd_tool.specs.Theorem.{IsFilesReport, IsRunReport, StartsOn, visit};
 ghost use Rattle.ctd_report.specs.Written.{LeavesOneOf, change};
 
 use crate::tool::run_tool;

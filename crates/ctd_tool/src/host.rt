@@ -1,7 +1,7 @@
 //! The files, the words and the streams of the process.
 
-ghost use Rattle.std.specs.Prelude.{◌≡◌, ◌⊎◌, ℕ, false, List, Result, IfErr};
-ghost use Rattle.ctd_tool.specs.Answer.{EndsProcess};
+ghost use Rattle.std.specs.Prelude.{◌≡◌, ◌⊎◌, false, IfErr};
+ghost use Rattle.ctd_tool.specs.Theorem.{EndsProcess};
 ghost use Rattle.ctd_arguments.specs.declared.setup.UsageFault.{UsageFault};
 ghost use Rattle.ctd_report.specs.Written.{change};
 
@@ -83,11 +83,11 @@ impl Files for HostFiles<'_> {
 pub fn answer(rt: &HostRuntime, out: &mut ToWrite<Stdout>, err: &mut ToWrite<Stderr>) -> u8
     requires out_works { ⟦<ToWrite<Stdout> as Sink>⟧.has_failed out.old ≡ false }
     requires err_works { ⟦<ToWrite<Stderr> as Sink>⟧.has_failed err.old ≡ false }
-    ensures { (words : Result (List (List ℕ)) UsageFault) × EndsProcess ⟦<HostFiles<'static> as Files>⟧.opens ⟦<HostFiles<'static> as Files>⟧.takes_input
+    ensures { EndsProcess ⟦<HostFiles<'static> as Files>⟧.opens ⟦<HostFiles<'static> as Files>⟧.takes_input
         ⟦<HostFile as Read>⟧.remaining ⟦<FromRead<BufReader<HostFile>> as Source>⟧
         (change ⟦<ToWrite<Stdout> as Sink>⟧ out.old out.new)
         (change ⟦<ToWrite<Stderr> as Sink>⟧ err.old err.new)
-        words result }
+        result }
 {
     let alloc = rt.alloc();
     match words_of(rt, alloc) {

@@ -1,8 +1,7 @@
 //! From a command line to its report and status.
 
 ghost use Rattle.std.specs.Prelude.{◌≡◌, false};
-ghost use Rattle.ctd_tool.specs.Answer.{EndsWithReport, IsAnswer};
-ghost use Rattle.ctd_tool.specs.Files.{visit};
+ghost use Rattle.ctd_tool.specs.Theorem.{EndsWithReport, IsAnswer, visit};
 ghost use Rattle.ctd_report.specs.Report.{usage_report};
 ghost use Rattle.ctd_report.specs.Written.{change};
 

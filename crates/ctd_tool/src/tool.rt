@@ -4,7 +4,7 @@ ghost use Rattle.std.specs.Prelude.{◌≡◌, ◌+◌, ◌≤◌, ◌^◌, fals
 ghost use Rattle.ctd_source.specs.CursorState.{GaveAtMost};
 ghost use Rattle.ctd_source.specs.declared.source.Seen.TheVariants.{Going};
 ghost use Rattle.ctd_token.specs.declared.limits.TheConstants.{PROGRAM_LIMIT};
-ghost use Rattle.ctd_tool.specs.Headline.{IsReport, call};
+ghost use Rattle.ctd_tool.specs.Theorem.{IsReport, call};
 ghost use Rattle.ctd_report.specs.Written.{LeavesOneOf, change};
 
 use ctd_arguments::Setup;

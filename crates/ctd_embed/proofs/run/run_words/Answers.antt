@@ -1,6 +1,7 @@
-use Rattle.std.proofs.Common.{◌≡◌, Err, inl, rules}
-use Rattle.ctd_tool.proofs.AnswerLemmas.{EndsWithReport-weaker, LeavesOneOf-EndsWithReport, BreaksOff-EndsWithReport}
-use Rattle.ctd_report.specs.declared.written.ToolFault.TheVariants.{Write}
+use Rattle.std.proofs.Common.{◌≡◌, Err, inl, inr, rules}
+use Rattle.ctd_report.specs.declared.written.ToolFault.TheVariants.{Memory, Write}
+use Rattle.ctd_report.specs.Written.{change}
+use Rattle.ctd_tool.proofs.AnswerLemmas.{EndsWithReport-weaker, LeavesOneOf-EndsWithReport, BreaksOff-EndsWithReport, Memory-untouched}
 use Rattle.ctd_embed.proofs.SourceLemmas.{report_in_memory}
 use Rattle.ctd_embed.proofs.run.run_words.Goals as goal
 
@@ -10,6 +11,15 @@ returns-in-Ok-run_tool g c =
     EndsWithReport-weaker _ _ _ _ _
     (λ report is. inl (s, c.in-Ok.ensures.setup, report_in_memory s c.args.program.now c.args.testdata.now _ _ report c.new-program.ensures c.new-testdata.ensures is))
     (LeavesOneOf-EndsWithReport _ _ _ _ (rw c.in-Ok-run_tool.is at c.run_tool.ensures.written))
+
+pub returns-in-Err : goal.returns-in-Err
+returns-in-Err g c = EndsWithReport-weaker _ _ _ _ _ (λ report is. inr (inl (c.in-Err.fault, c.in-Err.ensures.fault, is))) c.usage_status.ensures
+
+pub returns-in-Err-Memory : goal.returns-in-Err-Memory
+returns-in-Err-Memory g c =
+    let fault_is : c.run_tool.result ≡ Err Memory = search rules in
+    let untouched = Memory-untouched (change g.O.Sink c.args.out.now c.run_tool.new.out) (change g.E.Sink c.args.err.now c.run_tool.new.err) _ _ fault_is c.run_tool.ensures.written in
+    EndsWithReport-weaker _ _ _ _ _ (λ report is. inr (inr is)) (rw (untouched.0, untouched.1) at c.usage_status-in-Err-Memory.ensures)
 
 pub returns : goal.returns
 returns g c =

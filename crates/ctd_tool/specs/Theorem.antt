@@ -1,0 +1,151 @@
+-- The theorem of the tool: what a process writes and ends with. It is `EndsProcess`, the last definition, which the contract of `answer` names.
+use Rattle.std.specs.Prelude.{◌≡◌, ◌⊎◌, ◌+◌, ◌≤◌, ℕ, Bool, List, Option, None, Some, Result, Ok, Err, length}
+use Rattle.std.specs.Io.Buffered.{reader_inner}
+use Rattle.std.specs.declared.alloc.Global.{Global}
+use Rattle.std.specs.declared.io.buffered.BufReader.{BufReader}
+use Rattle.ctd_source.specs.declared.from_read.FromRead.{FromRead}
+use Rattle.ctd_source.specs.declared.source.Source as sources
+use Rattle.ctd_source.specs.declared.source.Seen.TheVariants.{Going}
+use Rattle.ctd_source.specs.declared.limits.TheConstants.{WINDOW}
+use Rattle.ctd_source.specs.Reader.{reader_of}
+use Rattle.ctd_source.specs.TestData.{TestData}
+use Rattle.ctd_source.specs.Agreement.{Agrees}
+use Rattle.ctd_source.specs.CursorState.{Gave}
+use Rattle.ctd_token.specs.declared.fault.LoadFault.{LoadFault}
+use Rattle.ctd_token.specs.declared.limits.TheConstants.{PROGRAM_LIMIT}
+use Rattle.ctd_program.specs.Tree.{CommandList}
+use Rattle.ctd_loader.specs.Loading.{Loads, MayFail}
+use Rattle.ctd_check.specs.Run.{Meaning, meaning}
+use Rattle.ctd_arguments.specs.declared.setup.Setup.{Setup}
+use Rattle.ctd_arguments.specs.declared.setup.UsageFault.{UsageFault}
+use Rattle.ctd_arguments.specs.declared.setup.UsageFault.TheVariants.{Memory, Words}
+use Rattle.ctd_arguments.specs.Settings.{IsSetup}
+use Rattle.ctd_arguments.specs.Usage.{IsUsageFault}
+use Rattle.ctd_report.specs.declared.sink.Sink as sinks
+use Rattle.ctd_report.specs.Report.{Report, check_report, load_report, open_report, usage_report}
+use Rattle.ctd_report.specs.Written.{Change, WritesAll, BreaksOff}
+use Rattle.ctd_tool.specs.declared.files.Sources.{Sources}
+
+-- I. The report of a program and data that two sources give.
+
+-- a source as a call begins and as it ends
+pub record Call {S : Type 0} (G : sources.Ghosts S) : Type 0 where
+  pub old : S
+  pub new : S
+
+-- a source that was this as a call began, and is that as it ends
+abbrev pub call : {S : Type 0} (G : sources.Ghosts S) → S → S → Call G
+call G old new = record { old = old; new = new }
+
+-- a source gave so many bytes of the data of a run, and the report is that of its outcome: all that the run consumes was given, and at most a window more
+pub record ReportsRun (quiet : Bool) (given : ℕ) (report : Report) (m : Meaning) : Type 0 where
+  pub report_is : report ≡ check_report quiet m.outcome
+  pub behind : m.consumed ≤ given
+  pub ahead : given ≤ m.consumed + WINDOW
+
+-- the program's source gave the text of this program; the report is that of its meaning on all data under the limit that agree with the bytes that the data's source gave and with what was seen of its end
+pub record ReportsMeaning {P D : Type 0} {G : sources.Ghosts P} {H : sources.Ghosts D} (s : Setup) (program : Call G) (testdata : Call H) (report : Report) : Type 0 where
+  pub tree : CommandList
+  pub text : List ℕ
+  pub gave_text : Gave G program.old program.new text
+  pub loads : Loads text (G.seen program.new) tree
+  pub bytes : List ℕ
+  pub gave : Gave H testdata.old testdata.new bytes
+  pub within : length bytes ≤ s.limits.bytes + 1
+  pub means : (d : TestData) → d.limit ≡ s.limits.bytes → Agrees bytes (H.seen testdata.new) d → ReportsRun s.quiet (length bytes) report (meaning s.mode tree s.presets d s.limits.steps)
+
+-- the program's source gave a text that may fail so, and the data are not touched
+pub record ReportsFault {P D : Type 0} {G : sources.Ghosts P} {H : sources.Ghosts D} (program : Call G) (testdata : Call H) (report : Report) : Type 0 where
+  pub fault : LoadFault
+  pub text : List ℕ
+  pub gave_text : Gave G program.old program.new text
+  pub within : length text ≤ PROGRAM_LIMIT + 1
+  pub fails : MayFail text (G.seen program.new) fault
+  pub untouched : testdata.new ≡ testdata.old
+  pub report_is : report ≡ load_report fault
+
+-- the report is that of the program's meaning, or of a fault of the program
+pub data IsReport {P D : Type 0} {G : sources.Ghosts P} {H : sources.Ghosts D} (s : Setup) (program : Call G) (testdata : Call H) (report : Report) : Type 0 where
+  of_meaning : ReportsMeaning s program testdata report → IsReport s program testdata report
+  of_program_fault : ReportsFault program testdata report → IsReport s program testdata report
+
+-- II. The report of files.
+
+-- files before and after a call, with what opening one of them does, and what taking standard input does
+pub record Visit (F R : Type 0) : Type 1 where
+  pub opens : F → List ℕ → Option R → F → Type 0
+  pub takes_input : F → R → F → Type 0
+  pub old : F
+  pub new : F
+
+-- files that were these as a call began, and are those as it ends
+abbrev pub visit : {F R : Type 0} → (F → List ℕ → Option R → F → Type 0) → (F → R → F → Type 0) → F → F → Visit F R
+visit opens takes_input old new = record { opens = opens; takes_input = takes_input; old = old; new = new }
+
+-- data of this name are that file, and data with no name are standard input
+abbrev pub OpensTestdata : {F R : Type 0} → Visit F R → Option (List ℕ) → F → R → Type 0
+OpensTestdata v None between testdata = v.takes_input between testdata v.new
+OpensTestdata v (Some name) between testdata = v.opens between name (Some testdata) v.new
+
+-- first the program was opened, and then the data
+pub record OpensBoth {F R : Type 0} (v : Visit F R) (s : Setup) (program testdata : R) : Type 0 where
+  pub between : F
+  pub program_is : v.opens v.old s.program (Some program) between
+  pub testdata_is : OpensTestdata v s.testdata between testdata
+
+-- the program was opened, and then the data could not be
+pub record RefusesTestdata {F R : Type 0} (v : Visit F R) (s : Setup) (name : List ℕ) : Type 0 where
+  pub between : F
+  pub program : R
+  pub program_is : v.opens v.old s.program (Some program) between
+  pub name_is : s.testdata ≡ Some name
+  pub refused : v.opens between name None v.new
+
+-- the program could not be opened, and nothing else was asked for
+pub record RefusesProgram {F R : Type 0} (v : Visit F R) (s : Setup) (name : List ℕ) : Type 0 where
+  pub name_is : s.program ≡ name
+  pub refused : v.opens v.old name None v.new
+
+-- a source that reads this reader behind a buffer; it has given nothing, and has left what the reader tells of its bytes
+pub record StartsOn {R : Type 0} (remaining : R → Option (List ℕ)) (G : sources.Ghosts (FromRead (BufReader R Global))) (reader : R) (source : FromRead (BufReader R Global)) : Type 0 where
+  pub inner : reader_inner (reader_of source) ≡ reader
+  pub going : G.seen source ≡ Going
+  pub given : G.given source ≡ 0
+  pub left : G.left source ≡ remaining reader
+
+-- the report of a run on two readers, by what their sources gave
+pub record IsRunReport {R : Type 0} (remaining : R → Option (List ℕ)) (G : sources.Ghosts (FromRead (BufReader R Global))) (s : Setup) (program testdata : R) (left : Option (Sources R)) (report : Report) : Type 0 where
+  pub old_program : FromRead (BufReader R Global)
+  pub old_testdata : FromRead (BufReader R Global)
+  pub starts_program : StartsOn remaining G program old_program
+  pub starts_testdata : StartsOn remaining G testdata old_testdata
+  pub new : Sources R
+  pub new_is : left ≡ Some new
+  pub reports : IsReport s (call G old_program new.program) (call G old_testdata new.testdata) report
+
+-- both files were opened, and the report is that of a run on them; or one was not, and the report names it
+pub data IsFilesReport {F R : Type 0} (remaining : R → Option (List ℕ)) (G : sources.Ghosts (FromRead (BufReader R Global))) (s : Setup) (v : Visit F R) (left : Option (Sources R)) (report : Report) : Type 0 where
+  of_run : (program testdata : R) → OpensBoth v s program testdata → IsRunReport remaining G s program testdata left report → IsFilesReport remaining G s v left report
+  no_program : (name : List ℕ) → RefusesProgram v s name → report ≡ open_report name → IsFilesReport remaining G s v left report
+  no_testdata : (name : List ℕ) → RefusesTestdata v s name → report ≡ open_report name → IsFilesReport remaining G s v left report
+
+-- III. The report of a command line, and what is written.
+
+-- the words ask for a check, and the report is that of the files that they name; or they have this fault, no file was asked for, and the report is that of the fault; or no memory was left
+pub data IsAnswer {F R : Type 0} (remaining : R → Option (List ℕ)) (G : sources.Ghosts (FromRead (BufReader R Global))) (words : List (List ℕ)) (v : Visit F R) (left : Option (Sources R)) (report : Report) : Type 0 where
+  of_files : (s : Setup) → IsSetup words s → IsFilesReport remaining G s v left report → IsAnswer remaining G words v left report
+  of_words : (fault : UsageFault) → IsUsageFault words fault → v.new ≡ v.old → report ≡ usage_report fault → IsAnswer remaining G words v left report
+  no_memory : report ≡ usage_report Memory → IsAnswer remaining G words v left report
+
+-- one of these reports was written whole, and the status is its own; or a stream failed in it, and the status is 2
+pub data EndsWithReport {O E : Type 0} {S : sinks.Ghosts O} {T : sinks.Ghosts E} (out : Change S) (err : Change T) (Reports : Report → Type 0) (status : ℕ) : Type 0 where
+  whole : (report : Report) → Reports report → WritesAll out err report status → EndsWithReport out err Reports status
+  broken_off : (report : Report) → Reports report → BreaksOff out err report → status ≡ 2 → EndsWithReport out err Reports status
+
+-- the process got these words, and ends with the answer to them, of files that were visited and of the sources that were left; or it got none, and ends with the report of why
+pub data EndsProcess {F R O E : Type 0} {S : sinks.Ghosts O} {T : sinks.Ghosts E} (opens : F → List ℕ → Option R → F → Type 0) (takes_input : F → R → F → Type 0) (remaining : R → Option (List ℕ))
+    (G : sources.Ghosts (FromRead (BufReader R Global))) (out : Change S) (err : Change T) (status : ℕ) : Type 0 where
+  with_words : (words : List (List ℕ)) (old new : F) (left : Option (Sources R)) → EndsWithReport out err (IsAnswer remaining G words (visit opens takes_input old new) left) status
+      → EndsProcess opens takes_input remaining G out err status
+  bad_words : EndsWithReport out err (λ report. report ≡ usage_report Words) status → EndsProcess opens takes_input remaining G out err status
+  no_words : EndsWithReport out err (λ report. report ≡ usage_report Memory) status → EndsProcess opens takes_input remaining G out err status
