@@ -1,7 +1,7 @@
 //! Checking data against a program: the run of its commands, and the outcome.
 #![tactic(auto)]
 
-mod agenda;
+mod stack;
 mod checking;
 mod command;
 mod frame;
