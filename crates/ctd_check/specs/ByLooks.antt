@@ -3,9 +3,9 @@ use Rattle.std.specs.Prelude.{◌≡◌, ℕ, ◌+◌, Bool, true, false, ⊤, L
 use Rattle.std.specs.Char.{is_ascii_digit}
 use Rattle.std.specs.List.{take_while}
 use Rattle.ctd_source.specs.declared.spot.LookFault.{LookFault}
-use Rattle.ctd_source.specs.TestData.{TestData, next_byte, visible, is_byte}
+use Rattle.ctd_source.specs.TestData.{TestData, next_byte, is_byte}
 use Rattle.ctd_outcome.specs.declared.reason.Reason.TheVariants.{StringMismatch}
-use Rattle.ctd_command.specs.State.{State, Effect, done, rejected, faulty, Act, ◌>>=◌, return, reject, pass, see_next, fault_of_look}
+use Rattle.ctd_command.specs.State.{State, Effect, done, rejected, faulty, Act, ◌>>=◌, return, reject, pass, see_next, see_visible, pass_then, fault_of_look}
 use Rattle.ctd_command.specs.Integer.{judge}
 use Rattle.ctd_command.specs.Commands.{decide, integer, match_bytes}
 use Rattle.ctd_command.specs.Blanks.{is_blank, skip_blanks}
@@ -29,14 +29,13 @@ pub data PassesWhile (d : TestData) (test : ℕ → Bool) : State → Effect (Li
 
 -- these bytes are passed, and the next one is seen
 abbrev pub pass_bytes : List ℕ → Act (List ℕ)
-pass_bytes bytes = do
-  _ ← pass (length bytes)
-  _ ← see_next
-  return bytes
+pass_bytes bytes = pass_then (length bytes) (return bytes)
 
 -- the visible bytes that pass a test, up to the first that does not
 abbrev pub pass_visible : (ℕ → Bool) → Act (List ℕ)
-pass_visible test d s = pass_bytes (take_while test (visible d s.offset)) d s
+pass_visible test = do
+  rest ← see_visible
+  pass_bytes (take_while test rest)
 
 -- after the sign, digits are passed as they are seen, and judged
 abbrev pub digits_by_looks : ℤ → ℤ → Bool → Act ℤ

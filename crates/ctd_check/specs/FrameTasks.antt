@@ -111,6 +111,7 @@ abbrev pub FitsFrom : ℕ → ℕ → List Frame → Type 0
 FitsFrom i left [] = Unit {0}
 FitsFrom i left (frame ∷ above) = (i + 1 + frame_blocks frame ≤ 201) × ((loop_turn frame.running_loop + left + 1 ≤ 2 ^ 64) × FitsFrom (i + 1) left above)
 
+-- so it is of all frames of a stack, the lowest first
 abbrev pub Fits : ℕ → List Frame → Type 0
 Fits left frames = FitsFrom 0 left frames
 
@@ -118,5 +119,6 @@ fits_from_prop : (i left : ℕ) (fs : List Frame) → IsProp (FitsFrom i left fs
 fits_from_prop i left [] = Unit-prop
 fits_from_prop i left (frame ∷ above) = ×_prop le_prop (×_prop le_prop (fits_from_prop (i + 1) left above))
 
+-- that frames fit is a mere fact, which a field of the stack can hold
 pub fits_prop : (left : ℕ) (fs : List Frame) → IsProp (Fits left fs)
 fits_prop left fs = fits_from_prop 0 left fs

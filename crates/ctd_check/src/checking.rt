@@ -7,9 +7,9 @@ ghost use Rattle.ctd_check.specs.Run.{meaning};
 ghost use Rattle.ctd_check.specs.Checks.{FindsMeaning, IsAhead};
 ghost use Rattle.ctd_check.specs.Halts.{Concludes};
 
-use crate::stack::FrameStack;
 use crate::halt::Halt;
 use crate::run::run_program;
+use crate::stack::FrameStack;
 use ctd_command::Run;
 use ctd_loader::Plan;
 use ctd_outcome::{Checked, Outcome};

@@ -71,7 +71,10 @@ fn list_frame(commands: &Commands) -> Option<Frame<'_>>
 {
     match commands.as_slice() {
         [] => None,
-        rest => Some(Frame { rest, running_loop: None }),
+        rest => Some(Frame {
+            rest,
+            running_loop: None,
+        }),
     }
 }
 

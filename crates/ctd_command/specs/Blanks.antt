@@ -1,11 +1,10 @@
 -- The commands that skip blanks: SPACE, NEWLINE and EOF; and the start of the data.
 use Rattle.std.specs.Prelude.{ℕ, Bool, false, ◌||◌, nat_eq, ⊤, Option, Some, None, if◌then◌else◌}
 use Rattle.std.specs.List.{prefix_len}
-use Rattle.ctd_source.specs.TestData.{visible}
 use Rattle.ctd_program.specs.declared.mode.Mode.{Mode}
 use Rattle.ctd_program.specs.declared.mode.Mode.TheVariants.{Exact, BlanksOk}
 use Rattle.ctd_outcome.specs.declared.reason.Reason.TheVariants.{ExpectedSpace, ExpectedNewline}
-use Rattle.ctd_command.specs.State.{Act, ◌>>=◌, return, reject, pass, see_next}
+use Rattle.ctd_command.specs.State.{Act, ◌>>=◌, return, reject, see_next, see_visible, pass_then}
 use Rattle.ctd_command.specs.Commands.{one_byte, eof}
 
 -- a blank is a space, a tab, a vertical tab, a form feed or a carriage return
@@ -17,16 +16,11 @@ abbrev pub blank_next : Option ℕ → Bool
 blank_next None = false
 blank_next (Some b) = is_blank b
 
--- so many blanks are passed, up to another byte or the end
-abbrev pub skip_first : ℕ → Act ⊤
-skip_first n = do
-  _ ← pass n
-  _ ← see_next
-  return tt
-
--- all blanks that come next
+-- all blanks that come next, up to another byte or the end
 abbrev pub skip_blanks : Act ⊤
-skip_blanks d s = skip_first (prefix_len is_blank (visible d s.offset)) d s
+skip_blanks = do
+  rest ← see_visible
+  pass_then (prefix_len is_blank rest) (return tt)
 
 -- one blank or more, as many as there are
 abbrev pub some_blanks : Act ⊤

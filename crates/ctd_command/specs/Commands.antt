@@ -1,7 +1,7 @@
 -- What each simple command does.
 use Rattle.std.specs.Prelude.{ℕ, Bool, nat_eq, ⊤, List, [], ◌∷◌, length, fold, ℤ, Option, Some, None, Result, Ok, Err, if◌then◌else◌}
 use Rattle.std.specs.List.{common_prefix_len}
-use Rattle.ctd_source.specs.TestData.{visible, is_byte}
+use Rattle.ctd_source.specs.TestData.{is_byte}
 use Rattle.ctd_program.specs.Tree.{ExprTree, VarTree, TestTree}
 use Rattle.ctd_store.specs.declared.value.Value.{Value}
 use Rattle.ctd_store.specs.declared.value.Value.TheVariants as values
@@ -13,7 +13,7 @@ use Rattle.ctd_value.specs.Truth.{truth}
 use Rattle.ctd_outcome.specs.declared.reason.Reason.{Reason}
 use Rattle.ctd_outcome.specs.declared.reason.Reason.TheVariants.{ExpectedEof, StringMismatch, AssertFailed}
 use Rattle.ctd_command.specs.Integer.{prefix_len_of, judge, is_minus, digits_of}
-use Rattle.ctd_command.specs.State.{Act, done, ◌>>=◌, return, reject, pass, lift, evaluate, see_next, fault_of_truth}
+use Rattle.ctd_command.specs.State.{Act, done, ◌>>=◌, return, reject, pass, lift, evaluate, see_next, see_visible, pass_then, fault_of_truth}
 
 -- this byte, and else the reason
 abbrev pub one_byte : ℕ → Reason → Act ⊤
@@ -49,14 +49,13 @@ decide (Err reason) = reject reason
 
 -- bytes of the form of an integer are passed, up to a byte that does not belong to it or the end, and they are judged
 abbrev pub read_integer : ℤ → ℤ → List ℕ → Act ℤ
-read_integer least most rest = do
-  _ ← pass (prefix_len_of rest)
-  _ ← see_next
-  decide (judge least most (is_minus rest) (digits_of rest))
+read_integer least most rest = pass_then (prefix_len_of rest) (decide (judge least most (is_minus rest) (digits_of rest)))
 
 -- an integer in an interval
 abbrev pub integer : ℤ → ℤ → Act ℤ
-integer least most d s = read_integer least most (visible d s.offset) d s
+integer least most = do
+  rest ← see_visible
+  read_integer least most rest
 
 -- both bounds, then the integer, then its target
 abbrev pub int : ExprTree → ExprTree → Option VarTree → Act ⊤
@@ -81,7 +80,9 @@ compare wanted rest =
 
 -- just these bytes
 abbrev pub match_bytes : List ℕ → Act ⊤
-match_bytes wanted d s = compare wanted (visible d s.offset) d s
+match_bytes wanted = do
+  rest ← see_visible
+  compare wanted rest
 
 -- the value, which has to be a string, and then its bytes
 abbrev pub string : ExprTree → Act ⊤

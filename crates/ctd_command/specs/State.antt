@@ -3,7 +3,7 @@ use Rattle.std.specs.Prelude.{ℕ, ◌+◌, ⊤, List, Option, Result, Ok, Err}
 use Rattle.ctd_source.specs.declared.limits.TheConstants.{WINDOW}
 use Rattle.ctd_source.specs.declared.spot.LookFault.{LookFault}
 use Rattle.ctd_source.specs.declared.spot.LookFault.TheVariants as looks
-use Rattle.ctd_source.specs.TestData.{TestData, next_byte, look}
+use Rattle.ctd_source.specs.TestData.{TestData, next_byte, look, visible}
 use Rattle.ctd_store.specs.Store.{History}
 use Rattle.ctd_value.specs.Fault.{ValueFault, TruthFault}
 use Rattle.ctd_value.specs.Fault as faults
@@ -87,6 +87,17 @@ evaluate f d s = lift (faults.with_fault fault_of_value (f s.store)) s
 -- the next byte, or none at the end
 abbrev pub see_next : Act (Option ℕ)
 see_next d s = lift (faults.with_fault fault_of_look (next_byte d s.offset)) s
+
+-- the bytes to come that are visible: up to the end, the limit or a failed read
+abbrev pub see_visible : Act (List ℕ)
+see_visible d s = done (visible d s.offset) s
+
+-- so many of the visible bytes are passed, and the byte after them is seen before anything else is done
+abbrev pub pass_then : {A : Type 0} → ℕ → Act A → Act A
+pass_then n next = do
+  _ ← pass n
+  _ ← see_next
+  next
 
 -- the window: as many of the bytes to come as it has, or all of them
 abbrev pub see_window : Act (List ℕ)
