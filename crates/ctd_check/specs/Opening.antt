@@ -1,13 +1,12 @@
 -- What the start of a command ensures.
-use Rattle.std.specs.Prelude.{◌≡◌, ◌<◌, ◌≤◌, ◌+◌, ◌^◌, ℕ, List, ◌++◌, length, Result, Ok, Err, OnOk}
+use Rattle.std.specs.Prelude.{◌≡◌, ℕ, List, ◌++◌, Result, Ok, Err, OnOk}
 use Rattle.ctd_source.specs.declared.source.Source.{Ghosts}
 use Rattle.ctd_source.specs.declared.spot.Spot.{Spot}
 use Rattle.ctd_program.specs.declared.tree.PatternLiteral.{PatternLiteral}
-use Rattle.ctd_program.specs.Tree.{CommandTree, blocks}
 use Rattle.ctd_loader.specs.Numbered.{AreAmong}
 use Rattle.ctd_command.specs.declared.machine.Run.{Run}
 use Rattle.ctd_command.specs.declared.failure.CommandFailure.{CommandFailure}
-use Rattle.ctd_command.specs.Performs.{IsSound, Performs, answering}
+use Rattle.ctd_command.specs.Performs.{Performs, answering}
 use Rattle.ctd_command.specs.State.{Act}
 use Rattle.ctd_check.specs.declared.stack.FrameStack.{FrameStack}
 use Rattle.ctd_check.specs.declared.halt.Halt.{Halt}
@@ -23,13 +22,6 @@ halt_result spot place (Ok x) = Ok x
 halt_result spot place (Err failure) = Err (halt_of spot place failure)
 
 module _ {R : Type 0} {G : Ghosts R} where
-  -- what the start of a command needs in which commands stand: a run that goes on, room for the frames of its blocks, and steps that can be counted
-  pub record CanOpen (run : Run R G) (stack : FrameStack) (command : CommandTree) : Type 0 where
-    pub sound : IsSound run
-    pub block : 0 < blocks command
-    pub room : length stack.frames.items + blocks command ≤ 201
-    pub bound : stack.left + 1 ≤ 2 ^ 64
-
   -- a command with these literals did this, and what it leaves is to be done before all else
   pub record Opens (old new : Run R G) (from to : FrameStack) (of : List PatternLiteral) (result : Result (Unit {0}) CommandFailure) (act : Act (List Task)) : Type 0 where
     pub more : List Task

@@ -9,7 +9,7 @@ ghost use Rattle.ctd_check.specs.Known.{AreKnown};
 ghost use Rattle.ctd_check.specs.Loops.{start, tasks_before_turn};
 ghost use Rattle.ctd_check.specs.FrameTasks.{to_do, top_loop, loop_blocks, separator_in, separator_tasks, IsListDone};
 ghost use Rattle.ctd_check.specs.Advances.{Advances, RunsTo};
-ghost use Rattle.ctd_check.specs.Opening.{CanOpen, Opens, halt_result};
+ghost use Rattle.ctd_check.specs.Opening.{Opens, halt_result};
 ghost use Rattle.ctd_check.specs.Run.{act_of, run as result_of, run_from};
 
 use crate::command::{act, start_block};
@@ -54,7 +54,10 @@ fn open<'p, D: Source>(
     run: &mut Run<'_, D>,
     stack: &mut FrameStack<'p>,
 ) -> Result<(), CommandFailure>
-    requires can_open { CanOpen run.old stack.old (command_tree command.now) }
+    requires sound { IsSound run.old }
+    requires block { 0 < blocks (command_tree command.now) }
+    requires room { length stack.old.frames.items + blocks (command_tree command.now) ≤ 201 }
+    requires bound { stack.old.left + 1 ≤ 2 ^ 64 }
     ensures left { stack.new.left ≡ stack.old.left }
     ensures len { length stack.new.frames.items ≤ length stack.old.frames.items + 1 }
     ensures opens { Opens run.old run.new stack.old stack.new (command_literals (command_tree command.now)) result (act_of (command_tree command.now)) }
@@ -73,7 +76,10 @@ fn open_loop<'p, D: Source>(
     run: &mut Run<'_, D>,
     stack: &mut FrameStack<'p>,
 ) -> Result<(), CommandFailure>
-    requires can_open { CanOpen run.old stack.old (command_tree command.now) }
+    requires sound { IsSound run.old }
+    requires block { 0 < blocks (command_tree command.now) }
+    requires room { length stack.old.frames.items + blocks (command_tree command.now) ≤ 201 }
+    requires bound { stack.old.left + 1 ≤ 2 ^ 64 }
     ensures left { stack.new.left ≡ stack.old.left }
     ensures len { length stack.new.frames.items ≤ length stack.old.frames.items + 1 }
     ensures opens { Opens run.old run.new stack.old stack.new (command_literals (command_tree command.now)) result (act_of (command_tree command.now)) }
@@ -88,7 +94,10 @@ fn open_here<'p, D: Source>(
     run: &mut Run<'_, D>,
     stack: &mut FrameStack<'p>,
 ) -> Result<(), CommandFailure>
-    requires can_open { CanOpen run.old stack.old (command_tree command.now) }
+    requires sound { IsSound run.old }
+    requires block { 0 < blocks (command_tree command.now) }
+    requires room { length stack.old.frames.items + blocks (command_tree command.now) ≤ 201 }
+    requires bound { stack.old.left + 1 ≤ 2 ^ 64 }
     ensures left { stack.new.left ≡ stack.old.left }
     ensures len { length stack.new.frames.items ≤ length stack.old.frames.items + 1 }
     ensures opens { Opens run.old run.new stack.old stack.new (command_literals (command_tree command.now)) result (act_of (command_tree command.now)) }
