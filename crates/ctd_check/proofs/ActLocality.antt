@@ -14,8 +14,8 @@ use Rattle.ctd_value.specs.Truth.{truth}
 use Rattle.ctd_outcome.specs.declared.reason.Reason.{Reason}
 use Rattle.ctd_outcome.specs.declared.reason.Fault.{Fault}
 use Rattle.ctd_outcome.specs.declared.reason.Fault.TheVariants.{StepLimit, Read}
-use Rattle.ctd_command.specs.State.{State, Effect, done, rejected, faulty, Act, proceed, ◌>>=◌, give, reject, stop, told, fault_of_look, fault_of_value, fault_of_truth, evaluate, see_next, see_window}
-use Rattle.ctd_command.specs.Effect.{assign_key, answer, unset_all}
+use Rattle.ctd_command.specs.State.{State, Effect, done, rejected, faulty, Act, proceed, ◌>>=◌, return, reject, stop, lift, fault_of_look, fault_of_value, fault_of_truth, evaluate, see_next, see_window}
+use Rattle.ctd_command.specs.Commands.{assign_key, answer, unset_all}
 use Rattle.ctd_check.proofs.LongerData.{Extends, SameOrRead, longer_look, longer_byte, longer_truth, longer_visible, visible_within, begins}
 
 -- an effect from an offset on: no byte is given back, and a fault is no limit of steps
@@ -102,10 +102,10 @@ either true m n f g = f
 either false m n f g = g
 
 -- Acts that look at no data.
-pub given : {A : Type 0} (x : A) → IsLocal (give x)
+pub given : {A : Type 0} (x : A) → IsLocal (return x)
 given x = record { forward = λ d s. le_refl s.offset; inside = λ d s within. within; longer = λ d e s x within. same refl }
 
-pub idle : IsLocal {A = ⊤} (give tt)
+pub idle : IsLocal {A = ⊤} (return tt)
 idle = record { forward = λ d s. le_refl s.offset; inside = λ d s within. within; longer = λ d e s x within. same refl }
 
 pub rejecting : {A : Type 0} (reason : Reason) → IsLocal {A = A} (reject reason)
@@ -138,24 +138,24 @@ of_truth : (fault : TruthFault) → fault_of_truth fault ≢ StepLimit
 of_truth (faults.Value fault) = of_value fault
 of_truth (faults.Look fault) = of_look fault
 
-told_forward : {A E : Type 0} (as_fault : E → Fault) (r : Result A E) (s : State) → ((e : E) → as_fault e ≢ StepLimit) → Forward s.offset (told (with_fault as_fault r) s)
-told_forward as_fault (Ok x) s other = le_refl s.offset
-told_forward as_fault (Err e) s other = (le_refl s.offset, other e)
+lift_forward : {A E : Type 0} (as_fault : E → Fault) (r : Result A E) (s : State) → ((e : E) → as_fault e ≢ StepLimit) → Forward s.offset (lift (with_fault as_fault r) s)
+lift_forward as_fault (Ok x) s other = le_refl s.offset
+lift_forward as_fault (Err e) s other = (le_refl s.offset, other e)
 
-told_inside : {A : Type 0} (size : ℕ) (r : Result A Fault) (s : State) → s.offset ≤ size → Inside size (told r s)
-told_inside size (Ok x) s within = within
-told_inside size (Err fault) s within = tt
+lift_inside : {A : Type 0} (size : ℕ) (r : Result A Fault) (s : State) → s.offset ≤ size → Inside size (lift r s)
+lift_inside size (Ok x) s within = within
+lift_inside size (Err fault) s within = tt
 
-told_longer : {A E : Type 0} (size n : ℕ) (as_fault : E → Fault) (read : E) (short long : Result A E) (s : State) → as_fault read ≡ Read → ((e : E) → as_fault e ≢ StepLimit) → n ≤ WINDOW
-    → SameOrRead read (size < s.offset + n) short long → SameOrCut size (told (with_fault as_fault short) s) (told (with_fault as_fault long) s)
-told_longer size n as_fault read short long s is other few (inl h) = same (ap (λ r. told (with_fault as_fault r) s) h)
-told_longer size n as_fault read short long s is other few (inr h) =
-    cut s.offset (ap (λ r. told (with_fault as_fault r) s) h.0 ∙ ap (λ fault. faulty fault s.offset) is) (ends_after s.offset (told (with_fault as_fault long) s) (told_forward as_fault long s other)) (omega (arith, h.1, few))
+lift_longer : {A E : Type 0} (size n : ℕ) (as_fault : E → Fault) (read : E) (short long : Result A E) (s : State) → as_fault read ≡ Read → ((e : E) → as_fault e ≢ StepLimit) → n ≤ WINDOW
+    → SameOrRead read (size < s.offset + n) short long → SameOrCut size (lift (with_fault as_fault short) s) (lift (with_fault as_fault long) s)
+lift_longer size n as_fault read short long s is other few (inl h) = same (ap (λ r. lift (with_fault as_fault r) s) h)
+lift_longer size n as_fault read short long s is other few (inr h) =
+    cut s.offset (ap (λ r. lift (with_fault as_fault r) s) h.0 ∙ ap (λ fault. faulty fault s.offset) is) (ends_after s.offset (lift (with_fault as_fault long) s) (lift_forward as_fault long s other)) (omega (arith, h.1, few))
 
 pub evaluating : {A : Type 0} (f : History → Result A ValueFault) → IsLocal (evaluate f)
 evaluating f = record {
-  forward = λ d s. told_forward fault_of_value (f s.store) s of_value;
-  inside = λ d s within. told_inside (length d.bytes) (with_fault fault_of_value (f s.store)) s within;
+  forward = λ d s. lift_forward fault_of_value (f s.store) s of_value;
+  inside = λ d s within. lift_inside (length d.bytes) (with_fault fault_of_value (f s.store)) s within;
   longer = λ d e s x within. same refl;
 }
 
@@ -164,23 +164,23 @@ one = omega arith
 
 pub seeing : IsLocal see_next
 seeing = record {
-  forward = λ d s. told_forward fault_of_look (next_byte d s.offset) s of_look;
-  inside = λ d s within. told_inside (length d.bytes) (with_fault fault_of_look (next_byte d s.offset)) s within;
-  longer = λ d e s x within. told_longer (length d.bytes) 1 fault_of_look looks.Read (next_byte d s.offset) (next_byte e s.offset) s refl of_look one (longer_byte d e s.offset x);
+  forward = λ d s. lift_forward fault_of_look (next_byte d s.offset) s of_look;
+  inside = λ d s within. lift_inside (length d.bytes) (with_fault fault_of_look (next_byte d s.offset)) s within;
+  longer = λ d e s x within. lift_longer (length d.bytes) 1 fault_of_look looks.Read (next_byte d s.offset) (next_byte e s.offset) s refl of_look one (longer_byte d e s.offset x);
 }
 
 pub windowing : IsLocal see_window
 windowing = record {
-  forward = λ d s. told_forward fault_of_look (look d s.offset WINDOW) s of_look;
-  inside = λ d s within. told_inside (length d.bytes) (with_fault fault_of_look (look d s.offset WINDOW)) s within;
-  longer = λ d e s x within. told_longer (length d.bytes) WINDOW fault_of_look looks.Read (look d s.offset WINDOW) (look e s.offset WINDOW) s refl of_look (le_refl WINDOW) (longer_look d e s.offset WINDOW x);
+  forward = λ d s. lift_forward fault_of_look (look d s.offset WINDOW) s of_look;
+  inside = λ d s within. lift_inside (length d.bytes) (with_fault fault_of_look (look d s.offset WINDOW)) s within;
+  longer = λ d e s x within. lift_longer (length d.bytes) WINDOW fault_of_look looks.Read (look d s.offset WINDOW) (look e s.offset WINDOW) s refl of_look (le_refl WINDOW) (longer_look d e s.offset WINDOW x);
 }
 
 pub answering : (t : TestTree) → IsLocal (answer t)
 answering t = record {
-  forward = λ d s. told_forward fault_of_truth (truth t s.store d s.offset) s of_truth;
-  inside = λ d s within. told_inside (length d.bytes) (with_fault fault_of_truth (truth t s.store d s.offset)) s within;
-  longer = λ d e s x within. told_longer (length d.bytes) 1 fault_of_truth (faults.Look looks.Read) (truth t s.store d s.offset) (truth t s.store e s.offset) s refl of_truth one (longer_truth t s.store d e s.offset x);
+  forward = λ d s. lift_forward fault_of_truth (truth t s.store d s.offset) s of_truth;
+  inside = λ d s within. lift_inside (length d.bytes) (with_fault fault_of_truth (truth t s.store d s.offset)) s within;
+  longer = λ d e s x within. lift_longer (length d.bytes) 1 fault_of_truth (faults.Look looks.Read) (truth t s.store d s.offset) (truth t s.store e s.offset) s refl of_truth one (longer_truth t s.store d e s.offset x);
 }
 
 -- Acts that pass bytes.
@@ -196,7 +196,7 @@ pub cut_behind : {B : Type 0} (size n k : ℕ) (d e : TestData) (s : State) (f :
 cut_behind size n k d e s f m h less is early =
     let begun : s.offset + k ≤ end_of (m e (on k s)) = ends_after (s.offset + k) (m e (on k s)) (h.forward e (on k s)) in
     let later : s.offset + n ≤ end_of (m e (on k s)) = omega (arith, begun, less) in
-    cut (s.offset + n) (ap (λ r. proceed (told (with_fault fault_of_look r) (on n s)) (λ next u. f next d u)) is) later (omega (arith, early))
+    cut (s.offset + n) (ap (λ r. proceed (lift (with_fault fault_of_look r) (on n s)) (λ next u. f next d u)) is) later (omega (arith, early))
 
 -- Some of the visible bytes are passed, and then the next one is seen. They are found by what they are, up to the byte behind them.
 module _ {P B : Type 0} (found : List ℕ → P) (size_of : P → ℕ) (f : P → Option ℕ → Act B) (fits : (xs : List ℕ) → size_of (found xs) ≤ length xs) (grows : (k : ℕ) (xs : List ℕ) → size_of (found (take k xs)) ≤ size_of (found xs))

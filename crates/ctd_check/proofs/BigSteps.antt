@@ -16,11 +16,11 @@ use Rattle.ctd_value.specs.Val.{key, count}
 use Rattle.ctd_outcome.specs.declared.reason.Fault.{Fault}
 use Rattle.ctd_outcome.specs.declared.outcome.Site.{Site}
 use Rattle.ctd_outcome.specs.declared.outcome.Site.TheVariants.{Start, At, Finish}
-use Rattle.ctd_command.specs.State.{State, Effect, done, rejected, faulty, Act, proceed, told, fault_of_value, fault_of_truth, fault_of_look, evaluate, see_next}
-use Rattle.ctd_command.specs.Effect.{answer, assign_key}
+use Rattle.ctd_command.specs.State.{State, Effect, done, rejected, faulty, Act, proceed, lift, fault_of_value, fault_of_truth, fault_of_look, evaluate, see_next}
+use Rattle.ctd_command.specs.Commands.{answer, assign_key}
 use Rattle.ctd_command.specs.Blanks.{is_blank, start_in, end, first_skip}
-use Rattle.ctd_check.specs.Loops.{Guard, times, while_true, Task, start, turn, finish, Loop, loop_of, tasks, separated, turn_tasks, goes_on, count_turn, take_turn}
-use Rattle.ctd_check.specs.Run.{simple, act_of, Ended, all_done, stopped, resume, run, run_from, with_steps, at_start, meaning}
+use Rattle.ctd_check.specs.Loops.{Guard, times, while_true, Task, start, turn, finish, Loop, loop_of, tasks, tasks_before_turn, turn_tasks, goes_on, count_turn, take_turn}
+use Rattle.ctd_check.specs.Run.{simple, act_of, RunResult, all_done, stopped, resume, run, run_from, with_steps, at_start, meaning}
 use Rattle.ctd_check.specs.Laws.{and_then}
 use Rattle.ctd_check.specs.BigSteps.{IsSimple, is_space, is_newline, is_eof, is_int, is_string, is_regex, is_assert, is_set, is_unset, separator_before, ListEnds, list_is_done, list_goes_on, list_stops, CommandEnds, command_has_no_step, command_is_done, command_rejects, command_fails, if_is_true, if_is_false, if_fails, loop_starts, loop_fails, TurnEnds, turn_has_no_step, loop_is_over, turn_goes_on, separator_stops, body_stops, turn_fails, ProgramEnds, start_fails, commands_stop, end_has_no_step, data_are_accepted, end_rejects, end_fails}
 use Rattle.ctd_check.proofs.InTurn.{in_turn}
@@ -39,7 +39,7 @@ act_is c m is_set = refl
 act_is c m is_unset = refl
 
 -- the tasks of the separator before a turn
-separator_tasks : (k : ℕ) (sep : Separator) → tasks (separator_before k sep) ≡ separated k sep
+separator_tasks : (k : ℕ) (sep : Separator) → tasks (separator_before k sep) ≡ tasks_before_turn k sep
 separator_tasks zero sep = refl
 separator_tasks (suc k) Tree.nothing = refl
 separator_tasks (suc k) (Tree.between c) = refl
@@ -55,23 +55,23 @@ next_never (done x after) next h second = second x after
 next_never (rejected reason consumed) next h second = absurd h
 next_never (faulty fault consumed) next h second = tt
 
-told_never : {A : Type 0} (r : Result A Fault) (s : State) → NeverRejects (told r s)
-told_never (Ok x) s = tt
-told_never (Err fault) s = tt
+lift_never : {A : Type 0} (r : Result A Fault) (s : State) → NeverRejects (lift r s)
+lift_never (Ok x) s = tt
+lift_never (Err fault) s = tt
 
 count_never : (counter : Option VarTree) (k : ℕ) (d : TestData) (s : State) → NeverRejects (count_turn counter k d s)
 count_never None k d s = tt
-count_never (Some v) k d s = next_never (evaluate (key v) d s) (λ x u. assign_key x (values.Int (pos k)) d u) (told_never (with_fault fault_of_value (key v s.store)) s) (λ x u. tt)
+count_never (Some v) k d s = next_never (evaluate (key v) d s) (λ x u. assign_key x (values.Int (pos k)) d u) (lift_never (with_fault fault_of_value (key v s.store)) s) (λ x u. tt)
 
 goes_on_never : (guard : Guard) (k : ℕ) (d : TestData) (s : State) → NeverRejects (goes_on guard k d s)
 goes_on_never (times turns) k d s = tt
-goes_on_never (while_true t) k d s = told_never (with_fault fault_of_truth (truth t s.store d s.offset)) s
+goes_on_never (while_true t) k d s = lift_never (with_fault fault_of_truth (truth t s.store d s.offset)) s
 
 turn_never : (loop : Loop) (k : ℕ) (d : TestData) (s : State) → NeverRejects (take_turn loop k d s)
 turn_never loop k d s = next_never (count_turn loop.counter k d s) (λ _ u. goes_on loop.guard k d u) (count_never loop.counter k d s) (λ _ u. goes_on_never loop.guard k d u)
 
 look_never : (d : TestData) (s : State) → NeverRejects (see_next d s)
-look_never d s = told_never (with_fault fault_of_look (next_byte d s.offset)) s
+look_never d s = lift_never (with_fault fault_of_look (next_byte d s.offset)) s
 
 start_never : (mode : Mode) (d : TestData) (s : State) → NeverRejects (start_in mode d s)
 start_never Exact d s = tt
@@ -85,11 +85,11 @@ skip_never d s = start_never s.mode d s
 
 module _ (d : TestData) where
   -- how the run goes on behind a list of tasks
-  abbrev behind : List Task → State → ℕ → Ended
+  abbrev behind : List Task → State → ℕ → RunResult
   behind ts after left = run d left ts after
 
   -- the run of a command whose act has this effect
-  abbrev after_act : Site → ℕ → ℕ → Effect (List Task) → Ended
+  abbrev after_act : Site → ℕ → ℕ → Effect (List Task) → RunResult
   after_act site p n a = resume d site p n a (λ more t. run d n (more ++ []) t)
 
   simple_run : (c : CommandTree) (m : Act ⊤) (n : ℕ) (s : State) (a : Effect ⊤) → IsSimple c m → m d s ≡ a → run d (suc n) (start c ∷ []) s ≡ after_act (At (place_of c)) s.offset n (proceed a (λ _ t. done [] t))
@@ -100,20 +100,20 @@ module _ (d : TestData) where
       → run d n (turn_tasks loop k ++ []) t ≡ and_then (run d n (tasks (separator_before k loop.between)) t) (behind (tasks loop.body ++ turn loop (suc k) ∷ []))
   turn_run loop k n t =
       let rest : List Task = tasks loop.body ++ turn loop (suc k) ∷ [] in
-      let flat : turn_tasks loop k ++ [] ≡ separated k loop.between ++ rest = append-nil (turn_tasks loop k) ∙ append_assoc (separated k loop.between) (tasks loop.body) (turn loop (suc k) ∷ []) in
-      let listed : separated k loop.between ++ rest ≡ tasks (separator_before k loop.between) ++ rest = ap (λ ts. ts ++ rest) (sym (separator_tasks k loop.between)) in
+      let flat : turn_tasks loop k ++ [] ≡ tasks_before_turn k loop.between ++ rest = append-nil (turn_tasks loop k) ∙ append_assoc (tasks_before_turn k loop.between) (tasks loop.body) (turn loop (suc k) ∷ []) in
+      let listed : tasks_before_turn k loop.between ++ rest ≡ tasks (separator_before k loop.between) ++ rest = ap (λ ts. ts ++ rest) (sym (separator_tasks k loop.between)) in
       ap (λ ts. run d n ts t) (flat ∙ listed) ∙ in_turn d n (tasks (separator_before k loop.between)) rest t
 
   -- Each end in big steps is that of the run.
   mutual
-    list_is_run : (cs : CommandList) (n : ℕ) (s : State) (e : Ended) → ListEnds d cs n s e → e ≡ run d n (tasks cs) s
+    list_is_run : (cs : CommandList) (n : ℕ) (s : State) (e : RunResult) → ListEnds d cs n s e → e ≡ run d n (tasks cs) s
     list_is_run cs n s e list_is_done = refl
     list_is_run cs n s e (list_goes_on {c} {rest} {n = i} {m} {s = x} {t} {e = end_of_rest} first second) =
         list_is_run rest m t e second ∙ ap (λ w. and_then w (behind (tasks rest))) (command_is_run c n s (all_done t m) first) ∙ sym (in_turn d n (start c ∷ []) (tasks rest) s)
     list_is_run cs n s e (list_stops {c} {rest} first) =
         ap (λ w. and_then w (behind (tasks rest))) (command_is_run c n s e first) ∙ sym (in_turn d n (start c ∷ []) (tasks rest) s)
 
-    command_is_run : (c : CommandTree) (n : ℕ) (s : State) (e : Ended) → CommandEnds d c n s e → e ≡ run d n (start c ∷ []) s
+    command_is_run : (c : CommandTree) (n : ℕ) (s : State) (e : RunResult) → CommandEnds d c n s e → e ≡ run d n (start c ∷ []) s
     command_is_run c n s e command_has_no_step = refl
     command_is_run c n s e (command_is_done {m} {n = i} {t} h is) = sym (simple_run c m i s (done tt t) h is)
     command_is_run c n s e (command_rejects {m} {n = i} {consumed} {reason} h is) = sym (simple_run c m i s (rejected reason consumed) h is)
@@ -129,7 +129,7 @@ module _ (d : TestData) where
         turn_is_run (loop_of place guard counter sep body) 0 i s e turns ∙ sym (ap (λ a. after_act (At place) s.offset i (proceed a (λ g t. done (turn (loop_of place g counter sep body) 0 ∷ []) t))) is)
     command_is_run c n s e (loop_fails {place} {counter} {sep} {body} {n = i} is) = sym (ap (λ a. after_act (At place) s.offset i (proceed a (λ g t. done (turn (loop_of place g counter sep body) 0 ∷ []) t))) is)
 
-    turn_is_run : (loop : Loop) (k n : ℕ) (s : State) (e : Ended) → TurnEnds d loop k n s e → e ≡ run d n (turn loop k ∷ []) s
+    turn_is_run : (loop : Loop) (k n : ℕ) (s : State) (e : RunResult) → TurnEnds d loop k n s e → e ≡ run d n (turn loop k ∷ []) s
     turn_is_run loop k n s e turn_has_no_step = refl
     turn_is_run loop k n s e (loop_is_over {n = i} is) = sym (ap (λ a. after_act (At loop.place) s.offset i (proceed a (λ b t. done (if b then turn_tasks loop k else []) t))) is)
     turn_is_run loop k n s e (turn_goes_on {n = i} {m} {l} {t} {u} {v} is sep body turns) =
@@ -155,7 +155,7 @@ module _ (d : TestData) where
   abbrev ListsEnd : ℕ → Type 0
   ListsEnd most = (cs : CommandList) (n : ℕ) (s : State) → n ≤ most → ListEnds d cs n s (run d n (tasks cs) s)
 
-  list_by_case : (most : ℕ) (c : CommandTree) (rest : CommandList) (n : ℕ) (s : State) (w : Ended) → CommandEnds d c n s w → left_of w ≤ most → ((m : ℕ) (t : State) → m ≤ most → ListEnds d rest m t (run d m (tasks rest) t))
+  list_by_case : (most : ℕ) (c : CommandTree) (rest : CommandList) (n : ℕ) (s : State) (w : RunResult) → CommandEnds d c n s w → left_of w ≤ most → ((m : ℕ) (t : State) → m ≤ most → ListEnds d rest m t (run d m (tasks rest) t))
       → ListEnds d (Tree.then c rest) n s (and_then w (behind (tasks rest)))
   list_by_case most c rest n s (all_done t m) first within go = list_goes_on first (go m t within)
   list_by_case most c rest n s (stopped outcome consumed m) first within go = list_stops first
@@ -172,18 +172,18 @@ module _ (d : TestData) where
   simple_ends c m n s (rejected reason consumed) h is = command_rejects h is
   simple_ends c m n s (faulty fault consumed) h is = command_fails h is
 
-  if_ends : (most : ℕ) (place : Place) (test : TestTree) (then_do else_do : CommandList) (n : ℕ) (s : State) (r : Result Bool TruthFault) → ListsEnd most → n ≤ most → answer test d s ≡ told (with_fault fault_of_truth r) s
-      → CommandEnds d (Tree.choice place test then_do else_do) (suc n) s (after_act (At place) s.offset n (proceed (told (with_fault fault_of_truth r) s) (λ b t. done (tasks (if b then then_do else else_do)) t)))
+  if_ends : (most : ℕ) (place : Place) (test : TestTree) (then_do else_do : CommandList) (n : ℕ) (s : State) (r : Result Bool TruthFault) → ListsEnd most → n ≤ most → answer test d s ≡ lift (with_fault fault_of_truth r) s
+      → CommandEnds d (Tree.choice place test then_do else_do) (suc n) s (after_act (At place) s.offset n (proceed (lift (with_fault fault_of_truth r) s) (λ b t. done (tasks (if b then then_do else else_do)) t)))
   if_ends most place test then_do else_do n s (Ok true) lists less is = if_is_true is (subst (λ ts. ListEnds d then_do n s (run d n ts s)) (sym (append-nil (tasks then_do))) (lists then_do n s less))
   if_ends most place test then_do else_do n s (Ok false) lists less is = if_is_false is (subst (λ ts. ListEnds d else_do n s (run d n ts s)) (sym (append-nil (tasks else_do))) (lists else_do n s less))
   if_ends most place test then_do else_do n s (Err fault) lists less is = if_fails is
 
   repeat_ends : (most : ℕ) (place : Place) (e : ExprTree) (counter : Option VarTree) (sep : Separator) (body : CommandList) (n : ℕ) (s : State) (r : Result ℕ ValueFault) → TurnsEnd most → n ≤ most → count e s.store ≡ r
       → CommandEnds d (Tree.loop place (Tree.turns e) counter sep body) (suc n) s
-      (after_act (At place) s.offset n (proceed (proceed (told (with_fault fault_of_value r) s) (λ turns t. done (times turns) t)) (λ g t. done (turn (loop_of place g counter sep body) 0 ∷ []) t)))
+      (after_act (At place) s.offset n (proceed (proceed (lift (with_fault fault_of_value r) s) (λ turns t. done (times turns) t)) (λ g t. done (turn (loop_of place g counter sep body) 0 ∷ []) t)))
   repeat_ends most place e counter sep body n s (Ok turns) all less is =
-      loop_starts (ap (λ r. proceed (told (with_fault fault_of_value r) s) (λ k t. done (times k) t)) is) (all (loop_of place (times turns) counter sep body) 0 n s less)
-  repeat_ends most place e counter sep body n s (Err fault) all less is = loop_fails (ap (λ r. proceed (told (with_fault fault_of_value r) s) (λ k t. done (times k) t)) is)
+      loop_starts (ap (λ r. proceed (lift (with_fault fault_of_value r) s) (λ k t. done (times k) t)) is) (all (loop_of place (times turns) counter sep body) 0 n s less)
+  repeat_ends most place e counter sep body n s (Err fault) all less is = loop_fails (ap (λ r. proceed (lift (with_fault fault_of_value r) s) (λ k t. done (times k) t)) is)
 
   loop_ends : (most : ℕ) (place : Place) (of : GuardTree) (counter : Option VarTree) (sep : Separator) (body : CommandList) (n : ℕ) (s : State) → TurnsEnd most → n ≤ most
       → CommandEnds d (Tree.loop place of counter sep body) (suc n) s (run d (suc n) (start (Tree.loop place of counter sep body) ∷ []) s)
@@ -204,12 +204,12 @@ module _ (d : TestData) where
   command_ends most lists turns (Tree.choice place t then_do else_do) n s less = if_ends most place t then_do else_do n s (truth t s.store d s.offset) lists less refl
 
   -- a turn
-  body_ends : (most : ℕ) (loop : Loop) (k n m : ℕ) (s t u : State) (w : Ended) → TurnsEnd most → take_turn loop k d s ≡ done true t → ListEnds d (separator_before k loop.between) n t (all_done u m) → ListEnds d loop.body m u w → left_of w ≤ most
+  body_ends : (most : ℕ) (loop : Loop) (k n m : ℕ) (s t u : State) (w : RunResult) → TurnsEnd most → take_turn loop k d s ≡ done true t → ListEnds d (separator_before k loop.between) n t (all_done u m) → ListEnds d loop.body m u w → left_of w ≤ most
       → TurnEnds d loop k (suc n) s (and_then w (behind (turn loop (suc k) ∷ [])))
   body_ends most loop k n m s t u (all_done v l) turns is sep body within = turn_goes_on is sep body (turns loop (suc k) l v within)
   body_ends most loop k n m s t u (stopped outcome consumed l) turns is sep body within = body_stops is sep body
 
-  separator_ends : (most : ℕ) (loop : Loop) (k n : ℕ) (s t : State) (w : Ended) → ListsEnd most → TurnsEnd most → take_turn loop k d s ≡ done true t → ListEnds d (separator_before k loop.between) n t w → left_of w ≤ most
+  separator_ends : (most : ℕ) (loop : Loop) (k n : ℕ) (s t : State) (w : RunResult) → ListsEnd most → TurnsEnd most → take_turn loop k d s ≡ done true t → ListEnds d (separator_before k loop.between) n t w → left_of w ≤ most
       → TurnEnds d loop k (suc n) s (and_then w (behind (tasks loop.body ++ turn loop (suc k) ∷ [])))
   separator_ends most loop k n s t (all_done u m) lists turns is sep within =
       subst (λ e. TurnEnds d loop k (suc n) s e) (sym (in_turn d m (tasks loop.body) (turn loop (suc k) ∷ []) u))
@@ -260,7 +260,7 @@ module _ (d : TestData) where
   end_by_case program n m s t u (rejected reason consumed) skipped list is = end_rejects skipped list is
   end_by_case program n m s t u (faulty fault consumed) skipped list is = end_fails skipped list is
 
-  program_by_case : (program : CommandList) (n : ℕ) (s t : State) (w : Ended) → first_skip d s ≡ done tt t → ListEnds d program n t w → ProgramEnds d program n s (and_then w (behind (finish ∷ [])))
+  program_by_case : (program : CommandList) (n : ℕ) (s t : State) (w : RunResult) → first_skip d s ≡ done tt t → ListEnds d program n t w → ProgramEnds d program n s (and_then w (behind (finish ∷ [])))
   program_by_case program n s t (all_done u zero) skipped list = end_has_no_step skipped list
   program_by_case program n s t (all_done u (suc m)) skipped list = end_by_case program n m s t u (end d u) skipped list refl
   program_by_case program n s t (stopped outcome consumed m) skipped list = commands_stop skipped list
@@ -275,17 +275,17 @@ module _ (d : TestData) where
   big_steps_hold program n s = from_by_case program n s (first_skip d s) refl (skip_never d s)
 
   -- behind the first skip, with all commands done or not
-  abbrev after_skip : (program : CommandList) (n : ℕ) (s : State) → Effect ⊤ → Ended
+  abbrev after_skip : (program : CommandList) (n : ℕ) (s : State) → Effect ⊤ → RunResult
   after_skip program n s a = resume d Start s.offset n a (λ _ t. run d n (tasks program ++ finish ∷ []) t)
 
-  behind_list : (program : CommandList) (n : ℕ) (s t : State) (w : Ended) → first_skip d s ≡ done tt t → ListEnds d program n t w → run_from d n (tasks program ++ finish ∷ []) s ≡ and_then w (behind (finish ∷ []))
+  behind_list : (program : CommandList) (n : ℕ) (s t : State) (w : RunResult) → first_skip d s ≡ done tt t → ListEnds d program n t w → run_from d n (tasks program ++ finish ∷ []) s ≡ and_then w (behind (finish ∷ []))
   behind_list program n s t w is list =
       ap (after_skip program n s) is ∙ in_turn d n (tasks program) (finish ∷ []) t ∙ ap (λ x. and_then x (behind (finish ∷ []))) (sym (list_is_run program n t w list))
 
   end_is : (m : ℕ) (u : State) (a : Effect ⊤) → end d u ≡ a → behind (finish ∷ []) u (suc m) ≡ after_act Finish u.offset m (proceed a (λ _ v. done [] v))
   end_is m u a is = ap (λ x. after_act Finish u.offset m (proceed x (λ _ v. done [] v))) is
 
-  program_is_run : (program : CommandList) (n : ℕ) (s : State) (e : Ended) → ProgramEnds d program n s e → e ≡ run_from d n (tasks program ++ finish ∷ []) s
+  program_is_run : (program : CommandList) (n : ℕ) (s : State) (e : RunResult) → ProgramEnds d program n s e → e ≡ run_from d n (tasks program ++ finish ∷ []) s
   program_is_run program n s e (start_fails is) = sym (ap (after_skip program n s) is)
   program_is_run program n s e (commands_stop {t} skipped list) = sym (behind_list program n s t e skipped list)
   program_is_run program n s e (end_has_no_step {t} {u} skipped list) = sym (behind_list program n s t (all_done u 0) skipped list)
@@ -293,8 +293,8 @@ module _ (d : TestData) where
   program_is_run program n s e (end_rejects {m} {consumed} {t} {u} {reason} skipped list is) = sym (behind_list program n s t (all_done u (suc m)) skipped list ∙ end_is m u (rejected reason consumed) is)
   program_is_run program n s e (end_fails {m} {consumed} {t} {u} {fault} skipped list is) = sym (behind_list program n s t (all_done u (suc m)) skipped list ∙ end_is m u (faulty fault consumed) is)
 
-  pub one_end : (program : CommandList) (n : ℕ) (s : State) (e f : Ended) → ProgramEnds d program n s e → ProgramEnds d program n s f → e ≡ f
+  pub one_end : (program : CommandList) (n : ℕ) (s : State) (e f : RunResult) → ProgramEnds d program n s e → ProgramEnds d program n s f → e ≡ f
   one_end program n s e f h k = program_is_run program n s e h ∙ sym (program_is_run program n s f k)
 
-  pub meaning_is_end : (mode : Mode) (program : CommandList) (presets : List Preset) (n : ℕ) (e : Ended) → ProgramEnds d program n (at_start mode presets) e → meaning mode program presets d n ≡ with_steps n e
+  pub meaning_is_end : (mode : Mode) (program : CommandList) (presets : List Preset) (n : ℕ) (e : RunResult) → ProgramEnds d program n (at_start mode presets) e → meaning mode program presets d n ≡ with_steps n e
   meaning_is_end mode program presets n e h = ap (with_steps n) (sym (program_is_run program n (at_start mode presets) e h))

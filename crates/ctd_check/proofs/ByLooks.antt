@@ -12,11 +12,11 @@ use Rattle.ctd_source.proofs.Visible.{seen_byte, seen_end, seen_fault}
 use Rattle.ctd_value.specs.Fault.{with_fault}
 use Rattle.ctd_outcome.specs.declared.reason.Fault.{Fault}
 use Rattle.ctd_outcome.specs.declared.reason.Reason.TheVariants.{StringMismatch}
-use Rattle.ctd_command.specs.State.{State, Effect, done, rejected, faulty, Act, proceed, ◌>>=◌, give, reject, pass, told, see_next, fault_of_look}
+use Rattle.ctd_command.specs.State.{State, Effect, done, rejected, faulty, Act, proceed, ◌>>=◌, return, reject, pass, lift, see_next, fault_of_look}
 use Rattle.ctd_command.specs.Integer.{judge, is_minus, digits_of}
-use Rattle.ctd_command.specs.Effect.{decide, integer, match_bytes, differ}
+use Rattle.ctd_command.specs.Commands.{decide, integer, match_bytes, differ}
 use Rattle.ctd_command.specs.Blanks.{is_blank, skip_blanks}
-use Rattle.ctd_check.specs.ByLooks.{past_one, in_front, PassesWhile, byte_fits, other_byte, no_byte, look_fails, pass_bytes, pass_visible, digits_by_looks, integer_by_looks, match_by_looks, blanks_by_looks}
+use Rattle.ctd_check.specs.ByLooks.{past_one, prepend_byte, PassesWhile, byte_fits, other_byte, no_byte, look_fails, pass_bytes, pass_visible, digits_by_looks, integer_by_looks, match_by_looks, blanks_by_looks}
 
 -- a state so many bytes on
 abbrev on : ℕ → State → State
@@ -32,11 +32,11 @@ on_more : (n k : ℕ) (s : State) → k ≡ 1 + n → on n (past_one s) ≡ on k
 on_more n k s is = let same : (s.offset + 1) + n ≡ s.offset + k = omega (arith, is) in ap (with_offset s) same
 
 -- the next byte is seen
-sees : (d : TestData) (s : State) (r : Result (Option ℕ) LookFault) → next_byte d s.offset ≡ r → see_next d s ≡ told (with_fault fault_of_look r) s
-sees d s r is = ap (λ x. told (with_fault fault_of_look x) s) is
+sees : (d : TestData) (s : State) (r : Result (Option ℕ) LookFault) → next_byte d s.offset ≡ r → see_next d s ≡ lift (with_fault fault_of_look r) s
+sees d s r is = ap (λ x. lift (with_fault fault_of_look x) s) is
 
 -- what is seen is given up
-flat : {A B : Type 0} (x : A) (r : Result (Option ℕ) Fault) (s : State) (next : A → State → Effect B) → proceed (proceed (told r s) (λ _ u. done x u)) next ≡ proceed (told r s) (λ _ u. next x u)
+flat : {A B : Type 0} (x : A) (r : Result (Option ℕ) Fault) (s : State) (next : A → State → Effect B) → proceed (proceed (lift r s) (λ _ u. done x u)) next ≡ proceed (lift r s) (λ _ u. next x u)
 flat x (Ok seen) s next = refl
 flat x (Err fault) s next = refl
 
@@ -47,11 +47,11 @@ while_more test b xs is = take_while-cons test b xs ∙ ap (λ c. cond c (b ∷ 
 while_none : (test : ℕ → Bool) (b : ℕ) (xs : List ℕ) → test b ≡ false → take_while test (b ∷ xs) ≡ []
 while_none test b xs is = take_while-cons test b xs ∙ ap (λ c. cond c (b ∷ take_while test xs) []) is
 
-front_of : (b : ℕ) (bytes : List ℕ) (r : Result (Option ℕ) Fault) (s : State) → proceed (told r s) (λ _ u. done (b ∷ bytes) u) ≡ in_front b (proceed (told r s) (λ _ u. done bytes u))
+front_of : (b : ℕ) (bytes : List ℕ) (r : Result (Option ℕ) Fault) (s : State) → proceed (lift r s) (λ _ u. done (b ∷ bytes) u) ≡ prepend_byte b (proceed (lift r s) (λ _ u. done bytes u))
 front_of b bytes (Ok next) s = refl
 front_of b bytes (Err fault) s = refl
 
-visible_more : (test : ℕ → Bool) (d : TestData) (s : State) (b : ℕ) → next_byte d s.offset ≡ Ok (Some b) → test b ≡ true → pass_visible test d s ≡ in_front b (pass_visible test d (past_one s))
+visible_more : (test : ℕ → Bool) (d : TestData) (s : State) (b : ℕ) → next_byte d s.offset ≡ Ok (Some b) → test b ≡ true → pass_visible test d s ≡ prepend_byte b (pass_visible test d (past_one s))
 visible_more test d s b is fits =
     let rest : List ℕ = take_while test (visible d (s.offset + 1)) in
     let u : State = on (length rest) (past_one s) in
@@ -60,7 +60,7 @@ visible_more test d s b is fits =
     let passed : pass_bytes (b ∷ rest) d s ≡ proceed (see_next d u) (λ _ v. done (b ∷ rest) v) = ap (λ v. proceed (see_next d v) (λ _ w. done (b ∷ rest) w)) (sym (on_more (length rest) (length (b ∷ rest)) s size)) in
     ap (λ bs. pass_bytes bs d s) bytes ∙ passed ∙ front_of b rest (with_fault fault_of_look (next_byte d u.offset)) u
 
-visible_stops : (test : ℕ → Bool) (d : TestData) (s : State) (r : Result (Option ℕ) LookFault) → next_byte d s.offset ≡ r → take_while test (visible d s.offset) ≡ [] → pass_visible test d s ≡ proceed (told (with_fault fault_of_look r) s) (λ _ u. done [] u)
+visible_stops : (test : ℕ → Bool) (d : TestData) (s : State) (r : Result (Option ℕ) LookFault) → next_byte d s.offset ≡ r → take_while test (visible d s.offset) ≡ [] → pass_visible test d s ≡ proceed (lift (with_fault fault_of_look r) s) (λ _ u. done [] u)
 visible_stops test d s r is none =
     ap (λ bs. pass_bytes bs d s) none ∙ ap (λ u. proceed (see_next d u) (λ _ v. done [] v)) (on_none s) ∙ ap (λ x. proceed x (λ _ v. done [] v)) (sees d s r is)
 
@@ -92,7 +92,7 @@ pub visible_is_seen : (d : TestData) (test : ℕ → Bool) (s : State) → Passe
 visible_is_seen d test s = seen_all (visible d s.offset) test d s refl
 
 pub one_effect : (d : TestData) (test : ℕ → Bool) (s : State) (a : Effect (List ℕ)) → PassesWhile d test s a → a ≡ pass_visible test d s
-one_effect d test s a (byte_fits {b} {a = rest} is fits more) = ap (in_front b) (one_effect d test (past_one s) rest more) ∙ sym (visible_more test d s b is fits)
+one_effect d test s a (byte_fits {b} {a = rest} is fits more) = ap (prepend_byte b) (one_effect d test (past_one s) rest more) ∙ sym (visible_more test d s b is fits)
 one_effect d test s a (other_byte {b} is other) = sym (other_stops test d s b is other)
 one_effect d test s a (no_byte is) = sym (end_stops test d s is)
 one_effect d test s a (look_fails {fault} is) = sym (fault_stops test d s fault is)
@@ -141,7 +141,7 @@ module _ (least most : ℤ) (d : TestData) where
   by_sign s b true is minus = negative s b is minus
   by_sign s b false is other = unsigned s (ap is_minus (seen_byte d s.offset b is) ∙ other)
 
-  integer_by_case : (s : State) (r : Result (Option ℕ) LookFault) → next_byte d s.offset ≡ r → integer least most d s ≡ proceed (told (with_fault fault_of_look r) s) signed
+  integer_by_case : (s : State) (r : Result (Option ℕ) LookFault) → next_byte d s.offset ≡ r → integer least most d s ≡ proceed (lift (with_fault fault_of_look r) s) signed
   integer_by_case s (Ok None) is = unsigned s (ap is_minus (seen_end d s.offset is))
   integer_by_case s (Ok (Some b)) is = by_sign s b (nat_eq b 45) is refl
   integer_by_case s (Err fault) is =
@@ -152,13 +152,13 @@ module _ (least most : ℤ) (d : TestData) where
 
 -- Strings.
 abbrev behind_common : List ℕ → ℕ → Act ⊤
-behind_common wanted n = if nat_eq n (length wanted) then give tt else differ
+behind_common wanted n = if nat_eq n (length wanted) then return tt else differ
 
 differs : (d : TestData) (s : State) (w : ℕ) (ws : List ℕ) (r : Result (Option ℕ) LookFault) → next_byte d s.offset ≡ r → common_prefix_len nat_eq (w ∷ ws) (visible d s.offset) ≡ 0
-    → match_bytes (w ∷ ws) d s ≡ proceed (told (with_fault fault_of_look r) s) (λ _ u. rejected StringMismatch u.offset)
+    → match_bytes (w ∷ ws) d s ≡ proceed (lift (with_fault fault_of_look r) s) (λ _ u. rejected StringMismatch u.offset)
 differs d s w ws r is none =
     let some : nat_eq 0 (length (w ∷ ws)) ≡ false = grind (arith, nat_tests) in
-    ap (λ n. behind_common (w ∷ ws) n d (on n s)) none ∙ ap (λ c. (if c then give tt else differ) d (on 0 s)) some ∙ ap (λ u. differ d u) (on_none s) ∙ ap (λ x. proceed x (λ _ u. rejected StringMismatch u.offset)) (sees d s r is)
+    ap (λ n. behind_common (w ∷ ws) n d (on n s)) none ∙ ap (λ c. (if c then return tt else differ) d (on 0 s)) some ∙ ap (λ u. differ d u) (on_none s) ∙ ap (λ x. proceed x (λ _ u. rejected StringMismatch u.offset)) (sees d s r is)
 
 abbrev matched : TestData → ℕ → List ℕ → Option ℕ → State → Effect ⊤
 matched d w ws next u = (if is_byte w next then (pass 1 >>= λ _. match_by_looks ws) else reject StringMismatch) d u
@@ -169,7 +169,7 @@ same_byte d s w ws b is equal =
     let turned : nat_eq w b ≡ true = grind (arith, nat_tests, equal) in
     let one_more : common_prefix_len nat_eq (w ∷ ws) (visible d s.offset) ≡ 1 + m = ap (common_prefix_len nat_eq (w ∷ ws)) (seen_byte d s.offset b is) ∙ ap (λ c. cond c (1 + m) 0) turned in
     let same : nat_eq (1 + m) (length (w ∷ ws)) ≡ nat_eq m (length ws) = grind (arith, nat_tests) in
-    ap (λ n. behind_common (w ∷ ws) n d (on n s)) one_more ∙ ap (λ c. (if c then give tt else differ) d (on (1 + m) s)) same ∙ ap (λ u. behind_common ws m d u) (sym (on_more m (1 + m) s refl))
+    ap (λ n. behind_common (w ∷ ws) n d (on n s)) one_more ∙ ap (λ c. (if c then return tt else differ) d (on (1 + m) s)) same ∙ ap (λ u. behind_common ws m d u) (sym (on_more m (1 + m) s refl))
 
 by_byte : (d : TestData) (s : State) (w : ℕ) (ws : List ℕ) (b : ℕ) (c : Bool) → next_byte d s.offset ≡ Ok (Some b) → nat_eq b w ≡ c → match_bytes ws d (past_one s) ≡ match_by_looks ws d (past_one s)
     → match_bytes (w ∷ ws) d s ≡ (if c then (pass 1 >>= λ _. match_by_looks ws) else reject StringMismatch) d s
@@ -180,7 +180,7 @@ by_byte d s w ws b false is other rest =
     differs d s w ws (Ok (Some b)) is none
 
 match_by_case : (d : TestData) (s : State) (w : ℕ) (ws : List ℕ) (r : Result (Option ℕ) LookFault) → next_byte d s.offset ≡ r → match_bytes ws d (past_one s) ≡ match_by_looks ws d (past_one s)
-    → match_bytes (w ∷ ws) d s ≡ proceed (told (with_fault fault_of_look r) s) (matched d w ws)
+    → match_bytes (w ∷ ws) d s ≡ proceed (lift (with_fault fault_of_look r) s) (matched d w ws)
 match_by_case d s w ws (Ok None) is rest = differs d s w ws (Ok None) is (ap (common_prefix_len nat_eq (w ∷ ws)) (seen_end d s.offset is))
 match_by_case d s w ws (Ok (Some b)) is rest = by_byte d s w ws b (nat_eq b w) is refl rest
 match_by_case d s w ws (Err fault) is rest = differs d s w ws (Err fault) is (ap (common_prefix_len nat_eq (w ∷ ws)) (seen_fault d s.offset fault is))

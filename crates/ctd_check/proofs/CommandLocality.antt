@@ -22,9 +22,9 @@ use Rattle.ctd_value.specs.Val.{val, key, number_of, text_of, count}
 use Rattle.ctd_outcome.specs.declared.reason.Reason.{Reason}
 use Rattle.ctd_outcome.specs.declared.reason.Reason.TheVariants.{ExpectedSpace, ExpectedNewline, ExpectedEof, StringMismatch, AssertFailed, RegexMismatch}
 use Rattle.ctd_outcome.specs.declared.reason.Fault.TheVariants.{MatchTooLong}
-use Rattle.ctd_command.specs.State.{State, done, Act, proceed, give, reject, stop, pass, told, fault_of_look, evaluate, see_next, see_window}
+use Rattle.ctd_command.specs.State.{State, done, Act, proceed, return, reject, stop, pass, lift, fault_of_look, evaluate, see_next, see_window}
 use Rattle.ctd_command.specs.Integer.{judge, is_minus, digits_of, prefix_len_of}
-use Rattle.ctd_command.specs.Effect.{one_byte, eof, set_to, keep, decide, integer, int, differ, match_bytes, string, answer, assert, give_value, set, unset_all}
+use Rattle.ctd_command.specs.Commands.{one_byte, eof, set_to, keep, decide, integer, int, differ, match_bytes, string, answer, assert, give_value, set, unset_all}
 use Rattle.ctd_command.specs.Blanks.{is_blank, blank_next, skip_blanks, some_blanks, newline_between_blanks, end_behind_blanks, space_in, newline_in, end_in, start_in, space, newline, end, first_skip}
 use Rattle.ctd_command.specs.Regex.{shorter_match, matched, regex}
 use Rattle.ctd_check.specs.Loops.{Guard, times, while_true, Task, start, turn, finish, Loop, loop_of, tasks, turn_tasks, goes_on, count_turn, take_turn, run_turn, guard_of, repeat, choice}
@@ -38,7 +38,7 @@ taken_inside : (b : Bool) (reason : Reason) (d : TestData) (s : State) → s.off
 taken_inside true reason d s within = within
 taken_inside false reason d s within = tt
 
-byte_inside : (d : TestData) (s : State) (c : ℕ) (reason : Reason) (r : Result (Option ℕ) LookFault) → next_byte d s.offset ≡ r → Inside (length d.bytes) (proceed (told (with_fault fault_of_look r) s) (λ next u. (if is_byte c next then pass 1 else reject reason) d u))
+byte_inside : (d : TestData) (s : State) (c : ℕ) (reason : Reason) (r : Result (Option ℕ) LookFault) → next_byte d s.offset ≡ r → Inside (length d.bytes) (proceed (lift (with_fault fault_of_look r) s) (λ next u. (if is_byte c next then pass 1 else reject reason) d u))
 byte_inside d s c reason (Ok None) is = tt
 byte_inside d s c reason (Ok (Some b)) is = taken_inside (nat_eq b c) reason d s (byte_within d s.offset b is)
 byte_inside d s c reason (Err fault) is = tt
@@ -60,7 +60,7 @@ of_byte c reason = record {
 }
 
 of_eof : IsLocal eof
-of_eof = both see_next _ seeing (λ next. either (is_end next) (give tt) (reject ExpectedEof) idle (rejecting ExpectedEof))
+of_eof = both see_next _ seeing (λ next. either (is_end next) (return tt) (reject ExpectedEof) idle (rejecting ExpectedEof))
 
 setting : (v : VarTree) (value : Value) → IsLocal (set_to v value)
 setting v value = both (evaluate (key v)) _ (evaluating (key v)) (λ k. assigning k value)
@@ -95,10 +95,10 @@ differing : IsLocal differ
 differing = both see_next _ seeing (λ _. rejecting StringMismatch)
 
 abbrev behind_common : List ℕ → ℕ → Act ⊤
-behind_common wanted n = if nat_eq n (length wanted) then give tt else differ
+behind_common wanted n = if nat_eq n (length wanted) then return tt else differ
 
 agreeing : (wanted : List ℕ) (n : ℕ) → IsLocal (behind_common wanted n)
-agreeing wanted n = either (nat_eq n (length wanted)) (give tt) differ idle differing
+agreeing wanted n = either (nat_eq n (length wanted)) (return tt) differ idle differing
 
 all_agree : (wanted ys xs : List ℕ) (n : ℕ) → n ≡ common_prefix_len nat_eq wanted xs → n ≡ length wanted → take n ys ≡ take n xs → common_prefix_len nat_eq wanted ys ≡ n
 all_agree wanted ys xs n is whole front =
@@ -106,8 +106,8 @@ all_agree wanted ys xs n is whole front =
     omega (arith, most, is, whole, common_of_front wanted n ys, common_of_front wanted n xs, ap (common_prefix_len nat_eq wanted) front)
 
 -- the bytes that agree are found, and all else goes by their number
-same_behind : (wanted : List ℕ) (d e : TestData) (s : State) (n k : ℕ) (b : Bool) → nat_eq n (length wanted) ≡ b → k ≡ n → behind_common wanted k e (on k s) ≡ (if b then give tt else differ) e (on n s)
-same_behind wanted d e s n k b whole is = ap (λ j. behind_common wanted j e (on j s)) is ∙ ap (λ c. (if c then give tt else differ) e (on n s)) whole
+same_behind : (wanted : List ℕ) (d e : TestData) (s : State) (n k : ℕ) (b : Bool) → nat_eq n (length wanted) ≡ b → k ≡ n → behind_common wanted k e (on k s) ≡ (if b then return tt else differ) e (on n s)
+same_behind wanted d e s n k b whole is = ap (λ j. behind_common wanted j e (on j s)) is ∙ ap (λ c. (if c then return tt else differ) e (on n s)) whole
 
 differ_by_case : (wanted : List ℕ) (d e : TestData) (s : State) (n : ℕ) → Extends d e → s.offset ≤ length d.bytes → n ≡ common_prefix_len nat_eq wanted (visible d s.offset) → nat_eq n (length wanted) ≡ false
     → (take (n + 1) (visible e s.offset) ≡ take (n + 1) (visible d s.offset)) ⊎ ((next_byte d (s.offset + n) ≡ Err looks.Read) × (length d.bytes < (s.offset + n) + 1)) → SameOrCut (length d.bytes) (differ d (on n s)) (match_bytes wanted e s)
@@ -124,7 +124,7 @@ differ_by_case wanted d e s n x within is whole (inr early) =
     cut_behind (length d.bytes) n k d e s (λ _. reject StringMismatch) (behind_common wanted k) (agreeing wanted k) front early.0 early.1
 
 match_by_case : (wanted : List ℕ) (d e : TestData) (s : State) (n : ℕ) (b : Bool) → Extends d e → s.offset ≤ length d.bytes → n ≡ common_prefix_len nat_eq wanted (visible d s.offset) → nat_eq n (length wanted) ≡ b
-    → SameOrCut (length d.bytes) ((if b then give tt else differ) d (on n s)) (match_bytes wanted e s)
+    → SameOrCut (length d.bytes) ((if b then return tt else differ) d (on n s)) (match_bytes wanted e s)
 match_by_case wanted d e s n true x within is whole =
     let inside : s.offset + n ≤ length d.bytes = visible_within d s.offset n within (omega (arith, is, (common_prefix_len-le nat_eq wanted (visible d s.offset)).1)) in
     let all : n ≡ length wanted = grind (arith, nat_tests, whole) in
@@ -151,7 +151,7 @@ of_string e = both (evaluate (text_of e)) _ (evaluating (text_of e)) (λ wanted.
 -- a match: what a window begins with
 of_match : (n : Option ℕ) → IsLocal (shorter_match n)
 of_match None = rejecting RegexMismatch
-of_match (Some n) = either (nat_eq n WINDOW) (stop MatchTooLong) (give n) (stopping MatchTooLong (λ e. cc)) (given n)
+of_match (Some n) = either (nat_eq n WINDOW) (stop MatchTooLong) (return n) (stopping MatchTooLong (λ e. cc)) (given n)
 
 of_matched : (literal : List ℕ) → IsLocal (matched literal)
 of_matched literal = both see_window _ windowing (λ window. both (shorter_match (length_at_start literal window)) _ (of_match (length_at_start literal window)) (λ n. given (take n window)))
@@ -167,7 +167,7 @@ match_longer size None bytes d e s = same refl
 match_longer size (Some v) bytes d e s = same refl
 
 shorter_inside : (d : TestData) (s : State) (w : List ℕ) (target : Option VarTree) (k : ℕ) (b : Bool) → s.offset + length w ≤ length d.bytes
-    → Inside (length d.bytes) (proceed (proceed ((if b then stop MatchTooLong else give k) d s) (λ j u. done (take j w) u)) (λ bytes u. keep_match target bytes d u))
+    → Inside (length d.bytes) (proceed (proceed ((if b then stop MatchTooLong else return k) d s) (λ j u. done (take j w) u)) (λ bytes u. keep_match target bytes d u))
 shorter_inside d s w target k true within = tt
 shorter_inside d s w target k false within = (keeping target (values.Text (take k w))).inside d (on (length (take k w)) s) (omega (arith, within, length-take k w))
 
@@ -177,7 +177,7 @@ match_inside d s w target None within = tt
 match_inside d s w target (Some k) within = shorter_inside d s w target k (nat_eq k WINDOW) within
 
 window_inside : (d : TestData) (s : State) (literal : List ℕ) (target : Option VarTree) (r : Result (List ℕ) LookFault) → look d s.offset WINDOW ≡ r → s.offset ≤ length d.bytes
-    → Inside (length d.bytes) (proceed (proceed (told (with_fault fault_of_look r) s) (λ w u. proceed (shorter_match (length_at_start literal w) d u) (λ k v. done (take k w) v))) (λ bytes u. keep_match target bytes d u))
+    → Inside (length d.bytes) (proceed (proceed (lift (with_fault fault_of_look r) s) (λ w u. proceed (shorter_match (length_at_start literal w) d u) (λ k v. done (take k w) v))) (λ bytes u. keep_match target bytes d u))
 window_inside d s literal target (Ok w) is within = match_inside d s w target (length_at_start literal w) (look_within d s.offset WINDOW w within is)
 window_inside d s literal target (Err fault) is within = tt
 
@@ -191,7 +191,7 @@ of_regex literal target = record {
 
 -- blanks
 abbrev all_seen : ℕ → Option ℕ → Act ⊤
-all_seen n next = give tt
+all_seen n next = return tt
 
 skipping : IsLocal skip_blanks
 skipping = passing (prefix_len is_blank) (λ n. n) all_seen (prefix_len-le-length is_blank) (less_prefix is_blank) (same_prefix is_blank) (λ n. both see_next (all_seen n) seeing (λ _. idle))
@@ -233,7 +233,7 @@ first_skip_is_local = by_mode start_in of_start_in
 
 -- The other commands.
 of_assert : (t : TestTree) → IsLocal (assert t)
-of_assert t = both (answer t) _ (answering t) (λ b. either b (give tt) (reject AssertFailed) idle (rejecting AssertFailed))
+of_assert t = both (answer t) _ (answering t) (λ b. either b (return tt) (reject AssertFailed) idle (rejecting AssertFailed))
 
 giving_value : (a : VarTree × ExprTree) → IsLocal (give_value a)
 giving_value a = both (evaluate (val a.1)) _ (evaluating (val a.1)) (λ value. setting a.0 value)
@@ -266,7 +266,7 @@ of_choice t then_do else_do = both (answer t) _ (answering t) (λ b. given (task
 
 -- All commands and tasks.
 simply : (m : Act ⊤) → IsLocal m → IsLocal (simple m)
-simply m h = both m (λ _. give []) h (λ _. given [])
+simply m h = both m (λ _. return []) h (λ _. given [])
 
 of_command : (c : CommandTree) → IsLocal (act_of c)
 of_command (Tree.space place) = simply space (by_mode space_in of_space_in)

@@ -7,7 +7,7 @@ use Rattle.ctd_program.specs.Tree.{CommandList, Separator}
 use Rattle.ctd_syntax.specs.Numbering.{command_literals, separator_literals, literals}
 use Rattle.ctd_loader.specs.Numbered.{IsAmong, AreAmong}
 use Rattle.ctd_check.specs.Known.{AreKnown}
-use Rattle.ctd_check.specs.Loops.{Task, Loop, turn, tasks, separated}
+use Rattle.ctd_check.specs.Loops.{Task, Loop, turn, tasks, tasks_before_turn}
 
 pub among_front : (ps : List (List ℕ)) (ls ms : List PatternLiteral) → AreAmong ps (ls ++ ms) → AreAmong ps ls
 among_front ps [] ms h = tt
@@ -27,7 +27,7 @@ known_tasks ps Tree.done h = tt
 known_tasks ps (Tree.then c rest) h = (among_front ps (command_literals c) (literals rest) h, known_tasks ps rest (among_back ps (command_literals c) (literals rest) h))
 
 -- a separator
-pub known_separated : (ps : List (List ℕ)) (k : ℕ) (sep : Separator) → AreAmong ps (separator_literals sep) → AreKnown ps (separated k sep)
+pub known_separated : (ps : List (List ℕ)) (k : ℕ) (sep : Separator) → AreAmong ps (separator_literals sep) → AreKnown ps (tasks_before_turn k sep)
 known_separated ps zero sep h = tt
 known_separated ps (suc k) Tree.nothing h = tt
 known_separated ps (suc k) (Tree.between c) h = (h, tt)

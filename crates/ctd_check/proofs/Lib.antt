@@ -9,7 +9,7 @@ pub mod Knowing
 pub mod Locality
 pub mod LongerData
 pub mod Prefixes
-pub mod Rounds
+pub mod Turns
 pub mod Running
 pub mod Stacks
 pub mod StepLimits

@@ -16,36 +16,36 @@ use Rattle.ctd_outcome.specs.declared.outcome.Outcome.TheVariants.{Rejected, Sto
 use Rattle.ctd_command.specs.State.{State, Effect, done, rejected, faulty}
 use Rattle.ctd_command.specs.Blanks.{first_skip}
 use Rattle.ctd_check.specs.Loops.{Task, finish, tasks}
-use Rattle.ctd_check.specs.Run.{site_of, perform, Ended, stopped, resume, run, run_from, with_steps, at_start, meaning}
+use Rattle.ctd_check.specs.Run.{site_of, perform, RunResult, stopped, resume, run, run_from, with_steps, at_start, meaning}
 use Rattle.ctd_check.specs.Laws.{AgreeUpTo, IsReadFault}
 use Rattle.ctd_check.proofs.LongerData.{Extends, same_spot}
 use Rattle.ctd_check.proofs.ActLocality.{Inside, end_of, SameOrCut, same, cut}
 use Rattle.ctd_check.proofs.CommandLocality.{task_is_local, first_skip_is_local}
-use Rattle.ctd_check.proofs.StepLimits.{consumed_of, run_forward, told_consumed}
+use Rattle.ctd_check.proofs.StepLimits.{consumed_of, run_forward, steps_consumed}
 
 -- an end over data of this size that broke off, and one over longer data: they are the same, or the failed read stopped the first, no further on than the second, and the data end within a window of there
-data SameEndOrCut (size : ℕ) (short long : Ended) : Type 0 where
+data SameEndOrCut (size : ℕ) (short long : RunResult) : Type 0 where
   same_end : long ≡ short → SameEndOrCut size short long
   cut_end : (spot : Spot) (site : Site) (consumed left : ℕ) → short ≡ stopped (Stopped spot site Read) consumed left → consumed ≤ consumed_of long → size < consumed + WINDOW → SameEndOrCut size short long
 
 -- what is done first ends no later than the run
-resumed_end : {A : Type 0} (d : TestData) (site : Site) (p n : ℕ) (a : Effect A) (rest : A → State → Ended) → ((x : A) (u : State) → u.offset ≤ consumed_of (rest x u)) → end_of a ≤ consumed_of (resume d site p n a rest)
+resumed_end : {A : Type 0} (d : TestData) (site : Site) (p n : ℕ) (a : Effect A) (rest : A → State → RunResult) → ((x : A) (u : State) → u.offset ≤ consumed_of (rest x u)) → end_of a ≤ consumed_of (resume d site p n a rest)
 resumed_end d site p n (done x after) rest later = later x after
 resumed_end d site p n (rejected reason consumed) rest later = le_refl consumed
 resumed_end d site p n (faulty fault consumed) rest later = le_refl consumed
 
-instead : (size : ℕ) (short long other : Ended) → other ≡ long → SameEndOrCut size short long → SameEndOrCut size short other
+instead : (size : ℕ) (short long other : RunResult) → other ≡ long → SameEndOrCut size short long → SameEndOrCut size short other
 instead size short long other is (same_end h) = same_end (is ∙ h)
 instead size short long other is (cut_end spot site consumed left h later early) =
     let behind : consumed ≤ consumed_of other = omega (arith, later, ap consumed_of is) in cut_end spot site consumed left h behind early
 
-resumed_same : {A : Type 0} (d e : TestData) (site : Site) (p n : ℕ) (a : Effect A) (rest other : A → State → Ended) → spot_at e.bytes p ≡ spot_at d.bytes p → Inside (length d.bytes) a
+resumed_same : {A : Type 0} (d e : TestData) (site : Site) (p n : ℕ) (a : Effect A) (rest other : A → State → RunResult) → spot_at e.bytes p ≡ spot_at d.bytes p → Inside (length d.bytes) a
     → ((x : A) (u : State) → u.offset ≤ length d.bytes → SameEndOrCut (length d.bytes) (rest x u) (other x u)) → SameEndOrCut (length d.bytes) (resume d site p n a rest) (resume e site p n a other)
 resumed_same d e site p n (done x after) rest other spots inside next = next x after inside
 resumed_same d e site p n (rejected reason consumed) rest other spots inside next = same_end (ap (λ spot. stopped (Rejected spot site reason) consumed n) spots)
 resumed_same d e site p n (faulty fault consumed) rest other spots inside next = same_end (ap (λ spot. stopped (Stopped spot site fault) consumed n) spots)
 
-resumed_longer : {A : Type 0} (d e : TestData) (site : Site) (p n : ℕ) (a b : Effect A) (rest other : A → State → Ended) → spot_at e.bytes p ≡ spot_at d.bytes p → Inside (length d.bytes) a
+resumed_longer : {A : Type 0} (d e : TestData) (site : Site) (p n : ℕ) (a b : Effect A) (rest other : A → State → RunResult) → spot_at e.bytes p ≡ spot_at d.bytes p → Inside (length d.bytes) a
     → ((x : A) (u : State) → u.offset ≤ consumed_of (other x u)) → ((x : A) (u : State) → u.offset ≤ length d.bytes → SameEndOrCut (length d.bytes) (rest x u) (other x u))
     → SameOrCut (length d.bytes) a b → SameEndOrCut (length d.bytes) (resume d site p n a rest) (resume e site p n b other)
 resumed_longer d e site p n a b rest other spots inside later next (same is) =
@@ -67,7 +67,7 @@ from_longer d e x n ts s within =
 
 -- The meaning of a program.
 module _ (mode : Mode) (program : CommandList) (presets : List Preset) (steps : ℕ) where
-  abbrev whole : TestData → Ended
+  abbrev whole : TestData → RunResult
   whole d = run_from d steps (tasks program ++ finish ∷ []) (at_start mode presets)
 
   longer : (d e : TestData) → Extends d e → SameEndOrCut (length d.bytes) (whole d) (whole e)
@@ -76,7 +76,7 @@ module _ (mode : Mode) (program : CommandList) (presets : List Preset) (steps : 
       from_longer d e x steps (tasks program ++ finish ∷ []) (at_start mode presets) first
 
   -- Bytes that are not looked at.
-  unless_read : (size : ℕ) (short long : Ended) → (IsReadFault (with_steps steps short).outcome → ⊥) → SameEndOrCut size short long → long ≡ short
+  unless_read : (size : ℕ) (short long : RunResult) → (IsReadFault (with_steps steps short).outcome → ⊥) → SameEndOrCut size short long → long ≡ short
   unless_read size short long other (same_end is) = is
   unless_read size short long other (cut_end spot site consumed left is later early) = absurd (other (subst (λ w. IsReadFault (with_steps steps w).outcome) (sym is) refl))
 
@@ -96,11 +96,11 @@ module _ (mode : Mode) (program : CommandList) (presets : List Preset) (steps : 
       let size : length (take t d.bytes) ≡ t = omega (arith, long, length-take t d.bytes) in
       record { broken = refl; limit = limit; bytes = ap (λ k. take k e.bytes) size ∙ bytes }
 
-  not_cut : (size : ℕ) (short long : Ended) → consumed_of long + WINDOW ≤ size → SameEndOrCut size short long → long ≡ short
+  not_cut : (size : ℕ) (short long : RunResult) → consumed_of long + WINDOW ≤ size → SameEndOrCut size short long → long ≡ short
   not_cut size short long far (same_end is) = is
   not_cut size short long far (cut_end spot site consumed left is later early) = absurd (omega arith)
 
-  not_cut_again : (size : ℕ) (short long : Ended) → consumed_of short + WINDOW ≤ size → SameEndOrCut size short long → long ≡ short
+  not_cut_again : (size : ℕ) (short long : RunResult) → consumed_of short + WINDOW ≤ size → SameEndOrCut size short long → long ≡ short
   not_cut_again size short long far (same_end is) = is
   not_cut_again size short long far (cut_end spot site consumed left is later early) = absurd (omega (arith, far, early, ap consumed_of is))
 
@@ -128,5 +128,5 @@ module _ (mode : Mode) (program : CommandList) (presets : List Preset) (steps : 
   pub looks_ahead : (d e : TestData) → AgreeUpTo ((meaning mode program presets d steps).consumed + WINDOW) d e → meaning mode program presets e steps ≡ meaning mode program presets d steps
   looks_ahead d e agree =
       let t : ℕ = (meaning mode program presets d steps).consumed + WINDOW in
-      let far : consumed_of (whole d) + WINDOW ≤ t = omega (arith, told_consumed steps (whole d)) in
+      let far : consumed_of (whole d) + WINDOW ≤ t = omega (arith, steps_consumed steps (whole d)) in
       ap (with_steps steps) (same_whole d e t far agree (cases_lt (length d.bytes) t))

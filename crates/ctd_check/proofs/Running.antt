@@ -26,19 +26,19 @@ use Rattle.ctd_command.specs.State.{State, Effect}
 use Rattle.ctd_command.specs.Blanks.{first_skip}
 use Rattle.ctd_program.specs.declared.mode.Mode.{Mode}
 use Rattle.ctd_command.specs.Performs.{Does, answering, state, Performs}
-use Rattle.ctd_check.specs.declared.agenda.Agenda.{Agenda}
+use Rattle.ctd_check.specs.declared.stack.FrameStack.{FrameStack}
 use Rattle.ctd_outcome.specs.declared.outcome.Site.{Site}
 use Rattle.ctd_outcome.specs.declared.outcome.Site.TheVariants.{Start, At}
 use Rattle.ctd_check.specs.declared.halt.Halt.{Halt}
 use Rattle.ctd_check.specs.declared.halt.Halt.TheVariants as halts
 use Rattle.ctd_outcome.specs.declared.outcome.Outcome.TheVariants as outcomes
 use Rattle.ctd_check.specs.Loops.{Task, start, finish, tasks}
-use Rattle.ctd_check.specs.Run.{Ended, stopped, site_of, perform, resume, run, run_from, with_steps, meaning, Finds, at_start}
+use Rattle.ctd_check.specs.Run.{RunResult, stopped, site_of, perform, resume, run, run_from, with_steps, meaning, Finds, at_start}
 use Rattle.ctd_outcome.specs.declared.outcome.Checked.{Checked}
 use Rattle.ctd_check.specs.Halts.{halt_of, at_limit, Concludes}
-use Rattle.ctd_check.specs.Opening.{halting, Opens}
-use Rattle.ctd_check.specs.Pending.{to_do}
-use Rattle.ctd_check.specs.Advances.{ContinuesWith, Advances, Ends, EndsAs}
+use Rattle.ctd_check.specs.Opening.{halt_result, Opens}
+use Rattle.ctd_check.specs.FrameTasks.{to_do}
+use Rattle.ctd_check.specs.Advances.{ContinuesWith, Advances, RunsTo}
 
 -- a command has its own place
 pub place_is : (a : Action) (place : Place) → place_of (action_tree a place) ≡ place
@@ -65,7 +65,7 @@ paid : (d : TestData) (t : Task) (left left' : ℕ) (s : State) (rest : List Tas
     → run d left (t ∷ rest) s ≡ resume d (site_of t) s.offset left' (perform t d s) (λ more u. run d left' (more ++ rest) u)
 paid d t left left' s rest e = ap (λ n. run d n (t ∷ rest) s) (one_left left left' e)
 
-failed_by : {A : Type 0} (d : TestData) (site : Site) (p left' : ℕ) (spot : Spot) (failure : CommandFailure) (now : State) (e : Effect A) (k : A → State → Ended) (after : List Task) → spot ≡ spot_at d.bytes p
+failed_by : {A : Type 0} (d : TestData) (site : Site) (p left' : ℕ) (spot : Spot) (failure : CommandFailure) (now : State) (e : Effect A) (k : A → State → RunResult) (after : List Task) → spot ≡ spot_at d.bytes p
     → Does {A = A} (Err failure) now e → ContinuesWith {A = Unit {0}} d (Err (halt_of spot site failure)) left' after now (resume d site p left' e k)
 failed_by d site p left' spot (Rejected reason) now e k after is does =
     ap (λ x. resume d site p left' x k) does ∙ ap (λ x. stopped (outcomes.Rejected x site reason) now.offset left') (sym is)
@@ -74,14 +74,14 @@ failed_by d site p left' spot (Stopped fault) now e k after is does =
 failed_by d site p left' spot Memory now e k after is does = tt
 
 -- what follows a run follows each name of it
-pub follows_as : {A : Type 0} (d : TestData) (r : Result A Halt) (left : ℕ) (after : List Task) (s : State) (whole other : Ended) → other ≡ whole → ContinuesWith d r left after s whole → ContinuesWith d r left after s other
+pub follows_as : {A : Type 0} (d : TestData) (r : Result A Halt) (left : ℕ) (after : List Task) (s : State) (whole other : RunResult) → other ≡ whole → ContinuesWith d r left after s whole → ContinuesWith d r left after s other
 follows_as d (Ok x) left after s whole other same f = same ∙ f
-follows_as d (Err (halts.Ended outcome)) left after s whole other same f = same ∙ f
+follows_as d (Err (halts.Outcome outcome)) left after s whole other same f = same ∙ f
 follows_as d (Err halts.Memory) left after s whole other same f = tt
 
 -- an end does not depend on what was still to be done
-pub halted : (d : TestData) (halt : Halt) (left : ℕ) (after other : List Task) (s : State) (whole there : Ended) → whole ≡ there → ContinuesWith {A = Unit {0}} d (Err halt) left after s there → ContinuesWith {A = Unit {0}} d (Err halt) left other s whole
-halted d (halts.Ended outcome) left after other s whole there same f = same ∙ f
+pub halted : (d : TestData) (halt : Halt) (left : ℕ) (after other : List Task) (s : State) (whole there : RunResult) → whole ≡ there → ContinuesWith {A = Unit {0}} d (Err halt) left after s there → ContinuesWith {A = Unit {0}} d (Err halt) left other s whole
+halted d (halts.Outcome outcome) left after other s whole there same f = same ∙ f
 halted d halts.Memory left after other s whole there same f = tt
 
 module _ {R : Type 0} {G : Ghosts R} where
@@ -92,13 +92,13 @@ module _ {R : Type 0} {G : Ghosts R} where
       advances_so p.goes (λ d _ e. paid d t left left' (state old) rest one ∙ ap (λ x. resume d (site_of t) old.cursor.spot.offset left' x (λ more u. run d left' (more ++ rest) u)) e ∙ ap (λ ts. run d left' ts (state new)) (sym is))
 
   -- a task that is done leaves its tasks and the rest
-  pub task_done : (old new : Run R G) (t : Task) (left left' : ℕ) (more rest : List Task) (agenda : Agenda) → left ≡ left' + 1 → agenda.left ≡ left' → to_do agenda.frames.items ≡ more ++ rest → Performs old new (Ok more) (perform t)
-      → Advances {A = Unit {0}} old new left (t ∷ rest) agenda (Ok tt)
-  task_done old new t left left' more rest agenda one same is p = record { sound = p.sound; goes = done_goes old new t left agenda.left more rest (to_do agenda.frames.items) (one ∙ ap (λ n. n + 1) (sym same)) is p }
+  pub task_done : (old new : Run R G) (t : Task) (left left' : ℕ) (more rest : List Task) (stack : FrameStack) → left ≡ left' + 1 → stack.left ≡ left' → to_do stack.frames.items ≡ more ++ rest → Performs old new (Ok more) (perform t)
+      → Advances {A = Unit {0}} old new left (t ∷ rest) stack (Ok tt)
+  task_done old new t left left' more rest stack one same is p = record { sound = p.sound; goes = done_goes old new t left stack.left more rest (to_do stack.frames.items) (one ∙ ap (λ n. n + 1) (sym same)) is p }
 
   -- the same under another name of what was to be done
-  pub advances_as : {old new : Run R G} {left : ℕ} {before named : List Task} {agenda : Agenda} {r : Result (Unit {0}) Halt} → named ≡ before → Advances old new left before agenda r → Advances old new left named agenda r
-  advances_as {old = old} {new = new} {left = left} {agenda = agenda} {r = r} same p = let P : List Task → Type 0 = λ ts. Advances old new left ts agenda r in subst P (sym same) p
+  pub advances_as : {old new : Run R G} {left : ℕ} {before named : List Task} {stack : FrameStack} {r : Result (Unit {0}) Halt} → named ≡ before → Advances old new left before stack r → Advances old new left named stack r
+  advances_as {old = old} {new = new} {left = left} {stack = stack} {r = r} same p = let P : List Task → Type 0 = λ ts. Advances old new left ts stack r in subst P (sym same) p
 
   -- a task that is rejected ends the run
   failed_goes : (old new : Run R G) (t : Task) (left left' : ℕ) (spot : Spot) (halt : Halt) (failure : CommandFailure) (rest after : List Task) → left ≡ left' + 1 → spot ≡ old.cursor.spot → halt ≡ halt_of spot (site_of t) failure → Performs {A = List Task} old new (Err failure) (perform t)
@@ -109,12 +109,12 @@ module _ {R : Type 0} {G : Ghosts R} where
       subst P (sym is) (follows_as {A = Unit {0}} d (Err (halt_of spot (site_of t) failure)) left' after (state new) _ _ (paid d t left left' (state old) rest one)
       (failed_by d (site_of t) old.cursor.spot.offset left' spot failure (state new) (perform t d (state old)) (λ more u. run d left' (more ++ rest) u) after (there ∙ stand.before.spot) e)))
 
-  pub task_failed : (old new : Run R G) (t : Task) (left : ℕ) (spot : Spot) (halt : Halt) (failure : CommandFailure) (rest : List Task) (agenda : Agenda) → left ≡ agenda.left + 1 → spot ≡ old.cursor.spot → halt ≡ halt_of spot (site_of t) failure → Performs {A = List Task} old new (Err failure) (perform t)
-      → Advances {A = Unit {0}} old new left (t ∷ rest) agenda (Err halt)
-  task_failed old new t left spot halt failure rest agenda one there is p = record { sound = tt; goes = failed_goes old new t left agenda.left spot halt failure rest (to_do agenda.frames.items) one there is p }
+  pub task_failed : (old new : Run R G) (t : Task) (left : ℕ) (spot : Spot) (halt : Halt) (failure : CommandFailure) (rest : List Task) (stack : FrameStack) → left ≡ stack.left + 1 → spot ≡ old.cursor.spot → halt ≡ halt_of spot (site_of t) failure → Performs {A = List Task} old new (Err failure) (perform t)
+      → Advances {A = Unit {0}} old new left (t ∷ rest) stack (Err halt)
+  task_failed old new t left spot halt failure rest stack one there is p = record { sound = tt; goes = failed_goes old new t left stack.left spot halt failure rest (to_do stack.frames.items) one there is p }
 
   -- a task with no step left ends the run
-  unpaid_goes : (old : Run R G) (t : Task) (left left' : ℕ) (spot : Spot) (halt : Halt) (rest after : List Task) → left ≡ 0 → left' ≡ 0 → spot ≡ old.cursor.spot → halt ≡ halts.Ended (at_limit spot (site_of t))
+  unpaid_goes : (old : Run R G) (t : Task) (left left' : ℕ) (spot : Spot) (halt : Halt) (rest after : List Task) → left ≡ 0 → left' ≡ 0 → spot ≡ old.cursor.spot → halt ≡ halts.Outcome (at_limit spot (site_of t))
       → AdvancesSuchThat old.cursor old.cursor (λ d. ContinuesWith {A = Unit {0}} d (Err halt) left' after (state old) (run d left (t ∷ rest) (state old)))
   unpaid_goes old t left left' spot halt rest after none none' there is =
       advances_so (advances_nowhere old.cursor) (λ d stand _.
@@ -122,73 +122,73 @@ module _ {R : Type 0} {G : Ghosts R} where
       let at : spot ≡ spot_at d.bytes old.cursor.spot.offset = there ∙ stand.before.spot in
       subst P (sym is) (ap (λ n. run d n (t ∷ rest) (state old)) none ∙ (λ i. stopped (at_limit (sym at i) (site_of t)) old.cursor.spot.offset (sym none' i))))
 
-  pub task_unpaid : (old : Run R G) (t : Task) (left : ℕ) (spot : Spot) (halt : Halt) (rest : List Task) (agenda : Agenda) (q : Result (Unit {0}) Halt) → IsErr q × IsErrAnd q (λ e. e ≡ halt) → left ≡ 0 → agenda.left ≡ 0 → spot ≡ old.cursor.spot → halt ≡ halts.Ended (at_limit spot (site_of t))
-      → Advances {A = Unit {0}} old old left (t ∷ rest) agenda q
-  task_unpaid old t left spot halt rest agenda (Ok x) q none none' there is = let e : true ≡ false = sym q.0 in cc
-  task_unpaid old t left spot halt rest agenda (Err e) q none none' there is = record { sound = tt; goes = unpaid_goes old t left agenda.left spot e rest (to_do agenda.frames.items) none none' there (q.1 ∙ is) }
+  pub task_unpaid : (old : Run R G) (t : Task) (left : ℕ) (spot : Spot) (halt : Halt) (rest : List Task) (stack : FrameStack) (q : Result (Unit {0}) Halt) → IsErr q × IsErrAnd q (λ e. e ≡ halt) → left ≡ 0 → stack.left ≡ 0 → spot ≡ old.cursor.spot → halt ≡ halts.Outcome (at_limit spot (site_of t))
+      → Advances {A = Unit {0}} old old left (t ∷ rest) stack q
+  task_unpaid old t left spot halt rest stack (Ok x) q none none' there is = let e : true ≡ false = sym q.0 in cc
+  task_unpaid old t left spot halt rest stack (Err e) q none none' there is = record { sound = tt; goes = unpaid_goes old t left stack.left spot e rest (to_do stack.frames.items) none none' there (q.1 ∙ is) }
 
   -- a command that stands in no other, by its answer
-  pub task_does : (old new : Run R G) (t : Task) (left left' : ℕ) (rest : List Task) (agenda : Agenda) (spot : Spot) (site : Site) (r : Result (Unit {0}) CommandFailure) → left ≡ left' + 1 → agenda.left ≡ left' → to_do agenda.frames.items ≡ rest → spot ≡ old.cursor.spot → site ≡ site_of t → Performs {A = List Task} old new (answering (λ _. []) r) (perform t)
-      → Advances {A = Unit {0}} old new left (t ∷ rest) agenda (halting spot site r)
-  task_does old new t left left' rest agenda spot site (Ok x) one same is there at p = task_done old new t left left' [] rest agenda one same is p
-  task_does old new t left left' rest agenda spot site (Err failure) one same is there at p =
-      task_failed old new t left spot (halt_of spot site failure) failure rest agenda (one ∙ ap (λ n. n + 1) (sym same)) there (ap (λ s. halt_of spot s failure) at) p
+  pub task_does : (old new : Run R G) (t : Task) (left left' : ℕ) (rest : List Task) (stack : FrameStack) (spot : Spot) (site : Site) (r : Result (Unit {0}) CommandFailure) → left ≡ left' + 1 → stack.left ≡ left' → to_do stack.frames.items ≡ rest → spot ≡ old.cursor.spot → site ≡ site_of t → Performs {A = List Task} old new (answering (λ _. []) r) (perform t)
+      → Advances {A = Unit {0}} old new left (t ∷ rest) stack (halt_result spot site r)
+  task_does old new t left left' rest stack spot site (Ok x) one same is there at p = task_done old new t left left' [] rest stack one same is p
+  task_does old new t left left' rest stack spot site (Err failure) one same is there at p =
+      task_failed old new t left spot (halt_of spot site failure) failure rest stack (one ∙ ap (λ n. n + 1) (sym same)) there (ap (λ s. halt_of spot s failure) at) p
 
   -- a command in which commands stand, by its answer
-  pub task_opens : (old new : Run R G) (t : Task) (left left' : ℕ) (rest : List Task) (from to : Agenda) (of : List PatternLiteral) (spot : Spot) (site : Site) (r : Result (Unit {0}) CommandFailure) → left ≡ left' + 1 → to.left ≡ left' → to_do from.frames.items ≡ rest → spot ≡ old.cursor.spot → site ≡ site_of t
-      → Opens old new from to of r (perform t) → Advances {A = Unit {0}} old new left (t ∷ rest) to (halting spot site r)
+  pub task_opens : (old new : Run R G) (t : Task) (left left' : ℕ) (rest : List Task) (from to : FrameStack) (of : List PatternLiteral) (spot : Spot) (site : Site) (r : Result (Unit {0}) CommandFailure) → left ≡ left' + 1 → to.left ≡ left' → to_do from.frames.items ≡ rest → spot ≡ old.cursor.spot → site ≡ site_of t
+      → Opens old new from to of r (perform t) → Advances {A = Unit {0}} old new left (t ∷ rest) to (halt_result spot site r)
   task_opens old new t left left' rest from to of spot site (Ok x) one same is there at opens = task_done old new t left left' opens.more rest to one same (opens.comes_first ∙ ap (λ ts. opens.more ++ ts) is) opens.performs
   task_opens old new t left left' rest from to of spot site (Err failure) one same is there at opens =
       task_failed old new t left spot (halt_of spot site failure) failure rest to (one ∙ ap (λ n. n + 1) (sym same)) there (ap (λ s. halt_of spot s failure) at) opens.performs
 
   -- the same with no step left
-  pub task_not_paid : (old : Run R G) (t : Task) (left : ℕ) (spot : Spot) (site : Site) (failure : CommandFailure) (rest : List Task) (agenda : Agenda) (q : Result (Unit {0}) CommandFailure) → IsErr q × IsErrAnd q (λ e. e ≡ failure) → failure ≡ Stopped StepLimit → left ≡ 0 → agenda.left ≡ 0 → spot ≡ old.cursor.spot → site ≡ site_of t
-      → Advances {A = Unit {0}} old old left (t ∷ rest) agenda (halting spot site q)
-  task_not_paid old t left spot site failure rest agenda (Ok x) q limit none none' there at = let e : true ≡ false = sym q.0 in cc
-  task_not_paid old t left spot site failure rest agenda (Err e) q limit none none' there at =
-      task_unpaid old t left spot (halt_of spot site e) rest agenda (Err (halt_of spot site e)) (refl, refl) none none' there (ap (halt_of spot site) (q.1 ∙ limit) ∙ ap (λ s. halts.Ended (at_limit spot s)) at)
+  pub task_not_paid : (old : Run R G) (t : Task) (left : ℕ) (spot : Spot) (site : Site) (failure : CommandFailure) (rest : List Task) (stack : FrameStack) (q : Result (Unit {0}) CommandFailure) → IsErr q × IsErrAnd q (λ e. e ≡ failure) → failure ≡ Stopped StepLimit → left ≡ 0 → stack.left ≡ 0 → spot ≡ old.cursor.spot → site ≡ site_of t
+      → Advances {A = Unit {0}} old old left (t ∷ rest) stack (halt_result spot site q)
+  task_not_paid old t left spot site failure rest stack (Ok x) q limit none none' there at = let e : true ≡ false = sym q.0 in cc
+  task_not_paid old t left spot site failure rest stack (Err e) q limit none none' there at =
+      task_unpaid old t left spot (halt_of spot site e) rest stack (Err (halt_of spot site e)) (refl, refl) none none' there (ap (halt_of spot site) (q.1 ∙ limit) ∙ ap (λ s. halts.Outcome (at_limit spot s)) at)
 
   -- under its name the halt of a failure
-  pub halted_as : {old new : Run R G} {left : ℕ} {before : List Task} {agenda : Agenda} {halt : Halt} (spot there : Spot) (site : Site) (failure : CommandFailure) → halt ≡ halt_of spot site failure → spot ≡ there → Advances {A = Unit {0}} old new left before agenda (Err (halt_of there site failure)) → Advances {A = Unit {0}} old new left before agenda (Err halt)
-  halted_as {old = old} {new = new} {left = left} {before = before} {agenda = agenda} spot there site failure is same p = let P : Halt → Type 0 = λ h. Advances {A = Unit {0}} old new left before agenda (Err h) in subst P (sym (is ∙ ap (λ s. halt_of s site failure) same)) p
+  pub halted_as : {old new : Run R G} {left : ℕ} {before : List Task} {stack : FrameStack} {halt : Halt} (spot there : Spot) (site : Site) (failure : CommandFailure) → halt ≡ halt_of spot site failure → spot ≡ there → Advances {A = Unit {0}} old new left before stack (Err (halt_of there site failure)) → Advances {A = Unit {0}} old new left before stack (Err halt)
+  halted_as {old = old} {new = new} {left = left} {before = before} {stack = stack} spot there site failure is same p = let P : Halt → Type 0 = λ h. Advances {A = Unit {0}} old new left before stack (Err h) in subst P (sym (is ∙ ap (λ s. halt_of s site failure) same)) p
 
   -- the same at the end of the program
-  pub ends_done : (old new : Run R G) (t : Task) (left left' : ℕ) (before : List Task) → left ≡ left' + 1 → before ≡ t ∷ [] → Performs old new (Ok []) (perform t) → Ends {A = Unit {0}} old new left before left' (Ok tt)
+  pub ends_done : (old new : Run R G) (t : Task) (left left' : ℕ) (before : List Task) → left ≡ left' + 1 → before ≡ t ∷ [] → Performs old new (Ok []) (perform t) → RunsTo {A = Unit {0}} old new (λ d. run d left before (state old)) left' (Ok tt)
   ends_done old new t left left' before one is p = record { sound = p.sound; goes = advances_so (done_goes old new t left left' [] [] [] one refl p) (λ d _ e. ap (λ ts. run d left ts (state old)) is ∙ e) }
 
   pub ends_failed : (old new : Run R G) (t : Task) (left left' : ℕ) (before : List Task) (spot : Spot) (halt : Halt) (failure : CommandFailure) → left ≡ left' + 1 → before ≡ t ∷ [] → spot ≡ old.cursor.spot → halt ≡ halt_of spot (site_of t) failure → Performs {A = List Task} old new (Err failure) (perform t)
-      → Ends {A = Unit {0}} old new left before left' (Err halt)
+      → RunsTo {A = Unit {0}} old new (λ d. run d left before (state old)) left' (Err halt)
   ends_failed old new t left left' before spot halt failure one is there same p = record { sound = tt; goes = advances_so (failed_goes old new t left left' spot halt failure [] [] one there same p) (λ d _ e. follows_as {A = Unit {0}} d (Err halt) left' [] (state new) _ _ (ap (λ ts. run d left ts (state old)) is) e) }
 
-  pub ends_unpaid : (old : Run R G) (t : Task) (left left' : ℕ) (before : List Task) (spot : Spot) (halt : Halt) (q : Result (Unit {0}) Halt) → IsErr q × IsErrAnd q (λ e. e ≡ halt) → left ≡ 0 → left' ≡ 0 → before ≡ t ∷ [] → spot ≡ old.cursor.spot → halt ≡ halts.Ended (at_limit spot (site_of t))
-      → Ends {A = Unit {0}} old old left before left' q
+  pub ends_unpaid : (old : Run R G) (t : Task) (left left' : ℕ) (before : List Task) (spot : Spot) (halt : Halt) (q : Result (Unit {0}) Halt) → IsErr q × IsErrAnd q (λ e. e ≡ halt) → left ≡ 0 → left' ≡ 0 → before ≡ t ∷ [] → spot ≡ old.cursor.spot → halt ≡ halts.Outcome (at_limit spot (site_of t))
+      → RunsTo {A = Unit {0}} old old (λ d. run d left before (state old)) left' q
   ends_unpaid old t left left' before spot halt (Ok x) q none none' is there same = let e : true ≡ false = sym q.0 in cc
   ends_unpaid old t left left' before spot halt (Err e) q none none' is there same = record { sound = tt; goes = advances_so (unpaid_goes old t left left' spot e [] [] none none' there (q.1 ∙ same)) (λ d _ f. follows_as {A = Unit {0}} d (Err e) left' [] (state old) _ _ (ap (λ ts. run d left ts (state old)) is) f) }
 
   -- a task that is done, and then the first of its tasks
-  pub task_then : (a b c : Run R G) (t : Task) (left left' : ℕ) (more rest all : List Task) (agenda : Agenda) (r : Result (Unit {0}) Halt) → left ≡ left' + 1 → all ≡ more ++ rest → Performs a b (Ok more) (perform t) → Advances b c left' all agenda r → Advances a c left (t ∷ rest) agenda r
-  task_then a b c t left left' more rest all agenda r one is p q = record {
+  pub task_then : (a b c : Run R G) (t : Task) (left left' : ℕ) (more rest all : List Task) (stack : FrameStack) (r : Result (Unit {0}) Halt) → left ≡ left' + 1 → all ≡ more ++ rest → Performs a b (Ok more) (perform t) → Advances b c left' all stack r → Advances a c left (t ∷ rest) stack r
+  task_then a b c t left left' more rest all stack r one is p q = record {
     sound = q.sound;
-    goes = advances_so (advances_both (done_goes a b t left left' more rest all one is p) q.goes) (λ d _ e. follows_as d r agenda.left (to_do agenda.frames.items) (state c) _ _ e.0 e.1);
+    goes = advances_so (advances_both (done_goes a b t left left' more rest all one is p) q.goes) (λ d _ e. follows_as d r stack.left (to_do stack.frames.items) (state c) _ _ e.0 e.1);
   }
 
   -- what was done so far, and then the end
-  pub ends_early : (a b c : Run R G) (left left' now : ℕ) (before all split : List Task) (agenda : Agenda) (halt : Halt) (q : Result (Unit {0}) Halt) → IsErr q × IsErrAnd q (λ e. e ≡ halt) → AdvancesSuchThat a.cursor b.cursor (λ d. run d left before (state a) ≡ run d left' all (state b))
-      → now ≡ left' → all ≡ split → Advances {A = Unit {0}} b c now split agenda (Err halt) → Ends {A = Unit {0}} a c left before agenda.left q
-  ends_early a b c left left' now before all split agenda halt (Ok x) q goes same is p = let e : true ≡ false = sym q.0 in cc
-  ends_early a b c left left' now before all split agenda halt (Err e) q goes same is p =
-      let P : Halt → Type 0 = λ h. Ends {A = Unit {0}} a c left before agenda.left (Err h) in
-      subst P (sym q.1) (record { sound = tt; goes = advances_so (advances_both goes p.goes) (λ d _ f. halted d halt agenda.left (to_do agenda.frames.items) [] (state c) _ _ (f.0 ∙ ap (λ ts. run d left' ts (state b)) is ∙ ap (λ n. run d n split (state b)) (sym same)) f.1) })
+  pub ends_early : (a b c : Run R G) (left left' now : ℕ) (before all split : List Task) (stack : FrameStack) (halt : Halt) (q : Result (Unit {0}) Halt) → IsErr q × IsErrAnd q (λ e. e ≡ halt) → AdvancesSuchThat a.cursor b.cursor (λ d. run d left before (state a) ≡ run d left' all (state b))
+      → now ≡ left' → all ≡ split → Advances {A = Unit {0}} b c now split stack (Err halt) → RunsTo {A = Unit {0}} a c (λ d. run d left before (state a)) stack.left q
+  ends_early a b c left left' now before all split stack halt (Ok x) q goes same is p = let e : true ≡ false = sym q.0 in cc
+  ends_early a b c left left' now before all split stack halt (Err e) q goes same is p =
+      let P : Halt → Type 0 = λ h. RunsTo {A = Unit {0}} a c (λ d. run d left before (state a)) stack.left (Err h) in
+      subst P (sym q.1) (record { sound = tt; goes = advances_so (advances_both goes p.goes) (λ d _ f. halted d halt stack.left (to_do stack.frames.items) [] (state c) _ _ (f.0 ∙ ap (λ ts. run d left' ts (state b)) is ∙ ap (λ n. run d n split (state b)) (sym same)) f.1) })
 
   -- what stands before the first command, and then the tasks
-  pub start_done : (a b c : Run R G) (n left' : ℕ) (ts : List Task) (r : Result (Unit {0}) Halt) → Performs {A = ⊤} a b (Ok tt) first_skip → Ends b c n ts left' r → EndsAs a c (λ d. run_from d n ts (state a)) left' r
+  pub start_done : (a b c : Run R G) (n left' : ℕ) (ts : List Task) (r : Result (Unit {0}) Halt) → Performs {A = ⊤} a b (Ok tt) first_skip → RunsTo b c (λ d. run d n ts (state b)) left' r → RunsTo a c (λ d. run_from d n ts (state a)) left' r
   start_done a b c n left' ts r p q = record {
     sound = q.sound;
     goes = advances_so (advances_both p.goes q.goes) (λ d _ e. follows_as d r left' [] (state c) _ _ (ap (λ x. resume d Start a.cursor.spot.offset n x (λ _ t. run d n ts t)) e.0) e.1);
   }
 
   pub start_failed : (a b : Run R G) (n : ℕ) (ts : List Task) (spot : Spot) (halt : Halt) (failure : CommandFailure) → spot ≡ a.cursor.spot → halt ≡ halt_of spot Start failure → Performs {A = ⊤} a b (Err failure) first_skip
-      → EndsAs {A = Unit {0}} a b (λ d. run_from d n ts (state a)) n (Err halt)
+      → RunsTo {A = Unit {0}} a b (λ d. run_from d n ts (state a)) n (Err halt)
   start_failed a b n ts spot halt failure there is p = record {
     sound = tt;
     goes = advances_so p.goes (λ d stand e.
@@ -205,6 +205,6 @@ pub finds : (mode : Mode) (d : TestData) (r : Result (Unit {0}) Halt) (checked :
     → ContinuesWith d r left [] s (run_from d limit (tasks program ++ finish ∷ []) (at_start mode presets)) → Finds checked (meaning mode program presets d limit)
 finds mode d (Ok x) checked program presets limit left s by steps there f =
     record { outcome = by ∙ sym (ap (λ e. (with_steps limit e).outcome) f); steps = steps ∙ sym (ap (λ e. (with_steps limit e).steps) f); consumed = there ∙ sym (ap (λ e. (with_steps limit e).consumed) f) }
-finds mode d (Err (halts.Ended o)) checked program presets limit left s by steps there f =
+finds mode d (Err (halts.Outcome o)) checked program presets limit left s by steps there f =
     record { outcome = by ∙ sym (ap (λ e. (with_steps limit e).outcome) f); steps = steps ∙ sym (ap (λ e. (with_steps limit e).steps) f); consumed = there ∙ sym (ap (λ e. (with_steps limit e).consumed) f) }
 finds mode d (Err halts.Memory) checked program presets limit left s by steps there f = absurd by

@@ -3,40 +3,39 @@ use Rattle.std.specs.Prelude.{◌≡◌, ℕ, ◌+◌, Bool, true, false, ⊤, L
 use Rattle.std.specs.Char.{is_ascii_digit}
 use Rattle.std.specs.List.{take_while}
 use Rattle.ctd_source.specs.declared.spot.LookFault.{LookFault}
-use Rattle.ctd_source.specs.TestData.{TestData, next_byte, visible, is_byte}
+use Rattle.ctd_source.specs.TestData.{TestData, next_byte, is_byte}
 use Rattle.ctd_outcome.specs.declared.reason.Reason.TheVariants.{StringMismatch}
-use Rattle.ctd_command.specs.State.{State, Effect, done, rejected, faulty, Act, ◌>>=◌, give, reject, pass, see_next, fault_of_look}
+use Rattle.ctd_command.specs.State.{State, Effect, done, rejected, faulty, Act, ◌>>=◌, return, reject, pass, see_next, see_visible, pass_then, fault_of_look}
 use Rattle.ctd_command.specs.Integer.{judge}
-use Rattle.ctd_command.specs.Effect.{decide, integer, match_bytes}
+use Rattle.ctd_command.specs.Commands.{decide, integer, match_bytes}
 use Rattle.ctd_command.specs.Blanks.{is_blank, skip_blanks}
 
 -- the state one byte on
 abbrev pub past_one : State → State
 past_one s = record { offset = s.offset + 1; store = s.store; mode = s.mode }
 
--- the same effect, with a byte in front of those that it answers
-abbrev pub in_front : ℕ → Effect (List ℕ) → Effect (List ℕ)
-in_front b (done bytes after) = done (b ∷ bytes) after
-in_front b (rejected reason consumed) = rejected reason consumed
-in_front b (faulty fault consumed) = faulty fault consumed
+-- an effect that answers bytes, with one more byte before them
+abbrev pub prepend_byte : ℕ → Effect (List ℕ) → Effect (List ℕ)
+prepend_byte b (done bytes after) = done (b ∷ bytes) after
+prepend_byte b (rejected reason consumed) = rejected reason consumed
+prepend_byte b (faulty fault consumed) = faulty fault consumed
 
 -- bytes that pass a test are passed one after the other, up to another byte, the end of the data or a fault; the answer is these bytes
 pub data PassesWhile (d : TestData) (test : ℕ → Bool) : State → Effect (List ℕ) → Type 0 where
-  byte_fits : {s : State} {b : ℕ} {a : Effect (List ℕ)} → next_byte d s.offset ≡ Ok (Some b) → test b ≡ true → PassesWhile d test (past_one s) a → PassesWhile d test s (in_front b a)
+  byte_fits : {s : State} {b : ℕ} {a : Effect (List ℕ)} → next_byte d s.offset ≡ Ok (Some b) → test b ≡ true → PassesWhile d test (past_one s) a → PassesWhile d test s (prepend_byte b a)
   other_byte : {s : State} {b : ℕ} → next_byte d s.offset ≡ Ok (Some b) → test b ≡ false → PassesWhile d test s (done [] s)
   no_byte : {s : State} → next_byte d s.offset ≡ Ok None → PassesWhile d test s (done [] s)
   look_fails : {s : State} {fault : LookFault} → next_byte d s.offset ≡ Err fault → PassesWhile d test s (faulty (fault_of_look fault) s.offset)
 
 -- these bytes are passed, and the next one is seen
 abbrev pub pass_bytes : List ℕ → Act (List ℕ)
-pass_bytes bytes = do
-  _ ← pass (length bytes)
-  _ ← see_next
-  give bytes
+pass_bytes bytes = pass_then (length bytes) (return bytes)
 
 -- the visible bytes that pass a test, up to the first that does not
 abbrev pub pass_visible : (ℕ → Bool) → Act (List ℕ)
-pass_visible test d s = pass_bytes (take_while test (visible d s.offset)) d s
+pass_visible test = do
+  rest ← see_visible
+  pass_bytes (take_while test rest)
 
 -- after the sign, digits are passed as they are seen, and judged
 abbrev pub digits_by_looks : ℤ → ℤ → Bool → Act ℤ
@@ -52,7 +51,7 @@ integer_by_looks least most = do
 
 -- a string: each of its bytes is seen and passed
 abbrev pub match_by_looks : List ℕ → Act ⊤
-match_by_looks [] = give tt
+match_by_looks [] = return tt
 match_by_looks (b ∷ bytes) = do
   next ← see_next
   if is_byte b next then (pass 1 >>= λ _. match_by_looks bytes) else reject StringMismatch
@@ -61,7 +60,7 @@ match_by_looks (b ∷ bytes) = do
 abbrev pub blanks_by_looks : Act ⊤
 blanks_by_looks = do
   _ ← pass_visible is_blank
-  give tt
+  return tt
 
 -- Laws.
 -- to pass the visible bytes that fit is to pass bytes look by look

@@ -12,8 +12,8 @@ use Rattle.ctd_check.specs.declared.halt.Halt.TheVariants as halts
 
 -- how a run ends where a command is rejected that began there
 abbrev pub halt_of : Spot → Site → CommandFailure → Halt
-halt_of spot place (Rejected reason) = halts.Ended (outcomes.Rejected spot place reason)
-halt_of spot place (Stopped fault) = halts.Ended (outcomes.Stopped spot place fault)
+halt_of spot place (Rejected reason) = halts.Outcome (outcomes.Rejected spot place reason)
+halt_of spot place (Stopped fault) = halts.Outcome (outcomes.Stopped spot place fault)
 halt_of spot place Memory = halts.Memory
 
 -- how a run ends that has no step left for a task
@@ -23,5 +23,5 @@ at_limit spot place = outcomes.Stopped spot place StepLimit
 -- a run that came to its end has this outcome
 abbrev pub Concludes : Result (Unit {0}) Halt → Outcome → Type 0
 Concludes (Ok x) outcome = outcome ≡ outcomes.Accepted
-Concludes (Err (halts.Ended o)) outcome = outcome ≡ o
+Concludes (Err (halts.Outcome o)) outcome = outcome ≡ o
 Concludes (Err halts.Memory) outcome = ⊥

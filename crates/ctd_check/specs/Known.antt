@@ -6,7 +6,7 @@ use Rattle.ctd_loader.specs.Numbered.{AreAmong}
 use Rattle.ctd_command.specs.declared.failure.CommandFailure.{CommandFailure}
 use Rattle.ctd_check.specs.declared.frame.Frame.{Frame}
 use Rattle.ctd_check.specs.Loops.{Task, start, turn, finish}
-use Rattle.ctd_check.specs.Pending.{left_tasks}
+use Rattle.ctd_check.specs.FrameTasks.{left_tasks}
 
 -- the literals of a task
 abbrev pub task_literals : Task → List PatternLiteral

@@ -16,12 +16,12 @@ use Rattle.ctd_outcome.specs.declared.outcome.Outcome.{Outcome}
 use Rattle.ctd_outcome.specs.declared.outcome.Outcome.TheVariants.{Accepted, Rejected, Stopped}
 use Rattle.ctd_command.specs.State.{State}
 use Rattle.ctd_check.specs.Loops.{Task, finish, tasks}
-use Rattle.ctd_check.specs.Run.{Ended, all_done, stopped, run, run_from, Meaning, with_steps, at_start, meaning, Finds}
+use Rattle.ctd_check.specs.Run.{RunResult, all_done, stopped, run, run_from, Meaning, with_steps, at_start, meaning, Finds}
 use Rattle.ctd_check.specs.Checks.{FindsMeaning}
 
 -- Lists in turn.
 -- a run that did all its tasks goes on from the state and with the steps that it left
-abbrev pub and_then : Ended → (State → ℕ → Ended) → Ended
+abbrev pub and_then : RunResult → (State → ℕ → RunResult) → RunResult
 and_then (all_done after left) more = more after left
 and_then (stopped outcome consumed left) more = stopped outcome consumed left
 

@@ -5,7 +5,7 @@ pub mod BigSteps
 pub mod ByLooks
 pub mod Checks
 pub mod Halts
-pub mod Pending
+pub mod FrameTasks
 pub mod Known
 pub mod Advances
 pub mod Opening

@@ -8,22 +8,22 @@ use Rattle.ctd_command.specs.declared.machine.Run.{Run}
 use Rattle.ctd_command.specs.declared.failure.CommandFailure.{CommandFailure}
 use Rattle.ctd_command.specs.Performs.{Performs, answering}
 use Rattle.ctd_command.specs.State.{Act}
-use Rattle.ctd_check.specs.declared.agenda.Agenda.{Agenda}
+use Rattle.ctd_check.specs.declared.stack.FrameStack.{FrameStack}
 use Rattle.ctd_check.specs.declared.halt.Halt.{Halt}
 use Rattle.ctd_outcome.specs.declared.outcome.Site.{Site}
 use Rattle.ctd_check.specs.Halts.{halt_of}
 use Rattle.ctd_check.specs.Known.{AreKnown}
 use Rattle.ctd_check.specs.Loops.{Task}
-use Rattle.ctd_check.specs.Pending.{to_do}
+use Rattle.ctd_check.specs.FrameTasks.{to_do}
 
 -- how a run goes on or ends by the answer of a command that began at this spot and stands at this site
-abbrev pub halting : Spot → Site → Result (Unit {0}) CommandFailure → Result (Unit {0}) Halt
-halting spot place (Ok x) = Ok x
-halting spot place (Err failure) = Err (halt_of spot place failure)
+abbrev pub halt_result : Spot → Site → Result (Unit {0}) CommandFailure → Result (Unit {0}) Halt
+halt_result spot place (Ok x) = Ok x
+halt_result spot place (Err failure) = Err (halt_of spot place failure)
 
 module _ {R : Type 0} {G : Ghosts R} where
   -- a command with these literals did this, and what it leaves is to be done before all else
-  pub record Opens (old new : Run R G) (from to : Agenda) (of : List PatternLiteral) (result : Result (Unit {0}) CommandFailure) (act : Act (List Task)) : Type 0 where
+  pub record Opens (old new : Run R G) (from to : FrameStack) (of : List PatternLiteral) (result : Result (Unit {0}) CommandFailure) (act : Act (List Task)) : Type 0 where
     pub more : List Task
     pub performs : Performs old new (answering (λ _. more) result) act
     pub comes_first : OnOk result (to_do to.frames.items ≡ more ++ to_do from.frames.items)

@@ -7,8 +7,8 @@ use Rattle.ctd_program.specs.Tree.{CommandTree, CommandList, place_of}
 use Rattle.ctd_store.specs.Store.{initial}
 use Rattle.ctd_program.specs.declared.mode.Mode.{Mode}
 use Rattle.ctd_outcome.specs.declared.reason.Fault.TheVariants.{StepLimit}
-use Rattle.ctd_command.specs.State.{State, Effect, done, rejected, faulty, Act, ◌>>=◌, give}
-use Rattle.ctd_command.specs.Effect.{int, string, assert, set, unset_all}
+use Rattle.ctd_command.specs.State.{State, Effect, done, rejected, faulty, Act, ◌>>=◌, return}
+use Rattle.ctd_command.specs.Commands.{int, string, assert, set, unset_all}
 use Rattle.ctd_command.specs.Blanks.{space, newline, end, first_skip}
 use Rattle.ctd_command.specs.Regex.{regex}
 use Rattle.ctd_outcome.specs.declared.outcome.Site.{Site}
@@ -28,7 +28,7 @@ site_of finish = Finish
 abbrev pub simple : Act ⊤ → Act (List Task)
 simple m = do
   _ ← m
-  give []
+  return []
 
 -- a command, and the tasks that it leaves to be done first
 abbrev pub act_of : CommandTree → Act (List Task)
@@ -51,18 +51,18 @@ perform (turn loop k) = run_turn loop k
 perform finish = simple end
 
 -- how a run ended, with the steps that are left: all tasks are done and a state is left, or it stopped early with an outcome, once so many bytes are consumed
-pub data Ended : Type 0 where
-  all_done : (after : State) (left : ℕ) → Ended
-  stopped : (outcome : Outcome) (consumed left : ℕ) → Ended
+pub data RunResult : Type 0 where
+  all_done : (after : State) (left : ℕ) → RunResult
+  stopped : (outcome : Outcome) (consumed left : ℕ) → RunResult
 
 -- what was begun at an offset: the run goes on with what it left, or it ends
-abbrev pub resume : {A : Type 0} → TestData → Site → ℕ → ℕ → Effect A → (A → State → Ended) → Ended
+abbrev pub resume : {A : Type 0} → TestData → Site → ℕ → ℕ → Effect A → (A → State → RunResult) → RunResult
 resume d site p n (done x after) rest = rest x after
 resume d site p n (rejected reason consumed) rest = stopped (Rejected (spot_at d.bytes p) site reason) consumed n
 resume d site p n (faulty fault consumed) rest = stopped (Stopped (spot_at d.bytes p) site fault) consumed n
 
 -- the tasks in order, with n steps left: each pays its step first
-abbrev pub run : TestData → ℕ → List Task → State → Ended
+abbrev pub run : TestData → ℕ → List Task → State → RunResult
 run d n [] s = all_done s n
 run d zero (task ∷ rest) s = stopped (Stopped (spot_at d.bytes s.offset) (site_of task) StepLimit) s.offset 0
 run d (suc n) (task ∷ rest) s = resume d (site_of task) s.offset n (perform task d s) (λ more t. run d n (more ++ rest) t)
@@ -74,7 +74,7 @@ pub record Meaning : Type 0 where
   pub consumed : ℕ
 
 -- the steps paid are those that are not left
-abbrev pub with_steps : ℕ → Ended → Meaning
+abbrev pub with_steps : ℕ → RunResult → Meaning
 with_steps steps (all_done after left) = record { outcome = Accepted; steps = steps - left; consumed = after.offset }
 with_steps steps (stopped outcome consumed left) = record { outcome = outcome; steps = steps - left; consumed = consumed }
 
@@ -83,7 +83,7 @@ abbrev pub at_start : Mode → List Preset → State
 at_start mode presets = record { offset = 0; store = initial presets; mode = mode }
 
 -- all that a program does: what stands before the first command, which costs no step, and then its tasks
-abbrev pub run_from : TestData → ℕ → List Task → State → Ended
+abbrev pub run_from : TestData → ℕ → List Task → State → RunResult
 run_from d n ts s = resume d Start s.offset n (first_skip d s) (λ _ t. run d n ts t)
 
 -- what a program means for data: its commands and then the end of the data

@@ -7,9 +7,9 @@ ghost use Rattle.ctd_check.specs.Run.{meaning};
 ghost use Rattle.ctd_check.specs.Checks.{FindsMeaning, IsAhead};
 ghost use Rattle.ctd_check.specs.Halts.{Concludes};
 
-use crate::agenda::Agenda;
 use crate::halt::Halt;
 use crate::run::run_program;
+use crate::stack::FrameStack;
 use ctd_command::Run;
 use ctd_loader::Plan;
 use ctd_outcome::{Checked, Outcome};
@@ -25,7 +25,7 @@ fn outcome_of(ended: Result<(), Halt>) -> Result<Outcome, AllocError>
 {
     match ended {
         Ok(()) => Ok(Outcome::Accepted),
-        Err(Halt::Ended(outcome)) => Ok(outcome),
+        Err(Halt::Outcome(outcome)) => Ok(outcome),
         Err(Halt::Memory) => Err(AllocError),
     }
 }
@@ -60,8 +60,8 @@ pub fn check<D: Source>(
     // the source is borrowed once all of these are made
     let cursor = Cursor::with_buffers(buffers, testdata, limits.bytes);
     let mut run = Run::new(alloc, cursor, store, mode);
-    let mut agenda = Agenda::new(plan.commands(), limits.steps);
-    let ended = run_program(&mut run, &mut agenda, &mut matchers);
+    let mut stack = FrameStack::new(plan.commands(), limits.steps);
+    let ended = run_program(&mut run, &mut stack, &mut matchers);
     drop(matchers);
     let consumed = run.cursor.spot().offset;
     let taken = run.cursor.taken();
@@ -70,7 +70,7 @@ pub fn check<D: Source>(
     let outcome = outcome_of(ended)?;
     Ok(Checked {
         outcome,
-        steps: limits.steps - agenda.left(),
+        steps: limits.steps - stack.left(),
         consumed,
         taken,
         seen,

@@ -8,7 +8,7 @@ ghost use Rattle.ctd_command.specs.Regex.{regex};
 ghost use Rattle.ctd_command.specs.Performs.{IsSound, Performs, answering};
 ghost use Rattle.ctd_check.specs.Known.{LeavesKnown};
 ghost use Rattle.ctd_check.specs.Run.{act_of};
-ghost use Rattle.ctd_check.specs.Pending.{left_tasks};
+ghost use Rattle.ctd_check.specs.FrameTasks.{left_tasks};
 ghost use Rattle.ctd_check.specs.Advances.{NeedsRoom};
 
 use crate::frame::Frame;

@@ -7,7 +7,7 @@ use ctd_source::Spot;
 /// Why a run goes no further: it has an outcome, or no memory is left.
 #[derive(Clone, Copy)]
 pub(crate) enum Halt {
-    Ended(Outcome),
+    Outcome(Outcome),
     Memory,
 }
 
@@ -20,12 +20,12 @@ impl Halt {
         ensures { result ≡ halt_of spot site failure }
     {
         match failure.failure() {
-            Failure::Rejected(reason) => Halt::Ended(Outcome::Rejected {
+            Failure::Rejected(reason) => Halt::Outcome(Outcome::Rejected {
                 spot,
                 place: site,
                 reason,
             }),
-            Failure::Stopped(fault) => Halt::Ended(Outcome::Stopped {
+            Failure::Stopped(fault) => Halt::Outcome(Outcome::Stopped {
                 spot,
                 place: site,
                 fault,

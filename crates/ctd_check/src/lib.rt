@@ -1,7 +1,6 @@
 //! Checking data against a program: the run of its commands, and the outcome.
 #![tactic(auto)]
 
-mod agenda;
 mod checking;
 mod command;
 mod frame;
@@ -9,6 +8,7 @@ mod halt;
 mod laws;
 mod loops;
 mod run;
+mod stack;
 
 pub use checking::check;
 pub use ctd_loader::Plan;

@@ -7,10 +7,10 @@ ghost use Rattle.ctd_loader.specs.Numbered.{AreAmong};
 ghost use Rattle.ctd_command.specs.Performs.{IsSound, Performs, answering};
 ghost use Rattle.ctd_check.specs.Known.{LeavesKnown};
 ghost use Rattle.ctd_check.specs.Loops.{tasks, loop_of, turn, take_turn, count_turn, goes_on, guard_of, repeat, choice};
-ghost use Rattle.ctd_check.specs.Pending.{frame_tasks, separator_in, frame_blocks, lap_turn, guard_in, counter_in, loop_in, left_tasks, IsWithin};
+ghost use Rattle.ctd_check.specs.FrameTasks.{frame_tasks, separator_in, frame_blocks, loop_turn, guard_in, counter_in, loop_in, left_tasks, IsWithin};
 ghost use Rattle.ctd_check.specs.Advances.{NeedsRoom};
 
-use crate::frame::{Frame, Guard, Lap};
+use crate::frame::{Frame, Guard, RunningLoop};
 use ctd_command::{CommandFailure, Run};
 use ctd_source::Source;
 use ctd_syntax::{Command, Commands, LoopGuard, Place, Test, Var};
@@ -46,11 +46,11 @@ fn loop_frame<'p>(
 ) -> Frame<'p>
     ensures tasks { frame_tasks result ≡ turn (loop_of place (guard_in guard.entry) (boxed_target counter.now) (boxed_separator between.now) (command_list body.now)) 0 ∷ [] }
     ensures blocks { frame_blocks result ≡ max (separator_blocks (boxed_separator between.now)) (list_blocks (command_list body.now)) }
-    ensures turn { lap_turn result.lap ≡ 0 }
+    ensures turn { loop_turn result.running_loop ≡ 0 }
 {
     let counter = unbox_counter(counter);
     let between = unbox(between);
-    let lap = Lap {
+    let running_loop = RunningLoop {
         place,
         guard,
         counter,
@@ -60,7 +60,7 @@ fn loop_frame<'p>(
     };
     Frame {
         rest: &[],
-        lap: Some(lap),
+        running_loop: Some(running_loop),
     }
 }
 
@@ -71,7 +71,10 @@ fn list_frame(commands: &Commands) -> Option<Frame<'_>>
 {
     match commands.as_slice() {
         [] => None,
-        rest => Some(Frame { rest, lap: None }),
+        rest => Some(Frame {
+            rest,
+            running_loop: None,
+        }),
     }
 }
 
@@ -164,11 +167,11 @@ fn goes_on<D: Source>(
 /// First the counter of a turn, and then whether the loop goes on with it.
 pub(crate) fn take_turn<D: Source>(
     run: &mut Run<'_, D>,
-    lap: &Lap<'_>,
+    running_loop: &RunningLoop<'_>,
 ) -> Result<bool, CommandFailure>
     requires sound { IsSound run.old }
-    ensures performs { Performs run.old run.new result (take_turn (loop_in lap.now) lap.now.turn) }
+    ensures performs { Performs run.old run.new result (take_turn (loop_in running_loop.now) running_loop.now.turn) }
 {
-    count_turn(run, lap.counter, lap.turn)?;
-    goes_on(run, lap.guard, lap.turn)
+    count_turn(run, running_loop.counter, running_loop.turn)?;
+    goes_on(run, running_loop.guard, running_loop.turn)
 }

@@ -12,13 +12,13 @@ use Rattle.ctd_source.specs.Received.{AdvancesSuchThat}
 use Rattle.ctd_source.proofs.AdvanceLemmas.{advances_so, advances_both, advances_nowhere, advances_looking, advances_moving}
 use Rattle.ctd_store.specs.Store.{History}
 use Rattle.ctd_value.specs.Fault.{ValueFault, with_fault}
-use Rattle.ctd_command.specs.Effect.{one_byte}
+use Rattle.ctd_command.specs.Commands.{one_byte}
 use Rattle.ctd_command.specs.declared.machine.Run.{Run}
 use Rattle.ctd_outcome.specs.declared.reason.Reason.{Reason}
 use Rattle.ctd_outcome.specs.declared.reason.Fault.{Fault}
 use Rattle.ctd_command.specs.declared.failure.CommandFailure.{CommandFailure}
 use Rattle.ctd_command.specs.declared.failure.Failure.TheVariants.{Rejected, Stopped, Memory}
-use Rattle.ctd_command.specs.State.{State, Effect, Act, done, faulty, proceed, ◌>>=◌, give, reject, told, evaluate, fault_of_value, fault_of_look, see_next, pass}
+use Rattle.ctd_command.specs.State.{State, Effect, Act, done, faulty, proceed, ◌>>=◌, return, reject, lift, evaluate, fault_of_value, fault_of_look, see_next, pass}
 use Rattle.ctd_command.specs.Performs.{Does, Tells, answering, state, IsSound, Performs}
 
 pub does_early : {A B : Type 0} (r : CommandFailure) (s : State) (e : Effect A) (k : A → State → Effect B) → Does {A = A} (Err r) s e → Does {A = B} (Err r) s (proceed e k)
@@ -27,11 +27,11 @@ does_early (Stopped fault) s e k is = ap (λ x. proceed x k) is
 does_early Memory s e k is = tt
 
 -- what tells an answer does just that
-pub does_told : {A : Type 0} (r : Result A CommandFailure) (meant : Result A Fault) (s : State) → Tells r meant → Does r s (told meant s)
-does_told (Ok x) meant s is = ap (λ m. told m s) is
-does_told (Err (Rejected reason)) meant s is = absurd is
-does_told (Err (Stopped fault)) meant s is = ap (λ m. told m s) is
-does_told (Err Memory) meant s is = tt
+pub does_lift : {A : Type 0} (r : Result A CommandFailure) (meant : Result A Fault) (s : State) → Tells r meant → Does r s (lift meant s)
+does_lift (Ok x) meant s is = ap (λ m. lift m s) is
+does_lift (Err (Rejected reason)) meant s is = absurd is
+does_lift (Err (Stopped fault)) meant s is = ap (λ m. lift m s) is
+does_lift (Err Memory) meant s is = tt
 
 pub always : {A : Type 0} {P : Type 0} (r : Result A CommandFailure) → P → OnOk r P
 always (Ok x) p = p
@@ -60,7 +60,7 @@ no_fault wanted fault next is = cc
 
 module _ {R : Type 0} {G : Ghosts R} where
   -- an answer alone
-  pub given : {A : Type 0} (a : Run R G) (x : A) → IsSound a → Performs a a (Ok x) (give x)
+  pub given : {A : Type 0} (a : Run R G) (x : A) → IsSound a → Performs a a (Ok x) (return x)
   given a x sound = record { sound = sound; goes = advances_so (advances_nowhere a.cursor) (λ d _ _. refl) }
 
   -- a failure alone
@@ -117,7 +117,7 @@ module _ {R : Type 0} {G : Ghosts R} where
   early_by f (Err e) is p = answers_as (ap Err is.1) (early f p)
 
   -- an answer that stands for something
-  pub performs_answering : {A B : Type 0} {a b : Run R G} {r : Result A CommandFailure} {m : Act A} (g : A → B) → Performs a b r m → Performs a b (answering g r) (m >>= λ x. give (g x))
+  pub performs_answering : {A B : Type 0} {a b : Run R G} {r : Result A CommandFailure} {m : Act A} (g : A → B) → Performs a b r m → Performs a b (answering g r) (m >>= λ x. return (g x))
   performs_answering {A = A} {B = B} {a = a} {b = b} {r = r} {m = m} g p = record {
     sound = sound_answering (IsSound b) g r p.sound;
     goes = advances_so p.goes (λ d _ e. does_answering g r (state b) (m d (state a)) e);
@@ -129,12 +129,12 @@ module _ {R : Type 0} {G : Ghosts R} where
   early_answering g f (Err e) is p = answers_as (ap Err is.1) (early f p)
 
   -- a given answer under another name
-  pub given_as : {A : Type 0} (a : Run R G) (x y : A) → x ≡ y → IsSound a → Performs a a (Ok x) (give y)
+  pub given_as : {A : Type 0} (a : Run R G) (x y : A) → x ≡ y → IsSound a → Performs a a (Ok x) (return y)
   given_as a x y same sound = answers_as (ap Ok same) (given a y sound)
 
   -- a value
   pub evaluated : {A : Type 0} (a : Run R G) (r : Result A CommandFailure) (f : History → Result A ValueFault) → IsSound a → Tells r (with_fault fault_of_value (f a.store)) → Performs a a r (evaluate f)
-  evaluated a r f sound is = record { sound = always r sound; goes = advances_so (advances_nowhere a.cursor) (λ d _ _. does_told r (with_fault fault_of_value (f a.store)) (state a) is) }
+  evaluated a r f sound is = record { sound = always r sound; goes = advances_so (advances_nowhere a.cursor) (λ d _ _. does_lift r (with_fault fault_of_value (f a.store)) (state a) is) }
 
   -- the same run over another cursor
   abbrev pub with_cursor : Run R G → Cursor R G → Run R G
@@ -146,7 +146,7 @@ module _ {R : Type 0} {G : Ghosts R} where
   looked a now next r sound answer = record {
     sound = sound;
     goes = advances_so (advances_looking a.cursor now (Ok next) r answer)
-        (λ d _ e. ap (λ x. told (with_fault fault_of_look x) (state a)) e ∙ ap (λ x. done next (record { offset = x.offset; store = a.store; mode = a.mode })) (sym r.spot));
+        (λ d _ e. ap (λ x. lift (with_fault fault_of_look x) (state a)) e ∙ ap (λ x. done next (record { offset = x.offset; store = a.store; mode = a.mode })) (sym r.spot));
   }
 
   -- a fault in its place
@@ -157,7 +157,7 @@ module _ {R : Type 0} {G : Ghosts R} where
       answers_as (ap Err is) (record {
         sound = tt;
         goes = advances_so (advances_looking a.cursor now (Err fault) r answer)
-            (λ d _ e. ap (λ x. told (with_fault fault_of_look x) (state a)) e ∙ ap (λ x. faulty (fault_of_look fault) x.offset) (sym r.spot));
+            (λ d _ e. ap (λ x. lift (with_fault fault_of_look x) (state a)) e ∙ ap (λ x. faulty (fault_of_look fault) x.offset) (sym r.spot));
       })
 
   -- bytes that are passed

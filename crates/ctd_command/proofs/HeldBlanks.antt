@@ -12,7 +12,7 @@ use Rattle.ctd_source.proofs.Visible.{seen_run}
 use Rattle.ctd_value.specs.Fault.{with_fault}
 use Rattle.ctd_outcome.specs.declared.reason.Reason.TheVariants.{ExpectedSpace}
 use Rattle.ctd_command.specs.Blanks.{is_blank, blank_next, skip_blanks, some_blanks}
-use Rattle.ctd_command.specs.State.{State, done, proceed, told, reject, fault_of_look}
+use Rattle.ctd_command.specs.State.{State, done, proceed, lift, reject, fault_of_look}
 use Rattle.ctd_command.proofs.HeldRuns.{stops_within, front_in_line, run_front, held_next}
 use Rattle.ctd_command.proofs.Skipping.{skips}
 
@@ -59,5 +59,5 @@ pub blanks_some : (run : List ℕ) (d : TestData) (s : State) (old : CursorState
 blanks_some run d s old some before counted front held within here =
     let filled : 0 < length run = omega (arith, some, prefix_len-le-length is_blank run) in
     let next = ap (next_byte d) here ∙ held_next d old before counted (omega (arith, filled, held)) (omega (arith, filled, within filled)) in
-    ap (λ r. proceed {A = Option ℕ} {B = ⊤} (told (with_fault fault_of_look r) s) (λ x t. (if blank_next x then skip_blanks else reject ExpectedSpace) d t)) next
+    ap (λ r. proceed {A = Option ℕ} {B = ⊤} (lift (with_fault fault_of_look r) s) (λ x t. (if blank_next x then skip_blanks else reject ExpectedSpace) d t)) next
     ∙ ap (λ b. (if b then skip_blanks else reject ExpectedSpace) d s) (first_blank run old.held front some)

@@ -12,12 +12,12 @@ use Rattle.std.proofs.lemmas.List.Sums.{prefix_len-le-length, take_while-cons}
 use Rattle.ctd_source.specs.TestData.{TestData, visible, is_newline}
 use Rattle.ctd_source.specs.Consistency.{CursorState, IsConsistentWith}
 use Rattle.ctd_source.proofs.Visible.{seen_run}
-use Rattle.ctd_command.specs.Integer.{decimal, is_minus, sign_len, digits_of, prefix_len_of, is_zero_first, signed, in_interval}
+use Rattle.ctd_command.specs.Integer.{decimal, is_minus, sign_len, digits_of, prefix_len_of, is_zero_first, with_sign, in_interval}
 use Rattle.ctd_outcome.specs.declared.reason.Reason.{Reason}
 use Rattle.ctd_outcome.specs.declared.reason.Reason.TheVariants.{ExpectedInt, LeadingZero, MinusZero, OutOfRange}
-use Rattle.ctd_command.specs.Passing.{IsInFront}
+use Rattle.ctd_command.specs.Passing.{IsBufferedInteger}
 use Rattle.ctd_command.specs.State.{State, done}
-use Rattle.ctd_command.specs.Effect.{integer, decide}
+use Rattle.ctd_command.specs.Commands.{integer, decide}
 use Rattle.ctd_command.proofs.HeldRuns.{while_within, front_in_line, run_front, held_next}
 use Rattle.ctd_command.proofs.Integers.{Passed, integer_seen}
 
@@ -52,7 +52,7 @@ judged_by_value false negative n judged some form =
 
 -- an integer in its form whose digits end within the first few bytes
 pub in_front : (bytes few : List ℕ) (value : ℤ) (negative : Bool) (sign m number count : ℕ) → negative ≡ is_minus bytes → sign ≡ (if negative then 1 else 0) → few ≡ take m (drop sign bytes) → number ≡ decimal (take_while is_ascii_digit few) → count ≡ prefix_len is_ascii_digit few → count ≢ length few
-    → count ≢ 0 → (get_or few 0 0 ≡ 48 → (negative ≡ false) × (count ≡ 1)) → value ≡ signed negative number → IsInFront bytes value (sign + count)
+    → count ≢ 0 → (get_or few 0 0 ≡ 48 → (negative ≡ false) × (count ≡ 1)) → value ≡ with_sign negative number → IsBufferedInteger bytes value (sign + count)
 in_front bytes few value negative sign m number count is_negative is_sign is_few is_number is_count ends some form is_value =
     let unsigned = drop (sign_len bytes) bytes in
     let same_sign : sign ≡ sign_len bytes = is_sign ∙ ap (λ b. if b then 1 else 0) is_negative in
@@ -62,7 +62,7 @@ in_front bytes few value negative sign m number count is_negative is_sign is_few
     let len : length (digits_of bytes) ≡ count = ap length (sym row) ∙ length-prefix_len is_ascii_digit few ∙ sym is_count in
     let in_form : is_zero_first (digits_of bytes) ≡ true → (is_minus bytes ≡ false) × (length (digits_of bytes) ≡ 1) =
     λ zero. let f = form (first_zero few (ap is_zero_first row ∙ zero)) in (sym is_negative ∙ f.0, len ∙ f.1) in
-    let value_is : signed (is_minus bytes) (decimal (digits_of bytes)) ≡ value = sym (is_value ∙ ap (λ b. signed b number) is_negative ∙ ap (signed (is_minus bytes)) (is_number ∙ ap decimal row)) in
+    let value_is : with_sign (is_minus bytes) (decimal (digits_of bytes)) ≡ value = sym (is_value ∙ ap (λ b. with_sign b number) is_negative ∙ ap (with_sign (is_minus bytes)) (is_number ∙ ap decimal row)) in
     record {
       len = omega (arith, same_sign, len);
       ends = omega (arith, same_sign, len, is_count, within, ap (prefix_len is_ascii_digit) same, length-take m unsigned, length-drop (sign_len bytes) bytes);
@@ -93,7 +93,7 @@ prefix_in_line [] = refl
 prefix_in_line (x ∷ xs) = sign_in_line (nat_eq x 45) x xs refl
 
 -- an integer at the front of a run that is held is in one line
-pub integer_in_line : (run held : List ℕ) (value : ℤ) (size : ℕ) → take (length run) held ≡ run → IsInFront run value size → count_by is_newline (take size held) ≡ 0
+pub integer_in_line : (run held : List ℕ) (value : ℤ) (size : ℕ) → take (length run) held ≡ run → IsBufferedInteger run value size → count_by is_newline (take size held) ≡ 0
 integer_in_line run held value size front f =
     let within : size ≤ length run = omega (arith, f.ends) in
     ap (count_by is_newline) (run_front run held size within front ∙ ap (λ k. take k run) f.len) ∙ prefix_in_line run
@@ -107,7 +107,7 @@ sign_within true = omega arith
 sign_within false = omega arith
 
 -- its sign and its digits are those of all that is visible
-front_passed : (run : List ℕ) (value : ℤ) (size : ℕ) (d : TestData) (p q r : ℕ) → IsInFront run value size → visible d p ≡ run ++ visible d r → q ≡ p + size → Passed d p q (is_minus run) (digits_of run)
+front_passed : (run : List ℕ) (value : ℤ) (size : ℕ) (d : TestData) (p q r : ℕ) → IsBufferedInteger run value size → visible d p ≡ run ++ visible d r → q ≡ p + size → Passed d p q (is_minus run) (digits_of run)
 front_passed run value size d p q r f seen there =
     let more = visible d r in
     let unsigned = drop (sign_len run) run in
@@ -131,7 +131,7 @@ within_interval least most value above below =
     ap (λ b. ok_or (if b && int_le value most then Some value else None) OutOfRange) above ∙ ap (λ b. ok_or (if b then Some value else None) OutOfRange) below
 
 -- a cursor that passed it did what INT does
-pub front_read : (least most : ℤ) (run : List ℕ) (value : ℤ) (size : ℕ) (d : TestData) (s : State) (old new : CursorState) → IsInFront run value size → int_le least value ≡ true → int_le value most ≡ true → IsConsistentWith d old → IsConsistentWith d new
+pub front_read : (least most : ℤ) (run : List ℕ) (value : ℤ) (size : ℕ) (d : TestData) (s : State) (old new : CursorState) → IsBufferedInteger run value size → int_le least value ≡ true → int_le value most ≡ true → IsConsistentWith d old → IsConsistentWith d new
     → old.taken ≡ old.spot.offset + length old.held → new.taken ≡ new.spot.offset + length new.held → take (length run) old.held ≡ run → length run ≤ length old.held → (0 < length run → old.spot.offset + length run ≤ old.limit)
     → s.offset ≡ old.spot.offset → new.spot.offset ≡ old.spot.offset + size → new.held ≡ drop size old.held → new.limit ≡ old.limit
     → integer least most d s ≡ done value (record { offset = new.spot.offset; store = s.store; mode = s.mode })

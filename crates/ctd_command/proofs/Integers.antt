@@ -16,8 +16,8 @@ use Rattle.ctd_command.specs.declared.digits.DigitSummary.{DigitSummary}
 use Rattle.ctd_command.specs.Integer.{is_minus, sign_len, digits_of, prefix_len_of, judge}
 use Rattle.ctd_command.specs.Summaries.{Summarizes}
 use Rattle.ctd_command.specs.Passing.{PassesMinus, PassesRow, PassesDigits, IsPast, StopsAt}
-use Rattle.ctd_command.specs.State.{State, Effect, faulty, proceed, told, fault_of_look}
-use Rattle.ctd_command.specs.Effect.{decide, read_integer, integer}
+use Rattle.ctd_command.specs.State.{State, Effect, faulty, proceed, lift, fault_of_look}
+use Rattle.ctd_command.specs.Commands.{decide, read_integer, integer}
 
 -- no digit comes first
 abbrev pub NoDigit : List ℕ → Type 0
@@ -124,7 +124,7 @@ passed old new d p m q false r minus f =
 
 -- an integer by where its prefix ends, what is seen there, its sign and its digits
 abbrev by_parts : ℤ → ℤ → TestData → State → ℕ → Result (Option ℕ) LookFault → Bool → List ℕ → Effect ℤ
-by_parts least most d s q next negative row = proceed (told (with_fault fault_of_look next) (record { offset = q; store = s.store; mode = s.mode })) (λ _ t. decide (judge least most negative row) d t)
+by_parts least most d s q next negative row = proceed (lift (with_fault fault_of_look next) (record { offset = q; store = s.store; mode = s.mode })) (λ _ t. decide (judge least most negative row) d t)
 
 integer_parts : (least most : ℤ) (d : TestData) (s : State) (q : ℕ) (negative : Bool) (row : List ℕ) → Passed d s.offset q negative row → integer least most d s ≡ by_parts least most d s q (next_byte d q) negative row
 integer_parts least most d s q negative row f =

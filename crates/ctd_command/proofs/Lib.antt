@@ -11,5 +11,5 @@ pub mod SummaryLemmas
 pub mod Skipping
 pub mod Strings
 pub mod Telling
-pub mod Setting
+pub mod Assignments
 pub mod Windows

@@ -10,7 +10,7 @@ use Rattle.ctd_source.proofs.Visible.{seen_byte, seen_end, seen_fault}
 use Rattle.ctd_value.specs.Fault.{with_fault}
 use Rattle.ctd_command.specs.Blanks.{is_blank, skip_blanks}
 use Rattle.ctd_command.specs.Passing.{PassesBlanks, PassesSomeBlanks}
-use Rattle.ctd_command.specs.State.{State, done, faulty, proceed, told, fault_of_look}
+use Rattle.ctd_command.specs.State.{State, done, faulty, proceed, lift, fault_of_look}
 use Rattle.ctd_command.proofs.DigitRuns.{front_passes}
 
 -- how many blanks come next
@@ -99,7 +99,7 @@ skipped_to_fault d p q r fault same so_far next =
     (omega (arith, so_far, none, same), ap (next_byte d) same ∙ next)
 
 by_next : (s : State) (q n : ℕ) (next : Result (Option ℕ) LookFault) → q ≡ s.offset + n → IsOk next
-    → proceed {A = Option ℕ} {B = ⊤} (told (with_fault fault_of_look next) (record { offset = s.offset + n; store = s.store; mode = s.mode })) (λ _ t. done tt t) ≡ done tt (record { offset = q; store = s.store; mode = s.mode })
+    → proceed {A = Option ℕ} {B = ⊤} (lift (with_fault fault_of_look next) (record { offset = s.offset + n; store = s.store; mode = s.mode })) (λ _ t. done tt t) ≡ done tt (record { offset = q; store = s.store; mode = s.mode })
 by_next s q n (Ok x) is ok = ap (λ p. done tt (record { offset = p; store = s.store; mode = s.mode })) (sym is)
 by_next s q n (Err fault) is ok = let never : false ≡ true = ok in cc
 
@@ -112,5 +112,5 @@ skips d s q p =
 pub skips_to_fault : (d : TestData) (s : State) (q : ℕ) (fault : LookFault) → PassesBlanks d s.offset q (Err fault) → skip_blanks d s ≡ faulty (fault_of_look fault) q
 skips_to_fault d s q fault p =
     let there : next_byte d (s.offset + blanks_at d s.offset) ≡ Err fault = ap (next_byte d) (sym p.0) ∙ p.1 in
-    ap (λ next. proceed {A = Option ℕ} {B = ⊤} (told (with_fault fault_of_look next) (record { offset = s.offset + blanks_at d s.offset; store = s.store; mode = s.mode })) (λ _ t. done tt t)) there
+    ap (λ next. proceed {A = Option ℕ} {B = ⊤} (lift (with_fault fault_of_look next) (record { offset = s.offset + blanks_at d s.offset; store = s.store; mode = s.mode })) (λ _ t. done tt t)) there
     ∙ ap (faulty (fault_of_look fault)) (sym p.0)

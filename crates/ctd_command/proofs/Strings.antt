@@ -19,9 +19,9 @@ use Rattle.ctd_command.specs.declared.failure.CommandFailure.{CommandFailure}
 use Rattle.ctd_command.specs.declared.failure.Failure.TheVariants.{Stopped}
 use Rattle.ctd_program.specs.declared.mode.Mode.{Mode}
 use Rattle.ctd_outcome.specs.declared.reason.Reason.TheVariants.{StringMismatch}
-use Rattle.ctd_command.specs.State.{State, Effect, Act, done, rejected, faulty, proceed, give, told, fault_of_look}
-use Rattle.ctd_command.specs.Effect.{differ, compare, match_bytes}
-use Rattle.ctd_command.specs.Passing.{PassesFront, PassesSome}
+use Rattle.ctd_command.specs.State.{State, Effect, Act, done, rejected, faulty, proceed, return, lift, fault_of_look}
+use Rattle.ctd_command.specs.Commands.{differ, compare, match_bytes}
+use Rattle.ctd_command.specs.Passing.{PassesPrefix, PassesSome}
 use Rattle.ctd_command.specs.Alone.{DoesAlone}
 use Rattle.ctd_command.specs.Performs.{Does, Performs}
 use Rattle.ctd_command.specs.declared.machine.Run.{Run}
@@ -57,7 +57,7 @@ all_agree m wanted bytes is same =
 
 -- a comparison by how many bytes agree, and whether these are all
 abbrev by_count : TestData → State → ℕ → Bool → Effect ⊤
-by_count d s n all = (if all then give tt else differ) d (record { offset = s.offset + n; store = s.store; mode = s.mode })
+by_count d s n all = (if all then return tt else differ) d (record { offset = s.offset + n; store = s.store; mode = s.mode })
 
 same_more : (k n m : ℕ) → nat_eq (k + n) (k + m) ≡ nat_eq n m
 same_more k n m = grind (arith, nat_tests)
@@ -69,7 +69,7 @@ compare_more d s x a b =
     ap (λ k. by_count d s k (nat_eq k (length (x ++ a)))) (front_both x a b)
     ∙ ap (λ l. by_count d s (length x + n) (nat_eq (length x + n) l)) (length-append x a)
     ∙ ap (by_count d s (length x + n)) (same_more (length x) n (length a))
-    ∙ ap (λ p. (if nat_eq n (length a) then give tt else differ) d (record { offset = p; store = s.store; mode = s.mode })) there
+    ∙ ap (λ p. (if nat_eq n (length a) then return tt else differ) d (record { offset = p; store = s.store; mode = s.mode })) there
 
 -- where none agrees and some are wanted
 compare_none : (d : TestData) (s : State) (wanted rest : List ℕ) → 0 < length wanted → common_prefix_len nat_eq wanted rest ≡ 0 → compare wanted rest d s ≡ differ d (record { offset = s.offset; store = s.store; mode = s.mode })
@@ -81,11 +81,11 @@ compare_none d s wanted rest some none =
     ∙ ap (λ p. differ d (record { offset = p; store = s.store; mode = s.mode })) there
 
 next_differs : (d : TestData) (s : State) (next : Result (Option ℕ) LookFault) → next_byte d s.offset ≡ next → IsOk next → differ d s ≡ rejected StringMismatch s.offset
-next_differs d s (Ok x) e seen = ap (λ n. proceed (told (with_fault fault_of_look n) s) (λ _ t. rejected StringMismatch t.offset)) e
+next_differs d s (Ok x) e seen = ap (λ n. proceed (lift (with_fault fault_of_look n) s) (λ _ t. rejected StringMismatch t.offset)) e
 next_differs d s (Err fault) e seen = let never : false ≡ true = seen in cc
 
 -- another byte, or none
-pub string_differs : (d : TestData) (s : State) (wanted : List ℕ) (q : ℕ) → 0 < length wanted → PassesFront wanted d s.offset q 0 → match_bytes wanted d s ≡ rejected StringMismatch q
+pub string_differs : (d : TestData) (s : State) (wanted : List ℕ) (q : ℕ) → 0 < length wanted → PassesPrefix wanted d s.offset q 0 → match_bytes wanted d s ≡ rejected StringMismatch q
 string_differs d s wanted q some f =
     let there : s.offset ≡ q = omega (arith, f.offset) in
     compare_none d s wanted (visible d s.offset) some (f.differs refl) ∙ next_differs d s (next_byte d s.offset) refl f.seen ∙ ap (rejected StringMismatch) there
@@ -95,7 +95,7 @@ pub string_faulty : (d : TestData) (s : State) (wanted : List ℕ) (q : ℕ) (fa
 string_faulty d s wanted q fault some same e =
     ap (λ xs. compare wanted xs d s) (seen_fault d s.offset fault e)
     ∙ compare_none d s wanted [] some (no_bytes wanted)
-    ∙ ap (λ n. proceed (told (with_fault fault_of_look n) s) (λ _ t. rejected StringMismatch t.offset)) e
+    ∙ ap (λ n. proceed (lift (with_fault fault_of_look n) s) (λ _ t. rejected StringMismatch t.offset)) e
     ∙ ap (faulty (fault_of_look fault)) (sym same)
 
 -- none is wanted
@@ -103,7 +103,7 @@ pub string_done : (d : TestData) (s : State) → match_bytes [] d s ≡ done tt 
 string_done d s = let there : s.offset + 0 ≡ s.offset = omega arith in ap (λ p. done tt (record { offset = p; store = s.store; mode = s.mode })) there
 
 -- some of them
-pub string_more : (d : TestData) (s : State) (wanted : List ℕ) (q n : ℕ) → n ≤ length wanted → PassesFront wanted d s.offset q n → match_bytes wanted d s ≡ match_bytes (drop n wanted) d (record { offset = q; store = s.store; mode = s.mode })
+pub string_more : (d : TestData) (s : State) (wanted : List ℕ) (q n : ℕ) → n ≤ length wanted → PassesPrefix wanted d s.offset q n → match_bytes wanted d s ≡ match_bytes (drop n wanted) d (record { offset = q; store = s.store; mode = s.mode })
 string_more d s wanted q n within f =
     let len : length (take n wanted) ≡ n = omega (arith, length-take n wanted) in
     let there : s.offset + length (take n wanted) ≡ q = omega (arith, f.offset) in

@@ -21,15 +21,15 @@ use Rattle.ctd_command.specs.declared.failure.CommandFailure.{CommandFailure}
 use Rattle.ctd_command.specs.declared.machine.Run.{Run}
 use Rattle.ctd_outcome.specs.declared.reason.Fault.{Fault}
 use Rattle.ctd_outcome.specs.declared.reason.Fault.TheVariants.{Undefined, WrongType, Overflow, DivisionByZero, Exponent, Count, Shape, StepLimit}
-use Rattle.ctd_command.specs.State.{State, done, faulty, told, evaluate, fault_of_value, fault_of_truth, fault_of_look}
-use Rattle.ctd_command.specs.Effect.{answer}
+use Rattle.ctd_command.specs.State.{State, done, faulty, lift, evaluate, fault_of_value, fault_of_truth, fault_of_look}
+use Rattle.ctd_command.specs.Commands.{answer}
 use Rattle.ctd_command.specs.Failures.{test_failure, failure_of}
 use Rattle.ctd_command.specs.Performs.{Does, Tells, state, IsSound, Performs}
 use Rattle.ctd_command.proofs.Acts.{with_cursor, answers_as, evaluated}
 use Rattle.ctd_command.proofs.DigitRuns.{some_held}
 use Rattle.ctd_command.proofs.HeldRuns.{first_held, held_next}
 
--- the fault of a test that had one, other than want of memory
+-- the fault of a test that had one, other than that memory ran out
 fault_in : TestFault → Fault
 fault_in (tests.Eval evals.Undefined) = Undefined
 fault_in (tests.Eval evals.WrongType) = WrongType
@@ -53,22 +53,22 @@ same_fault (Err (faults.Value faults.Count)) = refl
 same_fault (Err (faults.Value faults.Shape)) = refl
 same_fault (Err (faults.Look fault)) = refl
 
-told_fault : (fault : TestFault) (meant : Result Bool TruthFault) (s : State) → with_fault test_fault meant ≡ Err fault → told (with_fault fault_of_truth meant) s ≡ faulty (fault_in fault) s.offset
-told_fault fault meant s is = ap (λ m. told m s) (same_fault meant ∙ ap (with_fault fault_in) is)
+lift_fault : (fault : TestFault) (meant : Result Bool TruthFault) (s : State) → with_fault test_fault meant ≡ Err fault → lift (with_fault fault_of_truth meant) s ≡ faulty (fault_in fault) s.offset
+lift_fault fault meant s is = ap (λ m. lift m s) (same_fault meant ∙ ap (with_fault fault_in) is)
 
-does_fault : (fault : TestFault) (meant : Result Bool TruthFault) (s : State) → Answers {X = Bool} (Err fault) meant → Does {A = Bool} (Err (test_failure fault)) s (told (with_fault fault_of_truth meant) s)
+does_fault : (fault : TestFault) (meant : Result Bool TruthFault) (s : State) → Answers {X = Bool} (Err fault) meant → Does {A = Bool} (Err (test_failure fault)) s (lift (with_fault fault_of_truth meant) s)
 unfolding fault_in
-does_fault (tests.Eval evals.Undefined) meant s is = told_fault (tests.Eval evals.Undefined) meant s is
-does_fault (tests.Eval evals.WrongType) meant s is = told_fault (tests.Eval evals.WrongType) meant s is
-does_fault (tests.Eval evals.Overflow) meant s is = told_fault (tests.Eval evals.Overflow) meant s is
-does_fault (tests.Eval evals.DivisionByZero) meant s is = told_fault (tests.Eval evals.DivisionByZero) meant s is
-does_fault (tests.Eval evals.Exponent) meant s is = told_fault (tests.Eval evals.Exponent) meant s is
-does_fault (tests.Eval evals.Count) meant s is = told_fault (tests.Eval evals.Count) meant s is
-does_fault (tests.Eval evals.Shape) meant s is = told_fault (tests.Eval evals.Shape) meant s is
+does_fault (tests.Eval evals.Undefined) meant s is = lift_fault (tests.Eval evals.Undefined) meant s is
+does_fault (tests.Eval evals.WrongType) meant s is = lift_fault (tests.Eval evals.WrongType) meant s is
+does_fault (tests.Eval evals.Overflow) meant s is = lift_fault (tests.Eval evals.Overflow) meant s is
+does_fault (tests.Eval evals.DivisionByZero) meant s is = lift_fault (tests.Eval evals.DivisionByZero) meant s is
+does_fault (tests.Eval evals.Exponent) meant s is = lift_fault (tests.Eval evals.Exponent) meant s is
+does_fault (tests.Eval evals.Count) meant s is = lift_fault (tests.Eval evals.Count) meant s is
+does_fault (tests.Eval evals.Shape) meant s is = lift_fault (tests.Eval evals.Shape) meant s is
 does_fault (tests.Eval evals.Memory) meant s is = tt
-does_fault (tests.Look fault) meant s is = told_fault (tests.Look fault) meant s is
+does_fault (tests.Look fault) meant s is = lift_fault (tests.Look fault) meant s is
 
--- the fault of an expression that had one, other than want of memory
+-- the fault of an expression that had one, other than that memory ran out
 value_fault_in : EvalFault → Fault
 value_fault_in evals.Undefined = Undefined
 value_fault_in evals.WrongType = WrongType
@@ -109,7 +109,7 @@ module _ {R : Type 0} {G : Ghosts R} where
 
   -- a test whose answer no data change
   pub answered_at_once : (a : Run R G) (t : TestTree) (b : Bool) → IsSound a → ((d : TestData) (p : ℕ) → truth t a.store d p ≡ Ok b) → Performs a a (Ok b) (answer t)
-  answered_at_once a t b sound known = record { sound = sound; goes = advances_so (advances_nowhere a.cursor) (λ d _ _. ap (λ r. told (with_fault fault_of_truth r) (state a)) (known d (state a).offset)) }
+  answered_at_once a t b sound known = record { sound = sound; goes = advances_so (advances_nowhere a.cursor) (λ d _ _. ap (λ r. lift (with_fault fault_of_truth r) (state a)) (known d (state a).offset)) }
 
   -- a test whose answer the first byte of a run that is held tells
   pub answered_in_front : (a : Run R G) (t : TestTree) (b : Bool) (byte : ℕ) (run : List ℕ) → IsSound a → slice_get run 0 ≡ Some byte → take (length run) (state_of a.cursor).held ≡ run
@@ -121,7 +121,7 @@ module _ {R : Type 0} {G : Ghosts R} where
         sound = sound;
         goes = advances_so (advances_nowhere a.cursor) (λ d stand _.
             let next = held_next d (state_of a.cursor) stand.before a.cursor.counted (omega (arith, some, held)) (omega (arith, some, within some)) in
-            ap (λ r. told (with_fault fault_of_truth r) (state a)) (known a.store d (state a).offset (next ∙ ap Ok (first_held run (state_of a.cursor).held byte front first))));
+            ap (λ r. lift (with_fault fault_of_truth r) (state a)) (known a.store d (state a).offset (next ∙ ap Ok (first_held run (state_of a.cursor).held byte front first))));
       }
 
   -- a test that was answered
@@ -130,8 +130,8 @@ module _ {R : Type 0} {G : Ghosts R} where
   answered a now t b r sound is = record {
     sound = sound;
     goes = advances_so (advances_reading a.cursor now r) (λ d stand _.
-        let P : _ → Type 0 = λ s. told (with_fault fault_of_truth (truth t a.store d s.offset)) (record { offset = s.offset; store = a.store; mode = a.mode }) ≡ done b (state (with_cursor a now)) in
-        subst P r.spot (ap (λ m. told (with_fault fault_of_truth m) (state (with_cursor a now))) (is d stand.after)));
+        let P : _ → Type 0 = λ s. lift (with_fault fault_of_truth (truth t a.store d s.offset)) (record { offset = s.offset; store = a.store; mode = a.mode }) ≡ done b (state (with_cursor a now)) in
+        subst P r.spot (ap (λ m. lift (with_fault fault_of_truth m) (state (with_cursor a now))) (is d stand.after)));
   }
 
   -- one that was not
@@ -140,6 +140,6 @@ module _ {R : Type 0} {G : Ghosts R} where
   unanswered a now t fault r is = record {
     sound = tt;
     goes = advances_so (advances_reading a.cursor now r) (λ d stand _.
-        let P : _ → Type 0 = λ s. Does {A = Bool} (Err (test_failure fault)) (state (with_cursor a now)) (told (with_fault fault_of_truth (truth t a.store d s.offset)) (record { offset = s.offset; store = a.store; mode = a.mode })) in
+        let P : _ → Type 0 = λ s. Does {A = Bool} (Err (test_failure fault)) (state (with_cursor a now)) (lift (with_fault fault_of_truth (truth t a.store d s.offset)) (record { offset = s.offset; store = a.store; mode = a.mode })) in
         subst P r.spot (does_fault fault (truth t a.store d now.spot.offset) (state (with_cursor a now)) (is d stand.after)));
   }

@@ -13,7 +13,7 @@ use Rattle.ctd_pattern.specs.Pattern.{length_at_start}
 use Rattle.ctd_value.specs.Fault.{with_fault}
 use Rattle.ctd_command.specs.declared.machine.Run.{Run}
 use Rattle.ctd_command.specs.declared.failure.CommandFailure.{CommandFailure}
-use Rattle.ctd_command.specs.State.{State, Effect, Act, done, rejected, faulty, proceed, ◌>>=◌, give, pass, told, fault_of_look, see_window}
+use Rattle.ctd_command.specs.State.{State, Effect, Act, done, rejected, faulty, proceed, ◌>>=◌, return, pass, lift, fault_of_look, see_window}
 use Rattle.ctd_command.specs.Performs.{Does, AlwaysDoes, state, IsSound, Performs}
 use Rattle.ctd_command.specs.Regex.{shorter_match, matched, matched_len, regex}
 use Rattle.ctd_command.proofs.Acts.{does_early, always, and_then, given, passed, performs_as, with_cursor}
@@ -41,7 +41,7 @@ counted_by (done x after) d = refl
 counted_by (rejected reason consumed) d = refl
 counted_by (faulty fault consumed) d = refl
 
-pub counted_first : (literal : List ℕ) (d : TestData) (s : State) → (matched_len literal >>= λ n. (pass n >>= λ _. give tt)) d s ≡ regex literal None d s
+pub counted_first : (literal : List ℕ) (d : TestData) (s : State) → (matched_len literal >>= λ n. (pass n >>= λ _. return tt)) d s ≡ regex literal None d s
 counted_first literal d s = counted_by (matched literal d s) d
 
 module _ {R : Type 0} {G : Ghosts R} where
@@ -58,7 +58,7 @@ module _ {R : Type 0} {G : Ghosts R} where
   windowed a now window sound w = record {
     sound = w.fault;
     goes = advances_so (advances_reading a.cursor now w.reads) (λ d stand _.
-        ap (λ x. told (with_fault fault_of_look x) (state a)) (ap (λ s. look d s.offset WINDOW) (sym w.reads.spot) ∙ sym (w.answer sound d stand.after))
+        ap (λ x. lift (with_fault fault_of_look x) (state a)) (ap (λ s. look d s.offset WINDOW) (sym w.reads.spot) ∙ sym (w.answer sound d stand.after))
         ∙ ap (λ s. done window.now (record { offset = s.offset; store = a.store; mode = a.mode })) (sym w.reads.spot));
   }
 
@@ -66,7 +66,7 @@ module _ {R : Type 0} {G : Ghosts R} where
   pub window_faulty : (a : Run R G) (now : Cursor R G) (fault : LookFault) → IsSound a → GivesWindow a.cursor now (Err fault) → AdvancesSuchThat a.cursor now (λ d. see_window d (state a) ≡ faulty (fault_of_look fault) now.spot.offset)
   window_faulty a now fault sound w =
       advances_so (advances_reading a.cursor now w.reads) (λ d stand _.
-      ap (λ x. told (with_fault fault_of_look x) (state a)) (ap (λ s. look d s.offset WINDOW) (sym w.reads.spot) ∙ sym (w.answer sound d stand.after))
+      ap (λ x. lift (with_fault fault_of_look x) (state a)) (ap (λ s. look d s.offset WINDOW) (sym w.reads.spot) ∙ sym (w.answer sound d stand.after))
       ∙ ap (λ s. faulty (fault_of_look fault) s.offset) (sym w.reads.spot))
 
   pub matched_faulty : (a : Run R G) (now : Cursor R G) (fault : LookFault) (literal : List ℕ) → IsSound a → GivesWindow a.cursor now (Err fault) → AdvancesSuchThat a.cursor now (λ d. matched literal d (state a) ≡ faulty (fault_of_look fault) now.spot.offset)

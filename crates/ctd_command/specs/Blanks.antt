@@ -1,12 +1,11 @@
 -- The commands that skip blanks: SPACE, NEWLINE and EOF; and the start of the data.
 use Rattle.std.specs.Prelude.{ℕ, Bool, false, ◌||◌, nat_eq, ⊤, Option, Some, None, if◌then◌else◌}
 use Rattle.std.specs.List.{prefix_len}
-use Rattle.ctd_source.specs.TestData.{visible}
 use Rattle.ctd_program.specs.declared.mode.Mode.{Mode}
 use Rattle.ctd_program.specs.declared.mode.Mode.TheVariants.{Exact, BlanksOk}
 use Rattle.ctd_outcome.specs.declared.reason.Reason.TheVariants.{ExpectedSpace, ExpectedNewline}
-use Rattle.ctd_command.specs.State.{Act, ◌>>=◌, give, reject, pass, see_next}
-use Rattle.ctd_command.specs.Effect.{one_byte, eof}
+use Rattle.ctd_command.specs.State.{Act, ◌>>=◌, return, reject, see_next, see_visible, pass_then}
+use Rattle.ctd_command.specs.Commands.{one_byte, eof}
 
 -- a blank is a space, a tab, a vertical tab, a form feed or a carriage return
 abbrev pub is_blank : ℕ → Bool
@@ -17,16 +16,11 @@ abbrev pub blank_next : Option ℕ → Bool
 blank_next None = false
 blank_next (Some b) = is_blank b
 
--- so many blanks are passed, up to another byte or the end
-abbrev pub skip_first : ℕ → Act ⊤
-skip_first n = do
-  _ ← pass n
-  _ ← see_next
-  give tt
-
--- all blanks that come next
+-- all blanks that come next, up to another byte or the end
 abbrev pub skip_blanks : Act ⊤
-skip_blanks d s = skip_first (prefix_len is_blank (visible d s.offset)) d s
+skip_blanks = do
+  rest ← see_visible
+  pass_then (prefix_len is_blank rest) (return tt)
 
 -- one blank or more, as many as there are
 abbrev pub some_blanks : Act ⊤
@@ -52,33 +46,33 @@ abbrev pub space_in : Mode → Act ⊤
 space_in Exact = one_byte 32 ExpectedSpace
 space_in BlanksOk = some_blanks
 
--- NEWLINE
+-- what NEWLINE does in each mode
 abbrev pub newline_in : Mode → Act ⊤
 newline_in Exact = one_byte 10 ExpectedNewline
 newline_in BlanksOk = newline_between_blanks
 
--- EOF, and the end of a program
+-- what EOF, and the end of a program, does in each mode
 abbrev pub end_in : Mode → Act ⊤
 end_in Exact = eof
 end_in BlanksOk = end_behind_blanks
 
--- what is done before the first command
+-- what is done before the first command in each mode
 abbrev pub start_in : Mode → Act ⊤
-start_in Exact = give tt
+start_in Exact = return tt
 start_in BlanksOk = skip_blanks
 
--- the same in the mode of the run
+-- SPACE in the mode of the run
 abbrev pub space : Act ⊤
 space d s = space_in s.mode d s
 
--- a line feed
+-- NEWLINE in the mode of the run
 abbrev pub newline : Act ⊤
 newline d s = newline_in s.mode d s
 
--- the end of the data
+-- EOF, and the end of a program, in the mode of the run
 abbrev pub end : Act ⊤
 end d s = end_in s.mode d s
 
--- the start of the data
+-- what is done before the first command, in the mode of the run
 abbrev pub first_skip : Act ⊤
 first_skip d s = start_in s.mode d s

@@ -19,7 +19,7 @@ failure_of evals.Count = Stopped Count
 failure_of evals.Shape = Stopped Shape
 failure_of evals.Memory = Memory
 
--- the same of a test
+-- how a command fails when a test does
 abbrev pub test_failure : TestFault → CommandFailure
 test_failure (tests.Eval fault) = failure_of fault
 test_failure (tests.Look fault) = Stopped (fault_of_look fault)

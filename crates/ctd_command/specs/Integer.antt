@@ -28,8 +28,8 @@ abbrev pub is_zero_first : List ℕ → Bool
 is_zero_first digits = nat_eq (get_or digits 0 0) 48
 
 -- the number, negative after a minus
-abbrev pub signed : Bool → ℕ → ℤ
-signed negative n = if negative then neg_ℤ (pos n) else pos n
+abbrev pub with_sign : Bool → ℕ → ℤ
+with_sign negative n = if negative then neg_ℤ (pos n) else pos n
 
 -- the number, where it lies in the interval
 abbrev pub in_interval : ℤ → ℤ → ℤ → Option ℤ
@@ -41,4 +41,4 @@ judge least most negative digits =
     if nat_eq (length digits) 0 then Err ExpectedInt
     else if is_zero_first digits && not negative && nat_lt 1 (length digits) then Err LeadingZero
     else if is_zero_first digits && negative then Err MinusZero
-    else ok_or (in_interval least most (signed negative (decimal digits))) OutOfRange
+    else ok_or (in_interval least most (with_sign negative (decimal digits))) OutOfRange

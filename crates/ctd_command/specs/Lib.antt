@@ -1,5 +1,5 @@
 pub mod State
-pub mod Effect
+pub mod Commands
 pub mod Integer
 pub mod Blanks
 pub mod Regex

@@ -12,7 +12,7 @@ use Rattle.ctd_command.specs.Integer.{is_minus, digits_of, prefix_len_of, in_int
 use Rattle.ctd_command.specs.Summaries.{Summarizes}
 
 -- bytes begin with an integer that ends before they do and has its form, so that its value alone is judged: its value and its length
-pub record IsInFront (bytes : List ℕ) (value : ℤ) (size : ℕ) : Type 0 where
+pub record IsBufferedInteger (bytes : List ℕ) (value : ℤ) (size : ℕ) : Type 0 where
   pub len : size ≡ prefix_len_of bytes
   pub ends : size < length bytes
   pub judged : (least most : ℤ) → judge least most (is_minus bytes) (digits_of bytes) ≡ ok_or (in_interval least most value) OutOfRange
@@ -48,7 +48,7 @@ pub record PassesDigits (old new : DigitSummary) (d : TestData) (p q : ℕ) (res
   pub stop : StopsAt result (next_byte d q)
 
 -- from offset p to q the first n of the wanted bytes are passed; where none are, the next byte is another one, or there is none
-pub record PassesFront (wanted : List ℕ) (d : TestData) (p q n : ℕ) : Type 0 where
+pub record PassesPrefix (wanted : List ℕ) (d : TestData) (p q n : ℕ) : Type 0 where
   pub offset : q ≡ p + n
   pub visible_is : visible d p ≡ take n wanted ++ visible d q
   pub seen : IsOk (next_byte d p)
@@ -56,7 +56,7 @@ pub record PassesFront (wanted : List ℕ) (d : TestData) (p q n : ℕ) : Type 0
 
 -- a run of them is passed, or a look has a fault
 abbrev pub PassesSome : List ℕ → TestData → (p q : ℕ) → Result ℕ LookFault → Type 0
-PassesSome wanted d p q (Ok n) = PassesFront wanted d p q n
+PassesSome wanted d p q (Ok n) = PassesPrefix wanted d p q n
 PassesSome wanted d p q (Err fault) = (q ≡ p) × (next_byte d p ≡ Err fault)
 
 -- from offset p to q all blanks are passed, up to another byte or the end, or to a fault

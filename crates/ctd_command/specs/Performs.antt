@@ -12,7 +12,7 @@ use Rattle.ctd_command.specs.declared.failure.CommandFailure.{CommandFailure}
 use Rattle.ctd_command.specs.declared.failure.Failure.TheVariants.{Rejected, Stopped, Memory}
 use Rattle.ctd_command.specs.State.{State, Effect, Act, done, rejected, faulty, evaluate}
 
--- the same result, of what its answer stands for
+-- a result, with what its answer stands for in place of the answer
 abbrev pub answering : {A B E : Type 0} → (A → B) → Result A E → Result B E
 answering f (Ok x) = Ok (f x)
 answering f (Err e) = Err e

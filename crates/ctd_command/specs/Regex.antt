@@ -6,26 +6,26 @@ use Rattle.ctd_pattern.specs.Pattern.{length_at_start}
 use Rattle.ctd_store.specs.declared.value.Value.TheVariants as values
 use Rattle.ctd_outcome.specs.declared.reason.Reason.TheVariants.{RegexMismatch}
 use Rattle.ctd_outcome.specs.declared.reason.Fault.TheVariants.{MatchTooLong}
-use Rattle.ctd_command.specs.State.{Act, ◌>>=◌, give, reject, stop, pass, see_window}
-use Rattle.ctd_command.specs.Effect.{keep}
+use Rattle.ctd_command.specs.State.{Act, ◌>>=◌, return, reject, stop, pass, see_window}
+use Rattle.ctd_command.specs.Commands.{keep}
 
 -- a match of so many bytes, of which the window has more; no match rejects the data
 abbrev pub shorter_match : Option ℕ → Act ℕ
 shorter_match None = reject RegexMismatch
-shorter_match (Some n) = if nat_eq n WINDOW then stop MatchTooLong else give n
+shorter_match (Some n) = if nat_eq n WINDOW then stop MatchTooLong else return n
 
 -- the bytes that the pattern of a literal matches at the start of the window
 abbrev pub matched : List ℕ → Act (List ℕ)
 matched literal = do
   window ← see_window
   n ← shorter_match (length_at_start literal window)
-  give (take n window)
+  return (take n window)
 
 -- how many they are
 abbrev pub matched_len : List ℕ → Act ℕ
 matched_len literal = do
   bytes ← matched literal
-  give (length bytes)
+  return (length bytes)
 
 -- they are passed, and the target gets them
 abbrev pub regex : List ℕ → Option VarTree → Act ⊤

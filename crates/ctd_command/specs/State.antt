@@ -3,7 +3,7 @@ use Rattle.std.specs.Prelude.{ℕ, ◌+◌, ⊤, List, Option, Result, Ok, Err}
 use Rattle.ctd_source.specs.declared.limits.TheConstants.{WINDOW}
 use Rattle.ctd_source.specs.declared.spot.LookFault.{LookFault}
 use Rattle.ctd_source.specs.declared.spot.LookFault.TheVariants as looks
-use Rattle.ctd_source.specs.TestData.{TestData, next_byte, look}
+use Rattle.ctd_source.specs.TestData.{TestData, next_byte, look, visible}
 use Rattle.ctd_store.specs.Store.{History}
 use Rattle.ctd_value.specs.Fault.{ValueFault, TruthFault}
 use Rattle.ctd_value.specs.Fault as faults
@@ -39,9 +39,9 @@ infixl 10 ◌>>=◌
 abbrev pub ◌>>=◌ : {A B : Type 0} → Act A → (A → Act B) → Act B
 m >>= f = λ d s. proceed (m d s) (λ x t. f x d t)
 
--- an answer alone
-abbrev pub give : {A : Type 0} → A → Act A
-give x d s = done x s
+-- this answer, and nothing is done
+abbrev pub return : {A : Type 0} → A → Act A
+return x d s = done x s
 
 -- the data do not match
 abbrev pub reject : {A : Type 0} → Reason → Act A
@@ -55,17 +55,17 @@ stop fault d s = faulty fault s.offset
 abbrev pub pass : ℕ → Act ⊤
 pass n d s = done tt (record { offset = s.offset + n; store = s.store; mode = s.mode })
 
--- an answer, or a fault at this state
-abbrev pub told : {A : Type 0} → Result A Fault → State → Effect A
-told (Ok x) s = done x s
-told (Err fault) s = faulty fault s.offset
+-- an answer, or a fault that stops the run at this state
+abbrev pub lift : {A : Type 0} → Result A Fault → State → Effect A
+lift (Ok x) s = done x s
+lift (Err fault) s = faulty fault s.offset
 
--- The faults of looks, values and tests, as faults of a check.
+-- the fault of a check for each fault of a look
 abbrev pub fault_of_look : LookFault → Fault
 fault_of_look looks.Read = Read
 fault_of_look looks.DataTooLong = DataTooLong
 
--- want of a value
+-- the fault of a check for each fault of a value
 abbrev pub fault_of_value : ValueFault → Fault
 fault_of_value faults.Undefined = Undefined
 fault_of_value faults.WrongType = WrongType
@@ -75,19 +75,30 @@ fault_of_value faults.Exponent = Exponent
 fault_of_value faults.Count = Count
 fault_of_value faults.Shape = Shape
 
--- want of an answer
+-- the fault of a check for each fault of a test
 abbrev pub fault_of_truth : TruthFault → Fault
 fault_of_truth (faults.Value fault) = fault_of_value fault
 fault_of_truth (faults.Look fault) = fault_of_look fault
 
 -- a value of the variables, or its fault
 abbrev pub evaluate : {A : Type 0} → (History → Result A ValueFault) → Act A
-evaluate f d s = told (faults.with_fault fault_of_value (f s.store)) s
+evaluate f d s = lift (faults.with_fault fault_of_value (f s.store)) s
 
 -- the next byte, or none at the end
 abbrev pub see_next : Act (Option ℕ)
-see_next d s = told (faults.with_fault fault_of_look (next_byte d s.offset)) s
+see_next d s = lift (faults.with_fault fault_of_look (next_byte d s.offset)) s
+
+-- the bytes to come that are visible: up to the end, the limit or a failed read
+abbrev pub see_visible : Act (List ℕ)
+see_visible d s = done (visible d s.offset) s
+
+-- so many of the visible bytes are passed, and the byte after them is seen before anything else is done
+abbrev pub pass_then : {A : Type 0} → ℕ → Act A → Act A
+pass_then n next = do
+  _ ← pass n
+  _ ← see_next
+  next
 
 -- the window: as many of the bytes to come as it has, or all of them
 abbrev pub see_window : Act (List ℕ)
-see_window d s = told (faults.with_fault fault_of_look (look d s.offset WINDOW)) s
+see_window d s = lift (faults.with_fault fault_of_look (look d s.offset WINDOW)) s

@@ -1,7 +1,7 @@
 //! ASSERT.
 
 ghost use Rattle.ctd_program.specs.View.{test_tree};
-ghost use Rattle.ctd_command.specs.Effect.{assert};
+ghost use Rattle.ctd_command.specs.Commands.{assert};
 ghost use Rattle.ctd_command.specs.Performs.{IsSound, Performs};
 
 use crate::failure::CommandFailure;
@@ -17,13 +17,13 @@ impl<'d, D: Source> Run<'d, D> {
         requires sound { IsSound self.old }
         ensures performs { Performs self.old self.new result (assert (test_tree t.now)) }
     {
-        match self.answer_at_hand(t) {
+        match self.fast_answer(t) {
             Some(true) => Ok(()),
             _ => self.any_assert(t),
         }
     }
 
-    /// The same of any test. A function of its own, so that a test whose truth is at hand need not make room for it.
+    /// ASSERT of any test. Out of line: keeps the caller small, which answers most tests itself.
     #[inline(never)]
     fn any_assert(&mut self, t: &Test) -> Result<(), CommandFailure>
         requires sound { IsSound self.old }

@@ -1,6 +1,6 @@
 //! The commands of one byte, and the end of the data.
 ghost use Rattle.ctd_command.specs.Blanks.{space, newline, end, newline_between_blanks, end_behind_blanks};
-ghost use Rattle.ctd_command.specs.Effect.{one_byte, eof};
+ghost use Rattle.ctd_command.specs.Commands.{one_byte, eof};
 ghost use Rattle.ctd_command.specs.Performs.{IsSound, Performs};
 
 use crate::failure::CommandFailure;

@@ -3,8 +3,8 @@
 ghost use Rattle.std.specs.Prelude.{◌≡◌, ◌≤◌, ◌<◌, ◌+◌, ◌-◌, ◌*◌, ◌^◌, ◌++◌, if◌then◌else◌, ◌∷◌, [], ℕ, List, length, take, min, IfSome, IfNone, true, false};
 ghost use Rattle.std.specs.List.{prefix_len, take_while};
 ghost use Rattle.std.specs.Char.{is_ascii_digit};
-ghost use Rattle.ctd_command.specs.Integer.{decimal, judge, signed, in_interval};
-ghost use Rattle.ctd_command.specs.declared.digits.TheConstants.{FEW};
+ghost use Rattle.ctd_command.specs.Integer.{decimal, judge, with_sign, in_interval};
+ghost use Rattle.ctd_command.specs.declared.digits.TheConstants.{MAX_U64_DIGITS};
 
 use ctd_outcome::Reason;
 
@@ -26,7 +26,7 @@ const MIN_SIZE: u128 = 0x8000_0000_0000_0000_0000_0000_0000_0000;
 const BEYOND: u128 = 0x8000_0000_0000_0000_0000_0000_0000_0001;
 
 /// How many digits have a number of 64 bits, whichever they are.
-pub(crate) const FEW: usize = 19;
+pub(crate) const MAX_U64_DIGITS: usize = 19;
 
 /// The number that a further digit makes; none where the byte is no digit.
 #[inline(always)]
@@ -44,11 +44,11 @@ fn with_digit(number: u64, byte: u8) -> Option<u64>
     Some(number * 10 + digit)
 }
 
-/// The number of the digits that a few bytes begin with, and how many they are. A function of its own: within another, the compiler keeps
+/// The number of the digits that a few bytes begin with, and how many they are. Out of line: within another function the compiler keeps
 /// three counters of the digits. It takes four digits a turn, while there are four bytes.
 #[inline(never)]
-pub(crate) fn number_in_front(few: &[u8]) -> (u64, usize)
-    requires { length few.now ≤ FEW }
+pub(crate) fn leading_number(few: &[u8]) -> (u64, usize)
+    requires { length few.now ≤ MAX_U64_DIGITS }
     ensures number { result.0 ≡ decimal (take_while is_ascii_digit few.now) }
     ensures count { result.1 ≡ prefix_len is_ascii_digit few.now }
 {
@@ -94,7 +94,7 @@ fn append_digit(size: u128, digit: u8) -> u128
 
 /// The value of a sign and a size, where 128 bits hold it.
 fn value_of(is_negative: bool, size: u128) -> Option<i128>
-    ensures some { IfSome result (λ v. (size < 2 ^ 127 + 1) × (v ≡ signed is_negative size)) }
+    ensures some { IfSome result (λ v. (size < 2 ^ 127 + 1) × (v ≡ with_sign is_negative size)) }
     ensures none { IfNone result (2 ^ 127 < size + (if is_negative then 0 else 1)) }
 {
     if size < MIN_SIZE {
@@ -109,7 +109,7 @@ fn value_of(is_negative: bool, size: u128) -> Option<i128>
 
 /// The value of a sign and a size of any length, where it lies in the interval.
 fn value_in_interval(least: i128, most: i128, is_negative: bool, size: u128) -> Option<i128>
-    ensures { (n : ℕ) → size ≡ min n (2 ^ 127 + 1) → result ≡ in_interval least most (signed is_negative n) }
+    ensures { (n : ℕ) → size ≡ min n (2 ^ 127 + 1) → result ≡ in_interval least most (with_sign is_negative n) }
 {
     let value = value_of(is_negative, size)?;
     if least <= value && value <= most {

@@ -4,7 +4,7 @@ ghost use Rattle.ctd_program.specs.View.{expr_tree, var_tree, test_tree, target}
 ghost use Rattle.ctd_store.specs.declared.value.Value.TheVariants as values;
 ghost use Rattle.ctd_value.specs.Val.{count, number_of};
 ghost use Rattle.ctd_command.specs.State.{evaluate};
-ghost use Rattle.ctd_command.specs.Effect.{set_to, keep, answer};
+ghost use Rattle.ctd_command.specs.Commands.{set_to, keep, answer};
 ghost use Rattle.ctd_command.specs.Performs.{IsSound, Performs};
 
 use crate::failure::CommandFailure;
@@ -25,9 +25,9 @@ impl<'d, D: Source> Run<'d, D> {
         Ok(number_of(self.alloc, e, &self.store)?)
     }
 
-    /// The same, where it is at hand; none says nothing.
+    /// The fast path of `number`; `None` means: take the general path.
     #[inline(always)]
-    pub(crate) fn number_at_hand(&self, e: &Expr) -> Option<i128>
+    pub(crate) fn fast_number(&self, e: &Expr) -> Option<i128>
         requires sound { IsSound self.now }
         ensures performs { IfSome result (λ n. Performs self.now self.now (Ok n) (evaluate (number_of (expr_tree e.now)))) }
     {
@@ -69,36 +69,36 @@ impl<'d, D: Source> Run<'d, D> {
         requires sound { IsSound self.old }
         ensures performs { Performs self.old self.new result (answer (test_tree t.now)) }
     {
-        match self.answer_at_hand(t) {
+        match self.fast_answer(t) {
             Some(answer) => Ok(answer),
             None => self.any_answer(t),
         }
     }
 
-    /// The same, where it is at hand; none says nothing.
+    /// The fast path of `answer`, from the variables alone; `None` means: take the general path.
     #[inline(always)]
-    pub(crate) fn answer_at_hand(&self, t: &Test) -> Option<bool>
+    pub(crate) fn fast_answer(&self, t: &Test) -> Option<bool>
         requires sound { IsSound self.now }
         ensures performs { IfSome result (λ truth. Performs self.now self.now (Ok truth) (answer (test_tree t.now))) }
     {
         truth_at_hand(t, &self.store)
     }
 
-    /// The same of any test, which may ask for the next byte.
+    /// Whether any test is true, which may ask for the next byte.
     #[inline(never)]
     pub(crate) fn any_answer(&mut self, t: &Test) -> Result<bool, CommandFailure>
         requires sound { IsSound self.old }
         ensures performs { Performs self.old self.new result (answer (test_tree t.now)) }
     {
-        match self.answer_in_front(t) {
+        match self.buffered_answer(t) {
             Some(answer) => Ok(answer),
             None => self.answer_by_parts(t),
         }
     }
 
-    /// The same, where the next byte is held and tells; none says nothing.
+    /// The fast path of `any_answer`, where the next byte is held and decides; `None` means: take the general path.
     #[inline(always)]
-    fn answer_in_front(&self, t: &Test) -> Option<bool>
+    fn buffered_answer(&self, t: &Test) -> Option<bool>
         requires sound { IsSound self.now }
         ensures performs { IfSome result (λ truth. Performs self.now self.now (Ok truth) (answer (test_tree t.now))) }
     {
@@ -106,7 +106,7 @@ impl<'d, D: Source> Run<'d, D> {
         truth_in_front_of(*byte, t)
     }
 
-    /// The same of any test. A function of its own, so that a test whose answer is at hand need not make room for it.
+    /// Whether any test is true, by its parts. Out of line: keeps the callers small, which answer most tests themselves.
     #[inline(never)]
     fn answer_by_parts(&mut self, t: &Test) -> Result<bool, CommandFailure>
         requires sound { IsSound self.old }

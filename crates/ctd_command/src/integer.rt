@@ -3,12 +3,12 @@ ghost use Rattle.std.specs.Prelude.{◌≡◌, OnOk, IfSome, None, true};
 ghost use Rattle.ctd_source.specs.CursorState.{state_of};
 ghost use Rattle.ctd_source.specs.Received.{AdvancesSuchThat};
 ghost use Rattle.ctd_program.specs.View.{expr_tree, target};
-ghost use Rattle.ctd_command.specs.Effect.{int, integer};
-ghost use Rattle.ctd_command.specs.Integer.{is_minus, signed};
-ghost use Rattle.ctd_command.specs.Passing.{IsInFront, PassesMinus, PassesDigits};
+ghost use Rattle.ctd_command.specs.Commands.{int, integer};
+ghost use Rattle.ctd_command.specs.Integer.{is_minus, with_sign};
+ghost use Rattle.ctd_command.specs.Passing.{IsBufferedInteger, PassesMinus, PassesDigits};
 ghost use Rattle.ctd_command.specs.Performs.{IsSound, Performs, IsBetween};
 
-use crate::digits::{DigitSummary, FEW, number_in_front};
+use crate::digits::{DigitSummary, MAX_U64_DIGITS, leading_number};
 use crate::failure::CommandFailure;
 use crate::machine::Run;
 use ctd_program::{Expr, Var};
@@ -16,7 +16,7 @@ use ctd_source::{Cursor, LookFault, Source};
 
 /// An integer at the front of some bytes.
 #[derive(Clone, Copy)]
-struct Front {
+struct BufferedInteger {
     value: i128,
     /// How many bytes it takes.
     len: usize,
@@ -31,30 +31,30 @@ fn begins_with_minus(bytes: &[u8]) -> bool
 
 /// The value of a sign and a size of 64 bits.
 #[inline(always)]
-fn signed(is_negative: bool, size: u64) -> i128
-    ensures { result ≡ signed is_negative size }
+fn with_sign(is_negative: bool, size: u64) -> i128
+    ensures { result ≡ with_sign is_negative size }
 {
     let value = i128::from(size);
     if is_negative { -value } else { value }
 }
 
-/// The integer that some bytes begin with, where it has few digits, ends before the bytes do and has its form.
-fn integer_in_front(bytes: &[u8]) -> Option<Front>
-    ensures { IfSome result (λ front. IsInFront bytes.now front.value front.len) }
+/// The integer that some bytes begin with, where it has at most 19 digits, ends before the bytes do and is written as INT wants it.
+fn buffered_integer(bytes: &[u8]) -> Option<BufferedInteger>
+    ensures { IfSome result (λ front. IsBufferedInteger bytes.now front.value front.len) }
 {
     let is_negative = begins_with_minus(bytes);
     let sign_len = usize::from(is_negative);
     let unsigned = &bytes[sign_len..];
-    let few = &unsigned[..unsigned.len().min(FEW)];
-    let (size, count) = number_in_front(few);
+    let few = &unsigned[..unsigned.len().min(MAX_U64_DIGITS)];
+    let (size, count) = leading_number(few);
     if count == few.len() || count == 0 {
         return None;
     }
     if few[0] == b'0' && (is_negative || count > 1) {
         return None;
     }
-    Some(Front {
-        value: signed(is_negative, size),
+    Some(BufferedInteger {
+        value: with_sign(is_negative, size),
         len: sign_len + count,
     })
 }
@@ -110,7 +110,7 @@ impl<'d, D: Source> Run<'d, D> {
         requires sound { IsSound self.old }
         ensures performs { Performs self.old self.new result (int (expr_tree low.now) (expr_tree high.now) (target var.now)) }
     {
-        let Some(front) = integer_in_front(self.cursor.held_run()) else {
+        let Some(front) = buffered_integer(self.cursor.held_run()) else {
             return self.any_int(low, high, var);
         };
         if !self.is_between(front.value, low, high) {
@@ -120,14 +120,14 @@ impl<'d, D: Source> Run<'d, D> {
         self.keep(var, front.value)
     }
 
-    /// Whether both bounds are at hand and the value lies between them.
+    /// Whether the fast path gives both bounds and the value lies between them.
     #[inline(always)]
     fn is_between(&self, value: i128, low: &Expr, high: &Expr) -> bool
         requires sound { IsSound self.now }
         ensures { result ≡ true → IsBetween self.now value (expr_tree low.now) (expr_tree high.now) }
     {
-        match self.number_at_hand(low) {
-            Some(least) if least <= value => match self.number_at_hand(high) {
+        match self.fast_number(low) {
+            Some(least) if least <= value => match self.fast_number(high) {
                 Some(most) => value <= most,
                 None => false,
             },
@@ -135,7 +135,7 @@ impl<'d, D: Source> Run<'d, D> {
         }
     }
 
-    /// The same of any bounds and any integer. A function of its own, so that what is at hand need not make room for it.
+    /// INT with any bounds and any integer. Out of line: keeps the caller small.
     #[inline(never)]
     fn any_int(&mut self, low: &Expr, high: &Expr, var: &Option<Var>) -> Result<(), CommandFailure>
         requires sound { IsSound self.old }

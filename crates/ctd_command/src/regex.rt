@@ -49,7 +49,7 @@ impl<'d, D: Source> Run<'d, D> {
     }
 
     /// Passes the match at the start of the window and keeps it in a variable. It is copied from where it stands, so it is passed
-    /// behind that; a fault of the variable comes after both. A function of its own, so that no other command makes room for it.
+    /// behind that; a fault of the variable comes after both. Out of line: keeps the caller small.
     #[inline(never)]
     fn keep_match(&mut self, v: &Var, matcher: &mut Matcher<'_>) -> Result<(), CommandFailure>
         requires sound { IsSound self.old }

@@ -6,7 +6,7 @@ ghost use Rattle.ctd_source.specs.CursorState.{state_of, MovesPast};
 ghost use Rattle.ctd_source.specs.Received.{AdvancesSuchThat};
 ghost use Rattle.ctd_source.specs.TestData.{is_newline};
 ghost use Rattle.ctd_program.specs.View.{expr_tree};
-ghost use Rattle.ctd_command.specs.Effect.{string, match_bytes};
+ghost use Rattle.ctd_command.specs.Commands.{string, match_bytes};
 ghost use Rattle.ctd_command.specs.Alone.{DoesAlone};
 ghost use Rattle.ctd_command.specs.Passing.{PassesSome};
 ghost use Rattle.ctd_command.specs.Performs.{IsSound, Performs};
@@ -20,7 +20,7 @@ use ctd_value::text_of;
 
 /// How many bytes at the front of two lists agree.
 #[derive(Clone, Copy)]
-struct CommonFront {
+struct CommonPrefix {
     len: usize,
     /// Whether it is known that none of them ends a line.
     is_in_line: bool,
@@ -40,7 +40,7 @@ fn agree_in_line(wanted: &[u8], bytes: &[u8]) -> bool
 }
 
 /// How many bytes at the front of two lists agree. Most often one of them is all of the front of the other.
-fn common_front(wanted: &[u8], bytes: &[u8]) -> CommonFront
+fn common_prefix(wanted: &[u8], bytes: &[u8]) -> CommonPrefix
     ensures len { result.len ≡ common_prefix_len nat_eq wanted.now bytes.now }
     ensures in_line { result.is_in_line ≡ true → count_by is_newline (take result.len bytes.now) ≡ 0 }
 {
@@ -48,18 +48,18 @@ fn common_front(wanted: &[u8], bytes: &[u8]) -> CommonFront
     let (wanted_front, bytes_front) = (&wanted[..most], &bytes[..most]);
     let is_in_line = agree_in_line(wanted_front, bytes_front);
     if is_in_line || wanted_front == bytes_front {
-        return CommonFront {
+        return CommonPrefix {
             len: most,
             is_in_line,
         };
     }
-    CommonFront {
+    CommonPrefix {
         len: first_difference(wanted, bytes),
         is_in_line: false,
     }
 }
 
-/// The same number, by a look at each byte.
+/// How many bytes at the front of two lists agree, by a look at each byte.
 fn first_difference(wanted: &[u8], bytes: &[u8]) -> usize
     ensures { result ≡ common_prefix_len nat_eq wanted.now bytes.now }
 {
@@ -82,20 +82,20 @@ fn rest_after(bytes: &[u8], count: usize) -> &[u8]
     &bytes[count..]
 }
 
-/// How many bytes are compared at once: so few that they are near by when their lines are counted.
-const STRETCH: usize = 16_384;
+/// How many bytes are compared at once: they fit in the cache, where their lines are counted next.
+const COMPARE_CHUNK: usize = 16_384;
 
-/// The first bytes, as many as are compared at once.
-fn stretch(bytes: &[u8]) -> &[u8]
+/// The first of the bytes, as many as are compared at once.
+fn first_chunk(bytes: &[u8]) -> &[u8]
     ensures front { take (length result.now) bytes.now ≡ result.now }
     ensures within { length result.now ≤ length bytes.now }
     ensures some { 0 < length bytes.now → 0 < length result.now }
 {
-    &bytes[..bytes.len().min(STRETCH)]
+    &bytes[..bytes.len().min(COMPARE_CHUNK)]
 }
 
 /// Passes the bytes that agree. Where none of them ends a line, there is no look for lines.
-fn pass_agreed<D: Source>(front: CommonFront, cursor: &mut Cursor<'_, D>)
+fn pass_common_prefix<D: Source>(front: CommonPrefix, cursor: &mut Cursor<'_, D>)
     requires held { front.len ≤ length (state_of cursor.old).held }
     requires in_line { front.is_in_line ≡ true → count_by is_newline (take front.len (state_of cursor.old).held) ≡ 0 }
     ensures moves { MovesPast front.len cursor.old cursor.new }
@@ -108,8 +108,8 @@ fn pass_agreed<D: Source>(front: CommonFront, cursor: &mut Cursor<'_, D>)
     }
 }
 
-/// Passes as many of the wanted bytes as come next and are held, a stretch of them at most; tells how many.
-fn pass_front<D: Source>(wanted: &[u8], cursor: &mut Cursor<'_, D>) -> Result<usize, LookFault>
+/// Passes as many of the wanted bytes as come next and are held, a chunk of them at most, and tells how many.
+fn pass_prefix<D: Source>(wanted: &[u8], cursor: &mut Cursor<'_, D>) -> Result<usize, LookFault>
     requires sound { (state_of cursor.old).fault ≡ None }
     ensures sound { OnOk result ((state_of cursor.new).fault ≡ None) }
     ensures within { IfOk result (λ n. n ≤ length wanted.now) }
@@ -117,8 +117,8 @@ fn pass_front<D: Source>(wanted: &[u8], cursor: &mut Cursor<'_, D>) -> Result<us
 {
     match cursor.look() {
         Ok(Some(_byte)) => {
-            let front = common_front(wanted, stretch(cursor.held_run()));
-            pass_agreed(front, cursor);
+            let front = common_prefix(wanted, first_chunk(cursor.held_run()));
+            pass_common_prefix(front, cursor);
             Ok(front.len)
         }
         Ok(None) => Ok(0),
@@ -134,7 +134,7 @@ fn match_bytes<D: Source>(bytes: &[u8], cursor: &mut Cursor<'_, D>) -> Result<()
 {
     let mut rest = bytes;
     while !rest.is_empty() {
-        let count = pass_front(rest, cursor)?;
+        let count = pass_prefix(rest, cursor)?;
         if count == 0 {
             return Err(CommandFailure::rejected(Reason::StringMismatch));
         }

@@ -11,6 +11,7 @@ pub record Change {S : Type 0} (G : Ghosts S) : Type 0 where
   pub old : S
   pub new : S
 
+-- the stream as a call begins and as it ends
 abbrev pub change : {S : Type 0} (G : Ghosts S) → S → S → Change G
 change G old new = record { old = old; new = new }
 

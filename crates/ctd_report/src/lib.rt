@@ -1,6 +1,7 @@
 //! The report of a run: its texts, and the sinks that they are written to.
 #![tactic(auto)]
 
+mod load_line;
 mod report;
 mod sink;
 mod written;

@@ -2,9 +2,10 @@
 
 ghost use Rattle.std.specs.Prelude.{◌≡◌, ◌≢◌, false, string_bytes, true, IfOk};
 ghost use Rattle.ctd_token.specs.declared.fault.LoadKind.TheVariants.{Memory};
-ghost use Rattle.ctd_report.specs.Report.{check_report, load_line, load_report, on_err, on_out, open_line, open_report, outcome_line, usage_report, usage_text};
+ghost use Rattle.ctd_report.specs.Report.{check_report, load_report, on_err, on_out, open_line, open_report, outcome_line, usage_report, usage_text};
 ghost use Rattle.ctd_report.specs.Written.{Leaves, change};
 
+use crate::load_line::load_line_of;
 use crate::sink::Sink;
 use crate::written::{ToolFault, write_report};
 use ctd_arguments::UsageFault;
@@ -38,13 +39,6 @@ fn line_of(alloc: Global, outcome: &Outcome) -> Result<String, AllocError>
     }
 }
 
-/// The line of a program that is not read.
-fn load_line_of(alloc: Global, fault: &LoadFault) -> Result<String, AllocError>
-    ensures { IfOk result (λ line. string_bytes line ≡ load_line fault.now) }
-{
-    format!(in alloc; "checktestdata: {fault}\n")
-}
-
 /// Writes how a check ended, and answers the status. The verdict is left out where the run is quiet.
 pub fn write_outcome<O: Sink, E: Sink>(
     alloc: Global,
@@ -67,9 +61,9 @@ pub fn write_outcome<O: Sink, E: Sink>(
     }
 }
 
-/// Writes why a program was not read, and returns the status. `Memory` is returned and not written.
+/// Writes why a program was not read, and returns the status. It allocates nothing: `Memory` is returned, and not written, for a
+/// fault of this kind alone.
 pub fn write_load_fault<O: Sink, E: Sink>(
-    alloc: Global,
     fault: &LoadFault,
     out: &mut O,
     err: &mut E,
@@ -79,12 +73,13 @@ pub fn write_load_fault<O: Sink, E: Sink>(
     ensures written { Leaves (change O.Sink out.old out.new) (change E.Sink err.old err.new)
         (load_report fault.now) result }
     ensures memory { fault.now.kind ≡ Memory → result ≡ Err ToolFault.Memory }
+    ensures alone { result ≡ Err ToolFault.Memory → fault.now.kind ≡ Memory }
 {
     if fault.kind == LoadKind::Memory {
         return Err(ToolFault::Memory);
     }
-    let line = load_line_of(alloc, fault)?;
-    write_report(&[], line.as_bytes(), NO_VERDICT, out, err)
+    let line = load_line_of(fault);
+    write_report(&[], line.as_slice(), NO_VERDICT, out, err)
 }
 
 /// The line of a file that can't be opened.

@@ -40,7 +40,7 @@ pub fn run_tool<P: Source, D: Source, O: Sink, E: Sink>(
         Ok(plan) => plan,
         Err(fault) => match fault.kind {
             LoadKind::Memory => return Err(ToolFault::Memory),
-            _ => return write_load_fault(alloc, &fault, out, err),
+            _ => return write_load_fault(&fault, out, err),
         },
     };
     match check(

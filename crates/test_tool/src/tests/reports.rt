@@ -41,7 +41,7 @@ impl Report {
         match self {
             Report::Outcome(outcome) => write_outcome(alloc, &outcome, false, out, err),
             Report::Quiet(outcome) => write_outcome(alloc, &outcome, true, out, err),
-            Report::LoadFault(fault) => write_load_fault(alloc, &fault, out, err),
+            Report::LoadFault(fault) => write_load_fault(&fault, out, err),
             Report::Usage(fault) => report_usage(&fault, out, err),
             Report::CannotOpen(name) => {
                 let name = Bytes::copy(alloc, name)?;

@@ -3,17 +3,17 @@ use Rattle.ctd_source.specs.Received.{AdvancesSuchThat}
 use Rattle.ctd_command.specs.Performs.{IsSound, state}
 use Rattle.ctd_check.specs.Run.{run}
 use Rattle.ctd_check.specs.Known.{AreKnown}
-use Rattle.ctd_check.specs.Pending.{to_do}
+use Rattle.ctd_check.specs.FrameTasks.{to_do}
 use Rattle.ctd_check.proofs.run.run_tasks.Given as goal
 
 -- what the frames have still to do is what is left of the whole
 abbrev pub invariant-loop-command : goal.invariant-loop-command
 invariant-loop-command g l = record {
   sound : IsSound l.run;
-  known : AreKnown l.matchers (to_do l.agenda.frames.items);
-  spent : l.agenda.left ≤ l.initial.agenda.left;
-  goes : AdvancesSuchThat l.initial.run.cursor l.run.cursor (λ d. run d l.initial.agenda.left (to_do l.initial.agenda.frames.items) (state l.initial.run) ≡ run d l.agenda.left (to_do l.agenda.frames.items) (state l.run));
+  known : AreKnown l.matchers (to_do l.stack.frames.items);
+  spent : l.stack.left ≤ l.initial.stack.left;
+  goes : AdvancesSuchThat l.initial.run.cursor l.run.cursor (λ d. run d l.initial.stack.left (to_do l.initial.stack.frames.items) (state l.initial.run) ≡ run d l.stack.left (to_do l.stack.frames.items) (state l.run));
 }
 
 abbrev pub decreases-loop-command : goal.decreases-loop-command
-decreases-loop-command g l = 2 * l.agenda.left + length l.agenda.frames.items
+decreases-loop-command g l = 2 * l.stack.left + length l.stack.frames.items

@@ -2,8 +2,8 @@ use Rattle.std.proofs.Common.{◌≡◌, ◌<◌, ℕ, length, refl, ap, sym, �
 use Rattle.std.proofs.lemmas.Grind.{common_steps}
 use Rattle.std.proofs.lemmas.List.{nil_from_length}
 use Rattle.ctd_source.proofs.AdvanceLemmas.{advances_so, advances_both, advances_nowhere}
-use Rattle.ctd_command.specs.Effect.{match_bytes}
-use Rattle.ctd_command.specs.Passing.{PassesFront}
+use Rattle.ctd_command.specs.Commands.{match_bytes}
+use Rattle.ctd_command.specs.Passing.{PassesPrefix}
 use Rattle.ctd_command.proofs.Strings.{at_offset, does_after, stopped_alone, string_differs, string_faulty, string_more, string_done}
 use Rattle.ctd_command.proofs.string.match_bytes.Goals as goal
 
@@ -26,14 +26,14 @@ returns-then-count-eq0-clause-matches g c =
     let rest = c.loop-rest.rest.now in
     let some : 0 < length rest = grind arith in
     let p = c.loop-rest.cursor.spot.offset in
-    let q = c.pass_front.new.cursor.spot.offset in
+    let q = c.pass_prefix.new.cursor.spot.offset in
     advances_so (advances_both c.loop-rest.invariant.goes c.in_ok-count.ensures.passes)
-    (λ d _ e store mode. rw c.rejected.ensures (e.0 store mode ∙ (let P : ℕ → Type 0 = λ n. PassesFront rest d p q n in string_differs d (at_offset p store mode) rest q some (subst P c.if-count-eq0.true e.1))))
+    (λ d _ e store mode. rw c.rejected.ensures (e.0 store mode ∙ (let P : ℕ → Type 0 = λ n. PassesPrefix rest d p q n in string_differs d (at_offset p store mode) rest q some (subst P c.if-count-eq0.true e.1))))
 
 pub loop-rest-preserved : goal.loop-rest-preserved
 loop-rest-preserved g c =
     let p = c.loop-rest.cursor.spot.offset in
-    let q = c.pass_front.new.cursor.spot.offset in
+    let q = c.pass_prefix.new.cursor.spot.offset in
     record {
       sound = c.in_ok-count.ensures.sound;
       goes = advances_so (advances_both c.loop-rest.invariant.goes c.in_ok-count.ensures.passes)

@@ -3,7 +3,7 @@ use Rattle.ctd_source.specs.CursorState.{state_of}
 use Rattle.ctd_source.specs.Received.{AdvancesSuchThat}
 use Rattle.ctd_store.specs.Store.{History}
 use Rattle.ctd_program.specs.declared.mode.Mode.{Mode}
-use Rattle.ctd_command.specs.Effect.{match_bytes}
+use Rattle.ctd_command.specs.Commands.{match_bytes}
 use Rattle.ctd_command.proofs.Strings.{at_offset}
 use Rattle.ctd_command.proofs.string.match_bytes.Given as goal
 

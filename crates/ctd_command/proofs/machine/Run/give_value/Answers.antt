@@ -1,5 +1,5 @@
 use Rattle.ctd_program.specs.View.{expr_tree, var_tree}
-use Rattle.ctd_command.proofs.Setting.{expression_set, expression_not_set}
+use Rattle.ctd_command.proofs.Assignments.{expression_set, expression_not_set}
 use Rattle.ctd_command.proofs.machine.Run.give_value.Goals as goal
 
 pub returns-in_err-set_expression : goal.returns-in_err-set_expression

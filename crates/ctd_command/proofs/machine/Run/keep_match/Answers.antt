@@ -1,10 +1,10 @@
 use Rattle.std.proofs.Common.{ap, refl, take, List, ℕ, Err}
 use Rattle.ctd_program.specs.View.{var_tree}
 use Rattle.ctd_store.specs.declared.value.Value.TheVariants.{Text}
-use Rattle.ctd_command.specs.Effect.{set_to}
+use Rattle.ctd_command.specs.Commands.{set_to}
 use Rattle.ctd_command.specs.Regex.{matched, shorter_match}
 use Rattle.ctd_command.proofs.Acts.{and_then, early, early_by, performs_as, stopped_by, with_cursor}
-use Rattle.ctd_command.proofs.Setting.{variable_set, variable_not_set}
+use Rattle.ctd_command.proofs.Assignments.{variable_set, variable_not_set}
 use Rattle.ctd_command.proofs.Windows.{doing, gives_as, windowed, matched_faulty, with_match}
 use Rattle.ctd_command.proofs.machine.Run.keep_match.Goals as goal
 

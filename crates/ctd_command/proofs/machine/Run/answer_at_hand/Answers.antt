@@ -1,7 +1,0 @@
-use Rattle.std.proofs.lemmas.Option.{IfSome_then}
-use Rattle.ctd_program.specs.View.{test_tree}
-use Rattle.ctd_command.proofs.Telling.{answered_at_once}
-use Rattle.ctd_command.proofs.machine.Run.answer_at_hand.Goals as goal
-
-pub returns : goal.returns
-returns g c = record { performs = IfSome_then c.truth_at_hand.result c.truth_at_hand.ensures.value (λ truth is. answered_at_once c.args.self.now (test_tree c.args.t.now) truth c.requires.sound is) }

@@ -1,0 +1,14 @@
+use Rattle.std.proofs.Common.{Ok, ap}
+use Rattle.std.proofs.lemmas.Option.{IfSome_then}
+use Rattle.ctd_program.specs.View.{expr_tree}
+use Rattle.ctd_value.specs.Fault.{◌>>=◌, with_fault}
+use Rattle.ctd_value.specs.Val.{number, number_of}
+use Rattle.ctd_command.specs.State.{fault_of_value}
+use Rattle.ctd_command.proofs.Acts.{evaluated}
+use Rattle.ctd_command.proofs.machine.Run.fast_number.Goals as goal
+
+pub returns : goal.returns
+returns g c = record {
+  performs = IfSome_then c.number_at_hand.result c.number_at_hand.ensures.value
+      (λ n is. evaluated c.args.self.now (Ok n) (number_of (expr_tree c.args.e.now)) c.requires.sound (ap (λ m. with_fault fault_of_value (m >>= number)) is));
+}

@@ -1,0 +1,70 @@
+//! The line of a program that is not read, put together in an array, so that nothing is allocated.
+
+ghost use Rattle.std.specs.Prelude.{◌≡◌, ◌+◌, ◌≤◌, ◌++◌, length};
+ghost use Rattle.arrayvec.specs.ArrayVec.{array_vec_len};
+ghost use Rattle.ctd_token.specs.FaultText.{kind_text, placed};
+ghost use Rattle.ctd_report.specs.Report.{load_line};
+
+use arrayvec::ArrayVec;
+use ctd_token::{LoadFault, LoadKind, Place};
+use itoa::Buffer;
+
+/// How many bytes there is room for; the longest line has 81.
+const ROOM: usize = 128;
+
+/// Appends a text that there is room for.
+fn append(line: &mut ArrayVec<u8, ROOM>, text: &[u8])
+    requires { array_vec_len line.old + length text.now ≤ 128 }
+    ensures items { line.new.items ≡ line.old.items ++ text.now }
+    ensures len { array_vec_len line.new ≡ array_vec_len line.old + length text.now }
+{
+    let _ = line.try_extend_from_slice(text);
+}
+
+/// Appends a place and the colon behind it, where there is a place.
+fn append_place(line: &mut ArrayVec<u8, ROOM>, place: Option<Place>)
+    requires { array_vec_len line.old ≤ 15 }
+    ensures items { line.new.items ≡ line.old.items ++ placed place }
+    ensures len { array_vec_len line.new ≤ array_vec_len line.old + 43 }
+{
+    let Some(place) = place else {
+        return;
+    };
+    append(line, b"program line ");
+    append(line, Buffer::new().format(place.line).as_bytes());
+    append(line, b" column ");
+    append(line, Buffer::new().format(place.column).as_bytes());
+    append(line, b": ");
+}
+
+/// The words for a kind of fault.
+fn kind_words(kind: LoadKind) -> &'static str
+    ensures words { result.now ≡ kind_text kind }
+    ensures len { length result.now ≤ 22 }
+{
+    match kind {
+        LoadKind::ProgramTooLong => "program too long",
+        LoadKind::BadByte => "unexpected byte",
+        LoadKind::UnfinishedString => "unfinished string",
+        LoadKind::BadOctal => "octal escape above 255",
+        LoadKind::NumberTooLarge => "number too large",
+        LoadKind::NotInProfile => "not in this profile",
+        LoadKind::TooDeep => "nested too deeply",
+        LoadKind::Syntax => "syntax error",
+        LoadKind::BadPattern => "bad pattern",
+        LoadKind::Read => "cannot read program",
+        LoadKind::Memory => "out of memory",
+    }
+}
+
+/// The line of a program that is not read.
+pub(crate) fn load_line_of(fault: &LoadFault) -> ArrayVec<u8, ROOM>
+    ensures { result.items ≡ load_line fault.now }
+{
+    let mut line = ArrayVec::new();
+    append(&mut line, b"checktestdata: ");
+    append_place(&mut line, fault.place);
+    append(&mut line, kind_words(fault.kind).as_bytes());
+    append(&mut line, b"\n");
+    line
+}
