@@ -5,7 +5,7 @@ use Rattle.std.specs.List.{prefix_len}
 use Rattle.std.proofs.lemmas.List.{take-append-le, take-take, length-take-le, take_all}
 use Rattle.ctd_token.specs.declared.token.TokenKind.TheVariants as tokens
 use Rattle.ctd_token.specs.declared.fault.LoadKind.TheVariants.{UnfinishedString, BadOctal}
-use Rattle.ctd_token.specs.Literal.{LiteralPart, literal_part, is_octal, octal, octal_len, octal_escape, escape, after_backslash, part_at, Closed, closed_here, one_later, with_part, literal}
+use Rattle.ctd_token.specs.Literal.{LiteralPart, literal_part, is_octal, octal, octal_len, octal_escape, escape, after_backslash, part_at, WholeLiteral, closing_quote, one_later, with_part, literal}
 use Rattle.ctd_token.specs.Cut.{wrong, closed_text, text_at, token_at}
 use Rattle.ctd_program.specs.Presets.{IsToken}
 use Rattle.ctd_program.proofs.TokenFronts.{same_found, known_of, no_token}
@@ -16,14 +16,14 @@ of_some f None y e = absurd (let g : None ≡ Some y = e in cc)
 of_some f (Some x) y e = (x, refl, (let g : Some (f x) ≡ Some y = e in cc))
 
 -- a literal ends behind the bytes that are passed over, and within the text
-within_if : (quote : Bool) (s n : ℕ) (o : Option Closed) (c : Closed) → cond quote (Some closed_here) o ≡ Some c → 0 < n → (o ≡ Some c → (0 < c.length) × (c.length ≤ n)) → (0 < c.length) × (c.length ≤ n)
+within_if : (quote : Bool) (s n : ℕ) (o : Option WholeLiteral) (c : WholeLiteral) → cond quote (Some closing_quote) o ≡ Some c → 0 < n → (o ≡ Some c → (0 < c.length) × (c.length ≤ n)) → (0 < c.length) × (c.length ≤ n)
 within_if true s n o c e some other =
-    let same : closed_here ≡ c = cc in
+    let same : closing_quote ≡ c = cc in
     let long : 1 ≡ c.length = ap (λ d. d.length) same in
     (omega (arith, long), omega (arith, long))
 within_if false s n o c e some other = other e
 
-pub closed_within : (s : ℕ) (bs : List ℕ) (c : Closed) → literal s bs ≡ Some c → (s < c.length) × (c.length ≤ length bs)
+pub closed_within : (s : ℕ) (bs : List ℕ) (c : WholeLiteral) → literal s bs ≡ Some c → (s < c.length) × (c.length ≤ length bs)
 closed_within s [] c e = absurd (let g : None ≡ Some c = e in cc)
 closed_within (suc s) (b ∷ bs) c e =
     let w = of_some one_later (literal s bs) c e in
@@ -32,7 +32,7 @@ closed_within (suc s) (b ∷ bs) c e =
     (omega (arith, long, ih.0), omega (arith, long, ih.1))
 closed_within zero (b ∷ bs) c e =
     let p : LiteralPart = part_at b bs in
-    let ih : (d : Closed) → literal (p.length - 1) bs ≡ Some d → d.length ≤ length bs = λ d is. (closed_within (p.length - 1) bs d is).1 in
+    let ih : (d : WholeLiteral) → literal (p.length - 1) bs ≡ Some d → d.length ≤ length bs = λ d is. (closed_within (p.length - 1) bs d is).1 in
     within_if (nat_eq b 34) 0 (length (b ∷ bs)) (option_map (with_part p) (literal (p.length - 1) bs)) c e (omega arith) (λ f.
     let w = of_some (with_part p) (literal (p.length - 1) bs) c f in
     let long : 1 + w.0.length ≡ c.length = ap (λ d. d.length) w.2 in
@@ -68,11 +68,11 @@ backslash_front (suc n) (c ∷ cs) rest lt le = escape_if (is_octal c) (suc n) (
 part_front : (b n : ℕ) (bs rest : List ℕ) → (part_at b bs).length - 1 < n → n ≤ length bs → part_at b (take n bs ++ rest) ≡ part_at b bs
 part_front b n bs rest lt le = escape_if (nat_eq b 92) n (after_backslash bs) (after_backslash (take n bs ++ rest)) (literal_part (b ∷ []) 1) lt (λ less. backslash_front n bs rest less le)
 
-closed_if : (quote : Bool) (o other : Option Closed) (c : Closed) → cond quote (Some closed_here) o ≡ Some c → (o ≡ Some c → other ≡ Some c) → cond quote (Some closed_here) other ≡ Some c
+closed_if : (quote : Bool) (o other : Option WholeLiteral) (c : WholeLiteral) → cond quote (Some closing_quote) o ≡ Some c → (o ≡ Some c → other ≡ Some c) → cond quote (Some closing_quote) other ≡ Some c
 closed_if true o other c e same = e
 closed_if false o other c e same = same e
 
-pub literal_front : (s n : ℕ) (bs rest : List ℕ) (c : Closed) → literal s bs ≡ Some c → n ≡ c.length → literal s (take n bs ++ rest) ≡ Some c
+pub literal_front : (s n : ℕ) (bs rest : List ℕ) (c : WholeLiteral) → literal s bs ≡ Some c → n ≡ c.length → literal s (take n bs ++ rest) ≡ Some c
 literal_front s n [] rest c e is = absurd (let g : None ≡ Some c = e in cc)
 literal_front s zero (b ∷ bs) rest c e is = absurd (omega (arith, is, (closed_within s (b ∷ bs) c e).0))
 literal_front (suc s) (suc n) (b ∷ bs) rest c e is =
@@ -83,7 +83,7 @@ literal_front zero (suc n) (b ∷ bs) rest c e is =
     let p : LiteralPart = part_at b bs in
     let front : List ℕ = take n bs ++ rest in
     let q : LiteralPart = part_at b front in
-    let ih : (d : Closed) → literal (p.length - 1) bs ≡ Some d → n ≡ d.length → literal (p.length - 1) front ≡ Some d = λ d f g. literal_front (p.length - 1) n bs rest d f g in
+    let ih : (d : WholeLiteral) → literal (p.length - 1) bs ≡ Some d → n ≡ d.length → literal (p.length - 1) front ≡ Some d = λ d f g. literal_front (p.length - 1) n bs rest d f g in
     closed_if (nat_eq b 34) (option_map (with_part p) (literal (p.length - 1) bs)) (option_map (with_part q) (literal (q.length - 1) front)) c e (λ f.
     let w = of_some (with_part p) (literal (p.length - 1) bs) c f in
     let long : 1 + w.0.length ≡ c.length = ap (λ d. d.length) w.2 in
@@ -92,12 +92,12 @@ literal_front zero (suc n) (b ∷ bs) rest c e is =
     let as_was : q ≡ p = part_front b n bs rest (omega (arith, same, within.0)) (omega (arith, same, within.1)) in
     ap (λ r. option_map (with_part r) (literal (r.length - 1) front)) as_was ∙ ap (option_map (with_part p)) (ih w.0 w.1 same) ∙ ap Some w.2)
 
-clean_text : (c : Closed) (bad : Option ℕ) (values : List ℕ) (n : ℕ) → closed_text c bad ≡ Ok (tokens.Text values, n) → n ≡ 1 + c.length
+clean_text : (c : WholeLiteral) (bad : Option ℕ) (values : List ℕ) (n : ℕ) → closed_text c bad ≡ Ok (tokens.Text values, n) → n ≡ 1 + c.length
 clean_text c None values n e = (same_found (tokens.Text values) (tokens.Text c.values) n (1 + c.length) (closed_text c None) e refl).1
 clean_text c (Some k) values n e = absurd (let f : wrong BadOctal (1 + k) ≡ Ok (tokens.Text values, n) = e in cc)
 
 -- a string is a closed literal
-closed_of : (o : Option Closed) (values : List ℕ) (n : ℕ) → text_at o ≡ Ok (tokens.Text values, n) → (c : Closed) × (o ≡ Some c) × (n ≡ 1 + c.length)
+closed_of : (o : Option WholeLiteral) (values : List ℕ) (n : ℕ) → text_at o ≡ Ok (tokens.Text values, n) → (c : WholeLiteral) × (o ≡ Some c) × (n ≡ 1 + c.length)
 closed_of None values n e = absurd (let f : wrong UnfinishedString 0 ≡ Ok (tokens.Text values, n) = e in cc)
 closed_of (Some c) values n e = (c, refl, clean_text c c.bad_octal values n e)
 

@@ -11,7 +11,7 @@ use Rattle.ctd_token.specs.declared.token.TokenKind.{TokenKind}
 use Rattle.ctd_token.specs.declared.token.TokenKind.TheVariants as tokens
 use Rattle.ctd_token.specs.Cut.{TokenOrFault, is_digit, fraction_begins, token_at}
 use Rattle.ctd_program.specs.Presets.{IsToken, IsPresetValue, number, negative, string}
-use Rattle.ctd_program.specs.PresetFront.{IsFound, plain, negated, literal_at, MayFollowItem, IsAtFront, NothingIsAtFront}
+use Rattle.ctd_program.specs.PresetFront.{IsFound, plain_literal, negative_literal, literal_at, MayFollowItem, IsAtFront, NothingIsAtFront}
 use Rattle.ctd_program.proofs.TokenFronts.{known_of, no_token, numeral_front, numeral_alone}
 use Rattle.ctd_program.proofs.LiteralFronts.{text_front, text_alone}
 
@@ -20,10 +20,10 @@ no_digit [] end = (refl, refl)
 no_digit (b ∷ bs) (inl comma) = (ap (λ c. fraction_begins (c ∷ bs)) comma, ap (λ c. prefix_len is_digit (c ∷ bs)) comma)
 no_digit (b ∷ bs) (inr bracket) = (ap (λ c. fraction_begins (c ∷ bs)) bracket, ap (λ c. prefix_len is_digit (c ∷ bs)) bracket)
 
-unsigned : (b : ℕ) (bs : List ℕ) → nat_eq b 45 ≡ false → literal_at (b ∷ bs) ≡ plain (token_at (b ∷ bs))
-unsigned b bs is = ap (λ t. cond t (negated (token_at bs)) (plain (token_at (b ∷ bs)))) is
+unsigned : (b : ℕ) (bs : List ℕ) → nat_eq b 45 ≡ false → literal_at (b ∷ bs) ≡ plain_literal (token_at (b ∷ bs))
+unsigned b bs is = ap (λ t. cond t (negative_literal (token_at bs)) (plain_literal (token_at (b ∷ bs)))) is
 
-plain_front : (text rest : List ℕ) (t : TokenKind) → IsToken text t → ((b : ℕ) (bs : List ℕ) → text ≡ b ∷ bs → nat_eq b 45 ≡ false) → literal_at (text ++ rest) ≡ plain (token_at (text ++ rest))
+plain_front : (text rest : List ℕ) (t : TokenKind) → IsToken text t → ((b : ℕ) (bs : List ℕ) → text ≡ b ∷ bs → nat_eq b 45 ≡ false) → literal_at (text ++ rest) ≡ plain_literal (token_at (text ++ rest))
 plain_front [] rest t is other = absurd (no_token t 0 is)
 plain_front (b ∷ bs) rest t is other = unsigned b (bs ++ rest) (other b bs refl)
 
@@ -41,12 +41,12 @@ no_minus_text text values is b bs e =
 literal_first : (text rest : List ℕ) (v : Literal) → IsPresetValue text v → MayFollowItem rest → literal_at (text ++ rest) ≡ Some (v, length text)
 literal_first text rest v (number {n} is) end =
     let ends = no_digit rest end in
-    plain_front text rest (tokens.Numeral n) is (no_minus text n is) ∙ ap plain (numeral_front text rest n is ends.0 ends.1)
+    plain_front text rest (tokens.Numeral n) is (no_minus text n is) ∙ ap plain_literal (numeral_front text rest n is ends.0 ends.1)
 literal_first text rest v (negative {text = digits} {n} is) end =
     let ends = no_digit rest end in
-    ap negated (numeral_front digits rest n is ends.0 ends.1) ∙ ap (λ k. Some (literals.Int (neg_ℤ n), k)) (omega arith)
+    ap negative_literal (numeral_front digits rest n is ends.0 ends.1) ∙ ap (λ k. Some (literals.Int (neg_ℤ n), k)) (omega arith)
 literal_first text rest v (string {values} is) end =
-    plain_front text rest (tokens.Text values) is (no_minus_text text values is) ∙ ap plain (text_front text rest values is)
+    plain_front text rest (tokens.Text values) is (no_minus_text text values is) ∙ ap plain_literal (text_front text rest values is)
 
 same_some : {A : Type 0} (x y : A) (n m : ℕ) (o : Option (A × ℕ)) → o ≡ Some (x, n) → o ≡ Some (y, m) → (x ≡ y) × (n ≡ m)
 same_some {A} x y n m o e f =
@@ -55,21 +55,21 @@ same_some {A} x y n m o e f =
     let second : A × ℕ → ℕ = λ q. q.1 in
     (ap first pair, ap second pair)
 
-plain_spells : (bytes : List ℕ) (found : TokenOrFault) (v : Literal) (n : ℕ) → token_at bytes ≡ found → plain found ≡ Some (v, n) → IsPresetValue (take n bytes) v
+plain_spells : (bytes : List ℕ) (found : TokenOrFault) (v : Literal) (n : ℕ) → token_at bytes ≡ found → plain_literal found ≡ Some (v, n) → IsPresetValue (take n bytes) v
 plain_spells bytes (Ok (tokens.Numeral m, k)) v n is e =
-    let same = same_some (literals.Int m) v k n (plain (Ok (tokens.Numeral m, k))) refl e in
+    let same = same_some (literals.Int m) v k n (plain_literal (Ok (tokens.Numeral m, k))) refl e in
     subst (λ w. IsPresetValue (take n bytes) w) same.0 (subst (λ j. IsPresetValue (take j bytes) (literals.Int m)) same.1 (number (numeral_alone bytes k m is)))
 plain_spells bytes (Ok (tokens.Text values, k)) v n is e =
-    let same = same_some (literals.Text values) v k n (plain (Ok (tokens.Text values, k))) refl e in
+    let same = same_some (literals.Text values) v k n (plain_literal (Ok (tokens.Text values, k))) refl e in
     subst (λ w. IsPresetValue (take n bytes) w) same.0 (subst (λ j. IsPresetValue (take j bytes) (literals.Text values)) same.1 (string (text_alone bytes k values is)))
 plain_spells bytes (Ok (tokens.Word, k)) v n is e = absurd (let f : None ≡ Some (v, n) = e in cc)
 plain_spells bytes (Ok (tokens.Name, k)) v n is e = absurd (let f : None ≡ Some (v, n) = e in cc)
 plain_spells bytes (Ok (tokens.Mark m, k)) v n is e = absurd (let f : None ≡ Some (v, n) = e in cc)
 plain_spells bytes (Err x) v n is e = absurd (let f : None ≡ Some (v, n) = e in cc)
 
-negated_spells : (bytes : List ℕ) (found : TokenOrFault) (v : Literal) (n : ℕ) → token_at bytes ≡ found → negated found ≡ Some (v, n) → IsPresetValue (take n (45 ∷ bytes)) v
+negated_spells : (bytes : List ℕ) (found : TokenOrFault) (v : Literal) (n : ℕ) → token_at bytes ≡ found → negative_literal found ≡ Some (v, n) → IsPresetValue (take n (45 ∷ bytes)) v
 negated_spells bytes (Ok (tokens.Numeral m, k)) v n is e =
-    let same = same_some (literals.Int (neg_ℤ m)) v (1 + k) n (negated (Ok (tokens.Numeral m, k))) refl e in
+    let same = same_some (literals.Int (neg_ℤ m)) v (1 + k) n (negative_literal (Ok (tokens.Numeral m, k))) refl e in
     let next : suc k ≡ n = omega (arith, same.1) in
     subst (λ w. IsPresetValue (take n (45 ∷ bytes)) w) same.0 (subst (λ j. IsPresetValue (take j (45 ∷ bytes)) (literals.Int (neg_ℤ m))) next (negative (numeral_alone bytes k m is)))
 negated_spells bytes (Ok (tokens.Text values, k)) v n is e = absurd (let f : None ≡ Some (v, n) = e in cc)
@@ -78,7 +78,7 @@ negated_spells bytes (Ok (tokens.Name, k)) v n is e = absurd (let f : None ≡ S
 negated_spells bytes (Ok (tokens.Mark m, k)) v n is e = absurd (let f : None ≡ Some (v, n) = e in cc)
 negated_spells bytes (Err x) v n is e = absurd (let f : None ≡ Some (v, n) = e in cc)
 
-signed_spells : (b : ℕ) (bs : List ℕ) (v : Literal) (n : ℕ) (minus : Bool) → nat_eq b 45 ≡ minus → cond minus (negated (token_at bs)) (plain (token_at (b ∷ bs))) ≡ Some (v, n) → IsPresetValue (take n (b ∷ bs)) v
+signed_spells : (b : ℕ) (bs : List ℕ) (v : Literal) (n : ℕ) (minus : Bool) → nat_eq b 45 ≡ minus → cond minus (negative_literal (token_at bs)) (plain_literal (token_at (b ∷ bs))) ≡ Some (v, n) → IsPresetValue (take n (b ∷ bs)) v
 signed_spells b bs v n true is e =
     let same : 45 ≡ b = grind (arith, tests, is) in
     subst (λ c. IsPresetValue (take n (c ∷ bs)) v) same (negated_spells bs (token_at bs) v n refl e)

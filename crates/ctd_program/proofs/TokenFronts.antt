@@ -12,10 +12,10 @@ use Rattle.ctd_token.specs.declared.fault.LoadKind.TheVariants.{BadByte, NumberT
 use Rattle.ctd_token.specs.declared.token.Mark.{Mark}
 use Rattle.ctd_token.specs.declared.token.TokenKind.{TokenKind}
 use Rattle.ctd_token.specs.declared.token.TokenKind.TheVariants as tokens
-use Rattle.ctd_token.specs.Literal.{Closed, literal}
-use Rattle.ctd_token.specs.Cut.{is_upper, is_lower, is_digit, Judged, TokenOrFault, wrong, at_first_byte, is_left_out_word, word_at, name_len, decimal, has_leading_zero, fraction_begins, numeral_at, mark_or, mark_at, single_mark, double_mark, closed_text, text_at, token_at}
+use Rattle.ctd_token.specs.Literal.{WholeLiteral, literal}
+use Rattle.ctd_token.specs.Cut.{is_upper, is_lower, is_digit, Judgement, TokenOrFault, wrong, at_first_byte, is_left_out_word, word_at, name_len, decimal, has_leading_zero, fraction_begins, numeral_at, mark_or, mark_at, single_mark, double_mark, closed_text, text_at, token_at}
 use Rattle.ctd_program.specs.Presets.{IsToken}
-use Rattle.ctd_program.specs.PresetFront.{negated}
+use Rattle.ctd_program.specs.PresetFront.{negative_literal}
 use Rattle.ctd_token.proofs.TokenFaults.{token_some}
 
 -- what a name, a numeral or a string at the front of b ∷ bs is
@@ -34,7 +34,7 @@ known_word b bs true n = tt
 known_word b bs false n = tt
 
 -- a numeral of n digits that spell m
-abbrev judged : (wrong large : Bool) (m n : ℕ) → Judged
+abbrev judged : (wrong large : Bool) (m n : ℕ) → Judgement
 judged wrong large m n = cond wrong (Err NotInProfile) (cond large (Err NumberTooLarge) (Ok (tokens.Numeral (pos m), n)))
 
 known_numeral : (b : ℕ) (bs : List ℕ) (wrong large : Bool) (m n : ℕ) → is_digit b ≡ true → numeral_at (prefix_len is_digit (b ∷ bs)) (b ∷ bs) ≡ judged wrong large m n → Known b bs (at_first_byte (judged wrong large m n))
@@ -42,15 +42,15 @@ known_numeral b bs true large m n digit is = tt
 known_numeral b bs false true m n digit is = tt
 known_numeral b bs false false m n digit is = (digit, is)
 
-known_closed : (b : ℕ) (bs : List ℕ) (c : Closed) (bad : Option ℕ) → b ≡ 34 → text_at (literal 0 bs) ≡ closed_text c bad → Known b bs (closed_text c bad)
+known_closed : (b : ℕ) (bs : List ℕ) (c : WholeLiteral) (bad : Option ℕ) → b ≡ 34 → text_at (literal 0 bs) ≡ closed_text c bad → Known b bs (closed_text c bad)
 known_closed b bs c None quote is = (quote, is)
 known_closed b bs c (Some n) quote is = tt
 
-known_text : (b : ℕ) (bs : List ℕ) (o : Option Closed) → b ≡ 34 → literal 0 bs ≡ o → Known b bs (text_at o)
+known_text : (b : ℕ) (bs : List ℕ) (o : Option WholeLiteral) → b ≡ 34 → literal 0 bs ≡ o → Known b bs (text_at o)
 known_text b bs None quote is = tt
 known_text b bs (Some c) quote is = known_closed b bs c c.bad_octal quote (ap text_at is)
 
-known_mark : (b : ℕ) (bs : List ℕ) (m : Option Mark) (n : ℕ) (other : Judged) → Known b bs (at_first_byte other) → Known b bs (at_first_byte (mark_or m n other))
+known_mark : (b : ℕ) (bs : List ℕ) (m : Option Mark) (n : ℕ) (other : Judgement) → Known b bs (at_first_byte other) → Known b bs (at_first_byte (mark_or m n other))
 known_mark b bs None n other p = p
 known_mark b bs (Some m) n other p = tt
 
@@ -63,8 +63,8 @@ known b bs =
     let all : List ℕ = b ∷ bs in
     let n : ℕ = prefix_len is_digit all in
     let name : TokenOrFault = Ok (tokens.Name, name_len all) in
-    let word : Judged = word_at (prefix_len is_upper all) all in
-    let numeral : Judged = numeral_at n all in
+    let word : Judgement = word_at (prefix_len is_upper all) all in
+    let numeral : Judgement = numeral_at n all in
     let text : TokenOrFault = text_at (literal 0 bs) in
     let mark : TokenOrFault = at_first_byte (mark_at b bs) in
     let by_quote : TokenOrFault = cond (nat_eq b 34) text mark in
@@ -112,7 +112,7 @@ negative_fits n k is lt = omega (arith, ints)
 pub negative_is : (n : ℤ) (k : ℕ) → n ≡ pos k → k < 2 ^ 127 → to_z w128 (of_z w128 (pos 0 -ℤ to_z w128 (of_z w128 n))) ≡ neg_ℤ n
 negative_is n k is lt = omega (arith, ints)
 
-pub not_negated : (kind : TokenKind) (n : ℕ) → ((m : ℤ) → kind ≡ tokens.Numeral m → ⊥) → negated (Ok (kind, n)) ≡ None
+pub not_negated : (kind : TokenKind) (n : ℕ) → ((m : ℤ) → kind ≡ tokens.Numeral m → ⊥) → negative_literal (Ok (kind, n)) ≡ None
 not_negated (tokens.Numeral m) n other = absurd (other m refl)
 not_negated tokens.Word n other = refl
 not_negated tokens.Name n other = refl
@@ -173,7 +173,7 @@ name_alone (b ∷ bs) (suc n) is =
     name_found b (take n bs) of.0 ∙ ap (λ k. Ok (tokens.Name, k)) run.0
 
 -- a numeral of these digits and of what is behind it
-abbrev numeral_of : ℕ → List ℕ → Bool → Judged
+abbrev numeral_of : ℕ → List ℕ → Bool → Judgement
 numeral_of n digits more = judged (has_leading_zero digits || more) (nat_le (2 ^ 127) (decimal digits)) (decimal digits) n
 
 numeral_whole : (text rest : List ℕ) → fraction_begins rest ≡ false → numeral_at (length text) (text ++ rest) ≡ numeral_of (length text) text false

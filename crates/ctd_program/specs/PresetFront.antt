@@ -22,20 +22,20 @@ IsFound (Err BadPreset) found = found ≡ None
 IsFound (Err Memory) found = Unit {0}
 
 -- a token that is a literal
-abbrev pub plain : TokenOrFault → Option (Literal × ℕ)
-plain (Ok (tokens.Numeral n, len)) = Some (literals.Int n, len)
-plain (Ok (tokens.Text values, len)) = Some (literals.Text values, len)
-plain _ = None
+abbrev pub plain_literal : TokenOrFault → Option (Literal × ℕ)
+plain_literal (Ok (tokens.Numeral n, len)) = Some (literals.Int n, len)
+plain_literal (Ok (tokens.Text values, len)) = Some (literals.Text values, len)
+plain_literal _ = None
 
 -- a numeral behind a minus
-abbrev pub negated : TokenOrFault → Option (Literal × ℕ)
-negated (Ok (tokens.Numeral n, len)) = Some (literals.Int (neg_ℤ n), 1 + len)
-negated _ = None
+abbrev pub negative_literal : TokenOrFault → Option (Literal × ℕ)
+negative_literal (Ok (tokens.Numeral n, len)) = Some (literals.Int (neg_ℤ n), 1 + len)
+negative_literal _ = None
 
 -- the literal at the front of some bytes
 abbrev pub literal_at : List ℕ → Option (Literal × ℕ)
 literal_at [] = None
-literal_at (b ∷ bs) = if nat_eq b 45 then negated (token_at bs) else plain (token_at (b ∷ bs))
+literal_at (b ∷ bs) = if nat_eq b 45 then negative_literal (token_at bs) else plain_literal (token_at (b ∷ bs))
 
 -- what may follow a value or a preset: nothing, a comma or a closing bracket
 abbrev pub MayFollowItem : List ℕ → Type 0

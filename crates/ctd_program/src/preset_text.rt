@@ -4,7 +4,7 @@
 ghost use Rattle.std.specs.Prelude.{◌≡◌, ◌+◌, ◌≤◌, List, length, Err, IfOk};
 ghost use Rattle.ctd_token.specs.Cut.{token_at};
 ghost use Rattle.ctd_program.specs.Presets.{AreSeparated, ArePresets, IsPreset};
-ghost use Rattle.ctd_program.specs.PresetFront.{IsFound, negated, literal_at, MayFollowItem, MayFollowList, MayFollowTarget, IsAtFront, NothingIsAtFront, AreIndices, SpellsTarget};
+ghost use Rattle.ctd_program.specs.PresetFront.{IsFound, negative_literal, literal_at, MayFollowItem, MayFollowList, MayFollowTarget, IsAtFront, NothingIsAtFront, AreIndices, SpellsTarget};
 ghost use Rattle.ctd_program.specs.declared.preset.Preset.{Preset};
 
 use crate::preset::{Literal, Literals, Preset, PresetFault};
@@ -47,7 +47,7 @@ impl Item for Preset {
 
 // The number behind a minus and its length with the minus.
 fn negative_at(alloc: Global, bytes: &[u8]) -> Result<(Literal, usize), PresetFault>
-    ensures value { IsFound result (negated (token_at bytes.now)) }
+    ensures value { IsFound result (negative_literal (token_at bytes.now)) }
     ensures within { IfOk result (λ x. x.1 ≤ 1 + length bytes.now) }
 {
     if bytes.is_empty() {
@@ -80,7 +80,7 @@ fn literal_at(alloc: Global, bytes: &[u8]) -> Result<(Literal, usize), PresetFau
 }
 
 // The items at the front of some bytes, one and then one behind each comma, and their length.
-fn separated_at<T: Item + Drop>(alloc: Global, bytes: &[u8]) -> Result<(Vec<T>, usize), PresetFault>
+fn list_at<T: Item + Drop>(alloc: Global, bytes: &[u8]) -> Result<(Vec<T>, usize), PresetFault>
     ensures read { IfOk result (λ x. IsAtFront MayFollowList (AreSeparated T.spells) bytes.now (x.0.items, x.1)) }
     ensures refused { result ≡ Err PresetFault.BadPreset → NothingIsAtFront MayFollowList (AreSeparated T.spells) bytes.now }
 {
@@ -105,7 +105,7 @@ fn indices_at(alloc: Global, bytes: &[u8]) -> Result<(Literals, usize), PresetFa
     if bytes.is_empty() || bytes[0] != b'[' {
         return Ok((Literals::from_vec(Vec::new(alloc)), 0));
     }
-    let (values, len) = separated_at(alloc, &bytes[1..])?;
+    let (values, len) = list_at(alloc, &bytes[1..])?;
     let close = 1 + len;
     if close == bytes.len() || bytes[close] != b']' {
         return Err(PresetFault::BadPreset);
@@ -156,7 +156,7 @@ pub(crate) fn presets(alloc: Global, text: &[u8]) -> Result<Vec<Preset>, PresetF
     ensures refused { result ≡ Err PresetFault.BadPreset →
         (ps : List Preset) → ArePresets text.now ps → ⊥ }
 {
-    let (presets, len) = separated_at(alloc, text)?;
+    let (presets, len) = list_at(alloc, text)?;
     if len < text.len() {
         return Err(PresetFault::BadPreset);
     }

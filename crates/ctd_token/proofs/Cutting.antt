@@ -7,20 +7,20 @@ use Rattle.ctd_token.specs.declared.fault.LoadFault.{LoadFault}
 use Rattle.ctd_token.specs.declared.fault.TokenFault.{TokenFault}
 use Rattle.ctd_token.specs.declared.fault.TokenFault.TheVariants.{Wrong, Memory}
 use Rattle.ctd_token.specs.Cut.{skip_gap, token_at, wrong, next_token, place_at, Cuts, none, token, Faults, here, later}
-use Rattle.ctd_token.specs.Scanning.{Scans, IsPlaced}
+use Rattle.ctd_token.specs.Scanning.{Scans, IsFaultAt}
 use Rattle.ctd_token.specs.Lexing.{Uncut, left, IsEnd, IsNext, HasNextFault, IsNextFault}
 
 -- where the next token begins, behind blanks and comments
-pub gap_end : (bytes : List ℕ) (at gap : ℕ) → gap ≤ length bytes → drop gap bytes ≡ skip_gap false bytes → at + gap ≡ next_token at bytes
+pub gap_end : (bytes : List ℕ) (at gap : ℕ) → gap ≤ length bytes → drop gap bytes ≡ skip_gap bytes → at + gap ≡ next_token at bytes
 gap_end bytes at gap within skipped = omega (arith, within, ap length skipped, length-drop gap bytes)
 
 -- how many bytes are left behind blanks and comments
-length_left : (u : Uncut) (first : ℕ) → drop first u.text ≡ skip_gap false (left u) → first < length u.text → 0 < length (skip_gap false (left u))
+length_left : (u : Uncut) (first : ℕ) → drop first u.text ≡ skip_gap (left u) → first < length u.text → 0 < length (skip_gap (left u))
 length_left u first rest lt = omega (arith, lt, ap length rest, length-drop first u.text)
 
 -- what a scan answers where the next token stands
-pub next_fault : (u : Uncut) (first : ℕ) (f : TokenFault) (r : LoadFault) → first ≡ next_token u.at (left u) → drop first u.text ≡ skip_gap false (left u)
-    → first < length u.text → Scans (Err f) (token_at (drop first u.text)) → IsPlaced u.text first f r → IsNextFault u r.kind r.place
+pub next_fault : (u : Uncut) (first : ℕ) (f : TokenFault) (r : LoadFault) → first ≡ next_token u.at (left u) → drop first u.text ≡ skip_gap (left u)
+    → first < length u.text → Scans (Err f) (token_at (drop first u.text)) → IsFaultAt u.text first f r → IsNextFault u r.kind r.place
 next_fault u first (Wrong kind behind) r first_is rest lt found placed =
     let has : HasNextFault u kind (Some (place_at u.text (next_token u.at (left u) + behind))) = record { behind = behind; some = length_left u first rest lt; found = ap token_at (sym rest) ∙ found; place_is = refl } in
     subst (λ r. IsNextFault u r.kind r.place) (sym (placed ∙ ap (λ at. record { kind = kind; place = Some (place_at u.text (at + behind)) }) first_is)) (inl has)
@@ -38,7 +38,7 @@ begin text u is = subst (Cutting text []) (sym is) (record { text_is = refl; cut
 -- one token more
 pub more : (text : List ℕ) (ts : List Token) (t : Token) (u rest : Uncut) → Cutting text ts u → IsNext u t rest → Cutting text (ts ++ t ∷ []) rest
 more text ts t u rest c next =
-    let gap : List ℕ = skip_gap false (left u) in
+    let gap : List ℕ = skip_gap (left u) in
     let found : token_at gap ≡ Ok (t.kind, next.len) = ap token_at (sym next.start) ∙ next.found in
     let at : rest.at ≡ t.after = ap (λ r. r.at) next.rest_is in
     let end : rest.at ≡ next_token u.at (left u) + next.len = at ∙ next.after ∙ ap (λ k. k + next.len) next.first in
@@ -64,9 +64,9 @@ front (b ∷ bs) some = refl
 
 -- the fault of the next token is the text's first
 pub first_fault : (text : List ℕ) (ts : List Token) (u : Uncut) (kind : LoadKind) (behind : ℕ) → Cutting text ts u
-    → 0 < length (skip_gap false (left u)) → token_at (skip_gap false (left u)) ≡ wrong kind behind → Faults 0 text kind (next_token u.at (left u) + behind)
+    → 0 < length (skip_gap (left u)) → token_at (skip_gap (left u)) ≡ wrong kind behind → Faults 0 text kind (next_token u.at (left u) + behind)
 first_fault text ts u kind behind c some found =
-    let cell = front (skip_gap false (left u)) some in
+    let cell = front (skip_gap (left u)) some in
     c.faults kind _ (here cell (ap token_at (sym cell) ∙ found))
 
 -- what holds where nothing comes

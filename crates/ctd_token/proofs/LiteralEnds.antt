@@ -5,7 +5,7 @@ use Rattle.std.specs.List.{prefix_len}
 use Rattle.std.proofs.lemmas.List.{take-append-le, take-append-drop}
 use Rattle.std.proofs.lemmas.Bool.{cases_lt}
 use Rattle.std.proofs.lemmas.List.Sums.{prefix_len-le-length}
-use Rattle.ctd_token.specs.Literal.{literal_part, is_octal, octal_len, octal, octal_escape, escape, after_backslash, part_at, Closed, closed_here, one_later, with_part, literal}
+use Rattle.ctd_token.specs.Literal.{literal_part, is_octal, octal_len, octal, octal_escape, escape, after_backslash, part_at, WholeLiteral, closing_quote, one_later, with_part, literal}
 
 -- what stands behind a prefix does not change the row at its front, unless the row is the whole prefix
 row_by : (b : Bool) (more less : ℕ) (k : ℕ) → (less < k → more ≡ less) → (k ≤ less → less ≤ more) → cond b (1 + less) 0 < suc k → cond b (1 + more) 0 ≡ cond b (1 + less) 0
@@ -78,27 +78,27 @@ part_at-take x k xs some le =
     sym (part_at-append x (take k xs) (drop k xs) some (omega (arith, grows, is, le))) ∙ ap (part_at x) whole
 
 -- a literal that closes has bytes past those that are skipped, and is no longer than its bytes
-pub record ClosesWithin (skipped : ℕ) (bytes : List ℕ) (c : Closed) : Type 0 where
+pub record ClosesWithin (skipped : ℕ) (bytes : List ℕ) (c : WholeLiteral) : Type 0 where
   pub past : skipped < c.length
   pub within : c.length ≤ length bytes
 
 -- what an optional value was made of
-pub record IsMadeBy {A : Type 0} (f : Closed → A) (o : Option Closed) (y : A) : Type 0 where
-  pub from : Closed
+pub record IsMadeBy {A : Type 0} (f : WholeLiteral → A) (o : Option WholeLiteral) (y : A) : Type 0 where
+  pub from : WholeLiteral
   pub is : o ≡ Some from
   pub gives : f from ≡ y
 
-made_by : {A : Type 0} (f : Closed → A) (o : Option Closed) (y : A) → option_map f o ≡ Some y → IsMadeBy f o y
+made_by : {A : Type 0} (f : WholeLiteral → A) (o : Option WholeLiteral) (y : A) → option_map f o ≡ Some y → IsMadeBy f o y
 made_by f None y e = absurd (let never : ⊥ = cc in never)
 made_by f (Some x) y e = record { from = x; is = refl; gives = cc }
 
-abbrev read_on : ℕ → List ℕ → Option Closed
+abbrev read_on : ℕ → List ℕ → Option WholeLiteral
 read_on b bs = option_map (with_part (part_at b bs)) (literal ((part_at b bs).length - 1) bs)
 
-closes_by : (quote : Bool) (b : ℕ) (bs : List ℕ) (c : Closed) → ((n : ℕ) (d : Closed) → literal n bs ≡ Some d → ClosesWithin n bs d)
-    → cond quote (Some closed_here) (read_on b bs) ≡ Some c → ClosesWithin 0 (b ∷ bs) c
+closes_by : (quote : Bool) (b : ℕ) (bs : List ℕ) (c : WholeLiteral) → ((n : ℕ) (d : WholeLiteral) → literal n bs ≡ Some d → ClosesWithin n bs d)
+    → cond quote (Some closing_quote) (read_on b bs) ≡ Some c → ClosesWithin 0 (b ∷ bs) c
 closes_by true b bs c rest e =
-    let same : closed_here ≡ c = cc in
+    let same : closing_quote ≡ c = cc in
     let one : 1 ≡ c.length = ap (λ x. x.length) same in
     record { past = omega (arith, one); within = omega (arith, one) }
 closes_by false b bs c rest e =
@@ -108,7 +108,7 @@ closes_by false b bs c rest e =
     let longer : 1 + made.from.length ≡ c.length = ap (λ x. x.length) made.gives in
     record { past = omega (arith, longer); within = omega (arith, inner.within, longer) }
 
-pub closes_within : (skipped : ℕ) (bytes : List ℕ) (c : Closed) → literal skipped bytes ≡ Some c → ClosesWithin skipped bytes c
+pub closes_within : (skipped : ℕ) (bytes : List ℕ) (c : WholeLiteral) → literal skipped bytes ≡ Some c → ClosesWithin skipped bytes c
 closes_within skipped [] c e = absurd (let never : ⊥ = cc in never)
 closes_within (suc n) (b ∷ bs) c e =
     let made = made_by one_later (literal n bs) c e in
@@ -118,8 +118,8 @@ closes_within (suc n) (b ∷ bs) c e =
 closes_within zero (b ∷ bs) c e = closes_by (nat_eq b 34) b bs c (λ n d h. closes_within n bs d h) e
 
 -- a literal that closes in a prefix closes there in the whole
-longer_by : (quote : Bool) (b : ℕ) (bs ys : List ℕ) (c : Closed) → ((n : ℕ) (d : Closed) → literal n bs ≡ Some d → literal n (bs ++ ys) ≡ Some d)
-    → cond quote (Some closed_here) (read_on b bs) ≡ Some c → cond quote (Some closed_here) (read_on b (bs ++ ys)) ≡ Some c
+longer_by : (quote : Bool) (b : ℕ) (bs ys : List ℕ) (c : WholeLiteral) → ((n : ℕ) (d : WholeLiteral) → literal n bs ≡ Some d → literal n (bs ++ ys) ≡ Some d)
+    → cond quote (Some closing_quote) (read_on b bs) ≡ Some c → cond quote (Some closing_quote) (read_on b (bs ++ ys)) ≡ Some c
 longer_by true b bs ys c rest e = e
 longer_by false b bs ys c rest e =
     let p = part_at b bs in
@@ -130,7 +130,7 @@ longer_by false b bs ys c rest e =
     ∙ ap (option_map (with_part p)) (rest (p.length - 1) made.from made.is)
     ∙ ap Some made.gives
 
-pub literal-append : (skipped : ℕ) (bytes ys : List ℕ) (c : Closed) → literal skipped bytes ≡ Some c → literal skipped (bytes ++ ys) ≡ Some c
+pub literal-append : (skipped : ℕ) (bytes ys : List ℕ) (c : WholeLiteral) → literal skipped bytes ≡ Some c → literal skipped (bytes ++ ys) ≡ Some c
 literal-append skipped [] ys c e = absurd (let never : ⊥ = cc in never)
 literal-append (suc n) (b ∷ bs) ys c e =
     let made = made_by one_later (literal n bs) c e in
@@ -138,8 +138,8 @@ literal-append (suc n) (b ∷ bs) ys c e =
 literal-append zero (b ∷ bs) ys c e = longer_by (nat_eq b 34) b bs ys c (λ n d h. literal-append n bs ys d h) e
 
 -- a literal that closes within a prefix closes there
-shorter_by : (quote : Bool) (b k : ℕ) (bs : List ℕ) (c : Closed) → c.length ≤ suc k → ((n : ℕ) (d : Closed) → d.length ≤ k → literal n bs ≡ Some d → literal n (take k bs) ≡ Some d)
-    → cond quote (Some closed_here) (read_on b bs) ≡ Some c → cond quote (Some closed_here) (read_on b (take k bs)) ≡ Some c
+shorter_by : (quote : Bool) (b k : ℕ) (bs : List ℕ) (c : WholeLiteral) → c.length ≤ suc k → ((n : ℕ) (d : WholeLiteral) → d.length ≤ k → literal n bs ≡ Some d → literal n (take k bs) ≡ Some d)
+    → cond quote (Some closing_quote) (read_on b bs) ≡ Some c → cond quote (Some closing_quote) (read_on b (take k bs)) ≡ Some c
 shorter_by true b k bs c le rest e = e
 shorter_by false b k bs c le rest e =
     let p = part_at b bs in
@@ -153,7 +153,7 @@ shorter_by false b k bs c le rest e =
     ∙ ap (option_map (with_part p)) (rest (p.length - 1) made.from short made.is)
     ∙ ap Some made.gives
 
-pub literal-take : (skipped k : ℕ) (bytes : List ℕ) (c : Closed) → c.length ≤ k → literal skipped bytes ≡ Some c → literal skipped (take k bytes) ≡ Some c
+pub literal-take : (skipped k : ℕ) (bytes : List ℕ) (c : WholeLiteral) → c.length ≤ k → literal skipped bytes ≡ Some c → literal skipped (take k bytes) ≡ Some c
 literal-take skipped k [] c le e = absurd (let never : ⊥ = cc in never)
 literal-take skipped zero (b ∷ bs) c le e = absurd (omega (arith, le, (closes_within skipped (b ∷ bs) c e).past))
 literal-take (suc n) (suc k) (b ∷ bs) c le e =

@@ -7,18 +7,18 @@ use Rattle.std.proofs.lemmas.List.Sums.{prefix_len-le-length}
 use Rattle.std.proofs.lemmas.Bool.{le-ltb, lt-ltb}
 use Rattle.ctd_token.specs.declared.fault.LoadKind.TheVariants.{UnfinishedString, BadOctal}
 use Rattle.ctd_token.specs.declared.token.TokenKind.TheVariants as tokens
-use Rattle.ctd_token.specs.Literal.{LiteralPart, literal_part, after_backslash, part_at, is_plain, Closed, closed_here, one_later, with_part, literal}
+use Rattle.ctd_token.specs.Literal.{LiteralPart, literal_part, after_backslash, part_at, is_plain, WholeLiteral, closing_quote, one_later, with_part, literal}
 use Rattle.ctd_token.specs.Cut.{TokenOrFault, wrong, closed_text, text_at}
 
 -- a literal with n bytes in front, which stand for these values and have this octal escape above 255
-abbrev pub joined : List ℕ → Option ℕ → ℕ → Closed → Closed
+abbrev pub joined : List ℕ → Option ℕ → ℕ → WholeLiteral → WholeLiteral
 joined before bad n c = record {
   values = before ++ c.values;
   bad_octal = option_or bad (option_map (λ k. n + k) c.bad_octal);
   length = n + c.length;
 }
 
-same_closed : (a b : Closed) → a.values ≡ b.values → a.bad_octal ≡ b.bad_octal → a.length ≡ b.length → a ≡ b
+same_closed : (a b : WholeLiteral) → a.values ≡ b.values → a.bad_octal ≡ b.bad_octal → a.length ≡ b.length → a ≡ b
 same_closed a b e f g = λ i. record { values = e i; bad_octal = f i; length = g i }
 
 map_map : {A B C : Type 0} (f : B → C) (g : A → B) (h : A → C) → ((x : A) → f (g x) ≡ h x) → (o : Option A) → option_map f (option_map g o) ≡ option_map h o
@@ -33,7 +33,7 @@ shifted_twice : (m n s : ℕ) (o : Option ℕ) → m + n ≡ s → option_map (�
 shifted_twice m n s None is = refl
 shifted_twice m n s (Some k) is = ap Some (omega arith)
 
-unchanged : (o : Option Closed) → o ≡ option_map (joined [] None 0) o
+unchanged : (o : Option WholeLiteral) → o ≡ option_map (joined [] None 0) o
 unchanged None = refl
 unchanged (Some c) = ap Some (same_closed c (joined [] None 0 c) refl (shifted_none c.bad_octal) (omega arith))
 
@@ -42,7 +42,7 @@ pub skipped : (n : ℕ) (bs : List ℕ) → literal n bs ≡ option_map (joined 
 skipped zero bs = unchanged (literal 0 bs)
 skipped (suc n) [] = refl
 skipped (suc n) (b ∷ bs) =
-    let one_more : (c : Closed) → one_later (joined [] None n c) ≡ joined [] None (suc n) c = λ c. same_closed (one_later (joined [] None n c)) (joined [] None (suc n) c) refl (shifted_twice 1 n (suc n) c.bad_octal (omega arith)) (omega arith) in
+    let one_more : (c : WholeLiteral) → one_later (joined [] None n c) ≡ joined [] None (suc n) c = λ c. same_closed (one_later (joined [] None n c)) (joined [] None (suc n) c) refl (shifted_twice 1 n (suc n) c.bad_octal (omega arith)) (omega arith) in
     ap (option_map one_later) (skipped n bs) ∙ map_map one_later (joined [] None n) (joined [] None (suc n)) one_more (literal 0 (drop n bs))
 
 -- where the octal escape above 255 is in a part that stands for these values
@@ -56,10 +56,10 @@ bad_first false m o = shifted_twice 1 m (suc m) o (omega arith)
 -- a part is read
 pub part_read : (b : ℕ) (bs : List ℕ) (p : LiteralPart) (m : ℕ) → nat_eq b 34 ≡ false → part_at b bs ≡ p → p.length ≡ suc m → literal 0 (b ∷ bs) ≡ option_map (joined p.values (bad_of p.values) (suc m)) (literal 0 (drop m bs))
 part_read b bs p m unquoted is long =
-    let by_part : Option Closed = option_map (with_part (part_at b bs)) (literal ((part_at b bs).length - 1) bs) in
+    let by_part : Option WholeLiteral = option_map (with_part (part_at b bs)) (literal ((part_at b bs).length - 1) bs) in
     let less : p.length - 1 ≡ m = omega arith in
-    let joins : (c : Closed) → with_part p (joined [] None m c) ≡ joined p.values (bad_of p.values) (suc m) c = λ c. same_closed (with_part p (joined [] None m c)) (joined p.values (bad_of p.values) (suc m) c) refl (bad_first (nat_lt 255 (sum p.values)) m c.bad_octal) (omega arith) in
-    ap (λ t. cond t (Some closed_here) by_part) unquoted
+    let joins : (c : WholeLiteral) → with_part p (joined [] None m c) ≡ joined p.values (bad_of p.values) (suc m) c = λ c. same_closed (with_part p (joined [] None m c)) (joined p.values (bad_of p.values) (suc m) c) refl (bad_first (nat_lt 255 (sum p.values)) m c.bad_octal) (omega arith) in
+    ap (λ t. cond t (Some closing_quote) by_part) unquoted
     ∙ ap (λ q. option_map (with_part q) (literal (q.length - 1) bs)) is
     ∙ ap (λ k. option_map (with_part p) (literal k bs)) less
     ∙ ap (option_map (with_part p)) (skipped m bs)
@@ -70,7 +70,7 @@ bad_twice (Some k) other n m o = refl
 bad_twice None (Some k) n m o = refl
 bad_twice None None n m o = shifted_twice n m (n + m) o refl
 
-joined_twice : (before vs : List ℕ) (bad other : Option ℕ) (n m : ℕ) (c : Closed) → joined before bad n (joined vs other m c) ≡ joined (before ++ vs) (option_or bad (option_map (λ k. n + k) other)) (n + m) c
+joined_twice : (before vs : List ℕ) (bad other : Option ℕ) (n m : ℕ) (c : WholeLiteral) → joined before bad n (joined vs other m c) ≡ joined (before ++ vs) (option_or bad (option_map (λ k. n + k) other)) (n + m) c
 joined_twice before vs bad other n m c = same_closed (joined before bad n (joined vs other m c)) (joined (before ++ vs) (option_or bad (option_map (λ k. n + k) other)) (n + m) c) (sym (append_assoc before vs c.values)) (bad_twice bad other n m c.bad_octal) (omega arith)
 
 small_values : (vs : List ℕ) → sum vs ≤ 255 → bad_of vs ≡ None
@@ -94,7 +94,7 @@ plain_read (suc n) (b ∷ bs) small le =
     let itself : nat_eq b 92 ≡ false = grind (arith, tests, goes.0) in
     let fits : bad_of (b ∷ []) ≡ None = small_values (b ∷ []) (omega arith) in
     let one : literal 0 (b ∷ bs) ≡ option_map (joined (b ∷ []) (bad_of (b ∷ [])) 1) (literal 0 bs) = part_read b bs (literal_part (b ∷ []) 1) 0 unquoted (ap (λ t. cond t (after_backslash bs) (literal_part (b ∷ []) 1)) itself) refl in
-    let joins : (c : Closed) → joined (b ∷ []) None 1 (joined (take n bs) None n c) ≡ joined (b ∷ take n bs) None (suc n) c = λ c. same_closed (joined (b ∷ []) None 1 (joined (take n bs) None n c)) (joined (b ∷ take n bs) None (suc n) c) refl (shifted_twice 1 n (suc n) c.bad_octal (omega arith)) (omega arith) in
+    let joins : (c : WholeLiteral) → joined (b ∷ []) None 1 (joined (take n bs) None n c) ≡ joined (b ∷ take n bs) None (suc n) c = λ c. same_closed (joined (b ∷ []) None 1 (joined (take n bs) None n c)) (joined (b ∷ take n bs) None (suc n) c) refl (shifted_twice 1 n (suc n) c.bad_octal (omega arith)) (omega arith) in
     one
     ∙ ap (λ o. option_map (joined (b ∷ []) o 1) (literal 0 bs)) fits
     ∙ ap (option_map (joined (b ∷ []) None 1)) (plain_read n bs (λ k. small (suc k)) goes.1)
@@ -188,21 +188,21 @@ bad_on bytes values vs bad at m r lt backslash means long some fits large =
     found_bad bytes values bad at r vs m fits read
 
 -- what a literal with its opening quote is
-abbrev text_of : Closed → Option ℕ → TokenOrFault
+abbrev text_of : WholeLiteral → Option ℕ → TokenOrFault
 text_of c None = Ok (tokens.Text c.values, c.length)
 text_of c (Some n) = wrong BadOctal n
 
-text_closed : (c : Closed) (o : Option ℕ) → closed_text c o ≡ text_of (one_later c) (option_map (λ k. 1 + k) o)
+text_closed : (c : WholeLiteral) (o : Option ℕ) → closed_text c o ≡ text_of (one_later c) (option_map (λ k. 1 + k) o)
 text_closed c None = refl
 text_closed c (Some n) = refl
 
-text_read : (o : Option Closed) (c : Closed) → option_map one_later o ≡ Some c → text_at o ≡ text_of c c.bad_octal
+text_read : (o : Option WholeLiteral) (c : WholeLiteral) → option_map one_later o ≡ Some c → text_at o ≡ text_of c c.bad_octal
 text_read None c e = cc
 text_read (Some d) c e =
     let is : one_later d ≡ c = cc in
     text_closed d d.bad_octal ∙ ap (λ x. text_of x x.bad_octal) is
 
-text_open : (o : Option Closed) → option_map one_later o ≡ None → text_at o ≡ wrong UnfinishedString 0
+text_open : (o : Option WholeLiteral) → option_map one_later o ≡ None → text_at o ≡ wrong UnfinishedString 0
 text_open None e = refl
 text_open (Some d) e = cc
 
@@ -210,13 +210,13 @@ after_quote : (bytes : List ℕ) → option_map one_later (literal 0 (drop 1 byt
 after_quote [] = refl
 after_quote (b ∷ bs) = refl
 
-closing : (bytes : List ℕ) (at : ℕ) → at < length bytes → get_or bytes at 0 ≡ 34 → literal 0 (drop at bytes) ≡ Some closed_here
+closing : (bytes : List ℕ) (at : ℕ) → at < length bytes → get_or bytes at 0 ≡ 34 → literal 0 (drop at bytes) ≡ Some closing_quote
 closing bytes at lt quote = at_drop_more (literal 0) bytes at 0 lt ∙ ap (λ b. literal 0 (b ∷ drop (at + 1) bytes)) quote
 
 -- the closing quote, where no octal escape was above 255
 pub finish : (bytes values : List ℕ) (bad : Option ℕ) (at : ℕ) → Reading bytes values bad at → bad ≡ None → at < length bytes → get_or bytes at 0 ≡ 34 → text_at (literal 0 (drop 1 bytes)) ≡ Ok (tokens.Text values, at + 1)
 finish bytes values bad at r none lt quote =
-    let c : Closed = joined r.before bad at closed_here in
+    let c : WholeLiteral = joined r.before bad at closing_quote in
     let read = text_read (literal 0 (drop 1 bytes)) c (after_quote bytes ∙ r.rest ∙ ap (option_map (joined r.before bad at)) (closing bytes at lt quote)) in
     let clean : c.bad_octal ≡ None = or_none bad ∙ none in
     let whole : c.values ≡ values = append-nil r.before ∙ r.same none in

@@ -10,7 +10,7 @@ use Rattle.ctd_token.specs.declared.fault.LoadKind.TheVariants.{BadByte, NotInPr
 use Rattle.ctd_token.specs.declared.token.TokenKind.{TokenKind}
 use Rattle.ctd_token.specs.declared.token.TokenKind.TheVariants as tokens
 use Rattle.ctd_token.specs.declared.token.Mark.{Mark}
-use Rattle.ctd_token.specs.Literal.{Closed, literal}
+use Rattle.ctd_token.specs.Literal.{WholeLiteral, literal}
 use Rattle.ctd_token.specs.Cut.{TokenOrFault, at_first_byte, is_upper, is_lower, is_digit, is_left_out_word, word_at, name_len, decimal, has_leading_zero, fraction_begins, numeral_at, single_mark, double_mark, mark_or, mark_at, closed_text, text_at, token_at}
 use Rattle.ctd_token.specs.Form.{Form, word, name, numeral, text, mark, form_of, mark_of, IsLiteral, IsRow, HasForm, IsLongestPrefix}
 use Rattle.ctd_token.proofs.LiteralEnds.{closes_within, literal-append, literal-take}
@@ -90,7 +90,7 @@ module _ (b : ℕ) (bs : List ℕ) where
   numeral_found k n z digit false large e = in_range k n z digit large e
 
 -- no longer prefix is a literal
-text_ends : (bs : List ℕ) (c : Closed) → literal 0 bs ≡ Some c → (m : ℕ) → 1 + c.length < m → m ≤ length (34 ∷ bs) → ¬ (IsLiteral (take m (34 ∷ bs)))
+text_ends : (bs : List ℕ) (c : WholeLiteral) → literal 0 bs ≡ Some c → (m : ℕ) → 1 + c.length < m → m ≤ length (34 ∷ bs) → ¬ (IsLiteral (take m (34 ∷ bs)))
 text_ends bs c reads zero longer within found = omega (arith, longer)
 text_ends bs c reads (suc m) longer within found =
     let after : found.after ≡ take m bs = let both : 34 ∷ take m bs ≡ 34 ∷ found.after = found.opens in cc in
@@ -103,7 +103,7 @@ text_ends bs c reads (suc m) longer within found =
     let ends : found.closed.length ≡ length (take m bs) = found.whole ∙ ap length after in
     omega (arith, longer, len, full, ends)
 
-text_longest : (bs : List ℕ) (c : Closed) → literal 0 bs ≡ Some c → IsLongestPrefix text (1 + c.length) (34 ∷ bs)
+text_longest : (bs : List ℕ) (c : WholeLiteral) → literal 0 bs ≡ Some c → IsLongestPrefix text (1 + c.length) (34 ∷ bs)
 text_longest bs c reads =
     let inside = closes_within 0 bs c reads in
     let next : 1 + c.length ≡ suc c.length = omega arith in
@@ -119,11 +119,11 @@ text_longest bs c reads =
       longest = text_ends bs c reads;
     }
 
-text_closed : (bs : List ℕ) (c : Closed) (k : TokenKind) (n : ℕ) → literal 0 bs ≡ Some c → (bad : Option ℕ) → closed_text c bad ≡ a_token k n → IsLongestPrefix (form_of k) n (34 ∷ bs)
+text_closed : (bs : List ℕ) (c : WholeLiteral) (k : TokenKind) (n : ℕ) → literal 0 bs ≡ Some c → (bad : Option ℕ) → closed_text c bad ≡ a_token k n → IsLongestPrefix (form_of k) n (34 ∷ bs)
 text_closed bs c k n reads (Some at) e = absurd (let never : ⊥ = cc in never)
 text_closed bs c k n reads None e = is_found (tokens.Text c.values) k (1 + c.length) n (34 ∷ bs) e (text_longest bs c reads)
 
-text_found : (bs : List ℕ) (k : TokenKind) (n : ℕ) (o : Option Closed) → literal 0 bs ≡ o → text_at o ≡ a_token k n → IsLongestPrefix (form_of k) n (34 ∷ bs)
+text_found : (bs : List ℕ) (k : TokenKind) (n : ℕ) (o : Option WholeLiteral) → literal 0 bs ≡ o → text_at o ≡ a_token k n → IsLongestPrefix (form_of k) n (34 ∷ bs)
 text_found bs k n None reads e = absurd (let never : ⊥ = cc in never)
 text_found bs k n (Some c) reads e = text_closed bs c k n reads c.bad_octal e
 

@@ -9,8 +9,8 @@ use Rattle.ctd_token.specs.declared.token.TokenKind.TheVariants as tokens
 use Rattle.ctd_token.specs.declared.token.Token.{Token}
 use Rattle.ctd_token.specs.declared.fault.LoadKind.{LoadKind}
 use Rattle.ctd_token.specs.declared.fault.LoadKind.TheVariants.{ProgramTooLong, BadByte, UnfinishedString, BadOctal, NumberTooLarge, NotInProfile, TooDeep, Syntax, BadPattern, Read, Memory}
-use Rattle.ctd_token.specs.Literal.{Closed, literal}
-use Rattle.ctd_token.specs.Cut.{is_upper, is_lower, is_digit, Judged, TokenOrFault, wrong, at_first_byte, is_left_out_word, word_at, name_len, decimal, has_leading_zero, fraction_begins, numeral_at, mark_or, mark_at, single_mark, double_mark, closed_text, text_at, skip_gap, token_at, next_token, place_at}
+use Rattle.ctd_token.specs.Literal.{WholeLiteral, literal}
+use Rattle.ctd_token.specs.Cut.{is_upper, is_lower, is_digit, Judgement, TokenOrFault, wrong, at_first_byte, is_left_out_word, word_at, name_len, decimal, has_leading_zero, fraction_begins, numeral_at, mark_or, mark_at, single_mark, double_mark, closed_text, text_at, skip_gap, token_at, next_token, place_at}
 use Rattle.ctd_token.specs.Lexing.{Uncut, left, IsNextFault, HasFault, IsLexFault}
 use Rattle.ctd_token.proofs.Cutting.{Cutting, first_fault}
 
@@ -24,7 +24,7 @@ IsTokenKind NotInProfile = Unit {0}
 IsTokenKind _ = ⊥
 
 -- a token has some bytes, and a fault is one of a token
-abbrev JudgedWell : Judged → Type 0
+abbrev JudgedWell : Judgement → Type 0
 JudgedWell (Ok (t, n)) = 0 < n
 JudgedWell (Err kind) = IsTokenKind kind
 
@@ -32,7 +32,7 @@ abbrev FoundWell : TokenOrFault → Type 0
 FoundWell (Ok (t, n)) = 0 < n
 FoundWell (Err (kind, n)) = IsTokenKind kind
 
-judged_if : (t : Bool) (x y : Judged) → JudgedWell x → JudgedWell y → JudgedWell (cond t x y)
+judged_if : (t : Bool) (x y : Judgement) → JudgedWell x → JudgedWell y → JudgedWell (cond t x y)
 judged_if true x y p q = p
 judged_if false x y p q = q
 
@@ -48,11 +48,11 @@ run_some p b bs is =
 name_some : (b : ℕ) (bs : List ℕ) → is_lower b ≡ true → 0 < name_len (b ∷ bs)
 name_some b bs is = run_some (λ c. is_lower c || is_digit c) b bs (ap (λ t. t || is_digit b) is)
 
-first_well : (j : Judged) → JudgedWell j → FoundWell (at_first_byte j)
+first_well : (j : Judgement) → JudgedWell j → FoundWell (at_first_byte j)
 first_well (Ok t) p = p
 first_well (Err kind) p = p
 
-mark_well : (m : Option Mark) (n : ℕ) (other : Judged) → 0 < n → JudgedWell other → JudgedWell (mark_or m n other)
+mark_well : (m : Option Mark) (n : ℕ) (other : Judgement) → 0 < n → JudgedWell other → JudgedWell (mark_or m n other)
 mark_well None n other some p = p
 mark_well (Some m) n other some p = some
 
@@ -60,11 +60,11 @@ marks_well : (a : ℕ) (bs : List ℕ) → JudgedWell (mark_at a bs)
 marks_well a [] = mark_well (single_mark a) 1 (Err BadByte) (omega arith) tt
 marks_well a (b ∷ bs) = mark_well (double_mark a b) 2 (mark_or (single_mark a) 1 (Err BadByte)) (omega arith) (mark_well (single_mark a) 1 (Err BadByte) (omega arith) tt)
 
-closed_well : (c : Closed) (o : Option ℕ) → FoundWell (closed_text c o)
+closed_well : (c : WholeLiteral) (o : Option ℕ) → FoundWell (closed_text c o)
 closed_well c None = omega arith
 closed_well c (Some n) = tt
 
-text_well : (o : Option Closed) → FoundWell (text_at o)
+text_well : (o : Option WholeLiteral) → FoundWell (text_at o)
 text_well None = tt
 text_well (Some c) = closed_well c c.bad_octal
 
@@ -77,8 +77,8 @@ numeral_well : (b : ℕ) (bs : List ℕ) → is_digit b ≡ true → JudgedWell 
 numeral_well b bs is =
     let n : ℕ = prefix_len is_digit (b ∷ bs) in
     let digits : List ℕ = take n (b ∷ bs) in
-    let fits : Judged = Ok (tokens.Numeral (pos (decimal digits)), n) in
-    let judged : Judged = cond (nat_le (2 ^ 127) (decimal digits)) (Err NumberTooLarge) fits in
+    let fits : Judgement = Ok (tokens.Numeral (pos (decimal digits)), n) in
+    let judged : Judgement = cond (nat_le (2 ^ 127) (decimal digits)) (Err NumberTooLarge) fits in
     judged_if (has_leading_zero digits || fraction_begins (drop n (b ∷ bs))) (Err NotInProfile) judged tt (judged_if (nat_le (2 ^ 127) (decimal digits)) (Err NumberTooLarge) fits tt (run_some is_digit b bs is))
 
 pub token_well : (bytes : List ℕ) → FoundWell (token_at bytes)
@@ -86,8 +86,8 @@ token_well [] = tt
 token_well (b ∷ bs) =
     let all : List ℕ = b ∷ bs in
     let name : TokenOrFault = Ok (tokens.Name, name_len all) in
-    let word : Judged = word_at (prefix_len is_upper all) all in
-    let numeral : Judged = numeral_at (prefix_len is_digit all) all in
+    let word : Judgement = word_at (prefix_len is_upper all) all in
+    let numeral : Judgement = numeral_at (prefix_len is_digit all) all in
     let text : TokenOrFault = text_at (literal 0 bs) in
     let mark : TokenOrFault = at_first_byte (mark_at b bs) in
     let by_quote : TokenOrFault = cond (nat_eq b 34) text mark in
@@ -121,6 +121,6 @@ lex_fault text Memory place p h = absurd p
 pub fault_is : (text : List ℕ) (ts : List Token) (u : Uncut) (kind : LoadKind) (place : Option Place) → length text ≤ PROGRAM_LIMIT → Cutting text ts u → IsNextFault u kind place → IsLexFault text kind place
 fault_is text ts u kind place short c (inl has) =
     let is : place ≡ Some (place_at text (next_token u.at (left u) + has.behind)) = has.place_is ∙ ap (λ l. Some (place_at l (next_token u.at (left u) + has.behind))) c.text_is in
-    lex_fault text kind place (token_kind (skip_gap false (left u)) kind has.behind has.found)
+    lex_fault text kind place (token_kind (skip_gap (left u)) kind has.behind has.found)
     (record { short = short; offset = next_token u.at (left u) + has.behind; first = first_fault text ts u kind has.behind c has.some has.found; place_is = is })
 fault_is text ts u kind place short c (inr (out, none)) = subst (λ k. IsLexFault text k place) (sym out) none

@@ -20,7 +20,7 @@ same_wrong x y n m found e f =
     let second : LoadKind × ℕ → ℕ = λ q. q.1 in
     (ap first pair, ap second pair)
 
-no_token : (bytes : List ℕ) (x : TokenKind × ℕ) → skip_gap false bytes ≡ [] → token_at (skip_gap false bytes) ≡ Ok x → ⊥
+no_token : (bytes : List ℕ) (x : TokenKind × ℕ) → skip_gap bytes ≡ [] → token_at (skip_gap bytes) ≡ Ok x → ⊥
 no_token bytes x e f = let g : wrong BadByte 0 ≡ Ok x = sym (ap token_at e) ∙ f in cc
 
 no_both : (x : TokenKind × ℕ) (kind : LoadKind) (n : ℕ) (found : TokenOrFault) → found ≡ Ok x → found ≡ wrong kind n → ⊥
@@ -31,11 +31,11 @@ same_cut text at bytes a b (none e) (none f) = refl
 same_cut text at bytes a b (none e) (token f g h p r) = absurd (no_token bytes _ e f)
 same_cut text at bytes a b (token e f g p r) (none h) = absurd (no_token bytes _ h e)
 same_cut text at bytes a b (token {n} {t} {ts} e f g p r) (token {n = m} {t = u} {ts = us} e' f' g' p' r') =
-    let same = same_token t.kind u.kind n m (token_at (skip_gap false bytes)) e e' in
+    let same = same_token t.kind u.kind n m (token_at (skip_gap bytes)) e e' in
     let first : t.first ≡ u.first = f ∙ sym f' in
     let after : t.after ≡ u.after = g ∙ (λ i. first i + same.1 i) ∙ sym g' in
     let place : t.place ≡ u.place = p ∙ ap (place_at text) first ∙ sym p' in
-    let tail = same_cut text t.after (drop n (skip_gap false bytes)) ts us r (subst (λ k. Cuts text k (drop n (skip_gap false bytes)) us) (sym after) (subst (λ k. Cuts text u.after (drop k (skip_gap false bytes)) us) (sym same.1) r')) in
+    let tail = same_cut text t.after (drop n (skip_gap bytes)) ts us r (subst (λ k. Cuts text k (drop n (skip_gap bytes)) us) (sym after) (subst (λ k. Cuts text u.after (drop k (skip_gap bytes)) us) (sym same.1) r')) in
     λ i. record { kind = same.0 i; first = first i; after = after i; place = place i } ∷ tail i
 
 pub no_cut : (text : List ℕ) (at offset : ℕ) (bytes : List ℕ) (a : List Token) (kind : LoadKind) → Faults at bytes kind offset → Cuts text at bytes a → ⊥
@@ -43,9 +43,9 @@ no_cut text at offset bytes a kind (here {b} {bs} e f) (none h) = let g : b ∷ 
 no_cut text at offset bytes a kind (here {b} {n} {bs} e f) (token h i j p r) = no_both _ kind n (token_at (b ∷ bs)) (ap token_at (sym e) ∙ h) f
 no_cut text at offset bytes a kind (later e f) (none h) = no_token bytes _ h e
 no_cut text at offset bytes a kind (later {n} {t} e f) (token {n = m} {t = u} {ts = us} h i j p r) =
-    let same = same_token t u.kind n m (token_at (skip_gap false bytes)) e h in
+    let same = same_token t u.kind n m (token_at (skip_gap bytes)) e h in
     let after : next_token at bytes + n ≡ u.after = ap (λ k. k + n) (sym i) ∙ ap (λ k. u.first + k) same.1 ∙ sym j in
-    no_cut text (next_token at bytes + n) offset (drop n (skip_gap false bytes)) us kind f (subst (λ k. Cuts text k (drop n (skip_gap false bytes)) us) (sym after) (subst (λ k. Cuts text u.after (drop k (skip_gap false bytes)) us) (sym same.1) r))
+    no_cut text (next_token at bytes + n) offset (drop n (skip_gap bytes)) us kind f (subst (λ k. Cuts text k (drop n (skip_gap bytes)) us) (sym after) (subst (λ k. Cuts text u.after (drop k (skip_gap bytes)) us) (sym same.1) r))
 
 pub same_fault : (at p q : ℕ) (bytes : List ℕ) (kind other : LoadKind) → Faults at bytes kind p → Faults at bytes other q → (kind ≡ other) × (p ≡ q)
 same_fault at p q bytes kind other (here {b} {n} {bs} e f) (here {b = c} {n = m} {bs = cs} e' f') =
@@ -54,5 +54,5 @@ same_fault at p q bytes kind other (here {b} {n} {bs} e f) (here {b = c} {n = m}
 same_fault at p q bytes kind other (here {b} {n} {bs} e f) (later e' f') = absurd (no_both _ kind n (token_at (b ∷ bs)) (ap token_at (sym e) ∙ e') f)
 same_fault at p q bytes kind other (later e f) (here {b} {n} {bs} e' f') = absurd (no_both _ other n (token_at (b ∷ bs)) (ap token_at (sym e') ∙ e) f')
 same_fault at p q bytes kind other (later {n} {t} e f) (later {n = m} {t = u} e' f') =
-    let same = same_token t u n m (token_at (skip_gap false bytes)) e e' in
-    same_fault (next_token at bytes + n) p q (drop n (skip_gap false bytes)) kind other f (subst (λ k. Faults (next_token at bytes + k) (drop k (skip_gap false bytes)) other q) (sym same.1) f')
+    let same = same_token t u n m (token_at (skip_gap bytes)) e e' in
+    same_fault (next_token at bytes + n) p q (drop n (skip_gap bytes)) kind other f (subst (λ k. Faults (next_token at bytes + k) (drop k (skip_gap bytes)) other q) (sym same.1) f')

@@ -10,7 +10,7 @@ use Rattle.ctd_token.specs.declared.fault.LoadKind.{LoadKind}
 use Rattle.ctd_token.specs.declared.fault.LoadKind.TheVariants.{BadByte, UnfinishedString, BadOctal, NumberTooLarge, NotInProfile}
 use Rattle.ctd_token.specs.declared.token.Mark.{Mark}
 use Rattle.ctd_token.specs.declared.token.Mark.TheVariants.{Open, Close, OpenIndex, CloseIndex, Comma, Assign, Plus, Minus, Times, Divide, Percent, Caret, Bang, Less, Greater, AtMost, AtLeast, Equal, Unequal, AndAnd, OrOr}
-use Rattle.ctd_token.specs.Literal.{Closed, literal}
+use Rattle.ctd_token.specs.Literal.{WholeLiteral, literal}
 
 -- the place of an offset of a text: 1 plus the line feeds before it, and 1 plus the bytes since the last of them
 abbrev pub place_at : List ℕ → ℕ → Place
@@ -35,15 +35,19 @@ is_lower b = nat_le 97 b && nat_le b 122
 abbrev pub is_digit : ℕ → Bool
 is_digit b = nat_le 48 b && nat_le b 57
 
--- whether a comment begins
-abbrev pub is_hash : ℕ → Bool
-is_hash b = nat_eq b 35
+abbrev mutual
+  -- the text behind its blanks and comments; a comment begins with `#`
+  pub skip_gap : List ℕ → List ℕ
+  skip_gap [] = []
+  skip_gap (b ∷ bs) =
+      if is_whitespace b then skip_gap bs
+      else if nat_eq b 35 then skip_comment bs
+      else b ∷ bs
 
--- the text after its blanks and comments; a comment runs from `#` up to the next line feed or the end
-abbrev pub skip_gap : (in_comment : Bool) → List ℕ → List ℕ
-skip_gap in_comment [] = []
-skip_gap in_comment (b ∷ bs) =
-    if in_comment || is_whitespace b || is_hash b then skip_gap (is_hash b || (in_comment && not (nat_eq b 10))) bs else b ∷ bs
+  -- the same where the text begins within a comment, which runs up to the next line feed or the end of the text
+  pub skip_comment : List ℕ → List ℕ
+  skip_comment [] = []
+  skip_comment (b ∷ bs) = if nat_eq b 10 then skip_gap bs else skip_comment bs
 
 -- the mark that one byte is: ( ) [ ] , = + - * / % ^ ! < >
 abbrev pub single_mark : ℕ → Option Mark
@@ -77,15 +81,15 @@ double_mark a b =
     else None
 
 -- a token and its length, or what is wrong with it
-abbrev pub Judged : Type 0
-Judged = Result (TokenKind × ℕ) LoadKind
+abbrev pub Judgement : Type 0
+Judgement = Result (TokenKind × ℕ) LoadKind
 
 -- the words that the profile leaves out
 abbrev pub is_left_out_word : List ℕ → Bool
 is_left_out_word w = list_any (bytes_eq w) (codes "FLOAT" ∷ codes "FLOATP" ∷ codes "FIXED" ∷ codes "SCIENTIFIC" ∷ [])
 
 -- a word of n letters
-abbrev pub word_at : ℕ → List ℕ → Judged
+abbrev pub word_at : ℕ → List ℕ → Judgement
 word_at n bytes = if is_left_out_word (take n bytes) then Err NotInProfile else Ok (tokens.Word, n)
 
 -- how many lower-case letters and digits come first
@@ -107,19 +111,19 @@ fraction_begins [] = false
 fraction_begins (b ∷ bs) = nat_eq b 46 || nat_eq b 101 || nat_eq b 69
 
 -- a numeral of n digits
-abbrev pub numeral_at : ℕ → List ℕ → Judged
+abbrev pub numeral_at : ℕ → List ℕ → Judgement
 numeral_at n bytes =
     if has_leading_zero (take n bytes) || fraction_begins (drop n bytes) then Err NotInProfile
     else if nat_le (2 ^ 127) (decimal (take n bytes)) then Err NumberTooLarge
     else Ok (tokens.Numeral (pos (decimal (take n bytes))), n)
 
 -- a mark of n bytes, or else something else
-abbrev pub mark_or : Option Mark → ℕ → Judged → Judged
+abbrev pub mark_or : Option Mark → ℕ → Judgement → Judgement
 mark_or None n other = other
 mark_or (Some m) n other = Ok (tokens.Mark m, n)
 
 -- a mark of two bytes, or else of one; any other byte begins no token
-abbrev pub mark_at : ℕ → List ℕ → Judged
+abbrev pub mark_at : ℕ → List ℕ → Judgement
 mark_at a [] = mark_or (single_mark a) 1 (Err BadByte)
 mark_at a (b ∷ bs) = mark_or (double_mark a b) 2 (mark_or (single_mark a) 1 (Err BadByte))
 
@@ -132,17 +136,17 @@ abbrev pub wrong : LoadKind → ℕ → TokenOrFault
 wrong kind behind = Err (kind, behind)
 
 -- a fault is at the first byte, unless said otherwise
-abbrev pub at_first_byte : Judged → TokenOrFault
+abbrev pub at_first_byte : Judgement → TokenOrFault
 at_first_byte (Ok t) = Ok t
 at_first_byte (Err kind) = wrong kind 0
 
 -- a closed string: its first octal escape above 255 is a fault, at the backslash
-abbrev pub closed_text : Closed → Option ℕ → TokenOrFault
+abbrev pub closed_text : WholeLiteral → Option ℕ → TokenOrFault
 closed_text c None = Ok (tokens.Text c.values, 1 + c.length)
 closed_text c (Some n) = wrong BadOctal (1 + n)
 
 -- a string after its opening quote
-abbrev pub text_at : Option Closed → TokenOrFault
+abbrev pub text_at : Option WholeLiteral → TokenOrFault
 text_at None = wrong UnfinishedString 0
 text_at (Some c) = closed_text c c.bad_octal
 
@@ -158,21 +162,21 @@ token_at (b ∷ bs) =
 
 -- the offset of the next token, or of the end
 abbrev pub next_token : ℕ → List ℕ → ℕ
-next_token at bytes = at + (length bytes - length (skip_gap false bytes))
+next_token at bytes = at + (length bytes - length (skip_gap bytes))
 
 -- the bytes of a text from an offset on are cut into these tokens, with blanks and comments around them
 pub data Cuts : (program : List ℕ) (at : ℕ) (bytes : List ℕ) (ts : List Token) → Type 0 where
-  none : {program bytes : List ℕ} {at : ℕ} → skip_gap false bytes ≡ [] → Cuts program at bytes []
+  none : {program bytes : List ℕ} {at : ℕ} → skip_gap bytes ≡ [] → Cuts program at bytes []
   token : {program bytes : List ℕ} {at n : ℕ} {t : Token} {ts : List Token} →
-      token_at (skip_gap false bytes) ≡ Ok (t.kind, n) →
+      token_at (skip_gap bytes) ≡ Ok (t.kind, n) →
       t.first ≡ next_token at bytes → t.after ≡ t.first + n → t.place ≡ place_at program t.first →
-      Cuts program t.after (drop n (skip_gap false bytes)) ts →
+      Cuts program t.after (drop n (skip_gap bytes)) ts →
       Cuts program at bytes (t ∷ ts)
 
 -- the first token of these bytes that has a fault has this one, at this offset
 pub data Faults : (at : ℕ) (bytes : List ℕ) (kind : LoadKind) (offset : ℕ) → Type 0 where
   here : {at b n : ℕ} {bytes bs : List ℕ} {kind : LoadKind} →
-      skip_gap false bytes ≡ b ∷ bs → token_at (b ∷ bs) ≡ wrong kind n → Faults at bytes kind (next_token at bytes + n)
+      skip_gap bytes ≡ b ∷ bs → token_at (b ∷ bs) ≡ wrong kind n → Faults at bytes kind (next_token at bytes + n)
   later : {at n offset : ℕ} {bytes : List ℕ} {t : TokenKind} {kind : LoadKind} →
-      token_at (skip_gap false bytes) ≡ Ok (t, n) →
-      Faults (next_token at bytes + n) (drop n (skip_gap false bytes)) kind offset → Faults at bytes kind offset
+      token_at (skip_gap bytes) ≡ Ok (t, n) →
+      Faults (next_token at bytes + n) (drop n (skip_gap bytes)) kind offset → Faults at bytes kind offset

@@ -25,10 +25,10 @@ kind_text kind.Read = codes "cannot read program"
 kind_text kind.Memory = codes "out of memory"
 
 -- the place, where there is one
-abbrev pub placed : Option Place → List ℕ
-placed None = []
-placed (Some p) = place_text p ++ codes ": "
+abbrev pub place_prefix : Option Place → List ℕ
+place_prefix None = []
+place_prefix (Some p) = place_text p ++ codes ": "
 
 -- a fault with its place in front
 abbrev pub load_fault_text : LoadFault → List ℕ
-load_fault_text f = placed f.place ++ kind_text f.kind
+load_fault_text f = place_prefix f.place ++ kind_text f.kind

@@ -4,7 +4,7 @@ use Rattle.ctd_token.specs.declared.token.TokenKind.{TokenKind}
 use Rattle.ctd_token.specs.declared.token.TokenKind.TheVariants as tokens
 use Rattle.ctd_token.specs.declared.token.Mark.{Mark}
 use Rattle.ctd_token.specs.Cut.{is_upper, is_lower, is_digit, single_mark, double_mark}
-use Rattle.ctd_token.specs.Literal.{Closed, literal}
+use Rattle.ctd_token.specs.Literal.{WholeLiteral, literal}
 
 -- the five forms
 pub data Form : Type 0 where
@@ -32,7 +32,7 @@ mark_of (a ∷ b ∷ c ∷ more) = None
 -- a string literal with its quotes: an opening quote, and parts up to the closing quote at the end
 pub record IsLiteral (bytes : List ℕ) : Type 0 where
   pub after : List ℕ
-  pub closed : Closed
+  pub closed : WholeLiteral
   pub opens : bytes ≡ 34 ∷ after
   pub closes : literal 0 after ≡ Some closed
   pub whole : closed.length ≡ length after

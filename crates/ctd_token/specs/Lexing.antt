@@ -18,12 +18,12 @@ left u = drop u.at u.text
 
 -- it has no token
 abbrev pub IsEnd : Uncut → Type 0
-IsEnd u = skip_gap false (left u) ≡ []
+IsEnd u = skip_gap (left u) ≡ []
 
 -- this is the token that comes next, and what is left behind it
 pub record IsNext (u : Uncut) (t : Token) (rest : Uncut) : Type 0 where
   pub len : ℕ
-  pub start : drop t.first u.text ≡ skip_gap false (left u)
+  pub start : drop t.first u.text ≡ skip_gap (left u)
   pub found : token_at (drop t.first u.text) ≡ Ok (t.kind, len)
   pub first : t.first ≡ next_token u.at (left u)
   pub after : t.after ≡ t.first + len
@@ -35,8 +35,8 @@ pub record IsNext (u : Uncut) (t : Token) (rest : Uncut) : Type 0 where
 -- the token that comes next has this fault, at this place
 pub record HasNextFault (u : Uncut) (kind : LoadKind) (place : Option Place) : Type 0 where
   pub behind : ℕ
-  pub some : 0 < length (skip_gap false (left u))
-  pub found : token_at (skip_gap false (left u)) ≡ wrong kind behind
+  pub some : 0 < length (skip_gap (left u))
+  pub found : token_at (skip_gap (left u)) ≡ wrong kind behind
   pub place_is : place ≡ Some (place_at u.text (next_token u.at (left u) + behind))
 
 -- or memory ran out

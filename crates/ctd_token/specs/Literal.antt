@@ -54,21 +54,21 @@ abbrev pub part_at : ℕ → List ℕ → LiteralPart
 part_at b bs = if nat_eq b 92 then after_backslash bs else literal_part (b ∷ []) 1
 
 -- a literal read up to its closing quote: what it stands for, where its first octal escape above 255 is, and its length with the quote
-pub record Closed : Type 0 where
+pub record WholeLiteral : Type 0 where
   pub values : List ℕ
   pub bad_octal : Option ℕ
   pub length : ℕ
 
 -- the closing quote
-abbrev pub closed_here : Closed
-closed_here = record { values = []; bad_octal = None; length = 1 }
+abbrev pub closing_quote : WholeLiteral
+closing_quote = record { values = []; bad_octal = None; length = 1 }
 
 -- the same from a byte before
-abbrev pub one_later : Closed → Closed
+abbrev pub one_later : WholeLiteral → WholeLiteral
 one_later c = record { values = c.values; bad_octal = option_map (λ n. 1 + n) c.bad_octal; length = 1 + c.length }
 
 -- a part in front: only an octal escape stands for more than 255
-abbrev pub with_part : LiteralPart → Closed → Closed
+abbrev pub with_part : LiteralPart → WholeLiteral → WholeLiteral
 with_part p c = record {
   values = p.values ++ c.values;
   bad_octal = if nat_lt 255 (sum p.values) then Some 0 else option_map (λ n. 1 + n) c.bad_octal;
@@ -76,9 +76,9 @@ with_part p c = record {
 }
 
 -- part by part to the closing quote, after some bytes that belong to the last part; nothing where no quote closes
-abbrev pub literal : (skipped : ℕ) → List ℕ → Option Closed
+abbrev pub literal : (skipped : ℕ) → List ℕ → Option WholeLiteral
 literal skipped [] = None
 literal (suc n) (b ∷ bs) = option_map one_later (literal n bs)
 literal zero (b ∷ bs) =
-    if nat_eq b 34 then Some closed_here
+    if nat_eq b 34 then Some closing_quote
     else option_map (with_part (part_at b bs)) (literal ((part_at b bs).length - 1) bs)

@@ -3,7 +3,7 @@
 ghost use Rattle.std.specs.Prelude.{ℕ, List, ◌≡◌, ◌≤◌, ◌<◌, ◌-◌, ◌+◌, ◌^◌, length, count_by, nat_eq, None, IfOk, IfErr, IfSome, IfNone, OnOk, IsErrAnd};
 ghost use Rattle.ctd_token.specs.Cut.{Cuts, Faults, place_at};
 ghost use Rattle.ctd_token.specs.Lexing.{IsLexFault};
-ghost use Rattle.ctd_token.specs.Scanning.{FaultWithin, IsPlaced};
+ghost use Rattle.ctd_token.specs.Scanning.{FaultWithin, IsFaultAt};
 ghost use Rattle.ctd_token.specs.declared.token.Token.{Token};
 ghost use Rattle.ctd_token.specs.declared.fault.LoadKind.{LoadKind};
 
@@ -58,7 +58,7 @@ fn fault_at(fault: TokenFault, place: Place, text: &[u8], at: usize) -> LoadFaul
     requires here { place ≡ place_at text.now at }
     requires within { at ≤ length text.now }
     requires fault_within { FaultWithin fault (length text.now - at) }
-    ensures { IsPlaced text.now at fault result }
+    ensures { IsFaultAt text.now at fault result }
 {
     match fault {
         TokenFault::Wrong { kind, behind } => LoadFault {

@@ -1,7 +1,7 @@
 //! The names of variables.
 
 ghost use Rattle.std.specs.Prelude.{◌≡◌, true, IfOk};
-ghost use Rattle.ctd_token.specs.ShortNames.{padded, IsShort};
+ghost use Rattle.ctd_token.specs.ShortNames.{pack, IsShort};
 
 use crate::limits::SHORT_NAME;
 use crate::text::Bytes;
@@ -20,14 +20,14 @@ enum NameRest {
 const LONG: [u8; 8] = [u8::MAX; 8];
 
 /// The bytes of a short name, zeros behind them, and how many they are.
-fn padded(bytes: &[u8]) -> [u8; 8]
+fn pack(bytes: &[u8]) -> [u8; 8]
     requires { IsShort bytes.now }
-    ensures { result ≡ padded bytes.now }
+    ensures { result ≡ pack bytes.now }
 {
-    let mut padded = [0; 8];
-    padded[..bytes.len()].copy_from_slice(bytes);
-    padded[SHORT_NAME] = bytes.len() as u8;
-    padded
+    let mut packed = [0; 8];
+    packed[..bytes.len()].copy_from_slice(bytes);
+    packed[SHORT_NAME] = bytes.len() as u8;
+    packed
 }
 
 /// Whether eight bytes are the same: one comparison of two numbers.
@@ -43,7 +43,7 @@ fn are_same(a: &[u8; 8], b: &[u8; 8]) -> bool
 /// besides: they, zeros behind them, and how many they are.
 #[derive(Drop)]
 pub struct Name {
-    eight: [u8; 8],
+    packed: [u8; 8],
     rest: NameRest,
 }
 
@@ -56,9 +56,9 @@ impl Model for Name {
 
     ghost Value = { List ℕ };
 
-    ghost view = { λ n. bytes_of n.eight n.rest };
+    ghost view = { λ n. bytes_of n.packed n.rest };
 
-    ghost invariant = { λ n. IsKept n.eight n.rest };
+    ghost invariant = { λ n. IsKept n.packed n.rest };
 }
 
 impl Name {
@@ -75,13 +75,13 @@ impl Name {
         ensures equal { IfOk result (λ copied. copied ≡ bytes.now) }
     {
         if bytes.len() <= SHORT_NAME {
-            let eight = padded(bytes);
+            let packed = pack(bytes);
             let rest = NameRest::Short(number);
-            return Ok(Name { eight, rest });
+            return Ok(Name { packed, rest });
         }
         let long = Bytes::copy(alloc, bytes)?;
         let rest = NameRest::Long(number, Box::new(alloc, long)?);
-        Ok(Name { eight: LONG, rest })
+        Ok(Name { packed: LONG, rest })
     }
 
     /// The bytes of the name, all of them.
@@ -90,7 +90,7 @@ impl Name {
         ensures whole { result.now ≡ self.now }
     {
         match &self.rest {
-            NameRest::Short(_) => &self.eight[..self.eight[SHORT_NAME] as usize],
+            NameRest::Short(_) => &self.packed[..self.packed[SHORT_NAME] as usize],
             NameRest::Long(_, bytes) => bytes.as_slice(),
         }
     }
@@ -106,37 +106,37 @@ impl Name {
 }
 
 /// Eight bytes that no name has.
-const UNLIKE_ANY: [u8; 8] = [u8::MAX - 1; 8];
+const LONG_NAME_KEY: [u8; 8] = [u8::MAX - 1; 8];
 
 /// A name with which others are compared, which contracts see as the list of its bytes.
 #[derive(Drop)]
 pub struct KnownName {
     name: Name,
     // The eight bytes of a short name; of a long one others, which no name has. So one comparison tells.
-    own: [u8; 8],
+    packed: [u8; 8],
 }
 
 impl Model for KnownName {
     ghost use Rattle.std.specs.Prelude.{◌≡◌, List, ℕ};
-    ghost use Rattle.ctd_token.specs.ShortNames.{own_bytes};
+    ghost use Rattle.ctd_token.specs.ShortNames.{key_bytes};
 
     ghost Value = { List ℕ };
 
     ghost view = { λ k. k.name };
 
-    ghost invariant = { λ k. k.own ≡ own_bytes k.name };
+    ghost invariant = { λ k. k.packed ≡ key_bytes k.name };
 }
 
 impl KnownName {
-    /// Makes a name known; takes no memory.
+    /// Packs a name for comparison; takes no memory.
     pub fn new(name: Name) -> KnownName
         ensures equal { result ≡ name }
     {
-        let own = match &name.rest {
-            NameRest::Short(_) => name.eight,
-            NameRest::Long(_, _) => UNLIKE_ANY,
+        let packed = match &name.rest {
+            NameRest::Short(_) => name.packed,
+            NameRest::Long(_, _) => LONG_NAME_KEY,
         };
-        KnownName { name, own }
+        KnownName { name, packed }
     }
 
     /// The bytes of the name, all of them.
@@ -147,13 +147,13 @@ impl KnownName {
         self.name.as_slice()
     }
 
-    /// Whether another name is the same, told without a look at the bytes of a long one, where this one has at most seven; of any other, false
-    /// says nothing.
+    /// Whether another name is the same, where this one has at most seven bytes; it does not look at the bytes of a long one, so for those false
+    /// may stand for equal names.
     #[inline(always)]
     pub fn is_same_short(&self, other: &Name) -> bool
         ensures same { result ≡ true → self.now ≡ other.now }
         ensures short { IsShort self.now → self.now ≡ other.now → result ≡ true }
     {
-        are_same(&self.own, &other.eight)
+        are_same(&self.packed, &other.packed)
     }
 }

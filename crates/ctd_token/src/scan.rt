@@ -4,7 +4,7 @@
 ghost use Rattle.std.specs.Prelude.{◌≡◌, ◌≤◌, ◌<◌, ◌^◌, drop, take, false, true, slice_index, length, All, IfOk, IfErr, IfSome, MatchOption};
 ghost use Rattle.std.specs.List.{prefix_len};
 ghost use Rattle.ctd_token.specs.Cut.{is_whitespace, is_upper, is_digit, skip_gap, single_mark, double_mark, is_left_out_word, name_len, decimal, word_at, numeral_at, mark_at, token_at};
-ghost use Rattle.ctd_token.specs.Scanning.{Scans, FaultWithin, mark_judged};
+ghost use Rattle.ctd_token.specs.Scanning.{Scans, FaultWithin, mark_judgement};
 
 use crate::fault::{LoadKind, TokenFault};
 use crate::literal::text_at;
@@ -20,7 +20,7 @@ fn is_whitespace(b: u8) -> bool
 /// How many bytes at the front are blanks and comments.
 pub(crate) fn gap_len(bytes: &[u8]) -> usize
     ensures within { result ≤ length bytes.now }
-    ensures skipped { drop result bytes.now ≡ skip_gap false bytes.now }
+    ensures skipped { drop result bytes.now ≡ skip_gap bytes.now }
 {
     let mut in_comment = false;
     let mut n = 0;
@@ -162,7 +162,7 @@ fn double_mark(a: u8, b: u8) -> Option<Mark>
 #[inline(always)]
 fn mark_at(bytes: &[u8]) -> Option<(Mark, usize)>
     requires { 0 < length bytes.now }
-    ensures token { mark_judged result ≡ mark_at (slice_index bytes.now 0) (drop 1 bytes.now) }
+    ensures token { mark_judgement result ≡ mark_at (slice_index bytes.now 0) (drop 1 bytes.now) }
     ensures within { IfSome result (λ x. (0 < x.1) × (x.1 ≤ length bytes.now)) }
 {
     if bytes.len() > 1 {

@@ -14,7 +14,7 @@ returns-in-Err-clause-fault c =
     let gap : ℕ = c.gap_len.result in
     let tail = take_rest text at in
     let within : gap ≤ length (drop at text) = omega (arith, c.gap_len.ensures.within, ap length tail) in
-    let skipped : drop gap (drop at text) ≡ skip_gap false (drop at text) = ap (drop gap) (sym tail) ∙ c.gap_len.ensures.skipped ∙ ap (skip_gap false) tail in
+    let skipped : drop gap (drop at text) ≡ skip_gap (drop at text) = ap (drop gap) (sym tail) ∙ c.gap_len.ensures.skipped ∙ ap skip_gap tail in
     let found = subst (λ l. Scans (Err c.in-Err.fault) (token_at l)) (take_rest text (at + gap)) c.in-Err.ensures.token in
     let inside : at + gap < length text = search rules in
     subst (λ u. IsNextFault u c.fault_at.result.kind c.fault_at.result.place) c.self.view_is

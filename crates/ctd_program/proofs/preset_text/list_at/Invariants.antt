@@ -1,6 +1,6 @@
 use Rattle.std.proofs.Common.{◌-◌, length}
-use Rattle.ctd_program.proofs.Separated.{ReadUpTo}
-use Rattle.ctd_program.proofs.preset_text.separated_at.Given as goal
+use Rattle.ctd_program.proofs.SeparatedLists.{ReadUpTo}
+use Rattle.ctd_program.proofs.preset_text.list_at.Given as goal
 
 abbrev pub invariant-loop-items : goal.invariant-loop-items
 invariant-loop-items g l = ReadUpTo g.T.Item.spells l.bytes l.items.items l.at
