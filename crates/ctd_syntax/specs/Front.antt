@@ -56,7 +56,7 @@ NestsTooDeep program before = (ts : List Token) → IsCut program ts → PassesL
 abbrev pub AreNoProgram : List ℕ → List Token → Type 0
 AreNoProgram program ts = IsShallow (lexemes program ts) × ((tree : CommandList) → ¬ (Spells program ts tree))
 
--- no text of these bytes spells a program, though its tokens do not nest too deeply
+-- whatever tokens a text is cut into, they do not nest too deeply and spell no program
 abbrev pub SpellsNone : List ℕ → Type 0
 SpellsNone program = (ts : List Token) → IsCut program ts → AreNoProgram program ts
 
