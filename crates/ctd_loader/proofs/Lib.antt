@@ -1,5 +1,5 @@
 pub mod Building
 pub mod Listing
 pub mod Loads
-pub mod Numbers
+pub mod PatternNumberLemmas
 pub mod PulledText

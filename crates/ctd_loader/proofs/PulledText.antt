@@ -21,8 +21,10 @@ module _ {R : Type 0} (G : Ghosts R) where
     rest = G.left new;
     first = bytes;
     left = λ _. refl;
-    all = λ _ ended. consumed_to_end (G.left old) (G.left new) (take n buf) bytes (end ended);
-    final = λ stopped. absurd (stopped going);
+    end = record {
+      all = λ _ ended. consumed_to_end (G.left old) (G.left new) (take n buf) bytes (end ended);
+      final = λ stopped. absurd (stopped going);
+    };
   }
 
   -- and behind what was given before

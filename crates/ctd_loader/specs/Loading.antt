@@ -60,13 +60,17 @@ pub record HasBadPattern (program : List ℕ) (f : LoadFault) : Type 0 where
 abbrev pub IsReady : List ℕ → CommandList → Type 0
 IsReady program tree = Parses program tree × ArePatterns (literals tree)
 
--- the faults with which this text may be refused
+-- a text that came whole is refused with this fault
+abbrev pub TextHasFault : List ℕ → LoadFault → Type 0
+TextHasFault program f = IsRefused program f.kind f.place ⊎ HasBadPattern program f
+
+-- the faults with which what came of a text may be refused
 abbrev pub TextMayFail : Option (Result (List ℕ) LoadKind) → LoadFault → Type 0
 TextMayFail None f = ⊥
-TextMayFail (Some (Ok program)) f = IsRefused program f.kind f.place ⊎ HasBadPattern program f
+TextMayFail (Some (Ok program)) f = TextHasFault program f
 TextMayFail (Some (Err kind)) f = (f.kind ≡ kind) × (f.place ≡ None)
 
--- what it is read as
+-- the program that what came of a text is read as
 abbrev pub IsLoaded : Option (Result (List ℕ) LoadKind) → CommandList → Type 0
 IsLoaded None tree = ⊥
 IsLoaded (Some (Ok program)) tree = IsReady program tree
@@ -80,19 +84,14 @@ MayFail bytes seen f = TextMayFail (program_text bytes seen) f
 abbrev pub Loads : List ℕ → Seen → CommandList → Type 0
 Loads bytes seen tree = IsLoaded (program_text bytes seen) tree
 
--- the answer of loading a text that came whole; if memory ran out, nothing is said
-abbrev pub TextLoadsAs : {P : Type 0} → (P → CommandList) → Result P LoadFault → List ℕ → Type 0
-TextLoadsAs tree_of (Ok plan) program = IsReady program (tree_of plan)
-TextLoadsAs tree_of (Err f) program = f.kind ≢ Memory → IsRefused program f.kind f.place ⊎ HasBadPattern program f
-
--- the answer of loading what a reader gave; if memory ran out, nothing is said of the text
-abbrev pub LoadsAs : {P : Type 0} → (P → CommandList) → Result P LoadFault → List ℕ → Seen → Type 0
-LoadsAs tree_of (Ok plan) bytes seen = Loads bytes seen (tree_of plan)
-LoadsAs tree_of (Err f) bytes seen = f.kind ≢ Memory → MayFail bytes seen f
+-- an answer is a program that may be given, or a fault that may be; where memory ran out, nothing is said
+abbrev pub GivesProgramOrFault : {P : Type 0} → (MayGive : CommandList → Type 0) → (MayFailWith : LoadFault → Type 0) → (P → CommandList) → Result P LoadFault → Type 0
+GivesProgramOrFault MayGive MayFailWith tree_of (Ok plan) = MayGive (tree_of plan)
+GivesProgramOrFault MayGive MayFailWith tree_of (Err f) = f.kind ≢ Memory → MayFailWith f
 
 -- in a call a reader gave these bytes, no more than one past the limit, and the answer is what loading them gives
 pub record LoadsFrom {P R : Type 0} (tree_of : P → CommandList) (G : Ghosts R) (old new : R) (result : Result P LoadFault) : Type 0 where
   pub bytes : List ℕ
   pub gave : Gave G old new bytes
   pub short : length bytes ≤ PROGRAM_LIMIT + 1
-  pub answer : LoadsAs tree_of result bytes (G.seen new)
+  pub answer : GivesProgramOrFault (Loads bytes (G.seen new)) (MayFail bytes (G.seen new)) tree_of result

@@ -100,7 +100,7 @@ fn matchers_of(alloc: Global, patterns: &[Pattern]) -> Result<Vec<Matcher<'_>>, 
 
 impl Plan {
     ghost use Rattle.ctd_loader.specs.Numbered.{AreAmong};
-    ghost use Rattle.ctd_loader.specs.Loading.{LoadsFrom, TextLoadsAs};
+    ghost use Rattle.ctd_loader.specs.Loading.{GivesProgramOrFault, IsReady, LoadsFrom, TextHasFault};
 
     /// The commands, with at most 200 blocks open at each.
     pub fn commands(&self) -> &[Command]
@@ -120,7 +120,7 @@ impl Plan {
     /// The plan of a complete text.
     fn read(alloc: Global, text: &[u8]) -> Result<Plan, LoadFault>
         requires { length text.now ≤ PROGRAM_LIMIT }
-        ensures loads { TextLoadsAs command_trees result text.now }
+        ensures loads { GivesProgramOrFault (IsReady text.now) (TextHasFault text.now) command_trees result }
         ensures memory { IfErr result (λ fault. fault.kind ≡ LoadKind.Memory → fault.place ≡ None) }
     {
         let program = parse(alloc, text)?;

@@ -1,7 +1,7 @@
 //! The text of a program, as a source gives it.
 ghost use Rattle.std.specs.Prelude.{◌≡◌, ◌<◌, ◌≤◌, ◌+◌, ℕ, List, true, false, length, IfOk, IfErr};
 ghost use Rattle.std.specs.Io.KnownBytes.{IsAtEnd};
-ghost use Rattle.ctd_source.specs.Pull.{seen_after, pulled, GivesNext};
+ghost use Rattle.ctd_source.specs.Pull.{seen_after, pull_count, GivesNext};
 ghost use Rattle.ctd_source.specs.CursorState.{Gave};
 ghost use Rattle.ctd_source.specs.declared.source.Seen.TheVariants.{Going, Ended, Broken};
 
@@ -13,7 +13,7 @@ const PIECE: usize = 16_384;
 
 /// The text that a source gave.
 #[derive(Drop)]
-pub(crate) struct Received {
+pub(crate) struct ReceivedText {
     pub(crate) bytes: Vec<u8>,
     /// Whether a read failed after them.
     pub(crate) failed: bool,
@@ -28,7 +28,7 @@ fn pull_most<P: Source>(
     requires { 0 < most }
     ensures bound { IfOk result (λ n. n ≤ length piece.new) }
     ensures most { IfOk result (λ n. n ≤ most) }
-    ensures given { P.given program.new ≡ P.given program.old + pulled result }
+    ensures given { P.given program.new ≡ P.given program.old + pull_count result }
     ensures seen { P.seen program.new ≡ seen_after result }
     ensures bytes { GivesNext (P.left program.old) (P.left program.new) result piece.new }
     ensures end { P.seen program.old ≡ Going → P.seen program.new ≡ Ended → IsAtEnd (P.left program.new) }
@@ -42,7 +42,7 @@ pub(crate) fn receive<P: Source>(
     alloc: Global,
     program: &mut P,
     most: usize,
-) -> Result<Received, AllocError>
+) -> Result<ReceivedText, AllocError>
     requires going { P.seen program.old ≡ Going }
     ensures within { IfOk result (λ text. length text.bytes.items ≤ most) }
     ensures gave { IfOk result (λ text. Gave P.Source program.old program.new text.bytes.items) }
@@ -55,21 +55,21 @@ pub(crate) fn receive<P: Source>(
     while bytes.len() < most {
         match pull_most(program, most - bytes.len(), &mut piece) {
             Ok(0) => {
-                return Ok(Received {
+                return Ok(ReceivedText {
                     bytes,
                     failed: false,
                 });
             }
             Ok(more) => bytes.extend_from_slice(&piece[..more])?,
             Err(Failed) => {
-                return Ok(Received {
+                return Ok(ReceivedText {
                     bytes,
                     failed: true,
                 });
             }
         }
     }
-    Ok(Received {
+    Ok(ReceivedText {
         bytes,
         failed: false,
     })

@@ -80,7 +80,7 @@ module _ {R : Type 0} {G : Ghosts R} where
     more = r.more;
     same_reference = r.same_reference;
     limit = r.limit;
-    final = λ stopped. let f = r.gave.final (λ e. stopped (a.intake.told ∙ e)) in (f.0, b.intake.told ∙ f.1 ∙ sym a.intake.told);
+    final = λ stopped. let f = r.gave.end.final (λ e. stopped (a.intake.seen_agrees ∙ e)) in (f.0, b.intake.seen_agrees ∙ f.1 ∙ sym a.intake.seen_agrees);
     follows = λ first given account. reading_follows first given a b account r;
     holds = λ first given account d limit agrees. limit;
   }

@@ -21,7 +21,7 @@ use std::marker::Model;
 #[derive(Drop)]
 pub struct Held {
     ring: HeapCircularBuffer<u8>,
-    gathered: Piece,
+    piece: Piece,
     passed: usize,
 }
 
@@ -32,9 +32,9 @@ impl Model for Held {
 
     ghost Value = { Holding };
 
-    ghost view = { λ h. record { items = drop h.passed (h.gathered ++ h.ring.items); to_gather = length h.ring.items } };
+    ghost view = { λ h. record { items = drop h.passed (h.piece ++ h.ring.items); to_gather = length h.ring.items } };
 
-    ghost invariant = { λ h. (h.passed ≤ length h.gathered + length h.ring.items) × (length h.gathered + length h.ring.items ≤ h.passed + WINDOW) × (length h.gathered ≤ ROOM) × (length h.ring.items ≤ PULL) × (h.ring.capacity ≡ PULL) × ((h.gathered ≡ []) ⊎ (h.ring.items ≡ [])) };
+    ghost invariant = { λ h. (h.passed ≤ length h.piece + length h.ring.items) × (length h.piece + length h.ring.items ≤ h.passed + WINDOW) × (length h.piece ≤ ROOM) × (length h.ring.items ≤ PULL) × (h.ring.capacity ≡ PULL) × ((h.piece ≡ []) ⊎ (h.ring.items ≡ [])) };
 }
 
 /// The first bytes of a ring behind those that were passed, as many as lie in one piece: some, where there are any.
@@ -70,15 +70,15 @@ fn second_run_in(ring: &HeapCircularBuffer<u8>, passed: usize) -> &[u8]
 /// Puts the bytes of a ring in one piece.
 #[cold]
 #[inline(never)]
-fn gather_from(ring: &mut HeapCircularBuffer<u8>, gathered: &mut Piece)
+fn gather_from(ring: &mut HeapCircularBuffer<u8>, piece: &mut Piece)
     requires fits { length ring.old.items ≤ PULL }
-    requires empty { gathered.old ≡ [] }
-    ensures gathered { gathered.new ≡ ring.old.items }
+    requires empty { piece.old ≡ [] }
+    ensures piece { piece.new ≡ ring.old.items }
     ensures ring { ring.new ≡ buffer [] ring.old.capacity }
 {
     let (front, back) = ring.as_slices();
-    gathered.add(front);
-    gathered.add(back);
+    piece.add(front);
+    piece.add(back);
     ring.clear();
 }
 
@@ -108,7 +108,7 @@ impl Held {
     {
         Ok(Held {
             ring: HeapCircularBuffer::with_capacity(alloc, PULL)?,
-            gathered: Piece::new(alloc)?,
+            piece: Piece::new(alloc)?,
             passed: 0,
         })
     }
@@ -119,7 +119,7 @@ impl Held {
         ensures len { result ≡ length self.now.items }
         ensures within { result ≤ WINDOW }
     {
-        self.gathered.len() + self.ring.len() - self.passed
+        self.piece.len() + self.ring.len() - self.passed
     }
 
     /// The first of them.
@@ -127,7 +127,7 @@ impl Held {
     pub(crate) fn first(&self) -> Option<u8>
         ensures { result ≡ slice_get self.now.items 0 }
     {
-        match self.gathered.bytes().get(self.passed) {
+        match self.piece.bytes().get(self.passed) {
             Some(byte) => Some(*byte),
             None => self.ring.get(self.passed).copied(),
         }
@@ -140,9 +140,9 @@ impl Held {
         ensures within { length result.now ≤ length self.now.items }
         ensures some { 0 < length self.now.items → 0 < length result.now }
     {
-        let gathered = self.gathered.bytes();
-        if self.passed < gathered.len() {
-            &gathered[self.passed..]
+        let piece = self.piece.bytes();
+        if self.passed < piece.len() {
+            &piece[self.passed..]
         } else {
             run_in(&self.ring, self.passed)
         }
@@ -171,7 +171,7 @@ impl Held {
             spot.pass_all(&run[..n]);
         } else {
             self.gather();
-            spot.pass_all(&self.gathered()[..n]);
+            spot.pass_all(&self.piece()[..n]);
         }
     }
 
@@ -183,12 +183,12 @@ impl Held {
     {
         if self.len() == 0 {
             self.ring.clear();
-            self.gathered.clear();
+            self.piece.clear();
             self.passed = 0;
             self.ring.fill_from_slice(bytes);
         } else {
             self.gather();
-            self.passed = add_to_piece(&mut self.gathered, self.passed, bytes);
+            self.passed = add_to_piece(&mut self.piece, self.passed, bytes);
         }
     }
 
@@ -196,19 +196,19 @@ impl Held {
     #[inline(always)]
     pub(crate) fn gather(&mut self)
         ensures kept { self.new.items ≡ self.old.items }
-        ensures gathered { self.new.to_gather ≡ 0 }
+        ensures piece { self.new.to_gather ≡ 0 }
     {
         if !self.ring.is_empty() {
-            gather_from(&mut self.ring, &mut self.gathered);
+            gather_from(&mut self.ring, &mut self.piece);
         }
     }
 
-    /// They, gathered in one piece.
+    /// The held bytes as one slice.
     #[inline(always)]
-    pub(crate) fn gathered(&self) -> &[u8]
+    pub(crate) fn piece(&self) -> &[u8]
         requires { self.now.to_gather ≡ 0 }
         ensures { result.now ≡ self.now.items }
     {
-        &self.gathered.bytes()[self.passed..]
+        &self.piece.bytes()[self.passed..]
     }
 }

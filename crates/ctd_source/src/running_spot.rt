@@ -8,7 +8,7 @@ use memchr::memrchr;
 use std::marker::Model;
 
 /// How many bytes a count of newlines within a byte can take.
-const FEW: usize = 255;
+const BYTE_COUNT_MAX: usize = 255;
 
 /// The spot of the next byte. It keeps the offset at which the line began in place of the column, so that to pass the
 /// bytes of a line changes one number.
@@ -105,7 +105,7 @@ impl RunningSpot {
 
 /// How many newlines a few bytes have: a count that stays within a byte lets a compiler count many at a time.
 fn newlines_of_few(bytes: &[u8]) -> u8
-    requires { length bytes.now ≤ FEW }
+    requires { length bytes.now ≤ BYTE_COUNT_MAX }
     ensures { result ≡ count_by is_newline bytes.now }
 {
     let mut count = 0;
@@ -123,8 +123,8 @@ fn newlines(bytes: &[u8]) -> u64
 {
     let mut rest = bytes;
     let mut count = 0;
-    while rest.len() > FEW {
-        let (few, others) = rest.split_at(FEW);
+    while rest.len() > BYTE_COUNT_MAX {
+        let (few, others) = rest.split_at(BYTE_COUNT_MAX);
         count += newlines_of_few(few) as u64;
         rest = others;
     }

@@ -3,11 +3,11 @@ use Rattle.std.proofs.Common.{◌≡◌, List, [], ◌∷◌, ◌++◌, ℕ, Opt
 use Rattle.ctd_syntax.specs.Lexeme.{Lexeme, mark, keyword}
 use Rattle.ctd_program.specs.Tree.{ExprTree, ExprList, VarTree, TestTree}
 use Rattle.ctd_syntax.specs.Grammar
-use Rattle.ctd_syntax.specs.Grammar.{IsExpr, IsProduct, IsSigned, IsPower, IsExponent, IsAtom, IsVariable, IsExprs, IsNames, IsTest, IsBoth, IsNegated, IsSimpleTest, IsTargetEnd, IsAssignments, compare_mark}
+use Rattle.ctd_syntax.specs.Grammar.{IsExpr, IsProduct, IsSigned, IsPower, IsExponent, IsAtom, IsVariable, IsExprs, IsNames, IsTest, IsBoth, IsNegation, IsSimpleTest, IsTargetEnd, IsAssignments, compare_mark}
 use Rattle.ctd_syntax.specs.Nesting.{change_of}
 use Rattle.ctd_token.specs.declared.text.Place.{Place}
-use Rattle.ctd_syntax.specs.declared.nesting.Change.{Change}
-use Rattle.ctd_syntax.specs.declared.nesting.Change.TheVariants.{Opens, Closes, Restarts, Grows, Keeps}
+use Rattle.ctd_syntax.specs.declared.nesting.CounterChange.{CounterChange}
+use Rattle.ctd_syntax.specs.declared.nesting.CounterChange.TheVariants.{Opens, Closes, Restarts, Grows, Keeps}
 use Rattle.ctd_token.specs.declared.token.Mark.TheVariants.{Open, Close, OpenIndex, CloseIndex, Comma, Assign, Plus, Minus, Times, Divide, Percent, Caret, Bang, OrOr, AndAnd}
 use Rattle.ctd_program.specs.declared.tree.Compare.{Compare}
 use Rattle.ctd_program.specs.declared.tree.Compare.TheVariants.{Less, Greater, AtMost, AtLeast, Equal, Unequal}
@@ -25,7 +25,7 @@ token_number (keyword k at) = word_number k
 token_number _ = []
 
 -- a change that opens and closes nothing
-abbrev pub IsLevelChange : Change → Type 0
+abbrev pub IsLevelChange : CounterChange → Type 0
 IsLevelChange Opens = ⊥
 IsLevelChange Closes = ⊥
 IsLevelChange Restarts = Unit {0}
@@ -125,11 +125,11 @@ mutual
 
   -- tests joined by && are
   both_balanced : (ts : List Lexeme) (a : TestTree) → IsBoth ts a → Balanced ts
-  both_balanced ts a (Grammar.negated i) = negated_balanced ts a i
+  both_balanced ts a (Grammar.negation i) = negated_balanced ts a i
   both_balanced ts a (Grammar.and {ts = us} {us = vs} i j) = over us vs (mark AndAnd) (tt, refl) (both_balanced us _ i) (negated_balanced vs _ j)
 
   -- a test behind ! is
-  negated_balanced : (ts : List Lexeme) (a : TestTree) → IsNegated ts a → Balanced ts
+  negated_balanced : (ts : List Lexeme) (a : TestTree) → IsNegation ts a → Balanced ts
   negated_balanced ts a (Grammar.simple i) = simple_balanced ts a i
   negated_balanced ts a (Grammar.not {ts = us} i) = behind (mark Bang) us (tt, refl) (negated_balanced us _ i)
 

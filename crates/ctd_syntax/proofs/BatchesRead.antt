@@ -1,4 +1,4 @@
--- The loop that reads the tokens of a text, and their commands a stretch at a time.
+-- The loop that reads the tokens of a text, and their commands a batch at a time.
 use Rattle.std.proofs.Common.{◌≡◌, ℕ, ◌+◌, ◌≤◌, List, [], ◌∷◌, ◌++◌, length, arith, Option, Some, None, option_map, Bool, false, if◌then◌else◌, nat_lt, refl, sym, ap, ◌∙◌, subst, append_assoc, append-nil}
 use Rattle.std.proofs.lemmas.Bool.{le-ltb}
 use Rattle.ctd_syntax.specs.Lexeme.{Lexeme}
@@ -10,9 +10,9 @@ use Rattle.ctd_token.specs.Lexing.{IsEnd}
 use Rattle.ctd_token.specs.declared.limits.TheConstants.{NESTING_LIMIT, PROGRAM_LIMIT}
 use Rattle.ctd_syntax.specs.Nesting.{change_of, step, start, weight, too_deep}
 use Rattle.ctd_syntax.specs.Reading.{Parses, lexemes}
-use Rattle.ctd_syntax.specs.Stretches.{Unread, IsNextSeen, ReadsOff, SpellsOnly}
+use Rattle.ctd_syntax.specs.Batches.{Unread, IsNextSeen, ReadsOff, SpellsOnly}
 use Rattle.ctd_syntax.proofs.Parsing.{parsed}
-use Rattle.ctd_syntax.proofs.Boundaries.{BeginsWith, nothing_yet, nothing_spelled, stretch_more, all_read}
+use Rattle.ctd_syntax.proofs.Boundaries.{BeginsWith, nothing_yet, nothing_spelled, batch_more, all_read}
 use Rattle.ctd_syntax.proofs.TokensRead as tokens_read
 use Rattle.ctd_syntax.proofs.TokensRead.{HasRead}
 
@@ -25,16 +25,16 @@ trees_append (c ∷ cs) b = ap (Tree.then (command_tree c)) (trees_append cs b)
 pub none_off : (ts : List Lexeme) (cs : List Command) → ReadsOff ts cs ts cs
 none_off ts cs = record { front = []; commands = []; split = refl; put = sym (append-nil cs); only = nothing_spelled }
 
--- what is read so far: commands, and the tokens of a stretch behind them, which do not nest too deep
-pub record InStretches (text : List ℕ) (commands : List Command) (stretch : List Lexeme) (u : Unread) (counters : ℕ × List ℕ) : Type 0 where
+-- what is read so far: commands, and the tokens of a batch behind them, which do not nest too deep
+pub record InBatches (text : List ℕ) (commands : List Command) (batch : List Lexeme) (u : Unread) (counters : ℕ × List ℕ) : Type 0 where
   pub seen : List Lexeme
-  pub read : HasRead text (seen ++ stretch) u
+  pub read : HasRead text (seen ++ batch) u
   pub begins : BeginsWith seen (command_trees commands)
   pub light : weight counters ≤ NESTING_LIMIT
-  pub shallow : (ts : List Lexeme) → too_deep counters ts ≡ None → too_deep start ((seen ++ stretch) ++ ts) ≡ None
+  pub shallow : (ts : List Lexeme) → too_deep counters ts ≡ None → too_deep start ((seen ++ batch) ++ ts) ≡ None
 
 -- before the first token
-pub begin : (text : List ℕ) (commands : List Command) (u : Unread) (counters : ℕ × List ℕ) → commands ≡ [] → u ≡ record { uncut = record { text = text; at = 0 }; before = 0 } → counters ≡ start → InStretches text commands [] u counters
+pub begin : (text : List ℕ) (commands : List Command) (u : Unread) (counters : ℕ × List ℕ) → commands ≡ [] → u ≡ record { uncut = record { text = text; at = 0 }; before = 0 } → counters ≡ start → InBatches text commands [] u counters
 begin text commands u counters none is at_start = record {
   seen = [];
   read = tokens_read.begin text u is;
@@ -43,14 +43,14 @@ begin text commands u counters none is at_start = record {
   shallow = λ ts h. subst (λ s. too_deep s ts ≡ None) at_start h;
 }
 
--- commands are read off the stretch
-pub off : (text : List ℕ) (commands behind : List Command) (stretch left : List Lexeme) (u : Unread) (counters : ℕ × List ℕ) → InStretches text commands stretch u counters → ReadsOff stretch commands left behind → InStretches text behind left u counters
-off text commands behind stretch left u counters s r =
-    let regrouped : s.seen ++ stretch ≡ (s.seen ++ r.front) ++ left = ap (λ l. s.seen ++ l) r.split ∙ sym (append_assoc s.seen r.front left) in
+-- commands are read off the batch
+pub off : (text : List ℕ) (commands behind : List Command) (batch left : List Lexeme) (u : Unread) (counters : ℕ × List ℕ) → InBatches text commands batch u counters → ReadsOff batch commands left behind → InBatches text behind left u counters
+off text commands behind batch left u counters s r =
+    let regrouped : s.seen ++ batch ≡ (s.seen ++ r.front) ++ left = ap (λ l. s.seen ++ l) r.split ∙ sym (append_assoc s.seen r.front left) in
     record {
       seen = s.seen ++ r.front;
       read = subst (λ l. HasRead text l u) regrouped s.read;
-      begins = subst (BeginsWith (s.seen ++ r.front)) (sym (ap command_trees r.put ∙ trees_append commands r.commands)) (stretch_more s.seen r.front (command_trees commands) (command_trees r.commands) s.begins r.only);
+      begins = subst (BeginsWith (s.seen ++ r.front)) (sym (ap command_trees r.put ∙ trees_append commands r.commands)) (batch_more s.seen r.front (command_trees commands) (command_trees r.commands) s.begins r.only);
       light = s.light;
       shallow = λ ts h. subst (λ l. too_deep start (l ++ ts) ≡ None) regrouped (s.shallow ts h);
     }
@@ -60,24 +60,24 @@ light_next : (b : Bool) (rest : Option ℕ) → b ≡ false → rest ≡ None �
 light_next b rest light none = ap (λ x. if x then Some 0 else option_map (λ n. n + 1) rest) light ∙ ap (option_map (λ n. n + 1)) none
 
 -- one token more
-pub more : (text : List ℕ) (commands : List Command) (stretch : List Lexeme) (u rest : Unread) (l : Lexeme) (counters after : ℕ × List ℕ) → InStretches text commands stretch u counters → IsNextSeen u l rest → after ≡ step (change_of l) counters → weight after ≤ NESTING_LIMIT → InStretches text commands (stretch ++ l ∷ []) rest after
-more text commands stretch u rest l counters after s next is light =
-    let regrouped : (s.seen ++ stretch) ++ l ∷ [] ≡ s.seen ++ (stretch ++ l ∷ []) = append_assoc s.seen stretch (l ∷ []) in
+pub more : (text : List ℕ) (commands : List Command) (batch : List Lexeme) (u rest : Unread) (l : Lexeme) (counters after : ℕ × List ℕ) → InBatches text commands batch u counters → IsNextSeen u l rest → after ≡ step (change_of l) counters → weight after ≤ NESTING_LIMIT → InBatches text commands (batch ++ l ∷ []) rest after
+more text commands batch u rest l counters after s next is light =
+    let regrouped : (s.seen ++ batch) ++ l ∷ [] ≡ s.seen ++ (batch ++ l ∷ []) = append_assoc s.seen batch (l ∷ []) in
     record {
       seen = s.seen;
-      read = subst (λ l. HasRead text l rest) regrouped (tokens_read.more text (s.seen ++ stretch) u l rest s.read next);
+      read = subst (λ l. HasRead text l rest) regrouped (tokens_read.more text (s.seen ++ batch) u l rest s.read next);
       begins = s.begins;
       light = light;
       shallow = λ ts h.
           let stepped : weight (step (change_of l) counters) ≤ NESTING_LIMIT = subst (λ c. weight c ≤ NESTING_LIMIT) is light in
           let behind : too_deep counters (l ∷ ts) ≡ None = light_next (nat_lt NESTING_LIMIT (weight (step (change_of l) counters))) (too_deep (step (change_of l) counters) ts) (le-ltb _ _ stepped) (subst (λ c. too_deep c ts ≡ None) is h) in
-          subst (λ l. too_deep start l ≡ None) (sym (append_assoc (s.seen ++ stretch) (l ∷ []) ts) ∙ ap (λ l. l ++ ts) regrouped) (s.shallow (l ∷ ts) behind);
+          subst (λ l. too_deep start l ≡ None) (sym (append_assoc (s.seen ++ batch) (l ∷ []) ts) ∙ ap (λ l. l ++ ts) regrouped) (s.shallow (l ∷ ts) behind);
     }
 
--- at the end of the text, where nothing is left of the stretch
-pub finish : (text : List ℕ) (commands behind : List Command) (stretch : List Lexeme) (u : Unread) (counters : ℕ × List ℕ) → length text ≤ PROGRAM_LIMIT → InStretches text commands stretch u counters → ReadsOff stretch commands [] behind → IsEnd u.uncut → Parses text (command_trees behind)
-finish text commands behind stretch u counters short s r end =
-    let done = off text commands behind stretch [] u counters s r in
+-- at the end of the text, where nothing is left of the batch
+pub finish : (text : List ℕ) (commands behind : List Command) (batch : List Lexeme) (u : Unread) (counters : ℕ × List ℕ) → length text ≤ PROGRAM_LIMIT → InBatches text commands batch u counters → ReadsOff batch commands [] behind → IsEnd u.uncut → Parses text (command_trees behind)
+finish text commands behind batch u counters short s r end =
+    let done = off text commands behind batch [] u counters s r in
     let cut = tokens_read.finish text (done.seen ++ []) u short done.read end in
     let same : lexemes text cut.tokens ≡ done.seen ++ [] = cut.same in
     let shallow : too_deep start (done.seen ++ []) ≡ None = subst (λ l. too_deep start l ≡ None) (append-nil (done.seen ++ [])) (done.shallow [] refl) in

@@ -8,15 +8,15 @@ use Rattle.ctd_syntax.specs.Grammar.{IsTargetEnd, IsCommand, IsRepeated, IsBranc
 use Rattle.ctd_syntax.specs.Nesting.{change_of, word_change, step, start, weight, too_deep}
 use Rattle.ctd_token.specs.declared.text.Place.{Place}
 use Rattle.ctd_token.specs.declared.limits.TheConstants.{NESTING_LIMIT}
-use Rattle.ctd_syntax.specs.declared.nesting.Change.{Change}
-use Rattle.ctd_syntax.specs.declared.nesting.Change.TheVariants.{Opens, Closes, Restarts, Grows, Keeps}
+use Rattle.ctd_syntax.specs.declared.nesting.CounterChange.{CounterChange}
+use Rattle.ctd_syntax.specs.declared.nesting.CounterChange.TheVariants.{Opens, Closes, Restarts, Grows, Keeps}
 use Rattle.ctd_token.specs.declared.token.Mark.TheVariants.{Open, Close, OpenIndex, CloseIndex, Comma}
 use Rattle.ctd_syntax.specs.declared.keyword.Keyword.{Keyword}
 use Rattle.ctd_syntax.specs.declared.keyword.Keyword.TheVariants as words
 use Rattle.ctd_syntax.proofs.Balanced.{Balanced, IsLevelChange, over, expr_balanced, variable_balanced, names_balanced, test_balanced, assignments_balanced, target_balanced}
 
 -- the tokens are never too heavy, from these counters on
-abbrev IsLight : ℕ × List ℕ → List Lexeme → Type 0
+abbrev pub IsLight : ℕ × List ℕ → List Lexeme → Type 0
 IsLight counters ts = too_deep counters ts ≡ None
 
 -- nothing is too deep: the first token is not, and the others are not
@@ -26,7 +26,7 @@ light_by false None e = (refl, refl)
 light_by false (Some n) e = absurd (cc)
 
 -- a first token that is not too heavy, and the tokens behind it
-next : (counters : ℕ × List ℕ) (t : Lexeme) (ts : List Lexeme) → IsLight counters (t ∷ ts) → (weight (step (change_of t) counters) ≤ NESTING_LIMIT) × IsLight (step (change_of t) counters) ts
+pub next : (counters : ℕ × List ℕ) (t : Lexeme) (ts : List Lexeme) → IsLight counters (t ∷ ts) → (weight (step (change_of t) counters) ≤ NESTING_LIMIT) × IsLight (step (change_of t) counters) ts
 next counters t ts h =
     let both = light_by (nat_lt NESTING_LIMIT (weight (step (change_of t) counters))) (too_deep (step (change_of t) counters) ts) h in
     (ltb-false NESTING_LIMIT (weight (step (change_of t) counters)) both.0, both.1)
@@ -70,7 +70,7 @@ asked : (k : Keyword) (at : Place) (ts : List Lexeme) → word_change k ≡ Keep
 asked k at ts e f = called k at (ts ++ mark Close ∷ []) e (closes ts (mark Close) refl f)
 
 -- a token that opens and closes nothing changes the innermost counter alone
-level_step : (x : Change) → IsLevelChange x → (c : ℕ) (cs : List ℕ) → (d : ℕ) × (step x (c, cs) ≡ (d, cs))
+level_step : (x : CounterChange) → IsLevelChange x → (c : ℕ) (cs : List ℕ) → (d : ℕ) × (step x (c, cs) ≡ (d, cs))
 level_step Opens l c cs = absurd l
 level_step Closes l c cs = absurd l
 level_step Restarts l c cs = (0, refl)
@@ -178,8 +178,8 @@ mutual
 
   -- the same of what follows the head of a loop
   repeated_holds : (ts : List Lexeme) (separator : Separator) (body : CommandList) → IsRepeated ts separator body → HoldsBehind ts (max (separator_blocks separator) (list_blocks body))
-  repeated_holds ts separator body (Grammar.unseparated {us} at i) = subst (HoldsBehind ts) (sym (zero-max (list_blocks body))) (closed (us ++ keyword words.End at ∷ []) (list_blocks body) (one_body us at (list_blocks body) (commands_hold us body i)))
-  repeated_holds ts separator body (Grammar.separated {ts = ws} {us} {c} at i j) =
+  repeated_holds ts separator body (Grammar.without_separator {us} at i) = subst (HoldsBehind ts) (sym (zero-max (list_blocks body))) (closed (us ++ keyword words.End at ∷ []) (list_blocks body) (one_body us at (list_blocks body) (commands_hold us body i)))
+  repeated_holds ts separator body (Grammar.with_separator {ts = ws} {us} {c} at i j) =
       subst (λ l. HoldsBehind (mark Comma ∷ l) (max (blocks c) (list_blocks body))) (sym (append_assoc ws (mark Close ∷ us) (keyword words.End at ∷ [])))
       (separator_behind ws (mark Close ∷ us ++ keyword words.End at ∷ []) (blocks c) (list_blocks body) (command_holds ws c i) (closed (us ++ keyword words.End at ∷ []) (list_blocks body) (one_body us at (list_blocks body) (commands_hold us body j))))
 

@@ -1,4 +1,4 @@
--- Commands that are read a stretch at a time are those of the whole text: where one ends is told by its tokens alone.
+-- Commands that are read a batch at a time are those of the whole text: where one ends is told by its tokens alone.
 use Rattle.std.proofs.Common.{◌≡◌, ℕ, zero, suc, List, [], ◌∷◌, ◌++◌, Bool, true, false, if◌then◌else◌, Option, refl, sym, ap, ◌∙◌, subst, append_assoc, append-nil}
 use Rattle.std.proofs.lemmas.List.{append_cancel_right}
 use Rattle.ctd_syntax.specs.Lexeme.{Lexeme, mark, keyword}
@@ -7,12 +7,12 @@ use Rattle.ctd_program.specs.Tree.{VarTree, CommandTree, CommandList, Separator}
 use Rattle.ctd_program.proofs.Trees.{joined}
 use Rattle.ctd_syntax.specs.Grammar
 use Rattle.ctd_syntax.specs.Grammar.{IsTargetEnd, IsCommand, IsRepeated, IsBranches, IsCommands}
-use Rattle.ctd_syntax.specs.Front.{Found, Always}
+use Rattle.ctd_syntax.specs.Front.{HasTree, Always}
 use Rattle.ctd_syntax.specs.CommandWords.{begins_command, command_begins}
 use Rattle.ctd_syntax.specs.Nesting.{change_of}
-use Rattle.ctd_syntax.specs.Stretches.{SpellsOnly}
-use Rattle.ctd_syntax.specs.declared.nesting.Change.{Change}
-use Rattle.ctd_syntax.specs.declared.nesting.Change.TheVariants.{Opens, Closes, Restarts, Grows, Keeps}
+use Rattle.ctd_syntax.specs.Batches.{SpellsOnly}
+use Rattle.ctd_syntax.specs.declared.nesting.CounterChange.{CounterChange}
+use Rattle.ctd_syntax.specs.declared.nesting.CounterChange.TheVariants.{Opens, Closes, Restarts, Grows, Keeps}
 use Rattle.ctd_token.specs.declared.token.Mark.TheVariants.{Open, Close, CloseIndex, Comma}
 use Rattle.ctd_syntax.specs.declared.keyword.Keyword.TheVariants as words
 use Rattle.ctd_syntax.proofs.CommandReads.{joined_again, joined_done}
@@ -21,7 +21,7 @@ use Rattle.ctd_syntax.proofs.Balanced.{Balanced, IsLevelChange, over, expr_balan
 -- ---- where a command ends
 
 -- how many parentheses, brackets and blocks are open behind a token
-abbrev depth_after : Change → ℕ → ℕ
+abbrev depth_after : CounterChange → ℕ → ℕ
 depth_after Opens d = suc d
 depth_after Closes zero = zero
 depth_after Closes (suc d) = d
@@ -61,7 +61,7 @@ abbrev Closed : List Lexeme → Type 0
 Closed ts = (d : ℕ) (rest : List Lexeme) → cut_behind d (ts ++ rest) ≡ cut d rest
 
 -- a token that opens and closes nothing leaves as many open as there were
-level_depth : (x : Change) → IsLevelChange x → (d : ℕ) → depth_after x d ≡ d
+level_depth : (x : CounterChange) → IsLevelChange x → (d : ℕ) → depth_after x d ≡ d
 level_depth Opens l d = absurd l
 level_depth Closes l d = absurd l
 level_depth Restarts l d = refl
@@ -132,8 +132,8 @@ mutual
 
   -- what follows the head of a loop closes its parenthesis and its block
   repeated_ends : (ts : List Lexeme) (separator : Separator) (body : CommandList) → IsRepeated ts separator body → EndsTwo ts
-  repeated_ends ts separator body (Grammar.unseparated {us} at i) = closes us (keyword words.End at) refl (commands_pass us body i)
-  repeated_ends ts separator body (Grammar.separated {ts = ws} {us} {c} at i j) =
+  repeated_ends ts separator body (Grammar.without_separator {us} at i) = closes us (keyword words.End at) refl (commands_pass us body i)
+  repeated_ends ts separator body (Grammar.with_separator {ts = ws} {us} {c} at i j) =
       subst (λ l. EndsTwo (mark Comma ∷ l)) (sym (append_assoc ws (mark Close ∷ us) (keyword words.End at ∷ [])))
       (two_over ws (mark Close ∷ us ++ keyword words.End at ∷ []) (closed_passes ws (command_closed ws c i)) (closes us (keyword words.End at) refl (commands_pass us body j)))
 
@@ -180,7 +180,7 @@ command_begins_so ts rest u (Grammar.whilei i j r) = refl
 command_begins_so ts rest u (Grammar.choice i r) = refl
 
 -- so do the tokens at whose front one is found
-pub found_begins : (ts after : List Lexeme) (u : CommandTree) → Found IsCommand Always ts u after → command_begins ts ≡ true
+pub found_begins : (ts after : List Lexeme) (u : CommandTree) → HasTree IsCommand Always ts u after → command_begins ts ≡ true
 found_begins ts after u f = ap command_begins f.split ∙ command_begins_so f.front after u f.spells
 
 -- tokens that begin a command are those from a command on
@@ -228,13 +228,13 @@ pub record BeginsWith (ts : List Lexeme) (a : CommandList) : Type 0 where
   pub spells : IsCommands ts a
   pub only : (us : List Lexeme) (u : CommandList) → IsBoundary us → IsCommands (ts ++ us) u → (w : CommandList) × IsCommands us w × (u ≡ joined a w)
 
--- before the first stretch
+-- before the first batch
 pub nothing_yet : BeginsWith [] Tree.done
 nothing_yet = record { spells = Grammar.done; only = λ us u h i. (u, i, refl) }
 
--- a stretch more
-pub stretch_more : (ts us : List Lexeme) (a b : CommandList) → BeginsWith ts a → SpellsOnly us b → BeginsWith (ts ++ us) (joined a b)
-stretch_more ts us a b f s = record {
+-- a batch more
+pub batch_more : (ts us : List Lexeme) (a b : CommandList) → BeginsWith ts a → SpellsOnly us b → BeginsWith (ts ++ us) (joined a b)
+batch_more ts us a b f s = record {
   spells = appended ts us a b f.spells s.spells;
   only = λ vs u h i.
       let p = f.only (us ++ vs) u (commands_begin_so us vs b s.spells h) (subst (λ l. IsCommands l u) (append_assoc ts us vs) i) in

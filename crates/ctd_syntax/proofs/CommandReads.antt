@@ -6,9 +6,9 @@ use Rattle.ctd_program.specs.Tree
 use Rattle.ctd_program.specs.Tree.{VarTree, GuardTree, CommandTree, CommandList, Separator}
 use Rattle.ctd_syntax.specs.Grammar
 use Rattle.ctd_syntax.specs.Grammar.{IsTarget, IsTargetEnd, IsCommand, IsCommands, IsRepeated, IsBranches}
-use Rattle.ctd_syntax.specs.Front.{Found, NotFound, Always, IsBefore, IsAfter, IsBuilt, IsPair, Spelling, Following}
+use Rattle.ctd_syntax.specs.Front.{HasTree, HasNoTree, Always, IsBefore, IsAfter, IsBuilt, IsPair, Spelling, Following}
 use Rattle.ctd_syntax.specs.Levels.{ends}
-use Rattle.ctd_syntax.specs.Tests.{test_ends}
+use Rattle.ctd_syntax.specs.TestGrammar.{test_ends}
 use Rattle.ctd_syntax.specs.CommandWords.{IsCommandRest, CommandsEnd, IsBlock, IsBranchEnd, IsAbsent, IsCounter, IsGuard, IsLoopRest, IsLoopEnd, IsPatternText, command_begins, is_command_word}
 use Rattle.ctd_syntax.specs.declared.loop_head.LoopWord.{LoopWord}
 use Rattle.ctd_syntax.specs.declared.loop_head.LoopWord.TheVariants.{Rep, RepI, While, WhileI}
@@ -19,13 +19,13 @@ use Rattle.ctd_syntax.specs.declared.keyword.Keyword.TheVariants as words
 use Rattle.ctd_syntax.proofs.Fronts.{built, not_built, after_reads, after_none, not_after}
 
 -- a tree that is built of what stands behind an opening parenthesis
-pub opened_reads : {T U : Type 0} (f : T → U) (A : Spelling T) (E : Following) (tokens r after : List Lexeme) (a : T) → tokens ≡ mark Open ∷ r → Found A E r a after → Found (IsBuilt f (IsAfter Open A)) E tokens (f a) after
+pub opened_reads : {T U : Type 0} (f : T → U) (A : Spelling T) (E : Following) (tokens r after : List Lexeme) (a : T) → tokens ≡ mark Open ∷ r → HasTree A E r a after → HasTree (IsBuilt f (IsAfter Open A)) E tokens (f a) after
 opened_reads f A E tokens r after a e found = built f (IsAfter Open A) E tokens after a (after_reads A E Open tokens r after a e found)
 
-pub opened_none : {T U : Type 0} (f : T → U) (A : Spelling T) (E : Following) (tokens r : List Lexeme) → tokens ≡ mark Open ∷ r → NotFound A E r → NotFound (IsBuilt f (IsAfter Open A)) E tokens
+pub opened_none : {T U : Type 0} (f : T → U) (A : Spelling T) (E : Following) (tokens r : List Lexeme) → tokens ≡ mark Open ∷ r → HasNoTree A E r → HasNoTree (IsBuilt f (IsAfter Open A)) E tokens
 opened_none f A E tokens r e not = not_built f (IsAfter Open A) E tokens (after_none A E Open tokens r e not)
 
-pub not_opened : {T U : Type 0} (f : T → U) (A : Spelling T) (E : Following) (tokens : List Lexeme) → ((r : List Lexeme) → tokens ≡ mark Open ∷ r → ⊥) → NotFound (IsBuilt f (IsAfter Open A)) E tokens
+pub not_opened : {T U : Type 0} (f : T → U) (A : Spelling T) (E : Following) (tokens : List Lexeme) → ((r : List Lexeme) → tokens ≡ mark Open ∷ r → ⊥) → HasNoTree (IsBuilt f (IsAfter Open A)) E tokens
 not_opened f A E tokens none = not_built f (IsAfter Open A) E tokens (not_after A E Open tokens none)
 
 -- an expression ends before the end of its command
@@ -39,7 +39,7 @@ before_loop_end vs us x (inl (none, (ts, is, i))) h = subst (λ l. test_ends 1 (
 before_loop_end vs us x (inr (c, some, (ts, is, i))) h = subst (λ l. test_ends 1 (l ++ us)) (sym is) (omega arith, omega arith)
 
 -- a loop without a counter
-pub no_counter : (tokens : List Lexeme) → Found IsAbsent Always tokens None tokens
+pub no_counter : (tokens : List Lexeme) → HasTree IsAbsent Always tokens None tokens
 no_counter tokens = record {
   front = [];
   split = refl;
@@ -48,13 +48,13 @@ no_counter tokens = record {
 }
 
 -- a loop with one
-pub counter_reads : (word : LoopWord) (tokens rest : List Lexeme) (v : VarTree) → (word ≡ RepI) ⊎ (word ≡ WhileI) → Found (IsBefore Comma IsTarget) Always tokens v rest → Found (IsCounter word) Always tokens (Some v) rest
-counter_reads word tokens rest v (inl is) f = subst (λ w. Found (IsCounter w) Always tokens (Some v) rest) (sym is) (built Some (IsBefore Comma IsTarget) Always tokens rest v f)
-counter_reads word tokens rest v (inr is) f = subst (λ w. Found (IsCounter w) Always tokens (Some v) rest) (sym is) (built Some (IsBefore Comma IsTarget) Always tokens rest v f)
+pub counter_reads : (word : LoopWord) (tokens rest : List Lexeme) (v : VarTree) → (word ≡ RepI) ⊎ (word ≡ WhileI) → HasTree (IsBefore Comma IsTarget) Always tokens v rest → HasTree (IsCounter word) Always tokens (Some v) rest
+counter_reads word tokens rest v (inl is) f = subst (λ w. HasTree (IsCounter w) Always tokens (Some v) rest) (sym is) (built Some (IsBefore Comma IsTarget) Always tokens rest v f)
+counter_reads word tokens rest v (inr is) f = subst (λ w. HasTree (IsCounter w) Always tokens (Some v) rest) (sym is) (built Some (IsBefore Comma IsTarget) Always tokens rest v f)
 
-pub counter_none : (word : LoopWord) (tokens : List Lexeme) → (word ≡ RepI) ⊎ (word ≡ WhileI) → NotFound (IsBefore Comma IsTarget) Always tokens → NotFound (IsCounter word) Always tokens
-counter_none word tokens (inl is) not = subst (λ w. NotFound (IsCounter w) Always tokens) (sym is) (not_built Some (IsBefore Comma IsTarget) Always tokens not)
-counter_none word tokens (inr is) not = subst (λ w. NotFound (IsCounter w) Always tokens) (sym is) (not_built Some (IsBefore Comma IsTarget) Always tokens not)
+pub counter_none : (word : LoopWord) (tokens : List Lexeme) → (word ≡ RepI) ⊎ (word ≡ WhileI) → HasNoTree (IsBefore Comma IsTarget) Always tokens → HasNoTree (IsCounter word) Always tokens
+counter_none word tokens (inl is) not = subst (λ w. HasNoTree (IsCounter w) Always tokens) (sym is) (not_built Some (IsBefore Comma IsTarget) Always tokens not)
+counter_none word tokens (inr is) not = subst (λ w. HasNoTree (IsCounter w) Always tokens) (sym is) (not_built Some (IsBefore Comma IsTarget) Always tokens not)
 
 -- what ends a test ends an expression
 pub ends_both : (us : List Lexeme) → test_ends 1 us → ends 1 us
@@ -71,7 +71,7 @@ pub whatever : {T : Type 0} (A : Spelling T) (vs us : List Lexeme) (b : T) → A
 whatever A vs us b i h = tt
 
 -- a string with its place
-pub pattern_found : (tokens rest : List Lexeme) (bytes : List ℕ) (at : Place) → tokens ≡ Lexeme.text bytes at ∷ rest → Found IsPatternText Always tokens (bytes, at) rest
+pub pattern_found : (tokens rest : List Lexeme) (bytes : List ℕ) (at : Place) → tokens ≡ Lexeme.text bytes at ∷ rest → HasTree IsPatternText Always tokens (bytes, at) rest
 pattern_found tokens rest bytes at e = record {
   front = Lexeme.text bytes at ∷ [];
   split = e;
@@ -84,16 +84,16 @@ pattern_found tokens rest bytes at e = record {
 
 -- the end of a loop as the grammar has it, and back
 loop_end_from : (ts : List Lexeme) (between : Separator) (body : CommandList) → IsRepeated ts between body → IsLoopEnd ts (between, body)
-loop_end_from ts b l (Grammar.unseparated {us} {body} at i) = inl (refl, (us ++ keyword words.End at ∷ [], refl, (us, at, refl, i)))
-loop_end_from ts b l (Grammar.separated {ts = vs} {us} {c} {body} at i j) = inr (c, refl, ((vs ++ mark Close ∷ us) ++ keyword words.End at ∷ [], refl, (vs ++ mark Close ∷ [], us ++ keyword words.End at ∷ [], append_assoc vs (mark Close ∷ us) (keyword words.End at ∷ []) ∙ sym (append_assoc vs (mark Close ∷ []) (us ++ keyword words.End at ∷ [])), (vs, refl, i), (us, at, refl, j))))
+loop_end_from ts b l (Grammar.without_separator {us} {body} at i) = inl (refl, (us ++ keyword words.End at ∷ [], refl, (us, at, refl, i)))
+loop_end_from ts b l (Grammar.with_separator {ts = vs} {us} {c} {body} at i j) = inr (c, refl, ((vs ++ mark Close ∷ us) ++ keyword words.End at ∷ [], refl, (vs ++ mark Close ∷ [], us ++ keyword words.End at ∷ [], append_assoc vs (mark Close ∷ us) (keyword words.End at ∷ []) ∙ sym (append_assoc vs (mark Close ∷ []) (us ++ keyword words.End at ∷ [])), (vs, refl, i), (us, at, refl, j))))
 
 loop_end_to : (ts : List Lexeme) (x : Separator × CommandList) → IsLoopEnd ts x → IsRepeated ts x.0 x.1
 loop_end_to ts x (inl (none, (vs, closing, (us, at, ended, i)))) =
-    subst (λ l. IsRepeated l x.0 x.1) (sym (closing ∙ ap (λ l. mark Close ∷ l) ended)) (subst (λ s. IsRepeated (mark Close ∷ us ++ keyword words.End at ∷ []) s x.1) (sym none) (Grammar.unseparated at i))
+    subst (λ l. IsRepeated l x.0 x.1) (sym (closing ∙ ap (λ l. mark Close ∷ l) ended)) (subst (λ s. IsRepeated (mark Close ∷ us ++ keyword words.End at ∷ []) s x.1) (sym none) (Grammar.without_separator at i))
 loop_end_to ts x (inr (c, some, (vs, comma, (us, ws, split, (cs, closing, i), (bs, at, ended, j))))) =
     let tokens : vs ≡ (cs ++ mark Close ∷ bs) ++ keyword words.End at ∷ [] =
     split ∙ ap (λ l. l ++ ws) closing ∙ append_assoc cs (mark Close ∷ []) ws ∙ ap (λ l. cs ++ mark Close ∷ l) ended ∙ sym (append_assoc cs (mark Close ∷ bs) (keyword words.End at ∷ [])) in
-    subst (λ l. IsRepeated l x.0 x.1) (sym (comma ∙ ap (λ l. mark Comma ∷ l) tokens)) (subst (λ s. IsRepeated (mark Comma ∷ (cs ++ mark Close ∷ bs) ++ keyword words.End at ∷ []) s x.1) (sym some) (Grammar.separated at i j))
+    subst (λ l. IsRepeated l x.0 x.1) (sym (comma ∙ ap (λ l. mark Comma ∷ l) tokens)) (subst (λ s. IsRepeated (mark Comma ∷ (cs ++ mark Close ∷ bs) ++ keyword words.End at ∷ []) s x.1) (sym some) (Grammar.with_separator at i j))
 
 -- the branches of an IF as the grammar has them, and back
 branches_from : (ts : List Lexeme) (a b : CommandList) → IsBranches ts a b → IsPair IsCommands IsBranchEnd ts (a, b)
@@ -196,7 +196,7 @@ begins_worded tokens r ts us k at u e split w =
     let tail : r ≡ is.2 ++ us = cc in
     (is.2, tail, subst (λ p. IsCommandRest k p is.2 u) place (subst (λ x. IsCommandRest x is.1 is.2 u) word is.5))
 
-pub command_reads : (tokens r : List Lexeme) (k : Keyword) (at : Place) → tokens ≡ keyword k at ∷ r → (u : CommandTree) (after : List Lexeme) → Found (IsCommandRest k at) Always r u after → Found IsCommand Always tokens u after
+pub command_reads : (tokens r : List Lexeme) (k : Keyword) (at : Place) → tokens ≡ keyword k at ∷ r → (u : CommandTree) (after : List Lexeme) → HasTree (IsCommandRest k at) Always r u after → HasTree IsCommand Always tokens u after
 command_reads tokens r k at e u after f = record {
   front = keyword k at ∷ f.front;
   split = e ∙ ap (λ l. keyword k at ∷ l) f.split;
@@ -206,7 +206,7 @@ command_reads tokens r k at e u after f = record {
       f.only i.0 us v i.1 tt i.2;
 }
 
-pub command_none : (tokens r : List Lexeme) (k : Keyword) (at : Place) → tokens ≡ keyword k at ∷ r → NotFound (IsCommandRest k at) Always r → NotFound IsCommand Always tokens
+pub command_none : (tokens r : List Lexeme) (k : Keyword) (at : Place) → tokens ≡ keyword k at ∷ r → HasNoTree (IsCommandRest k at) Always r → HasNoTree IsCommand Always tokens
 command_none tokens r k at e not ts us v split h w = let i = begins_worded tokens r ts us k at v e split w in not i.0 us v i.1 tt i.2
 
 -- a word of a command begins one
@@ -243,7 +243,7 @@ first_of : (rest vs us : List Lexeme) (w : CommandList) → command_begins rest 
 first_of rest vs us w begins split ended Grammar.done = absurd (let clash : true ≡ false = sym begins ∙ ap command_begins split ∙ ended in cc)
 first_of rest vs us w begins split ended (Grammar.then {ts} {us = ws} {c} {rest = more} i r) = (ts, ws, c, more, split ∙ append_assoc ts ws us, i, r, refl)
 
-pub commands_next : (tokens rest after : List Lexeme) (xs : CommandList) (c : CommandTree) → PartCommands tokens xs rest → command_begins rest ≡ true → Found IsCommand Always rest c after → PartCommands tokens (joined xs (Tree.then c Tree.done)) after
+pub commands_next : (tokens rest after : List Lexeme) (xs : CommandList) (c : CommandTree) → PartCommands tokens xs rest → command_begins rest ≡ true → HasTree IsCommand Always rest c after → PartCommands tokens (joined xs (Tree.then c Tree.done)) after
 commands_next tokens rest after xs c part begins f = record {
   front = part.front ++ f.front;
   split = part.split ∙ ap (λ l. part.front ++ l) f.split ∙ sym (append_assoc part.front f.front after);
@@ -255,7 +255,7 @@ commands_next tokens rest after xs c part begins f = record {
       (q.1, q.3, sym same.1, q.6, p.4 ∙ ap (joined xs) (q.7 ∙ ap (λ x. Tree.then x q.3) same.0) ∙ sym (joined_again xs (Tree.then c Tree.done) q.3));
 }
 
-pub commands_no_next : (tokens rest : List Lexeme) (xs : CommandList) → PartCommands tokens xs rest → command_begins rest ≡ true → NotFound IsCommand Always rest → NotFound IsCommands CommandsEnd tokens
+pub commands_no_next : (tokens rest : List Lexeme) (xs : CommandList) → PartCommands tokens xs rest → command_begins rest ≡ true → HasNoTree IsCommand Always rest → HasNoTree IsCommands CommandsEnd tokens
 commands_no_next tokens rest xs part begins not ts us u split h w =
     let p = part.only ts us u split h w in
     let q = first_of rest p.0 us p.1 begins p.2 h p.3 in
@@ -270,7 +270,7 @@ no_first : (rest vs us : List Lexeme) (w : CommandList) → command_begins rest 
 no_first rest vs us w none split Grammar.done = (refl, refl)
 no_first rest vs us w none split (Grammar.then {ts} {us = ws} {c} i r) = absurd (let clash : false ≡ true = sym none ∙ ap command_begins (split ∙ append_assoc ts ws us) ∙ command_heads ts (ws ++ us) c i in cc)
 
-pub commands_end : (tokens rest : List Lexeme) (xs : CommandList) → PartCommands tokens xs rest → command_begins rest ≡ false → Found IsCommands CommandsEnd tokens xs rest
+pub commands_end : (tokens rest : List Lexeme) (xs : CommandList) → PartCommands tokens xs rest → command_begins rest ≡ false → HasTree IsCommands CommandsEnd tokens xs rest
 commands_end tokens rest xs part none = record {
   front = part.front;
   split = part.split;
@@ -282,7 +282,7 @@ commands_end tokens rest xs part none = record {
 }
 
 -- the end of a loop without a separator
-pub loop_end_plain : (tokens r after : List Lexeme) (body : CommandList) → tokens ≡ mark Close ∷ r → Found IsBlock Always r body after → Found IsLoopEnd Always tokens (Tree.nothing, body) after
+pub loop_end_plain : (tokens r after : List Lexeme) (body : CommandList) → tokens ≡ mark Close ∷ r → HasTree IsBlock Always r body after → HasTree IsLoopEnd Always tokens (Tree.nothing, body) after
 loop_end_plain tokens r after body e f = record {
   front = mark Close ∷ f.front;
   split = e ∙ ap (λ l. mark Close ∷ l) f.split;
@@ -298,7 +298,7 @@ loop_end_plain tokens r after body e f = record {
         (ap (λ x. (x, u.1)) none ∙ ap (λ x. (Tree.nothing, x)) same.0, same.1)
     plain_only ts us u split (inr (c, some, (vs, is, i))) = absurd (let clash : mark Close ∷ r ≡ mark Comma ∷ (vs ++ us) = split ∙ ap (λ l. l ++ us) is in cc)
 
-pub loop_end_no_block : (tokens r : List Lexeme) → tokens ≡ mark Close ∷ r → NotFound IsBlock Always r → NotFound IsLoopEnd Always tokens
+pub loop_end_no_block : (tokens r : List Lexeme) → tokens ≡ mark Close ∷ r → HasNoTree IsBlock Always r → HasNoTree IsLoopEnd Always tokens
 loop_end_no_block tokens r e not ts us u split h w = plain_none ts us u (sym e ∙ split) w
   where
     plain_none : (ts us : List Lexeme) (u : Separator × CommandList) → mark Close ∷ r ≡ ts ++ us → IsLoopEnd ts u → ⊥
@@ -313,7 +313,7 @@ abbrev pub IsSeparated : Spelling (CommandTree × CommandList)
 IsSeparated = IsPair (IsBefore Close IsCommand) IsBlock
 
 -- the end of a loop with one
-pub loop_end_separated : (tokens r after : List Lexeme) (c : CommandTree) (body : CommandList) → tokens ≡ mark Comma ∷ r → Found IsSeparated Always r (c, body) after → Found IsLoopEnd Always tokens (Tree.between c, body) after
+pub loop_end_separated : (tokens r after : List Lexeme) (c : CommandTree) (body : CommandList) → tokens ≡ mark Comma ∷ r → HasTree IsSeparated Always r (c, body) after → HasTree IsLoopEnd Always tokens (Tree.between c, body) after
 loop_end_separated tokens r after c body e f = record {
   front = mark Comma ∷ f.front;
   split = e ∙ ap (λ l. mark Comma ∷ l) f.split;
@@ -329,7 +329,7 @@ loop_end_separated tokens r after c body e f = record {
         let same = f.only vs us (d, u.1) tail tt i in
         (ap (λ x. (x, u.1)) some ∙ ap (λ x. (Tree.between x.0, x.1)) same.0, same.1)
 
-pub loop_end_no_separated : (tokens r : List Lexeme) → tokens ≡ mark Comma ∷ r → NotFound IsSeparated Always r → NotFound IsLoopEnd Always tokens
+pub loop_end_no_separated : (tokens r : List Lexeme) → tokens ≡ mark Comma ∷ r → HasNoTree IsSeparated Always r → HasNoTree IsLoopEnd Always tokens
 loop_end_no_separated tokens r e not ts us u split h w = separated_none ts us u (sym e ∙ split) w
   where
     separated_none : (ts us : List Lexeme) (u : Separator × CommandList) → mark Comma ∷ r ≡ ts ++ us → IsLoopEnd ts u → ⊥
@@ -340,7 +340,7 @@ loop_end_no_separated tokens r e not ts us u split h w = separated_none ts us u 
         not vs us (d, u.1) tail tt i
 
 -- the end of an IF
-pub branch_ended : (tokens r : List Lexeme) (at : Place) → tokens ≡ keyword words.End at ∷ r → Found IsBranchEnd Always tokens Tree.done r
+pub branch_ended : (tokens r : List Lexeme) (at : Place) → tokens ≡ keyword words.End at ∷ r → HasTree IsBranchEnd Always tokens Tree.done r
 branch_ended tokens r at e = record {
   front = keyword words.End at ∷ [];
   split = e;
@@ -355,7 +355,7 @@ branch_ended tokens r at e = record {
         (tree, tail)
     ended_only ts us u split (inr (place, vs, is, i)) = absurd (let clash : keyword words.End at ∷ r ≡ keyword words.Else place ∷ (vs ++ us) = split ∙ ap (λ l. l ++ us) is in cc)
 
-pub branch_goes_on : (tokens r : List Lexeme) (at : Place) → tokens ≡ keyword words.Else at ∷ r → (body : CommandList) (after : List Lexeme) → Found IsBlock Always r body after → Found IsBranchEnd Always tokens body after
+pub branch_goes_on : (tokens r : List Lexeme) (at : Place) → tokens ≡ keyword words.Else at ∷ r → (body : CommandList) (after : List Lexeme) → HasTree IsBlock Always r body after → HasTree IsBranchEnd Always tokens body after
 branch_goes_on tokens r at e body after f = record {
   front = keyword words.Else at ∷ f.front;
   split = e ∙ ap (λ l. keyword words.Else at ∷ l) f.split;
@@ -370,7 +370,7 @@ branch_goes_on tokens r at e body after f = record {
         let tail : r ≡ vs ++ us = cc in
         f.only vs us u tail tt i
 
-pub branch_no_block : (tokens r : List Lexeme) (at : Place) → tokens ≡ keyword words.Else at ∷ r → NotFound IsBlock Always r → NotFound IsBranchEnd Always tokens
+pub branch_no_block : (tokens r : List Lexeme) (at : Place) → tokens ≡ keyword words.Else at ∷ r → HasNoTree IsBlock Always r → HasNoTree IsBranchEnd Always tokens
 branch_no_block tokens r at e not ts us u split h w = block_none ts us u (sym e ∙ split) w
   where
     block_none : (ts us : List Lexeme) (u : CommandList) → keyword words.Else at ∷ r ≡ ts ++ us → IsBranchEnd ts u → ⊥

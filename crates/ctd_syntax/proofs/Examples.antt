@@ -13,6 +13,7 @@ use Rattle.ctd_syntax.specs.Grammar.{IsExpr, IsProduct, IsSigned, IsPower, produ
 use Rattle.ctd_syntax.specs.Grammar as targets
 use Rattle.ctd_syntax.specs.Reading.{Reads, lexemes}
 use Rattle.ctd_token.specs.Cut.{Cuts, none, token}
+use Rattle.ctd_syntax.proofs.Weights.{never_heavy}
 
 -- `SPACE # x` is read as one command
 abbrev pub one_space : List Token
@@ -22,7 +23,7 @@ pub reads_space : Reads (codes "SPACE # x") (Tree.then (Tree.space (record { lin
 reads_space = record {
   tokens = one_space;
   is_cut = record { short = lit≤ tt; cut = token refl refl refl refl (none refl) };
-  shallow = refl;
+  shallow = never_heavy _ refl;
   spells = then {ts = lexemes (codes "SPACE # x") one_space} space done;
 }
 
@@ -93,7 +94,7 @@ pub reads_one_line : Reads one_line_text (Tree.then (Tree.int (at 1) (Tree.numer
 reads_one_line = record {
   tokens = one_line_tokens;
   is_cut = record { short = lit≤ tt; cut = one_line_cut };
-  shallow = refl;
+  shallow = never_heavy _ refl;
   spells = then {ts = lexemes one_line_text (take 6 one_line_tokens)}
       (int {ts = Lexeme.numeral (pos 1) ∷ []} (product (numeral_at_level 1)) (product (numeral_at_level 10)) targets.none)
       (then {ts = lexemes one_line_text (drop 6 one_line_tokens)} newline done);

@@ -3,8 +3,8 @@ use Rattle.std.proofs.Common.{◌≡◌, ℕ, suc, List, [], ◌∷◌, ◌++◌
 use Rattle.ctd_syntax.specs.Lexeme.{Lexeme, mark}
 use Rattle.ctd_program.specs.Tree.{ExprTree, ExprList, TestTree}
 use Rattle.ctd_syntax.specs.Grammar
-use Rattle.ctd_syntax.specs.Grammar.{IsExpr, IsProduct, IsSigned, IsPower, IsExponent, IsAtom, IsVariable, IsExprs, IsTest, IsBoth, IsNegated, IsSimpleTest, compare_mark}
-use Rattle.ctd_syntax.specs.Tests.{holds_test}
+use Rattle.ctd_syntax.specs.Grammar.{IsExpr, IsProduct, IsSigned, IsPower, IsExponent, IsAtom, IsVariable, IsExprs, IsTest, IsBoth, IsNegation, IsSimpleTest, compare_mark}
+use Rattle.ctd_syntax.specs.TestGrammar.{holds_test}
 use Rattle.ctd_token.specs.declared.token.Mark.TheVariants.{Open, Close, Plus, Minus, Times, Divide, Percent, Caret, Comma, CloseIndex, OrOr, AndAnd}
 use Rattle.ctd_program.specs.declared.tree.Compare.{Compare}
 use Rattle.ctd_program.specs.declared.tree.Compare.TheVariants.{Less, Greater, AtMost, AtLeast, Equal, Unequal}
@@ -72,10 +72,10 @@ mutual
   test_tells n ts rest a (Grammar.or {ts = us} {us = vs} i j) = ap (H n) (append_assoc us (mark OrOr ∷ vs) rest) ∙ test_tells n us (mark OrOr ∷ (vs ++ rest)) _ i
 
   both_tells : (n : ℕ) (ts rest : List Lexeme) (a : TestTree) → IsBoth ts a → H n (ts ++ rest) ≡ true
-  both_tells n ts rest a (Grammar.negated i) = negated_tells n ts rest a i
+  both_tells n ts rest a (Grammar.negation i) = negated_tells n ts rest a i
   both_tells n ts rest a (Grammar.and {ts = us} {us = vs} i j) = ap (H n) (append_assoc us (mark AndAnd ∷ vs) rest) ∙ both_tells n us (mark AndAnd ∷ (vs ++ rest)) _ i
 
-  negated_tells : (n : ℕ) (ts rest : List Lexeme) (a : TestTree) → IsNegated ts a → H n (ts ++ rest) ≡ true
+  negated_tells : (n : ℕ) (ts rest : List Lexeme) (a : TestTree) → IsNegation ts a → H n (ts ++ rest) ≡ true
   negated_tells n ts rest a (Grammar.simple i) = plain_tells n ts rest a i
   negated_tells n ts rest a (Grammar.not i) = refl
 

@@ -12,8 +12,10 @@ pub mod CommandReads
 pub mod Balanced
 pub mod Boundaries
 pub mod Blocks
-pub mod Numbers
+pub mod RegexNumberLemmas
+pub mod Weights
+pub mod Examples
 pub mod Parsing
 pub mod TokensRead
-pub mod StretchesRead
+pub mod BatchesRead
 pub mod TestGroups

@@ -132,8 +132,8 @@ mutual
       numbers_behind ws (mark Close ∷ us) (literals then_do ++ literals else_do) (none_in ws (test_balanced ws _ i)) (branches_numbers us then_do else_do r)
 
   repeated_numbers : (ts : List Lexeme) (separator : Separator) (body : CommandList) → IsRepeated ts separator body → HasNumbers ts (separator_literals separator ++ literals body)
-  repeated_numbers ts separator body (Grammar.unseparated {us} at i) = numbers_before us (keyword words.End at ∷ []) (literals body) (commands_numbers us body i) refl
-  repeated_numbers ts separator body (Grammar.separated {ts = ws} {us} {c} at i j) =
+  repeated_numbers ts separator body (Grammar.without_separator {us} at i) = numbers_before us (keyword words.End at ∷ []) (literals body) (commands_numbers us body i) refl
+  repeated_numbers ts separator body (Grammar.with_separator {ts = ws} {us} {c} at i j) =
       numbers_before (ws ++ mark Close ∷ us) (keyword words.End at ∷ []) (command_literals c ++ literals body)
       (numbers-append ws (mark Close ∷ us) (command_literals c) (literals body) (command_numbers ws c i) (commands_numbers us body j)) refl
 

@@ -6,7 +6,7 @@ use Rattle.ctd_program.specs.Tree
 use Rattle.ctd_program.specs.Tree.{ExprTree, ExprList}
 use Rattle.ctd_syntax.specs.Grammar.{IsExpr, IsExprs, IsNames, one, more}
 use Rattle.ctd_syntax.specs.Grammar as grammar
-use Rattle.ctd_syntax.specs.Front.{Found, NotFound, Spelling, Following, Always, IsBefore, IsName, operator_at}
+use Rattle.ctd_syntax.specs.Front.{HasTree, HasNoTree, Spelling, Following, Always, IsBefore, IsName, operator_at}
 use Rattle.ctd_syntax.specs.Levels.{ends}
 use Rattle.ctd_program.specs.View.{expr_tree, expr_list}
 use Rattle.ctd_program.specs.declared.tree.Expr.{Expr}
@@ -79,7 +79,7 @@ rows Item ItemEnds end_mark other closes goes_on = record {
     not_both t o us end_mark other e b = let same : t ≡ mark end_mark = cc in let clash : comma (mark end_mark) ≡ Some o = subst (λ c. comma c ≡ Some o) same e in cc
 
 -- one item is a list of one
-pub one_found : {T : Type 0} (Item : Spelling T) (E : Following) (tokens rest : List Lexeme) (a : T) → Found Item E tokens a rest → Found (IsOne Item) E tokens (a ∷ []) rest
+pub one_found : {T : Type 0} (Item : Spelling T) (E : Following) (tokens rest : List Lexeme) (a : T) → HasTree Item E tokens a rest → HasTree (IsOne Item) E tokens (a ∷ []) rest
 one_found Item E tokens rest a f = record {
   front = f.front;
   split = f.split;
@@ -87,7 +87,7 @@ one_found Item E tokens rest a f = record {
   only = λ ts us u split h w. let same = f.only ts us w.0 split h w.2 in (w.1 ∙ ap (λ x. x ∷ []) same.0, same.1);
 }
 
-pub one_none : {T : Type 0} (Item : Spelling T) (E : Following) (tokens : List Lexeme) → NotFound Item E tokens → NotFound (IsOne Item) E tokens
+pub one_none : {T : Type 0} (Item : Spelling T) (E : Following) (tokens : List Lexeme) → HasNoTree Item E tokens → HasNoTree (IsOne Item) E tokens
 one_none Item E tokens not ts us u split h w = not ts us w.0 split h w.2
 
 -- a comma at the front
@@ -132,34 +132,34 @@ pub record Listing {T U : Type 0} (Item : Spelling T) (Whole : Spelling U) (E : 
 
 module _ {T U : Type 0} {Item : Spelling T} {Whole : Spelling U} {E : Following} {end_mark : Mark} {f : List T → U} (listing : Listing Item Whole E end_mark f) where
   -- nothing of the list's own kind
-  none_listed : (tokens : List Lexeme) → NotFound (Separated Item) (Before end_mark) tokens → NotFound (IsBefore end_mark Whole) Always tokens
+  none_listed : (tokens : List Lexeme) → HasNoTree (Separated Item) (Before end_mark) tokens → HasNoTree (IsBefore end_mark Whole) Always tokens
   none_listed tokens not = none_before Whole (Before end_mark) end_mark (before_mark end_mark) tokens (none_as (Separated Item) Whole (Before end_mark) f listing.from tokens not)
 
   -- no first item
-  pub lists_none : (tokens : List Lexeme) → NotFound Item E tokens → NotFound (IsBefore end_mark Whole) Always tokens
+  pub lists_none : (tokens : List Lexeme) → HasNoTree Item E tokens → HasNoTree (IsBefore end_mark Whole) Always tokens
   lists_none tokens not = none_listed tokens (no_start listing.level tokens (one_none Item E tokens not))
 
   -- the first item
-  pub lists_start : (tokens rest : List Lexeme) (a : T) → Found Item E tokens a rest → PartRow Item end_mark tokens (a ∷ []) rest
+  pub lists_start : (tokens rest : List Lexeme) (a : T) → HasTree Item E tokens a rest → PartRow Item end_mark tokens (a ∷ []) rest
   lists_start tokens rest a found = start listing.level tokens (a ∷ []) rest (one_found Item E tokens rest a found)
 
   -- one more
-  pub lists_next : (tokens rest r after : List Lexeme) (xs : List T) (b : T) → PartRow Item end_mark tokens xs rest → rest ≡ mark Comma ∷ r → Found Item E r b after → PartRow Item end_mark tokens (xs ++ b ∷ []) after
+  pub lists_next : (tokens rest r after : List Lexeme) (xs : List T) (b : T) → PartRow Item end_mark tokens xs rest → rest ≡ mark Comma ∷ r → HasTree Item E r b after → PartRow Item end_mark tokens (xs ++ b ∷ []) after
   lists_next tokens rest r after xs b part e found = next listing.level tokens xs (b ∷ []) rest r after tt part (comma_at rest r e) (one_found Item E r after b found)
 
   -- none after a comma
-  pub lists_no_next : (tokens rest r : List Lexeme) (xs : List T) → PartRow Item end_mark tokens xs rest → rest ≡ mark Comma ∷ r → NotFound Item E r → NotFound (IsBefore end_mark Whole) Always tokens
+  pub lists_no_next : (tokens rest r : List Lexeme) (xs : List T) → PartRow Item end_mark tokens xs rest → rest ≡ mark Comma ∷ r → HasNoTree Item E r → HasNoTree (IsBefore end_mark Whole) Always tokens
   lists_no_next tokens rest r xs part e not = none_listed tokens (no_next listing.level tokens xs rest r tt part (comma_at rest r e) (one_none Item E r not))
 
-  whole : (tokens rest : List Lexeme) (xs : List T) → PartRow Item end_mark tokens xs rest → ((r : List Lexeme) → rest ≡ mark Comma ∷ r → ⊥) → Found Whole (Before end_mark) tokens (f xs) rest
+  whole : (tokens rest : List Lexeme) (xs : List T) → PartRow Item end_mark tokens xs rest → ((r : List Lexeme) → rest ≡ mark Comma ∷ r → ⊥) → HasTree Whole (Before end_mark) tokens (f xs) rest
   whole tokens rest xs part none = found_as (Separated Item) Whole (Before end_mark) f listing.to listing.from tokens rest xs (finish listing.level tokens xs rest part (no_comma rest none))
 
   -- the mark behind the last
-  pub lists_end : (tokens rest r : List Lexeme) (xs : List T) → PartRow Item end_mark tokens xs rest → ((s : List Lexeme) → rest ≡ mark Comma ∷ s → ⊥) → rest ≡ mark end_mark ∷ r → Found (IsBefore end_mark Whole) Always tokens (f xs) r
+  pub lists_end : (tokens rest r : List Lexeme) (xs : List T) → PartRow Item end_mark tokens xs rest → ((s : List Lexeme) → rest ≡ mark Comma ∷ s → ⊥) → rest ≡ mark end_mark ∷ r → HasTree (IsBefore end_mark Whole) Always tokens (f xs) r
   lists_end tokens rest r xs part none e = before_reads Whole (Before end_mark) end_mark (before_mark end_mark) tokens rest r (f xs) (whole tokens rest xs part none) e
 
   -- something else behind it
-  pub lists_unclosed : (tokens rest : List Lexeme) (xs : List T) → PartRow Item end_mark tokens xs rest → ((s : List Lexeme) → rest ≡ mark Comma ∷ s → ⊥) → ((s : List Lexeme) → rest ≡ mark end_mark ∷ s → ⊥) → NotFound (IsBefore end_mark Whole) Always tokens
+  pub lists_unclosed : (tokens rest : List Lexeme) (xs : List T) → PartRow Item end_mark tokens xs rest → ((s : List Lexeme) → rest ≡ mark Comma ∷ s → ⊥) → ((s : List Lexeme) → rest ≡ mark end_mark ∷ s → ⊥) → HasNoTree (IsBefore end_mark Whole) Always tokens
   lists_unclosed tokens rest xs part none unclosed = before_none Whole (Before end_mark) end_mark (before_mark end_mark) tokens rest (f xs) (whole tokens rest xs part none) unclosed
 
 -- the indices of a variable

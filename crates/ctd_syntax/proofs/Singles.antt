@@ -3,7 +3,7 @@ use Rattle.std.proofs.Common.{◌≡◌, ◌<◌, List, ◌∷◌, subst, arith}
 use Rattle.ctd_syntax.specs.Lexeme.{Lexeme, mark}
 use Rattle.ctd_program.specs.Tree.{ExprTree}
 use Rattle.ctd_syntax.specs.Grammar.{IsAtom, IsProduct}
-use Rattle.ctd_syntax.specs.Front.{Found}
+use Rattle.ctd_syntax.specs.Front.{HasTree}
 use Rattle.ctd_syntax.specs.Levels.{ends}
 use Rattle.ctd_token.specs.declared.token.Mark.TheVariants.{Minus, Caret, OpenIndex}
 use Rattle.ctd_syntax.proofs.Atoms.{atom_is_power, power_is_signed}
@@ -17,7 +17,7 @@ no_caret us r h e = let lt : 3 < 2 = subst (ends 2) e h in omega (arith, lt)
 pub no_index : (us r : List Lexeme) → ends 2 us → us ≡ mark OpenIndex ∷ r → ⊥
 no_index us r h e = let lt : 4 < 2 = subst (ends 2) e h in omega (arith, lt)
 
-pub atom_is_product : (tokens rest : List Lexeme) (a : ExprTree) → ((r : List Lexeme) → tokens ≡ mark Minus ∷ r → ⊥) → Found IsAtom (ends 4) tokens a rest → ends 2 rest → Found IsProduct (ends 2) tokens a rest
+pub atom_is_product : (tokens rest : List Lexeme) (a : ExprTree) → ((r : List Lexeme) → tokens ≡ mark Minus ∷ r → ⊥) → HasTree IsAtom (ends 4) tokens a rest → ends 2 rest → HasTree IsProduct (ends 2) tokens a rest
 atom_is_product tokens rest a no_minus atom h =
     let signed = power_is_signed tokens no_minus a rest (atom_is_power tokens rest a atom (λ r e. no_caret rest r h e)) in
     finish products tokens a rest (start products tokens a rest signed) (no_product_operator rest h)

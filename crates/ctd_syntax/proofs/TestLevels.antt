@@ -3,10 +3,10 @@ use Rattle.std.proofs.Common.{◌≡◌, ◌<◌, List, [], ◌∷◌, ◌++◌,
 use Rattle.ctd_syntax.specs.Lexeme.{Lexeme, mark}
 use Rattle.ctd_program.specs.Tree
 use Rattle.ctd_program.specs.Tree.{TestTree}
-use Rattle.ctd_syntax.specs.Grammar.{IsTest, both, or, IsBoth, negated, and, IsNegated}
+use Rattle.ctd_syntax.specs.Grammar.{IsTest, both, or, IsBoth, negation, and, IsNegation}
 use Rattle.ctd_syntax.specs.Front.{operator_at}
 use Rattle.ctd_syntax.specs.Levels.{ends}
-use Rattle.ctd_syntax.specs.Tests.{test_ends}
+use Rattle.ctd_syntax.specs.TestGrammar.{test_ends}
 use Rattle.ctd_token.specs.declared.token.Mark.TheVariants.{OrOr, AndAnd}
 use Rattle.ctd_syntax.proofs.Chains.{Chain, stop, Level, longer}
 
@@ -64,16 +64,16 @@ or_chain ts a (or {ts = us} {us = vs} {a = b} {b = d} e i) =
     let c = or_chain us b e in
     (c.0, c.1 ++ mark OrOr ∷ vs, c.2, ap (λ l. l ++ mark OrOr ∷ vs) c.3 ∙ append_assoc c.0 c.1 (mark OrOr ∷ vs), c.4, longer IsBoth or_operator either c.1 vs d (mark OrOr) tt c.5 refl i)
 
-and_chain : (ts : List Lexeme) (a : TestTree) → IsBoth ts a → (us vs : List Lexeme) × (p : TestTree) × (ts ≡ us ++ vs) × IsNegated us p × Chain IsNegated and_operator together p vs a
-and_chain ts a (negated i) = (ts, [], a, sym (append-nil ts), i, stop)
+and_chain : (ts : List Lexeme) (a : TestTree) → IsBoth ts a → (us vs : List Lexeme) × (p : TestTree) × (ts ≡ us ++ vs) × IsNegation us p × Chain IsNegation and_operator together p vs a
+and_chain ts a (negation i) = (ts, [], a, sym (append-nil ts), i, stop)
 and_chain ts a (and {ts = us} {us = vs} {a = b} {b = d} e i) =
     let c = and_chain us b e in
-    (c.0, c.1 ++ mark AndAnd ∷ vs, c.2, ap (λ l. l ++ mark AndAnd ∷ vs) c.3 ∙ append_assoc c.0 c.1 (mark AndAnd ∷ vs), c.4, longer IsNegated and_operator together c.1 vs d (mark AndAnd) tt c.5 refl i)
+    (c.0, c.1 ++ mark AndAnd ∷ vs, c.2, ap (λ l. l ++ mark AndAnd ∷ vs) c.3 ∙ append_assoc c.0 c.1 (mark AndAnd ∷ vs), c.4, longer IsNegation and_operator together c.1 vs d (mark AndAnd) tt c.5 refl i)
 
 or_more : {ts us : List Lexeme} {a b : TestTree} (t : Lexeme) (o : Unit {0}) → IsTest ts a → or_operator t ≡ Some o → IsBoth us b → IsTest (ts ++ t ∷ us) (either o a b)
 or_more {ts} {us} {a} {b} t o e is i = subst (λ c. IsTest (ts ++ c ∷ us) (Tree.or a b)) (sym (is_or t o is)) (or e i)
 
-and_more : {ts us : List Lexeme} {a b : TestTree} (t : Lexeme) (o : Unit {0}) → IsBoth ts a → and_operator t ≡ Some o → IsNegated us b → IsBoth (ts ++ t ∷ us) (together o a b)
+and_more : {ts us : List Lexeme} {a b : TestTree} (t : Lexeme) (o : Unit {0}) → IsBoth ts a → and_operator t ≡ Some o → IsNegation us b → IsBoth (ts ++ t ∷ us) (together o a b)
 and_more {ts} {us} {a} {b} t o e is i = subst (λ c. IsBoth (ts ++ c ∷ us) (Tree.and a b)) (sym (is_and t o is)) (and e i)
 
 or_weaker : (us : List Lexeme) → test_ends 1 us → test_ends 2 us
@@ -106,9 +106,9 @@ ors = record {
   ended = or_ended;
 }
 
-pub ands : Level IsBoth IsNegated (test_ends 2) (ends 1) and_operator together
+pub ands : Level IsBoth IsNegation (test_ends 2) (ends 1) and_operator together
 ands = record {
-  one = negated;
+  one = negation;
   more = and_more;
   chain = λ whole. and_chain _ _ whole;
   weaker = and_weaker;

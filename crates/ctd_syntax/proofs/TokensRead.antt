@@ -11,7 +11,7 @@ use Rattle.ctd_token.proofs.Cutting.{Cutting}
 use Rattle.ctd_syntax.specs.Front.{AreLexemes, IsSpelled, string_found, string_of}
 use Rattle.ctd_syntax.specs.Lexeme.{Lexeme, lexeme_of, with_number, regex_count}
 use Rattle.ctd_syntax.specs.Reading.{lexemes, lexemes_from}
-use Rattle.ctd_syntax.specs.Stretches.{Unread, IsNextSeen}
+use Rattle.ctd_syntax.specs.Batches.{Unread, IsNextSeen}
 
 -- what is seen of the tokens so far; whatever follows them is seen behind that
 pub record HasRead (text : List ℕ) (seen : List Lexeme) (u : Unread) : Type 0 where

@@ -1,4 +1,4 @@
--- How a program is read one token after another, and a stretch of commands at a time; for the contracts of private functions alone.
+-- How a program is read one token after another, and a batch of commands at a time; for the contracts of private functions alone.
 use Rattle.std.specs.Prelude.{◌≡◌, ◌+◌, ℕ, List, ◌++◌}
 use Rattle.ctd_token.specs.Lexing.{Uncut, IsNext}
 use Rattle.ctd_token.specs.declared.token.Token.{Token}

@@ -37,12 +37,12 @@ is_command_word words.Unique = false
 is_command_word words.InArray = false
 is_command_word words.Unknown = false
 
--- whether a token does
+-- whether a token begins a command
 abbrev pub begins_command : Lexeme → Bool
 begins_command (keyword k at) = is_command_word k
 begins_command _ = false
 
--- whether the first of some tokens does
+-- whether the first of some tokens begins a command
 abbrev pub command_begins : List Lexeme → Bool
 command_begins [] = false
 command_begins (t ∷ ts) = begins_command t

@@ -9,7 +9,7 @@ use Rattle.ctd_token.specs.declared.token.TokenKind.TheVariants as tokens
 use Rattle.ctd_program.specs.Tree.{ExprTree, VarTree, CommandList}
 use Rattle.ctd_syntax.specs.Grammar.{IsExpr, IsTarget}
 use Rattle.ctd_syntax.specs.Lexeme.{Lexeme, mark, span_of}
-use Rattle.ctd_syntax.specs.Nesting.{start, too_deep}
+use Rattle.ctd_syntax.specs.Nesting.{IsShallow, PassesLimitAt}
 use Rattle.ctd_syntax.specs.Reading.{IsCut, Spells, lexemes}
 use Rattle.ctd_syntax.specs.declared.front.ParseError.{ParseError}
 use Rattle.ctd_syntax.specs.declared.front.ParseError.TheVariants.{Syntax, Memory}
@@ -48,15 +48,15 @@ pub record AreLexemes (program : List ℕ) (seen : List Lexeme) : Type 0 where
   pub is_cut : IsCut program tokens
   pub same : lexemes program tokens ≡ seen
 
--- so many of a text's tokens stand before the first after which their weight passes its limit
+-- the first prefix of a text's tokens whose weight passes the limit ends with the token behind so many
 abbrev pub NestsTooDeep : List ℕ → ℕ → Type 0
-NestsTooDeep program before = (ts : List Token) → IsCut program ts → too_deep start (lexemes program ts) ≡ Some before
+NestsTooDeep program before = (ts : List Token) → IsCut program ts → PassesLimitAt (lexemes program ts) before
 
 -- these tokens do not nest too deeply, and spell no program
 abbrev pub AreNoProgram : List ℕ → List Token → Type 0
-AreNoProgram program ts = (too_deep start (lexemes program ts) ≡ None) × ((tree : CommandList) → ¬ (Spells program ts tree))
+AreNoProgram program ts = IsShallow (lexemes program ts) × ((tree : CommandList) → ¬ (Spells program ts tree))
 
--- the same of a text's tokens
+-- whatever tokens a text is cut into, they do not nest too deeply and spell no program
 abbrev pub SpellsNone : List ℕ → Type 0
 SpellsNone program = (ts : List Token) → IsCut program ts → AreNoProgram program ts
 
@@ -73,25 +73,25 @@ abbrev pub Always : Following
 Always ts = Unit {0}
 
 -- t is the one tree at the front of the tokens, up to those after it
-pub record Found {T : Type 0} (Spells : Spelling T) (Ends : Following) (tokens : List Lexeme) (t : T) (after : List Lexeme) : Type 0 where
+pub record HasTree {T : Type 0} (Spells : Spelling T) (Ends : Following) (tokens : List Lexeme) (t : T) (after : List Lexeme) : Type 0 where
   pub front : List Lexeme
   pub split : tokens ≡ front ++ after
   pub spells : Spells front t
   pub only : (ts us : List Lexeme) (u : T) → tokens ≡ ts ++ us → Ends us → Spells ts u → (u ≡ t) × (us ≡ after)
 
 -- no tree is at the front of the tokens
-abbrev pub NotFound : {T : Type 0} → Spelling T → Following → List Lexeme → Type 0
-NotFound {T} Spells Ends tokens = (ts us : List Lexeme) (u : T) → tokens ≡ ts ++ us → Ends us → Spells ts u → ⊥
+abbrev pub HasNoTree : {T : Type 0} → Spelling T → Following → List Lexeme → Type 0
+HasNoTree {T} Spells Ends tokens = (ts us : List Lexeme) (u : T) → tokens ≡ ts ++ us → Ends us → Spells ts u → ⊥
 
 -- an error other than for memory says that there is none
-abbrev pub Refused : {T : Type 0} → Spelling T → Following → ParseError → List Lexeme → Type 0
-Refused Spells Ends Memory tokens = Unit {0}
-Refused Spells Ends (Syntax left) tokens = NotFound Spells Ends tokens
+abbrev pub IsRefusal : {T : Type 0} → Spelling T → Following → ParseError → List Lexeme → Type 0
+IsRefusal Spells Ends Memory tokens = Unit {0}
+IsRefusal Spells Ends (Syntax left) tokens = HasNoTree Spells Ends tokens
 
 -- a tree that is read is the one there
 abbrev pub FindsTree : {X T : Type 0} → Spelling T → Following → (X → T × List Lexeme) → Result X ParseError → List Lexeme → Type 0
-FindsTree Spells Ends view (Ok x) tokens = Found Spells Ends tokens (view x).0 (view x).1
-FindsTree Spells Ends view (Err e) tokens = Refused Spells Ends e tokens
+FindsTree Spells Ends view (Ok x) tokens = HasTree Spells Ends tokens (view x).0 (view x).1
+FindsTree Spells Ends view (Err e) tokens = IsRefusal Spells Ends e tokens
 
 -- an operator, and the tokens after it
 abbrev pub after_operator : {O : Type 0} → Option O → List Lexeme → Option (O × List Lexeme)

@@ -21,7 +21,7 @@ sum_operator (mark Plus) = Some Add
 sum_operator (mark Minus) = Some Sub
 sum_operator _ = None
 
--- of products
+-- the operators of products
 abbrev pub product_operator : Lexeme → Option Operator
 product_operator (mark Times) = Some Mul
 product_operator (mark Divide) = Some Div

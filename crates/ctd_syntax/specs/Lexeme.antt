@@ -61,7 +61,7 @@ keyword_of w = unwrap_or (plain_word w) (unwrap_or (block_word w) (unwrap_or (te
 abbrev pub span_of : List ℕ → Token → List ℕ
 span_of program t = take (t.after - t.first) (drop t.first program)
 
--- by its kind, its bytes and its place
+-- what the grammar sees of a token of this kind, with its bytes and its place
 abbrev pub lexeme_by : TokenKind → List ℕ → Place → Lexeme
 lexeme_by tokens.Word span place = keyword (keyword_of span) place
 lexeme_by tokens.Name span place = name span
@@ -78,7 +78,7 @@ abbrev pub numbered_word : ℕ → Keyword → Keyword
 numbered_word n (words.Regex before) = words.Regex n
 numbered_word n k = k
 
--- the same of a token
+-- a token, with this number where it is a word REGEX
 abbrev pub with_number : ℕ → Lexeme → Lexeme
 with_number n (keyword k place) = keyword (numbered_word n k) place
 with_number n t = t
@@ -88,7 +88,7 @@ abbrev pub word_count : Keyword → ℕ
 word_count (words.Regex before) = 1
 word_count _ = 0
 
--- how many a token is
+-- how many words REGEX a token is
 abbrev pub regex_count : Lexeme → ℕ
 regex_count (keyword k place) = word_count k
 regex_count _ = 0

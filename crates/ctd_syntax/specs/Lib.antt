@@ -3,9 +3,8 @@ pub mod Grammar
 pub mod Nesting
 pub mod Numbering
 pub mod Reading
-pub mod Examples
 pub mod Front
 pub mod Levels
-pub mod Tests
+pub mod TestGrammar
 pub mod CommandWords
-pub mod Stretches
+pub mod Batches

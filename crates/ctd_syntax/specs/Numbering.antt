@@ -20,12 +20,12 @@ abbrev mutual
   command_literals (Tree.loop place guard counter separator body) = separator_literals separator ++ literals body
   command_literals (Tree.choice place t then_do else_do) = literals then_do ++ literals else_do
 
-  -- of a separator
+  -- the literals of a separator
   pub separator_literals : Separator → List PatternLiteral
   separator_literals Tree.nothing = []
   separator_literals (Tree.between c) = command_literals c
 
-  -- of commands one after the other
+  -- the literals of commands one after the other
   pub literals : CommandList → List PatternLiteral
   literals Tree.done = []
   literals (Tree.then c rest) = command_literals c ++ literals rest

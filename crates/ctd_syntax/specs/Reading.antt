@@ -8,7 +8,7 @@ use Rattle.ctd_token.specs.declared.limits.TheConstants.{NESTING_LIMIT, PROGRAM_
 use Rattle.ctd_token.specs.Lexing.{HasFault}
 use Rattle.ctd_syntax.specs.Lexeme.{Lexeme, lexeme_of, with_number, regex_count}
 use Rattle.ctd_token.specs.Cut.{Cuts}
-use Rattle.ctd_syntax.specs.Nesting.{start, too_deep}
+use Rattle.ctd_syntax.specs.Nesting.{IsShallow, PassesLimitAt}
 use Rattle.ctd_syntax.specs.Grammar.{IsCommands}
 use Rattle.ctd_program.specs.Tree.{CommandList, list_blocks}
 
@@ -34,7 +34,7 @@ pub record IsCut (program : List ℕ) (ts : List Token) : Type 0 where
 pub record Reads (program : List ℕ) (tree : CommandList) : Type 0 where
   pub tokens : List Token
   pub is_cut : IsCut program tokens
-  pub shallow : too_deep start (lexemes program tokens) ≡ None
+  pub shallow : IsShallow (lexemes program tokens)
   pub spells : Spells program tokens tree
 
 -- the one program that a text spells; at most 200 blocks are open at any of its commands
@@ -43,19 +43,19 @@ pub record Parses (program : List ℕ) (tree : CommandList) : Type 0 where
   pub only : (other : CommandList) → Reads program other → other ≡ tree
   pub blocks : list_blocks tree ≤ NESTING_LIMIT
 
--- the weight passes its limit first after a token, which has the place
+-- the first prefix of the tokens whose weight passes the limit ends with a token that has this place
 pub record IsTooDeep (program : List ℕ) (place : Option Place) : Type 0 where
   pub tokens : List Token
   pub is_cut : IsCut program tokens
   pub before : ℕ
-  pub deep : too_deep start (lexemes program tokens) ≡ Some before
+  pub deep : PassesLimitAt (lexemes program tokens) before
   pub place_is : place ≡ option_map (λ t. t.place) (slice_get tokens before)
 
 -- no fault stands before, and no program is spelled; which place is given is left open
 pub record IsNoProgram (program : List ℕ) (place : Option Place) : Type 0 where
   pub tokens : List Token
   pub is_cut : IsCut program tokens
-  pub shallow : too_deep start (lexemes program tokens) ≡ None
+  pub shallow : IsShallow (lexemes program tokens)
   pub none : (tree : CommandList) → ¬ (Spells program tokens tree)
   pub some_place : Place
   pub place_is : place ≡ Some some_place

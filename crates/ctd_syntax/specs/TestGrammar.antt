@@ -37,12 +37,12 @@ compare_operator (mark marks.Unequal) = Some comparisons.Unequal
 compare_operator _ = None
 
 -- the words that tests begin with
-abbrev pub question : Lexeme → Option Keyword
-question (keyword Match at) = Some Match
-question (keyword IsEof at) = Some IsEof
-question (keyword Unique at) = Some Unique
-question (keyword InArray at) = Some InArray
-question _ = None
+abbrev pub test_keyword : Lexeme → Option Keyword
+test_keyword (keyword Match at) = Some Match
+test_keyword (keyword IsEof at) = Some IsEof
+test_keyword (keyword Unique at) = Some Unique
+test_keyword (keyword InArray at) = Some InArray
+test_keyword _ = None
 
 -- what stands behind such a word
 abbrev pub IsTestCall : Keyword → Spelling TestTree
@@ -57,8 +57,8 @@ abbrev pub IsLeft : Spelling (ExprTree × Compare)
 IsLeft vs x = (ts : List Lexeme) × (vs ≡ ts ++ mark (compare_mark x.1) ∷ []) × IsExpr ts x.0
 
 -- two expressions and a comparison between them
-abbrev pub IsCompared : Spelling TestTree
-IsCompared ts u = (x : (ExprTree × Compare) × ExprTree) × (u ≡ Tree.compare x.0.1 x.0.0 x.1) × IsPair IsLeft IsExpr ts x
+abbrev pub IsComparison : Spelling TestTree
+IsComparison ts u = (x : (ExprTree × Compare) × ExprTree) × (u ≡ Tree.compare x.0.1 x.0.0 x.1) × IsPair IsLeft IsExpr ts x
 
 -- what a token says of the parentheses that it stands in: that they hold a test, or that others open or close
 abbrev pub role_of : Lexeme → TokenRole
@@ -113,7 +113,7 @@ abbrev pub closes_before_test : ℕ → List Lexeme → Option ℕ
 closes_before_test d [] = None
 closes_before_test d (t ∷ ts) = closes_before_test_at (role_of t) d (λ e. closes_before_test e ts)
 
--- whether n is enough
+-- whether n open parentheses are enough
 abbrev pub is_enough : ℕ → Option ℕ → Bool
 is_enough n None = false
 is_enough n (Some zero) = true
@@ -135,7 +135,7 @@ abbrev pub AreGroups : ℕ → List Lexeme → Type 0
 AreGroups zero ts = (r : List Lexeme) → ts ≡ mark Open ∷ r → holds_test (Some 0) r ≡ false
 AreGroups (suc n) ts = (r : List Lexeme) × (ts ≡ mark Open ∷ r) × (holds_test (Some 0) r ≡ true) × AreGroups n r
 
--- what may be known of that
+-- the number of such groups, where it is known
 abbrev pub AreKnownGroups : Option ℕ → List Lexeme → Type 0
 AreKnownGroups None ts = Unit {0}
 AreKnownGroups (Some n) ts = AreGroups n ts

@@ -1,28 +1,28 @@
-//! Reads a program that has no fault a stretch of commands at a time, so that its tokens need not all be kept until its tree is built.
+//! Reads a program that has no fault a batch of commands at a time, so that its tokens need not all be kept until its tree is built.
 
 ghost use Rattle.std.specs.Prelude.{◌≡◌, ◌<◌, [], None, length, map, true, IfOk, IfErr, IfSome, IsErrAnd, OnOk};
 ghost use Rattle.ctd_token.specs.Lexing.{IsLexFault};
 ghost use Rattle.ctd_syntax.specs.Front.{lexeme};
 ghost use Rattle.ctd_syntax.specs.Numbering.{IsNumbered};
 ghost use Rattle.ctd_syntax.specs.Reading.{Parses};
-ghost use Rattle.ctd_syntax.specs.Stretches.{ReadsOff};
+ghost use Rattle.ctd_syntax.specs.Batches.{ReadsOff};
 ghost use Rattle.ctd_program.specs.View.{command_trees};
 
 use crate::command::command;
-use crate::front::ParseError;
+use crate::front::{ParseError, Tokens};
 use crate::nesting::Nesting;
 use crate::parser_token::{ParserToken, ParserTokens};
 use ctd_program::{Command, Commands, Program};
 use ctd_token::{LoadFault, LoadKind, PROGRAM_LIMIT};
 use std::alloc::{AllocError, Global};
 
-// How many tokens a stretch has at least, but for the last.
-const STRETCH: usize = 4096;
+// How many tokens a batch has at least, but for the last.
+const BATCH_TOKENS: usize = 4096;
 
 // Reads commands until no token is left, and puts them behind those that are there.
 fn all_commands<'t>(
     alloc: Global,
-    tokens: &'t [ParserToken<'t>],
+    tokens: Tokens<'t>,
     commands: &mut Vec<Command>,
 ) -> Result<(), ParseError>
     ensures { OnOk result (ReadsOff (map lexeme tokens.now) commands.old.items [] commands.new.items) }
@@ -38,9 +38,9 @@ fn all_commands<'t>(
 }
 
 // Whether these tokens are commands and nothing else, which are then put behind those that are there.
-fn are_commands<'t>(
+fn append_commands<'t>(
     alloc: Global,
-    tokens: &'t [ParserToken<'t>],
+    tokens: Tokens<'t>,
     commands: &mut Vec<Command>,
 ) -> Result<bool, AllocError>
     ensures { IfOk result (λ fits. fits ≡ true → ReadsOff (map lexeme tokens.now) commands.old.items [] commands.new.items) }
@@ -52,32 +52,34 @@ fn are_commands<'t>(
     }
 }
 
-// Whether a stretch may end before this token. Where nothing is open, no word but that of a command fits.
-fn ends_before(stretch: &[ParserToken<'_>], nesting: &Nesting, next: &ParserToken<'_>) -> bool {
-    stretch.len() >= STRETCH && nesting.is_outermost() && matches!(next, ParserToken::Keyword(_, _))
+// Whether a batch may end before this token. Where nothing is open, no word but that of a command fits.
+fn ends_before(batch: &[ParserToken<'_>], nesting: &Nesting, next: &ParserToken<'_>) -> bool {
+    batch.len() >= BATCH_TOKENS
+        && nesting.is_outermost()
+        && matches!(next, ParserToken::Keyword(_, _))
 }
 
-// Reads the commands of a stretch that ends, whose tokens are then dropped. Whether they were commands and nothing else.
-#[inline(always)] // For each token, of which few end a stretch.
+// Reads the commands of a batch that ends, whose tokens are then dropped. Whether they were commands and nothing else.
+#[inline(always)] // For each token, of which few end a batch.
 fn read_off(
     alloc: Global,
     ends: bool,
-    stretch: &mut Vec<ParserToken<'_>>,
+    batch: &mut Vec<ParserToken<'_>>,
     commands: &mut Vec<Command>,
 ) -> Result<bool, AllocError>
-    ensures read { IfOk result (λ fits. fits ≡ true → ReadsOff (map lexeme stretch.old.items) commands.old.items (map lexeme stretch.new.items) commands.new.items) }
-    ensures whole { ends ≡ true → OnOk result (stretch.new.items ≡ []) }
+    ensures read { IfOk result (λ fits. fits ≡ true → ReadsOff (map lexeme batch.old.items) commands.old.items (map lexeme batch.new.items) commands.new.items) }
+    ensures whole { ends ≡ true → OnOk result (batch.new.items ≡ []) }
 {
     if !ends {
         return Ok(true);
     }
-    let fits = are_commands(alloc, stretch, commands)?;
-    stretch.clear();
+    let fits = append_commands(alloc, batch, commands)?;
+    batch.clear();
     Ok(fits)
 }
 
 // Whether the text is a program, whose commands are then read; where it tells false, a token is too deep or fits nowhere.
-fn is_read(alloc: Global, text: &[u8], commands: &mut Vec<Command>) -> Result<bool, LoadFault>
+fn read_commands(alloc: Global, text: &[u8], commands: &mut Vec<Command>) -> Result<bool, LoadFault>
     requires { commands.old.items ≡ [] }
     ensures parses { IfOk result (λ whole. whole ≡ true → Parses text.now (command_trees commands.new.items)) }
     ensures fault { IfErr result (λ f. IsLexFault text.now f.kind f.place) }
@@ -86,7 +88,7 @@ fn is_read(alloc: Global, text: &[u8], commands: &mut Vec<Command>) -> Result<bo
 {
     let mut tokens = ParserTokens::new(alloc, text)?;
     let mut nesting = Nesting::new(alloc);
-    let mut stretch = Vec::new(alloc);
+    let mut batch = Vec::new(alloc);
     loop {
         // A `?` would send each token through memory.
         let token = match tokens.next_token(alloc) {
@@ -94,20 +96,20 @@ fn is_read(alloc: Global, text: &[u8], commands: &mut Vec<Command>) -> Result<bo
             Ok(None) => break,
             Err(fault) => return Err(fault),
         };
-        let ends = ends_before(&stretch, &nesting, &token);
-        if !read_off(alloc, ends, &mut stretch, commands)? {
+        let ends = ends_before(&batch, &nesting, &token);
+        if !read_off(alloc, ends, &mut batch, commands)? {
             return Ok(false);
         }
         if !nesting.pass(&token)? {
             return Ok(false);
         }
-        stretch.push(token)?;
+        batch.push(token)?;
     }
-    Ok(read_off(alloc, true, &mut stretch, commands)?)
+    Ok(read_off(alloc, true, &mut batch, commands)?)
 }
 
 /// The program that a text spells, or none where a token is too deep or fits nowhere; or the fault that `tokens` answers.
-pub(crate) fn program_in_stretches(alloc: Global, text: &[u8]) -> Result<Option<Program>, LoadFault>
+pub(crate) fn program_in_batches(alloc: Global, text: &[u8]) -> Result<Option<Program>, LoadFault>
     ensures parses { IfOk result (λ found. IfSome found (λ program. Parses text.now (command_trees program))) }
     ensures numbered { IfOk result (λ found. IfSome found (λ program. IsNumbered (command_trees program))) }
     ensures fault { IfErr result (λ f. IsLexFault text.now f.kind f.place) }
@@ -115,7 +117,7 @@ pub(crate) fn program_in_stretches(alloc: Global, text: &[u8]) -> Result<Option<
         IsErrAnd result (λ f. f ≡ record { kind = LoadKind.ProgramTooLong; place = None }) }
 {
     let mut commands = Vec::new(alloc);
-    if !is_read(alloc, text, &mut commands)? {
+    if !read_commands(alloc, text, &mut commands)? {
         return Ok(None);
     }
     // The list may have grown to twice what it holds.

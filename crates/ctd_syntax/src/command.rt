@@ -11,11 +11,13 @@ ghost use Rattle.ctd_syntax.specs.CommandWords.{IsCommandRest, CommandsEnd, IsBl
 
 use crate::condition::test_before;
 use crate::expression::{expr, expr_before};
-use crate::front::{ParseError, after_mark, after_open, after_word, text_at, word_at};
+use crate::front::{
+    ParseError, ParseResult, Tokens, after_mark, after_open, after_word, text_at, word_at,
+};
 use crate::keyword::Keyword;
 use crate::loop_head::{LoopHead, LoopWord, loop_head};
 use crate::names::names;
-use crate::parser_token::{ParserToken, string_of};
+use crate::parser_token::string_of;
 use crate::target::{assignments, target_end};
 use ctd_program::{
     Action, Choice, Command, Commands, Expr, IntArguments, Loop, PatternLiteral, RegexArguments,
@@ -25,10 +27,7 @@ use ctd_token::{Mark, Place};
 use std::alloc::{AllocError, Global};
 
 // The upper bound of INT and its target.
-fn upper_bound<'t>(
-    alloc: Global,
-    tokens: &'t [ParserToken<'t>],
-) -> Result<((Expr, Option<Var>), &'t [ParserToken<'t>]), ParseError>
+fn upper_bound<'t>(alloc: Global, tokens: Tokens<'t>) -> ParseResult<'t, (Expr, Option<Var>)>
     ensures tree { FindsTree (IsPair IsExpr IsTargetEnd) Always (λ x. ((expr_tree x.0.0, target x.0.1), map lexeme x.1.now)) result (map lexeme tokens.now) }
     ensures shorter { IfOk result (λ x. length x.1.now ≤ length tokens.now) }
 {
@@ -43,11 +42,7 @@ fn upper_bound<'t>(
 }
 
 // What stands behind INT.
-fn int<'t>(
-    alloc: Global,
-    place: Place,
-    tokens: &'t [ParserToken<'t>],
-) -> Result<(Command, &'t [ParserToken<'t>]), ParseError>
+fn int<'t>(alloc: Global, place: Place, tokens: Tokens<'t>) -> ParseResult<'t, Command>
     ensures tree { FindsTree (IsCommandRest Keyword.Int place) Always (λ x. (command_tree x.0, map lexeme x.1.now)) result (map lexeme tokens.now) }
     ensures shorter { IfOk result (λ x. length x.1.now ≤ length tokens.now) }
 {
@@ -68,11 +63,7 @@ fn int<'t>(
 }
 
 // What stands behind STRING.
-fn string<'t>(
-    alloc: Global,
-    place: Place,
-    tokens: &'t [ParserToken<'t>],
-) -> Result<(Command, &'t [ParserToken<'t>]), ParseError>
+fn string<'t>(alloc: Global, place: Place, tokens: Tokens<'t>) -> ParseResult<'t, Command>
     ensures tree { FindsTree (IsCommandRest Keyword.String place) Always (λ x. (command_tree x.0, map lexeme x.1.now)) result (map lexeme tokens.now) }
     ensures shorter { IfOk result (λ x. length x.1.now ≤ length tokens.now) }
 {
@@ -87,8 +78,8 @@ fn regex<'t>(
     alloc: Global,
     number: usize,
     place: Place,
-    tokens: &'t [ParserToken<'t>],
-) -> Result<(Command, &'t [ParserToken<'t>]), ParseError>
+    tokens: Tokens<'t>,
+) -> ParseResult<'t, Command>
     ensures tree { FindsTree (IsCommandRest (Keyword.Regex number) place) Always (λ x. (command_tree x.0, map lexeme x.1.now)) result (map lexeme tokens.now) }
     ensures shorter { IfOk result (λ x. length x.1.now ≤ length tokens.now) }
 {
@@ -109,11 +100,7 @@ fn regex<'t>(
 }
 
 // What stands behind ASSERT.
-fn assert<'t>(
-    alloc: Global,
-    place: Place,
-    tokens: &'t [ParserToken<'t>],
-) -> Result<(Command, &'t [ParserToken<'t>]), ParseError>
+fn assert<'t>(alloc: Global, place: Place, tokens: Tokens<'t>) -> ParseResult<'t, Command>
     ensures tree { FindsTree (IsCommandRest Keyword.Assert place) Always (λ x. (command_tree x.0, map lexeme x.1.now)) result (map lexeme tokens.now) }
     ensures shorter { IfOk result (λ x. length x.1.now ≤ length tokens.now) }
 {
@@ -124,11 +111,7 @@ fn assert<'t>(
 }
 
 // What stands behind SET.
-fn set<'t>(
-    alloc: Global,
-    place: Place,
-    tokens: &'t [ParserToken<'t>],
-) -> Result<(Command, &'t [ParserToken<'t>]), ParseError>
+fn set<'t>(alloc: Global, place: Place, tokens: Tokens<'t>) -> ParseResult<'t, Command>
     ensures tree { FindsTree (IsCommandRest Keyword.Set place) Always (λ x. (command_tree x.0, map lexeme x.1.now)) result (map lexeme tokens.now) }
     ensures shorter { IfOk result (λ x. length x.1.now ≤ length tokens.now) }
 {
@@ -139,11 +122,7 @@ fn set<'t>(
 }
 
 // What stands behind UNSET.
-fn unset<'t>(
-    alloc: Global,
-    place: Place,
-    tokens: &'t [ParserToken<'t>],
-) -> Result<(Command, &'t [ParserToken<'t>]), ParseError>
+fn unset<'t>(alloc: Global, place: Place, tokens: Tokens<'t>) -> ParseResult<'t, Command>
     ensures tree { FindsTree (IsCommandRest Keyword.Unset place) Always (λ x. (command_tree x.0, map lexeme x.1.now)) result (map lexeme tokens.now) }
     ensures shorter { IfOk result (λ x. length x.1.now ≤ length tokens.now) }
 {
@@ -177,8 +156,8 @@ fn loop_command<'t>(
     alloc: Global,
     word: LoopWord,
     place: Place,
-    tokens: &'t [ParserToken<'t>],
-) -> Result<(Command, &'t [ParserToken<'t>]), ParseError>
+    tokens: Tokens<'t>,
+) -> ParseResult<'t, Command>
     ensures tree { FindsTree (IsLoopRest word place) Always (λ x. (command_tree x.0, map lexeme x.1.now)) result (map lexeme tokens.now) }
     ensures shorter { IfOk result (λ x. length x.1.now ≤ length tokens.now) }
 {
@@ -197,10 +176,7 @@ fn loop_command<'t>(
 
 // The commands of both branches of an IF; where there is no ELSE, the second has none.
 #[cycle(command)]
-fn branches<'t>(
-    alloc: Global,
-    tokens: &'t [ParserToken<'t>],
-) -> Result<((Commands, Commands), &'t [ParserToken<'t>]), ParseError>
+fn branches<'t>(alloc: Global, tokens: Tokens<'t>) -> ParseResult<'t, (Commands, Commands)>
     ensures tree { FindsTree (IsPair IsCommands IsBranchEnd) Always (λ x. ((command_list x.0.0, command_list x.0.1), map lexeme x.1.now)) result (map lexeme tokens.now) }
     ensures shorter { IfOk result (λ x. length x.1.now ≤ length tokens.now) }
 {
@@ -211,10 +187,7 @@ fn branches<'t>(
 
 // END; or ELSE and a block.
 #[cycle(command)]
-fn branch_end<'t>(
-    alloc: Global,
-    tokens: &'t [ParserToken<'t>],
-) -> Result<(Commands, &'t [ParserToken<'t>]), ParseError>
+fn branch_end<'t>(alloc: Global, tokens: Tokens<'t>) -> ParseResult<'t, Commands>
     ensures tree { FindsTree IsBranchEnd Always (λ x. (command_list x.0, map lexeme x.1.now)) result (map lexeme tokens.now) }
     ensures shorter { IfOk result (λ x. length x.1.now ≤ length tokens.now) }
 {
@@ -229,11 +202,7 @@ fn branch_end<'t>(
 
 // What stands behind IF.
 #[cycle(command)]
-fn if_command<'t>(
-    alloc: Global,
-    place: Place,
-    tokens: &'t [ParserToken<'t>],
-) -> Result<(Command, &'t [ParserToken<'t>]), ParseError>
+fn if_command<'t>(alloc: Global, place: Place, tokens: Tokens<'t>) -> ParseResult<'t, Command>
     ensures tree { FindsTree (IsCommandRest Keyword.If place) Always (λ x. (command_tree x.0, map lexeme x.1.now)) result (map lexeme tokens.now) }
     ensures shorter { IfOk result (λ x. length x.1.now ≤ length tokens.now) }
 {
@@ -251,10 +220,7 @@ fn if_command<'t>(
 
 // A command and the parenthesis behind it.
 #[cycle(command)]
-fn separator_before<'t>(
-    alloc: Global,
-    tokens: &'t [ParserToken<'t>],
-) -> Result<(Command, &'t [ParserToken<'t>]), ParseError>
+fn separator_before<'t>(alloc: Global, tokens: Tokens<'t>) -> ParseResult<'t, Command>
     ensures tree { FindsTree (IsBefore Mark.Close IsCommand) Always (λ x. (command_tree x.0, map lexeme x.1.now)) result (map lexeme tokens.now) }
     ensures shorter { IfOk result (λ x. length x.1.now ≤ length tokens.now) }
 {
@@ -270,10 +236,7 @@ fn separator_before<'t>(
 
 // A command or none, the parenthesis, and a block.
 #[cycle(command)]
-fn loop_end<'t>(
-    alloc: Global,
-    tokens: &'t [ParserToken<'t>],
-) -> Result<(LoopEnd, &'t [ParserToken<'t>]), ParseError>
+fn loop_end<'t>(alloc: Global, tokens: Tokens<'t>) -> ParseResult<'t, LoopEnd>
     ensures tree { FindsTree IsLoopEnd Always (λ x. ((boxed_separator x.0.0, command_list x.0.1), map lexeme x.1.now)) result (map lexeme tokens.now) }
     ensures shorter { IfOk result (λ x. length x.1.now ≤ length tokens.now) }
 {
@@ -292,10 +255,7 @@ fn loop_end<'t>(
 
 // Commands and the END behind them.
 #[cycle(command)]
-fn block<'t>(
-    alloc: Global,
-    tokens: &'t [ParserToken<'t>],
-) -> Result<(Commands, &'t [ParserToken<'t>]), ParseError>
+fn block<'t>(alloc: Global, tokens: Tokens<'t>) -> ParseResult<'t, Commands>
     ensures tree { FindsTree IsBlock Always (λ x. (command_list x.0, map lexeme x.1.now)) result (map lexeme tokens.now) }
     ensures shorter { IfOk result (λ x. length x.1.now ≤ length tokens.now) }
 {
@@ -312,8 +272,8 @@ fn command_rest<'t>(
     alloc: Global,
     word: Keyword,
     place: Place,
-    tokens: &'t [ParserToken<'t>],
-) -> Result<(Command, &'t [ParserToken<'t>]), ParseError>
+    tokens: Tokens<'t>,
+) -> ParseResult<'t, Command>
     ensures tree { FindsTree (IsCommandRest word place) Always (λ x. (command_tree x.0, map lexeme x.1.now)) result (map lexeme tokens.now) }
     ensures shorter { IfOk result (λ x. length x.1.now ≤ length tokens.now) }
 {
@@ -345,9 +305,7 @@ fn command_rest<'t>(
 }
 
 // The word of a command at the front with its place, and what follows it.
-fn command_word<'t>(
-    tokens: &'t [ParserToken<'t>],
-) -> Option<(Keyword, Place, &'t [ParserToken<'t>])>
+fn command_word<'t>(tokens: Tokens<'t>) -> Option<(Keyword, Place, Tokens<'t>)>
     ensures found { IfSome result (λ x. map lexeme tokens.now ≡ Lexeme.keyword x.0 x.1 ∷ map lexeme x.2.now) }
     ensures word { IfSome result (λ x. is_command_word x.0 ≡ true) }
     ensures shorter { IfSome result (λ x. length x.2.now < length tokens.now) }
@@ -382,10 +340,7 @@ fn command_word<'t>(
 
 /// The command at the front, and what follows it.
 #[cycle(command)]
-pub(crate) fn command<'t>(
-    alloc: Global,
-    tokens: &'t [ParserToken<'t>],
-) -> Result<(Command, &'t [ParserToken<'t>]), ParseError>
+pub(crate) fn command<'t>(alloc: Global, tokens: Tokens<'t>) -> ParseResult<'t, Command>
     ensures tree { FindsTree IsCommand Always (λ x. (command_tree x.0, map lexeme x.1.now)) result (map lexeme tokens.now) }
     ensures shorter { IfOk result (λ x. length x.1.now < length tokens.now) }
 {
@@ -397,10 +352,7 @@ pub(crate) fn command<'t>(
 
 /// The commands at the front, one after the other, and what follows them.
 #[cycle(command)]
-pub(crate) fn commands<'t>(
-    alloc: Global,
-    tokens: &'t [ParserToken<'t>],
-) -> Result<(Commands, &'t [ParserToken<'t>]), ParseError>
+pub(crate) fn commands<'t>(alloc: Global, tokens: Tokens<'t>) -> ParseResult<'t, Commands>
     ensures tree { FindsTree IsCommands CommandsEnd (λ x. (command_list x.0, map lexeme x.1.now)) result (map lexeme tokens.now) }
     ensures shorter { IfOk result (λ x. length x.1.now ≤ length tokens.now) }
 {

@@ -5,13 +5,13 @@ ghost use Rattle.std.specs.Prelude.{◌≡◌, ◌≤◌, ◌<◌, ◌++◌, [],
 ghost use Rattle.ctd_syntax.specs.Lexeme;
 ghost use Rattle.ctd_syntax.specs.Lexeme.{Lexeme};
 ghost use Rattle.ctd_program.specs.View.{expr_tree, test_tree};
-ghost use Rattle.ctd_syntax.specs.Grammar.{IsTest, IsBoth, IsNegated, IsSimpleTest};
+ghost use Rattle.ctd_syntax.specs.Grammar.{IsTest, IsBoth, IsNegation, IsSimpleTest};
 ghost use Rattle.ctd_syntax.specs.Front.{FindsTree, Always, IsBefore, IsName, StartsWith, lexeme};
 ghost use Rattle.ctd_syntax.specs.Levels.{ends};
-ghost use Rattle.ctd_syntax.specs.Tests.{test_ends, compare_operator, question, IsTestCall, IsLeft, IsCompared, AreGroups, AreKnownGroups, closes_before_test, role_of, holds_test, is_enough, openings, opens};
+ghost use Rattle.ctd_syntax.specs.TestGrammar.{test_ends, compare_operator, test_keyword, IsTestCall, IsLeft, IsComparison, AreGroups, AreKnownGroups, closes_before_test, role_of, holds_test, is_enough, openings, opens};
 
 use crate::expression::{expr, expr_before};
-use crate::front::{ParseError, after_mark, after_open, name_at};
+use crate::front::{ParseError, ParseResult, Tokens, after_mark, after_open, name_at};
 use crate::keyword::Keyword;
 use crate::names::names;
 use crate::parser_token::ParserToken;
@@ -113,7 +113,7 @@ fn test_groups(tokens: &[ParserToken<'_>]) -> usize
 }
 
 // The comparison at the front, and what follows it.
-fn compare_at<'t>(tokens: &'t [ParserToken<'t>]) -> Option<(Compare, &'t [ParserToken<'t>])>
+fn compare_at<'t>(tokens: Tokens<'t>) -> Option<(Compare, Tokens<'t>)>
     ensures operator { StartsWith compare_operator (λ rest. map lexeme rest.now) result (map lexeme tokens.now) }
     ensures shorter { IfSome result (λ x. length x.1.now < length tokens.now) }
 {
@@ -132,8 +132,8 @@ fn compare_at<'t>(tokens: &'t [ParserToken<'t>]) -> Option<(Compare, &'t [Parser
 }
 
 // The word of a test at the front, and what follows it.
-fn question_at<'t>(tokens: &'t [ParserToken<'t>]) -> Option<(Keyword, &'t [ParserToken<'t>])>
-    ensures operator { StartsWith question (λ rest. map lexeme rest.now) result (map lexeme tokens.now) }
+fn test_keyword_at<'t>(tokens: Tokens<'t>) -> Option<(Keyword, Tokens<'t>)>
+    ensures operator { StartsWith test_keyword (λ rest. map lexeme rest.now) result (map lexeme tokens.now) }
     ensures shorter { IfSome result (λ x. length x.1.now < length tokens.now) }
 {
     let [first, after @ ..] = tokens else {
@@ -150,10 +150,7 @@ fn question_at<'t>(tokens: &'t [ParserToken<'t>]) -> Option<(Keyword, &'t [Parse
 
 // What follows a parenthesis at the front that holds a test, and how many further ones stand there and do. It may be known
 // how many do with the first.
-fn group_at<'t>(
-    groups: Option<usize>,
-    tokens: &'t [ParserToken<'t>],
-) -> Option<(usize, &'t [ParserToken<'t>])>
+fn group_at<'t>(groups: Option<usize>, tokens: Tokens<'t>) -> Option<(usize, Tokens<'t>)>
     requires known { AreKnownGroups groups (map lexeme tokens.now) }
     ensures found { IfSome result (λ x. map lexeme tokens.now ≡ Lexeme.mark Mark.Open ∷ map lexeme x.1.now) }
     ensures holds { IfSome result (λ x. holds_test (Some 0) (map lexeme x.1.now) ≡ true) }
@@ -180,10 +177,7 @@ fn boxed(alloc: Global, test: Test) -> Result<Box<Test>, AllocError>
 }
 
 // An expression and the comparison behind it.
-fn left_side<'t>(
-    alloc: Global,
-    tokens: &'t [ParserToken<'t>],
-) -> Result<((Expr, Compare), &'t [ParserToken<'t>]), ParseError>
+fn left_side<'t>(alloc: Global, tokens: Tokens<'t>) -> ParseResult<'t, (Expr, Compare)>
     ensures tree { FindsTree IsLeft Always (λ x. ((expr_tree x.0.0, x.0.1), map lexeme x.1.now)) result (map lexeme tokens.now) }
     ensures shorter { IfOk result (λ x. length x.1.now ≤ length tokens.now) }
 {
@@ -198,11 +192,8 @@ fn left_side<'t>(
 }
 
 // Two expressions with a comparison between them.
-fn comparison<'t>(
-    alloc: Global,
-    tokens: &'t [ParserToken<'t>],
-) -> Result<(Box<Test>, &'t [ParserToken<'t>]), ParseError>
-    ensures tree { FindsTree IsCompared (ends 1) (λ x. (test_tree x.0.value, map lexeme x.1.now)) result (map lexeme tokens.now) }
+fn comparison<'t>(alloc: Global, tokens: Tokens<'t>) -> ParseResult<'t, Box<Test>>
+    ensures tree { FindsTree IsComparison (ends 1) (λ x. (test_tree x.0.value, map lexeme x.1.now)) result (map lexeme tokens.now) }
     ensures shorter { IfOk result (λ x. length x.1.now ≤ length tokens.now) }
 {
     let ((left, by), rest) = left_side(alloc, tokens)?;
@@ -216,10 +207,7 @@ fn comparison<'t>(
 }
 
 // What stands behind MATCH.
-fn matches<'t>(
-    alloc: Global,
-    tokens: &'t [ParserToken<'t>],
-) -> Result<(Box<Test>, &'t [ParserToken<'t>]), ParseError>
+fn matches<'t>(alloc: Global, tokens: Tokens<'t>) -> ParseResult<'t, Box<Test>>
     ensures tree { FindsTree (IsTestCall Keyword.Match) Always (λ x. (test_tree x.0.value, map lexeme x.1.now)) result (map lexeme tokens.now) }
     ensures shorter { IfOk result (λ x. length x.1.now ≤ length tokens.now) }
 {
@@ -229,10 +217,7 @@ fn matches<'t>(
 }
 
 // What stands behind UNIQUE.
-fn unique<'t>(
-    alloc: Global,
-    tokens: &'t [ParserToken<'t>],
-) -> Result<(Box<Test>, &'t [ParserToken<'t>]), ParseError>
+fn unique<'t>(alloc: Global, tokens: Tokens<'t>) -> ParseResult<'t, Box<Test>>
     ensures tree { FindsTree (IsTestCall Keyword.Unique) Always (λ x. (test_tree x.0.value, map lexeme x.1.now)) result (map lexeme tokens.now) }
     ensures shorter { IfOk result (λ x. length x.1.now ≤ length tokens.now) }
 {
@@ -242,10 +227,7 @@ fn unique<'t>(
 }
 
 // A name and the parenthesis behind it.
-fn last_name<'t>(
-    alloc: Global,
-    tokens: &'t [ParserToken<'t>],
-) -> Result<(Name, &'t [ParserToken<'t>]), ParseError>
+fn last_name<'t>(alloc: Global, tokens: Tokens<'t>) -> ParseResult<'t, Name>
     ensures tree { FindsTree (IsBefore Mark.Close IsName) Always (λ x. (x.0, map lexeme x.1.now)) result (map lexeme tokens.now) }
     ensures shorter { IfOk result (λ x. length x.1.now ≤ length tokens.now) }
 {
@@ -259,10 +241,7 @@ fn last_name<'t>(
 }
 
 // What stands behind INARRAY.
-fn in_array<'t>(
-    alloc: Global,
-    tokens: &'t [ParserToken<'t>],
-) -> Result<(Box<Test>, &'t [ParserToken<'t>]), ParseError>
+fn in_array<'t>(alloc: Global, tokens: Tokens<'t>) -> ParseResult<'t, Box<Test>>
     ensures tree { FindsTree (IsTestCall Keyword.InArray) Always (λ x. (test_tree x.0.value, map lexeme x.1.now)) result (map lexeme tokens.now) }
     ensures shorter { IfOk result (λ x. length x.1.now ≤ length tokens.now) }
 {
@@ -278,11 +257,7 @@ fn in_array<'t>(
 }
 
 // What stands behind the word of a test.
-fn test_call<'t>(
-    alloc: Global,
-    keyword: Keyword,
-    tokens: &'t [ParserToken<'t>],
-) -> Result<(Box<Test>, &'t [ParserToken<'t>]), ParseError>
+fn test_call<'t>(alloc: Global, keyword: Keyword, tokens: Tokens<'t>) -> ParseResult<'t, Box<Test>>
     ensures tree { FindsTree (IsTestCall keyword) Always (λ x. (test_tree x.0.value, map lexeme x.1.now)) result (map lexeme tokens.now) }
     ensures shorter { IfOk result (λ x. length x.1.now ≤ length tokens.now) }
 {
@@ -300,8 +275,8 @@ fn test_call<'t>(
 pub(crate) fn test<'t>(
     alloc: Global,
     groups: Option<usize>,
-    tokens: &'t [ParserToken<'t>],
-) -> Result<(Box<Test>, &'t [ParserToken<'t>]), ParseError>
+    tokens: Tokens<'t>,
+) -> ParseResult<'t, Box<Test>>
     requires known { AreKnownGroups groups (map lexeme tokens.now) }
     ensures tree { FindsTree IsTest (test_ends 1) (λ x. (test_tree x.0.value, map lexeme x.1.now)) result (map lexeme tokens.now) }
     ensures shorter { IfOk result (λ x. length x.1.now ≤ length tokens.now) }
@@ -323,18 +298,14 @@ pub(crate) fn test<'t>(
 }
 
 #[cycle(condition)]
-fn both<'t>(
-    alloc: Global,
-    groups: Option<usize>,
-    tokens: &'t [ParserToken<'t>],
-) -> Result<(Box<Test>, &'t [ParserToken<'t>]), ParseError>
+fn both<'t>(alloc: Global, groups: Option<usize>, tokens: Tokens<'t>) -> ParseResult<'t, Box<Test>>
     requires known { AreKnownGroups groups (map lexeme tokens.now) }
     ensures tree { FindsTree IsBoth (test_ends 2) (λ x. (test_tree x.0.value, map lexeme x.1.now)) result (map lexeme tokens.now) }
     ensures shorter { IfOk result (λ x. length x.1.now ≤ length tokens.now) }
 {
-    let (mut left, mut rest) = negated(alloc, groups, tokens)?;
+    let (mut left, mut rest) = negation(alloc, groups, tokens)?;
     while let Some(after) = after_mark(Mark::AndAnd, rest) {
-        match negated(alloc, None, after) {
+        match negation(alloc, None, after) {
             Ok((right, after)) => {
                 left = boxed(alloc, Test::And(left, right))?;
                 rest = after;
@@ -349,18 +320,18 @@ fn both<'t>(
 }
 
 #[cycle(condition)]
-fn negated<'t>(
+fn negation<'t>(
     alloc: Global,
     groups: Option<usize>,
-    tokens: &'t [ParserToken<'t>],
-) -> Result<(Box<Test>, &'t [ParserToken<'t>]), ParseError>
+    tokens: Tokens<'t>,
+) -> ParseResult<'t, Box<Test>>
     requires known { AreKnownGroups groups (map lexeme tokens.now) }
-    ensures tree { FindsTree IsNegated (ends 1) (λ x. (test_tree x.0.value, map lexeme x.1.now)) result (map lexeme tokens.now) }
+    ensures tree { FindsTree IsNegation (ends 1) (λ x. (test_tree x.0.value, map lexeme x.1.now)) result (map lexeme tokens.now) }
     ensures shorter { IfOk result (λ x. length x.1.now ≤ length tokens.now) }
 {
     match after_mark(Mark::Bang, tokens) {
         Some(after) => {
-            let (operand, rest) = negated(alloc, None, after)?;
+            let (operand, rest) = negation(alloc, None, after)?;
             Ok((boxed(alloc, Test::Not(operand))?, rest))
         }
         None => simple_test(alloc, groups, tokens),
@@ -371,13 +342,13 @@ fn negated<'t>(
 fn simple_test<'t>(
     alloc: Global,
     groups: Option<usize>,
-    tokens: &'t [ParserToken<'t>],
-) -> Result<(Box<Test>, &'t [ParserToken<'t>]), ParseError>
+    tokens: Tokens<'t>,
+) -> ParseResult<'t, Box<Test>>
     requires known { AreKnownGroups groups (map lexeme tokens.now) }
     ensures tree { FindsTree IsSimpleTest (ends 1) (λ x. (test_tree x.0.value, map lexeme x.1.now)) result (map lexeme tokens.now) }
     ensures shorter { IfOk result (λ x. length x.1.now ≤ length tokens.now) }
 {
-    if let Some((keyword, rest)) = question_at(tokens) {
+    if let Some((keyword, rest)) = test_keyword_at(tokens) {
         return test_call(alloc, keyword, rest);
     }
     if let Some((further, rest)) = group_at(groups, tokens) {
@@ -393,8 +364,8 @@ pub(crate) fn test_before<'t>(
     alloc: Global,
     mark: Mark,
     groups: Option<usize>,
-    tokens: &'t [ParserToken<'t>],
-) -> Result<(Box<Test>, &'t [ParserToken<'t>]), ParseError>
+    tokens: Tokens<'t>,
+) -> ParseResult<'t, Box<Test>>
     requires ends { test_ends 1 (Lexeme.mark mark ∷ []) }
     requires known { AreKnownGroups groups (map lexeme tokens.now) }
     ensures tree { FindsTree (IsBefore mark IsTest) Always (λ x. (test_tree x.0.value, map lexeme x.1.now)) result (map lexeme tokens.now) }

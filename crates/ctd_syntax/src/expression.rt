@@ -5,11 +5,11 @@ ghost use Rattle.std.specs.Prelude.{◌≡◌, ◌≤◌, ◌<◌, true, length,
 ghost use Rattle.ctd_program.specs.Tree;
 ghost use Rattle.ctd_program.specs.View.{expr_tree, expr_list, exprs_of, var_tree};
 ghost use Rattle.ctd_syntax.specs.Grammar.{IsExpr, IsProduct, IsSigned, IsPower, IsExponent, IsAtom, IsExprs, IsTarget};
-ghost use Rattle.ctd_syntax.specs.Front.{FindsTree, Found, Always, IsBefore, StartsWith, lexeme};
+ghost use Rattle.ctd_syntax.specs.Front.{FindsTree, HasTree, Always, IsBefore, StartsWith, lexeme};
 ghost use Rattle.ctd_syntax.specs.Levels.{binding, ends, sum_operator, product_operator, join};
 ghost use Rattle.ctd_syntax.specs.Lexeme;
 
-use crate::front::{ParseError, after_mark, name_at};
+use crate::front::{ParseError, ParseResult, Tokens, after_mark, name_at};
 use crate::keyword::Keyword;
 use crate::parser_token::{ParserToken, string_of};
 use ctd_program::{Element, Expr, Exprs, Numeral, Var};
@@ -41,7 +41,7 @@ fn join(alloc: Global, operator: Operator, left: Expr, right: Expr) -> Result<Ex
 }
 
 // The operator of a sum at the front, and what follows it.
-fn sum_operator<'t>(tokens: &'t [ParserToken<'t>]) -> Option<(Operator, &'t [ParserToken<'t>])>
+fn sum_operator<'t>(tokens: Tokens<'t>) -> Option<(Operator, Tokens<'t>)>
     ensures operator { StartsWith sum_operator (λ rest. map lexeme rest.now) result (map lexeme tokens.now) }
     ensures shorter { IfSome result (λ x. length x.1.now < length tokens.now) }
 {
@@ -56,7 +56,7 @@ fn sum_operator<'t>(tokens: &'t [ParserToken<'t>]) -> Option<(Operator, &'t [Par
 }
 
 // The operator of a product at the front, and what follows it.
-fn product_operator<'t>(tokens: &'t [ParserToken<'t>]) -> Option<(Operator, &'t [ParserToken<'t>])>
+fn product_operator<'t>(tokens: Tokens<'t>) -> Option<(Operator, Tokens<'t>)>
     ensures operator { StartsWith product_operator (λ rest. map lexeme rest.now) result (map lexeme tokens.now) }
     ensures shorter { IfSome result (λ x. length x.1.now < length tokens.now) }
 {
@@ -85,11 +85,11 @@ fn ends_product(tokens: &[ParserToken<'_>]) -> bool
 
 // The product at the front and what follows it, where it is one token, a numeral or a name. Most expressions are: no level below is asked.
 #[inline(always)]
-fn single<'t>(
+fn single_token<'t>(
     alloc: Global,
-    tokens: &'t [ParserToken<'t>],
-) -> Result<Option<(Expr, &'t [ParserToken<'t>])>, AllocError>
-    ensures tree { IfOk result (λ found. IfSome found (λ x. Found IsProduct (ends 2) (map lexeme tokens.now) (expr_tree x.0) (map lexeme x.1.now))) }
+    tokens: Tokens<'t>,
+) -> Result<Option<(Expr, Tokens<'t>)>, AllocError>
+    ensures tree { IfOk result (λ found. IfSome found (λ x. HasTree IsProduct (ends 2) (map lexeme tokens.now) (expr_tree x.0) (map lexeme x.1.now))) }
     ensures shorter { IfOk result (λ found. IfSome found (λ x. length x.1.now ≤ length tokens.now)) }
 {
     let Some((first, rest)) = tokens.split_first() else {
@@ -113,10 +113,7 @@ fn single<'t>(
 
 /// The expression at the front, and what follows it.
 #[cycle(expression)]
-pub(crate) fn expr<'t>(
-    alloc: Global,
-    tokens: &'t [ParserToken<'t>],
-) -> Result<(Expr, &'t [ParserToken<'t>]), ParseError>
+pub(crate) fn expr<'t>(alloc: Global, tokens: Tokens<'t>) -> ParseResult<'t, Expr>
     ensures tree { FindsTree IsExpr (ends 1) (λ x. (expr_tree x.0, map lexeme x.1.now)) result (map lexeme tokens.now) }
     ensures shorter { IfOk result (λ x. length x.1.now ≤ length tokens.now) }
 {
@@ -137,14 +134,11 @@ pub(crate) fn expr<'t>(
 }
 
 #[cycle(expression)]
-fn product<'t>(
-    alloc: Global,
-    tokens: &'t [ParserToken<'t>],
-) -> Result<(Expr, &'t [ParserToken<'t>]), ParseError>
+fn product<'t>(alloc: Global, tokens: Tokens<'t>) -> ParseResult<'t, Expr>
     ensures tree { FindsTree IsProduct (ends 2) (λ x. (expr_tree x.0, map lexeme x.1.now)) result (map lexeme tokens.now) }
     ensures shorter { IfOk result (λ x. length x.1.now ≤ length tokens.now) }
 {
-    if let Some(read) = single(alloc, tokens)? {
+    if let Some(read) = single_token(alloc, tokens)? {
         return Ok(read);
     }
     let (mut left, mut rest) = signed(alloc, tokens)?;
@@ -164,10 +158,7 @@ fn product<'t>(
 }
 
 #[cycle(expression)]
-fn signed<'t>(
-    alloc: Global,
-    tokens: &'t [ParserToken<'t>],
-) -> Result<(Expr, &'t [ParserToken<'t>]), ParseError>
+fn signed<'t>(alloc: Global, tokens: Tokens<'t>) -> ParseResult<'t, Expr>
     ensures tree { FindsTree IsSigned (ends 3) (λ x. (expr_tree x.0, map lexeme x.1.now)) result (map lexeme tokens.now) }
     ensures shorter { IfOk result (λ x. length x.1.now ≤ length tokens.now) }
 {
@@ -181,10 +172,7 @@ fn signed<'t>(
 }
 
 #[cycle(expression)]
-fn power<'t>(
-    alloc: Global,
-    tokens: &'t [ParserToken<'t>],
-) -> Result<(Expr, &'t [ParserToken<'t>]), ParseError>
+fn power<'t>(alloc: Global, tokens: Tokens<'t>) -> ParseResult<'t, Expr>
     ensures tree { FindsTree IsPower (ends 3) (λ x. (expr_tree x.0, map lexeme x.1.now)) result (map lexeme tokens.now) }
     ensures shorter { IfOk result (λ x. length x.1.now ≤ length tokens.now) }
 {
@@ -201,10 +189,7 @@ fn power<'t>(
 }
 
 #[cycle(expression)]
-fn exponent<'t>(
-    alloc: Global,
-    tokens: &'t [ParserToken<'t>],
-) -> Result<(Expr, &'t [ParserToken<'t>]), ParseError>
+fn exponent<'t>(alloc: Global, tokens: Tokens<'t>) -> ParseResult<'t, Expr>
     ensures tree { FindsTree IsExponent (ends 3) (λ x. (expr_tree x.0, map lexeme x.1.now)) result (map lexeme tokens.now) }
     ensures shorter { IfOk result (λ x. length x.1.now ≤ length tokens.now) }
 {
@@ -219,10 +204,7 @@ fn exponent<'t>(
 
 // An expression and the parenthesis behind it.
 #[cycle(expression)]
-fn parenthesized<'t>(
-    alloc: Global,
-    tokens: &'t [ParserToken<'t>],
-) -> Result<(Expr, &'t [ParserToken<'t>]), ParseError>
+fn parenthesized<'t>(alloc: Global, tokens: Tokens<'t>) -> ParseResult<'t, Expr>
     ensures tree { FindsTree (IsBefore Mark.Close IsExpr) Always (λ x. (expr_tree x.0, map lexeme x.1.now)) result (map lexeme tokens.now) }
     ensures shorter { IfOk result (λ x. length x.1.now ≤ length tokens.now) }
 {
@@ -237,10 +219,7 @@ fn parenthesized<'t>(
 }
 
 #[cycle(expression)]
-fn atom<'t>(
-    alloc: Global,
-    tokens: &'t [ParserToken<'t>],
-) -> Result<(Expr, &'t [ParserToken<'t>]), ParseError>
+fn atom<'t>(alloc: Global, tokens: Tokens<'t>) -> ParseResult<'t, Expr>
     ensures tree { FindsTree IsAtom (ends 4) (λ x. (expr_tree x.0, map lexeme x.1.now)) result (map lexeme tokens.now) }
     ensures shorter { IfOk result (λ x. length x.1.now ≤ length tokens.now) }
 {
@@ -295,10 +274,7 @@ fn value_of(alloc: Global, var: Var) -> Result<Expr, AllocError>
 
 /// The variable at the front, and what follows it.
 #[cycle(expression)]
-pub(crate) fn variable<'t>(
-    alloc: Global,
-    tokens: &'t [ParserToken<'t>],
-) -> Result<(Var, &'t [ParserToken<'t>]), ParseError>
+pub(crate) fn variable<'t>(alloc: Global, tokens: Tokens<'t>) -> ParseResult<'t, Var>
     ensures tree { FindsTree IsTarget (ends 4) (λ x. (var_tree x.0, map lexeme x.1.now)) result (map lexeme tokens.now) }
     ensures shorter { IfOk result (λ x. length x.1.now ≤ length tokens.now) }
 {
@@ -322,8 +298,8 @@ pub(crate) fn variable<'t>(
 pub(crate) fn expr_before<'t>(
     alloc: Global,
     mark: Mark,
-    tokens: &'t [ParserToken<'t>],
-) -> Result<(Expr, &'t [ParserToken<'t>]), ParseError>
+    tokens: Tokens<'t>,
+) -> ParseResult<'t, Expr>
     requires ends { binding (Lexeme.mark mark) ≡ 0 }
     ensures tree { FindsTree (IsBefore mark IsExpr) Always (λ x. (expr_tree x.0, map lexeme x.1.now)) result (map lexeme tokens.now) }
     ensures shorter { IfOk result (λ x. length x.1.now ≤ length tokens.now) }
@@ -340,10 +316,7 @@ pub(crate) fn expr_before<'t>(
 
 // Expressions with commas between them, and the bracket behind them.
 #[cycle(expression)]
-fn indices<'t>(
-    alloc: Global,
-    tokens: &'t [ParserToken<'t>],
-) -> Result<(Exprs, &'t [ParserToken<'t>]), ParseError>
+fn indices<'t>(alloc: Global, tokens: Tokens<'t>) -> ParseResult<'t, Exprs>
     ensures tree { FindsTree (IsBefore Mark.CloseIndex IsExprs) Always (λ x. (expr_list (exprs_of x.0), map lexeme x.1.now)) result (map lexeme tokens.now) }
     ensures shorter { IfOk result (λ x. length x.1.now ≤ length tokens.now) }
 {

@@ -41,11 +41,14 @@ impl<T: Drop> From<AllocFailed<T>> for ParseError {
     }
 }
 
+/// Tokens that are not read yet.
+pub(crate) type Tokens<'t> = &'t [ParserToken<'t>];
+
+/// What was read at the front of some tokens, and those that follow it; or why nothing was read.
+pub(crate) type ParseResult<'t, T> = Result<(T, Tokens<'t>), ParseError>;
+
 /// What follows a mark at the front.
-pub(crate) fn after_mark<'t>(
-    mark: Mark,
-    tokens: &'t [ParserToken<'t>],
-) -> Option<&'t [ParserToken<'t>]>
+pub(crate) fn after_mark<'t>(mark: Mark, tokens: Tokens<'t>) -> Option<Tokens<'t>>
     ensures found { IfSome result (λ rest. map lexeme tokens.now ≡ Lexeme.mark mark ∷ map lexeme rest.now) }
     ensures shorter { IfSome result (λ rest. length rest.now < length tokens.now) }
     ensures none { IfNone result ((ts : List Lexeme) → map lexeme tokens.now ≡ Lexeme.mark mark ∷ ts → ⊥) }
@@ -60,9 +63,7 @@ pub(crate) fn after_mark<'t>(
 }
 
 /// What follows an opening parenthesis at the front, or Syntax where another token or none is there.
-pub(crate) fn after_open<'t>(
-    tokens: &'t [ParserToken<'t>],
-) -> Result<&'t [ParserToken<'t>], ParseError>
+pub(crate) fn after_open<'t>(tokens: Tokens<'t>) -> Result<Tokens<'t>, ParseError>
     ensures found { IfOk result (λ rest. map lexeme tokens.now ≡ Lexeme.mark Mark.Open ∷ map lexeme rest.now) }
     ensures shorter { IfOk result (λ rest. length rest.now < length tokens.now) }
     ensures none { IfErr result (λ _. (ts : List Lexeme) → map lexeme tokens.now ≡ Lexeme.mark Mark.Open ∷ ts → ⊥) }
@@ -74,9 +75,7 @@ pub(crate) fn after_open<'t>(
 }
 
 /// The name at the front with its number, and what follows it.
-pub(crate) fn name_at<'t>(
-    tokens: &'t [ParserToken<'t>],
-) -> Option<(&'t [u8], u32, &'t [ParserToken<'t>])>
+pub(crate) fn name_at<'t>(tokens: Tokens<'t>) -> Option<(&'t [u8], u32, Tokens<'t>)>
     ensures found { IfSome result (λ x. map lexeme tokens.now ≡ Lexeme.name x.0.now ∷ map lexeme x.2.now) }
     ensures shorter { IfSome result (λ x. length x.2.now < length tokens.now) }
     ensures none { IfNone result ((bytes : List ℕ) (ts : List Lexeme) → map lexeme tokens.now ≡ Lexeme.name bytes ∷ ts → ⊥) }
@@ -91,9 +90,7 @@ pub(crate) fn name_at<'t>(
 }
 
 /// The word at the front with its place, and what follows it.
-pub(crate) fn word_at<'t>(
-    tokens: &'t [ParserToken<'t>],
-) -> Option<(Keyword, Place, &'t [ParserToken<'t>])>
+pub(crate) fn word_at<'t>(tokens: Tokens<'t>) -> Option<(Keyword, Place, Tokens<'t>)>
     ensures found { IfSome result (λ x. map lexeme tokens.now ≡ Lexeme.keyword x.0 x.1 ∷ map lexeme x.2.now) }
     ensures shorter { IfSome result (λ x. length x.2.now < length tokens.now) }
     ensures none { IfNone result ((word : Keyword) (at : Place) (ts : List Lexeme) → map lexeme tokens.now ≡ Lexeme.keyword word at ∷ ts → ⊥) }
@@ -108,10 +105,7 @@ pub(crate) fn word_at<'t>(
 }
 
 /// What follows this word at the front.
-pub(crate) fn after_word<'t>(
-    word: Keyword,
-    tokens: &'t [ParserToken<'t>],
-) -> Option<&'t [ParserToken<'t>]>
+pub(crate) fn after_word<'t>(word: Keyword, tokens: Tokens<'t>) -> Option<Tokens<'t>>
     ensures found { IfSome result (λ rest. (at : Place) × (map lexeme tokens.now ≡ Lexeme.keyword word at ∷ map lexeme rest.now)) }
     ensures shorter { IfSome result (λ rest. length rest.now < length tokens.now) }
     ensures none { IfNone result ((at : Place) (ts : List Lexeme) → map lexeme tokens.now ≡ Lexeme.keyword word at ∷ ts → ⊥) }
@@ -121,9 +115,7 @@ pub(crate) fn after_word<'t>(
 }
 
 /// The string literal at the front with its place, and what follows it.
-pub(crate) fn text_at<'t>(
-    tokens: &'t [ParserToken<'t>],
-) -> Option<(&'t [u8], Place, &'t [ParserToken<'t>])>
+pub(crate) fn text_at<'t>(tokens: Tokens<'t>) -> Option<(&'t [u8], Place, Tokens<'t>)>
     ensures found { IfSome result (λ x. map lexeme tokens.now ≡ Lexeme.text (string_of x.0.now) x.1 ∷ map lexeme x.2.now) }
     ensures shorter { IfSome result (λ x. length x.2.now < length tokens.now) }
     ensures none { IfNone result ((bytes : List ℕ) (at : Place) (ts : List Lexeme) → map lexeme tokens.now ≡ Lexeme.text bytes at ∷ ts → ⊥) }

@@ -6,11 +6,11 @@ ghost use Rattle.ctd_syntax.specs.Numbering.{IsNumbered};
 ghost use Rattle.ctd_syntax.specs.Reading.{IsFault, Parses};
 ghost use Rattle.ctd_program.specs.View.{command_trees};
 
+use crate::batches::program_in_batches;
 use crate::command::commands;
 use crate::front::ParseError;
 use crate::nesting::first_too_deep;
 use crate::parser_token::{ParserToken, parser_tokens};
-use crate::stretches::program_in_stretches;
 use ctd_program::Program;
 use ctd_token::{LoadFault, LoadKind, PROGRAM_LIMIT, Place, Token, advance, tokens};
 use std::alloc::Global;
@@ -95,7 +95,7 @@ pub fn parse(alloc: Global, text: &[u8]) -> Result<Program, LoadFault>
     ensures too_long { PROGRAM_LIMIT < length text.now →
         IsErrAnd result (λ f. f ≡ record { kind = LoadKind.ProgramTooLong; place = None }) }
 {
-    if let Some(program) = program_in_stretches(alloc, text)? {
+    if let Some(program) = program_in_batches(alloc, text)? {
         return Ok(program);
     }
     // Only all tokens tell the fault, and its place.

@@ -2,6 +2,7 @@
 //! `ctd_program`.
 #![tactic(auto)]
 
+mod batches;
 mod command;
 mod condition;
 mod expression;
@@ -12,7 +13,6 @@ mod loop_head;
 mod names;
 mod nesting;
 mod parser_token;
-mod stretches;
 mod target;
 
 pub use ctd_program::{

@@ -4,13 +4,12 @@
 ghost use Rattle.std.specs.Prelude.{◌≤◌, ◌<◌, length, map, IfOk};
 ghost use Rattle.ctd_program.specs.View.{boxed_target, guard_tree};
 ghost use Rattle.ctd_syntax.specs.Front.{FindsTree, Always, lexeme};
-ghost use Rattle.ctd_syntax.specs.Tests.{test_ends};
+ghost use Rattle.ctd_syntax.specs.TestGrammar.{test_ends};
 ghost use Rattle.ctd_syntax.specs.CommandWords.{IsCounter, IsGuard, IsLoopHead};
 
 use crate::condition::test;
 use crate::expression::expr;
-use crate::front::{ParseError, after_open};
-use crate::parser_token::ParserToken;
+use crate::front::{ParseResult, Tokens, after_open};
 use crate::target::target_before;
 use ctd_program::{LoopGuard, Var};
 use ctd_token::Mark;
@@ -32,8 +31,8 @@ pub(crate) type LoopHead = (Option<Box<Var>>, LoopGuard);
 fn counter<'t>(
     alloc: Global,
     word: LoopWord,
-    tokens: &'t [ParserToken<'t>],
-) -> Result<(Option<Box<Var>>, &'t [ParserToken<'t>]), ParseError>
+    tokens: Tokens<'t>,
+) -> ParseResult<'t, Option<Box<Var>>>
     ensures tree { FindsTree (IsCounter word) Always (λ x. (boxed_target x.0, map lexeme x.1.now)) result (map lexeme tokens.now) }
     ensures shorter { IfOk result (λ x. length x.1.now ≤ length tokens.now) }
 {
@@ -48,11 +47,7 @@ fn counter<'t>(
 }
 
 // How long a loop goes on.
-fn guard<'t>(
-    alloc: Global,
-    word: LoopWord,
-    tokens: &'t [ParserToken<'t>],
-) -> Result<(LoopGuard, &'t [ParserToken<'t>]), ParseError>
+fn guard<'t>(alloc: Global, word: LoopWord, tokens: Tokens<'t>) -> ParseResult<'t, LoopGuard>
     ensures tree { FindsTree (IsGuard word) (test_ends 1) (λ x. (guard_tree x.0, map lexeme x.1.now)) result (map lexeme tokens.now) }
     ensures shorter { IfOk result (λ x. length x.1.now ≤ length tokens.now) }
 {
@@ -73,8 +68,8 @@ fn guard<'t>(
 pub(crate) fn loop_head<'t>(
     alloc: Global,
     word: LoopWord,
-    tokens: &'t [ParserToken<'t>],
-) -> Result<(LoopHead, &'t [ParserToken<'t>]), ParseError>
+    tokens: Tokens<'t>,
+) -> ParseResult<'t, LoopHead>
     ensures tree { FindsTree (IsLoopHead word) (test_ends 1) (λ x. ((boxed_target x.0.0, guard_tree x.0.1), map lexeme x.1.now)) result (map lexeme tokens.now) }
     ensures shorter { IfOk result (λ x. length x.1.now < length tokens.now) }
 {

@@ -5,18 +5,14 @@ ghost use Rattle.ctd_program.specs.View.{names_of};
 ghost use Rattle.ctd_syntax.specs.Grammar.{IsNames};
 ghost use Rattle.ctd_syntax.specs.Front.{FindsTree, Always, IsBefore, lexeme};
 
-use crate::front::{ParseError, after_mark, name_at};
-use crate::parser_token::ParserToken;
+use crate::front::{ParseError, ParseResult, Tokens, after_mark, name_at};
 use ctd_program::Names;
 use ctd_token::{Mark, Name};
 use std::alloc::Global;
 
 /// The names at the front, with commas between them, and the parenthesis behind them, and what
 /// follows it.
-pub(crate) fn names<'t>(
-    alloc: Global,
-    tokens: &'t [ParserToken<'t>],
-) -> Result<(Names, &'t [ParserToken<'t>]), ParseError>
+pub(crate) fn names<'t>(alloc: Global, tokens: Tokens<'t>) -> ParseResult<'t, Names>
     ensures tree { FindsTree (IsBefore Mark.Close IsNames) Always (λ x. (names_of x.0, map lexeme x.1.now)) result (map lexeme tokens.now) }
     ensures shorter { IfOk result (λ x. length x.1.now ≤ length tokens.now) }
 {

@@ -12,7 +12,7 @@ use std::marker::Model;
 
 // What a token does to the counters.
 #[derive(Clone, Copy)]
-enum Change {
+enum CounterChange {
     // A new innermost counter, 0.
     Opens,
     // The innermost counter goes, unless it is the only one.
@@ -26,23 +26,23 @@ enum Change {
 }
 
 #[inline(always)]
-fn change_of(token: &ParserToken<'_>) -> Change
+fn change_of(token: &ParserToken<'_>) -> CounterChange
     ensures { result ≡ change_of (lexeme token.now) }
 {
     match token {
         ParserToken::Mark(mark) => match mark {
-            Mark::Open | Mark::OpenIndex => Change::Opens,
-            Mark::Close | Mark::CloseIndex => Change::Closes,
-            Mark::Comma => Change::Restarts,
-            Mark::Assign => Change::Keeps,
-            _ => Change::Grows,
+            Mark::Open | Mark::OpenIndex => CounterChange::Opens,
+            Mark::Close | Mark::CloseIndex => CounterChange::Closes,
+            Mark::Comma => CounterChange::Restarts,
+            Mark::Assign => CounterChange::Keeps,
+            _ => CounterChange::Grows,
         },
         ParserToken::Keyword(keyword, _) => match keyword {
             Keyword::Rep | Keyword::RepI | Keyword::While | Keyword::WhileI | Keyword::If => {
-                Change::Opens
+                CounterChange::Opens
             }
-            Keyword::Else => Change::Restarts,
-            Keyword::End => Change::Closes,
+            Keyword::Else => CounterChange::Restarts,
+            Keyword::End => CounterChange::Closes,
             Keyword::Space
             | Keyword::Newline
             | Keyword::Eof
@@ -57,9 +57,9 @@ fn change_of(token: &ParserToken<'_>) -> Change
             | Keyword::IsEof
             | Keyword::Unique
             | Keyword::InArray
-            | Keyword::Unknown => Change::Keeps,
+            | Keyword::Unknown => CounterChange::Keeps,
         },
-        _ => Change::Keeps,
+        _ => CounterChange::Keeps,
     }
 }
 
@@ -114,26 +114,26 @@ impl Nesting {
         ensures light { IfOk result (λ light. IsTrue light ↔ weight self.new ≤ NESTING_LIMIT) }
     {
         match change_of(token) {
-            Change::Opens => {
+            CounterChange::Opens => {
                 self.outer.push(self.inner)?;
                 self.inner = 0;
                 self.total += 1;
             }
-            Change::Closes => {
+            CounterChange::Closes => {
                 if let Some(c) = self.outer.pop() {
                     self.total -= self.inner + 1;
                     self.inner = c;
                 }
             }
-            Change::Restarts => {
+            CounterChange::Restarts => {
                 self.total -= self.inner;
                 self.inner = 0;
             }
-            Change::Grows => {
+            CounterChange::Grows => {
                 self.inner += 1;
                 self.total += 1;
             }
-            Change::Keeps => {}
+            CounterChange::Keeps => {}
         }
         Ok(self.total <= NESTING_LIMIT)
     }

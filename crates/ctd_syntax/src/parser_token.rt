@@ -126,7 +126,7 @@ pub(crate) struct ParserTokens<'t> {
 impl<'t> Model for ParserTokens<'t> {
     ghost use Rattle.std.specs.Prelude.{◌≡◌, ◌≤◌, length};
     ghost use Rattle.ctd_token.specs.declared.limits.TheConstants.{PROGRAM_LIMIT};
-    ghost use Rattle.ctd_syntax.specs.Stretches.{Unread};
+    ghost use Rattle.ctd_syntax.specs.Batches.{Unread};
 
     ghost Value = { Unread };
 
@@ -138,7 +138,7 @@ impl<'t> Model for ParserTokens<'t> {
 impl<'t> ParserTokens<'t> {
     ghost use Rattle.std.specs.Prelude.{IfSome, IfNone, OnOk};
     ghost use Rattle.ctd_token.specs.Lexing.{IsEnd, IsNextFault};
-    ghost use Rattle.ctd_syntax.specs.Stretches.{IsNextSeen};
+    ghost use Rattle.ctd_syntax.specs.Batches.{IsNextSeen};
 
     /// Begins at the start of a text, or answers as `Lexer::new`.
     pub(crate) fn new(alloc: Global, text: &'t [u8]) -> Result<ParserTokens<'t>, LoadFault>

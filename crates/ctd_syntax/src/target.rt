@@ -9,8 +9,7 @@ ghost use Rattle.ctd_syntax.specs.Front.{FindsTree, Always, IsAssignment, IsBefo
 ghost use Rattle.ctd_syntax.specs.Levels.{binding, ends};
 
 use crate::expression::{expr, variable};
-use crate::front::{ParseError, after_mark};
-use crate::parser_token::ParserToken;
+use crate::front::{ParseError, ParseResult, Tokens, after_mark};
 use ctd_program::{Assignment, Assignments, Var};
 use ctd_token::Mark;
 use std::alloc::Global;
@@ -19,8 +18,8 @@ use std::alloc::Global;
 pub(crate) fn target_before<'t>(
     alloc: Global,
     mark: Mark,
-    tokens: &'t [ParserToken<'t>],
-) -> Result<(Var, &'t [ParserToken<'t>]), ParseError>
+    tokens: Tokens<'t>,
+) -> ParseResult<'t, Var>
     requires ends { binding (Lexeme.mark mark) ≡ 0 }
     ensures tree { FindsTree (IsBefore mark IsTarget) Always (λ x. (var_tree x.0, map lexeme x.1.now)) result (map lexeme tokens.now) }
     ensures shorter { IfOk result (λ x. length x.1.now ≤ length tokens.now) }
@@ -36,10 +35,7 @@ pub(crate) fn target_before<'t>(
 }
 
 /// A comma and a variable or nothing, and the parenthesis behind it, and what follows it.
-pub(crate) fn target_end<'t>(
-    alloc: Global,
-    tokens: &'t [ParserToken<'t>],
-) -> Result<(Option<Var>, &'t [ParserToken<'t>]), ParseError>
+pub(crate) fn target_end<'t>(alloc: Global, tokens: Tokens<'t>) -> ParseResult<'t, Option<Var>>
     ensures tree { FindsTree IsTargetEnd Always (λ x. (target x.0, map lexeme x.1.now)) result (map lexeme tokens.now) }
     ensures shorter { IfOk result (λ x. length x.1.now ≤ length tokens.now) }
 {
@@ -54,10 +50,7 @@ pub(crate) fn target_end<'t>(
 }
 
 // A variable, `=` and its value.
-fn one_assignment<'t>(
-    alloc: Global,
-    tokens: &'t [ParserToken<'t>],
-) -> Result<(Assignment, &'t [ParserToken<'t>]), ParseError>
+fn one_assignment<'t>(alloc: Global, tokens: Tokens<'t>) -> ParseResult<'t, Assignment>
     ensures tree { FindsTree IsAssignment (ends 1) (λ x. (assignment x.0, map lexeme x.1.now)) result (map lexeme tokens.now) }
     ensures shorter { IfOk result (λ x. length x.1.now ≤ length tokens.now) }
 {
@@ -73,10 +66,7 @@ fn one_assignment<'t>(
 
 /// The assignments at the front, with commas between them, and the parenthesis behind them, and
 /// what follows it.
-pub(crate) fn assignments<'t>(
-    alloc: Global,
-    tokens: &'t [ParserToken<'t>],
-) -> Result<(Assignments, &'t [ParserToken<'t>]), ParseError>
+pub(crate) fn assignments<'t>(alloc: Global, tokens: Tokens<'t>) -> ParseResult<'t, Assignments>
     ensures tree { FindsTree (IsBefore Mark.Close IsAssignments) Always (λ x. (map assignment (assignments_of x.0), map lexeme x.1.now)) result (map lexeme tokens.now) }
     ensures shorter { IfOk result (λ x. length x.1.now ≤ length tokens.now) }
 {

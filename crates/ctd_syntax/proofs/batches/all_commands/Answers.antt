@@ -7,7 +7,7 @@ use Rattle.ctd_syntax.specs.CommandWords.{command_begins}
 use Rattle.ctd_syntax.proofs.Boundaries.{found_begins}
 use Rattle.ctd_syntax.proofs.CommandReads.{commands_start, commands_next, commands_end}
 use Rattle.ctd_syntax.proofs.Parsing.{nothing, spelled_only}
-use Rattle.ctd_syntax.proofs.stretches.all_commands.Goals as goal
+use Rattle.ctd_syntax.proofs.batches.all_commands.Goals as goal
 
 pub loop-rest-init : goal.loop-rest-init
 loop-rest-init c = ([], sym (append-nil c.args.commands.now.items), rw c.split_at.ensures.back (commands_start (map lexeme c.args.tokens.now)))

@@ -4,7 +4,7 @@ use Rattle.ctd_program.specs.View.{command_trees}
 use Rattle.ctd_program.specs.declared.tree.Command.{Command}
 use Rattle.ctd_syntax.specs.Front.{lexeme}
 use Rattle.ctd_syntax.proofs.CommandReads.{PartCommands}
-use Rattle.ctd_syntax.proofs.stretches.all_commands.Given as goal
+use Rattle.ctd_syntax.proofs.batches.all_commands.Given as goal
 
 abbrev pub invariant-loop-rest : goal.invariant-loop-rest
 invariant-loop-rest l = (cs : List Command) × (l.commands.items ≡ l.initial.commands.items ++ cs) × PartCommands (map lexeme l.tokens) (command_trees cs) (map lexeme l.rest)

@@ -3,7 +3,7 @@ use Rattle.std.specs.Prelude.{map}
 use Rattle.ctd_program.specs.Tree
 use Rattle.ctd_syntax.specs.Front.{Always, IsBefore, IsPair, lexeme}
 use Rattle.ctd_syntax.specs.Grammar.{IsTest, IsCommand, IsCommands}
-use Rattle.ctd_syntax.specs.Tests.{test_ends}
+use Rattle.ctd_syntax.specs.TestGrammar.{test_ends}
 use Rattle.ctd_syntax.specs.CommandWords.{IsCommandRest, CommandsEnd, IsBlock, IsBranchEnd, IsLoopHead, IsLoopEnd, IsLoopRest}
 use Rattle.ctd_token.specs.declared.token.Mark.TheVariants.{Close}
 use Rattle.ctd_syntax.specs.declared.keyword.Keyword.TheVariants as words

@@ -1,9 +1,9 @@
 use Rattle.std.proofs.Common.{arith}
 use Rattle.std.specs.Prelude.{map}
 use Rattle.ctd_syntax.specs.Front.{Always, IsBefore, lexeme}
-use Rattle.ctd_syntax.specs.Grammar.{IsTest, IsBoth, IsNegated, IsSimpleTest}
+use Rattle.ctd_syntax.specs.Grammar.{IsTest, IsBoth, IsNegation, IsSimpleTest}
 use Rattle.ctd_syntax.specs.Levels.{ends}
-use Rattle.ctd_syntax.specs.Tests.{test_ends, IsTestCall, IsCompared}
+use Rattle.ctd_syntax.specs.TestGrammar.{test_ends, IsTestCall, IsComparison}
 use Rattle.ctd_token.specs.declared.token.Mark.TheVariants.{Close}
 use Rattle.ctd_syntax.proofs.Fronts.{reads_as, refused_as, refused_exit, before_reads}
 use Rattle.ctd_syntax.proofs.Chains.{start, no_start, finish, next, no_next}
@@ -27,13 +27,13 @@ pub test-returns-clause-tree : goal.test-returns-clause-tree
 test-returns-clause-tree t c = finish ors (map lexeme c.args.tokens.now) _ (map lexeme c.loop-after.rest.now) c.loop-after.invariant.partly (no_or (map lexeme c.loop-after.rest.now) c.in_default.ensures.none)
 
 pub both-returns-in_err-left-clause-tree : goal.both-returns-in_err-left-clause-tree
-both-returns-in_err-left-clause-tree t c = refused_exit IsNegated IsBoth (ends 1) (test_ends 2) _ (map lexeme c.args.tokens.now) (map lexeme c.args.tokens.now) _ c.from_residual.result c.from_residual.ensures.1 (no_start ands (map lexeme c.args.tokens.now)) c.in_err-left.ensures.tree
+both-returns-in_err-left-clause-tree t c = refused_exit IsNegation IsBoth (ends 1) (test_ends 2) _ (map lexeme c.args.tokens.now) (map lexeme c.args.tokens.now) _ c.from_residual.result c.from_residual.ensures.1 (no_start ands (map lexeme c.args.tokens.now)) c.in_err-left.ensures.tree
 
 pub both-loop-after-init : goal.both-loop-after-init
 both-loop-after-init t c = record { partly = start ands (map lexeme c.args.tokens.now) _ (map lexeme c.in_ok-left.rest.now) c.in_ok-left.ensures.tree; shorter = c.in_ok-left.ensures.shorter }
 
 pub both-returns-in-Err-clause-tree : goal.both-returns-in-Err-clause-tree
-both-returns-in-Err-clause-tree t c = refused_as IsNegated IsBoth (ends 1) (test_ends 2) (map lexeme c.in-Some.after.now) (map lexeme c.args.tokens.now) c.in-Err.fault (no_next ands (map lexeme c.args.tokens.now) _ (map lexeme c.loop-after.rest.now) (map lexeme c.in-Some.after.now) tt c.loop-after.invariant.partly (and_at (map lexeme c.loop-after.rest.now) (map lexeme c.in-Some.after.now) c.in-Some.ensures.found)) c.in-Err.ensures.tree
+both-returns-in-Err-clause-tree t c = refused_as IsNegation IsBoth (ends 1) (test_ends 2) (map lexeme c.in-Some.after.now) (map lexeme c.args.tokens.now) c.in-Err.fault (no_next ands (map lexeme c.args.tokens.now) _ (map lexeme c.loop-after.rest.now) (map lexeme c.in-Some.after.now) tt c.loop-after.invariant.partly (and_at (map lexeme c.loop-after.rest.now) (map lexeme c.in-Some.after.now) c.in-Some.ensures.found)) c.in-Err.ensures.tree
 
 pub both-loop-after-preserved : goal.both-loop-after-preserved
 both-loop-after-preserved t c = record { partly = rw c.in_ok-left-in-Ok.ensures (next ands (map lexeme c.args.tokens.now) _ _ (map lexeme c.loop-after.rest.now) (map lexeme c.in-Some.after.now) (map lexeme c.in-Ok.after.now) tt c.loop-after.invariant.partly (and_at (map lexeme c.loop-after.rest.now) (map lexeme c.in-Some.after.now) c.in-Some.ensures.found) c.in-Ok.ensures.tree); shorter = omega (arith, c.loop-after.invariant.shorter, c.in-Some.ensures.shorter, c.in-Ok.ensures.shorter) }
@@ -41,14 +41,14 @@ both-loop-after-preserved t c = record { partly = rw c.in_ok-left-in-Ok.ensures 
 pub both-returns-clause-tree : goal.both-returns-clause-tree
 both-returns-clause-tree t c = finish ands (map lexeme c.args.tokens.now) _ (map lexeme c.loop-after.rest.now) c.loop-after.invariant.partly (no_and (map lexeme c.loop-after.rest.now) c.in_default.ensures.none)
 
-pub negated-returns-in_err-operand-in-Some-clause-tree : goal.negated-returns-in_err-operand-in-Some-clause-tree
-negated-returns-in_err-operand-in-Some-clause-tree t c = refused_exit IsNegated IsNegated (ends 1) (ends 1) _ (map lexeme c.in-Some.after.now) (map lexeme c.args.tokens.now) _ c.from_residual.result c.from_residual.ensures.1 (bang_none (map lexeme c.args.tokens.now) (map lexeme c.in-Some.after.now) c.in-Some.ensures.found) c.in_err-operand-in-Some.ensures.tree
+pub negation-returns-in_err-operand-in-Some-clause-tree : goal.negation-returns-in_err-operand-in-Some-clause-tree
+negation-returns-in_err-operand-in-Some-clause-tree t c = refused_exit IsNegation IsNegation (ends 1) (ends 1) _ (map lexeme c.in-Some.after.now) (map lexeme c.args.tokens.now) _ c.from_residual.result c.from_residual.ensures.1 (bang_none (map lexeme c.args.tokens.now) (map lexeme c.in-Some.after.now) c.in-Some.ensures.found) c.in_err-operand-in-Some.ensures.tree
 
-pub negated-returns-in_ok-boxed-in-Some-clause-tree : goal.negated-returns-in_ok-boxed-in-Some-clause-tree
-negated-returns-in_ok-boxed-in-Some-clause-tree t c = rw c.in_ok-boxed-in-Some.ensures (bang_reads (map lexeme c.args.tokens.now) (map lexeme c.in-Some.after.now) _ _ c.in-Some.ensures.found c.in_ok-operand-in-Some.ensures.tree)
+pub negation-returns-in_ok-boxed-in-Some-clause-tree : goal.negation-returns-in_ok-boxed-in-Some-clause-tree
+negation-returns-in_ok-boxed-in-Some-clause-tree t c = rw c.in_ok-boxed-in-Some.ensures (bang_reads (map lexeme c.args.tokens.now) (map lexeme c.in-Some.after.now) _ _ c.in-Some.ensures.found c.in_ok-operand-in-Some.ensures.tree)
 
-pub negated-returns-in-None-clause-tree : goal.negated-returns-in-None-clause-tree
-negated-returns-in-None-clause-tree t c = reads_as IsSimpleTest IsNegated (ends 1) (ends 1) _ (map lexeme c.args.tokens.now) (map lexeme c.args.tokens.now) c.simple_test.result (plain_is_negated (map lexeme c.args.tokens.now) c.in-None.ensures.none) (no_plain_negated (map lexeme c.args.tokens.now) c.in-None.ensures.none) c.simple_test.ensures.tree
+pub negation-returns-in-None-clause-tree : goal.negation-returns-in-None-clause-tree
+negation-returns-in-None-clause-tree t c = reads_as IsSimpleTest IsNegation (ends 1) (ends 1) _ (map lexeme c.args.tokens.now) (map lexeme c.args.tokens.now) c.simple_test.result (plain_is_negated (map lexeme c.args.tokens.now) c.in-None.ensures.none) (no_plain_negated (map lexeme c.args.tokens.now) c.in-None.ensures.none) c.simple_test.ensures.tree
 
 pub simple_test-returns-in-Some-clause-tree : goal.simple_test-returns-in-Some-clause-tree
 simple_test-returns-in-Some-clause-tree t c = reads_as (IsTestCall c.in-Some.keyword) IsSimpleTest Always (ends 1) _ (map lexeme c.in-Some.rest.now) (map lexeme c.args.tokens.now) c.test_call.result (asked_reads (map lexeme c.args.tokens.now) (map lexeme c.in-Some.rest.now) c.in-Some.keyword c.in-Some.ensures.operator) (asked_none (map lexeme c.args.tokens.now) (map lexeme c.in-Some.rest.now) c.in-Some.keyword c.in-Some.ensures.operator) c.test_call.ensures.tree
@@ -57,7 +57,7 @@ pub simple_test-returns-in-Some-group_at-clause-tree : goal.simple_test-returns-
 simple_test-returns-in-Some-group_at-clause-tree t c = reads_as (IsBefore Close IsTest) IsSimpleTest Always (ends 1) _ (map lexeme c.in-Some-group_at.rest.now) (map lexeme c.args.tokens.now) c.test_before.result (group_reads (map lexeme c.args.tokens.now) (map lexeme c.in-Some-group_at.rest.now) c.in-Some-group_at.ensures.found c.in-Some-group_at.ensures.holds) (group_none (map lexeme c.args.tokens.now) (map lexeme c.in-Some-group_at.rest.now) c.in-Some-group_at.ensures.found c.in-Some-group_at.ensures.holds) c.test_before.ensures.tree
 
 pub simple_test-returns-clause-tree : goal.simple_test-returns-clause-tree
-simple_test-returns-clause-tree t c = reads_as IsCompared IsSimpleTest (ends 1) (ends 1) _ (map lexeme c.args.tokens.now) (map lexeme c.args.tokens.now) c.comparison.result (compare_reads (map lexeme c.args.tokens.now) c.in_default.ensures.operator c.in_default-group_at.ensures.none) (compare_none (map lexeme c.args.tokens.now) c.in_default.ensures.operator c.in_default-group_at.ensures.none) c.comparison.ensures.tree
+simple_test-returns-clause-tree t c = reads_as IsComparison IsSimpleTest (ends 1) (ends 1) _ (map lexeme c.args.tokens.now) (map lexeme c.args.tokens.now) c.comparison.result (compare_reads (map lexeme c.args.tokens.now) c.in_default.ensures.operator c.in_default-group_at.ensures.none) (compare_none (map lexeme c.args.tokens.now) c.in_default.ensures.operator c.in_default-group_at.ensures.none) c.comparison.ensures.tree
 
 pub test_before-returns-in-Some-clause-tree : goal.test_before-returns-in-Some-clause-tree
 test_before-returns-in-Some-clause-tree t c = before_reads IsTest (test_ends 1) c.args.mark (λ us. c.requires.ends) (map lexeme c.args.tokens.now) (map lexeme c.in_ok-read.rest.now) (map lexeme c.in-Some.rest.now) _ c.in_ok-read.ensures.tree c.in-Some.ensures.found

@@ -1,9 +1,9 @@
 use Rattle.std.proofs.Common.{◌≤◌, length, ◌+◌, ◌*◌}
 use Rattle.std.specs.Prelude.{map}
 use Rattle.ctd_program.specs.View.{test_tree}
-use Rattle.ctd_syntax.specs.Grammar.{IsTest, IsBoth, IsNegated}
+use Rattle.ctd_syntax.specs.Grammar.{IsTest, IsBoth, IsNegation}
 use Rattle.ctd_syntax.specs.Front.{lexeme}
-use Rattle.ctd_syntax.specs.Tests.{test_ends}
+use Rattle.ctd_syntax.specs.TestGrammar.{test_ends}
 use Rattle.ctd_syntax.proofs.Chains.{Partly}
 use Rattle.ctd_syntax.proofs.TestLevels.{or_operator, and_operator, either, together}
 use Rattle.ctd_syntax.proofs.condition.+condition.Given as goal
@@ -17,8 +17,8 @@ decreases-test l = 8 * length l.tokens.now + 5
 abbrev pub decreases-both : goal.decreases-both
 decreases-both l = 8 * length l.tokens.now + 4
 
-abbrev pub decreases-negated : goal.decreases-negated
-decreases-negated l = 8 * length l.tokens.now + 3
+abbrev pub decreases-negation : goal.decreases-negation
+decreases-negation l = 8 * length l.tokens.now + 3
 
 abbrev pub decreases-simple_test : goal.decreases-simple_test
 decreases-simple_test l = 8 * length l.tokens.now + 2
@@ -34,7 +34,7 @@ decreases-test-loop-after l = length l.rest
 
 abbrev pub invariant-both-loop-after : goal.invariant-both-loop-after
 invariant-both-loop-after l = record {
-  partly : Partly IsBoth IsNegated (test_ends 2) and_operator together (map lexeme l.fn.tokens) (test_tree l.left.value) (map lexeme l.rest);
+  partly : Partly IsBoth IsNegation (test_ends 2) and_operator together (map lexeme l.fn.tokens) (test_tree l.left.value) (map lexeme l.rest);
   shorter : length l.rest ≤ length l.fn.tokens;
 }
 

@@ -3,7 +3,7 @@ use Rattle.std.specs.Prelude.{map}
 use Rattle.ctd_syntax.specs.Lexeme.{Lexeme, mark}
 use Rattle.ctd_program.specs.View.{expr_tree, var_tree, expr_list, exprs_of}
 use Rattle.ctd_syntax.specs.Grammar.{IsExpr, IsExprs, IsProduct, IsSigned, IsPower, IsExponent, IsAtom, IsTarget}
-use Rattle.ctd_syntax.specs.Front.{Found, Always, IsBefore, lexeme}
+use Rattle.ctd_syntax.specs.Front.{HasTree, Always, IsBefore, lexeme}
 use Rattle.ctd_syntax.specs.Levels.{ends}
 use Rattle.ctd_token.specs.declared.token.Mark.TheVariants.{Open, Close, CloseIndex}
 use Rattle.ctd_syntax.proofs.Chains.{start, no_start, finish, next, no_next}
@@ -38,7 +38,7 @@ pub atom-returns-in_ok-value_of-in-Name-clause-tree : goal.atom-returns-in_ok-va
 atom-returns-in_ok-value_of-in-Name-clause-tree t c =
     let v : Var = c.in_ok-var-in-Name.var in
     let found = variable_reads (map lexeme c.args.tokens.now) (map lexeme c.in-Some.rest.now) (map lexeme c.in_ok-var-in-Name.rest.now) _ (var_tree v) (ap (map lexeme) c.in-Some.ensures.cases.0 ∙ ap (λ x. lexeme x ∷ map lexeme c.in-Some.rest.now) c.in-Name.is) c.in_ok-var-in-Name.ensures.tree in
-    subst (λ x. Found IsAtom (ends 4) (map lexeme c.args.tokens.now) x (map lexeme c.in_ok-var-in-Name.rest.now)) (sym c.in_ok-value_of-in-Name.ensures) found
+    subst (λ x. HasTree IsAtom (ends 4) (map lexeme c.args.tokens.now) x (map lexeme c.in_ok-var-in-Name.rest.now)) (sym c.in_ok-value_of-in-Name.ensures) found
 
 pub atom-returns-then-ne-clause-tree : goal.atom-returns-then-ne-clause-tree
 atom-returns-then-ne-clause-tree t c = no_atom (map lexeme c.args.tokens.now) (map lexeme c.in-Some.rest.now) (Lexeme.keyword c.in-Keyword.keyword _) (ap (map lexeme) c.in-Some.ensures.cases.0 ∙ ap (λ x. lexeme x ∷ map lexeme c.in-Some.rest.now) c.in-Keyword.is) (not_strlen_begins c.in-Keyword.keyword _ (search (rules, c.ne.ensures, c.if-ne.ensures)))
@@ -73,7 +73,7 @@ indices-loop-after-preserved t c =
 pub indices-returns-in-Some-after_mark-clause-tree : goal.indices-returns-in-Some-after_mark-clause-tree
 indices-returns-in-Some-after_mark-clause-tree t c =
     let is : list_of (map expr_tree c.loop-after.items.items) ≡ expr_list (exprs_of c.from_vec.result) = list_view c.loop-after.items.items ∙ ap expr_list (sym c.from_vec.ensures) in
-    subst (λ l. Found (IsBefore CloseIndex IsExprs) Always (map lexeme c.args.tokens.now) l (map lexeme c.in-Some-after_mark.rest.now)) is (lists_end index_list (map lexeme c.args.tokens.now) (map lexeme c.loop-after.rest.now) (map lexeme c.in-Some-after_mark.rest.now) _ c.loop-after.invariant.partly c.in_default.ensures.none c.in-Some-after_mark.ensures.found)
+    subst (λ l. HasTree (IsBefore CloseIndex IsExprs) Always (map lexeme c.args.tokens.now) l (map lexeme c.in-Some-after_mark.rest.now)) is (lists_end index_list (map lexeme c.args.tokens.now) (map lexeme c.loop-after.rest.now) (map lexeme c.in-Some-after_mark.rest.now) _ c.loop-after.invariant.partly c.in_default.ensures.none c.in-Some-after_mark.ensures.found)
 
 pub indices-returns-clause-tree : goal.indices-returns-clause-tree
 indices-returns-clause-tree t c = lists_unclosed index_list (map lexeme c.args.tokens.now) (map lexeme c.loop-after.rest.now) _ c.loop-after.invariant.partly c.in_default.ensures.none c.in-None.ensures.none

@@ -9,7 +9,7 @@ use Rattle.ctd_program.specs.Tree
 use Rattle.ctd_program.specs.Tree.{VarTree}
 use Rattle.ctd_syntax.proofs.Atoms.{numeral_reads, variable_plain, variable_reads}
 use Rattle.ctd_syntax.proofs.Singles.{atom_is_product, no_index}
-use Rattle.ctd_syntax.proofs.expression.single.Goals as goal
+use Rattle.ctd_syntax.proofs.expression.single_token.Goals as goal
 
 pub returns-in-Numeral-clause-tree : goal.returns-in-Numeral-clause-tree
 returns-in-Numeral-clause-tree c =

@@ -1,14 +1,15 @@
 use Rattle.std.proofs.Common.{◌≡◌, None, Some, sym, ap, ◌∙◌, subst}
 use Rattle.std.specs.Prelude.{map}
-use Rattle.ctd_syntax.specs.Front.{AreNoProgram, Found, NotFound, Refused, lexeme}
+use Rattle.ctd_syntax.specs.Front.{AreNoProgram, HasTree, HasNoTree, IsRefusal, lexeme}
 use Rattle.ctd_syntax.specs.Grammar.{IsCommands}
 use Rattle.ctd_syntax.specs.CommandWords.{CommandsEnd}
-use Rattle.ctd_syntax.specs.Nesting.{start, too_deep}
+use Rattle.ctd_syntax.specs.Nesting.{start, too_deep, PassesLimitAt}
 use Rattle.ctd_syntax.specs.Reading.{Parses, lexemes}
 use Rattle.ctd_program.specs.View.{command_list, command_trees}
 use Rattle.ctd_program.proofs.Trees.{list_commands}
-use Rattle.ctd_syntax.proofs.Numbers.{reads_numbered}
+use Rattle.ctd_syntax.proofs.RegexNumberLemmas.{reads_numbered}
 use Rattle.ctd_syntax.proofs.Parsing.{parsed, spelled_only, left_over, unspelled, of_any_cut, nothing, something}
+use Rattle.ctd_syntax.proofs.Weights.{never_heavy, first_heavy}
 use Rattle.ctd_syntax.proofs.grammar.program_of.Goals as goal
 
 pub returns-then-is_empty-clause-parses : goal.returns-then-is_empty-clause-parses
@@ -16,7 +17,7 @@ returns-then-is_empty-clause-parses c =
     let text = c.args.text.now in
     let cut = c.requires in
     let shallow : too_deep start (lexemes text cut.tokens) ≡ None = ap (too_deep start) cut.same ∙ sym c.in_ok-before.ensures ∙ c.in_default.is in
-    let found = subst (λ l. Found IsCommands CommandsEnd l (command_list c.in-Ok.commands) (map lexeme c.in-Ok.rest.now)) (sym cut.same) c.in-Ok.ensures.tree in
+    let found = subst (λ l. HasTree IsCommands CommandsEnd l (command_list c.in-Ok.commands) (map lexeme c.in-Ok.rest.now)) (sym cut.same) c.in-Ok.ensures.tree in
     subst (Parses text) (list_commands c.in-Ok.commands ∙ ap command_trees (sym c.new.ensures))
     (parsed text cut.tokens (command_list c.in-Ok.commands) cut.is_cut shallow
     (spelled_only (lexemes text cut.tokens) (command_list c.in-Ok.commands) (map lexeme c.in-Ok.rest.now) found (nothing lexeme c.in-Ok.rest.now (sym c.is_empty.ensures ∙ c.if-is_empty.true))))
@@ -27,22 +28,23 @@ returns-then-is_empty-clause-numbered c = reads_numbered c.args.text.now _ (retu
 pub too_deep-requires : goal.too_deep-requires
 too_deep-requires c =
     let cut = c.requires in
-    of_any_cut c.args.text.now cut.tokens (λ ts. too_deep start (lexemes c.args.text.now ts) ≡ Some c.in-Some.before) cut.is_cut (ap (too_deep start) cut.same ∙ sym c.in_ok-before.ensures ∙ c.in-Some.is)
+    of_any_cut c.args.text.now cut.tokens (λ ts. PassesLimitAt (lexemes c.args.text.now ts) c.in-Some.before) cut.is_cut
+    (first_heavy (lexemes c.args.text.now cut.tokens) c.in-Some.before (ap (too_deep start) cut.same ∙ sym c.in_ok-before.ensures ∙ c.in-Some.is))
 
 pub no_program-requires : goal.no_program-requires
 no_program-requires c =
     let text = c.args.text.now in
     let cut = c.requires in
     let shallow : too_deep start (lexemes text cut.tokens) ≡ None = ap (too_deep start) cut.same ∙ sym c.in_ok-before.ensures ∙ c.in_default.is in
-    let found = subst (λ l. Found IsCommands CommandsEnd l (command_list c.in-Ok.commands) (map lexeme c.in-Ok.rest.now)) (sym cut.same) c.in-Ok.ensures.tree in
+    let found = subst (λ l. HasTree IsCommands CommandsEnd l (command_list c.in-Ok.commands) (map lexeme c.in-Ok.rest.now)) (sym cut.same) c.in-Ok.ensures.tree in
     let some = something lexeme c.in-Ok.rest.now (sym c.is_empty.ensures ∙ c.if-is_empty.false) in
     of_any_cut text cut.tokens (AreNoProgram text) cut.is_cut
-    (shallow, left_over text cut.tokens (command_list c.in-Ok.commands) some.0 (map lexeme c.in-Ok.rest.now) some.1 found some.2)
+    (never_heavy (lexemes text cut.tokens) shallow, left_over text cut.tokens (command_list c.in-Ok.commands) some.0 (map lexeme c.in-Ok.rest.now) some.1 found some.2)
 
 pub no_program-requires-in-Err-Syntax : goal.no_program-requires-in-Err-Syntax
 no_program-requires-in-Err-Syntax c =
     let text = c.args.text.now in
     let cut = c.requires in
     let shallow : too_deep start (lexemes text cut.tokens) ≡ None = ap (too_deep start) cut.same ∙ sym c.in_ok-before.ensures ∙ c.in_default.is in
-    let refused = subst (λ e. Refused IsCommands CommandsEnd e (map lexeme c.args.tokens.now)) c.in-Err-Syntax.field-0-is c.in-Err-Syntax.ensures.tree in
-    of_any_cut text cut.tokens (AreNoProgram text) cut.is_cut (shallow, unspelled text cut.tokens (subst (NotFound IsCommands CommandsEnd) (sym cut.same) refused))
+    let refused = subst (λ e. IsRefusal IsCommands CommandsEnd e (map lexeme c.args.tokens.now)) c.in-Err-Syntax.field-0-is c.in-Err-Syntax.ensures.tree in
+    of_any_cut text cut.tokens (AreNoProgram text) cut.is_cut (never_heavy (lexemes text cut.tokens) shallow, unspelled text cut.tokens (subst (HasNoTree IsCommands CommandsEnd) (sym cut.same) refused))

@@ -5,7 +5,7 @@ use Rattle.std.proofs.lemmas.Result.{err_from_is_err_and}
 use Rattle.ctd_token.proofs.Cutting.{none_is}
 use Rattle.ctd_token.proofs.TokenFaults.{fault_is}
 use Rattle.ctd_syntax.specs.Front.{lexeme}
-use Rattle.ctd_syntax.specs.Stretches.{IsNextSeen}
+use Rattle.ctd_syntax.specs.Batches.{IsNextSeen}
 use Rattle.ctd_syntax.proofs.TokensRead.{HasRead, more, finish}
 use Rattle.ctd_syntax.proofs.parser_token.parser_tokens.Goals as goal
 

@@ -1,7 +1,7 @@
 use Rattle.std.proofs.Common.{◌∙◌, Result, Ok, Err, IfOk}
 use Rattle.ctd_program.specs.View.{command_trees}
 use Rattle.ctd_syntax.specs.Numbering.{literals}
-use Rattle.ctd_loader.proofs.Numbers.{numbered_among}
+use Rattle.ctd_loader.proofs.PatternNumberLemmas.{numbered_among}
 use Rattle.ctd_loader.proofs.plan.Plan.matchers.Goals as goal
 
 if_ok : {A E : Type 0} (r : Result A E) (P Q : A → Type 0) → ((x : A) → P x → Q x) → IfOk r P → IfOk r Q

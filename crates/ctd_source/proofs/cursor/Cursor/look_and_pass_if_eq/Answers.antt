@@ -1,6 +1,6 @@
 use Rattle.std.proofs.Common.{refl, subst, Ok, Err, None}
 use Rattle.ctd_source.specs.CursorState.{GivesByte}
-use Rattle.ctd_source.proofs.AtHand.{passes_wanted, keeps_other}
+use Rattle.ctd_source.proofs.BufferedByte.{passes_wanted, keeps_other}
 use Rattle.ctd_source.proofs.cursor.Cursor.look_and_pass_if_eq.Goals as goal
 
 pub returns-then-byte-wanted-clause-passes : goal.returns-then-byte-wanted-clause-passes

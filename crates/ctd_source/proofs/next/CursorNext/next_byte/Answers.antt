@@ -5,8 +5,8 @@ use Rattle.ctd_source.proofs.next.CursorNext.next_byte.Goals as goal
 pub returns-clause-answer : goal.returns-clause-answer
 returns-clause-answer g c = search rules
 
-pub returns-clause-settled : goal.returns-clause-settled
-returns-clause-settled g c = search rules
+pub returns-clause-known_answer : goal.returns-clause-known_answer
+returns-clause-known_answer g c = search rules
 
 pub returns-clause-again : goal.returns-clause-again
 returns-clause-again g c = search rules
