@@ -2,11 +2,11 @@
 
 ghost use Rattle.std.specs.Prelude.{◌≡◌, ◌+◌, ◌≤◌, ◌++◌, length};
 ghost use Rattle.arrayvec.specs.ArrayVec.{array_vec_len};
-ghost use Rattle.ctd_token.specs.FaultText.{kind_text, placed};
+ghost use Rattle.ctd_token.specs.FaultText.{placed};
 ghost use Rattle.ctd_report.specs.Report.{load_line};
 
 use arrayvec::ArrayVec;
-use ctd_token::{LoadFault, LoadKind, Place};
+use ctd_token::{LoadFault, Place};
 use itoa::Buffer;
 
 /// How many bytes there is room for; the longest line has 81.
@@ -37,26 +37,6 @@ fn append_place(line: &mut ArrayVec<u8, ROOM>, place: Option<Place>)
     append(line, b": ");
 }
 
-/// The words for a kind of fault.
-fn kind_words(kind: LoadKind) -> &'static str
-    ensures words { result.now ≡ kind_text kind }
-    ensures len { length result.now ≤ 22 }
-{
-    match kind {
-        LoadKind::ProgramTooLong => "program too long",
-        LoadKind::BadByte => "unexpected byte",
-        LoadKind::UnfinishedString => "unfinished string",
-        LoadKind::BadOctal => "octal escape above 255",
-        LoadKind::NumberTooLarge => "number too large",
-        LoadKind::NotInProfile => "not in this profile",
-        LoadKind::TooDeep => "nested too deeply",
-        LoadKind::Syntax => "syntax error",
-        LoadKind::BadPattern => "bad pattern",
-        LoadKind::Read => "cannot read program",
-        LoadKind::Memory => "out of memory",
-    }
-}
-
 /// The line of a program that is not read.
 pub(crate) fn load_line_of(fault: &LoadFault) -> ArrayVec<u8, ROOM>
     ensures { result.items ≡ load_line fault.now }
@@ -64,7 +44,7 @@ pub(crate) fn load_line_of(fault: &LoadFault) -> ArrayVec<u8, ROOM>
     let mut line = ArrayVec::new();
     append(&mut line, b"checktestdata: ");
     append_place(&mut line, fault.place);
-    append(&mut line, kind_words(fault.kind).as_bytes());
+    append(&mut line, fault.kind.text().as_bytes());
     append(&mut line, b"\n");
     line
 }

@@ -1,6 +1,6 @@
 //! How places of a program and its faults are written.
 
-ghost use Rattle.std.specs.Prelude.{Some};
+ghost use Rattle.std.specs.Prelude.{◌≡◌, ◌≤◌, Some, length};
 ghost use Rattle.ctd_token.specs.FaultText.{kind_text, load_fault_text, place_text};
 
 use crate::fault::{LoadFault, LoadKind};
@@ -16,11 +16,13 @@ impl fmt::Display for Place {
     }
 }
 
-impl fmt::Display for LoadKind {
-    ghost output = { λ k. Some (kind_text k) };
-
-    fn fmt<W: fmt::Write>(&self, f: &mut fmt::Formatter<W>) -> fmt::Result {
-        f.write_str(match self {
+impl LoadKind {
+    /// The words for this kind of fault: ASCII, at most 22 bytes.
+    pub fn text(self) -> &'static str
+        ensures words { result.now ≡ kind_text self }
+        ensures len { length result.now ≤ 22 }
+    {
+        match self {
             LoadKind::ProgramTooLong => "program too long",
             LoadKind::BadByte => "unexpected byte",
             LoadKind::UnfinishedString => "unfinished string",
@@ -32,7 +34,15 @@ impl fmt::Display for LoadKind {
             LoadKind::BadPattern => "bad pattern",
             LoadKind::Read => "cannot read program",
             LoadKind::Memory => "out of memory",
-        })
+        }
+    }
+}
+
+impl fmt::Display for LoadKind {
+    ghost output = { λ k. Some (kind_text k) };
+
+    fn fmt<W: fmt::Write>(&self, f: &mut fmt::Formatter<W>) -> fmt::Result {
+        f.write_str(self.text())
     }
 }
 
