@@ -8,7 +8,7 @@ ghost use Rattle.ctd_value.specs.Fault.{Gives};
 ghost use Rattle.ctd_value.specs.Lending.{map_ok};
 ghost use Rattle.ctd_value.specs.Setting.{with_variable, with_expression};
 
-use crate::expression::{eval, fast_i64, fast_index, fast_name_index, index_values};
+use crate::expression::{eval, fast_i64, fast_index, fast_near_index, index_values};
 use crate::fault::EvalFault;
 use ctd_program::{Expr, Var};
 use ctd_store::{Index, Store, Value, ValueRef};
@@ -72,7 +72,7 @@ fn set_to_any_expression(
     set_variable(alloc, v, ValueRef::of(&value), store)
 }
 
-/// Sets a variable with indices to a number. Where its index is a name, nothing is kept over a call.
+/// Sets a variable with indices to a number. Where they are names, or a literal away from one, nothing is kept over a call.
 #[inline(never)]
 fn set_element_to_number(
     alloc: Global,
@@ -86,9 +86,15 @@ fn set_element_to_number(
     ensures no_shape { result ≢ Err EvalFault.Shape }
 {
     match v.indices.as_slice() {
-        [index] => match fast_name_index(index, store) {
+        [index] => match fast_near_index(index, store) {
             Some(at) => Ok(store.assign_at(alloc, &v.name, Index::One(at), ValueRef::Int(n))?),
             None => set_number_at_any(alloc, v, n, store),
+        },
+        [row, column] => match (fast_near_index(row, store), fast_near_index(column, store)) {
+            (Some(y), Some(x)) => {
+                Ok(store.assign_at(alloc, &v.name, Index::Two(y, x), ValueRef::Int(n))?)
+            }
+            _ => set_number_at_any(alloc, v, n, store),
         },
         _ => set_number_at_any(alloc, v, n, store),
     }
