@@ -72,7 +72,7 @@ fn set_to_any_expression(
     set_variable(alloc, v, ValueRef::of(&value), store)
 }
 
-/// Sets a variable with indices to a number. Where its index is a name, nothing is kept over a call.
+/// Sets a variable with indices to a number. An index that is a name comes first: most are, and then nothing is kept over a call.
 #[inline(never)]
 fn set_element_to_number(
     alloc: Global,
@@ -89,6 +89,25 @@ fn set_element_to_number(
         [index] => match fast_name_index(index, store) {
             Some(at) => Ok(store.assign_at(alloc, &v.name, Index::One(at), ValueRef::Int(n))?),
             None => set_number_at_any(alloc, v, n, store),
+        },
+        _ => set_cell_to_number(alloc, v, n, store),
+    }
+}
+
+/// Sets a variable to a number whose two indices are names, or one with indices of any kind.
+#[inline(never)]
+fn set_cell_to_number(alloc: Global, v: &Var, n: i128, store: &mut Store) -> Result<(), EvalFault>
+    ensures value { Gives (map_ok (λ _. store.new) result) (with_variable (var_tree v.now) (values.Int n) store.old) }
+    ensures err { OnErr result (store.new ≡ store.old) }
+    ensures no_count { result ≢ Err EvalFault.Count }
+    ensures no_shape { result ≢ Err EvalFault.Shape }
+{
+    match v.indices.as_slice() {
+        [row, column] => match (fast_name_index(row, store), fast_name_index(column, store)) {
+            (Some(y), Some(x)) => {
+                Ok(store.assign_at(alloc, &v.name, Index::Two(y, x), ValueRef::Int(n))?)
+            }
+            _ => set_number_at_any(alloc, v, n, store),
         },
         _ => set_number_at_any(alloc, v, n, store),
     }
