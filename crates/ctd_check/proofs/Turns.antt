@@ -76,23 +76,23 @@ pub to_do_at : (all : List Frame) (running_loop : RunningLoop) (at : IsAtTurn al
 to_do_at all running_loop at = to_do_push all at.below at.frame at.is ∙ ap (λ ts. ts ++ to_do at.below) (done_tasks at.frame (Some running_loop) at.done at.loop_is)
 
 -- what going round does to a frame
-pub record GoesRound (f g : Frame) : Type 0 where
+pub record TakesNextTurn (f g : Frame) : Type 0 where
   pub running_loop : g.running_loop ≡ option_map next_turn f.running_loop
   pub rest : MatchOption f.running_loop (g ≡ f) (λ running_loop. g.rest.now ≡ running_loop.body.now)
 
-loop_of_turn : (f g : Frame) (running_loop : RunningLoop) → GoesRound f g → f.running_loop ≡ Some running_loop → frame_tasks g ≡ body_tasks running_loop
+loop_of_turn : (f g : Frame) (running_loop : RunningLoop) → TakesNextTurn f g → f.running_loop ≡ Some running_loop → frame_tasks g ≡ body_tasks running_loop
 loop_of_turn f g running_loop goes is =
     let P : Option RunningLoop → Type 0 = λ o. MatchOption o (g ≡ f) (λ l. g.rest.now ≡ l.body.now) in
     ap (λ cs. tasks (command_trees cs) ++ loop_tasks g.running_loop) (subst P is goes.rest) ∙ ap (λ o. tasks (command_trees running_loop.body.now) ++ loop_tasks o) (goes.running_loop ∙ ap (option_map next_turn) is)
 
-pub after_next_turn : (all : List Frame) (last : ℕ) (f g : Frame) (running_loop : RunningLoop) (at : IsAtTurn all running_loop) → IsOnTop all last f → GoesRound f g → to_do (slice_set all last g) ≡ body_tasks running_loop ++ to_do at.below
+pub after_next_turn : (all : List Frame) (last : ℕ) (f g : Frame) (running_loop : RunningLoop) (at : IsAtTurn all running_loop) → IsOnTop all last f → TakesNextTurn f g → to_do (slice_set all last g) ≡ body_tasks running_loop ++ to_do at.below
 after_next_turn all last f g running_loop at top goes =
     let same = same_from_push at.below top.below at.frame f (sym at.is ∙ top.is) in
     to_do_push (slice_set all last g) top.below g (with_top all last f g top)
     ∙ ap (λ ts. ts ++ to_do top.below) (loop_of_turn f g running_loop goes (ap (λ x. x.running_loop) (sym same.1) ∙ at.loop_is))
     ∙ ap (λ fs. body_tasks running_loop ++ to_do fs) (sym same.0)
 
-turn_blocks : (f g : Frame) (o : Option RunningLoop) → f.running_loop ≡ o → GoesRound f g → frame_blocks g ≤ frame_blocks f
+turn_blocks : (f g : Frame) (o : Option RunningLoop) → f.running_loop ≡ o → TakesNextTurn f g → frame_blocks g ≤ frame_blocks f
 turn_blocks f g None is goes =
     let P : Option RunningLoop → Type 0 = λ o. MatchOption o (g ≡ f) (λ l. g.rest.now ≡ l.body.now) in
     omega (arith, ap frame_blocks (subst P is goes.rest))
@@ -102,12 +102,12 @@ turn_blocks f g (Some running_loop) is goes =
     let after : loop_blocks g.running_loop ≡ loop_blocks (Some running_loop) = ap loop_blocks (goes.running_loop ∙ ap (option_map next_turn) is) in
     omega (arith, body, after, ap loop_blocks is)
 
-turn_number : (f g : Frame) (o : Option RunningLoop) → f.running_loop ≡ o → GoesRound f g → loop_turn g.running_loop ≤ loop_turn f.running_loop + 1
+turn_number : (f g : Frame) (o : Option RunningLoop) → f.running_loop ≡ o → TakesNextTurn f g → loop_turn g.running_loop ≤ loop_turn f.running_loop + 1
 turn_number f g None is goes = omega (arith, ap loop_turn (goes.running_loop ∙ ap (option_map next_turn) is))
 turn_number f g (Some running_loop) is goes = omega (arith, ap loop_turn (goes.running_loop ∙ ap (option_map next_turn) is), ap loop_turn is)
 
 -- the frames fit a step later
-pub turn_fits : (left : ℕ) (all : List Frame) (last : ℕ) (f g : Frame) → IsOnTop all last f → GoesRound f g → Fits (left + 1) all → Fits left (slice_set all last g)
+pub turn_fits : (left : ℕ) (all : List Frame) (last : ℕ) (f g : Frame) → IsOnTop all last f → TakesNextTurn f g → Fits (left + 1) all → Fits left (slice_set all last g)
 turn_fits left all last f g top goes fits =
     let known = fits_pop (left + 1) all top.below f top.is fits in
     let room = known.room in

@@ -34,7 +34,7 @@ abbrev pub separator_tasks : Option (Bor Command) → List Task
 separator_tasks None = []
 separator_tasks (Some c) = start (command_tree c.now) ∷ []
 
--- the loop that goes round
+-- a running loop, as the definitions have it
 abbrev pub loop_in : RunningLoop → Loop
 loop_in running_loop = loop_of running_loop.place (guard_in running_loop.guard) (counter_in running_loop.counter) (separator_in running_loop.between) (command_trees running_loop.body.now)
 
@@ -75,7 +75,7 @@ top_loop (frame ∷ next ∷ above) = top_loop (next ∷ above)
 abbrev pub next_turn : RunningLoop → RunningLoop
 next_turn running_loop = record running_loop { turn = running_loop.turn + 1 }
 
--- the topmost frame has done its list, goes round this loop, and lies on others
+-- the topmost frame has done its list, runs this loop, and lies on others
 pub record IsAtTurn (frames : List Frame) (running_loop : RunningLoop) : Type 0 where
   pub below : List Frame
   pub frame : Frame
