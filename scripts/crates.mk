@@ -49,10 +49,11 @@ $(call built,$(1)): $(rattle) $(call sources_of,$(1)) $(call built_of,$(2))
 endef
 $(foreach crate,$(crates),$(eval $(call rule,$(crate),$(call libraries_of,$(crate)))))
 
-# The rule of a program, which is linked with the toolchain's C code.
+# The rule of a program, which is linked with the toolchain's C code. What the linker prints is shown only where it fails.
 define link
 crates/$(1)/out/$(1): $(call built,$(1))
-	@'$(kit)/bin/rattle-link' --target x86_64-unknown-linux-gnu $(compiler) -o $$@ $$< '$(kit)/c/libos_c.a' '$(kit)/c/liblibc_c.a'
+	@printed=$$$$('$(kit)/bin/rattle-link' --target x86_64-unknown-linux-gnu $(compiler) -o $$@ $$< \
+		'$(kit)/c/libos_c.a' '$(kit)/c/liblibc_c.a' 2>&1) || { echo "$$$$printed" >&2; exit 1; }
 endef
 $(foreach program,$(programs),$(eval $(call link,$(program))))
 

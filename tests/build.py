@@ -35,6 +35,7 @@ sleep "${STUB_SECONDS:-0}" & wait
 mkdir -p "$(dirname "$made")"
 echo "#!/bin/sh" >"$made"
 chmod +x "$made"
+echo 'a line of the toolchain'
 """
 
 
@@ -90,7 +91,8 @@ class Build(unittest.TestCase):
 
     def test_each_crate_is_proved_once_and_after_those_below_it(self) -> None:
         ran = self.build()
-        self.assertEqual(ran.returncode, 0, ran)
+        self.assertEqual((ran.returncode, ran.stdout), (0, ""), ran)
+        self.assertNotIn("a line of the toolchain", ran.stderr)
         order = self.proved()
         self.assertEqual(sorted(order), sorted(set(order)))
         self.assertLessEqual(below("checktestdata"), set(order))
