@@ -5,7 +5,7 @@ use Rattle.ctd_program.specs.View.{element_tree, expr_tree}
 use Rattle.ctd_program.proofs.Trees.{boxed_element}
 use Rattle.ctd_store.specs.declared.value.Value.TheVariants as values
 use Rattle.ctd_value.specs.Val.{val}
-use Rattle.ctd_value.proofs.FastNumbers.{element_known, value_known, then_number, name_known, of_one, of_two, is_one, is_two, in_register, says_nothing, fast_sum, fast_difference, fast_product, fast_negation, fast_quotient}
+use Rattle.ctd_value.proofs.FastNumbers.{value_known, then_number, of_one, of_two, is_one, is_two, in_register, says_nothing, fast_sum, fast_difference, fast_product, fast_negation, fast_quotient}
 use Rattle.ctd_value.proofs.expression.+fast_i64.Goals as goal
 
 pub fast_operation-returns-in_err-fast_i64-in-Minus : goal.fast_operation-returns-in_err-fast_i64-in-Minus
