@@ -8,4 +8,4 @@ mod written;
 
 pub use report::{NO_VERDICT, report_usage, write_cannot_open, write_load_fault, write_outcome};
 pub use sink::{Sink, ToWrite, Writer};
-pub use written::ToolFault;
+pub use written::{ToolFault, write_report};

@@ -54,7 +54,7 @@ fn write_text<S: Sink>(sink: &mut S, text: &[u8]) -> Result<(), Failed>
 }
 
 /// Writes a text to each stream that has one, and answers the status. At most one of them has a text.
-pub(crate) fn write_report<O: Sink, E: Sink>(
+pub fn write_report<O: Sink, E: Sink>(
     out_text: &[u8],
     err_text: &[u8],
     status: u8,

@@ -1,0 +1,6 @@
+pub mod NameSets
+pub mod Trees
+pub mod Parts
+pub mod Everywhere
+pub mod Ends
+pub mod Told

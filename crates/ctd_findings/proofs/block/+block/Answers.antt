@@ -1,0 +1,22 @@
+use Rattle.std.proofs.Common.{None}
+use Rattle.ctd_program.specs.View.{boxed_separator, command_trees}
+use Rattle.ctd_program.specs.declared.tree.Loop.{out-Loop}
+use Rattle.ctd_findings.specs.Block.{commands_behind, separator_command}
+use Rattle.ctd_findings.proofs.Parts.{both}
+use Rattle.ctd_findings.proofs.Trees.{within_loop, within_choice}
+use Rattle.ctd_findings.proofs.block.+block.Goals as goal
+
+pub list_within-returns-in_ok-list_separator-in-Loop : goal.list_within-returns-in_ok-list_separator-in-Loop
+list_within-returns-in_ok-list_separator-in-Loop t c = record {
+  lists = both c.list_block.result _ _ _ (separator_command (boxed_separator (out-Loop c.deref.result.now).between)) (commands_behind None (command_trees c.as_slice.result.now)) _
+      c.in_ok-list_separator-in-Loop.ensures.lists c.list_block.ensures.lists
+      (within_loop _ c.in-Loop.repeated c.deref.result.now c.args.command.now.place c.as_slice.result.now c.in-Loop.is c.deref.ensures c.as_slice.ensures);
+}
+
+pub list_within-returns-in_ok-list_block-in-If : goal.list_within-returns-in_ok-list_block-in-If
+list_within-returns-in_ok-list_block-in-If t c = record {
+  lists = both c.list_block-in-If-2.result _ _ _ (commands_behind None (command_trees c.as_slice-in-If.result.now)) (commands_behind None (command_trees c.as_slice-in-If-2.result.now)) _
+      c.in_ok-list_block-in-If.ensures.lists c.list_block-in-If-2.ensures.lists
+      (within_choice _ c.in-If.choice c.deref-in-If.result.now c.args.command.now.place c.as_slice-in-If.result.now c.as_slice-in-If-2.result.now c.in-If.is c.deref-in-If.ensures
+      c.as_slice-in-If.ensures c.as_slice-in-If-2.ensures);
+}

@@ -1,0 +1,10 @@
+use Rattle.std.proofs.Common.{◌≡◌, ◌||◌, ℕ, List, drop}
+use Rattle.std.specs.List.{list_any}
+use Rattle.std.specs.Ordering.{is_eq}
+use Rattle.ctd_store.specs.Order.{bytes_cmp}
+use Rattle.ctd_findings.specs.Listed.{names_at}
+use Rattle.ctd_findings.specs.Names.{is_among}
+use Rattle.ctd_findings.proofs.name_set.NameSet.of.Given as goal
+
+abbrev pub invariant-loop-name : goal.invariant-loop-name
+invariant-loop-name l = (q : List ℕ) → (list_any (λ k. is_eq (bytes_cmp q k.items)) l.set.keys || is_among q (names_at (drop l.name-index l.names))) ≡ is_among q (names_at l.names)

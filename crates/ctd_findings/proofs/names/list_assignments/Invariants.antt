@@ -1,0 +1,7 @@
+use Rattle.std.proofs.Common.{◌≡◌, ◌++◌, drop}
+use Rattle.ctd_findings.specs.Listed.{assigned_trees, names_at}
+use Rattle.ctd_findings.specs.Names.{assignment_names}
+use Rattle.ctd_findings.proofs.names.list_assignments.Given as goal
+
+abbrev pub invariant-loop-a : goal.invariant-loop-a
+invariant-loop-a l = names_at l.found.items ++ assignment_names (assigned_trees (drop l.a-index l.assignments)) ≡ names_at l.initial.found.items ++ assignment_names (assigned_trees l.assignments)

@@ -1,0 +1,6 @@
+use Rattle.std.proofs.Common.{◌≡◌, ◌++◌}
+use Rattle.ctd_findings.specs.Findings.{findings_at}
+use Rattle.ctd_findings.proofs.program.place_all.Given as goal
+
+abbrev pub invariant-loop-warning : goal.invariant-loop-warning
+invariant-loop-warning l = l.found.items ≡ l.initial.found.items ++ findings_at l.place l.yielded

@@ -1,0 +1,94 @@
+//! The commands of a program, one after the other.
+
+ghost use Rattle.std.specs.Prelude.{◌≡◌, ◌++◌, None, OnOk, IfOk};
+ghost use Rattle.ctd_program.specs.View.{boxed_separator, command_tree, command_trees};
+ghost use Rattle.ctd_findings.specs.Block.{all_commands, commands_behind, commands_within, separator_command};
+ghost use Rattle.ctd_findings.specs.Listed.{in_blocks};
+
+use ctd_program::{Action, Choice, Command, Loop};
+use std::alloc::{AllocError, Global};
+
+/// A command, and the one that stands before it in its list, if there is one.
+#[derive(Clone, Copy)]
+pub(crate) struct CommandInBlock<'p> {
+    pub(crate) previous: Option<&'p Command>,
+    pub(crate) command: &'p Command,
+}
+
+/// Appends the commands of a list, and those in them.
+#[cycle(block)]
+fn list_block<'p>(
+    commands: &'p [Command],
+    found: &mut Vec<CommandInBlock<'p>>,
+) -> Result<(), AllocError>
+    ensures lists { OnOk result (in_blocks found.new.items ≡ in_blocks found.old.items ++ commands_behind None (command_trees commands.now)) }
+{
+    let mut previous = None;
+    for command in commands {
+        found.push(CommandInBlock { previous, command })?;
+        list_within(command, found)?;
+        previous = Some(command);
+    }
+    Ok(())
+}
+
+/// Appends the commands in a command.
+#[cycle(block)]
+fn list_within<'p>(
+    command: &'p Command,
+    found: &mut Vec<CommandInBlock<'p>>,
+) -> Result<(), AllocError>
+    ensures lists { OnOk result (in_blocks found.new.items ≡ in_blocks found.old.items ++ commands_within (command_tree command.now)) }
+{
+    match &command.action {
+        Action::Space | Action::Newline | Action::Eof => Ok(()),
+        Action::Int(_) | Action::String(_) | Action::Regex(_) => Ok(()),
+        Action::Assert(_) | Action::Set(_) | Action::Unset(_) => Ok(()),
+        Action::Loop(repeated) => {
+            let Loop { between, body, .. } = &**repeated;
+            list_separator(between, found)?;
+            list_block(body.as_slice(), found)
+        }
+        Action::If(choice) => {
+            let Choice {
+                then_do,
+                else_do,
+                ..
+            } = &**choice;
+            list_block(then_do.as_slice(), found)?;
+            list_block(else_do.as_slice(), found)
+        }
+    }
+}
+
+/// Appends a separator, if there is one.
+#[cycle(block)]
+fn list_separator<'p>(
+    between: &'p Option<Box<Command>>,
+    found: &mut Vec<CommandInBlock<'p>>,
+) -> Result<(), AllocError>
+    ensures lists { OnOk result (in_blocks found.new.items ≡ in_blocks found.old.items ++ separator_command (boxed_separator between.now)) }
+{
+    match between {
+        Some(command) => {
+            found.push(CommandInBlock {
+                previous: None,
+                command,
+            })?;
+            list_within(command, found)
+        }
+        None => Ok(()),
+    }
+}
+
+/// All commands of a program, in the order of the text.
+pub(crate) fn all_commands(
+    alloc: Global,
+    commands: &[Command],
+) -> Result<Vec<CommandInBlock<'_>>, AllocError>
+    ensures all { IfOk result (λ found. in_blocks found.items ≡ all_commands (command_trees commands.now)) }
+{
+    let mut found = Vec::new(alloc);
+    list_block(commands, &mut found)?;
+    Ok(found)
+}

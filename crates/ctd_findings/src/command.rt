@@ -1,0 +1,239 @@
+//! What is told of a command.
+
+ghost use Rattle.std.specs.Prelude.{◌≡◌, ◌++◌, OnOk, IfOk};
+ghost use Rattle.ctd_program.specs.View.{command_tree, expr_tree, guard_tree, test_tree};
+ghost use Rattle.ctd_findings.specs.Findings.{command_warnings, follows_endless, guard_test, is_above, is_empty_text, is_endless, is_known_true, loop_test, outline_warnings, own_warnings, truth_warning, warn_if, warn_unknown};
+ghost use Rattle.ctd_findings.specs.Listed.{command_at, has_name, in_block, names_at, test_at};
+ghost use Rattle.ctd_findings.specs.Names.{reads, sets, unsets};
+ghost use Rattle.ctd_findings.specs.Literal.{literal_number, literal_truth, no_variables};
+ghost use Rattle.ctd_findings.specs.Outline.{outline};
+ghost use Rattle.std.specs.Option.{option_and_then};
+
+use crate::block::CommandInBlock;
+use crate::finding::Warning;
+use crate::literal::{literal_number, literal_truth};
+use crate::name_set::NameSet;
+use crate::names::{list_reads, list_sets, list_unsets};
+use crate::outline::{ends_with, outline, repeats_unbounded, starts_with};
+use ctd_program::{Action, Command, Expr, LoopGuard, Test};
+use ctd_token::{Bytes, Name};
+use ctd_value::Store;
+use std::alloc::{AllocError, Global};
+
+/// What is known of a program: the names to which it, or a preset, gives values, those that it reads, and a store that has no variables.
+#[derive(Drop)]
+pub(crate) struct Known {
+    pub(crate) given: NameSet,
+    pub(crate) read: NameSet,
+    pub(crate) nothing: Store,
+}
+
+/// Appends a warning where this is so.
+fn warn_if(is_so: bool, warning: Warning, found: &mut Vec<Warning>) -> Result<(), AllocError>
+    ensures lists { OnOk result (found.new.items ≡ found.old.items ++ warn_if is_so warning) }
+{
+    if is_so {
+        found.push(warning)?;
+    }
+    Ok(())
+}
+
+/// Appends a warning for each name that nothing gives a value.
+fn list_without_value(
+    alloc: Global,
+    names: &[&Name],
+    given: &NameSet,
+    found: &mut Vec<Warning>,
+) -> Result<(), AllocError>
+    ensures lists { OnOk result (found.new.items ≡ found.old.items ++ warn_unknown Warning.NoValue (λ name. has_name name given.now) (names_at names.now)) }
+{
+    for name in names {
+        if !given.contains(name) {
+            let bytes = Bytes::copy(alloc, name.as_slice())?;
+            found.push(Warning::NoValue(bytes))?;
+        }
+    }
+    Ok(())
+}
+
+/// Appends a warning for each name that nothing reads.
+fn list_unread(
+    alloc: Global,
+    names: &[&Name],
+    read: &NameSet,
+    found: &mut Vec<Warning>,
+) -> Result<(), AllocError>
+    ensures lists { OnOk result (found.new.items ≡ found.old.items ++ warn_unknown Warning.NeverRead (λ name. has_name name read.now) (names_at names.now)) }
+{
+    for name in names {
+        if !read.contains(name) {
+            let bytes = Bytes::copy(alloc, name.as_slice())?;
+            found.push(Warning::NeverRead(bytes))?;
+        }
+    }
+    Ok(())
+}
+
+/// The test of a loop.
+fn guard_test(guard: &LoopGuard) -> Option<&Test>
+    ensures { test_at result ≡ guard_test (guard_tree guard.now) }
+{
+    match guard {
+        LoopGuard::Times(_) => None,
+        LoopGuard::While(t) => Some(t),
+    }
+}
+
+/// The test of WHILE.
+fn loop_test(command: &Command) -> Option<&Test>
+    ensures { test_at result ≡ loop_test (command_tree command.now) }
+{
+    match &command.action {
+        Action::Space | Action::Newline | Action::Eof => None,
+        Action::Int(_) | Action::String(_) | Action::Regex(_) | Action::Assert(_) => None,
+        Action::Set(_) | Action::Unset(_) | Action::If(_) => None,
+        Action::Loop(repeated) => guard_test(&repeated.guard),
+    }
+}
+
+/// The truth of a test, if there is one, that follows from its literals.
+fn truth_of(alloc: Global, t: Option<&Test>, nothing: &Store) -> Result<Option<bool>, AllocError>
+    requires { nothing.now ≡ no_variables }
+    ensures { IfOk result (λ truth. truth ≡ option_and_then literal_truth (test_at t.entry)) }
+{
+    match t {
+        Some(t) => literal_truth(alloc, t, nothing),
+        None => Ok(None),
+    }
+}
+
+/// Whether a command is there and is a loop that cannot end.
+fn follows_endless(
+    alloc: Global,
+    previous: Option<&Command>,
+    nothing: &Store,
+) -> Result<bool, AllocError>
+    requires { nothing.now ≡ no_variables }
+    ensures { IfOk result (λ endless. endless ≡ follows_endless (command_at previous.entry)) }
+{
+    match previous {
+        Some(command) => Ok(truth_of(alloc, loop_test(command), nothing)? == Some(true)),
+        None => Ok(false),
+    }
+}
+
+/// Appends a warning where the truth of a test follows from its literals.
+fn list_truth(
+    alloc: Global,
+    t: Option<&Test>,
+    nothing: &Store,
+    found: &mut Vec<Warning>,
+) -> Result<(), AllocError>
+    requires { nothing.now ≡ no_variables }
+    ensures lists { OnOk result (found.new.items ≡ found.old.items ++ truth_warning (option_and_then literal_truth (test_at t.entry))) }
+{
+    match truth_of(alloc, t, nothing)? {
+        Some(true) => found.push(Warning::AlwaysTrue)?,
+        Some(false) => found.push(Warning::AlwaysFalse)?,
+        None => (),
+    }
+    Ok(())
+}
+
+/// Whether two expressions have numbers by their literals and the first is above the second.
+fn is_above(alloc: Global, low: &Expr, high: &Expr, nothing: &Store) -> Result<bool, AllocError>
+    requires { nothing.now ≡ no_variables }
+    ensures { IfOk result (λ above. above ≡ is_above (literal_number (expr_tree low.now)) (literal_number (expr_tree high.now))) }
+{
+    let low = literal_number(alloc, low, nothing)?;
+    let high = literal_number(alloc, high, nothing)?;
+    match (low, high) {
+        (Some(low), Some(high)) => Ok(low > high),
+        _ => Ok(false),
+    }
+}
+
+/// Whether an expression is the empty string.
+fn is_empty_text(e: &Expr) -> bool
+    ensures { result ≡ is_empty_text (expr_tree e.now) }
+{
+    match e {
+        Expr::Text(bytes) => bytes.as_slice().is_empty(),
+        Expr::Name(_) | Expr::Numeral(_) | Expr::Element(_) => false,
+        Expr::Strlen(_) | Expr::Minus(_) | Expr::Add(_, _) | Expr::Sub(_, _) => false,
+        Expr::Mul(_, _) | Expr::Div(_, _) | Expr::Rem(_, _) | Expr::Pow(_, _) => false,
+    }
+}
+
+/// Appends what is told of a pattern.
+fn list_outline(alloc: Global, pattern: &[u8], found: &mut Vec<Warning>) -> Result<(), AllocError>
+    ensures lists { OnOk result (found.new.items ≡ found.old.items ++ outline_warnings (outline pattern.now)) }
+{
+    let outline = outline(alloc, pattern)?;
+    let form = outline.as_slice();
+    warn_if(starts_with(b'^', form), Warning::StartsWithCaret, found)?;
+    warn_if(ends_with(b'$', form), Warning::EndsWithDollar, found)?;
+    warn_if(repeats_unbounded(form), Warning::Unbounded, found)
+}
+
+/// Appends what is told of a command by itself.
+fn list_own(
+    alloc: Global,
+    command: &Command,
+    nothing: &Store,
+    found: &mut Vec<Warning>,
+) -> Result<(), AllocError>
+    requires { nothing.now ≡ no_variables }
+    ensures lists { OnOk result (found.new.items ≡ found.old.items ++ own_warnings (command_tree command.now)) }
+{
+    match &command.action {
+        Action::Space | Action::Newline | Action::Eof => Ok(()),
+        Action::Set(_) | Action::Unset(_) => Ok(()),
+        Action::Int(int) => {
+            let is_empty = is_above(alloc, &int.low, &int.high, nothing)?;
+            warn_if(is_empty, Warning::EmptyRange, found)
+        }
+        Action::String(e) => warn_if(is_empty_text(e), Warning::EmptyString, found),
+        Action::Regex(regex) => list_outline(alloc, regex.literal.bytes.as_slice(), found),
+        Action::Assert(t) => list_truth(alloc, Some(t), nothing, found),
+        Action::Loop(repeated) => list_truth(alloc, guard_test(&repeated.guard), nothing, found),
+        Action::If(choice) => list_truth(alloc, Some(&choice.condition), nothing, found),
+    }
+}
+
+/// Appends warnings for the names of a command.
+fn list_names(
+    alloc: Global,
+    command: &Command,
+    known: &Known,
+    found: &mut Vec<Warning>,
+) -> Result<(), AllocError>
+    ensures lists { OnOk result (found.new.items ≡ found.old.items
+        ++ warn_unknown Warning.NoValue (λ name. has_name name known.now.given) (reads (command_tree command.now) ++ unsets (command_tree command.now))
+        ++ warn_unknown Warning.NeverRead (λ name. has_name name known.now.read) (sets (command_tree command.now))) }
+{
+    let mut needed = Vec::new(alloc);
+    list_reads(command, &mut needed)?;
+    list_unsets(command, &mut needed)?;
+    list_without_value(alloc, needed.as_slice(), &known.given, found)?;
+    let mut set = Vec::new(alloc);
+    list_sets(command, &mut set)?;
+    list_unread(alloc, set.as_slice(), &known.read, found)
+}
+
+/// The warnings of a command.
+pub(crate) fn command_warnings(
+    alloc: Global,
+    entry: &CommandInBlock<'_>,
+    known: &Known,
+) -> Result<Vec<Warning>, AllocError>
+    requires { known.now.nothing ≡ no_variables }
+    ensures { IfOk result (λ found. found.items ≡ command_warnings (λ name. has_name name known.now.given) (λ name. has_name name known.now.read) (in_block entry.now)) }
+{
+    let mut found = Vec::new(alloc);
+    let is_unreachable = follows_endless(alloc, entry.previous, &known.nothing)?;
+    warn_if(is_unreachable, Warning::Unreachable, &mut found)?;
+    list_names(alloc, entry.command, known, &mut found)?;
+    list_own(alloc, entry.command, &known.nothing, &mut found)?;
+    Ok(found)
+}

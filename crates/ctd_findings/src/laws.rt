@@ -1,0 +1,19 @@
+//! Laws of the findings, and no code: a contract is the statement of each.
+
+ghost use Rattle.std.specs.Prelude.{◌≡◌, ℕ, ℤ, Bool, Some, Ok};
+ghost use Rattle.ctd_source.specs.TestData.{TestData};
+ghost use Rattle.ctd_program.specs.Tree.{ExprTree, TestTree};
+ghost use Rattle.ctd_store.specs.Store.{History};
+ghost use Rattle.ctd_value.specs.Truth.{truth};
+ghost use Rattle.ctd_value.specs.Val.{number_of};
+ghost use Rattle.ctd_findings.specs.Literal.{literal_number, literal_truth};
+
+/// A test of which a truth is told has it whatever the variables and the data are.
+pub fn told_truth_is_always_so()
+    ensures always { (t : TestTree) (b : Bool) → literal_truth t ≡ Some b → (h : History) (d : TestData) (p : ℕ) → truth t h d p ≡ Ok b }
+{}
+
+/// An expression that is a number by its literals is this number whatever the variables are.
+pub fn told_number_is_always_so()
+    ensures always { (e : ExprTree) (n : ℤ) → literal_number e ≡ Some n → (h : History) → number_of e h ≡ Ok n }
+{}

@@ -1,0 +1,16 @@
+//! What a program of the checktestdata language cannot mean: names that nothing gives a value, tests that do not depend on the data, and the like.
+#![tactic(auto)]
+
+mod block;
+mod command;
+mod finding;
+mod laws;
+mod literal;
+mod name_set;
+mod names;
+mod outline;
+mod program;
+
+pub use finding::{Finding, Warning};
+pub use laws::{told_number_is_always_so, told_truth_is_always_so};
+pub use program::findings;

@@ -1,0 +1,62 @@
+//! What follows from literals alone.
+
+ghost use Rattle.std.specs.Prelude.{◌≡◌, IfOk};
+ghost use Rattle.ctd_program.specs.View.{expr_tree, test_tree};
+ghost use Rattle.ctd_findings.specs.Literal.{compares_only, literal_number, literal_truth, no_variables};
+
+use ctd_program::{Expr, Test};
+use ctd_source::Plain;
+use ctd_value::{EvalFault, Store, TestFault, holds, number_of};
+use std::alloc::{AllocError, Global};
+
+/// Whether a test is made of comparisons alone.
+fn compares_only(t: &Test) -> bool
+    ensures { result ≡ compares_only (test_tree t.now) }
+{
+    match t {
+        Test::Or(a, b) => compares_only(a) && compares_only(b),
+        Test::And(a, b) => compares_only(a) && compares_only(b),
+        Test::Not(t) => compares_only(t),
+        Test::Compare(_, _, _) => true,
+        Test::Match(_) => false,
+        Test::IsEof => false,
+        Test::Unique(_) => false,
+        Test::InArray(_, _) => false,
+    }
+}
+
+/// The truth of a test that follows from its literals. The store has no variables.
+pub(crate) fn literal_truth(
+    alloc: Global,
+    t: &Test,
+    nothing: &Store,
+) -> Result<Option<bool>, AllocError>
+    requires { nothing.now ≡ no_variables }
+    ensures { IfOk result (λ truth. truth ≡ literal_truth (test_tree t.now)) }
+{
+    if !compares_only(t) {
+        return Ok(None);
+    }
+    let mut no_data = Plain::new(&[], false, 0);
+    match holds(alloc, t, nothing, &mut no_data) {
+        Ok(truth) => Ok(Some(truth)),
+        Err(TestFault::Eval(EvalFault::Memory)) => Err(AllocError),
+        Err(_) => Ok(None),
+    }
+}
+
+/// The number that an expression is by its literals. The store has no variables.
+pub(crate) fn literal_number(
+    alloc: Global,
+    e: &Expr,
+    nothing: &Store,
+) -> Result<Option<i128>, AllocError>
+    requires { nothing.now ≡ no_variables }
+    ensures { IfOk result (λ number. number ≡ literal_number (expr_tree e.now)) }
+{
+    match number_of(alloc, e, nothing) {
+        Ok(number) => Ok(Some(number)),
+        Err(EvalFault::Memory) => Err(AllocError),
+        Err(_) => Ok(None),
+    }
+}

@@ -1,0 +1,127 @@
+//! The findings of a program.
+
+ghost use Rattle.std.specs.Prelude.{◌≡◌, ◌++◌, ℕ, List, OnOk, IfOk};
+ghost use Rattle.ctd_program.specs.View.{command_trees};
+ghost use Rattle.ctd_token.specs.declared.text.Place.{Place};
+ghost use Rattle.ctd_findings.specs.Findings.{findings_among, findings_at, findings_of};
+ghost use Rattle.ctd_findings.specs.Listed.{has_name, in_blocks, names_at};
+ghost use Rattle.ctd_findings.specs.Literal.{no_variables};
+ghost use Rattle.ctd_findings.specs.Names.{all_given, all_reads, is_among, preset_names};
+
+use crate::block::{CommandInBlock, all_commands};
+use crate::command::{Known, command_warnings};
+use crate::finding::{Finding, Warning};
+use crate::name_set::NameSet;
+use crate::names::{list_counts, list_reads, list_sets};
+use ctd_program::{Command, Presets};
+use ctd_token::{Name, Place};
+use ctd_value::Store;
+use std::alloc::{AllocError, Global};
+
+/// Appends the names that some commands read.
+fn list_all_reads<'p>(
+    commands: &[CommandInBlock<'p>],
+    names: &mut Vec<&'p Name>,
+) -> Result<(), AllocError>
+    ensures lists { OnOk result (names_at names.new.items ≡ names_at names.old.items ++ all_reads (in_blocks commands.now)) }
+{
+    for entry in commands {
+        list_reads(entry.command, names)?;
+    }
+    Ok(())
+}
+
+/// The names that some commands read.
+fn read_names(alloc: Global, commands: &[CommandInBlock<'_>]) -> Result<NameSet, AllocError>
+    ensures members { IfOk result (λ set. (name : List ℕ) → has_name name set ≡ is_among name (all_reads (in_blocks commands.now))) }
+{
+    let mut names = Vec::new(alloc);
+    list_all_reads(commands, &mut names)?;
+    NameSet::of(alloc, names.as_slice())
+}
+
+/// Appends the names to which some commands give a value.
+fn list_given<'p>(
+    commands: &[CommandInBlock<'p>],
+    names: &mut Vec<&'p Name>,
+) -> Result<(), AllocError>
+    ensures lists { OnOk result (names_at names.new.items ≡ names_at names.old.items ++ all_given (in_blocks commands.now)) }
+{
+    for entry in commands {
+        list_sets(entry.command, names)?;
+        list_counts(entry.command, names)?;
+    }
+    Ok(())
+}
+
+/// Appends the names of presets.
+fn list_presets<'p>(presets: &'p Presets, names: &mut Vec<&'p Name>) -> Result<(), AllocError>
+    ensures lists { OnOk result (names_at names.new.items ≡ names_at names.old.items ++ preset_names presets.now) }
+{
+    for preset in presets.pins() {
+        names.push(&preset.name)?;
+    }
+    Ok(())
+}
+
+/// The names to which some commands, or presets, give a value.
+fn given_names(
+    alloc: Global,
+    commands: &[CommandInBlock<'_>],
+    presets: &Presets,
+) -> Result<NameSet, AllocError>
+    ensures members { IfOk result (λ set. (name : List ℕ) → has_name name set ≡ is_among name (all_given (in_blocks commands.now) ++ preset_names presets.now)) }
+{
+    let mut names = Vec::new(alloc);
+    list_given(commands, &mut names)?;
+    list_presets(presets, &mut names)?;
+    NameSet::of(alloc, names.as_slice())
+}
+
+/// Appends warnings at a place.
+fn place_all(
+    place: Place,
+    warnings: Vec<Warning>,
+    found: &mut Vec<Finding>,
+) -> Result<(), AllocError>
+    ensures lists { OnOk result (found.new.items ≡ found.old.items ++ findings_at place warnings.items) }
+{
+    for warning in warnings {
+        found.push(Finding { place, warning })?;
+    }
+    Ok(())
+}
+
+/// The findings of some commands.
+fn findings_among(
+    alloc: Global,
+    commands: &[CommandInBlock<'_>],
+    known: &Known,
+) -> Result<Vec<Finding>, AllocError>
+    requires { known.now.nothing ≡ no_variables }
+    ensures { IfOk result (λ found. found.items ≡ findings_among (λ name. has_name name known.now.given) (λ name. has_name name known.now.read) (in_blocks commands.now)) }
+{
+    let mut found = Vec::new(alloc);
+    for entry in commands {
+        let warnings = command_warnings(alloc, entry, known)?;
+        place_all(entry.command.place, warnings, &mut found)?;
+    }
+    Ok(found)
+}
+
+/// The findings of a program, where these presets are given, in the order of the text.
+pub fn findings(
+    alloc: Global,
+    commands: &[Command],
+    presets: &Presets,
+) -> Result<Vec<Finding>, AllocError>
+    ensures { IfOk result (λ found. found.items ≡ findings_of (command_trees commands.now) presets.now) }
+{
+    let entries = all_commands(alloc, commands)?;
+    let known = Known {
+        given: given_names(alloc, entries.as_slice(), presets)?,
+        read: read_names(alloc, entries.as_slice())?,
+        nothing: Store::new(alloc, &Presets::none(alloc))?,
+    };
+    findings_among(alloc, entries.as_slice(), &known)
+}
