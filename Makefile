@@ -25,7 +25,7 @@ SEED ?= 1
 
 # What is installed: programs that are built, each in the crate of its name, and companions in tools/, each with completions in
 # completions/ and a man page in man/; further man pages, and texts.
-programs := checktestdata
+programs := checktestdata ctd-lint
 companions := ctd-show ctd-mutate
 modules := ctd_companion.py
 commands := $(programs) $(companions)

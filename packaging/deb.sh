@@ -14,7 +14,7 @@ trap 'rm -rf "$stage"' EXIT
 documents=$stage/usr/share/doc/$name
 
 make --silent install-built DESTDIR="$stage" PREFIX=/usr docdir=/usr/share/doc/$name zshdir=/usr/share/zsh/vendor-completions
-strip --remove-section=.comment --remove-section=.note "$stage"/usr/bin/checktestdata
+strip --remove-section=.comment --remove-section=.note "$stage"/usr/bin/{checktestdata,ctd-lint}
 sed -i '1s|.*|#!/usr/bin/python3|' "$stage"/usr/share/checktestdata/tools/ctd-*
 gzip -9n "$stage"/usr/share/man/man?/*
 

@@ -2,7 +2,7 @@
 """Runs what the documents show: every session, every file that they write, every program. And it follows their links.
 
 Each document has a folder of its own, in which its files are written and its commands run, one after the other, by bash. `checktestdata` is
-the built checker there, and `examples` is that of the repository. A command has to write what stands below it, on both streams together.
+the built checker there, `ctd-lint` the built linter, and `examples` is that of the repository. A command has to write what stands below it, on both streams together.
 A program that stands alone has to be read without a fault. How blocks are marked is told in markdown_blocks.py. A block that needs a program which
 is not there is left out, and a line says so.
 
@@ -34,6 +34,7 @@ class Reader:
         self.folder = folder
         self.status = 0
         (folder / "checktestdata").symlink_to(checker)
+        (folder / "ctd-lint").symlink_to(TOP / "crates/ctd_lint/out/ctd_lint")
         (folder / "examples").symlink_to(TOP / "examples")
         # a make in a document is not one of the make that runs the tests
         outside = {name: value for name, value in os.environ.items() if name not in ["MAKEFLAGS", "MAKELEVEL", "MFLAGS"]}

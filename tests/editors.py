@@ -23,7 +23,8 @@ from typing import Any
 from results import TOP, checker_to_test, run_unit_tests
 
 CHECKER = checker_to_test()
-COMMANDS = ["checktestdata", "ctd-show", "ctd-mutate"]
+LINTER = TOP / "crates/ctd_lint/out/ctd_lint"
+COMMANDS = ["checktestdata", "ctd-lint", "ctd-show", "ctd-mutate"]
 OUT_OF_TIME = 20
 # What is on the help and not offered: it is refused.
 NOT_OFFERED = {"--generate"}
@@ -36,7 +37,7 @@ lines") x"""
 
 
 def path_of(command: str) -> Path:
-    return CHECKER if command == "checktestdata" else TOP / "tools" / command
+    return {"checktestdata": CHECKER, "ctd-lint": LINTER}.get(command, TOP / "tools" / command)
 
 
 def has(command: str) -> bool:
@@ -128,6 +129,7 @@ class Completions(unittest.TestCase):
     KEYS = [
         ("checktestdata --max\t5 pro\t da\t", ["--max-steps=5", "program.ctd", "data.in"]),
         ("checktestdata --white\t pro\t da\t", ["--whitespace-ok", "program.ctd", "data.in"]),
+        ("ctd-lint --def\tn=5 pro\t", ["--define=n=5", "program.ctd"]),
         ("ctd-show --gc\t pro\t data.in da\t", ["--gcc", "program.ctd", "data.in", "data.in"]),
         ("ctd-mutate --only trail\t pro\t da\t", ["--only", "trailing-space", "program.ctd", "data.in"]),
     ]
@@ -164,6 +166,8 @@ class Completions(unittest.TestCase):
                 ("checktestdata pro", "program.ctd"),
                 ("checktestdata program.ctd da", "data.in"),
                 ("checktestdata -w pro", "program.ctd"),
+                ("ctd-lint --def", "--define"),
+                ("ctd-lint pro", "program.ctd"),
                 ("ctd-show --gc", "--gcc"),
                 ("ctd-show program.ctd data.in da", "data.in"),
                 ("ctd-mutate --only trail", "trailing-space"),

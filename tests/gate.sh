@@ -33,6 +33,7 @@ count rt ci
 if [ "$failed" -eq 0 ]; then
     count tests/tables.py
     count tests/process.sh
+    count tests/lint.py
     count tests/failing_calls.py
     count tests/allocations.py
     count tests/companions.py

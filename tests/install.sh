@@ -43,9 +43,11 @@ quiet_make() { make --silent --no-print-directory "$@"; }
 
 expect 'make install' quiet_make install-built DESTDIR="$stage"
 wanted='bin/checktestdata
+bin/ctd-lint
 bin/ctd-mutate
 bin/ctd-show
 share/bash-completion/completions/checktestdata
+share/bash-completion/completions/ctd-lint
 share/bash-completion/completions/ctd-mutate
 share/bash-completion/completions/ctd-show
 share/checktestdata/tools/ctd-mutate
@@ -55,9 +57,11 @@ share/checktestdata/vscode/language-configuration.json
 share/checktestdata/vscode/package.json
 share/checktestdata/vscode/syntaxes/checktestdata.tmLanguage.json
 share/fish/vendor_completions.d/checktestdata.fish
+share/fish/vendor_completions.d/ctd-lint.fish
 share/fish/vendor_completions.d/ctd-mutate.fish
 share/fish/vendor_completions.d/ctd-show.fish
 share/man/man1/checktestdata.1
+share/man/man1/ctd-lint.1
 share/man/man1/ctd-mutate.1
 share/man/man1/ctd-show.1
 share/man/man5/checktestdata.5
@@ -66,6 +70,7 @@ share/vim/vimfiles/ftdetect/checktestdata.vim
 share/vim/vimfiles/ftplugin/checktestdata.vim
 share/vim/vimfiles/syntax/checktestdata.vim
 share/zsh/site-functions/_checktestdata
+share/zsh/site-functions/_ctd-lint
 share/zsh/site-functions/_ctd-mutate
 share/zsh/site-functions/_ctd-show'
 installed() { (cd "$prefix" && find . ! -type d ! -path './share/doc/*' -printf '%P\n' | LC_ALL=C sort); }
@@ -86,6 +91,7 @@ printf 'INT(1,10) NEWLINE' >"$work/number.ctd"
 printf '7\n' >"$work/right.in"
 printf '77\n' >"$work/wrong.in"
 beside() { (cd "$work" && "$prefix/bin/$1" number.ctd "${@:2}"); }
+expect 'ctd-lint runs' same '' "$(beside ctd-lint)"
 expect 'ctd-show finds the checker beside it' same 'right.in: testdata ok!' "$(beside ctd-show right.in)"
 expect 'ctd-mutate finds the checker beside it' same '11 made, 11 rejected, 0 let through, 0 without verdict' "$(beside ctd-mutate right.in | tail -n 1)"
 expect 'the companions leave nothing where they stand' same "$wanted" "$(installed)"

@@ -1,0 +1,71 @@
+//! How findings are written.
+
+ghost use Rattle.std.specs.Prelude.{◌≡◌, ◌++◌, OnOk, IfOk, string_bytes};
+ghost use Rattle.ctd_token.specs.FaultText.{place_text};
+ghost use Rattle.ctd_lint.specs.Report.{finding_line, findings_lines, fixed_text, warning_text};
+
+use ctd_findings::{Finding, Warning};
+use ctd_token::Place;
+use std::alloc::{AllocError, Global};
+
+/// The text of a warning that names no variable.
+fn fixed_text(warning: &Warning) -> &'static str
+    ensures { result.now ≡ fixed_text warning.now }
+{
+    match warning {
+        Warning::NoValue(_) => "nothing gives this name a value: ",
+        Warning::NeverRead(_) => "nothing reads this variable: ",
+        Warning::AlwaysTrue => "the test is true whatever the data are",
+        Warning::AlwaysFalse => "the test is false whatever the data are",
+        Warning::EmptyRange => "the least integer is above the greatest",
+        Warning::EmptyString => "the string is empty",
+        Warning::StartsWithCaret => "a match always begins here, so ^ says nothing",
+        Warning::EndsWithDollar => "$ is the end of the data, not of a line",
+        Warning::Unbounded => "the pattern has no bound on its length",
+        Warning::Unreachable => "never reached: the loop before does not end",
+    }
+}
+
+/// Appends the text of a warning.
+fn write_warning(warning: &Warning, text: &mut Vec<u8>) -> Result<(), AllocError>
+    ensures { OnOk result (text.new.items ≡ text.old.items ++ warning_text warning.now) }
+{
+    text.extend_from_slice(fixed_text(warning).as_bytes())?;
+    match warning {
+        Warning::NoValue(name) => text.extend_from_slice(name.as_slice()),
+        Warning::NeverRead(name) => text.extend_from_slice(name.as_slice()),
+        Warning::AlwaysTrue | Warning::AlwaysFalse | Warning::EmptyRange => Ok(()),
+        Warning::EmptyString | Warning::StartsWithCaret | Warning::EndsWithDollar => Ok(()),
+        Warning::Unbounded | Warning::Unreachable => Ok(()),
+    }
+}
+
+/// The text of a place.
+fn place_text(alloc: Global, place: Place) -> Result<String, AllocError>
+    ensures { IfOk result (λ text. string_bytes text ≡ place_text place) }
+{
+    format!(in alloc; "{place}")
+}
+
+/// Appends the line of a finding.
+fn write_finding(alloc: Global, finding: &Finding, text: &mut Vec<u8>) -> Result<(), AllocError>
+    ensures { OnOk result (text.new.items ≡ text.old.items ++ finding_line finding.now) }
+{
+    let place = place_text(alloc, finding.place)?;
+    text.extend_from_slice(place.as_bytes())?;
+    text.extend_from_slice(b": warning: ")?;
+    write_warning(&finding.warning, text)?;
+    text.push(b'\n')?;
+    Ok(())
+}
+
+/// The lines of findings.
+pub(crate) fn findings_text(alloc: Global, found: &[Finding]) -> Result<Vec<u8>, AllocError>
+    ensures { IfOk result (λ text. text.items ≡ findings_lines found.now) }
+{
+    let mut text = Vec::new(alloc);
+    for finding in found {
+        write_finding(alloc, finding, &mut text)?;
+    }
+    Ok(text)
+}

@@ -1,0 +1,120 @@
+#!/usr/bin/env python3
+"""Runs the built ctd-lint on the rows of tests/lint.toml, on all examples, and on the programs of the cookbook.
+
+A row has a program, further words of the command line, and the findings that it has to tell: the line and the column of a command, and the text of
+the warning. `{3 ab}` in a program stands for `ababab`, and each `@` in such a text for the number of its turn. A row of the table `refusals` has
+the line on standard error in place of the findings. Programs of a megabyte are timed too.
+The last line counts passed and failed. usage: tests/lint.py [PROGRAM]"""
+from __future__ import annotations
+
+import subprocess
+import sys
+import tempfile
+import time
+import tomllib
+from collections.abc import Iterator
+from pathlib import Path
+
+from tables import unfolded
+
+TOP = Path(__file__).resolve().parent.parent
+sys.path.insert(0, str(TOP / "bench"))
+
+from cookbook import IDIOMS, programs  # noqa: E402
+
+LINTER = TOP / "crates/ctd_lint/out/ctd_lint"
+OUT_OF_TIME = 60
+# What a program of a megabyte may take, in seconds, and how often it is tried: the least counts.
+TIME_LIMIT = 0.1
+TRIES = 5
+MEGABYTE = 1_048_576
+
+# A status, and what stands on standard output and on standard error.
+Left = tuple[int, str, str]
+# A name for the report, the program, further words, and what has to be left.
+Case = tuple[str, str, list[str], Left]
+
+
+def told(findings: list[list[object]]) -> Left:
+    """What a program with these findings leaves."""
+    lines = [f"program line {line} column {column}: warning: {unfolded(text)}\n" for line, column, text in findings]
+    return int(bool(lines)), "".join(lines), ""
+
+
+def rows(table: dict[str, list[dict[str, object]]]) -> Iterator[Case]:
+    """The rows of the table."""
+    for row in table["findings"]:
+        yield f"row {row['program']}", unfolded(row["program"]), row.get("words", []), told(row["findings"])
+    for row in table["refusals"]:
+        yield f"row {row['program']}", unfolded(row["program"]), row.get("words", []), (2, "", row["line"] + "\n")
+
+
+def documented(table: dict[str, list[dict[str, object]]]) -> Iterator[Case]:
+    """All examples, and the programs of the cookbook: without findings but for those that the table explains."""
+    explained = {row["name"]: row["findings"] for row in table["explained"]}
+    texts = {str(file.relative_to(TOP)): file.read_text() for file in sorted((TOP / "examples").rglob("*.ctd"))}
+    cookbook = programs()
+    texts.update({f"cookbook {name}": cookbook[name] for name in IDIOMS})
+    for name, text in texts.items():
+        yield name, text, [], told(explained.pop(name, []))
+    for name in explained:
+        yield f"{name}, which is explained and not there", "", [], (-1, "", "")
+
+
+def hostile() -> Iterator[tuple[str, str]]:
+    """Programs of nearly a megabyte."""
+    yield "one command many times", "SPACE " * (MEGABYTE // 6)
+    yield "many names", "SET(" + ",".join(f"v{i}=0" for i in range(100_000))[: MEGABYTE - 8] + "0)"
+    yield "many names that are read", "".join(f"ASSERT(v{i}==0)" for i in range(60_000))
+    yield "one long expression", "ASSERT(" + "1+" * (MEGABYTE // 2 - 8) + "1==0)"
+    yield "one long pattern", 'REGEX("' + "[" * (MEGABYTE - 16) + '")'
+    yield "counts in a pattern", 'STRING("x") ' + 'REGEX("a{1,}")' * 1000
+    yield "one name many times", "UNSET(" + ",".join("n" for _ in range(MEGABYTE // 2 - 8)) + ")"
+
+
+class Linter:
+    """The built program, on programs that are written to a file."""
+
+    def __init__(self, program: Path, folder: Path) -> None:
+        self.program = program
+        self.file = folder / "program.ctd"
+
+    def run(self, text: str, words: list[str]) -> Left:
+        self.file.write_bytes(text.encode("latin-1"))
+        done = subprocess.run([self.program, *words, self.file], capture_output=True, text=True, timeout=OUT_OF_TIME, check=False)
+        return done.returncode, done.stdout, done.stderr
+
+    def least_time(self, text: str) -> float:
+        """The least time that the program took for a text, in seconds."""
+        times = []
+        for _ in range(TRIES):
+            start = time.perf_counter()
+            self.run(text, [])
+            times.append(time.perf_counter() - start)
+        return min(times)
+
+
+def main() -> int:
+    program = Path(sys.argv[1]).resolve() if len(sys.argv) > 1 else LINTER
+    table = tomllib.loads((TOP / "tests/lint.toml").read_text())
+    passed = failed = 0
+    with tempfile.TemporaryDirectory() as folder:
+        linter = Linter(program, Path(folder))
+        for name, text, words, wanted in [*rows(table), *documented(table)]:
+            found = linter.run(text, words)
+            passed += found == wanted
+            failed += found != wanted
+            if found != wanted:
+                print(f"lint: {name}\n    wanted {wanted}\n    found  {found}")
+        for name, text in hostile():
+            seconds = linter.least_time(text)
+            passed += seconds < TIME_LIMIT
+            failed += seconds >= TIME_LIMIT
+            if seconds >= TIME_LIMIT:
+                print(f"lint: {name}: {seconds:.2f} s")
+    print(f"{passed} passed, {failed} failed")
+    return int(failed > 0)
+
+
+if __name__ == "__main__":
+    sys.exit(main())
