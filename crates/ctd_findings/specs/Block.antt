@@ -8,8 +8,8 @@ pub record InBlock : Type 0 where
   pub previous : Option CommandTree
   pub command : CommandTree
 
--- All commands of a list behind another command, in the order of the text: each, and what stands in it before the next.
 abbrev mutual
+  -- all commands of a list behind another command, in the order of the text: each, and what stands in it before the next
   pub commands_behind : Option CommandTree → CommandList → List InBlock
   commands_behind previous Tree.done = []
   commands_behind previous (Tree.then c rest) = record { previous = previous; command = c } ∷ commands_within c ++ commands_behind (Some c) rest

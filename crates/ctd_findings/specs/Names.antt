@@ -15,8 +15,8 @@ NameList = List (List ℕ)
 abbrev pub is_among : List ℕ → NameList → Bool
 is_among name names = list_any (same_bytes name) names
 
--- the names in an expression
 abbrev mutual
+  -- the names in an expression
   pub expr_names : ExprTree → NameList
   expr_names (Tree.numeral n) = []
   expr_names (Tree.text bytes) = []
