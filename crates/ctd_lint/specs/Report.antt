@@ -19,6 +19,7 @@ pub record Call {S : Type 0} (G : Ghosts S) : Type 0 where
   pub old : S
   pub new : S
 
+-- a call that leaves a source so
 abbrev pub call : {S : Type 0} (G : Ghosts S) → S → S → Call G
 call G old new = record { old = old; new = new }
 
