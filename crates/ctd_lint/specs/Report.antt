@@ -32,7 +32,7 @@ fixed_text warnings.AlwaysFalse = codes "the test is false whatever the data are
 fixed_text warnings.EmptyRange = codes "the least integer is above the greatest"
 fixed_text warnings.EmptyString = codes "the string is empty"
 fixed_text warnings.StartsWithCaret = codes "a match always begins here, so ^ says nothing"
-fixed_text warnings.EndsWithDollar = codes "$ is the end of the data, not of a line"
+fixed_text warnings.EndsWithDollar = codes "$ is the end of the window, not of a line"
 fixed_text warnings.Unbounded = codes "the pattern has no bound on its length"
 fixed_text warnings.Unreachable = codes "never reached: the loop before does not end"
 

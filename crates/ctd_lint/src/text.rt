@@ -20,7 +20,7 @@ fn fixed_text(warning: &Warning) -> &'static str
         Warning::EmptyRange => "the least integer is above the greatest",
         Warning::EmptyString => "the string is empty",
         Warning::StartsWithCaret => "a match always begins here, so ^ says nothing",
-        Warning::EndsWithDollar => "$ is the end of the data, not of a line",
+        Warning::EndsWithDollar => "$ is the end of the window, not of a line",
         Warning::Unbounded => "the pattern has no bound on its length",
         Warning::Unreachable => "never reached: the loop before does not end",
     }
