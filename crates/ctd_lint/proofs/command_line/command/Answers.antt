@@ -1,4 +1,4 @@
-use Rattle.std.proofs.Common.{ap, ap₂, sym, subst, [], ◌∷◌, ◌≡◌, ◌∙◌, List}
+use Rattle.std.proofs.Common.{true, ap, ap₂, sym, subst, [], ◌∷◌, ◌≡◌, ◌∙◌, List}
 use Rattle.std.proofs.lemmas.Result.{IfOk-weaker}
 use Rattle.clap.specs.Built.{AddsArg, AddsInTurn}
 use Rattle.clap.specs.Words.{app_of, with_rule}
@@ -14,8 +14,8 @@ returns c =
     ap app_of_fields c.version.ensures ∙ ap (on_top (λ s. record s { has_version = true })) c.new.ensures.app in
     let all : List Arg = c.define_option.result ∷ c.program_name.result ∷ [] in
     record {
-      linter = IfOk-weaker c.args.result _ _ (λ r given.
+      linter = IfOk-weaker c.args-2.result _ _ (λ r given.
           let added : AddsInTurn AddsArg c.version.result all r = subst (λ l. AddsInTurn AddsArg c.version.result l r) c.in_ok-arguments.ensures.items given in
           let define = added.1.shape c.define_option.ensures.local.1 ∙ ap₂ with_rule bare c.define_option.ensures.rule in
-          ap app_of (sym added.2.2) ∙ added.2.1.shape c.program_name.ensures.local.1 ∙ ap₂ with_rule define c.program_name.ensures.rule) c.args.ensures;
+          ap app_of (sym added.2.2) ∙ added.2.1.shape c.program_name.ensures.local.1 ∙ ap₂ with_rule define c.program_name.ensures.rule) c.args-2.ensures;
     }

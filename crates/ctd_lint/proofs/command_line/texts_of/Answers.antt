@@ -1,5 +1,4 @@
-use Rattle.std.proofs.Common.{◌∙◌, ◌++◌, ◌∷◌, [], ap, ap₂, sym, map, arith}
-use Rattle.std.proofs.lemmas.Grind.{common_steps}
+use Rattle.std.proofs.Common.{◌∙◌, ◌++◌, ◌∷◌, [], ap, ap₂, sym, map}
 use Rattle.std.proofs.lemmas.List.{map-append, take_more}
 use Rattle.ctd_lint.proofs.command_line.texts_of.Goals as goal
 

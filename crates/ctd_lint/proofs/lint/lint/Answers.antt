@@ -1,4 +1,4 @@
-use Rattle.std.proofs.Common.{refl, ap, ◌∙◌}
+use Rattle.std.proofs.Common.{ap, ◌∙◌}
 use Rattle.ctd_program.specs.View.{command_trees}
 use Rattle.ctd_report.specs.Report.{load_report}
 use Rattle.ctd_report.proofs.WrittenLemmas.{Leaves-LeavesOneOf}
