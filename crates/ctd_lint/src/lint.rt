@@ -66,7 +66,7 @@ pub(crate) fn lint<P: Source, O: Sink, E: Sink>(
         Ok(plan) => plan,
         Err(fault) => match fault.kind {
             LoadKind::Memory => return Err(ToolFault::Memory),
-            _ => return write_load_fault(alloc, &fault, out, err),
+            _ => return write_load_fault(&fault, out, err),
         },
     };
     let found = findings(alloc, plan.commands(), presets)?;
