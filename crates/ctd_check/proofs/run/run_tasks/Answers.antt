@@ -20,7 +20,7 @@ loop-command-preserved-in-Ok g c = record {
 
 pub returns-in-Err-clause-ends : goal.returns-in-Err-clause-ends
 returns-in-Err-clause-ends g c =
-    ends_early c.args.run.now c.loop-command.run c.begin.new.run _ c.loop-command.stack.left c.next_command.new.self.left _ _ _ c.begin.new.stack c.of.result (Err c.of.result) (refl, refl) c.loop-command.invariant.goes c.in-Some.ensures.left c.in-Some.ensures.to_do
+    ends_early c.args.run.now c.loop-command.run c.begin.new.run c.args.stack.now.left c.loop-command.stack.left c.next_command.new.self.left (to_do c.args.stack.now.frames.items) _ _ c.begin.new.stack c.of.result (Err c.of.result) (refl, refl) c.loop-command.invariant.goes c.in-Some.ensures.left c.in-Some.ensures.to_do
     (halted_as _ _ _ _ c.of.ensures c.spot-spot.ensures c.in-Err.ensures.advances)
 
 pub loop-command-preserved-then-has_loop : goal.loop-command-preserved-then-has_loop
@@ -34,7 +34,7 @@ loop-command-preserved-then-has_loop g c = record {
 
 pub returns-in_err-begin_turn-clause-ends : goal.returns-in_err-begin_turn-clause-ends
 returns-in_err-begin_turn-clause-ends g c =
-    ends_early c.args.run.now c.loop-command.run c.begin_turn.new.run _ c.loop-command.stack.left c.next_command.new.self.left _ _ _ c.begin_turn.new.stack c.in_err-begin_turn.field-0.0 c.from_residual.result c.from_residual.ensures c.loop-command.invariant.goes
+    ends_early c.args.run.now c.loop-command.run c.begin_turn.new.run c.args.stack.now.left c.loop-command.stack.left c.next_command.new.self.left (to_do c.args.stack.now.frames.items) _ _ c.begin_turn.new.stack c.in_err-begin_turn.field-0.0 c.from_residual.result c.from_residual.ensures c.loop-command.invariant.goes
     c.in_default.ensures.left (ap to_do (sym c.in_default.ensures.none.0)) c.in_err-begin_turn.ensures.advances
 
 pub loop-command-preserved : goal.loop-command-preserved
