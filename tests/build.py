@@ -135,7 +135,15 @@ class Build(unittest.TestCase):
 
     def test_an_interrupt_ends_all(self) -> None:
         environment = {**self.environment, "STUB_SECONDS": "61"}
-        with subprocess.Popen(["make", "build"], cwd=self.top, env=environment, stderr=subprocess.PIPE, start_new_session=True) as make:
+        with subprocess.Popen(
+            ["make", "build"],
+            cwd=self.top,
+            env=environment,
+            stderr=subprocess.PIPE,
+            start_new_session=True,
+            # What starts in the background of a shell ignores interrupts, and so would make.
+            preexec_fn=lambda: signal.signal(signal.SIGINT, signal.SIG_DFL),
+        ) as make:
             assert make.stderr
             self.assertRegex(make.stderr.readline(), b"proving ")
             while not self.log.exists():
