@@ -77,7 +77,7 @@ def condition(tree: Tree) -> Condition:
             return Or(condition(parts[0]), condition(parts[2]))
         case "both", [_, "&&", _]:
             return And(condition(parts[0]), condition(parts[2]))
-        case "negated", ["!", _]:
+        case "negation", ["!", _]:
             return Not(condition(parts[1]))
         case "plain", ["MATCH", "(", _, ")"]:
             return Match(expression(parts[2]))

@@ -1,8 +1,8 @@
 -- What is to be done finds its patterns by their numbers.
 use Rattle.std.specs.Prelude.{ℕ, List, [], ◌∷◌, ◌++◌, Option, Result, Ok, Err}
 use Rattle.ctd_program.specs.declared.tree.PatternLiteral.{PatternLiteral}
-use Rattle.ctd_syntax.specs.Numbering.{command_literals, separator_literals, literals}
-use Rattle.ctd_loader.specs.Numbered.{AreAmong}
+use Rattle.ctd_syntax.specs.RegexNumbers.{command_literals, separator_literals, literals}
+use Rattle.ctd_loader.specs.PatternTable.{AreAmong}
 use Rattle.ctd_command.specs.declared.failure.CommandFailure.{CommandFailure}
 use Rattle.ctd_check.specs.declared.frame.Frame.{Frame}
 use Rattle.ctd_check.specs.Loops.{Task, start, turn, finish}

@@ -2,8 +2,8 @@
 ghost use Rattle.std.specs.Prelude.{◌≡◌, ◌<◌, [], ℕ, List, None, Some, IfSome, IfNone};
 ghost use Rattle.ctd_program.specs.Tree.{blocks};
 ghost use Rattle.ctd_program.specs.View.{command_tree, target};
-ghost use Rattle.ctd_syntax.specs.Numbering.{command_literals};
-ghost use Rattle.ctd_loader.specs.Numbered.{AreAmong, IsAmong};
+ghost use Rattle.ctd_syntax.specs.RegexNumbers.{command_literals};
+ghost use Rattle.ctd_loader.specs.PatternTable.{AreAmong, IsAmong};
 ghost use Rattle.ctd_command.specs.Regex.{regex};
 ghost use Rattle.ctd_command.specs.Performs.{IsSound, Performs, answering};
 ghost use Rattle.ctd_check.specs.Known.{LeavesKnown};

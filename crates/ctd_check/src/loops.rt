@@ -2,8 +2,8 @@
 ghost use Rattle.std.specs.Prelude.{◌≡◌, ℕ, List, ◌+◌, ◌≤◌, ◌∷◌, ◌++◌, [], max, Some};
 ghost use Rattle.ctd_program.specs.Tree.{list_blocks, separator_blocks};
 ghost use Rattle.ctd_program.specs.View.{boxed_separator, boxed_target, command_list, guard_tree, test_tree};
-ghost use Rattle.ctd_syntax.specs.Numbering.{literals, separator_literals};
-ghost use Rattle.ctd_loader.specs.Numbered.{AreAmong};
+ghost use Rattle.ctd_syntax.specs.RegexNumbers.{literals, separator_literals};
+ghost use Rattle.ctd_loader.specs.PatternTable.{AreAmong};
 ghost use Rattle.ctd_command.specs.Performs.{IsSound, Performs, answering};
 ghost use Rattle.ctd_check.specs.Known.{LeavesKnown};
 ghost use Rattle.ctd_check.specs.Loops.{tasks, loop_of, turn, take_turn, count_turn, goes_on, guard_of, repeat, choice};

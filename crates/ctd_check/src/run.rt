@@ -1,9 +1,9 @@
 //! The run of a program: its tasks one after the other, each for one step.
 ghost use Rattle.std.specs.Prelude.{◌≡◌, ◌≤◌, ◌<◌, ◌+◌, ◌*◌, ◌^◌, ◌∷◌, [], length, is_some, true, OnOk, IfSome, Some};
-ghost use Rattle.ctd_source.specs.CursorState.{state_of};
+ghost use Rattle.ctd_source.specs.CursorCalls.{state_of};
 ghost use Rattle.ctd_program.specs.Tree.{blocks};
 ghost use Rattle.ctd_program.specs.View.{command_tree};
-ghost use Rattle.ctd_syntax.specs.Numbering.{command_literals};
+ghost use Rattle.ctd_syntax.specs.RegexNumbers.{command_literals};
 ghost use Rattle.ctd_command.specs.Performs.{IsSound, state};
 ghost use Rattle.ctd_check.specs.Known.{AreKnown};
 ghost use Rattle.ctd_check.specs.Loops.{start, tasks_before_turn};

@@ -7,7 +7,7 @@ use Rattle.ctd_source.specs.declared.cursor.Cursor.{Cursor}
 use Rattle.ctd_source.specs.declared.spot.LookFault.{LookFault}
 use Rattle.ctd_source.specs.TestData.{TestData, look, first_of, is_byte}
 use Rattle.ctd_source.specs.Consistency.{IsConsistentWith}
-use Rattle.ctd_source.specs.CursorState.{state_of, ReadsOn, MovesPast, GivesByte, PassesIfEqual, whether_byte}
+use Rattle.ctd_source.specs.CursorCalls.{state_of, ReadsOn, MovesPast, GivesByte, PassesIfEqual, whether_byte}
 use Rattle.ctd_source.specs.Received.{AdvancesSuchThat}
 use Rattle.ctd_source.proofs.AdvanceLemmas.{advances_so, advances_both, advances_nowhere, advances_looking, advances_moving}
 use Rattle.ctd_store.specs.Store.{History}

@@ -10,7 +10,7 @@ use Rattle.ctd_store.specs.declared.value.Value.{Value}
 use Rattle.ctd_store.specs.Store.{History, Key, assign}
 use Rattle.ctd_value.specs.declared.fault.EvalFault.{EvalFault}
 use Rattle.ctd_value.specs.Fault.{ValueFault, with_fault, Gives, ◌>>=◌}
-use Rattle.ctd_value.specs.Setting.{with_variable, with_expression}
+use Rattle.ctd_value.specs.Assignments.{with_variable, with_expression}
 use Rattle.ctd_value.specs.Val.{val, key}
 use Rattle.ctd_command.specs.declared.machine.Run.{Run}
 use Rattle.ctd_command.specs.declared.failure.CommandFailure.{CommandFailure}

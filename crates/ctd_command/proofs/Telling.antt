@@ -5,7 +5,7 @@ use Rattle.std.specs.Result.{IsErr, IsErrAnd}
 use Rattle.ctd_source.specs.declared.source.Source.{Ghosts}
 use Rattle.ctd_source.specs.declared.cursor.Cursor.{Cursor}
 use Rattle.ctd_source.specs.Consistency.{IsConsistentWith}
-use Rattle.ctd_source.specs.CursorState.{state_of, ReadsOn}
+use Rattle.ctd_source.specs.CursorCalls.{state_of, ReadsOn}
 use Rattle.ctd_source.specs.TestData.{TestData, next_byte}
 use Rattle.ctd_source.proofs.AdvanceLemmas.{advances_so, advances_nowhere, advances_reading}
 use Rattle.ctd_program.specs.Tree.{TestTree}

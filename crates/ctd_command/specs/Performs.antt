@@ -1,7 +1,7 @@
 -- What each method of a run ensures.
 use Rattle.std.specs.Prelude.{◌≡◌, true, ℤ, int_le, None, Result, Ok, Err, OnOk}
 use Rattle.ctd_source.specs.declared.source.Source.{Ghosts}
-use Rattle.ctd_source.specs.CursorState.{state_of}
+use Rattle.ctd_source.specs.CursorCalls.{state_of}
 use Rattle.ctd_source.specs.TestData.{TestData}
 use Rattle.ctd_source.specs.Received.{AdvancesSuchThat}
 use Rattle.ctd_program.specs.Tree.{ExprTree}

@@ -12,7 +12,7 @@ use crate::machine::Run;
 use ctd_program::{Expr, Test, Var};
 use ctd_source::Source;
 use ctd_value::{
-    count_of, holds, number_at_hand, number_of, set_number, truth_at_hand, truth_in_front_of,
+    count_of, holds, fast_number, number_of, set_number, fast_test, test_at_byte,
 };
 
 impl<'d, D: Source> Run<'d, D> {
@@ -31,7 +31,7 @@ impl<'d, D: Source> Run<'d, D> {
         requires sound { IsSound self.now }
         ensures performs { IfSome result (λ n. Performs self.now self.now (Ok n) (evaluate (number_of (expr_tree e.now)))) }
     {
-        number_at_hand(e, &self.store)
+        fast_number(e, &self.store)
     }
 
     /// How often a loop runs. A string is WrongType, and a number outside 0 .. 2^64 - 1 is Count.
@@ -81,7 +81,7 @@ impl<'d, D: Source> Run<'d, D> {
         requires sound { IsSound self.now }
         ensures performs { IfSome result (λ truth. Performs self.now self.now (Ok truth) (answer (test_tree t.now))) }
     {
-        truth_at_hand(t, &self.store)
+        fast_test(t, &self.store)
     }
 
     /// Whether any test is true, which may ask for the next byte.
@@ -103,7 +103,7 @@ impl<'d, D: Source> Run<'d, D> {
         ensures performs { IfSome result (λ truth. Performs self.now self.now (Ok truth) (answer (test_tree t.now))) }
     {
         let byte = self.cursor.held_run().first()?;
-        truth_in_front_of(*byte, t)
+        test_at_byte(*byte, t)
     }
 
     /// Whether any test is true, by its parts. Out of line: keeps the callers small, which answer most tests themselves.

@@ -1,6 +1,6 @@
 //! INT: an integer of any length, in an interval.
 ghost use Rattle.std.specs.Prelude.{◌≡◌, OnOk, IfSome, None, true};
-ghost use Rattle.ctd_source.specs.CursorState.{state_of};
+ghost use Rattle.ctd_source.specs.CursorCalls.{state_of};
 ghost use Rattle.ctd_source.specs.Received.{AdvancesSuchThat};
 ghost use Rattle.ctd_program.specs.View.{expr_tree, target};
 ghost use Rattle.ctd_command.specs.Commands.{int, integer};

@@ -1,6 +1,6 @@
 //! REGEX: a match of its pattern at the start of the window.
 ghost use Rattle.std.specs.Prelude.{◌≡◌, ◌≤◌, length, Some, IfOk};
-ghost use Rattle.ctd_source.specs.CursorState.{state_of};
+ghost use Rattle.ctd_source.specs.CursorCalls.{state_of};
 ghost use Rattle.ctd_program.specs.View.{target, var_tree};
 ghost use Rattle.ctd_command.specs.Regex.{matched_len, regex, shorter_match};
 ghost use Rattle.ctd_command.specs.Performs.{IsSound, Performs, AlwaysDoes};

@@ -5,7 +5,7 @@ use Rattle.ctd_source.specs.declared.source.Source.{Ghosts}
 use Rattle.ctd_source.specs.declared.source.Seen.{Seen}
 use Rattle.ctd_source.specs.declared.source.Seen.TheVariants.{Going, Ended, Broken}
 use Rattle.ctd_source.specs.Agreement.{Agrees}
-use Rattle.ctd_source.specs.CursorState.{Gave}
+use Rattle.ctd_source.specs.CursorCalls.{Gave}
 use Rattle.ctd_token.specs.declared.limits.TheConstants.{PROGRAM_LIMIT}
 use Rattle.ctd_token.specs.declared.fault.LoadFault.{LoadFault}
 use Rattle.ctd_token.specs.declared.fault.LoadKind.TheVariants.{ProgramTooLong}
@@ -34,7 +34,7 @@ given_of G old new text bytes starts gave =
     record {
       rest = cut.0;
       front = cut.1;
-      ended = λ e. subst (λ o. IfSome o (λ b. text ≡ b)) starts.left (gave.all starts.going e);
+      ended = λ e. subst (λ o. IfSome o (λ b. text ≡ b)) starts.left (gave.end.all starts.going e);
       never_broken = starts.never_broken new;
     }
 

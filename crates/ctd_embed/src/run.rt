@@ -3,7 +3,7 @@
 ghost use Rattle.std.specs.Prelude.{◌≡◌, ◌==◌, false};
 ghost use Rattle.std.specs.List.{slice_split};
 ghost use Rattle.ctd_tool.specs.Theorem.{EndsWithReport};
-ghost use Rattle.ctd_report.specs.Written.{change};
+ghost use Rattle.ctd_report.specs.Written.{before_after};
 ghost use Rattle.ctd_embed.specs.Buffers.{HoldReport};
 ghost use Rattle.ctd_embed.specs.InMemory.{IsAnswerTo};
 
@@ -34,7 +34,7 @@ fn run_words<O: Sink, E: Sink>(
 ) -> u8
     requires out_works { O.has_failed out.old ≡ false }
     requires err_works { E.has_failed err.old ≡ false }
-    ensures { EndsWithReport (change O.Sink out.old out.new) (change E.Sink err.old err.new)
+    ensures { EndsWithReport (before_after O.Sink out.old out.new) (before_after E.Sink err.old err.new)
         (IsAnswerTo words.now program.now testdata.now) result }
 {
     let setup = match settings(alloc, words) {

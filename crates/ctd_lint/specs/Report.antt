@@ -1,7 +1,7 @@
 -- What ctd-lint writes.
 use Rattle.std.specs.Prelude.{◌≡◌, ◌⊎◌, ◌+◌, ◌≤◌, ℕ, List, [], ◌∷◌, ◌++◌, length, codes}
 use Rattle.ctd_source.specs.declared.source.Source.{Ghosts}
-use Rattle.ctd_source.specs.CursorState.{Gave}
+use Rattle.ctd_source.specs.CursorCalls.{Gave}
 use Rattle.ctd_token.specs.FaultText.{place_text}
 use Rattle.ctd_token.specs.declared.fault.LoadFault.{LoadFault}
 use Rattle.ctd_token.specs.declared.limits.TheConstants.{PROGRAM_LIMIT}

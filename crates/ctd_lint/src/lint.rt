@@ -2,7 +2,7 @@
 
 ghost use Rattle.std.specs.Prelude.{◌≡◌, false};
 ghost use Rattle.ctd_source.specs.declared.source.Seen.TheVariants.{Going};
-ghost use Rattle.ctd_report.specs.Written.{Leaves, LeavesOneOf, change};
+ghost use Rattle.ctd_report.specs.Written.{Leaves, LeavesOneOf, before_after};
 ghost use Rattle.ctd_lint.specs.Report.{IsLintReport, call, findings_report, findings_status};
 
 use crate::text::findings_text;
@@ -39,7 +39,7 @@ fn write_findings<O: Sink, E: Sink>(
 ) -> Result<u8, ToolFault>
     requires out_works { O.has_failed out.old ≡ false }
     requires err_works { E.has_failed err.old ≡ false }
-    ensures written { Leaves (change O.Sink out.old out.new) (change E.Sink err.old err.new) (findings_report found.now) result }
+    ensures written { Leaves (before_after O.Sink out.old out.new) (before_after E.Sink err.old err.new) (findings_report found.now) result }
 {
     let text = findings_text(alloc, found)?;
     write_report(text.as_slice(), &[], status_of(found), out, err)
@@ -59,7 +59,7 @@ pub(crate) fn lint<P: Source, O: Sink, E: Sink>(
     requires program_going { P.seen program.old ≡ Going }
     requires out_works { O.has_failed out.old ≡ false }
     requires err_works { E.has_failed err.old ≡ false }
-    ensures written { LeavesOneOf (change O.Sink out.old out.new) (change E.Sink err.old err.new)
+    ensures written { LeavesOneOf (before_after O.Sink out.old out.new) (before_after E.Sink err.old err.new)
         (IsLintReport presets.now (call P.Source program.old program.new)) result }
 {
     let plan = match Plan::load(alloc, program) {

@@ -1,7 +1,7 @@
 //! The words, the file and the streams of the process.
 
 ghost use Rattle.std.specs.Prelude.{◌≡◌, ◌≢◌, false, Err};
-ghost use Rattle.ctd_report.specs.Written.{Leaves, LeavesOneOf, change};
+ghost use Rattle.ctd_report.specs.Written.{Leaves, LeavesOneOf, before_after};
 ghost use Rattle.ctd_lint.specs.FileReport.{IsFileReport, IsNamedReport, usage_report, usage_text};
 
 use crate::command_line::{LintFault, LintSetup, settings};
@@ -44,7 +44,7 @@ fn report_usage<O: Sink, E: Sink>(
 ) -> Result<u8, ToolFault>
     requires out_works { O.has_failed out.old ≡ false }
     requires err_works { E.has_failed err.old ≡ false }
-    ensures written { Leaves (change O.Sink out.old out.new) (change E.Sink err.old err.new) (usage_report fault) result }
+    ensures written { Leaves (before_after O.Sink out.old out.new) (before_after E.Sink err.old err.new) (usage_report fault) result }
     ensures no_memory { result ≢ Err ToolFault.Memory }
 {
     let text = usage_text(fault).as_bytes();
@@ -66,7 +66,7 @@ fn lint_file<R: Read + Drop, O: Sink, E: Sink>(
 ) -> Result<u8, ToolFault>
     requires out_works { O.has_failed out.old ≡ false }
     requires err_works { E.has_failed err.old ≡ false }
-    ensures written { LeavesOneOf (change O.Sink out.old out.new) (change E.Sink err.old err.new)
+    ensures written { LeavesOneOf (before_after O.Sink out.old out.new) (before_after E.Sink err.old err.new)
         (IsFileReport ⟦<FromRead<BufReader<R>> as Source>⟧ setup.now) result }
 {
     let Ok(reader) = BufReader::new(alloc, file) else {
@@ -106,7 +106,7 @@ fn lint_named<O: Sink, E: Sink>(
 ) -> Result<u8, ToolFault>
     requires out_works { O.has_failed out.old ≡ false }
     requires err_works { E.has_failed err.old ≡ false }
-    ensures written { LeavesOneOf (change O.Sink out.old out.new) (change E.Sink err.old err.new)
+    ensures written { LeavesOneOf (before_after O.Sink out.old out.new) (before_after E.Sink err.old err.new)
         (IsNamedReport ⟦<FromRead<BufReader<File>> as Source>⟧ setup.now) result }
 {
     let alloc = rt.alloc();

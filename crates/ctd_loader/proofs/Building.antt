@@ -9,7 +9,7 @@ use Rattle.ctd_pattern.specs.declared.pattern.PatternFault.{PatternFault}
 use Rattle.ctd_pattern.specs.declared.pattern.PatternFault.TheVariants.{NotText, NotPattern, TooLarge}
 use Rattle.ctd_pattern.specs.declared.pattern.PatternFault.TheVariants as patterns
 use Rattle.ctd_pattern.specs.Pattern.{IsPattern, IsNoPattern}
-use Rattle.ctd_loader.specs.Numbered.{texts_of}
+use Rattle.ctd_loader.specs.PatternTable.{texts_of}
 use Rattle.ctd_loader.specs.Literals.{literals_at}
 use Rattle.ctd_loader.specs.Loading.{ArePatterns, IsBadPattern, IsUnbuilt}
 

@@ -2,7 +2,7 @@
 use Rattle.std.proofs.Common.{◌≡◌, ◌≢◌, ◌≤◌, ◌+◌, ℕ, List, length, ap, None, Result, Ok, Err, IfErr}
 use Rattle.std.specs.Result.{IsErr, IsErrAnd}
 use Rattle.ctd_source.specs.declared.source.Source.{Ghosts}
-use Rattle.ctd_source.specs.CursorState.{Gave}
+use Rattle.ctd_source.specs.CursorCalls.{Gave}
 use Rattle.ctd_token.specs.declared.fault.LoadFault.{LoadFault}
 use Rattle.ctd_token.specs.declared.limits.TheConstants.{PROGRAM_LIMIT}
 use Rattle.ctd_token.specs.declared.fault.LoadKind.TheVariants.{Memory}

@@ -4,7 +4,7 @@ use Rattle.std.specs.Io.KnownBytes.{Consumes, IsAtEnd}
 use Rattle.ctd_source.specs.declared.source.Source.{Ghosts}
 use Rattle.ctd_source.specs.declared.source.Seen.TheVariants.{Going, Ended}
 use Rattle.ctd_source.specs.Pull.{seen_after}
-use Rattle.ctd_source.specs.CursorState.{Gave}
+use Rattle.ctd_source.specs.CursorCalls.{Gave}
 use Rattle.ctd_source.specs.ReadingOn.{gave_both, consumed_to_end}
 
 -- a source that gave bytes goes on

@@ -1,3 +1,3 @@
 pub mod Loading
 pub mod Literals
-pub mod Numbered
+pub mod PatternTable

@@ -3,14 +3,14 @@ use Rattle.std.specs.Prelude.{◌≡◌, ◌≢◌, ◌≤◌, ◌⊎◌, ◌+�
 use Rattle.ctd_source.specs.declared.source.Source.{Ghosts}
 use Rattle.ctd_source.specs.declared.source.Seen.{Seen}
 use Rattle.ctd_source.specs.declared.source.Seen.TheVariants.{Going, Ended, Broken}
-use Rattle.ctd_source.specs.CursorState.{Gave}
+use Rattle.ctd_source.specs.CursorCalls.{Gave}
 use Rattle.ctd_token.specs.declared.limits.TheConstants.{PROGRAM_LIMIT}
 use Rattle.ctd_token.specs.declared.fault.LoadFault.{LoadFault}
 use Rattle.ctd_token.specs.declared.fault.LoadKind.{LoadKind}
 use Rattle.ctd_token.specs.declared.fault.LoadKind.TheVariants.{BadPattern, ProgramTooLong, Read, Memory}
 use Rattle.ctd_program.specs.declared.tree.PatternLiteral.{PatternLiteral}
 use Rattle.ctd_program.specs.Tree.{CommandList}
-use Rattle.ctd_syntax.specs.Numbering.{literals}
+use Rattle.ctd_syntax.specs.RegexNumbers.{literals}
 use Rattle.ctd_syntax.specs.Reading.{IsRefused, Parses}
 use Rattle.ctd_pattern.specs.declared.pattern.PatternFault.{PatternFault}
 use Rattle.ctd_pattern.specs.declared.pattern.PatternFault.TheVariants.{NotText, NotPattern, TooLarge}

@@ -1,7 +1,7 @@
 //! The literals of REGEX in a program, in the order of the text.
 ghost use Rattle.std.specs.Prelude.{◌≡◌, ◌++◌, OnOk, IfOk};
 ghost use Rattle.ctd_program.specs.View.{boxed_separator, command_tree, command_trees};
-ghost use Rattle.ctd_syntax.specs.Numbering.{literals, command_literals, separator_literals};
+ghost use Rattle.ctd_syntax.specs.RegexNumbers.{literals, command_literals, separator_literals};
 ghost use Rattle.ctd_loader.specs.Literals.{literals_at};
 
 use ctd_syntax::{Action, Choice, Command, Loop, PatternLiteral};

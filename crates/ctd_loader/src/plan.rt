@@ -4,8 +4,8 @@ ghost use Rattle.ctd_source.specs.declared.source.Seen.TheVariants.{Going};
 ghost use Rattle.ctd_token.specs.declared.limits.TheConstants.{PROGRAM_LIMIT};
 ghost use Rattle.ctd_program.specs.Tree.{list_blocks};
 ghost use Rattle.ctd_program.specs.View.{command_trees};
-ghost use Rattle.ctd_syntax.specs.Numbering.{IsNumbered, literals};
-ghost use Rattle.ctd_loader.specs.Numbered.{texts_of};
+ghost use Rattle.ctd_syntax.specs.RegexNumbers.{IsNumbered, literals};
+ghost use Rattle.ctd_loader.specs.PatternTable.{texts_of};
 ghost use Rattle.ctd_loader.specs.Literals.{literals_at};
 ghost use Rattle.ctd_loader.specs.Loading.{ArePatterns, IsBadPattern};
 
@@ -99,7 +99,7 @@ fn matchers_of(alloc: Global, patterns: &[Pattern]) -> Result<Vec<Matcher<'_>>, 
 }
 
 impl Plan {
-    ghost use Rattle.ctd_loader.specs.Numbered.{AreAmong};
+    ghost use Rattle.ctd_loader.specs.PatternTable.{AreAmong};
     ghost use Rattle.ctd_loader.specs.Loading.{GivesProgramOrFault, IsReady, LoadsFrom, TextHasFault};
 
     /// The commands, with at most 200 blocks open at each.

@@ -2,7 +2,7 @@
 ghost use Rattle.std.specs.Prelude.{◌≡◌, ◌<◌, ◌≤◌, ◌+◌, ℕ, List, true, false, length, IfOk, IfErr};
 ghost use Rattle.std.specs.Io.KnownBytes.{IsAtEnd};
 ghost use Rattle.ctd_source.specs.Pull.{seen_after, pull_count, GivesNext};
-ghost use Rattle.ctd_source.specs.CursorState.{Gave};
+ghost use Rattle.ctd_source.specs.CursorCalls.{Gave};
 ghost use Rattle.ctd_source.specs.declared.source.Seen.TheVariants.{Going, Ended, Broken};
 
 use ctd_source::{Failed, Source};

@@ -4,17 +4,17 @@ use Rattle.ctd_report.specs.declared.sink.Sink.{Ghosts}
 use Rattle.ctd_report.specs.declared.written.ToolFault.{ToolFault}
 use Rattle.ctd_report.specs.declared.written.ToolFault.TheVariants.{Memory, Write}
 use Rattle.ctd_report.specs.Report.{Report}
-use Rattle.ctd_report.specs.Written.{Change, Leaves, LeavesOneOf}
+use Rattle.ctd_report.specs.Written.{BeforeAfter, Leaves, LeavesOneOf}
 
 -- what leaves a report leaves one of some, if it is one of them
-pub Leaves-LeavesOneOf : {O E : Type 0} {S : Ghosts O} {T : Ghosts E} (out : Change S) (err : Change T) (IsReport : Report → Type 0) (report : Report)
+pub Leaves-LeavesOneOf : {O E : Type 0} {S : Ghosts O} {T : Ghosts E} (out : BeforeAfter S) (err : BeforeAfter T) (IsReport : Report → Type 0) (report : Report)
     (result : Result ℕ ToolFault) → IsReport report → Leaves out err report result → LeavesOneOf out err IsReport result
 Leaves-LeavesOneOf out err IsReport report (Ok status) is h = (report, is, h)
 Leaves-LeavesOneOf out err IsReport report (Err Write) is h = (report, is, h)
 Leaves-LeavesOneOf out err IsReport report (Err Memory) is h = h
 
 -- what leaves one of some reports leaves one of more
-pub LeavesOneOf-weaker : {O E : Type 0} {S : Ghosts O} {T : Ghosts E} (out : Change S) (err : Change T) (IsReport IsMore : Report → Type 0) (result : Result ℕ ToolFault)
+pub LeavesOneOf-weaker : {O E : Type 0} {S : Ghosts O} {T : Ghosts E} (out : BeforeAfter S) (err : BeforeAfter T) (IsReport IsMore : Report → Type 0) (result : Result ℕ ToolFault)
     → ((report : Report) → IsReport report → IsMore report) → LeavesOneOf out err IsReport result → LeavesOneOf out err IsMore result
 LeavesOneOf-weaker out err IsReport IsMore (Ok status) more h = (h.0, more h.0 h.1, h.2)
 LeavesOneOf-weaker out err IsReport IsMore (Err Write) more h = (h.0, more h.0 h.1, h.2)

@@ -7,13 +7,13 @@ use Rattle.ctd_report.specs.declared.written.ToolFault.TheVariants.{Memory, Writ
 use Rattle.ctd_report.specs.Report.{Report}
 
 -- a stream before and after a call
-pub record Change {S : Type 0} (G : Ghosts S) : Type 0 where
+pub record BeforeAfter {S : Type 0} (G : Ghosts S) : Type 0 where
   pub old : S
   pub new : S
 
 -- the stream as a call begins and as it ends
-abbrev pub change : {S : Type 0} (G : Ghosts S) → S → S → Change G
-change G old new = record { old = old; new = new }
+abbrev pub before_after : {S : Type 0} (G : Ghosts S) → S → S → BeforeAfter G
+before_after G old new = record { old = old; new = new }
 
 -- the first bytes of a text were appended, some or all of them or none
 abbrev pub AppendsPart : Option (List ℕ) → Option (List ℕ) → List ℕ → Type 0
@@ -26,40 +26,40 @@ pub record FlushedAfter {S : Type 0} (G : Ghosts S) (old new : S) (text : List �
   pub last : G.flushes before new
 
 -- the stream took the whole text and was flushed after it, and works; where there is no text it was not touched
-pub record TakesAll {S : Type 0} {G : Ghosts S} (stream : Change G) (text : List ℕ) : Type 0 where
+pub record TakesAll {S : Type 0} {G : Ghosts S} (stream : BeforeAfter G) (text : List ℕ) : Type 0 where
   pub bytes : Appends (G.taken stream.old) (G.taken stream.new) text
   pub flushed : text ≢ [] → FlushedAfter G stream.old stream.new text
   pub works : G.has_failed stream.new ≡ false
   pub idle : text ≡ [] → stream.new ≡ stream.old
 
 -- the stream failed while it was given a text, of which it took a part from the start
-pub record FailsIn {S : Type 0} {G : Ghosts S} (stream : Change G) (text : List ℕ) : Type 0 where
+pub record FailsIn {S : Type 0} {G : Ghosts S} (stream : BeforeAfter G) (text : List ℕ) : Type 0 where
   pub some : text ≢ []
   pub bytes : AppendsPart (G.taken stream.old) (G.taken stream.new) text
   pub failed : G.has_failed stream.new ≡ true
 
 -- the stream was not touched
-abbrev pub IsUntouched : {S : Type 0} {G : Ghosts S} → Change G → Type 0
+abbrev pub IsUntouched : {S : Type 0} {G : Ghosts S} → BeforeAfter G → Type 0
 IsUntouched stream = stream.new ≡ stream.old
 
 -- the report was written whole, and the status is its own
-pub record WritesAll {O E : Type 0} {G : Ghosts O} {H : Ghosts E} (out : Change G) (err : Change H) (report : Report) (status : ℕ) : Type 0 where
+pub record WritesAll {O E : Type 0} {G : Ghosts O} {H : Ghosts E} (out : BeforeAfter G) (err : BeforeAfter H) (report : Report) (status : ℕ) : Type 0 where
   pub status_is : status ≡ report.status
   pub out_text : TakesAll out report.out
   pub err_text : TakesAll err report.err
 
 -- one stream failed while it was given its text, and the other was not touched
-abbrev pub BreaksOff : {O E : Type 0} {G : Ghosts O} {H : Ghosts E} → Change G → Change H → Report → Type 0
+abbrev pub BreaksOff : {O E : Type 0} {G : Ghosts O} {H : Ghosts E} → BeforeAfter G → BeforeAfter H → Report → Type 0
 BreaksOff out err report = (FailsIn out report.out × IsUntouched err) ⊎ (FailsIn err report.err × IsUntouched out)
 
 -- what a call leaves that writes this report: all of it, a part where a stream failed, and nothing where memory ran out
-abbrev pub Leaves : {O E : Type 0} {G : Ghosts O} {H : Ghosts E} → Change G → Change H → Report → Result ℕ ToolFault → Type 0
+abbrev pub Leaves : {O E : Type 0} {G : Ghosts O} {H : Ghosts E} → BeforeAfter G → BeforeAfter H → Report → Result ℕ ToolFault → Type 0
 Leaves out err report (Ok status) = WritesAll out err report status
 Leaves out err report (Err Write) = BreaksOff out err report
 Leaves out err report (Err Memory) = IsUntouched out × IsUntouched err
 
 -- what a call leaves that writes one of these reports; where memory ran out, nothing is said of the report
-abbrev pub LeavesOneOf : {O E : Type 0} {G : Ghosts O} {H : Ghosts E} → Change G → Change H → (Report → Type 0) → Result ℕ ToolFault → Type 0
+abbrev pub LeavesOneOf : {O E : Type 0} {G : Ghosts O} {H : Ghosts E} → BeforeAfter G → BeforeAfter H → (Report → Type 0) → Result ℕ ToolFault → Type 0
 LeavesOneOf out err IsReport (Ok status) = (report : Report) × IsReport report × WritesAll out err report status
 LeavesOneOf out err IsReport (Err Write) = (report : Report) × IsReport report × BreaksOff out err report
 LeavesOneOf out err IsReport (Err Memory) = IsUntouched out × IsUntouched err

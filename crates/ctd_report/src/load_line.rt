@@ -2,7 +2,7 @@
 
 ghost use Rattle.std.specs.Prelude.{◌≡◌, ◌+◌, ◌≤◌, ◌++◌, length};
 ghost use Rattle.arrayvec.specs.ArrayVec.{array_vec_len};
-ghost use Rattle.ctd_token.specs.FaultText.{placed};
+ghost use Rattle.ctd_token.specs.FaultText.{place_prefix};
 ghost use Rattle.ctd_report.specs.Report.{load_line};
 
 use arrayvec::ArrayVec;
@@ -24,7 +24,7 @@ fn append(line: &mut ArrayVec<u8, ROOM>, text: &[u8])
 /// Appends a place and the colon behind it, where there is a place.
 fn append_place(line: &mut ArrayVec<u8, ROOM>, place: Option<Place>)
     requires { array_vec_len line.old ≤ 15 }
-    ensures items { line.new.items ≡ line.old.items ++ placed place }
+    ensures items { line.new.items ≡ line.old.items ++ place_prefix place }
     ensures len { array_vec_len line.new ≤ array_vec_len line.old + 43 }
 {
     let Some(place) = place else {

@@ -3,7 +3,7 @@
 ghost use Rattle.std.specs.Prelude.{◌≡◌, ◌≢◌, false, string_bytes, true, IfOk};
 ghost use Rattle.ctd_token.specs.declared.fault.LoadKind.TheVariants.{Memory};
 ghost use Rattle.ctd_report.specs.Report.{check_report, load_report, on_err, on_out, open_line, open_report, outcome_line, usage_report, usage_text};
-ghost use Rattle.ctd_report.specs.Written.{Leaves, change};
+ghost use Rattle.ctd_report.specs.Written.{Leaves, before_after};
 
 use crate::load_line::load_line_of;
 use crate::sink::Sink;
@@ -49,7 +49,7 @@ pub fn write_outcome<O: Sink, E: Sink>(
 ) -> Result<u8, ToolFault>
     requires out_works { O.has_failed out.old ≡ false }
     requires err_works { E.has_failed err.old ≡ false }
-    ensures written { Leaves (change O.Sink out.old out.new) (change E.Sink err.old err.new)
+    ensures written { Leaves (before_after O.Sink out.old out.new) (before_after E.Sink err.old err.new)
         (check_report quiet outcome.now) result }
 {
     let line = line_of(alloc, outcome)?;
@@ -70,7 +70,7 @@ pub fn write_load_fault<O: Sink, E: Sink>(
 ) -> Result<u8, ToolFault>
     requires out_works { O.has_failed out.old ≡ false }
     requires err_works { E.has_failed err.old ≡ false }
-    ensures written { Leaves (change O.Sink out.old out.new) (change E.Sink err.old err.new)
+    ensures written { Leaves (before_after O.Sink out.old out.new) (before_after E.Sink err.old err.new)
         (load_report fault.now) result }
     ensures memory { fault.now.kind ≡ Memory → result ≡ Err ToolFault.Memory }
     ensures alone { result ≡ Err ToolFault.Memory → fault.now.kind ≡ Memory }
@@ -101,7 +101,7 @@ pub fn write_cannot_open<O: Sink, E: Sink>(
 ) -> Result<u8, ToolFault>
     requires out_works { O.has_failed out.old ≡ false }
     requires err_works { E.has_failed err.old ≡ false }
-    ensures written { Leaves (change O.Sink out.old out.new) (change E.Sink err.old err.new)
+    ensures written { Leaves (before_after O.Sink out.old out.new) (before_after E.Sink err.old err.new)
         (open_report name.now) result }
 {
     let line = open_line_of(alloc, name.as_slice())?;
@@ -163,7 +163,7 @@ pub fn report_usage<O: Sink, E: Sink>(
 ) -> Result<u8, ToolFault>
     requires out_works { O.has_failed out.old ≡ false }
     requires err_works { E.has_failed err.old ≡ false }
-    ensures written { Leaves (change O.Sink out.old out.new) (change E.Sink err.old err.new)
+    ensures written { Leaves (before_after O.Sink out.old out.new) (before_after E.Sink err.old err.new)
         (usage_report fault.now) result }
     ensures no_memory { result ≢ Err ToolFault.Memory }
 {

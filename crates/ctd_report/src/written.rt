@@ -2,7 +2,7 @@
 
 ghost use Rattle.std.specs.Prelude.{◌≡◌, ◌≢◌, ◌⊎◌, [], false, is_err, OnOk, OnErr};
 ghost use Rattle.std.specs.Io.KnownBytes.{Appends};
-ghost use Rattle.ctd_report.specs.Written.{AppendsPart, FlushedAfter, Leaves, change};
+ghost use Rattle.ctd_report.specs.Written.{AppendsPart, FlushedAfter, Leaves, before_after};
 
 use crate::sink::Sink;
 use ctd_source::Failed;
@@ -64,7 +64,7 @@ pub fn write_report<O: Sink, E: Sink>(
     requires one { (out_text.now ≡ []) ⊎ (err_text.now ≡ []) }
     requires out_works { O.has_failed out.old ≡ false }
     requires err_works { E.has_failed err.old ≡ false }
-    ensures written { Leaves (change O.Sink out.old out.new) (change E.Sink err.old err.new)
+    ensures written { Leaves (before_after O.Sink out.old out.new) (before_after E.Sink err.old err.new)
         (record { out = out_text.now; err = err_text.now; status = status }) result }
     ensures no_memory { result ≢ Err ToolFault.Memory }
 {

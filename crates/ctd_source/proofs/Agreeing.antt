@@ -8,7 +8,7 @@ use Rattle.ctd_source.specs.declared.source.Seen.TheVariants.{Going, Ended, Brok
 use Rattle.ctd_source.specs.TestData.{TestData, spot_at}
 use Rattle.ctd_source.specs.Agreement.{Agrees, is_broken, known}
 use Rattle.ctd_source.specs.Consistency.{CursorState, IsConsistentWith, IsAtStart}
-use Rattle.ctd_source.specs.CursorState.{state_of, source, Gave, ReadsOn, MovesPast}
+use Rattle.ctd_source.specs.CursorCalls.{state_of, source, Gave, ReadsOn, MovesPast}
 use Rattle.ctd_source.specs.Received.{HasReceived}
 use Rattle.ctd_source.specs.ReadingOn.{gave_nothing, gave_both}
 

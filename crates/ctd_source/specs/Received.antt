@@ -6,7 +6,7 @@ use Rattle.ctd_source.specs.declared.source.Seen.TheVariants.{Going}
 use Rattle.ctd_source.specs.TestData.{TestData}
 use Rattle.ctd_source.specs.Agreement.{Agrees, known}
 use Rattle.ctd_source.specs.Consistency.{IsConsistentWith, IsAtStart}
-use Rattle.ctd_source.specs.CursorState.{state_of, source, BorrowSame, Gave, ReadsOn, MovesPast}
+use Rattle.ctd_source.specs.CursorCalls.{state_of, source, BorrowSame, Gave, ReadsOn, MovesPast}
 
 module _ {R : Type 0} {G : Ghosts R} where
   -- since it was at first, the source of a cursor gave these bytes; the cursor took them all, and is consistent with them

@@ -13,14 +13,14 @@ use crate::array::{Array, has_indices};
 use crate::index::Index;
 use crate::value::Value;
 use crate::value_ref::ValueRef;
-use ctd_token::{KnownName, Name};
+use ctd_token::{NameKey, Name};
 use std::alloc::{AllocError, Global};
 use std::mem::replace;
 
 /// A name with the values that presets pin, if there are any, and those that were assigned. A name that lost all has no values.
 #[derive(Drop)]
 pub(crate) struct Slot {
-    pub(crate) name: KnownName,
+    pub(crate) name: NameKey,
     pub(crate) pins: Option<Array>,
     pub(crate) values: Array,
 }
@@ -34,7 +34,7 @@ impl Slot {
     {
         let copied = Name::copy(alloc, name.as_slice())?;
         Ok(Slot {
-            name: KnownName::new(copied),
+            name: NameKey::new(copied),
             pins: None,
             values: Array::new(alloc),
         })

@@ -1,7 +1,7 @@
 pub mod Lexeme
 pub mod Grammar
 pub mod Nesting
-pub mod Numbering
+pub mod RegexNumbers
 pub mod Reading
 pub mod Front
 pub mod Levels

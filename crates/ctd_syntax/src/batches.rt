@@ -3,7 +3,7 @@
 ghost use Rattle.std.specs.Prelude.{◌≡◌, ◌<◌, [], None, length, map, true, IfOk, IfErr, IfSome, IsErrAnd, OnOk};
 ghost use Rattle.ctd_token.specs.Lexing.{IsLexFault};
 ghost use Rattle.ctd_syntax.specs.Front.{lexeme};
-ghost use Rattle.ctd_syntax.specs.Numbering.{IsNumbered};
+ghost use Rattle.ctd_syntax.specs.RegexNumbers.{IsNumbered};
 ghost use Rattle.ctd_syntax.specs.Reading.{Parses};
 ghost use Rattle.ctd_syntax.specs.Batches.{ReadsOff};
 ghost use Rattle.ctd_program.specs.View.{command_trees};

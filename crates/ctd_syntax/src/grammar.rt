@@ -2,7 +2,7 @@
 
 ghost use Rattle.std.specs.Prelude.{◌≡◌, ◌≤◌, ◌<◌, None, length, map, IfOk, IfErr, IsErrAnd};
 ghost use Rattle.ctd_syntax.specs.Front.{lexeme, AreLexemes, NestsTooDeep, SpellsNone};
-ghost use Rattle.ctd_syntax.specs.Numbering.{IsNumbered};
+ghost use Rattle.ctd_syntax.specs.RegexNumbers.{IsNumbered};
 ghost use Rattle.ctd_syntax.specs.Reading.{IsFault, Parses};
 ghost use Rattle.ctd_program.specs.View.{command_trees};
 

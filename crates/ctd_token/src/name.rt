@@ -110,13 +110,13 @@ const LONG_NAME_KEY: [u8; 8] = [u8::MAX - 1; 8];
 
 /// A name with which others are compared, which contracts see as the list of its bytes.
 #[derive(Drop)]
-pub struct KnownName {
+pub struct NameKey {
     name: Name,
     // The eight bytes of a short name; of a long one others, which no name has. So one comparison tells.
     packed: [u8; 8],
 }
 
-impl Model for KnownName {
+impl Model for NameKey {
     ghost use Rattle.std.specs.Prelude.{◌≡◌, List, ℕ};
     ghost use Rattle.ctd_token.specs.ShortNames.{key_bytes};
 
@@ -127,16 +127,16 @@ impl Model for KnownName {
     ghost invariant = { λ k. k.packed ≡ key_bytes k.name };
 }
 
-impl KnownName {
+impl NameKey {
     /// Packs a name for comparison; takes no memory.
-    pub fn new(name: Name) -> KnownName
+    pub fn new(name: Name) -> NameKey
         ensures equal { result ≡ name }
     {
         let packed = match &name.rest {
             NameRest::Short(_) => name.packed,
             NameRest::Long(_, _) => LONG_NAME_KEY,
         };
-        KnownName { name, packed }
+        NameKey { name, packed }
     }
 
     /// The bytes of the name, all of them.

@@ -10,39 +10,39 @@ use Rattle.ctd_report.specs.declared.sink.Sink as sinks
 use Rattle.ctd_report.specs.declared.written.ToolFault.{ToolFault}
 use Rattle.ctd_report.specs.declared.written.ToolFault.TheVariants.{Memory, Write}
 use Rattle.ctd_report.specs.Report.{Report, usage_report}
-use Rattle.ctd_report.specs.Written.{Change, Leaves, LeavesOneOf}
+use Rattle.ctd_report.specs.Written.{BeforeAfter, Leaves, LeavesOneOf}
 use Rattle.ctd_tool.specs.Theorem.{EndsWithReport, whole, broken_off, EndsProcess, bad_words, no_words}
 
 -- what ends in one of some reports ends in one of more
-pub EndsWithReport-weaker : {O E : Type 0} {S : sinks.Ghosts O} {T : sinks.Ghosts E} (out : Change S) (err : Change T) (IsReport IsMore : Report → Type 0) (status : ℕ)
+pub EndsWithReport-weaker : {O E : Type 0} {S : sinks.Ghosts O} {T : sinks.Ghosts E} (out : BeforeAfter S) (err : BeforeAfter T) (IsReport IsMore : Report → Type 0) (status : ℕ)
     → ((report : Report) → IsReport report → IsMore report) → EndsWithReport out err IsReport status → EndsWithReport out err IsMore status
 EndsWithReport-weaker out err IsReport IsMore status more (whole report is all) = whole report (more report is) all
 EndsWithReport-weaker out err IsReport IsMore status more (broken_off report is part two) = broken_off report (more report is) part two
 
 -- what leaves one of some reports, with its status, ends so
-pub LeavesOneOf-EndsWithReport : {O E : Type 0} {S : sinks.Ghosts O} {T : sinks.Ghosts E} (out : Change S) (err : Change T) (IsReport : Report → Type 0) (status : ℕ)
+pub LeavesOneOf-EndsWithReport : {O E : Type 0} {S : sinks.Ghosts O} {T : sinks.Ghosts E} (out : BeforeAfter S) (err : BeforeAfter T) (IsReport : Report → Type 0) (status : ℕ)
     → LeavesOneOf out err IsReport (Ok status) → EndsWithReport out err IsReport status
 LeavesOneOf-EndsWithReport out err IsReport status h = whole h.0 h.1 h.2
 
 -- where a stream failed, the status is 2
-pub BreaksOff-EndsWithReport : {O E : Type 0} {S : sinks.Ghosts O} {T : sinks.Ghosts E} (out : Change S) (err : Change T) (IsReport : Report → Type 0)
+pub BreaksOff-EndsWithReport : {O E : Type 0} {S : sinks.Ghosts O} {T : sinks.Ghosts E} (out : BeforeAfter S) (err : BeforeAfter T) (IsReport : Report → Type 0)
     → LeavesOneOf out err IsReport (Err Write) → EndsWithReport out err IsReport 2
 BreaksOff-EndsWithReport out err IsReport h = broken_off h.0 h.1 h.2 refl
 
 -- a report that was not written whole, where memory did not run out, broke off
-pub breaks_off : {O E : Type 0} {S : sinks.Ghosts O} {T : sinks.Ghosts E} (out : Change S) (err : Change T) (report : Report) (fault : ToolFault)
+pub breaks_off : {O E : Type 0} {S : sinks.Ghosts O} {T : sinks.Ghosts E} (out : BeforeAfter S) (err : BeforeAfter T) (report : Report) (fault : ToolFault)
     → fault ≢ Memory → Leaves out err report (Err fault) → EndsWithReport out err (λ r. r ≡ report) 2
 breaks_off out err report Write other h = broken_off report refl h refl
 breaks_off out err report Memory other h = absurd (other refl)
 
 -- for want of memory nothing was written
-pub Memory-untouched : {O E : Type 0} {S : sinks.Ghosts O} {T : sinks.Ghosts E} (out : Change S) (err : Change T) (IsReport : Report → Type 0) (answer : Result ℕ ToolFault)
+pub Memory-untouched : {O E : Type 0} {S : sinks.Ghosts O} {T : sinks.Ghosts E} (out : BeforeAfter S) (err : BeforeAfter T) (IsReport : Report → Type 0) (answer : Result ℕ ToolFault)
     → answer ≡ Err Memory → LeavesOneOf out err IsReport answer → (out.new ≡ out.old) × (err.new ≡ err.old)
 Memory-untouched out err IsReport answer is h = subst (LeavesOneOf out err IsReport) is h
 
 -- a process that got no words ends with the report of why
 pub ends_without_words : {F R O E : Type 0} {S : sinks.Ghosts O} {T : sinks.Ghosts E} (opens : F → List ℕ → Option R → F → Type 0) (takes_input : F → R → F → Type 0) (remaining : R → Option (List ℕ))
-    (G : sources.Ghosts (FromRead (BufReader R Global))) (out : Change S) (err : Change T) (status : ℕ) (fault : UsageFault) → (fault ≡ usage.Words) ⊎ (fault ≡ usage.Memory)
+    (G : sources.Ghosts (FromRead (BufReader R Global))) (out : BeforeAfter S) (err : BeforeAfter T) (status : ℕ) (fault : UsageFault) → (fault ≡ usage.Words) ⊎ (fault ≡ usage.Memory)
     → EndsWithReport out err (λ report. report ≡ usage_report fault) status → EndsProcess opens takes_input remaining G out err status
 ends_without_words opens takes_input remaining G out err status fault (inl words) h = bad_words (subst (λ f. EndsWithReport out err (λ report. report ≡ usage_report f) status) words h)
 ends_without_words opens takes_input remaining G out err status fault (inr memory) h = no_words (subst (λ f. EndsWithReport out err (λ report. report ≡ usage_report f) status) memory h)

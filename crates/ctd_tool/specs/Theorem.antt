@@ -10,7 +10,7 @@ use Rattle.ctd_source.specs.declared.limits.TheConstants.{WINDOW}
 use Rattle.ctd_source.specs.Reader.{reader_of}
 use Rattle.ctd_source.specs.TestData.{TestData}
 use Rattle.ctd_source.specs.Agreement.{Agrees}
-use Rattle.ctd_source.specs.CursorState.{Gave}
+use Rattle.ctd_source.specs.CursorCalls.{Gave}
 use Rattle.ctd_token.specs.declared.fault.LoadFault.{LoadFault}
 use Rattle.ctd_token.specs.declared.limits.TheConstants.{PROGRAM_LIMIT}
 use Rattle.ctd_program.specs.Tree.{CommandList}
@@ -23,7 +23,7 @@ use Rattle.ctd_arguments.specs.Settings.{IsSetup}
 use Rattle.ctd_arguments.specs.Usage.{IsUsageFault}
 use Rattle.ctd_report.specs.declared.sink.Sink as sinks
 use Rattle.ctd_report.specs.Report.{Report, check_report, load_report, open_report, usage_report}
-use Rattle.ctd_report.specs.Written.{Change, WritesAll, BreaksOff}
+use Rattle.ctd_report.specs.Written.{BeforeAfter, WritesAll, BreaksOff}
 use Rattle.ctd_tool.specs.declared.files.Sources.{Sources}
 
 -- I. The report of a program and data that two sources give.
@@ -138,13 +138,13 @@ pub data IsAnswer {F R : Type 0} (remaining : R → Option (List ℕ)) (G : sour
   no_memory : report ≡ usage_report Memory → IsAnswer remaining G words v left report
 
 -- one of these reports was written whole, and the status is its own; or a stream failed in it, and the status is 2
-pub data EndsWithReport {O E : Type 0} {S : sinks.Ghosts O} {T : sinks.Ghosts E} (out : Change S) (err : Change T) (Reports : Report → Type 0) (status : ℕ) : Type 0 where
+pub data EndsWithReport {O E : Type 0} {S : sinks.Ghosts O} {T : sinks.Ghosts E} (out : BeforeAfter S) (err : BeforeAfter T) (Reports : Report → Type 0) (status : ℕ) : Type 0 where
   whole : (report : Report) → Reports report → WritesAll out err report status → EndsWithReport out err Reports status
   broken_off : (report : Report) → Reports report → BreaksOff out err report → status ≡ 2 → EndsWithReport out err Reports status
 
 -- the process got these words, and ends with the answer to them, of files that were visited and of the sources that were left; or it got none, and ends with the report of why
 pub data EndsProcess {F R O E : Type 0} {S : sinks.Ghosts O} {T : sinks.Ghosts E} (opens : F → List ℕ → Option R → F → Type 0) (takes_input : F → R → F → Type 0) (remaining : R → Option (List ℕ))
-    (G : sources.Ghosts (FromRead (BufReader R Global))) (out : Change S) (err : Change T) (status : ℕ) : Type 0 where
+    (G : sources.Ghosts (FromRead (BufReader R Global))) (out : BeforeAfter S) (err : BeforeAfter T) (status : ℕ) : Type 0 where
   with_words : (words : List (List ℕ)) (old new : F) (left : Option (Sources R)) → EndsWithReport out err (IsAnswer remaining G words (visit opens takes_input old new) left) status
       → EndsProcess opens takes_input remaining G out err status
   bad_words : EndsWithReport out err (λ report. report ≡ usage_report Words) status → EndsProcess opens takes_input remaining G out err status

@@ -2,7 +2,7 @@
 
 ghost use Rattle.std.specs.Prelude.{◌≡◌, ◌≤◌, ◌^◌, ℕ, List, Option, Some, false, IfErr, IfOk};
 ghost use Rattle.ctd_tool.specs.Theorem.{IsFilesReport, IsRunReport, StartsOn, visit};
-ghost use Rattle.ctd_report.specs.Written.{LeavesOneOf, change};
+ghost use Rattle.ctd_report.specs.Written.{LeavesOneOf, before_after};
 
 use crate::tool::run_tool;
 use ctd_arguments::Setup;
@@ -43,13 +43,13 @@ pub struct Sources<R: Read> {
 
 /// What a run returned, and its sources after it, if both were opened.
 #[derive(Drop)]
-pub struct Ran<R: Read> {
+pub struct FilesRun<R: Read> {
     pub answer: Result<u8, ToolFault>,
     pub sources: Option<Sources<R>>,
 }
 
 /// A reader behind a buffer, as a source.
-fn buffered<R: Read + Drop>(alloc: Global, reader: R) -> Result<FromRead<BufReader<R>>, ToolFault>
+fn buffered_source<R: Read + Drop>(alloc: Global, reader: R) -> Result<FromRead<BufReader<R>>, ToolFault>
     ensures starts { IfOk result (StartsOn R.remaining ⟦<FromRead<BufReader<R>> as Source>⟧ reader) }
     ensures memory { IfErr result (λ fault. fault ≡ ToolFault.Memory) }
 {
@@ -70,8 +70,8 @@ fn sources_on<R: Read + Drop>(
     ensures memory { IfErr result (λ fault. fault ≡ ToolFault.Memory) }
 {
     Ok(Sources {
-        program: buffered(alloc, program)?,
-        testdata: buffered(alloc, testdata)?,
+        program: buffered_source(alloc, program)?,
+        testdata: buffered_source(alloc, testdata)?,
     })
 }
 
@@ -83,11 +83,11 @@ fn run_on<R: Read + Drop, O: Sink, E: Sink>(
     testdata: R,
     out: &mut O,
     err: &mut E,
-) -> Ran<R>
+) -> FilesRun<R>
     requires bytes { setup.now.limits.bytes ≤ 2 ^ 62 }
     requires out_works { O.has_failed out.old ≡ false }
     requires err_works { E.has_failed err.old ≡ false }
-    ensures written { LeavesOneOf (change O.Sink out.old out.new) (change E.Sink err.old err.new)
+    ensures written { LeavesOneOf (before_after O.Sink out.old out.new) (before_after E.Sink err.old err.new)
         (IsRunReport R.remaining ⟦<FromRead<BufReader<R>> as Source>⟧ setup.now program testdata result.sources) result.answer }
 {
     match sources_on(alloc, program, testdata) {
@@ -100,12 +100,12 @@ fn run_on<R: Read + Drop, O: Sink, E: Sink>(
                 out,
                 err,
             );
-            Ran {
+            FilesRun {
                 answer,
                 sources: Some(sources),
             }
         }
-        Err(fault) => Ran {
+        Err(fault) => FilesRun {
             answer: Err(fault),
             sources: None,
         },
@@ -119,16 +119,16 @@ pub fn check_files<F: Files, O: Sink, E: Sink>(
     files: &mut F,
     out: &mut O,
     err: &mut E,
-) -> Ran<F::File>
+) -> FilesRun<F::File>
     requires bytes { setup.now.limits.bytes ≤ 2 ^ 62 }
     requires out_works { O.has_failed out.old ≡ false }
     requires err_works { E.has_failed err.old ≡ false }
-    ensures written { LeavesOneOf (change O.Sink out.old out.new) (change E.Sink err.old err.new)
+    ensures written { LeavesOneOf (before_after O.Sink out.old out.new) (before_after E.Sink err.old err.new)
         (IsFilesReport F.File.remaining ⟦<FromRead<BufReader<F::File>> as Source>⟧ setup.now
         (visit F.opens F.takes_input files.old files.new) result.sources) result.answer }
 {
     let Some(program) = files.open(setup.program.as_slice()) else {
-        return Ran {
+        return FilesRun {
             answer: write_cannot_open(alloc, &setup.program, out, err),
             sources: None,
         };
@@ -138,7 +138,7 @@ pub fn check_files<F: Files, O: Sink, E: Sink>(
         return run_on(alloc, setup, program, testdata, out, err);
     };
     let Some(testdata) = files.open(name.as_slice()) else {
-        return Ran {
+        return FilesRun {
             answer: write_cannot_open(alloc, name, out, err),
             sources: None,
         };

@@ -3,7 +3,7 @@
 ghost use Rattle.std.specs.Prelude.{◌≡◌, ◌⊎◌, false, IfErr};
 ghost use Rattle.ctd_tool.specs.Theorem.{EndsProcess};
 ghost use Rattle.ctd_arguments.specs.declared.setup.UsageFault.{UsageFault};
-ghost use Rattle.ctd_report.specs.Written.{change};
+ghost use Rattle.ctd_report.specs.Written.{before_after};
 
 use crate::files::Files;
 use crate::run::{run_words, usage_status};
@@ -85,8 +85,8 @@ pub fn answer(rt: &HostRuntime, out: &mut ToWrite<Stdout>, err: &mut ToWrite<Std
     requires err_works { ⟦<ToWrite<Stderr> as Sink>⟧.has_failed err.old ≡ false }
     ensures { EndsProcess ⟦<HostFiles<'static> as Files>⟧.opens ⟦<HostFiles<'static> as Files>⟧.takes_input
         ⟦<HostFile as Read>⟧.remaining ⟦<FromRead<BufReader<HostFile>> as Source>⟧
-        (change ⟦<ToWrite<Stdout> as Sink>⟧ out.old out.new)
-        (change ⟦<ToWrite<Stderr> as Sink>⟧ err.old err.new)
+        (before_after ⟦<ToWrite<Stdout> as Sink>⟧ out.old out.new)
+        (before_after ⟦<ToWrite<Stderr> as Sink>⟧ err.old err.new)
         result }
 {
     let alloc = rt.alloc();

@@ -12,7 +12,7 @@ pub use ctd_report::{
     Sink, ToWrite, ToolFault, Writer, report_usage, write_cannot_open, write_load_fault,
     write_outcome,
 };
-pub use files::{Files, Ran, Sources, check_files};
+pub use files::{Files, FilesRun, Sources, check_files};
 pub use host::answer;
-pub use run::{Ended, run_words, usage_status};
+pub use run::{WordsRun, run_words, usage_status};
 pub use tool::run_tool;

@@ -1,6 +1,6 @@
 -- A law of arithmetic.
 use Rattle.std.specs.Prelude.{◌≡◌, ◌<◌, ◌^◌, ℕ, ℤ, pos}
-use Rattle.ctd_value.specs.Numbers.{factors, in_range, power}
+use Rattle.ctd_value.specs.Arithmetic.{factors, in_range, power}
 
 -- a power is the product of as many equal factors as its exponent says, where that lies in the range of values
 abbrev pub PowersAreProducts : Type 0

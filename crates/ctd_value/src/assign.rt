@@ -6,7 +6,7 @@ ghost use Rattle.ctd_store.specs.ValueRef.{value_of_ref};
 ghost use Rattle.ctd_store.specs.declared.value.Value.TheVariants as values;
 ghost use Rattle.ctd_value.specs.Fault.{Gives};
 ghost use Rattle.ctd_value.specs.Lending.{map_ok};
-ghost use Rattle.ctd_value.specs.Setting.{with_variable, with_expression};
+ghost use Rattle.ctd_value.specs.Assignments.{with_variable, with_expression};
 
 use crate::expression::{eval, fast_i64, fast_index, fast_name_index, index_values};
 use crate::fault::EvalFault;

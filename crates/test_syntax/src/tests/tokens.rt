@@ -3,7 +3,7 @@
 use super::answers::{Asked, judge_lines, judge_rows, judged};
 use super::shown::Shown;
 use ctd_token::{
-    Bytes, KnownName, Lexer, Name, PROGRAM_LIMIT, Place, Token, TokenKind, advance, token_at,
+    Bytes, NameKey, Lexer, Name, PROGRAM_LIMIT, Place, Token, TokenKind, advance, token_at,
     tokens,
 };
 use std::alloc::{AllocError, Global};
@@ -228,7 +228,7 @@ const CODES: [Row; 15] = [
 ];
 
 /// Whether two names hold their bytes, and the other its number, and they are found to be the same where they should.
-fn is_right(known: &KnownName, given: &Name, row: &Row) -> bool {
+fn is_right(known: &NameKey, given: &Name, row: &Row) -> bool {
     let (name, other, wanted) = row;
     known.as_slice() == *name
         && given.as_slice() == *other
@@ -238,7 +238,7 @@ fn is_right(known: &KnownName, given: &Name, row: &Row) -> bool {
 
 /// Whether the names of a row are right.
 fn are_right(alloc: Global, row: &Row) -> Result<bool, AllocError> {
-    let known = KnownName::new(Name::copy(alloc, row.0)?);
+    let known = NameKey::new(Name::copy(alloc, row.0)?);
     let given = Name::numbered(alloc, row.1, 7)?;
     Ok(is_right(&known, &given, row))
 }

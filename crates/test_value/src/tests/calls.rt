@@ -6,8 +6,8 @@ use super::{same, store_of};
 use ctd_source::{LookFault, Plain};
 use ctd_syntax::{Action, Assignment, Command, Name, Test, Var, parse};
 use ctd_value::{
-    EvalFault, Key, Store, TestFault, Value, count_of, eval, holds, locate, number_at_hand,
-    number_of, set_expression, set_number, set_text, text_of, truth_at_hand, truth_in_front_of,
+    EvalFault, Key, Store, TestFault, Value, count_of, eval, holds, locate, fast_number,
+    number_of, set_expression, set_number, set_text, text_of, fast_test, test_at_byte,
 };
 use std::alloc::{AllocError, Global};
 use std::process::Abort;
@@ -169,7 +169,7 @@ fn take_assignment_step(
         Step::Number(n) => return Ok(number_of(alloc, &a.value, store)? == n),
         Step::Text(bytes) => return Ok(text_of(alloc, &a.value, store)? == bytes),
         Step::Count(count) => return is_count(alloc, store, a, count),
-        Step::NumberAtHand(n) => return Ok(number_at_hand(&a.value, store) == n),
+        Step::NumberAtHand(n) => return Ok(fast_number(&a.value, store) == n),
         other => return is_state_of(alloc, store, a, other),
     }
     Ok(true)
@@ -178,8 +178,8 @@ fn take_assignment_step(
 /// Takes a step with a test. Whether the answer is the one that is wanted.
 fn take_test_step(alloc: Global, store: &Store, t: &Test, step: Step) -> Result<bool, AllocError> {
     match step {
-        Step::AtHand(truth) => Ok(truth_at_hand(t, store) == truth),
-        Step::InFrontOfB(truth) => Ok(truth_in_front_of(b'b', t) == truth),
+        Step::AtHand(truth) => Ok(fast_test(t, store) == truth),
+        Step::InFrontOfB(truth) => Ok(test_at_byte(b'b', t) == truth),
         Step::Holds(bytes, broken, limit, answer) => {
             let mut data = Plain::new(bytes, broken, u64::from(limit));
             match holds(alloc, t, store, &mut data) {

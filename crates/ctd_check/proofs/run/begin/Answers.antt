@@ -1,6 +1,6 @@
 use Rattle.std.proofs.Common.{ap, refl, sym, subst, OnOk}
 use Rattle.ctd_program.specs.View.{command_tree}
-use Rattle.ctd_syntax.specs.Numbering.{command_literals}
+use Rattle.ctd_syntax.specs.RegexNumbers.{command_literals}
 use Rattle.ctd_outcome.specs.declared.outcome.Site.TheVariants.{At}
 use Rattle.ctd_check.specs.Known.{AreKnown}
 use Rattle.ctd_check.specs.Loops.{start}

@@ -1,5 +1,5 @@
 use Rattle.std.proofs.Common.{◌≡◌, ◌-◌, ◌+◌, None}
-use Rattle.ctd_source.specs.CursorState.{state_of}
+use Rattle.ctd_source.specs.CursorCalls.{state_of}
 use Rattle.ctd_source.specs.Received.{AdvancesSuchThat}
 use Rattle.ctd_command.specs.Passing.{PassesRow}
 use Rattle.ctd_command.proofs.integer.pass_digits.Given as goal

@@ -1,5 +1,5 @@
 use Rattle.std.proofs.Common.{◌≡◌, None, length}
-use Rattle.ctd_source.specs.CursorState.{state_of}
+use Rattle.ctd_source.specs.CursorCalls.{state_of}
 use Rattle.ctd_source.specs.Received.{AdvancesSuchThat}
 use Rattle.ctd_store.specs.Store.{History}
 use Rattle.ctd_program.specs.declared.mode.Mode.{Mode}

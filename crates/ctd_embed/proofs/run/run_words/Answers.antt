@@ -1,6 +1,6 @@
 use Rattle.std.proofs.Common.{◌≡◌, Err, inl, inr, rules}
 use Rattle.ctd_report.specs.declared.written.ToolFault.TheVariants.{Memory, Write}
-use Rattle.ctd_report.specs.Written.{change}
+use Rattle.ctd_report.specs.Written.{before_after}
 use Rattle.ctd_tool.proofs.AnswerLemmas.{EndsWithReport-weaker, LeavesOneOf-EndsWithReport, BreaksOff-EndsWithReport, Memory-untouched}
 use Rattle.ctd_embed.proofs.SourceLemmas.{report_in_memory}
 use Rattle.ctd_embed.proofs.run.run_words.Goals as goal
@@ -18,7 +18,7 @@ returns-in-Err g c = EndsWithReport-weaker _ _ _ _ _ (λ report is. inr (inl (c.
 pub returns-in-Err-Memory : goal.returns-in-Err-Memory
 returns-in-Err-Memory g c =
     let fault_is : c.run_tool.result ≡ Err Memory = search rules in
-    let untouched = Memory-untouched (change g.O.Sink c.args.out.now c.run_tool.new.out) (change g.E.Sink c.args.err.now c.run_tool.new.err) _ _ fault_is c.run_tool.ensures.written in
+    let untouched = Memory-untouched (before_after g.O.Sink c.args.out.now c.run_tool.new.out) (before_after g.E.Sink c.args.err.now c.run_tool.new.err) _ _ fault_is c.run_tool.ensures.written in
     EndsWithReport-weaker _ _ _ _ _ (λ report is. inr (inr is)) (rw (untouched.0, untouched.1) at c.usage_status-in-Err-Memory.ensures)
 
 pub returns : goal.returns

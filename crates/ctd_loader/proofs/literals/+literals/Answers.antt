@@ -1,6 +1,6 @@
 use Rattle.ctd_program.specs.View.{boxed_separator, command_trees}
 use Rattle.ctd_program.specs.declared.tree.Loop.{out-Loop}
-use Rattle.ctd_syntax.specs.Numbering.{separator_literals, literals}
+use Rattle.ctd_syntax.specs.RegexNumbers.{separator_literals, literals}
 use Rattle.ctd_loader.proofs.Listing.{loop_literals, choice_literals, listed_both}
 use Rattle.ctd_loader.proofs.literals.+literals.Goals as goal
 

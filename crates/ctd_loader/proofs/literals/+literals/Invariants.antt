@@ -1,6 +1,6 @@
 use Rattle.std.proofs.Common.{◌≡◌, ◌++◌, drop}
 use Rattle.ctd_program.specs.View.{command_trees}
-use Rattle.ctd_syntax.specs.Numbering.{literals}
+use Rattle.ctd_syntax.specs.RegexNumbers.{literals}
 use Rattle.ctd_loader.specs.Literals.{literals_at}
 use Rattle.ctd_loader.proofs.literals.+literals.Given as goal
 

@@ -1,5 +1,5 @@
 use Rattle.std.proofs.Common.{◌≡◌, ◌≤◌, ◌-◌, length}
-use Rattle.ctd_source.specs.CursorState.{Gave}
+use Rattle.ctd_source.specs.CursorCalls.{Gave}
 use Rattle.ctd_source.specs.declared.source.Seen.TheVariants.{Going}
 use Rattle.ctd_loader.proofs.text.receive.Given as goal
 

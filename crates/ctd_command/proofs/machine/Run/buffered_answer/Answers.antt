@@ -8,6 +8,6 @@ pub returns : goal.returns
 returns g c =
     let run = c.held_run.result.now in
     record {
-      performs = IfSome_then c.truth_in_front_of.result c.truth_in_front_of.ensures.value
+      performs = IfSome_then c.test_at_byte.result c.test_at_byte.ensures.value
           (λ truth known. answered_in_front c.args.self.now (test_tree c.args.t.now) truth c.in_ok-byte.byte.now run c.requires.sound (sym c.in_ok-byte.ensures.value) c.held_run.ensures.front c.held_run.ensures.held c.held_run.ensures.within known);
     }

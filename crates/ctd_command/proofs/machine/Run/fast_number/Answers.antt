@@ -9,6 +9,6 @@ use Rattle.ctd_command.proofs.machine.Run.fast_number.Goals as goal
 
 pub returns : goal.returns
 returns g c = record {
-  performs = IfSome_then c.number_at_hand.result c.number_at_hand.ensures.value
+  performs = IfSome_then c.fast_number.result c.fast_number.ensures.value
       (λ n is. evaluated c.args.self.now (Ok n) (number_of (expr_tree c.args.e.now)) c.requires.sound (ap (λ m. with_fault fault_of_value (m >>= number)) is));
 }

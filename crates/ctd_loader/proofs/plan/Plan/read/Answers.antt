@@ -1,6 +1,6 @@
 use Rattle.std.proofs.Common.{subst}
 use Rattle.ctd_program.specs.View.{command_trees}
-use Rattle.ctd_syntax.specs.Numbering.{literals}
+use Rattle.ctd_syntax.specs.RegexNumbers.{literals}
 use Rattle.ctd_loader.specs.Loading.{ArePatterns}
 use Rattle.ctd_loader.proofs.plan.Plan.read.Goals as goal
 

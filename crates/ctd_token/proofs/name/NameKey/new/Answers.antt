@@ -1,5 +1,5 @@
 use Rattle.std.proofs.Common.{rules}
-use Rattle.ctd_token.proofs.name.KnownName.new.Goals as goal
+use Rattle.ctd_token.proofs.name.NameKey.new.Goals as goal
 
 pub invariant_of-result : goal.invariant_of-result
 invariant_of-result c = search rules
