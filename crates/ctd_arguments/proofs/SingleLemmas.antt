@@ -17,7 +17,7 @@ use Rattle.clap.specs.declared.builder.ArgAction.{ArgAction}
 use Rattle.clap.specs.declared.builder.ArgAction.TheVariants.{Set, Append, SetTrue, SetFalse, Count, Help, HelpShort, HelpLong, Version}
 use Rattle.clap.specs.declared.error.ErrorKind.{ErrorKind}
 use Rattle.clap.specs.declared.error.ErrorKind.TheVariants.{ArgumentConflict, DisplayHelpOnMissingArgumentOrSubcommand, InvalidSubcommand, InvalidValue, MissingRequiredArgument, MissingSubcommand, TooFewValues, TooManyValues, UnknownArgument, WrongNumberOfValues}
-use Rattle.ctd_arguments.specs.Usage.{IsSingle}
+use Rattle.ctd_arguments.specs.calls.Usage.{IsSingle}
 
 none : IsSingle []
 none = record { one = omega arith }

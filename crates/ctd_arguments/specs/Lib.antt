@@ -1,4 +1,8 @@
+-- what the theorem of the tool reaches: to be believed
 pub mod CommandLine
-pub mod RequiredProgram
-pub mod Settings
 pub mod Usage
+pub mod Settings
+-- what else the contracts of public calls say
+pub mod calls
+-- what only the proofs of this crate use
+pub mod inner

@@ -1,16 +1,16 @@
 -- Which fault the words have.
-use Rattle.std.specs.Prelude.{◌≡◌, ◌⊎◌, ◌^◌, ◌<◌, ◌≤◌, Bool, true, false, List, [], Option, None, Some, All, IsUtf8, codes, length}
+use Rattle.ctd_arguments.specs.declared.setup.UsageFault.TheVariants as fault
+use Rattle.std.specs.Prelude.{◌≡◌, ◌⊎◌, ◌^◌, ◌<◌, Bool, true, false, List, [], Option, None, Some, All, IsUtf8, codes}
 use Rattle.std.specs.Option.{option_map_or}
 use Rattle.std.specs.Str.{bytes_eq}
 use Rattle.std.specs.Str.Parse.{IsNumeral, digits_value}
-use Rattle.clap.specs.Words.{IsAmong, Kinds, Row, Text, fault_of, first_of, matches_of}
+use Rattle.clap.specs.Words.{IsAmong, Row, Text, fault_of, first_of, matches_of}
 use Rattle.clap.specs.declared.error.ErrorKind.{ErrorKind}
 use Rattle.clap.specs.declared.error.ErrorKind.TheVariants.{DisplayHelp, DisplayVersion, OutOfMemory}
 use Rattle.ctd_program.specs.Presets.{ArePresets}
 use Rattle.ctd_program.specs.declared.preset.Preset.{Preset}
 use Rattle.ctd_arguments.specs.CommandLine.{checker}
 use Rattle.ctd_arguments.specs.declared.setup.UsageFault.{UsageFault}
-use Rattle.ctd_arguments.specs.declared.setup.UsageFault.TheVariants as fault
 
 -- the fault for each kind of error of clap
 abbrev pub fault_by_kind : ErrorKind → UsageFault
@@ -35,10 +35,6 @@ flag_in words name = is_on name (matches_of checker words)
 abbrev pub IsStepNumber : Text → Type 0
 IsStepNumber text = IsNumeral 10 text × (digits_value 10 text < 2 ^ 64)
 
--- a list with one kind of error at most
-pub record IsSingle (kinds : Kinds) : Type 0 where
-  pub one : length kinds ≤ 1
-
 -- clap refuses the words with a kind of this fault
 abbrev pub IsRefusedAs : List Text → UsageFault → Type 0
 IsRefusedAs words f = (kind : ErrorKind) × IsAmong kind (fault_of checker words) × (fault_by_kind kind ≡ f)
@@ -46,10 +42,6 @@ IsRefusedAs words f = (kind : ErrorKind) × IsAmong kind (fault_of checker words
 -- the words are texts, and clap takes them
 abbrev pub IsTaken : List Text → Type 0
 IsTaken words = All IsUtf8 words × (fault_of checker words ≡ [])
-
--- clap takes the words, and finds these values in them
-abbrev pub IsFoundIn : List Text → List Row → Type 0
-IsFoundIn words rows = IsTaken words × (rows ≡ matches_of checker words)
 
 -- a text is given, and spells no presets
 abbrev pub IsBadPreset : Option Text → Type 0

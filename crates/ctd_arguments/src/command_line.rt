@@ -6,7 +6,7 @@ ghost use Rattle.clap.specs.Matches.{first_value};
 ghost use Rattle.clap.specs.Words.{FailsBy, app_of, fault_of, found_of, matches_of, rows_of, rule_of};
 ghost use Rattle.clap.specs.declared.builder.ArgAction.TheVariants.{Set, SetTrue};
 ghost use Rattle.ctd_arguments.specs.CommandLine.{checker, define_rule, option_rule, program_rule};
-ghost use Rattle.ctd_arguments.specs.RequiredProgram.{IsLocal, RequiresProgram};
+ghost use Rattle.ctd_arguments.specs.inner.RequiredProgram.{IsLocal, RequiresProgram};
 
 use clap::{Arg, ArgAction, ArgMatches, Command, Error};
 use std::alloc::{AllocError, Global};

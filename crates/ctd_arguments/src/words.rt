@@ -6,7 +6,8 @@ ghost use Rattle.std.specs.Str.Parse.{digits_value};
 ghost use Rattle.clap.specs.Matches.{first_value};
 ghost use Rattle.clap.specs.Words.{Text, first_of, found_of, kind_of, rows_of};
 ghost use Rattle.ctd_arguments.specs.Settings.{ArePresetsOf, IsSetup, IsStepLimitOf, file_of, mode_by};
-ghost use Rattle.ctd_arguments.specs.Usage.{IsBadPreset, IsBadSteps, IsFoundIn, IsStepNumber, IsUsageFault, fault_by_kind, is_on};
+ghost use Rattle.ctd_arguments.specs.Usage.{IsBadPreset, IsBadSteps, IsStepNumber, IsUsageFault, fault_by_kind, is_on};
+ghost use Rattle.ctd_arguments.specs.inner.Usage.{IsFoundIn};
 
 use crate::command_line::matches_in;
 use crate::setup::{Setup, UsageFault};

@@ -16,7 +16,7 @@ use Rattle.ctd_command.specs.State.{State, Effect, done, rejected, faulty, Act, 
 use Rattle.ctd_command.specs.Integer.{judge, is_minus, digits_of}
 use Rattle.ctd_command.specs.Commands.{decide, integer, match_bytes, differ}
 use Rattle.ctd_command.specs.Blanks.{is_blank, skip_blanks}
-use Rattle.ctd_check.specs.ByLooks.{past_one, prepend_byte, PassesWhile, byte_fits, other_byte, no_byte, look_fails, pass_bytes, pass_visible, digits_by_looks, integer_by_looks, match_by_looks, blanks_by_looks}
+use Rattle.ctd_check.specs.calls.ByLooks.{past_one, prepend_byte, PassesWhile, byte_fits, other_byte, no_byte, look_fails, pass_bytes, pass_visible, digits_by_looks, integer_by_looks, match_by_looks, blanks_by_looks}
 
 -- a state so many bytes on
 abbrev on : ℕ → State → State

@@ -6,13 +6,15 @@ use Rattle.ctd_source.specs.declared.source.Source.{Ghosts}
 use Rattle.ctd_source.specs.declared.source.Seen.{Seen}
 use Rattle.ctd_source.specs.declared.source.Seen.TheVariants.{Going, Ended, Broken}
 use Rattle.ctd_source.specs.TestData.{TestData}
-use Rattle.ctd_source.specs.Agreement.{Agrees, data_of_call}
+use Rattle.ctd_source.specs.Agreement.{Agrees}
+use Rattle.ctd_source.specs.calls.Agreement.{data_of_call}
 use Rattle.ctd_source.specs.CursorCalls.{Gave}
 use Rattle.ctd_program.specs.declared.limits.Limits.{Limits}
 use Rattle.ctd_outcome.specs.declared.outcome.Checked.{Checked}
 use Rattle.ctd_outcome.specs.declared.outcome.Outcome.{Outcome}
-use Rattle.ctd_check.specs.Run.{Meaning, Finds}
-use Rattle.ctd_check.specs.Checks.{FindsMeaning}
+use Rattle.ctd_check.specs.Run.{Meaning}
+use Rattle.ctd_check.specs.calls.Run.{Finds}
+use Rattle.ctd_check.specs.calls.Checks.{FindsMeaning}
 
 -- bytes begin with themselves
 begin_with : (given left : List ℕ) → take (length given) (given ++ left) ≡ given

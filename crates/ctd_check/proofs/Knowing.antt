@@ -5,8 +5,8 @@ use Rattle.ctd_program.specs.declared.tree.PatternLiteral.{PatternLiteral}
 use Rattle.ctd_program.specs.Tree
 use Rattle.ctd_program.specs.Tree.{CommandList, Separator}
 use Rattle.ctd_syntax.specs.RegexNumbers.{command_literals, separator_literals, literals}
-use Rattle.ctd_loader.specs.PatternTable.{IsAmong, AreAmong}
-use Rattle.ctd_check.specs.Known.{AreKnown}
+use Rattle.ctd_loader.specs.calls.PatternTable.{IsAmong, AreAmong}
+use Rattle.ctd_check.specs.inner.Known.{AreKnown}
 use Rattle.ctd_check.specs.Loops.{Task, Loop, turn, tasks, tasks_before_turn}
 
 pub among_front : (ps : List (List ℕ)) (ls ms : List PatternLiteral) → AreAmong ps (ls ++ ms) → AreAmong ps ls

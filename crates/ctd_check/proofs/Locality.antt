@@ -5,7 +5,8 @@ use Rattle.ctd_source.specs.declared.limits.TheConstants.{WINDOW}
 use Rattle.ctd_source.specs.declared.spot.Spot.{Spot}
 use Rattle.ctd_source.specs.declared.source.Seen.TheVariants.{Going, Broken}
 use Rattle.ctd_source.specs.TestData.{TestData, spot_at}
-use Rattle.ctd_source.specs.Agreement.{Agrees, known}
+use Rattle.ctd_source.specs.Agreement.{Agrees}
+use Rattle.ctd_source.specs.calls.Agreement.{known}
 use Rattle.ctd_program.specs.declared.mode.Mode.{Mode}
 use Rattle.ctd_program.specs.declared.preset.Preset.{Preset}
 use Rattle.ctd_program.specs.Tree.{CommandList}
@@ -17,7 +18,7 @@ use Rattle.ctd_command.specs.State.{State, Effect, done, rejected, faulty}
 use Rattle.ctd_command.specs.Blanks.{first_skip}
 use Rattle.ctd_check.specs.Loops.{Task, finish, tasks}
 use Rattle.ctd_check.specs.Run.{site_of, perform, RunResult, stopped, resume, run, run_from, with_steps, at_start, meaning}
-use Rattle.ctd_check.specs.Laws.{AgreeUpTo, IsReadFault}
+use Rattle.ctd_check.specs.calls.Laws.{AgreeUpTo, IsReadFault}
 use Rattle.ctd_check.proofs.LongerData.{Extends, same_spot}
 use Rattle.ctd_check.proofs.ActLocality.{Inside, end_of, SameOrCut, same, cut}
 use Rattle.ctd_check.proofs.CommandLocality.{task_is_local, first_skip_is_local}

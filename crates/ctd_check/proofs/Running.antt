@@ -6,7 +6,7 @@ use Rattle.ctd_source.specs.declared.source.Source.{Ghosts}
 use Rattle.ctd_source.specs.declared.spot.Spot.{Spot}
 use Rattle.ctd_source.specs.TestData.{TestData, spot_at}
 use Rattle.ctd_source.proofs.AdvanceLemmas.{advances_so, advances_both, advances_nowhere}
-use Rattle.ctd_source.specs.Received.{AdvancesSuchThat}
+use Rattle.ctd_source.specs.calls.Received.{AdvancesSuchThat}
 use Rattle.ctd_token.specs.declared.text.Place.{Place}
 use Rattle.ctd_program.specs.declared.tree.Action.{Action}
 use Rattle.ctd_program.specs.declared.tree.Action.TheVariants.{Space, Newline, Eof, Int, String, Regex, Assert, Set, Unset, If'}
@@ -15,7 +15,7 @@ use Rattle.ctd_program.specs.declared.tree.Loop.{Loop'}
 use Rattle.ctd_program.specs.declared.tree.Choice.{Choice'}
 use Rattle.ctd_program.specs.declared.tree.Command.{Command}
 use Rattle.ctd_program.specs.Tree.{place_of, CommandList}
-use Rattle.ctd_program.specs.View.{action_tree, command_tree}
+use Rattle.ctd_program.specs.calls.View.{action_tree, command_tree}
 use Rattle.ctd_program.specs.declared.preset.Preset.{Preset}
 use Rattle.ctd_program.specs.declared.tree.PatternLiteral.{PatternLiteral}
 use Rattle.ctd_command.specs.declared.machine.Run.{Run}
@@ -25,7 +25,8 @@ use Rattle.ctd_outcome.specs.declared.reason.Fault.TheVariants.{StepLimit}
 use Rattle.ctd_command.specs.State.{State, Effect}
 use Rattle.ctd_command.specs.Blanks.{first_skip}
 use Rattle.ctd_program.specs.declared.mode.Mode.{Mode}
-use Rattle.ctd_command.specs.Performs.{Does, answering, state, Performs}
+use Rattle.ctd_command.specs.calls.Performs.{Does, state, Performs}
+use Rattle.ctd_command.specs.inner.Performs.{answering}
 use Rattle.ctd_check.specs.declared.stack.FrameStack.{FrameStack}
 use Rattle.ctd_outcome.specs.declared.outcome.Site.{Site}
 use Rattle.ctd_outcome.specs.declared.outcome.Site.TheVariants.{Start, At}
@@ -33,12 +34,13 @@ use Rattle.ctd_check.specs.declared.halt.Halt.{Halt}
 use Rattle.ctd_check.specs.declared.halt.Halt.TheVariants as halts
 use Rattle.ctd_outcome.specs.declared.outcome.Outcome.TheVariants as outcomes
 use Rattle.ctd_check.specs.Loops.{Task, start, finish, tasks}
-use Rattle.ctd_check.specs.Run.{RunResult, stopped, site_of, perform, resume, run, run_from, with_steps, meaning, Finds, at_start}
+use Rattle.ctd_check.specs.Run.{RunResult, stopped, site_of, perform, resume, run, run_from, with_steps, meaning, at_start}
+use Rattle.ctd_check.specs.calls.Run.{Finds}
 use Rattle.ctd_outcome.specs.declared.outcome.Checked.{Checked}
-use Rattle.ctd_check.specs.Halts.{halt_of, at_limit, Concludes}
-use Rattle.ctd_check.specs.Opening.{halt_result, Opens}
-use Rattle.ctd_check.specs.FrameTasks.{to_do}
-use Rattle.ctd_check.specs.Advances.{ContinuesWith, Advances, RunsTo}
+use Rattle.ctd_check.specs.inner.Halts.{halt_of, at_limit, Concludes}
+use Rattle.ctd_check.specs.inner.Opening.{halt_result, Opens}
+use Rattle.ctd_check.specs.inner.FrameTasks.{to_do}
+use Rattle.ctd_check.specs.inner.Advances.{ContinuesWith, Advances, RunsTo}
 
 -- a command has its own place
 pub place_is : (a : Action) (place : Place) → place_of (action_tree a place) ≡ place

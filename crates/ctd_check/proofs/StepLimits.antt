@@ -12,7 +12,7 @@ use Rattle.ctd_command.specs.State.{State, Effect, done, rejected, faulty}
 use Rattle.ctd_command.specs.Blanks.{first_skip}
 use Rattle.ctd_check.specs.Loops.{Task, finish, tasks}
 use Rattle.ctd_check.specs.Run.{site_of, perform, RunResult, all_done, stopped, resume, run, run_from, Meaning, with_steps, at_start, meaning}
-use Rattle.ctd_check.specs.Laws.{IsStepLimit, StopsAtLimit}
+use Rattle.ctd_check.specs.calls.Laws.{IsStepLimit, StopsAtLimit}
 use Rattle.ctd_check.proofs.ActLocality.{Forward}
 use Rattle.ctd_check.proofs.CommandLocality.{task_is_local, first_skip_is_local}
 

@@ -6,11 +6,11 @@ use Rattle.std.proofs.lemmas.List.{append-nil, length-append, same_from_push}
 use Rattle.std.proofs.Math.Seq.{take-append_seam}
 use Rattle.std.specs.List.{refill}
 use Rattle.ctd_program.specs.Tree.{list_blocks}
-use Rattle.ctd_program.specs.View.{command_trees}
+use Rattle.ctd_program.specs.calls.View.{command_trees}
 use Rattle.ctd_check.specs.declared.frame.Frame.{Frame}
 use Rattle.ctd_check.specs.declared.frame.RunningLoop.{RunningLoop}
 use Rattle.ctd_check.specs.Loops.{turn, tasks}
-use Rattle.ctd_check.specs.FrameTasks.{to_do, Fits, top_loop, next_turn, loop_tasks, loop_in, body_tasks, frame_tasks, frame_blocks, loop_blocks, loop_turn, IsAtTurn, IsListDone}
+use Rattle.ctd_check.specs.inner.FrameTasks.{to_do, Fits, top_loop, next_turn, loop_tasks, loop_in, body_tasks, frame_tasks, frame_blocks, loop_blocks, loop_turn, IsAtTurn, IsListDone}
 use Rattle.ctd_check.proofs.Stacks.{IsOnTop, split_last, with_top, to_do_push, fits_pop, fits_push, fits_less}
 
 top_of : (below : List Frame) (f : Frame) → top_loop (below ++ f ∷ []) ≡ f.running_loop

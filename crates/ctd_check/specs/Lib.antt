@@ -1,11 +1,7 @@
+-- what the theorem of the tool reaches: to be believed
 pub mod Loops
 pub mod Run
-pub mod Laws
-pub mod BigSteps
-pub mod ByLooks
-pub mod Checks
-pub mod Halts
-pub mod FrameTasks
-pub mod Known
-pub mod Advances
-pub mod Opening
+-- what else the contracts of public calls say
+pub mod calls
+-- what only the proofs of this crate use
+pub mod inner

@@ -1,8 +1,8 @@
 -- The run of a program as a list of tasks, one step for each.
-use Rattle.std.specs.Prelude.{◌≡◌, ℕ, zero, suc, ◌-◌, ⊤, List, [], ◌∷◌, ◌++◌}
+use Rattle.ctd_program.specs.Tree
+use Rattle.std.specs.Prelude.{ℕ, zero, suc, ◌-◌, ⊤, List, [], ◌∷◌, ◌++◌}
 use Rattle.ctd_source.specs.TestData.{TestData, spot_at}
 use Rattle.ctd_program.specs.declared.preset.Preset.{Preset}
-use Rattle.ctd_program.specs.Tree
 use Rattle.ctd_program.specs.Tree.{CommandTree, CommandList, place_of}
 use Rattle.ctd_store.specs.Store.{initial}
 use Rattle.ctd_program.specs.declared.mode.Mode.{Mode}
@@ -13,7 +13,6 @@ use Rattle.ctd_command.specs.Blanks.{space, newline, end, first_skip}
 use Rattle.ctd_command.specs.Regex.{regex}
 use Rattle.ctd_outcome.specs.declared.outcome.Site.{Site}
 use Rattle.ctd_outcome.specs.declared.outcome.Site.TheVariants.{Start, At, Finish}
-use Rattle.ctd_outcome.specs.declared.outcome.Checked.{Checked}
 use Rattle.ctd_outcome.specs.declared.outcome.Outcome.{Outcome}
 use Rattle.ctd_outcome.specs.declared.outcome.Outcome.TheVariants.{Accepted, Rejected, Stopped}
 use Rattle.ctd_check.specs.Loops.{Task, start, turn, finish, tasks, run_turn, repeat, choice}
@@ -89,9 +88,3 @@ run_from d n ts s = resume d Start s.offset n (first_skip d s) (λ _ t. run d n 
 -- what a program means for data: its commands and then the end of the data
 abbrev pub meaning : Mode → CommandList → List Preset → TestData → ℕ → Meaning
 meaning mode program presets d steps = with_steps steps (run_from d steps (tasks program ++ finish ∷ []) (at_start mode presets))
-
--- a check found this
-pub record Finds (checked : Checked) (m : Meaning) : Type 0 where
-  pub outcome : checked.outcome ≡ m.outcome
-  pub steps : checked.steps ≡ m.steps
-  pub consumed : checked.consumed ≡ m.consumed

@@ -2,10 +2,10 @@
 ghost use Rattle.std.specs.Prelude.{◌≡◌, ◌+◌, ◌≤◌, ◌^◌, Err, IfOk, OnErr};
 ghost use Rattle.ctd_source.specs.CursorCalls.{GaveAtMost};
 ghost use Rattle.ctd_source.specs.declared.source.Seen.TheVariants.{Going};
-ghost use Rattle.ctd_program.specs.View.{command_trees};
+ghost use Rattle.ctd_program.specs.calls.View.{command_trees};
 ghost use Rattle.ctd_check.specs.Run.{meaning};
-ghost use Rattle.ctd_check.specs.Checks.{FindsMeaning, IsAhead};
-ghost use Rattle.ctd_check.specs.Halts.{Concludes};
+ghost use Rattle.ctd_check.specs.calls.Checks.{FindsMeaning, IsAhead};
+ghost use Rattle.ctd_check.specs.inner.Halts.{Concludes};
 
 use crate::halt::Halt;
 use crate::run::run_program;

@@ -1,15 +1,16 @@
 //! Commands: what each of them does, and the frame that it leaves to be done.
 ghost use Rattle.std.specs.Prelude.{◌≡◌, ◌<◌, [], ℕ, List, None, Some, IfSome, IfNone};
 ghost use Rattle.ctd_program.specs.Tree.{blocks};
-ghost use Rattle.ctd_program.specs.View.{command_tree, target};
+ghost use Rattle.ctd_program.specs.calls.View.{command_tree, target};
 ghost use Rattle.ctd_syntax.specs.RegexNumbers.{command_literals};
-ghost use Rattle.ctd_loader.specs.PatternTable.{AreAmong, IsAmong};
+ghost use Rattle.ctd_loader.specs.calls.PatternTable.{AreAmong, IsAmong};
 ghost use Rattle.ctd_command.specs.Regex.{regex};
-ghost use Rattle.ctd_command.specs.Performs.{IsSound, Performs, answering};
-ghost use Rattle.ctd_check.specs.Known.{LeavesKnown};
+ghost use Rattle.ctd_command.specs.calls.Performs.{IsSound, Performs};
+ghost use Rattle.ctd_command.specs.inner.Performs.{answering};
+ghost use Rattle.ctd_check.specs.inner.Known.{LeavesKnown};
 ghost use Rattle.ctd_check.specs.Run.{act_of};
-ghost use Rattle.ctd_check.specs.FrameTasks.{left_tasks};
-ghost use Rattle.ctd_check.specs.Advances.{NeedsRoom};
+ghost use Rattle.ctd_check.specs.inner.FrameTasks.{left_tasks};
+ghost use Rattle.ctd_check.specs.inner.Advances.{NeedsRoom};
 
 use crate::frame::Frame;
 use crate::loops::{choose, repeat};

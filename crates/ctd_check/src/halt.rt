@@ -13,7 +13,7 @@ pub(crate) enum Halt {
 
 impl Halt {
     ghost use Rattle.std.specs.Prelude.{◌≡◌};
-    ghost use Rattle.ctd_check.specs.Halts.{halt_of};
+    ghost use Rattle.ctd_check.specs.inner.Halts.{halt_of};
 
     /// How a run ends by the failure of a command that began at this spot and stands at this site.
     pub(crate) fn of(failure: CommandFailure, spot: Spot, site: Site) -> Halt

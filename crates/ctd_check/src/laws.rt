@@ -1,8 +1,8 @@
 //! The laws of the run. They have no code: each contract is a law that holds of every run.
 
-ghost use Rattle.ctd_check.specs.BigSteps.{BigStepsHold, BigStepsHaveOneEnd, MeaningIsBigSteps};
-ghost use Rattle.ctd_check.specs.ByLooks.{VisibleBytesAreSeen, LooksHaveOneEffect, IntegersGoByLooks, StringsGoByLooks, BlanksGoByLooks};
-ghost use Rattle.ctd_check.specs.Laws.{ListsRunInTurn, CommandsMeanInTurn, OfEveryProgram, StepsAreWithin, EnoughStepsAgree, TooFewStepsStop, LowerLimitsStop, MoreStepsConsumeNoLess, CostIsTheSame, LooksAWindowAhead, UnreadBytesDoNotCount, TakenBytesDecide, FindsDataOfCall, FindsKnownBytes};
+ghost use Rattle.ctd_check.specs.calls.BigSteps.{BigStepsHold, BigStepsHaveOneEnd, MeaningIsBigSteps};
+ghost use Rattle.ctd_check.specs.calls.ByLooks.{VisibleBytesAreSeen, LooksHaveOneEffect, IntegersGoByLooks, StringsGoByLooks, BlanksGoByLooks};
+ghost use Rattle.ctd_check.specs.calls.Laws.{ListsRunInTurn, CommandsMeanInTurn, OfEveryProgram, StepsAreWithin, EnoughStepsAgree, TooFewStepsStop, LowerLimitsStop, MoreStepsConsumeNoLess, CostIsTheSame, LooksAWindowAhead, UnreadBytesDoNotCount, TakenBytesDecide, FindsDataOfCall, FindsKnownBytes};
 
 use ctd_source::Source;
 

@@ -1,14 +1,16 @@
 //! IF and the loops: the frames that they leave to be done, and the turns of a loop.
 ghost use Rattle.std.specs.Prelude.{◌≡◌, ℕ, List, ◌+◌, ◌≤◌, ◌∷◌, ◌++◌, [], max, Some};
 ghost use Rattle.ctd_program.specs.Tree.{list_blocks, separator_blocks};
-ghost use Rattle.ctd_program.specs.View.{boxed_separator, boxed_target, command_list, guard_tree, test_tree};
+ghost use Rattle.ctd_program.specs.inner.View.{boxed_separator};
+ghost use Rattle.ctd_program.specs.calls.View.{boxed_target, command_list, guard_tree, test_tree};
 ghost use Rattle.ctd_syntax.specs.RegexNumbers.{literals, separator_literals};
-ghost use Rattle.ctd_loader.specs.PatternTable.{AreAmong};
-ghost use Rattle.ctd_command.specs.Performs.{IsSound, Performs, answering};
-ghost use Rattle.ctd_check.specs.Known.{LeavesKnown};
+ghost use Rattle.ctd_loader.specs.calls.PatternTable.{AreAmong};
+ghost use Rattle.ctd_command.specs.calls.Performs.{IsSound, Performs};
+ghost use Rattle.ctd_command.specs.inner.Performs.{answering};
+ghost use Rattle.ctd_check.specs.inner.Known.{LeavesKnown};
 ghost use Rattle.ctd_check.specs.Loops.{tasks, loop_of, turn, take_turn, count_turn, goes_on, guard_of, repeat, choice};
-ghost use Rattle.ctd_check.specs.FrameTasks.{frame_tasks, separator_in, frame_blocks, loop_turn, guard_in, counter_in, loop_in, left_tasks, IsWithin};
-ghost use Rattle.ctd_check.specs.Advances.{NeedsRoom};
+ghost use Rattle.ctd_check.specs.inner.FrameTasks.{frame_tasks, separator_in, frame_blocks, loop_turn, guard_in, counter_in, loop_in, left_tasks, IsWithin};
+ghost use Rattle.ctd_check.specs.inner.Advances.{NeedsRoom};
 
 use crate::frame::{Frame, Guard, RunningLoop};
 use ctd_command::{CommandFailure, Run};

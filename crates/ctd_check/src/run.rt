@@ -1,15 +1,15 @@
 //! The run of a program: its tasks one after the other, each for one step.
 ghost use Rattle.std.specs.Prelude.{◌≡◌, ◌≤◌, ◌<◌, ◌+◌, ◌*◌, ◌^◌, ◌∷◌, [], length, is_some, true, OnOk, IfSome, Some};
-ghost use Rattle.ctd_source.specs.CursorCalls.{state_of};
+ghost use Rattle.ctd_source.specs.calls.CursorCalls.{state_of};
 ghost use Rattle.ctd_program.specs.Tree.{blocks};
-ghost use Rattle.ctd_program.specs.View.{command_tree};
+ghost use Rattle.ctd_program.specs.calls.View.{command_tree};
 ghost use Rattle.ctd_syntax.specs.RegexNumbers.{command_literals};
-ghost use Rattle.ctd_command.specs.Performs.{IsSound, state};
-ghost use Rattle.ctd_check.specs.Known.{AreKnown};
+ghost use Rattle.ctd_command.specs.calls.Performs.{IsSound, state};
+ghost use Rattle.ctd_check.specs.inner.Known.{AreKnown};
 ghost use Rattle.ctd_check.specs.Loops.{start, tasks_before_turn};
-ghost use Rattle.ctd_check.specs.FrameTasks.{to_do, top_loop, loop_blocks, separator_in, separator_tasks, IsListDone};
-ghost use Rattle.ctd_check.specs.Advances.{Advances, RunsTo};
-ghost use Rattle.ctd_check.specs.Opening.{Opens, halt_result};
+ghost use Rattle.ctd_check.specs.inner.FrameTasks.{to_do, top_loop, loop_blocks, separator_in, separator_tasks, IsListDone};
+ghost use Rattle.ctd_check.specs.inner.Advances.{Advances, RunsTo};
+ghost use Rattle.ctd_check.specs.inner.Opening.{Opens, halt_result};
 ghost use Rattle.ctd_check.specs.Run.{act_of, run as result_of, run_from};
 
 use crate::command::{act, start_block};

@@ -2,10 +2,10 @@
 ghost use Rattle.std.specs.Prelude.{◌≡◌, ℕ, ◌≤◌, ◌<◌, ◌+◌, ◌-◌, ◌^◌, ◌++◌, ◌∷◌, [], length, is_some, true, false, None, Some, OnOk, IfErr, IfNone, IfSome};
 ghost use Rattle.std.specs.Option.{option_copied};
 ghost use Rattle.ctd_program.specs.Tree.{blocks, list_blocks};
-ghost use Rattle.ctd_program.specs.View.{command_tree, command_trees};
+ghost use Rattle.ctd_program.specs.calls.View.{command_tree, command_trees};
 ghost use Rattle.ctd_check.specs.Loops.{start, tasks, finish};
 ghost use Rattle.ctd_check.specs.declared.frame.RunningLoop.{RunningLoop};
-ghost use Rattle.ctd_check.specs.FrameTasks.{Fits, fits_prop, to_do, top_loop, frame_tasks, left_tasks, body_tasks, loop_blocks, frame_blocks, loop_turn, IsAtTurn, IsListDone, IsWithin};
+ghost use Rattle.ctd_check.specs.inner.FrameTasks.{Fits, fits_prop, to_do, top_loop, frame_tasks, left_tasks, body_tasks, loop_blocks, frame_blocks, loop_turn, IsAtTurn, IsListDone, IsWithin};
 
 use crate::frame::{Frame, RunningLoop};
 use arrayvec::ArrayVec;

@@ -6,9 +6,9 @@ use Rattle.ctd_source.specs.declared.source.Source.{Ghosts}
 use Rattle.ctd_source.specs.declared.cursor.Cursor.{Cursor}
 use Rattle.ctd_source.specs.declared.spot.LookFault.{LookFault}
 use Rattle.ctd_source.specs.TestData.{TestData, look, first_of, is_byte}
-use Rattle.ctd_source.specs.Consistency.{IsConsistentWith}
-use Rattle.ctd_source.specs.CursorCalls.{state_of, ReadsOn, MovesPast, GivesByte, PassesIfEqual, whether_byte}
-use Rattle.ctd_source.specs.Received.{AdvancesSuchThat}
+use Rattle.ctd_source.specs.calls.Consistency.{IsConsistentWith}
+use Rattle.ctd_source.specs.calls.CursorCalls.{state_of, ReadsOn, MovesPast, GivesByte, PassesIfEqual, whether_byte}
+use Rattle.ctd_source.specs.calls.Received.{AdvancesSuchThat}
 use Rattle.ctd_source.proofs.AdvanceLemmas.{advances_so, advances_both, advances_nowhere, advances_looking, advances_moving}
 use Rattle.ctd_store.specs.Store.{History}
 use Rattle.ctd_value.specs.Fault.{ValueFault, with_fault}
@@ -19,7 +19,8 @@ use Rattle.ctd_outcome.specs.declared.reason.Fault.{Fault}
 use Rattle.ctd_command.specs.declared.failure.CommandFailure.{CommandFailure}
 use Rattle.ctd_command.specs.declared.failure.Failure.TheVariants.{Rejected, Stopped, Memory}
 use Rattle.ctd_command.specs.State.{State, Effect, Act, done, faulty, proceed, ◌>>=◌, return, reject, lift, evaluate, fault_of_value, fault_of_look, see_next, pass}
-use Rattle.ctd_command.specs.Performs.{Does, Tells, answering, state, IsSound, Performs}
+use Rattle.ctd_command.specs.calls.Performs.{Does, state, IsSound, Performs}
+use Rattle.ctd_command.specs.inner.Performs.{Tells, answering}
 
 pub does_early : {A B : Type 0} (r : CommandFailure) (s : State) (e : Effect A) (k : A → State → Effect B) → Does {A = A} (Err r) s e → Does {A = B} (Err r) s (proceed e k)
 does_early (Rejected reason) s e k is = ap (λ x. proceed x k) is

@@ -9,16 +9,18 @@ use Rattle.ctd_program.specs.Tree.{ExprTree, VarTree}
 use Rattle.ctd_store.specs.declared.value.Value.{Value}
 use Rattle.ctd_store.specs.Store.{History, Key, assign}
 use Rattle.ctd_value.specs.declared.fault.EvalFault.{EvalFault}
-use Rattle.ctd_value.specs.Fault.{ValueFault, with_fault, Gives, ◌>>=◌}
-use Rattle.ctd_value.specs.Assignments.{with_variable, with_expression}
+use Rattle.ctd_value.specs.Fault.{ValueFault, with_fault, ◌>>=◌}
+use Rattle.ctd_value.specs.calls.Fault.{Gives}
+use Rattle.ctd_value.specs.calls.Assignments.{with_variable, with_expression}
 use Rattle.ctd_value.specs.Val.{val, key}
 use Rattle.ctd_command.specs.declared.machine.Run.{Run}
 use Rattle.ctd_command.specs.declared.failure.CommandFailure.{CommandFailure}
 use Rattle.ctd_command.specs.declared.failure.Failure.TheVariants.{Rejected, Stopped, Memory}
 use Rattle.ctd_command.specs.State.{State, Effect, done, proceed, lift, fault_of_value}
 use Rattle.ctd_command.specs.Commands.{set_to, give_value}
-use Rattle.ctd_command.specs.Failures.{failure_of}
-use Rattle.ctd_command.specs.Performs.{Does, Tells, IsSound, state, Performs}
+use Rattle.ctd_command.specs.calls.Failures.{failure_of}
+use Rattle.ctd_command.specs.calls.Performs.{Does, IsSound, state, Performs}
+use Rattle.ctd_command.specs.inner.Performs.{Tells}
 use Rattle.ctd_command.proofs.Acts.{answers_as, performs_as}
 use Rattle.ctd_command.proofs.Telling.{tells_fault}
 

@@ -7,7 +7,7 @@ use Rattle.std.proofs.lemmas.Bool.Decides.{nat_tests}
 use Rattle.std.proofs.lemmas.List.Sums.{prefix_len-le-length}
 use Rattle.ctd_source.specs.TestData.{TestData, next_byte, visible, is_newline}
 use Rattle.ctd_source.specs.declared.spot.LookFault.{LookFault}
-use Rattle.ctd_source.specs.Consistency.{CursorState, IsConsistentWith}
+use Rattle.ctd_source.specs.calls.Consistency.{CursorState, IsConsistentWith}
 use Rattle.ctd_source.proofs.Visible.{seen_run}
 use Rattle.ctd_value.specs.Fault.{with_fault}
 use Rattle.ctd_outcome.specs.declared.reason.Reason.TheVariants.{ExpectedSpace}

@@ -10,12 +10,12 @@ use Rattle.std.proofs.lemmas.List.{take-append-drop, drop-append-le}
 use Rattle.std.proofs.lemmas.List.Folds.{length-prefix_len}
 use Rattle.std.proofs.lemmas.List.Sums.{prefix_len-le-length, take_while-cons}
 use Rattle.ctd_source.specs.TestData.{TestData, visible, is_newline}
-use Rattle.ctd_source.specs.Consistency.{CursorState, IsConsistentWith}
+use Rattle.ctd_source.specs.calls.Consistency.{CursorState, IsConsistentWith}
 use Rattle.ctd_source.proofs.Visible.{seen_run}
 use Rattle.ctd_command.specs.Integer.{decimal, is_minus, sign_len, digits_of, prefix_len_of, is_zero_first, with_sign, in_interval}
 use Rattle.ctd_outcome.specs.declared.reason.Reason.{Reason}
 use Rattle.ctd_outcome.specs.declared.reason.Reason.TheVariants.{ExpectedInt, LeadingZero, MinusZero, OutOfRange}
-use Rattle.ctd_command.specs.Passing.{IsBufferedInteger}
+use Rattle.ctd_command.specs.inner.Passing.{IsBufferedInteger}
 use Rattle.ctd_command.specs.State.{State, done}
 use Rattle.ctd_command.specs.Commands.{integer, decide}
 use Rattle.ctd_command.proofs.HeldRuns.{while_within, front_in_line, run_front, held_next}

@@ -6,7 +6,7 @@ use Rattle.std.proofs.lemmas.Grind.{common_steps}
 use Rattle.std.proofs.lemmas.List.{take-append-le, take-take}
 use Rattle.std.proofs.lemmas.List.Sums.{prefix_len-le-length}
 use Rattle.ctd_source.specs.TestData.{TestData, next_byte, is_newline, first_of}
-use Rattle.ctd_source.specs.Consistency.{CursorState, IsConsistentWith}
+use Rattle.ctd_source.specs.calls.Consistency.{CursorState, IsConsistentWith}
 use Rattle.ctd_source.proofs.Looks.{look_found}
 use Rattle.ctd_command.proofs.DigitRuns.{front_passes}
 

@@ -9,7 +9,7 @@ use Rattle.ctd_source.specs.TestData.{TestData, next_byte, visible}
 use Rattle.ctd_source.proofs.Visible.{seen_byte, seen_end, seen_fault}
 use Rattle.ctd_value.specs.Fault.{with_fault}
 use Rattle.ctd_command.specs.Blanks.{is_blank, skip_blanks}
-use Rattle.ctd_command.specs.Passing.{PassesBlanks, PassesSomeBlanks}
+use Rattle.ctd_command.specs.inner.Passing.{PassesBlanks, PassesSomeBlanks}
 use Rattle.ctd_command.specs.State.{State, done, faulty, proceed, lift, fault_of_look}
 use Rattle.ctd_command.proofs.DigitRuns.{front_passes}
 

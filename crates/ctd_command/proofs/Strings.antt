@@ -9,7 +9,7 @@ use Rattle.std.specs.Result.{IsErr, IsErrAnd}
 use Rattle.ctd_source.specs.declared.cursor.Cursor.{Cursor}
 use Rattle.ctd_source.specs.declared.source.Source.{Ghosts}
 use Rattle.ctd_source.specs.declared.spot.LookFault.{LookFault}
-use Rattle.ctd_source.specs.Received.{AdvancesSuchThat}
+use Rattle.ctd_source.specs.calls.Received.{AdvancesSuchThat}
 use Rattle.ctd_source.proofs.AdvanceLemmas.{advances_so}
 use Rattle.ctd_source.specs.TestData.{TestData, next_byte, visible}
 use Rattle.ctd_source.proofs.Visible.{seen_fault, seen_end}
@@ -21,9 +21,9 @@ use Rattle.ctd_program.specs.declared.mode.Mode.{Mode}
 use Rattle.ctd_outcome.specs.declared.reason.Reason.TheVariants.{StringMismatch}
 use Rattle.ctd_command.specs.State.{State, Effect, Act, done, rejected, faulty, proceed, return, lift, fault_of_look}
 use Rattle.ctd_command.specs.Commands.{differ, compare, match_bytes}
-use Rattle.ctd_command.specs.Passing.{PassesPrefix, PassesSome}
-use Rattle.ctd_command.specs.Alone.{DoesAlone}
-use Rattle.ctd_command.specs.Performs.{Does, Performs}
+use Rattle.ctd_command.specs.inner.Passing.{PassesPrefix, PassesSome}
+use Rattle.ctd_command.specs.inner.Alone.{DoesAlone}
+use Rattle.ctd_command.specs.calls.Performs.{Does, Performs}
 use Rattle.ctd_command.specs.declared.machine.Run.{Run}
 use Rattle.ctd_command.proofs.Acts.{with_cursor}
 use Rattle.ctd_command.proofs.Lists.{no_bytes}

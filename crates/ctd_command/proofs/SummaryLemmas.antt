@@ -4,7 +4,7 @@ use Rattle.std.proofs.lemmas.Bool.Decides.{nat_tests}
 use Rattle.std.proofs.lemmas.List.{take_more}
 use Rattle.ctd_command.specs.declared.digits.DigitSummary.{DigitSummary}
 use Rattle.ctd_command.specs.Integer.{decimal, is_zero_first}
-use Rattle.ctd_command.specs.Summaries.{Summarizes}
+use Rattle.ctd_command.specs.inner.Summaries.{Summarizes}
 use Rattle.ctd_command.proofs.Decimal.{decimal-append, grown_once}
 
 later_zero : (z first zero : Bool) → first ≡ false → (z || (first && zero)) ≡ z

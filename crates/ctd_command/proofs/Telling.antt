@@ -4,8 +4,8 @@ use Rattle.std.specs.Prelude.{slice_get}
 use Rattle.std.specs.Result.{IsErr, IsErrAnd}
 use Rattle.ctd_source.specs.declared.source.Source.{Ghosts}
 use Rattle.ctd_source.specs.declared.cursor.Cursor.{Cursor}
-use Rattle.ctd_source.specs.Consistency.{IsConsistentWith}
-use Rattle.ctd_source.specs.CursorCalls.{state_of, ReadsOn}
+use Rattle.ctd_source.specs.calls.Consistency.{IsConsistentWith}
+use Rattle.ctd_source.specs.calls.CursorCalls.{state_of, ReadsOn}
 use Rattle.ctd_source.specs.TestData.{TestData, next_byte}
 use Rattle.ctd_source.proofs.AdvanceLemmas.{advances_so, advances_nowhere, advances_reading}
 use Rattle.ctd_program.specs.Tree.{TestTree}
@@ -14,7 +14,8 @@ use Rattle.ctd_value.specs.declared.fault.EvalFault.{EvalFault}
 use Rattle.ctd_value.specs.declared.fault.EvalFault.TheVariants as evals
 use Rattle.ctd_value.specs.declared.fault.TestFault.{TestFault}
 use Rattle.ctd_value.specs.declared.fault.TestFault.TheVariants as tests
-use Rattle.ctd_value.specs.Fault.{ValueFault, TruthFault, with_fault, eval_fault, test_fault, Answers, Gives}
+use Rattle.ctd_value.specs.Fault.{ValueFault, TruthFault, with_fault}
+use Rattle.ctd_value.specs.calls.Fault.{eval_fault, test_fault, Answers, Gives}
 use Rattle.ctd_value.specs.Fault as faults
 use Rattle.ctd_value.specs.Truth.{truth}
 use Rattle.ctd_command.specs.declared.failure.CommandFailure.{CommandFailure}
@@ -23,8 +24,9 @@ use Rattle.ctd_outcome.specs.declared.reason.Fault.{Fault}
 use Rattle.ctd_outcome.specs.declared.reason.Fault.TheVariants.{Undefined, WrongType, Overflow, DivisionByZero, Exponent, Count, Shape, StepLimit}
 use Rattle.ctd_command.specs.State.{State, done, faulty, lift, evaluate, fault_of_value, fault_of_truth, fault_of_look}
 use Rattle.ctd_command.specs.Commands.{answer}
-use Rattle.ctd_command.specs.Failures.{test_failure, failure_of}
-use Rattle.ctd_command.specs.Performs.{Does, Tells, state, IsSound, Performs}
+use Rattle.ctd_command.specs.calls.Failures.{test_failure, failure_of}
+use Rattle.ctd_command.specs.calls.Performs.{Does, state, IsSound, Performs}
+use Rattle.ctd_command.specs.inner.Performs.{Tells}
 use Rattle.ctd_command.proofs.Acts.{with_cursor, answers_as, evaluated}
 use Rattle.ctd_command.proofs.DigitRuns.{some_held}
 use Rattle.ctd_command.proofs.HeldRuns.{first_held, held_next}

@@ -5,8 +5,8 @@ use Rattle.ctd_source.specs.declared.limits.TheConstants.{WINDOW}
 use Rattle.ctd_source.specs.declared.source.Source.{Ghosts}
 use Rattle.ctd_source.specs.declared.cursor.Cursor.{Cursor}
 use Rattle.ctd_source.specs.declared.spot.LookFault.{LookFault}
-use Rattle.ctd_source.specs.Received.{AdvancesSuchThat}
-use Rattle.ctd_source.specs.CursorCalls.{GivesWindow, MovesPast}
+use Rattle.ctd_source.specs.calls.Received.{AdvancesSuchThat}
+use Rattle.ctd_source.specs.calls.CursorCalls.{GivesWindow, MovesPast}
 use Rattle.ctd_source.specs.TestData.{TestData, look}
 use Rattle.ctd_source.proofs.AdvanceLemmas.{advances_so, advances_nowhere, advances_reading}
 use Rattle.ctd_pattern.specs.Pattern.{length_at_start}
@@ -14,8 +14,10 @@ use Rattle.ctd_value.specs.Fault.{with_fault}
 use Rattle.ctd_command.specs.declared.machine.Run.{Run}
 use Rattle.ctd_command.specs.declared.failure.CommandFailure.{CommandFailure}
 use Rattle.ctd_command.specs.State.{State, Effect, Act, done, rejected, faulty, proceed, ◌>>=◌, return, pass, lift, fault_of_look, see_window}
-use Rattle.ctd_command.specs.Performs.{Does, AlwaysDoes, state, IsSound, Performs}
-use Rattle.ctd_command.specs.Regex.{shorter_match, matched, matched_len, regex}
+use Rattle.ctd_command.specs.calls.Performs.{Does, state, IsSound, Performs}
+use Rattle.ctd_command.specs.inner.Performs.{AlwaysDoes}
+use Rattle.ctd_command.specs.Regex.{shorter_match, matched, regex}
+use Rattle.ctd_command.specs.inner.Regex.{matched_len}
 use Rattle.ctd_command.proofs.Acts.{does_early, always, and_then, given, passed, performs_as, with_cursor}
 
 -- the length of a match that is cut out of its window

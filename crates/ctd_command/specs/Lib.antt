@@ -1,11 +1,10 @@
+-- what the theorem of the tool reaches: to be believed
 pub mod State
-pub mod Commands
 pub mod Integer
+pub mod Commands
 pub mod Blanks
 pub mod Regex
-pub mod Failures
-pub mod FailureCodes
-pub mod Performs
-pub mod Alone
-pub mod Passing
-pub mod Summaries
+-- what else the contracts of public calls say
+pub mod calls
+-- what only the proofs of this crate use
+pub mod inner

@@ -1,9 +1,9 @@
 -- REGEX: a match at the start of the window.
+use Rattle.ctd_store.specs.declared.value.Value.TheVariants as values
 use Rattle.std.specs.Prelude.{ℕ, nat_eq, ⊤, List, length, take, Option, Some, None, if◌then◌else◌}
 use Rattle.ctd_source.specs.declared.limits.TheConstants.{WINDOW}
 use Rattle.ctd_program.specs.Tree.{VarTree}
 use Rattle.ctd_pattern.specs.Pattern.{length_at_start}
-use Rattle.ctd_store.specs.declared.value.Value.TheVariants as values
 use Rattle.ctd_outcome.specs.declared.reason.Reason.TheVariants.{RegexMismatch}
 use Rattle.ctd_outcome.specs.declared.reason.Fault.TheVariants.{MatchTooLong}
 use Rattle.ctd_command.specs.State.{Act, ◌>>=◌, return, reject, stop, pass, see_window}
@@ -20,12 +20,6 @@ matched literal = do
   window ← see_window
   n ← shorter_match (length_at_start literal window)
   return (take n window)
-
--- how many they are
-abbrev pub matched_len : List ℕ → Act ℕ
-matched_len literal = do
-  bytes ← matched literal
-  return (length bytes)
 
 -- they are passed, and the target gets them
 abbrev pub regex : List ℕ → Option VarTree → Act ⊤

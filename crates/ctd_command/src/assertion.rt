@@ -1,8 +1,8 @@
 //! ASSERT.
 
-ghost use Rattle.ctd_program.specs.View.{test_tree};
+ghost use Rattle.ctd_program.specs.calls.View.{test_tree};
 ghost use Rattle.ctd_command.specs.Commands.{assert};
-ghost use Rattle.ctd_command.specs.Performs.{IsSound, Performs};
+ghost use Rattle.ctd_command.specs.calls.Performs.{IsSound, Performs};
 
 use crate::failure::CommandFailure;
 use crate::machine::Run;

@@ -1,9 +1,9 @@
 //! SET and UNSET.
 ghost use Rattle.std.specs.Prelude.{◌≡◌, fold, map, Ok};
-ghost use Rattle.ctd_program.specs.View.{assignment};
+ghost use Rattle.ctd_program.specs.calls.View.{assignment};
 ghost use Rattle.ctd_store.specs.Store.{unset};
 ghost use Rattle.ctd_command.specs.Commands.{give_value, set, unset_all};
-ghost use Rattle.ctd_command.specs.Performs.{IsSound, Performs};
+ghost use Rattle.ctd_command.specs.calls.Performs.{IsSound, Performs};
 
 use crate::failure::CommandFailure;
 use crate::machine::Run;

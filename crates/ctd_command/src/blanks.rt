@@ -1,11 +1,11 @@
 //! Blanks, which whitespace mode skips.
 ghost use Rattle.std.specs.Prelude.{◌≡◌, ◌<◌, true, false, OnOk, None, Ok};
 ghost use Rattle.std.specs.List.{prefix_len};
-ghost use Rattle.ctd_source.specs.CursorCalls.{state_of};
-ghost use Rattle.ctd_source.specs.Received.{AdvancesSuchThat};
+ghost use Rattle.ctd_source.specs.calls.CursorCalls.{state_of};
+ghost use Rattle.ctd_source.specs.calls.Received.{AdvancesSuchThat};
 ghost use Rattle.ctd_command.specs.Blanks.{is_blank, skip_blanks, some_blanks, first_skip};
-ghost use Rattle.ctd_command.specs.Passing.{PassesBlanks};
-ghost use Rattle.ctd_command.specs.Performs.{IsSound, Performs};
+ghost use Rattle.ctd_command.specs.inner.Passing.{PassesBlanks};
+ghost use Rattle.ctd_command.specs.calls.Performs.{IsSound, Performs};
 
 use crate::failure::CommandFailure;
 use crate::machine::Run;

@@ -1,7 +1,7 @@
 //! The commands of one byte, and the end of the data.
 ghost use Rattle.ctd_command.specs.Blanks.{space, newline, end, newline_between_blanks, end_behind_blanks};
 ghost use Rattle.ctd_command.specs.Commands.{one_byte, eof};
-ghost use Rattle.ctd_command.specs.Performs.{IsSound, Performs};
+ghost use Rattle.ctd_command.specs.calls.Performs.{IsSound, Performs};
 
 use crate::failure::CommandFailure;
 use crate::machine::Run;

@@ -120,7 +120,7 @@ fn value_in_interval(least: i128, most: i128, is_negative: bool, size: u128) -> 
 }
 
 impl DigitSummary {
-    ghost use Rattle.ctd_command.specs.Summaries.{Summarizes};
+    ghost use Rattle.ctd_command.specs.inner.Summaries.{Summarizes};
 
     /// No digit.
     pub(crate) fn none() -> DigitSummary

@@ -1,11 +1,11 @@
 //! Expressions, variables and tests, as the commands of a run use them.
 ghost use Rattle.std.specs.Prelude.{Ok, IfSome};
-ghost use Rattle.ctd_program.specs.View.{expr_tree, var_tree, test_tree, target};
+ghost use Rattle.ctd_program.specs.calls.View.{expr_tree, var_tree, test_tree, target};
 ghost use Rattle.ctd_store.specs.declared.value.Value.TheVariants as values;
 ghost use Rattle.ctd_value.specs.Val.{count, number_of};
 ghost use Rattle.ctd_command.specs.State.{evaluate};
 ghost use Rattle.ctd_command.specs.Commands.{set_to, keep, answer};
-ghost use Rattle.ctd_command.specs.Performs.{IsSound, Performs};
+ghost use Rattle.ctd_command.specs.calls.Performs.{IsSound, Performs};
 
 use crate::failure::CommandFailure;
 use crate::machine::Run;

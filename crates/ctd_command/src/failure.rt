@@ -51,7 +51,8 @@ pub struct CommandFailure(FailureCode);
 
 impl Model for CommandFailure {
     ghost use Rattle.std.proofs.Common.{ap};
-    ghost use Rattle.ctd_command.specs.FailureCodes.{failure_at, code_of, code_again};
+    ghost use Rattle.ctd_command.specs.calls.FailureCodes.{failure_at};
+    ghost use Rattle.ctd_command.specs.inner.FailureCodes.{code_of, code_again};
     ghost use Rattle.ctd_command.specs.declared.failure.Failure.{Failure};
 
     ghost Value = { Failure };
@@ -80,7 +81,7 @@ impl From<LookFault> for CommandFailure {
 
 impl From<EvalFault> for CommandFailure {
     ghost use Rattle.std.specs.Prelude.{◌≡◌};
-    ghost use Rattle.ctd_command.specs.Failures.{failure_of};
+    ghost use Rattle.ctd_command.specs.calls.Failures.{failure_of};
 
     ghost from_gives = { λ fault failure. failure ≡ failure_of fault };
 
@@ -100,7 +101,7 @@ impl From<EvalFault> for CommandFailure {
 
 impl From<TestFault> for CommandFailure {
     ghost use Rattle.std.specs.Prelude.{◌≡◌};
-    ghost use Rattle.ctd_command.specs.Failures.{test_failure};
+    ghost use Rattle.ctd_command.specs.calls.Failures.{test_failure};
 
     ghost from_gives = { λ fault failure. failure ≡ test_failure fault };
 

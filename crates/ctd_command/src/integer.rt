@@ -1,12 +1,13 @@
 //! INT: an integer of any length, in an interval.
 ghost use Rattle.std.specs.Prelude.{◌≡◌, OnOk, IfSome, None, true};
-ghost use Rattle.ctd_source.specs.CursorCalls.{state_of};
-ghost use Rattle.ctd_source.specs.Received.{AdvancesSuchThat};
-ghost use Rattle.ctd_program.specs.View.{expr_tree, target};
+ghost use Rattle.ctd_source.specs.calls.CursorCalls.{state_of};
+ghost use Rattle.ctd_source.specs.calls.Received.{AdvancesSuchThat};
+ghost use Rattle.ctd_program.specs.calls.View.{expr_tree, target};
 ghost use Rattle.ctd_command.specs.Commands.{int, integer};
 ghost use Rattle.ctd_command.specs.Integer.{is_minus, with_sign};
-ghost use Rattle.ctd_command.specs.Passing.{IsBufferedInteger, PassesMinus, PassesDigits};
-ghost use Rattle.ctd_command.specs.Performs.{IsSound, Performs, IsBetween};
+ghost use Rattle.ctd_command.specs.inner.Passing.{IsBufferedInteger, PassesMinus, PassesDigits};
+ghost use Rattle.ctd_command.specs.calls.Performs.{IsSound, Performs};
+ghost use Rattle.ctd_command.specs.inner.Performs.{IsBetween};
 
 use crate::digits::{DigitSummary, MAX_U64_DIGITS, leading_number};
 use crate::failure::CommandFailure;

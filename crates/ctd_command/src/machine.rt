@@ -1,8 +1,8 @@
 //! The state of a run: where the data are read, and the variables.
 ghost use Rattle.std.specs.Prelude.{◌≡◌, ◌<◌, ◌≤◌, length, Ok, Err, IfOk, IfSome};
-ghost use Rattle.ctd_source.specs.CursorCalls.{state_of, source as source_now, Borrows};
+ghost use Rattle.ctd_source.specs.calls.CursorCalls.{state_of, source as source_now, Borrows};
 ghost use Rattle.ctd_command.specs.State.{see_next, pass};
-ghost use Rattle.ctd_command.specs.Performs.{IsSound, Performs};
+ghost use Rattle.ctd_command.specs.calls.Performs.{IsSound, Performs};
 
 use crate::failure::CommandFailure;
 use ctd_program::Mode;

@@ -1,9 +1,11 @@
 //! REGEX: a match of its pattern at the start of the window.
 ghost use Rattle.std.specs.Prelude.{◌≡◌, ◌≤◌, length, Some, IfOk};
-ghost use Rattle.ctd_source.specs.CursorCalls.{state_of};
-ghost use Rattle.ctd_program.specs.View.{target, var_tree};
-ghost use Rattle.ctd_command.specs.Regex.{matched_len, regex, shorter_match};
-ghost use Rattle.ctd_command.specs.Performs.{IsSound, Performs, AlwaysDoes};
+ghost use Rattle.ctd_source.specs.calls.CursorCalls.{state_of};
+ghost use Rattle.ctd_program.specs.calls.View.{target, var_tree};
+ghost use Rattle.ctd_command.specs.inner.Regex.{matched_len};
+ghost use Rattle.ctd_command.specs.Regex.{regex, shorter_match};
+ghost use Rattle.ctd_command.specs.calls.Performs.{IsSound, Performs};
+ghost use Rattle.ctd_command.specs.inner.Performs.{AlwaysDoes};
 
 use crate::failure::CommandFailure;
 use crate::machine::Run;

@@ -1,15 +1,15 @@
 //! STRING: the bytes of a string.
 ghost use Rattle.std.specs.Prelude.{◌≡◌, ◌≤◌, ◌<◌, nat_eq, true, length, take, drop, count_by, None, OnOk, IfOk};
 ghost use Rattle.std.specs.List.{common_prefix_len};
-ghost use Rattle.ctd_source.specs.Consistency.{IsBounded};
-ghost use Rattle.ctd_source.specs.CursorCalls.{state_of, MovesPast};
-ghost use Rattle.ctd_source.specs.Received.{AdvancesSuchThat};
+ghost use Rattle.ctd_source.specs.calls.Consistency.{IsBounded};
+ghost use Rattle.ctd_source.specs.calls.CursorCalls.{state_of, MovesPast};
+ghost use Rattle.ctd_source.specs.calls.Received.{AdvancesSuchThat};
 ghost use Rattle.ctd_source.specs.TestData.{is_newline};
-ghost use Rattle.ctd_program.specs.View.{expr_tree};
+ghost use Rattle.ctd_program.specs.calls.View.{expr_tree};
 ghost use Rattle.ctd_command.specs.Commands.{string, match_bytes};
-ghost use Rattle.ctd_command.specs.Alone.{DoesAlone};
-ghost use Rattle.ctd_command.specs.Passing.{PassesSome};
-ghost use Rattle.ctd_command.specs.Performs.{IsSound, Performs};
+ghost use Rattle.ctd_command.specs.inner.Alone.{DoesAlone};
+ghost use Rattle.ctd_command.specs.inner.Passing.{PassesSome};
+ghost use Rattle.ctd_command.specs.calls.Performs.{IsSound, Performs};
 
 use crate::failure::CommandFailure;
 use crate::machine::Run;

@@ -1,3 +1,4 @@
-pub mod Buffers
-pub mod InMemory
-pub mod MemorySource
+-- what else the contracts of public calls say
+pub mod calls
+-- what only the proofs of this crate use
+pub mod inner

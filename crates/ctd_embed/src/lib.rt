@@ -3,8 +3,8 @@
 
 ghost use Rattle.std.specs.Prelude.{◌==◌};
 ghost use Rattle.std.specs.List.{slice_split};
-ghost use Rattle.ctd_embed.specs.Buffers.{ReceivesText, FillsBuffers};
-ghost use Rattle.ctd_embed.specs.InMemory.{IsAnswerTo};
+ghost use Rattle.ctd_embed.specs.calls.Buffers.{ReceivesText, FillsBuffers};
+ghost use Rattle.ctd_embed.specs.calls.InMemory.{IsAnswerTo};
 
 mod memory_source;
 mod run;

@@ -9,7 +9,7 @@ use Rattle.ctd_store.specs.Store.{History}
 use Rattle.ctd_value.specs.Fault.{ValueFault, Undefined, TruthFault, with_fault, ◌>>=◌}
 use Rattle.ctd_value.specs.Val.{val, vals, number_of, arithmetic}
 use Rattle.ctd_value.specs.Truth.{truth}
-use Rattle.ctd_findings.specs.Literal.{no_variables, no_data, compares_only, literal_truth, literal_number}
+use Rattle.ctd_findings.specs.calls.Literal.{no_variables, no_data, compares_only, literal_truth, literal_number}
 
 no_ok : {A E : Type 0} (e : E) (x : A) → Err e ≡ Ok x → ⊥
 no_ok e x is = cc

@@ -4,8 +4,8 @@ use Rattle.std.proofs.lemmas.List.{at_drop_more}
 use Rattle.ctd_findings.specs.declared.block.CommandInBlock.{CommandInBlock}
 use Rattle.ctd_findings.specs.declared.finding.Finding.{Finding}
 use Rattle.ctd_findings.specs.declared.finding.Warning.{Warning}
-use Rattle.ctd_findings.specs.Findings.{command_warnings, findings_among, findings_at}
-use Rattle.ctd_findings.specs.Listed.{in_block, in_blocks}
+use Rattle.ctd_findings.specs.calls.Findings.{command_warnings, findings_among, findings_at}
+use Rattle.ctd_findings.specs.inner.Listed.{in_block, in_blocks}
 use Rattle.ctd_findings.proofs.Trees.{place_is}
 
 -- the findings that are left, before a command and behind it

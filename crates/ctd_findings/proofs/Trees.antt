@@ -12,11 +12,12 @@ use Rattle.ctd_program.specs.declared.tree.Choice.{Choice, Choice', out-Choice}
 use Rattle.ctd_program.specs.declared.tree.Expr.{Expr}
 use Rattle.ctd_program.specs.declared.tree.Expr.TheVariants.{Element}
 use Rattle.ctd_program.specs.declared.tree.Element as elements
-use Rattle.ctd_program.specs.View.{action_tree, boxed_separator, command_list, command_trees, commands_of, expr_list, expr_tree, exprs_of}
+use Rattle.ctd_program.specs.calls.View.{action_tree, command_list, command_trees, commands_of, expr_list, expr_tree, exprs_of}
+use Rattle.ctd_program.specs.inner.View.{boxed_separator}
 use Rattle.ctd_program.proofs.Trees.{boxed_element, list_commands, loop_tree, choice_tree}
 use Rattle.ctd_program.specs.Tree.{place_of}
-use Rattle.ctd_findings.specs.Block.{commands_behind, commands_within, separator_command}
-use Rattle.ctd_findings.specs.Names.{expr_names, index_names}
+use Rattle.ctd_findings.specs.calls.Block.{commands_behind, commands_within, separator_command}
+use Rattle.ctd_findings.specs.calls.Names.{expr_names, index_names}
 
 -- the commands of a block
 block_commands : (block : Commands) (cs : List Command) → cs ≡ commands_of block → commands_behind None (command_trees cs) ≡ commands_behind None (command_list block)

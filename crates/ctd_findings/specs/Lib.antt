@@ -1,6 +1,4 @@
-pub mod Block
-pub mod Names
-pub mod Literal
-pub mod Outline
-pub mod Findings
-pub mod Listed
+-- what else the contracts of public calls say
+pub mod calls
+-- what only the proofs of this crate use
+pub mod inner

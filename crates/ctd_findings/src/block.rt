@@ -1,9 +1,10 @@
 //! The commands of a program, one after the other.
 
 ghost use Rattle.std.specs.Prelude.{◌≡◌, ◌++◌, None, OnOk, IfOk};
-ghost use Rattle.ctd_program.specs.View.{boxed_separator, command_tree, command_trees};
-ghost use Rattle.ctd_findings.specs.Block.{all_commands, commands_behind, commands_within, separator_command};
-ghost use Rattle.ctd_findings.specs.Listed.{in_blocks};
+ghost use Rattle.ctd_program.specs.inner.View.{boxed_separator};
+ghost use Rattle.ctd_program.specs.calls.View.{command_tree, command_trees};
+ghost use Rattle.ctd_findings.specs.calls.Block.{all_commands, commands_behind, commands_within, separator_command};
+ghost use Rattle.ctd_findings.specs.inner.Listed.{in_blocks};
 
 use ctd_program::{Action, Choice, Command, Loop};
 use std::alloc::{AllocError, Global};

@@ -1,12 +1,12 @@
 //! What is told of a command.
 
 ghost use Rattle.std.specs.Prelude.{◌≡◌, ◌++◌, OnOk, IfOk};
-ghost use Rattle.ctd_program.specs.View.{command_tree, expr_tree, guard_tree, test_tree};
-ghost use Rattle.ctd_findings.specs.Findings.{command_warnings, follows_endless, guard_test, is_above, is_empty_text, is_endless, is_known_true, loop_test, outline_warnings, own_warnings, truth_warning, warn_if, warn_unknown};
-ghost use Rattle.ctd_findings.specs.Listed.{command_at, has_name, in_block, names_at, test_at};
-ghost use Rattle.ctd_findings.specs.Names.{reads, sets, unsets};
-ghost use Rattle.ctd_findings.specs.Literal.{literal_number, literal_truth, no_variables};
-ghost use Rattle.ctd_findings.specs.Outline.{outline};
+ghost use Rattle.ctd_program.specs.calls.View.{command_tree, expr_tree, guard_tree, test_tree};
+ghost use Rattle.ctd_findings.specs.calls.Findings.{command_warnings, follows_endless, guard_test, is_above, is_empty_text, is_endless, is_known_true, loop_test, outline_warnings, own_warnings, truth_warning, warn_if, warn_unknown};
+ghost use Rattle.ctd_findings.specs.inner.Listed.{command_at, has_name, in_block, names_at, test_at};
+ghost use Rattle.ctd_findings.specs.calls.Names.{reads, sets, unsets};
+ghost use Rattle.ctd_findings.specs.calls.Literal.{literal_number, literal_truth, no_variables};
+ghost use Rattle.ctd_findings.specs.calls.Outline.{outline};
 ghost use Rattle.std.specs.Option.{option_and_then};
 
 use crate::block::CommandInBlock;

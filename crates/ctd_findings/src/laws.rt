@@ -6,7 +6,7 @@ ghost use Rattle.ctd_program.specs.Tree.{ExprTree, TestTree};
 ghost use Rattle.ctd_store.specs.Store.{History};
 ghost use Rattle.ctd_value.specs.Truth.{truth};
 ghost use Rattle.ctd_value.specs.Val.{number_of};
-ghost use Rattle.ctd_findings.specs.Literal.{literal_number, literal_truth};
+ghost use Rattle.ctd_findings.specs.calls.Literal.{literal_number, literal_truth};
 
 /// A test of which a truth is told has it whatever the variables and the data are.
 pub fn told_truth_is_always_so()

@@ -1,8 +1,8 @@
 //! What follows from literals alone.
 
 ghost use Rattle.std.specs.Prelude.{◌≡◌, IfOk};
-ghost use Rattle.ctd_program.specs.View.{expr_tree, test_tree};
-ghost use Rattle.ctd_findings.specs.Literal.{compares_only, literal_number, literal_truth, no_variables};
+ghost use Rattle.ctd_program.specs.calls.View.{expr_tree, test_tree};
+ghost use Rattle.ctd_findings.specs.calls.Literal.{compares_only, literal_number, literal_truth, no_variables};
 
 use ctd_program::{Expr, Test};
 use ctd_source::Plain;

@@ -1,8 +1,8 @@
 //! A set of names.
 
 ghost use Rattle.std.specs.Prelude.{◌≡◌, ℕ, List, IfOk, OnOk};
-ghost use Rattle.ctd_findings.specs.Listed.{has_name, names_at};
-ghost use Rattle.ctd_findings.specs.Names.{is_among};
+ghost use Rattle.ctd_findings.specs.inner.Listed.{has_name, names_at};
+ghost use Rattle.ctd_findings.specs.calls.Names.{is_among};
 
 use ctd_token::Name;
 use std::alloc::{AllocError, Global};

@@ -1,9 +1,9 @@
 //! The names in expressions and tests, and those that a command reads or gives a value.
 
 ghost use Rattle.std.specs.Prelude.{◌≡◌, ◌++◌, OnOk};
-ghost use Rattle.ctd_program.specs.View.{boxed_target, command_tree, expr_list, expr_tree, guard_tree, target, test_tree};
-ghost use Rattle.ctd_findings.specs.Listed.{assigned_trees, names_at};
-ghost use Rattle.ctd_findings.specs.Names.{assignment_names, assignment_reads, counts, expr_names, guard_names, index_names, reads, sets, target_name, target_reads, test_names, unsets};
+ghost use Rattle.ctd_program.specs.calls.View.{boxed_target, command_tree, expr_list, expr_tree, guard_tree, target, test_tree};
+ghost use Rattle.ctd_findings.specs.inner.Listed.{assigned_trees, names_at};
+ghost use Rattle.ctd_findings.specs.calls.Names.{assignment_names, assignment_reads, counts, expr_names, guard_names, index_names, reads, sets, target_name, target_reads, test_names, unsets};
 
 use ctd_program::{Action, Assignment, Command, Expr, IntArguments, LoopGuard, Test, Var};
 use ctd_token::Name;

@@ -1,12 +1,12 @@
 //! The findings of a program.
 
 ghost use Rattle.std.specs.Prelude.{◌≡◌, ◌++◌, ℕ, List, OnOk, IfOk};
-ghost use Rattle.ctd_program.specs.View.{command_trees};
+ghost use Rattle.ctd_program.specs.calls.View.{command_trees};
 ghost use Rattle.ctd_token.specs.declared.text.Place.{Place};
-ghost use Rattle.ctd_findings.specs.Findings.{findings_among, findings_at, findings_of};
-ghost use Rattle.ctd_findings.specs.Listed.{has_name, in_blocks, names_at};
-ghost use Rattle.ctd_findings.specs.Literal.{no_variables};
-ghost use Rattle.ctd_findings.specs.Names.{all_given, all_reads, is_among, preset_names};
+ghost use Rattle.ctd_findings.specs.calls.Findings.{findings_among, findings_at, findings_of};
+ghost use Rattle.ctd_findings.specs.inner.Listed.{has_name, in_blocks, names_at};
+ghost use Rattle.ctd_findings.specs.calls.Literal.{no_variables};
+ghost use Rattle.ctd_findings.specs.calls.Names.{all_given, all_reads, is_among, preset_names};
 
 use crate::block::{CommandInBlock, all_commands};
 use crate::command::{Known, command_warnings};

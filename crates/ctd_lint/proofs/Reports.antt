@@ -5,11 +5,11 @@ use Rattle.ctd_token.specs.declared.fault.LoadFault.{LoadFault}
 use Rattle.ctd_token.specs.declared.fault.LoadKind.TheVariants.{Memory}
 use Rattle.ctd_program.specs.Tree.{CommandList}
 use Rattle.ctd_program.specs.declared.preset.Preset.{Preset}
-use Rattle.ctd_loader.specs.Loading.{LoadsFrom}
+use Rattle.ctd_loader.specs.calls.Loading.{LoadsFrom}
 use Rattle.ctd_report.specs.Report.{load_report}
 use Rattle.ctd_findings.specs.declared.finding.Finding.{Finding}
-use Rattle.ctd_findings.specs.Findings.{findings_of}
-use Rattle.ctd_lint.specs.Report.{IsLintReport, call, findings_report}
+use Rattle.ctd_findings.specs.calls.Findings.{findings_of}
+use Rattle.ctd_lint.specs.inner.Report.{IsLintReport, call, findings_report}
 
 module _ {V P : Type 0} (tree_of : V → CommandList) (G : Ghosts P) (presets : List Preset) (old new : P) where
   -- a program that was loaded, and its findings

@@ -1,3 +1,2 @@
-pub mod CommandLine
-pub mod Report
-pub mod FileReport
+-- what only the proofs of this crate use
+pub mod inner

@@ -3,9 +3,9 @@
 ghost use Rattle.std.specs.Prelude.{◌≡◌, IfOk, map, option_map};
 ghost use Rattle.clap.specs.Words.{FailsBy, app_of, fault_of, first_of, found_of, matches_of, rows_of, rule_of};
 ghost use Rattle.ctd_arguments.specs.CommandLine.{define_rule, program_rule};
-ghost use Rattle.ctd_arguments.specs.RequiredProgram.{IsLocal};
+ghost use Rattle.ctd_arguments.specs.inner.RequiredProgram.{IsLocal};
 ghost use Rattle.ctd_arguments.specs.Settings.{ArePresetsOf};
-ghost use Rattle.ctd_lint.specs.CommandLine.{IsLintSetup, linter};
+ghost use Rattle.ctd_lint.specs.inner.CommandLine.{IsLintSetup, linter};
 
 use clap::error::ErrorKind;
 use clap::{Arg, ArgAction, ArgMatches, Command, Error};

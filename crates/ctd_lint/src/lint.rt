@@ -2,8 +2,9 @@
 
 ghost use Rattle.std.specs.Prelude.{◌≡◌, false};
 ghost use Rattle.ctd_source.specs.declared.source.Seen.TheVariants.{Going};
-ghost use Rattle.ctd_report.specs.Written.{Leaves, LeavesOneOf, before_after};
-ghost use Rattle.ctd_lint.specs.Report.{IsLintReport, call, findings_report, findings_status};
+ghost use Rattle.ctd_report.specs.calls.Written.{Leaves};
+ghost use Rattle.ctd_report.specs.Written.{LeavesOneOf, before_after};
+ghost use Rattle.ctd_lint.specs.inner.Report.{IsLintReport, call, findings_report, findings_status};
 
 use crate::text::findings_text;
 use ctd_findings::{Finding, findings};

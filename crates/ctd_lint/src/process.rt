@@ -1,8 +1,9 @@
 //! The words, the file and the streams of the process.
 
 ghost use Rattle.std.specs.Prelude.{◌≡◌, ◌≢◌, false, Err};
-ghost use Rattle.ctd_report.specs.Written.{Leaves, LeavesOneOf, before_after};
-ghost use Rattle.ctd_lint.specs.FileReport.{IsFileReport, IsNamedReport, usage_report, usage_text};
+ghost use Rattle.ctd_report.specs.calls.Written.{Leaves};
+ghost use Rattle.ctd_report.specs.Written.{LeavesOneOf, before_after};
+ghost use Rattle.ctd_lint.specs.inner.FileReport.{IsFileReport, IsNamedReport, usage_report, usage_text};
 
 use crate::command_line::{LintFault, LintSetup, settings};
 use crate::lint::{NO_FINDINGS, lint};

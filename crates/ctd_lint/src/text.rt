@@ -2,7 +2,7 @@
 
 ghost use Rattle.std.specs.Prelude.{◌≡◌, ◌++◌, OnOk, IfOk, string_bytes};
 ghost use Rattle.ctd_token.specs.FaultText.{place_text};
-ghost use Rattle.ctd_lint.specs.Report.{finding_line, findings_lines, fixed_text, warning_text};
+ghost use Rattle.ctd_lint.specs.inner.Report.{finding_line, findings_lines, fixed_text, warning_text};
 
 use ctd_findings::{Finding, Warning};
 use ctd_token::Place;

@@ -9,8 +9,8 @@ use Rattle.ctd_pattern.specs.declared.pattern.PatternFault.{PatternFault}
 use Rattle.ctd_pattern.specs.declared.pattern.PatternFault.TheVariants.{NotText, NotPattern, TooLarge}
 use Rattle.ctd_pattern.specs.declared.pattern.PatternFault.TheVariants as patterns
 use Rattle.ctd_pattern.specs.Pattern.{IsPattern, IsNoPattern}
-use Rattle.ctd_loader.specs.PatternTable.{texts_of}
-use Rattle.ctd_loader.specs.Literals.{literals_at}
+use Rattle.ctd_loader.specs.calls.PatternTable.{texts_of}
+use Rattle.ctd_loader.specs.inner.Literals.{literals_at}
 use Rattle.ctd_loader.specs.Loading.{ArePatterns, IsBadPattern, IsUnbuilt}
 
 -- what is left of the literals begins with this one

@@ -10,7 +10,8 @@ use Rattle.ctd_program.specs.declared.tree.Action.TheVariants.{If}
 use Rattle.ctd_program.specs.declared.tree.Action.TheVariants as actions
 use Rattle.ctd_program.specs.declared.tree.Loop.{Loop, out-Loop}
 use Rattle.ctd_program.specs.declared.tree.Choice.{Choice, out-Choice}
-use Rattle.ctd_program.specs.View.{action_tree, command_trees, command_list, commands_of, boxed_separator}
+use Rattle.ctd_program.specs.calls.View.{action_tree, command_trees, command_list, commands_of}
+use Rattle.ctd_program.specs.inner.View.{boxed_separator}
 use Rattle.ctd_program.proofs.Trees.{list_commands, loop_tree, choice_tree}
 use Rattle.ctd_syntax.specs.RegexNumbers.{command_literals, separator_literals, literals}
 

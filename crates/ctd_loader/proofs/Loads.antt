@@ -7,7 +7,7 @@ use Rattle.ctd_token.specs.declared.fault.LoadFault.{LoadFault}
 use Rattle.ctd_token.specs.declared.limits.TheConstants.{PROGRAM_LIMIT}
 use Rattle.ctd_token.specs.declared.fault.LoadKind.TheVariants.{Memory}
 use Rattle.ctd_program.specs.Tree.{CommandList}
-use Rattle.ctd_loader.specs.Loading.{LoadsFrom}
+use Rattle.ctd_loader.specs.calls.Loading.{LoadsFrom}
 
 -- nothing is said of the text, whatever came of it
 pub wants_memory : {V R : Type 0} (tree_of : V → CommandList) (G : Ghosts R) (old new : R) (q : Result V LoadFault) → IsErr q × IsErrAnd q (λ e. e ≡ record { kind = Memory; place = None })

@@ -5,7 +5,7 @@ use Rattle.ctd_source.specs.declared.source.Source.{Ghosts}
 use Rattle.ctd_source.specs.declared.source.Seen.TheVariants.{Going, Ended}
 use Rattle.ctd_source.specs.Pull.{seen_after}
 use Rattle.ctd_source.specs.CursorCalls.{Gave}
-use Rattle.ctd_source.specs.ReadingOn.{gave_both, consumed_to_end}
+use Rattle.ctd_source.specs.inner.ReadingOn.{gave_both, consumed_to_end}
 
 -- a source that gave bytes goes on
 pub going_after : (n : ℕ) → (n ≡ 0 → ⊥) → seen_after (Ok n) ≡ Going

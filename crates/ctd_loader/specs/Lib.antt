@@ -1,3 +1,6 @@
+-- what the theorem of the tool reaches: to be believed
 pub mod Loading
-pub mod Literals
-pub mod PatternTable
+-- what else the contracts of public calls say
+pub mod calls
+-- what only the proofs of this crate use
+pub mod inner

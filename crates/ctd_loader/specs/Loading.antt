@@ -1,20 +1,18 @@
 -- What loading a program gives.
-use Rattle.std.specs.Prelude.{◌≡◌, ◌≢◌, ◌≤◌, ◌⊎◌, ◌+◌, ℕ, nat_le, if◌then◌else◌, List, ◌∷◌, ◌++◌, length, All, IsUtf8, Option, Some, None, Result, Ok, Err}
-use Rattle.ctd_source.specs.declared.source.Source.{Ghosts}
+use Rattle.ctd_pattern.specs.declared.pattern.PatternFault.TheVariants as patterns
+use Rattle.std.specs.Prelude.{◌≡◌, ◌⊎◌, ◌+◌, ℕ, nat_le, if◌then◌else◌, List, ◌∷◌, ◌++◌, length, All, IsUtf8, Option, Some, None, Result, Ok, Err}
 use Rattle.ctd_source.specs.declared.source.Seen.{Seen}
 use Rattle.ctd_source.specs.declared.source.Seen.TheVariants.{Going, Ended, Broken}
-use Rattle.ctd_source.specs.CursorCalls.{Gave}
 use Rattle.ctd_token.specs.declared.limits.TheConstants.{PROGRAM_LIMIT}
 use Rattle.ctd_token.specs.declared.fault.LoadFault.{LoadFault}
 use Rattle.ctd_token.specs.declared.fault.LoadKind.{LoadKind}
-use Rattle.ctd_token.specs.declared.fault.LoadKind.TheVariants.{BadPattern, ProgramTooLong, Read, Memory}
+use Rattle.ctd_token.specs.declared.fault.LoadKind.TheVariants.{BadPattern, ProgramTooLong, Read}
 use Rattle.ctd_program.specs.declared.tree.PatternLiteral.{PatternLiteral}
 use Rattle.ctd_program.specs.Tree.{CommandList}
 use Rattle.ctd_syntax.specs.RegexNumbers.{literals}
 use Rattle.ctd_syntax.specs.Reading.{IsRefused, Parses}
 use Rattle.ctd_pattern.specs.declared.pattern.PatternFault.{PatternFault}
 use Rattle.ctd_pattern.specs.declared.pattern.PatternFault.TheVariants.{NotText, NotPattern, TooLarge}
-use Rattle.ctd_pattern.specs.declared.pattern.PatternFault.TheVariants as patterns
 use Rattle.ctd_pattern.specs.Pattern.{IsPattern, IsNoPattern}
 
 -- a reader that gave these bytes has them for its text once it ended; it has none where a read failed, and none yet while it goes on
@@ -83,15 +81,3 @@ MayFail bytes seen f = TextMayFail (program_text bytes seen) f
 -- the text of a reader that gave these bytes, and of whose end this was seen, is this program
 abbrev pub Loads : List ℕ → Seen → CommandList → Type 0
 Loads bytes seen tree = IsLoaded (program_text bytes seen) tree
-
--- an answer is a program that may be given, or a fault that may be; where memory ran out, nothing is said
-abbrev pub GivesProgramOrFault : {P : Type 0} → (MayGive : CommandList → Type 0) → (MayFailWith : LoadFault → Type 0) → (P → CommandList) → Result P LoadFault → Type 0
-GivesProgramOrFault MayGive MayFailWith tree_of (Ok plan) = MayGive (tree_of plan)
-GivesProgramOrFault MayGive MayFailWith tree_of (Err f) = f.kind ≢ Memory → MayFailWith f
-
--- in a call a reader gave these bytes, no more than one past the limit, and the answer is what loading them gives
-pub record LoadsFrom {P R : Type 0} (tree_of : P → CommandList) (G : Ghosts R) (old new : R) (result : Result P LoadFault) : Type 0 where
-  pub bytes : List ℕ
-  pub gave : Gave G old new bytes
-  pub short : length bytes ≤ PROGRAM_LIMIT + 1
-  pub answer : GivesProgramOrFault (Loads bytes (G.seen new)) (MayFail bytes (G.seen new)) tree_of result

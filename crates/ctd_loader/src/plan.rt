@@ -3,10 +3,11 @@ ghost use Rattle.std.specs.Prelude.{◌≡◌, ◌≢◌, ◌≤◌, None, Some,
 ghost use Rattle.ctd_source.specs.declared.source.Seen.TheVariants.{Going};
 ghost use Rattle.ctd_token.specs.declared.limits.TheConstants.{PROGRAM_LIMIT};
 ghost use Rattle.ctd_program.specs.Tree.{list_blocks};
-ghost use Rattle.ctd_program.specs.View.{command_trees};
-ghost use Rattle.ctd_syntax.specs.RegexNumbers.{IsNumbered, literals};
-ghost use Rattle.ctd_loader.specs.PatternTable.{texts_of};
-ghost use Rattle.ctd_loader.specs.Literals.{literals_at};
+ghost use Rattle.ctd_program.specs.calls.View.{command_trees};
+ghost use Rattle.ctd_syntax.specs.calls.RegexNumbers.{IsNumbered};
+ghost use Rattle.ctd_syntax.specs.RegexNumbers.{literals};
+ghost use Rattle.ctd_loader.specs.calls.PatternTable.{texts_of};
+ghost use Rattle.ctd_loader.specs.inner.Literals.{literals_at};
 ghost use Rattle.ctd_loader.specs.Loading.{ArePatterns, IsBadPattern};
 
 use crate::literals::literals_of;
@@ -99,8 +100,9 @@ fn matchers_of(alloc: Global, patterns: &[Pattern]) -> Result<Vec<Matcher<'_>>, 
 }
 
 impl Plan {
-    ghost use Rattle.ctd_loader.specs.PatternTable.{AreAmong};
-    ghost use Rattle.ctd_loader.specs.Loading.{GivesProgramOrFault, IsReady, LoadsFrom, TextHasFault};
+    ghost use Rattle.ctd_loader.specs.calls.PatternTable.{AreAmong};
+    ghost use Rattle.ctd_loader.specs.calls.Loading.{GivesProgramOrFault, LoadsFrom};
+    ghost use Rattle.ctd_loader.specs.Loading.{IsReady, TextHasFault};
 
     /// The commands, with at most 200 blocks open at each.
     pub fn commands(&self) -> &[Command]

@@ -4,7 +4,8 @@ use Rattle.regex_syntax.specs.Brackets.{Nested}
 use Rattle.regex_syntax.specs.Grammar.{Names, group_count}
 use Rattle.regex.specs.Patterns.{Re, SameCaptures}
 use Rattle.regex.proofs.ForCallers.{span_alike}
-use Rattle.ctd_pattern.specs.Pattern.{IsWrittenAs, written_pattern, end_from_start, length_of_first, length_at_start}
+use Rattle.ctd_pattern.specs.calls.Pattern.{IsWrittenAs}
+use Rattle.ctd_pattern.specs.Pattern.{written_pattern, end_from_start, length_of_first, length_at_start}
 
 -- what the grammar reads under a limit on depth is the written pattern
 pub is_written : (found : Option (Nested Re × Names)) (most : ℕ) (a : Re) (names : Names)

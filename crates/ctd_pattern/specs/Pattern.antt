@@ -1,7 +1,7 @@
 -- What a literal of REGEX means as a pattern, and what it matches at the start of a window.
-use Rattle.std.specs.Prelude.{◌≡◌, ◌⊎◌, ◌<◌, ℕ, zero, suc, false, List, Option, None, Some, IsSome, IsSomeAnd, IfSome, IsUtf8, option_map, option_and_then}
+use Rattle.std.specs.Prelude.{◌≡◌, ◌⊎◌, ◌<◌, ℕ, zero, suc, false, List, Option, None, Some, IsSome, IfSome, IsUtf8, option_map, option_and_then}
 use Rattle.std.specs.Str.{chars}
-use Rattle.regex.specs.Patterns.{Re, Config, SameCaptures, default_config, find, span}
+use Rattle.regex.specs.Patterns.{Re, Config, default_config, find, span}
 use Rattle.regex_syntax.specs.Grammar.{read}
 
 -- the options of a pattern: the defaults of `regex` over bytes
@@ -20,10 +20,6 @@ IsPattern literal = IsUtf8 literal × IsSome (written_pattern literal)
 abbrev pub IsNoPattern : List ℕ → Type 0
 IsNoPattern literal = (read bytes_config (chars literal) ≡ None)
     ⊎ IfSome (read bytes_config (chars literal)) (λ found. bytes_config.nest_limit < found.0.depth)
-
--- the literal is a pattern, and this one matches as it does
-abbrev pub IsWrittenAs : List ℕ → Re → Type 0
-IsWrittenAs literal pattern = IsSomeAnd (written_pattern literal) (SameCaptures pattern)
 
 -- the end of a span that starts at 0
 abbrev pub end_from_start : ℕ × ℕ → Option ℕ

@@ -26,7 +26,7 @@ impl Drop for Matcher<'_> {
 impl<'p> Model for Matcher<'p> {
     ghost use Rattle.std.specs.Prelude.{ℕ, List};
     ghost use Rattle.regex.specs.Bytes.{matcher_pattern};
-    ghost use Rattle.ctd_pattern.specs.Pattern.{IsWrittenAs};
+    ghost use Rattle.ctd_pattern.specs.calls.Pattern.{IsWrittenAs};
 
     ghost Value = { List ℕ };
 

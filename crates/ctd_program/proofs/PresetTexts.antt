@@ -3,7 +3,7 @@ use Rattle.std.proofs.Common.{◌≡◌, ℕ, ◌+◌, ◌<◌, List, ◌∷◌,
 use Rattle.ctd_program.specs.declared.preset.Literal.{Literal}
 use Rattle.ctd_program.specs.declared.preset.Preset.{Preset}
 use Rattle.ctd_program.specs.Presets.{IsPresetValue, IsTarget, IsPreset, preset}
-use Rattle.ctd_program.specs.PresetFront.{MayFollowItem, MayFollowTarget, IsAtFront, NothingIsAtFront, SpellsTarget}
+use Rattle.ctd_program.specs.inner.PresetFront.{MayFollowItem, MayFollowTarget, IsAtFront, NothingIsAtFront, SpellsTarget}
 use Rattle.ctd_program.proofs.Splits.{behind_front, take_past}
 
 -- a preset begins with its target, behind which are an equals sign and its value

@@ -11,7 +11,7 @@ use Rattle.ctd_token.specs.declared.token.TokenKind.{TokenKind}
 use Rattle.ctd_token.specs.declared.token.TokenKind.TheVariants as tokens
 use Rattle.ctd_token.specs.Cut.{TokenOrFault, is_digit, fraction_begins, token_at}
 use Rattle.ctd_program.specs.Presets.{IsToken, IsPresetValue, number, negative, string}
-use Rattle.ctd_program.specs.PresetFront.{IsFound, plain_literal, negative_literal, literal_at, MayFollowItem, IsAtFront, NothingIsAtFront}
+use Rattle.ctd_program.specs.inner.PresetFront.{IsFound, plain_literal, negative_literal, literal_at, MayFollowItem, IsAtFront, NothingIsAtFront}
 use Rattle.ctd_program.proofs.TokenFronts.{known_of, no_token, numeral_front, numeral_alone}
 use Rattle.ctd_program.proofs.LiteralFronts.{text_front, text_alone}
 

@@ -3,7 +3,7 @@ use Rattle.std.proofs.Common.{◌≡◌, inl, inr, ℕ, ◌+◌, ◌<◌, ◌≤
 use Rattle.std.proofs.lemmas.List.{get_or-drop}
 use Rattle.std.proofs.Math.Seq.{take-add}
 use Rattle.ctd_program.specs.Presets.{AreSeparated, one, more}
-use Rattle.ctd_program.specs.PresetFront.{MayFollowItem, MayFollowList, IsAtFront, NothingIsAtFront}
+use Rattle.ctd_program.specs.inner.PresetFront.{MayFollowItem, MayFollowList, IsAtFront, NothingIsAtFront}
 use Rattle.ctd_program.proofs.Splits.{behind_front, take_with}
 
 -- what may follow a list may follow its last item

@@ -15,7 +15,7 @@ use Rattle.ctd_token.specs.declared.token.TokenKind.TheVariants as tokens
 use Rattle.ctd_token.specs.Literal.{WholeLiteral, literal}
 use Rattle.ctd_token.specs.Cut.{is_upper, is_lower, is_digit, Judgement, TokenOrFault, wrong, at_first_byte, is_left_out_word, word_at, name_len, decimal, has_leading_zero, fraction_begins, numeral_at, mark_or, mark_at, single_mark, double_mark, closed_text, text_at, token_at}
 use Rattle.ctd_program.specs.Presets.{IsToken}
-use Rattle.ctd_program.specs.PresetFront.{negative_literal}
+use Rattle.ctd_program.specs.inner.PresetFront.{negative_literal}
 use Rattle.ctd_token.proofs.TokenFaults.{token_some}
 
 -- what a name, a numeral or a string at the front of b ∷ bs is

@@ -4,7 +4,8 @@ use Rattle.std.specs.Global.{Box}
 use Rattle.ctd_program.specs.Tree
 use Rattle.ctd_program.specs.Tree.{CommandList}
 use Rattle.ctd_token.specs.declared.text.Place.{Place}
-use Rattle.ctd_program.specs.View.{expr_tree, expr_row, expr_list, element_tree, boxed_target, test_tree, guard_tree, separator, boxed_separator, action_tree, command_tree, command_trees, command_list, command_row, commands_of}
+use Rattle.ctd_program.specs.calls.View.{expr_tree, expr_row, expr_list, boxed_target, test_tree, guard_tree, separator, action_tree, command_tree, command_trees, command_list, command_row, commands_of}
+use Rattle.ctd_program.specs.inner.View.{element_tree, boxed_separator}
 use Rattle.ctd_program.specs.declared.tree.Command.{Command}
 use Rattle.ctd_program.specs.declared.tree.Commands.{Commands, Commands', Row_of-Command, end_of-Command, more_of-Command, items-the_row-Command}
 use Rattle.ctd_program.specs.declared.tree.Action.TheBlock.{back-Loop-between, items_shown-the_row-Command-0}

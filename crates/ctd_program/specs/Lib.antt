@@ -1,4 +1,7 @@
+-- what the theorem of the tool reaches: to be believed
 pub mod Tree
-pub mod View
 pub mod Presets
-pub mod PresetFront
+-- what else the contracts of public calls say
+pub mod calls
+-- what only the proofs of this crate use
+pub mod inner

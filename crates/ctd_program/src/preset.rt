@@ -116,7 +116,7 @@ pub enum PresetFault {
 
 impl From<TokenFault> for PresetFault {
     ghost use Rattle.std.specs.Prelude.{◌≡◌};
-    ghost use Rattle.ctd_program.specs.PresetFront.{fault_of};
+    ghost use Rattle.ctd_program.specs.calls.PresetFront.{fault_of};
 
     ghost from_gives = { λ fault e. e ≡ fault_of fault };
 

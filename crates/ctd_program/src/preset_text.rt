@@ -4,7 +4,7 @@
 ghost use Rattle.std.specs.Prelude.{◌≡◌, ◌+◌, ◌≤◌, List, length, Err, IfOk};
 ghost use Rattle.ctd_token.specs.Cut.{token_at};
 ghost use Rattle.ctd_program.specs.Presets.{AreSeparated, ArePresets, IsPreset};
-ghost use Rattle.ctd_program.specs.PresetFront.{IsFound, negative_literal, literal_at, MayFollowItem, MayFollowList, MayFollowTarget, IsAtFront, NothingIsAtFront, AreIndices, SpellsTarget};
+ghost use Rattle.ctd_program.specs.inner.PresetFront.{IsFound, negative_literal, literal_at, MayFollowItem, MayFollowList, MayFollowTarget, IsAtFront, NothingIsAtFront, AreIndices, SpellsTarget};
 ghost use Rattle.ctd_program.specs.declared.preset.Preset.{Preset};
 
 use crate::preset::{Literal, Literals, Preset, PresetFault};
@@ -14,7 +14,7 @@ use std::alloc::Global;
 /// What stands in a list with commas: presets, and the indices of one.
 trait Item: Sized {
     ghost use Rattle.std.specs.Prelude.{◌≡◌, ℕ, List, Err, IfOk};
-    ghost use Rattle.ctd_program.specs.PresetFront.{MayFollowItem, IsAtFront, NothingIsAtFront};
+    ghost use Rattle.ctd_program.specs.inner.PresetFront.{MayFollowItem, IsAtFront, NothingIsAtFront};
 
     // Which text spells which item.
     ghost spells: { List ℕ → Self → Type 0 };

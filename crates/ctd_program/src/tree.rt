@@ -2,7 +2,7 @@
 //! (checktestdata language specification, grammar). Each list in a tree is a small type of its own.
 
 ghost use Rattle.std.specs.Prelude.{◌≡◌};
-ghost use Rattle.ctd_program.specs.View.{commands_of};
+ghost use Rattle.ctd_program.specs.calls.View.{commands_of};
 
 use crate::numeral::Numeral;
 use ctd_token::{Bytes, Name, Place};
@@ -232,7 +232,7 @@ impl Model for Program {
     ghost use Rattle.std.specs.Coded.{codes};
     ghost use Rattle.ctd_program.specs.declared.tree.Command.{Command};
     ghost use Rattle.ctd_program.specs.contracts.tree.Command as c;
-    ghost use Rattle.ctd_program.specs.View.{commands_of};
+    ghost use Rattle.ctd_program.specs.calls.View.{commands_of};
 
     ghost Value = { List Command };
 
@@ -242,7 +242,7 @@ impl Model for Program {
 }
 
 impl Exprs {
-    ghost use Rattle.ctd_program.specs.View.{exprs_of};
+    ghost use Rattle.ctd_program.specs.calls.View.{exprs_of};
 
     /// A list with these expressions, which takes no memory.
     pub fn from_vec(items: Vec<Expr>) -> Exprs
@@ -260,7 +260,7 @@ impl Exprs {
 }
 
 impl Names {
-    ghost use Rattle.ctd_program.specs.View.{names_of};
+    ghost use Rattle.ctd_program.specs.calls.View.{names_of};
 
     /// A list with these names, which takes no memory.
     pub fn from_vec(items: Vec<Name>) -> Names
@@ -278,7 +278,7 @@ impl Names {
 }
 
 impl Assignments {
-    ghost use Rattle.ctd_program.specs.View.{assignments_of};
+    ghost use Rattle.ctd_program.specs.calls.View.{assignments_of};
 
     /// A list with these assignments, which takes no memory.
     pub fn from_vec(items: Vec<Assignment>) -> Assignments

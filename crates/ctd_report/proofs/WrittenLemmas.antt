@@ -4,7 +4,8 @@ use Rattle.ctd_report.specs.declared.sink.Sink.{Ghosts}
 use Rattle.ctd_report.specs.declared.written.ToolFault.{ToolFault}
 use Rattle.ctd_report.specs.declared.written.ToolFault.TheVariants.{Memory, Write}
 use Rattle.ctd_report.specs.Report.{Report}
-use Rattle.ctd_report.specs.Written.{BeforeAfter, Leaves, LeavesOneOf}
+use Rattle.ctd_report.specs.Written.{BeforeAfter, LeavesOneOf}
+use Rattle.ctd_report.specs.calls.Written.{Leaves}
 
 -- what leaves a report leaves one of some, if it is one of them
 pub Leaves-LeavesOneOf : {O E : Type 0} {S : Ghosts O} {T : Ghosts E} (out : BeforeAfter S) (err : BeforeAfter T) (IsReport : Report → Type 0) (report : Report)

@@ -52,12 +52,6 @@ pub record WritesAll {O E : Type 0} {G : Ghosts O} {H : Ghosts E} (out : BeforeA
 abbrev pub BreaksOff : {O E : Type 0} {G : Ghosts O} {H : Ghosts E} → BeforeAfter G → BeforeAfter H → Report → Type 0
 BreaksOff out err report = (FailsIn out report.out × IsUntouched err) ⊎ (FailsIn err report.err × IsUntouched out)
 
--- what a call leaves that writes this report: all of it, a part where a stream failed, and nothing where memory ran out
-abbrev pub Leaves : {O E : Type 0} {G : Ghosts O} {H : Ghosts E} → BeforeAfter G → BeforeAfter H → Report → Result ℕ ToolFault → Type 0
-Leaves out err report (Ok status) = WritesAll out err report status
-Leaves out err report (Err Write) = BreaksOff out err report
-Leaves out err report (Err Memory) = IsUntouched out × IsUntouched err
-
 -- what a call leaves that writes one of these reports; where memory ran out, nothing is said of the report
 abbrev pub LeavesOneOf : {O E : Type 0} {G : Ghosts O} {H : Ghosts E} → BeforeAfter G → BeforeAfter H → (Report → Type 0) → Result ℕ ToolFault → Type 0
 LeavesOneOf out err IsReport (Ok status) = (report : Report) × IsReport report × WritesAll out err report status

@@ -3,7 +3,8 @@
 ghost use Rattle.std.specs.Prelude.{◌≡◌, ◌≢◌, false, string_bytes, true, IfOk};
 ghost use Rattle.ctd_token.specs.declared.fault.LoadKind.TheVariants.{Memory};
 ghost use Rattle.ctd_report.specs.Report.{check_report, load_report, on_err, on_out, open_line, open_report, outcome_line, usage_report, usage_text};
-ghost use Rattle.ctd_report.specs.Written.{Leaves, before_after};
+ghost use Rattle.ctd_report.specs.calls.Written.{Leaves};
+ghost use Rattle.ctd_report.specs.Written.{before_after};
 
 use crate::load_line::load_line_of;
 use crate::sink::Sink;

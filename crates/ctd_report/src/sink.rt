@@ -84,7 +84,7 @@ pub struct ToWrite<W> {
 }
 
 impl<W: Writer> ToWrite<W> {
-    ghost use Rattle.ctd_report.specs.Writer.{new_sink};
+    ghost use Rattle.ctd_report.specs.calls.Writer.{new_sink};
 
     /// A sink that has not failed.
     pub fn new(writer: W) -> Self
@@ -99,7 +99,7 @@ impl<W: Writer> ToWrite<W> {
 
 impl<W: Writer> Sink for ToWrite<W> {
     ghost use Rattle.std.specs.Prelude.{Ok};
-    ghost use Rattle.ctd_report.specs.Writer.{WritesOnce};
+    ghost use Rattle.ctd_report.specs.calls.Writer.{WritesOnce};
 
     ghost taken = { λ s. W.contents s.writer };
 

@@ -2,7 +2,8 @@
 
 ghost use Rattle.std.specs.Prelude.{◌≡◌, ◌≢◌, ◌⊎◌, [], false, is_err, OnOk, OnErr};
 ghost use Rattle.std.specs.Io.KnownBytes.{Appends};
-ghost use Rattle.ctd_report.specs.Written.{AppendsPart, FlushedAfter, Leaves, before_after};
+ghost use Rattle.ctd_report.specs.Written.{AppendsPart, FlushedAfter, before_after};
+ghost use Rattle.ctd_report.specs.calls.Written.{Leaves};
 
 use crate::sink::Sink;
 use ctd_source::Failed;

@@ -8,9 +8,9 @@ use Rattle.ctd_source.specs.declared.source.Seen.TheVariants.{Going, Ended, Brok
 use Rattle.ctd_source.specs.declared.spot.LookFault.{LookFault}
 use Rattle.ctd_source.specs.TestData.{TestData, look, first_of, next_byte}
 use Rattle.ctd_source.specs.Agreement.{Agrees}
-use Rattle.ctd_source.specs.Consistency.{CursorState, IsConsistentWith}
-use Rattle.ctd_source.specs.CursorCalls.{state_of, ReadsOn, MovesPast}
-use Rattle.ctd_source.specs.Received.{HasReceived, AdvancesSuchThat}
+use Rattle.ctd_source.specs.calls.Consistency.{CursorState, IsConsistentWith}
+use Rattle.ctd_source.specs.calls.CursorCalls.{state_of, ReadsOn, MovesPast}
+use Rattle.ctd_source.specs.calls.Received.{HasReceived, AdvancesSuchThat}
 use Rattle.ctd_source.proofs.Agreeing.{reading_follows, moving_follows, agreeing_stands}
 
 -- data that begin with two lists begin with the first

@@ -6,11 +6,13 @@ use Rattle.ctd_source.specs.declared.source.Source.{Ghosts}
 use Rattle.ctd_source.specs.declared.source.Seen.{Seen}
 use Rattle.ctd_source.specs.declared.source.Seen.TheVariants.{Going, Ended, Broken}
 use Rattle.ctd_source.specs.TestData.{TestData, spot_at}
-use Rattle.ctd_source.specs.Agreement.{Agrees, is_broken, known}
-use Rattle.ctd_source.specs.Consistency.{CursorState, IsConsistentWith, IsAtStart}
-use Rattle.ctd_source.specs.CursorCalls.{state_of, source, Gave, ReadsOn, MovesPast}
-use Rattle.ctd_source.specs.Received.{HasReceived}
-use Rattle.ctd_source.specs.ReadingOn.{gave_nothing, gave_both}
+use Rattle.ctd_source.specs.Agreement.{Agrees}
+use Rattle.ctd_source.specs.calls.Agreement.{is_broken, known}
+use Rattle.ctd_source.specs.calls.Consistency.{CursorState, IsConsistentWith, IsAtStart}
+use Rattle.ctd_source.specs.calls.CursorCalls.{state_of, source, ReadsOn, MovesPast}
+use Rattle.ctd_source.specs.CursorCalls.{Gave}
+use Rattle.ctd_source.specs.calls.Received.{HasReceived}
+use Rattle.ctd_source.specs.inner.ReadingOn.{gave_nothing, gave_both}
 
 -- a spot depends on the bytes before it alone
 pub spot_by_front : (xs ys : List ℕ) (p : ℕ) → take p xs ≡ take p ys → spot_at xs p ≡ spot_at ys p

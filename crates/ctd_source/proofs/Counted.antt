@@ -7,7 +7,8 @@ use Rattle.std.proofs.lemmas.List.{take-append-drop, at_drop_more, get_or-drop}
 use Rattle.std.proofs.lemmas.Grind.{common_steps}
 use Rattle.memchr.specs.Find.{Passes, Nowhere, NoneAfter, is_byte}
 use Rattle.ctd_source.specs.declared.spot.Spot.{Spot}
-use Rattle.ctd_source.specs.TestData.{is_newline, spot_after}
+use Rattle.ctd_source.specs.TestData.{is_newline}
+use Rattle.ctd_source.specs.inner.TestData.{spot_after}
 
 offset_once : (s : Spot) (b : ℕ) → (spot_after s b).offset ≡ s.offset + 1
 offset_once s b = grind (arith, common_steps)

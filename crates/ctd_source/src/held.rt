@@ -2,7 +2,7 @@
 
 ghost use Rattle.std.specs.Prelude.{◌≡◌, ◌+◌, ◌^◌, ◌<◌, ◌≤◌, [], ◌++◌, length, take, drop, slice_get, fold, IfOk};
 ghost use Rattle.circular_buffer.specs.Buffer.{buffer};
-ghost use Rattle.ctd_source.specs.TestData.{spot_after};
+ghost use Rattle.ctd_source.specs.inner.TestData.{spot_after};
 ghost use Rattle.ctd_source.specs.declared.limits.TheConstants.{WINDOW, PULL, ROOM};
 
 use crate::limits::{PULL, ROOM, WINDOW};
@@ -28,7 +28,7 @@ pub struct Held {
 impl Model for Held {
     ghost use Rattle.std.specs.Prelude.{◌≡◌, ◌+◌, ◌≤◌, ◌⊎◌, [], ◌++◌, length, drop};
     ghost use Rattle.ctd_source.specs.declared.limits.TheConstants.{WINDOW, PULL, ROOM};
-    ghost use Rattle.ctd_source.specs.Holding.{Holding};
+    ghost use Rattle.ctd_source.specs.calls.Holding.{Holding};
 
     ghost Value = { Holding };
 

@@ -1,7 +1,8 @@
 //! The spot of the next byte, as it moves on.
 
 ghost use Rattle.std.specs.Prelude.{◌≡◌, ◌+◌, ◌^◌, ◌<◌, ◌≤◌, ℕ, List, length, fold, count_by};
-ghost use Rattle.ctd_source.specs.TestData.{is_newline, spot_after};
+ghost use Rattle.ctd_source.specs.TestData.{is_newline};
+ghost use Rattle.ctd_source.specs.inner.TestData.{spot_after};
 
 use crate::spot::Spot;
 use memchr::memrchr;

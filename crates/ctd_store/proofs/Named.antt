@@ -13,7 +13,9 @@ use Rattle.std.proofs.lemmas.Bool.{eqb-true}
 use Rattle.std.proofs.lemmas.Map.Lookups.{exact_bytes}
 use Rattle.ctd_store.specs.declared.value.Value.{Value}
 use Rattle.ctd_store.specs.Order.{bytes_cmp, same_bytes, values_cmp}
-use Rattle.ctd_store.specs.Store.{Array, Variables, Positions, array_of, with_array, in_order, name_at, is_position, have_positions}
+use Rattle.ctd_store.specs.Store.{Array, Variables, array_of}
+use Rattle.ctd_store.specs.calls.Store.{Positions, with_array, in_order, is_position, have_positions}
+use Rattle.ctd_store.specs.inner.Store.{name_at}
 use Rattle.ctd_store.proofs.Overlay.{left_of, right_of}
 
 -- two names are one or two

@@ -6,8 +6,9 @@ use Rattle.std.specs.FinMap.{find, put}
 use Rattle.std.specs.FinMap.Entries.{find-put}
 use Rattle.ctd_store.specs.declared.value.Value.{Value}
 use Rattle.ctd_store.specs.Order.{values_cmp}
-use Rattle.ctd_store.specs.OrderLaws.{values_total}
-use Rattle.ctd_store.specs.Store.{Array, History, array_of, values_of, first_of_each, slot, overlay_row}
+use Rattle.ctd_store.specs.inner.OrderLaws.{values_total}
+use Rattle.ctd_store.specs.Store.{Array, History, array_of, values_of, first_of_each}
+use Rattle.ctd_store.specs.calls.Store.{slot, overlay_row}
 use Rattle.ctd_store.proofs.Firsts.{all_first}
 use Rattle.ctd_store.proofs.Overlay.{differs, slots_apart, tied, overlay_each_once}
 use Rattle.ctd_store.proofs.Merged.{overlay_before}

@@ -6,11 +6,13 @@ use Rattle.std.specs.Option.{option_copied, IfSome}
 use Rattle.std.specs.FinMap.{find, put, is_sorted}
 use Rattle.std.specs.FinMap.Entries.{is_sorted-put, find-put}
 use Rattle.ctd_store.specs.declared.value.Value.{Value}
-use Rattle.ctd_store.specs.Index.{HasIndices}
+use Rattle.ctd_store.specs.inner.Index.{HasIndices}
 use Rattle.ctd_store.specs.Order.{values_cmp}
-use Rattle.ctd_store.specs.OrderLaws.{values_total}
-use Rattle.ctd_store.specs.Showing.{visible_entries}
-use Rattle.ctd_store.specs.Store.{Array, with_scalar, is_indexed}
+use Rattle.ctd_store.specs.inner.OrderLaws.{values_total}
+use Rattle.ctd_store.specs.inner.Showing.{visible_entries}
+use Rattle.ctd_store.specs.Store.{Array}
+use Rattle.ctd_store.specs.calls.Store.{with_scalar}
+use Rattle.ctd_store.specs.inner.Store.{is_indexed}
 use Rattle.ctd_store.proofs.Firsts.{HasEachOnce}
 use Rattle.ctd_store.proofs.Overlay.{put_other, put_again, sorted_each_once, left_of, right_of}
 use Rattle.ctd_store.proofs.Merged.{added}

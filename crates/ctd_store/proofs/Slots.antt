@@ -5,8 +5,11 @@ use Rattle.std.specs.FinMap.{find, put}
 use Rattle.ctd_store.specs.declared.slot.Slot.{Slot}
 use Rattle.ctd_store.specs.declared.value.Value.{Value}
 use Rattle.ctd_store.specs.Order.{bytes_cmp, same_bytes, values_cmp}
-use Rattle.ctd_store.specs.Slot.{arrays_by, name_in, pins_in, values_in, with_unpinned}
-use Rattle.ctd_store.specs.Store.{Array, Variables, Positions, History, array_of, in_order, name_at, have_positions, with_value, has_indices, assign}
+use Rattle.ctd_store.specs.calls.Slot.{arrays_by, pins_in, values_in}
+use Rattle.ctd_store.specs.inner.Slot.{name_in, with_unpinned}
+use Rattle.ctd_store.specs.Store.{Array, Variables, History, array_of, with_value, has_indices, assign}
+use Rattle.ctd_store.specs.calls.Store.{Positions, in_order, have_positions}
+use Rattle.ctd_store.specs.inner.Store.{name_at}
 use Rattle.ctd_store.proofs.Lookups.{put_in}
 use Rattle.ctd_store.proofs.Named.{IsAbsent, nothing, same_some, absent, missing_array, array_at, written_at, emptied_at, none_left_out, positions_set, positions_added, put_filled, added, added_empty}
 

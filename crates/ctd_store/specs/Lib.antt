@@ -1,9 +1,7 @@
+-- what the theorem of the tool reaches: to be believed
 pub mod Order
 pub mod Store
-pub mod OrderLaws
-pub mod StoreLaws
-pub mod ValueRef
-pub mod Grid
-pub mod Index
-pub mod Slot
-pub mod Showing
+-- what else the contracts of public calls say
+pub mod calls
+-- what only the proofs of this crate use
+pub mod inner

@@ -1,15 +1,12 @@
 -- What has been assigned and pinned, and what a variable stands for.
-use Rattle.std.specs.Prelude.{ℕ, suc, pos, ◌+◌, nat_eq, nat_lt, true, false, Bool, not, ◌&&◌, List, [], ◌∷◌, ◌++◌, filter, fold, map, is_some, slice_get, option_map, Option, Some, None, if◌then◌else◌}
-use Rattle.std.specs.Option.{option_or, unwrap_or}
-use Rattle.std.specs.FinMap.{find, put, is_sorted}
-use Rattle.std.specs.declared.cmp.Ordering.{Ordering}
-use Rattle.std.specs.declared.cmp.Ordering.TheVariants.{Greater}
-use Rattle.std.specs.Ordering.{ordering_then}
-use Rattle.ctd_program.specs.declared.preset.Literal.{Literal}
 use Rattle.ctd_program.specs.declared.preset.Literal.TheVariants as literals
+use Rattle.ctd_store.specs.declared.value.Value.TheVariants as values
+use Rattle.std.specs.Prelude.{ℕ, Bool, not, List, [], ◌∷◌, ◌++◌, filter, fold, map, is_some, Option, if◌then◌else◌}
+use Rattle.std.specs.Option.{option_or, unwrap_or}
+use Rattle.std.specs.FinMap.{find, put}
+use Rattle.ctd_program.specs.declared.preset.Literal.{Literal}
 use Rattle.ctd_program.specs.declared.preset.Preset.{Preset}
 use Rattle.ctd_store.specs.declared.value.Value.{Value}
-use Rattle.ctd_store.specs.declared.value.Value.TheVariants as values
 use Rattle.ctd_store.specs.Order.{bytes_cmp, values_cmp, same_bytes, same_values}
 
 -- a variable: a name, and the values of its indices
@@ -17,71 +14,13 @@ pub record Key : Type 0 where
   pub name : List ℕ
   pub indices : List Value
 
--- keys by their names and then by their indices, index by index
-abbrev pub key_cmp : Key → Key → Ordering
-key_cmp a b = ordering_then (bytes_cmp a.name b.name) (values_cmp a.indices b.indices)
-
 -- index lists with their values, in the order of the index lists; where one came twice, its first entry would count
 abbrev pub Array : Type 0
 Array = List (List Value × Value)
 
--- the index list that is one number
-abbrev pub slot : ℕ → List Value
-slot n = values.Int (pos n) ∷ []
-
--- the index list that is two numbers
-abbrev pub cell : ℕ → ℕ → List Value
-cell m n = values.Int (pos m) ∷ values.Int (pos n) ∷ []
-
--- an array, with values at the numbers from n on overlay_row over it
-abbrev pub overlay_row : ℕ → List Value → Array → Array
-overlay_row n [] array = array
-overlay_row n (x ∷ xs) array = put values_cmp (slot n) x (overlay_row (suc n) xs array)
-
--- an array, with the value without indices overlay_row over it, if there is one
-abbrev pub with_scalar : Option Value → Array → Array
-with_scalar None array = array
-with_scalar (Some x) array = put values_cmp [] x array
-
--- whether an array is in order and has no value without indices
-abbrev pub is_indexed : Array → Bool
-is_indexed array = is_sorted values_cmp array && not (is_some (find values_cmp [] array))
-
--- how the index list at a place from a number on stands to an index list, where there are so many; any further is after each
-abbrev pub order_of_slot : ℕ → ℕ → ℕ → List Value → Ordering
-order_of_slot base at count indices = if nat_lt at count then values_cmp (slot (base + at)) indices else Greater
-
 -- names with their arrays, in the order of the names; where one came twice, its first array would count
 abbrev pub Variables : Type 0
 Variables = List (List ℕ × Array)
-
--- the variables, with the array of a name overlay_row over them, if it has entries
-abbrev pub with_array : List ℕ → Array → Variables → Variables
-with_array name [] variables = variables
-with_array name (e ∷ es) variables = put bytes_cmp name (e ∷ es) variables
-
--- names with their arrays, put in the order of the names, without those that have no entries
-abbrev pub in_order : Variables → Variables
-in_order [] = []
-in_order (v ∷ vs) = with_array v.0 v.1 (in_order vs)
-
--- the name at a position
-abbrev pub name_at : Variables → ℕ → Option (List ℕ)
-name_at variables at = option_map (λ v. v.0) (slice_get variables at)
-
--- names with their positions, in the order of the names
-abbrev pub Positions : Type 0
-Positions = List (List ℕ × ℕ)
-
--- whether a position is there and is this one
-abbrev pub is_position : ℕ → Option ℕ → Bool
-is_position at None = false
-is_position at (Some position) = nat_eq position at
-
--- whether each name has its position, counted from a number on
-abbrev pub have_positions : ℕ → Variables → Positions → Bool
-have_positions from [] positions = true
-have_positions from (v ∷ vs) positions = is_position from (find bytes_cmp v.0 positions) && have_positions (suc from) vs positions
 
 -- the array of a name, with no entries where the name has none
 abbrev pub array_of : List ℕ → Variables → Array
@@ -153,7 +92,3 @@ first_of_each (e ∷ es) = e ∷ without e.0 (first_of_each es)
 -- each index list at which the name has a value, once and with that value: the pin, or else what was assigned
 abbrev pub values_of : History → List ℕ → Array
 values_of h name = first_of_each (array_of name h.pins ++ array_of name h.assigned)
-
--- the index lists of an array
-abbrev pub index_lists : Array → List (List Value)
-index_lists array = map (λ e. e.0) array

@@ -4,11 +4,13 @@ ghost use Rattle.std.specs.Prelude.{◌≡◌, [], ◌∷◌, ◌++◌, map, tru
 ghost use Rattle.std.specs.List.{IsDistinct, list_any};
 ghost use Rattle.std.specs.Option.{option_copied, unwrap_or};
 ghost use Rattle.std.specs.FinMap.{find, put};
-ghost use Rattle.ctd_store.specs.Index.{indices_at, indices_of};
-ghost use Rattle.ctd_store.specs.ValueRef.{value_of_ref};
+ghost use Rattle.ctd_store.specs.calls.Index.{indices_at, indices_of};
+ghost use Rattle.ctd_store.specs.calls.ValueRef.{value_of_ref};
 ghost use Rattle.ctd_store.specs.Order.{values_cmp, same_value, same_values};
-ghost use Rattle.ctd_store.specs.Showing.{entry, visible_entries};
-ghost use Rattle.ctd_store.specs.Store.{has_indices, index_lists, overlay_row};
+ghost use Rattle.ctd_store.specs.calls.Showing.{entry};
+ghost use Rattle.ctd_store.specs.inner.Showing.{visible_entries};
+ghost use Rattle.ctd_store.specs.Store.{has_indices};
+ghost use Rattle.ctd_store.specs.calls.Store.{index_lists, overlay_row};
 
 use crate::index::{Index, Indices};
 use crate::indexed::Indexed;
@@ -31,7 +33,9 @@ pub(crate) struct Array {
 
 impl Model for Array {
     ghost use Rattle.std.specs.Prelude.{T};
-    ghost use Rattle.ctd_store.specs.Store.{Array, with_scalar, is_indexed};
+    ghost use Rattle.ctd_store.specs.Store.{Array};
+    ghost use Rattle.ctd_store.specs.calls.Store.{with_scalar};
+    ghost use Rattle.ctd_store.specs.inner.Store.{is_indexed};
 
     ghost Value = { Array };
 

@@ -4,12 +4,15 @@ ghost use Rattle.std.specs.Prelude.{◌≡◌, ◌≢◌, ◌+◌, ◌<◌, ℕ,
 ghost use Rattle.std.specs.List.{list_any};
 ghost use Rattle.std.specs.Option.{option_copied, unwrap_or, IfSome, IfNone};
 ghost use Rattle.std.specs.FinMap.{find, put};
-ghost use Rattle.ctd_store.specs.Grid.{cells, grid, put_each};
-ghost use Rattle.ctd_store.specs.Index.{indices_of};
-ghost use Rattle.ctd_store.specs.ValueRef.{value_of_ref};
+ghost use Rattle.ctd_store.specs.calls.Grid.{cells, grid};
+ghost use Rattle.ctd_store.specs.inner.Grid.{put_each};
+ghost use Rattle.ctd_store.specs.calls.Index.{indices_of};
+ghost use Rattle.ctd_store.specs.calls.ValueRef.{value_of_ref};
 ghost use Rattle.ctd_store.specs.Order.{values_cmp, same_value};
-ghost use Rattle.ctd_store.specs.Showing.{entry, visible_entries};
-ghost use Rattle.ctd_store.specs.Store.{cell, has_indices};
+ghost use Rattle.ctd_store.specs.calls.Showing.{entry};
+ghost use Rattle.ctd_store.specs.inner.Showing.{visible_entries};
+ghost use Rattle.ctd_store.specs.calls.Store.{cell};
+ghost use Rattle.ctd_store.specs.Store.{has_indices};
 ghost use Rattle.ctd_store.specs.declared.value.Value.TheVariants as values;
 
 use crate::array::{Array, add_entry, has_indices};
@@ -37,7 +40,7 @@ pub(crate) struct Grid {
 }
 
 impl Model for Grid {
-    ghost use Rattle.ctd_store.specs.Grid.{grid};
+    ghost use Rattle.ctd_store.specs.calls.Grid.{grid};
     ghost use Rattle.ctd_store.specs.Store.{Array};
 
     ghost Value = { Array };

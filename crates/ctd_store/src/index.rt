@@ -1,7 +1,8 @@
 //! Where in the array of a name a value stands.
 
 ghost use Rattle.std.specs.Prelude.{◌≡◌, [], false, IfOk, IsTrue};
-ghost use Rattle.ctd_store.specs.Index.{indices_at, indices_of, HasIndices};
+ghost use Rattle.ctd_store.specs.calls.Index.{indices_at, indices_of};
+ghost use Rattle.ctd_store.specs.inner.Index.{HasIndices};
 
 use crate::value::Value;
 use std::alloc::{AllocError, Global};

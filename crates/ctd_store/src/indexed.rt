@@ -4,11 +4,12 @@ ghost use Rattle.std.specs.Prelude.{◌≡◌, ◌++◌, [], map, true, false, S
 ghost use Rattle.std.specs.List.{list_any};
 ghost use Rattle.std.specs.Option.{option_copied, unwrap_or, IfSome, IfNone};
 ghost use Rattle.std.specs.FinMap.{find, put};
-ghost use Rattle.ctd_store.specs.Index.{indices_at};
-ghost use Rattle.ctd_store.specs.ValueRef.{value_of_ref};
+ghost use Rattle.ctd_store.specs.calls.Index.{indices_at};
+ghost use Rattle.ctd_store.specs.calls.ValueRef.{value_of_ref};
 ghost use Rattle.ctd_store.specs.Order.{values_cmp, same_value};
-ghost use Rattle.ctd_store.specs.Showing.{entry, visible_entries};
-ghost use Rattle.ctd_store.specs.Store.{cell, overlay_row, slot};
+ghost use Rattle.ctd_store.specs.calls.Showing.{entry};
+ghost use Rattle.ctd_store.specs.inner.Showing.{visible_entries};
+ghost use Rattle.ctd_store.specs.calls.Store.{cell, overlay_row, slot};
 
 use crate::array::Array;
 use crate::grid::Grid;
@@ -35,7 +36,7 @@ pub(crate) struct Indexed {
 }
 
 impl Model for Indexed {
-    ghost use Rattle.ctd_store.specs.Showing.{entries_in};
+    ghost use Rattle.ctd_store.specs.calls.Showing.{entries_in};
     ghost use Rattle.ctd_store.specs.Store.{Array};
 
     ghost Value = { Array };

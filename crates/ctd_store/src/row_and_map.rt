@@ -5,13 +5,16 @@ ghost use Rattle.std.specs.List.{list_any};
 ghost use Rattle.std.specs.Option.{option_copied, unwrap_or, IfSome, IfNone};
 ghost use Rattle.std.specs.FinMap.{find, put, is_sorted};
 ghost use Rattle.std.specs.declared.cmp.Ordering.TheVariants.{Less};
-ghost use Rattle.ctd_store.specs.Index.{indices_at, indices_of};
+ghost use Rattle.ctd_store.specs.calls.Index.{indices_at, indices_of};
 ghost use Rattle.ctd_store.specs.declared.index.Index.TheVariants as indexes;
 ghost use Rattle.ctd_store.specs.declared.value.Value.TheVariants.{Int, Text};
-ghost use Rattle.ctd_store.specs.ValueRef.{value_of_ref};
+ghost use Rattle.ctd_store.specs.calls.ValueRef.{value_of_ref};
 ghost use Rattle.ctd_store.specs.Order.{values_cmp, same_value};
-ghost use Rattle.ctd_store.specs.Showing.{entry, visible_entries};
-ghost use Rattle.ctd_store.specs.Store.{Array as Entries, has_indices, overlay_row, slot, order_of_slot};
+ghost use Rattle.ctd_store.specs.calls.Showing.{entry};
+ghost use Rattle.ctd_store.specs.inner.Showing.{visible_entries};
+ghost use Rattle.ctd_store.specs.Store.{Array as Entries, has_indices};
+ghost use Rattle.ctd_store.specs.calls.Store.{overlay_row, slot};
+ghost use Rattle.ctd_store.specs.inner.Store.{order_of_slot};
 
 use crate::array::{Array, add_entry, has_indices};
 use crate::index::{Index, Indices};
@@ -50,7 +53,8 @@ impl Model for RowAndMap {
     ghost use Rattle.std.specs.Prelude.{T, map};
     ghost use Rattle.std.specs.FinMap.{is_sorted};
     ghost use Rattle.ctd_store.specs.Order.{values_cmp};
-    ghost use Rattle.ctd_store.specs.Store.{Array, overlay_row};
+    ghost use Rattle.ctd_store.specs.Store.{Array};
+    ghost use Rattle.ctd_store.specs.calls.Store.{overlay_row};
 
     ghost Value = { Array };
 

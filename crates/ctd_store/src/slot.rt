@@ -3,10 +3,11 @@
 ghost use Rattle.std.specs.Prelude.{◌≡◌, [], None, Some, IfOk, IfSome, IsOk, IsTrue, OnOk, OnErr};
 ghost use Rattle.std.specs.Option.{option_or, option_copied, unwrap_or};
 ghost use Rattle.std.specs.FinMap.{find, put};
-ghost use Rattle.ctd_store.specs.Index.{indices_at};
-ghost use Rattle.ctd_store.specs.ValueRef.{value_of_ref};
+ghost use Rattle.ctd_store.specs.calls.Index.{indices_at};
+ghost use Rattle.ctd_store.specs.calls.ValueRef.{value_of_ref};
 ghost use Rattle.ctd_store.specs.Order.{values_cmp};
-ghost use Rattle.ctd_store.specs.Slot.{pins_in, with_unpinned};
+ghost use Rattle.ctd_store.specs.calls.Slot.{pins_in};
+ghost use Rattle.ctd_store.specs.inner.Slot.{with_unpinned};
 ghost use Rattle.ctd_store.specs.Store.{has_indices};
 
 use crate::array::{Array, has_indices};

@@ -4,12 +4,13 @@ ghost use Rattle.std.specs.Prelude.{◌≡◌, ◌≢◌, ◌↔◌, ℕ, [], �
 ghost use Rattle.std.specs.List.{list_any};
 ghost use Rattle.std.specs.Option.{option_copied, unwrap_or};
 ghost use Rattle.std.specs.FinMap.{find, put};
-ghost use Rattle.ctd_store.specs.Index.{indices_at, indices_of};
-ghost use Rattle.ctd_store.specs.ValueRef.{value_of_ref};
+ghost use Rattle.ctd_store.specs.calls.Index.{indices_at, indices_of};
+ghost use Rattle.ctd_store.specs.calls.ValueRef.{value_of_ref};
 ghost use Rattle.ctd_store.specs.Order.{bytes_cmp, values_cmp, same_value};
-ghost use Rattle.ctd_store.specs.Slot.{name_in};
-ghost use Rattle.ctd_store.specs.Store.{initial, is_pinned, value_at, array_of, assign, unset, values_of, value_of, with_pin, with_value, has_indices, overlay_row};
-ghost use Rattle.ctd_store.specs.Showing.{entry};
+ghost use Rattle.ctd_store.specs.inner.Slot.{name_in};
+ghost use Rattle.ctd_store.specs.Store.{initial, is_pinned, value_at, array_of, assign, unset, values_of, value_of, with_pin, with_value, has_indices};
+ghost use Rattle.ctd_store.specs.calls.Store.{overlay_row};
+ghost use Rattle.ctd_store.specs.calls.Showing.{entry};
 
 use crate::array::{Array, add_entries, get, has_value};
 use crate::index::{Index, Indices};
@@ -34,8 +35,9 @@ pub struct Store {
 
 impl Model for Store {
     ghost use Rattle.std.specs.Prelude.{T};
-    ghost use Rattle.ctd_store.specs.Slot.{arrays_by, pins_in, values_in};
-    ghost use Rattle.ctd_store.specs.Store.{History, in_order, have_positions};
+    ghost use Rattle.ctd_store.specs.calls.Slot.{arrays_by, pins_in, values_in};
+    ghost use Rattle.ctd_store.specs.Store.{History};
+    ghost use Rattle.ctd_store.specs.calls.Store.{in_order, have_positions};
 
     ghost Value = { History };
 

@@ -2,7 +2,7 @@
 
 ghost use Rattle.std.specs.Int.{w64};
 ghost use Rattle.std.specs.Prelude.{◌≡◌, ◌≤◌, ℤ, ℕ, List, length, true, false, FitsSigned, IfNone, IfOk, IfSome, OnOk, OnErr};
-ghost use Rattle.ctd_store.specs.ValueRef.{value_of_ref};
+ghost use Rattle.ctd_store.specs.calls.ValueRef.{value_of_ref};
 ghost use Rattle.ctd_store.specs.Order.{value_cmp};
 ghost use Rattle.ctd_store.specs.declared.value.Value.TheVariants as values;
 

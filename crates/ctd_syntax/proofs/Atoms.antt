@@ -4,8 +4,8 @@ use Rattle.ctd_syntax.specs.Lexeme.{Lexeme, keyword, mark}
 use Rattle.ctd_program.specs.Tree
 use Rattle.ctd_program.specs.Tree.{ExprTree, ExprList, VarTree}
 use Rattle.ctd_syntax.specs.Grammar.{IsExpr, IsSigned, unsigned, minus, IsPower, atom, power, IsExponent, positive, negative, IsAtom, numeral, text, variable, strlen, group, IsTarget, IsVariable, unindexed, indexed, IsExprs}
-use Rattle.ctd_syntax.specs.Front.{HasTree, HasNoTree, Always, IsBefore}
-use Rattle.ctd_syntax.specs.Levels.{ends}
+use Rattle.ctd_syntax.specs.inner.Front.{HasTree, HasNoTree, Always, IsBefore}
+use Rattle.ctd_syntax.specs.inner.Levels.{ends}
 use Rattle.ctd_token.specs.declared.text.Place.{Place}
 use Rattle.ctd_token.specs.declared.token.Mark.{Mark}
 use Rattle.ctd_syntax.specs.declared.keyword.Keyword.{Keyword}

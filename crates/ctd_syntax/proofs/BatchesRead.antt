@@ -3,14 +3,15 @@ use Rattle.std.proofs.Common.{◌≡◌, ℕ, ◌+◌, ◌≤◌, List, [], ◌�
 use Rattle.std.proofs.lemmas.Bool.{le-ltb}
 use Rattle.ctd_syntax.specs.Lexeme.{Lexeme}
 use Rattle.ctd_program.specs.Tree
-use Rattle.ctd_program.specs.View.{command_tree, command_trees}
+use Rattle.ctd_program.specs.calls.View.{command_tree, command_trees}
 use Rattle.ctd_program.specs.declared.tree.Command.{Command}
 use Rattle.ctd_program.proofs.Trees.{joined}
-use Rattle.ctd_token.specs.Lexing.{IsEnd}
+use Rattle.ctd_token.specs.calls.Lexing.{IsEnd}
 use Rattle.ctd_token.specs.declared.limits.TheConstants.{NESTING_LIMIT, PROGRAM_LIMIT}
-use Rattle.ctd_syntax.specs.Nesting.{change_of, step, start, weight, too_deep}
+use Rattle.ctd_syntax.specs.Nesting.{change_of, step, start, weight}
+use Rattle.ctd_syntax.specs.inner.Nesting.{too_deep}
 use Rattle.ctd_syntax.specs.Reading.{Parses, lexemes}
-use Rattle.ctd_syntax.specs.Batches.{Unread, IsNextSeen, ReadsOff, SpellsOnly}
+use Rattle.ctd_syntax.specs.inner.Batches.{Unread, IsNextSeen, ReadsOff, SpellsOnly}
 use Rattle.ctd_syntax.proofs.Parsing.{parsed}
 use Rattle.ctd_syntax.proofs.Boundaries.{BeginsWith, nothing_yet, nothing_spelled, batch_more, all_read}
 use Rattle.ctd_syntax.proofs.TokensRead as tokens_read

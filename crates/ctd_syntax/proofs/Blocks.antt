@@ -5,7 +5,8 @@ use Rattle.ctd_syntax.specs.Lexeme.{Lexeme, mark, keyword}
 use Rattle.ctd_program.specs.Tree.{VarTree, CommandTree, CommandList, Separator, blocks, separator_blocks, list_blocks}
 use Rattle.ctd_syntax.specs.Grammar
 use Rattle.ctd_syntax.specs.Grammar.{IsTargetEnd, IsCommand, IsRepeated, IsBranches, IsCommands}
-use Rattle.ctd_syntax.specs.Nesting.{change_of, word_change, step, start, weight, too_deep}
+use Rattle.ctd_syntax.specs.Nesting.{change_of, word_change, step, start, weight}
+use Rattle.ctd_syntax.specs.inner.Nesting.{too_deep}
 use Rattle.ctd_token.specs.declared.text.Place.{Place}
 use Rattle.ctd_token.specs.declared.limits.TheConstants.{NESTING_LIMIT}
 use Rattle.ctd_syntax.specs.declared.nesting.CounterChange.{CounterChange}

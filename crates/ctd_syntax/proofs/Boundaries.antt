@@ -7,10 +7,10 @@ use Rattle.ctd_program.specs.Tree.{VarTree, CommandTree, CommandList, Separator}
 use Rattle.ctd_program.proofs.Trees.{joined}
 use Rattle.ctd_syntax.specs.Grammar
 use Rattle.ctd_syntax.specs.Grammar.{IsTargetEnd, IsCommand, IsRepeated, IsBranches, IsCommands}
-use Rattle.ctd_syntax.specs.Front.{HasTree, Always}
-use Rattle.ctd_syntax.specs.CommandWords.{begins_command, command_begins}
+use Rattle.ctd_syntax.specs.inner.Front.{HasTree, Always}
+use Rattle.ctd_syntax.specs.inner.CommandWords.{begins_command, command_begins}
 use Rattle.ctd_syntax.specs.Nesting.{change_of}
-use Rattle.ctd_syntax.specs.Batches.{SpellsOnly}
+use Rattle.ctd_syntax.specs.inner.Batches.{SpellsOnly}
 use Rattle.ctd_syntax.specs.declared.nesting.CounterChange.{CounterChange}
 use Rattle.ctd_syntax.specs.declared.nesting.CounterChange.TheVariants.{Opens, Closes, Restarts, Grows, Keeps}
 use Rattle.ctd_token.specs.declared.token.Mark.TheVariants.{Open, Close, CloseIndex, Comma}

@@ -1,7 +1,7 @@
 -- A level of operators that join to the left is one item and a chain of operators with items.
 use Rattle.std.proofs.Common.{◌≡◌, List, [], ◌∷◌, ◌++◌, Option, Some, None, refl, sym, ap, ◌∙◌, subst, append_assoc, append-nil}
 use Rattle.ctd_syntax.specs.Lexeme.{Lexeme}
-use Rattle.ctd_syntax.specs.Front.{HasTree, HasNoTree, after_operator, operator_at}
+use Rattle.ctd_syntax.specs.inner.Front.{HasTree, HasNoTree, after_operator, operator_at}
 
 -- operators with items behind them, which join to the tree before them
 pub data Chain {T O : Type 0} (Item : List Lexeme → T → Type 0) (op : Lexeme → Option O) (join : O → T → T → T) : T → List Lexeme → T → Type 0 where

@@ -6,10 +6,10 @@ use Rattle.ctd_program.specs.Tree
 use Rattle.ctd_program.specs.Tree.{VarTree, GuardTree, CommandTree, CommandList, Separator}
 use Rattle.ctd_syntax.specs.Grammar
 use Rattle.ctd_syntax.specs.Grammar.{IsTarget, IsTargetEnd, IsCommand, IsCommands, IsRepeated, IsBranches}
-use Rattle.ctd_syntax.specs.Front.{HasTree, HasNoTree, Always, IsBefore, IsAfter, IsBuilt, IsPair, Spelling, Following}
-use Rattle.ctd_syntax.specs.Levels.{ends}
-use Rattle.ctd_syntax.specs.TestGrammar.{test_ends}
-use Rattle.ctd_syntax.specs.CommandWords.{IsCommandRest, CommandsEnd, IsBlock, IsBranchEnd, IsAbsent, IsCounter, IsGuard, IsLoopRest, IsLoopEnd, IsPatternText, command_begins, is_command_word}
+use Rattle.ctd_syntax.specs.inner.Front.{HasTree, HasNoTree, Always, IsBefore, IsAfter, IsBuilt, IsPair, Spelling, Following}
+use Rattle.ctd_syntax.specs.inner.Levels.{ends}
+use Rattle.ctd_syntax.specs.inner.TestGrammar.{test_ends}
+use Rattle.ctd_syntax.specs.inner.CommandWords.{IsCommandRest, CommandsEnd, IsBlock, IsBranchEnd, IsAbsent, IsCounter, IsGuard, IsLoopRest, IsLoopEnd, IsPatternText, command_begins, is_command_word}
 use Rattle.ctd_syntax.specs.declared.loop_head.LoopWord.{LoopWord}
 use Rattle.ctd_syntax.specs.declared.loop_head.LoopWord.TheVariants.{Rep, RepI, While, WhileI}
 use Rattle.ctd_token.specs.declared.text.Place.{Place}

@@ -5,9 +5,9 @@ use Rattle.ctd_program.specs.Tree
 use Rattle.ctd_program.specs.Tree.{ExprTree, ExprList, TestTree}
 use Rattle.ctd_syntax.specs.Grammar
 use Rattle.ctd_syntax.specs.Grammar.{IsExpr, IsProduct, IsSigned, IsPower, IsAtom, IsVariable, IsNames, IsTest, IsNegation, IsSimpleTest, compare_mark}
-use Rattle.ctd_syntax.specs.Front.{HasTree, HasNoTree, Always, IsBefore, IsAfter, IsPair, IsName, Spelling, operator_at, after_operator}
-use Rattle.ctd_syntax.specs.Levels.{binding, ends}
-use Rattle.ctd_syntax.specs.TestGrammar.{test_keyword, IsTestCall, IsLeft, IsComparison, compare_operator, holds_test}
+use Rattle.ctd_syntax.specs.inner.Front.{HasTree, HasNoTree, Always, IsBefore, IsAfter, IsPair, IsName, Spelling, operator_at, after_operator}
+use Rattle.ctd_syntax.specs.inner.Levels.{binding, ends}
+use Rattle.ctd_syntax.specs.inner.TestGrammar.{test_keyword, IsTestCall, IsLeft, IsComparison, compare_operator, holds_test}
 use Rattle.ctd_token.specs.declared.token.Mark.TheVariants.{Open, Close, Comma, Plus, Minus, Times, Divide, Percent, Caret, Bang}
 use Rattle.ctd_token.specs.declared.token.Mark.TheVariants as marks
 use Rattle.ctd_program.specs.declared.tree.Compare.{Compare}

@@ -8,7 +8,8 @@ use Rattle.std.proofs.Common.{lit≤}
 use Rattle.ctd_syntax.specs.declared.keyword.Keyword.TheVariants as words
 use Rattle.ctd_program.specs.Tree
 use Rattle.ctd_syntax.specs.Lexeme.{Lexeme, mark, keyword}
-use Rattle.ctd_syntax.specs.Nesting.{start, too_deep}
+use Rattle.ctd_syntax.specs.Nesting.{start}
+use Rattle.ctd_syntax.specs.inner.Nesting.{too_deep}
 use Rattle.ctd_syntax.specs.Grammar.{IsExpr, IsProduct, IsSigned, IsPower, product, difference, signed, unsigned, minus, atom, power, positive, negative, numeral, space, newline, int, done, then}
 use Rattle.ctd_syntax.specs.Grammar as targets
 use Rattle.ctd_syntax.specs.Reading.{Reads, lexemes}

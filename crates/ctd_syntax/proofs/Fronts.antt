@@ -2,7 +2,7 @@
 use Rattle.std.proofs.Common.{◌≡◌, ℕ, List, [], ◌∷◌, ◌++◌, Result, Ok, Err, refl, sym, ap, ◌∙◌, subst, append_assoc, IsErrAnd}
 use Rattle.std.proofs.lemmas.Result.{err_from_is_err_and}
 use Rattle.ctd_syntax.specs.Lexeme.{Lexeme, mark, keyword}
-use Rattle.ctd_syntax.specs.Front.{HasTree, HasNoTree, IsRefusal, FindsTree, Always, IsBefore, IsBeforeWord, IsAfter, IsBuilt, IsPair, IsName, Spelling, Following}
+use Rattle.ctd_syntax.specs.inner.Front.{HasTree, HasNoTree, IsRefusal, FindsTree, Always, IsBefore, IsBeforeWord, IsAfter, IsBuilt, IsPair, IsName, Spelling, Following}
 use Rattle.ctd_syntax.specs.declared.keyword.Keyword.{Keyword}
 use Rattle.ctd_token.specs.declared.text.Place.{Place}
 use Rattle.ctd_token.specs.declared.token.Mark.{Mark}

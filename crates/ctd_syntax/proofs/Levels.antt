@@ -3,8 +3,8 @@ use Rattle.std.proofs.Common.{◌≡◌, ℕ, ◌<◌, List, [], ◌∷◌, ◌+
 use Rattle.ctd_syntax.specs.Lexeme.{Lexeme, mark}
 use Rattle.ctd_program.specs.Tree.{ExprTree}
 use Rattle.ctd_syntax.specs.Grammar.{IsExpr, product, sum, difference, IsProduct, signed, times, quotient, remainder, IsSigned}
-use Rattle.ctd_syntax.specs.Front.{after_operator, operator_at}
-use Rattle.ctd_syntax.specs.Levels.{binding, ends, sum_operator, product_operator, join}
+use Rattle.ctd_syntax.specs.inner.Front.{after_operator, operator_at}
+use Rattle.ctd_syntax.specs.inner.Levels.{binding, ends, sum_operator, product_operator, join}
 use Rattle.ctd_token.specs.declared.token.Mark.TheVariants.{Plus, Minus, Times, Divide, Percent}
 use Rattle.ctd_syntax.specs.declared.expression.Operator.{Operator}
 use Rattle.ctd_syntax.specs.declared.expression.Operator.TheVariants.{Add, Sub, Mul, Div, Rem}

@@ -3,12 +3,13 @@ use Rattle.std.proofs.Common.{◌≡◌, ℕ, List, [], ◌∷◌, ◌++◌, len
 use Rattle.std.specs.Prelude.{map, ◌==◌}
 use Rattle.ctd_syntax.specs.Lexeme.{Lexeme}
 use Rattle.ctd_program.specs.Tree.{CommandList}
-use Rattle.ctd_syntax.specs.Front.{HasTree, HasNoTree}
+use Rattle.ctd_syntax.specs.inner.Front.{HasTree, HasNoTree}
 use Rattle.ctd_syntax.specs.Grammar.{IsCommands}
-use Rattle.ctd_syntax.specs.CommandWords.{CommandsEnd}
-use Rattle.ctd_syntax.specs.Nesting.{start, too_deep}
+use Rattle.ctd_syntax.specs.inner.CommandWords.{CommandsEnd}
+use Rattle.ctd_syntax.specs.Nesting.{start}
+use Rattle.ctd_syntax.specs.inner.Nesting.{too_deep}
 use Rattle.ctd_syntax.specs.Reading.{IsCut, Parses, Spells, lexemes}
-use Rattle.ctd_syntax.specs.Batches.{SpellsOnly}
+use Rattle.ctd_syntax.specs.inner.Batches.{SpellsOnly}
 use Rattle.ctd_token.specs.declared.token.Token.{Token}
 use Rattle.ctd_token.proofs.UniqueTokens.{same_cut}
 use Rattle.ctd_syntax.proofs.Blocks.{blocks_within}

@@ -6,9 +6,9 @@ use Rattle.ctd_program.specs.Tree
 use Rattle.ctd_program.specs.Tree.{ExprTree, ExprList}
 use Rattle.ctd_syntax.specs.Grammar.{IsExpr, IsExprs, IsNames, one, more}
 use Rattle.ctd_syntax.specs.Grammar as grammar
-use Rattle.ctd_syntax.specs.Front.{HasTree, HasNoTree, Spelling, Following, Always, IsBefore, IsName, operator_at}
-use Rattle.ctd_syntax.specs.Levels.{ends}
-use Rattle.ctd_program.specs.View.{expr_tree, expr_list}
+use Rattle.ctd_syntax.specs.inner.Front.{HasTree, HasNoTree, Spelling, Following, Always, IsBefore, IsName, operator_at}
+use Rattle.ctd_syntax.specs.inner.Levels.{ends}
+use Rattle.ctd_program.specs.calls.View.{expr_tree, expr_list}
 use Rattle.ctd_program.specs.declared.tree.Expr.{Expr}
 use Rattle.ctd_token.specs.declared.token.Mark.{Mark}
 use Rattle.ctd_token.specs.declared.token.Mark.TheVariants.{Comma, Close, CloseIndex}

@@ -3,8 +3,8 @@ use Rattle.std.proofs.Common.{◌≡◌, ◌<◌, List, ◌∷◌, subst, arith}
 use Rattle.ctd_syntax.specs.Lexeme.{Lexeme, mark}
 use Rattle.ctd_program.specs.Tree.{ExprTree}
 use Rattle.ctd_syntax.specs.Grammar.{IsAtom, IsProduct}
-use Rattle.ctd_syntax.specs.Front.{HasTree}
-use Rattle.ctd_syntax.specs.Levels.{ends}
+use Rattle.ctd_syntax.specs.inner.Front.{HasTree}
+use Rattle.ctd_syntax.specs.inner.Levels.{ends}
 use Rattle.ctd_token.specs.declared.token.Mark.TheVariants.{Minus, Caret, OpenIndex}
 use Rattle.ctd_syntax.proofs.Atoms.{atom_is_power, power_is_signed}
 use Rattle.ctd_syntax.proofs.Chains.{start, finish}

@@ -4,8 +4,8 @@ use Rattle.ctd_syntax.specs.Lexeme.{Lexeme, mark}
 use Rattle.ctd_program.specs.Tree.{ExprTree, VarTree}
 use Rattle.ctd_syntax.specs.Grammar
 use Rattle.ctd_syntax.specs.Grammar.{IsExpr, IsTarget, IsTargetEnd, IsAssignments}
-use Rattle.ctd_syntax.specs.Front.{HasTree, HasNoTree, Always, IsBefore, IsAfter, IsAssignment}
-use Rattle.ctd_syntax.specs.Levels.{ends}
+use Rattle.ctd_syntax.specs.inner.Front.{HasTree, HasNoTree, Always, IsBefore, IsAfter, IsAssignment}
+use Rattle.ctd_syntax.specs.inner.Levels.{ends}
 use Rattle.ctd_token.specs.declared.token.Mark.TheVariants.{Close, Comma, Assign}
 use Rattle.ctd_syntax.proofs.Fronts.{pair_reads, first_none, second_none}
 use Rattle.ctd_syntax.proofs.Rows.{Separated, alone, and, Listing, rows}

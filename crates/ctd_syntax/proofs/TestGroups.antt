@@ -4,7 +4,7 @@ use Rattle.ctd_token.specs.declared.token.Mark.TheVariants.{Open}
 use Rattle.ctd_syntax.specs.declared.condition.TokenRole.{TokenRole}
 use Rattle.ctd_syntax.specs.declared.condition.TokenRole.TheVariants.{Tests, Opens, Closes, Keeps}
 use Rattle.ctd_syntax.specs.Lexeme.{Lexeme, mark}
-use Rattle.ctd_syntax.specs.TestGrammar.{AreGroups, closes_before_test, closes_before_test_at, depth_after, role_of, holds_test, is_test, is_enough, one_more, openings, opens}
+use Rattle.ctd_syntax.specs.inner.TestGrammar.{AreGroups, closes_before_test, closes_before_test_at, depth_after, role_of, holds_test, is_test, is_enough, one_more, openings, opens}
 
 -- one parenthesis more, where one more is needed
 within_more : (n : ℕ) (o : Option ℕ) → is_enough (suc n) (one_more o) ≡ is_enough n o

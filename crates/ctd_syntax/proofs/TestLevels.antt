@@ -4,9 +4,9 @@ use Rattle.ctd_syntax.specs.Lexeme.{Lexeme, mark}
 use Rattle.ctd_program.specs.Tree
 use Rattle.ctd_program.specs.Tree.{TestTree}
 use Rattle.ctd_syntax.specs.Grammar.{IsTest, both, or, IsBoth, negation, and, IsNegation}
-use Rattle.ctd_syntax.specs.Front.{operator_at}
-use Rattle.ctd_syntax.specs.Levels.{ends}
-use Rattle.ctd_syntax.specs.TestGrammar.{test_ends}
+use Rattle.ctd_syntax.specs.inner.Front.{operator_at}
+use Rattle.ctd_syntax.specs.inner.Levels.{ends}
+use Rattle.ctd_syntax.specs.inner.TestGrammar.{test_ends}
 use Rattle.ctd_token.specs.declared.token.Mark.TheVariants.{OrOr, AndAnd}
 use Rattle.ctd_syntax.proofs.Chains.{Chain, stop, Level, longer}
 

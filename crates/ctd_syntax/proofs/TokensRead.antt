@@ -2,16 +2,16 @@
 use Rattle.std.proofs.Common.{◌≡◌, ℕ, ◌+◌, ◌-◌, ◌≤◌, List, [], ◌∷◌, ◌++◌, length, take, drop, Ok, sym, ap, ◌∙◌, append_assoc, append-nil, arith}
 use Rattle.ctd_token.specs.declared.limits.TheConstants.{PROGRAM_LIMIT}
 use Rattle.ctd_token.specs.declared.token.Token.{Token}
-use Rattle.ctd_token.specs.Lexing.{Uncut, IsEnd, IsNext}
+use Rattle.ctd_token.specs.calls.Lexing.{Uncut, IsEnd, IsNext}
 use Rattle.ctd_token.specs.declared.token.TokenKind.TheVariants as tokens
 use Rattle.ctd_token.specs.Cut.{token_at}
 use Rattle.ctd_token.proofs.Longest.{string_again}
 use Rattle.ctd_token.proofs.Cutting as cutting
 use Rattle.ctd_token.proofs.Cutting.{Cutting}
-use Rattle.ctd_syntax.specs.Front.{AreLexemes, IsSpelled, string_found, string_of}
+use Rattle.ctd_syntax.specs.inner.Front.{AreLexemes, IsSpelled, string_found, string_of}
 use Rattle.ctd_syntax.specs.Lexeme.{Lexeme, lexeme_of, with_number, regex_count}
 use Rattle.ctd_syntax.specs.Reading.{lexemes, lexemes_from}
-use Rattle.ctd_syntax.specs.Batches.{Unread, IsNextSeen}
+use Rattle.ctd_syntax.specs.inner.Batches.{Unread, IsNextSeen}
 
 -- what is seen of the tokens so far; whatever follows them is seen behind that
 pub record HasRead (text : List ℕ) (seen : List Lexeme) (u : Unread) : Type 0 where

@@ -3,7 +3,8 @@ use Rattle.std.proofs.Common.{◌≡◌, ℕ, zero, suc, ◌+◌, ◌<◌, ◌�
 use Rattle.std.proofs.lemmas.Bool.{ltb-true}
 use Rattle.std.specs.Prelude.{take, fold}
 use Rattle.ctd_syntax.specs.Lexeme.{Lexeme}
-use Rattle.ctd_syntax.specs.Nesting.{change_of, step, start, weight, too_deep, IsShallow, PassesLimitAt}
+use Rattle.ctd_syntax.specs.Nesting.{change_of, step, start, weight, IsShallow, PassesLimitAt}
+use Rattle.ctd_syntax.specs.inner.Nesting.{too_deep}
 use Rattle.ctd_token.specs.declared.limits.TheConstants.{NESTING_LIMIT}
 use Rattle.ctd_syntax.proofs.Blocks.{next}
 

@@ -1,10 +1,10 @@
+-- what the theorem of the tool reaches: to be believed
 pub mod Lexeme
 pub mod Grammar
 pub mod Nesting
 pub mod RegexNumbers
 pub mod Reading
-pub mod Front
-pub mod Levels
-pub mod TestGrammar
-pub mod CommandWords
-pub mod Batches
+-- what else the contracts of public calls say
+pub mod calls
+-- what only the proofs of this crate use
+pub mod inner

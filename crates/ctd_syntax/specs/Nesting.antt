@@ -1,9 +1,9 @@
 -- How deep the tokens of a program nest, counted before the grammar is asked.
-use Rattle.std.specs.Prelude.{ℕ, ◌+◌, ◌<◌, ◌≤◌, List, [], ◌∷◌, length, sum, take, fold, Option, Some, None, option_map, nat_lt, if◌then◌else◌}
+use Rattle.ctd_syntax.specs.declared.keyword.Keyword.TheVariants as words
+use Rattle.std.specs.Prelude.{ℕ, ◌+◌, ◌<◌, ◌≤◌, List, [], ◌∷◌, length, sum, take, fold}
 use Rattle.ctd_token.specs.declared.token.Mark.{Mark}
 use Rattle.ctd_token.specs.declared.token.Mark.TheVariants.{Open, Close, OpenIndex, CloseIndex, Comma, Assign}
 use Rattle.ctd_syntax.specs.declared.keyword.Keyword.{Keyword}
-use Rattle.ctd_syntax.specs.declared.keyword.Keyword.TheVariants as words
 use Rattle.ctd_syntax.specs.declared.nesting.CounterChange.{CounterChange}
 use Rattle.ctd_syntax.specs.declared.nesting.CounterChange.TheVariants.{Opens, Closes, Restarts, Grows, Keeps}
 use Rattle.ctd_token.specs.declared.limits.TheConstants.{NESTING_LIMIT}
@@ -80,11 +80,3 @@ pub record PassesLimitAt (ts : List Lexeme) (before : ℕ) : Type 0 where
   pub within : before < length ts
   pub light : (n : ℕ) → n ≤ before → weight (counters_behind (take n ts)) ≤ NESTING_LIMIT
   pub heavy : NESTING_LIMIT < weight (counters_behind (take (1 + before) ts))
-
--- the same in one walk, for the contracts of private functions alone: how many tokens stand before the first after which the weight passes
--- the limit
-abbrev pub too_deep : ℕ × List ℕ → List Lexeme → Option ℕ
-too_deep counters [] = None
-too_deep counters (t ∷ ts) =
-    if nat_lt NESTING_LIMIT (weight (step (change_of t) counters)) then Some 0
-    else option_map (λ n. n + 1) (too_deep (step (change_of t) counters) ts)

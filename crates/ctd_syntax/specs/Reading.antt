@@ -73,8 +73,3 @@ IsRefused program Syntax place = IsNoProgram program place
 IsRefused program BadPattern place = ⊥
 IsRefused program Read place = ⊥
 IsRefused program Memory place = ⊥
-
--- a text has this fault, or memory ran out, which has no place
-abbrev pub IsFault : List ℕ → LoadKind → Option Place → Type 0
-IsFault program Memory place = place ≡ None
-IsFault program kind place = IsRefused program kind place

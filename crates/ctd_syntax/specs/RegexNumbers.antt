@@ -1,8 +1,7 @@
 -- The literals of REGEX in a program, and their numbers.
-use Rattle.std.specs.Prelude.{◌≡◌, ℕ, List, [], ◌∷◌, ◌++◌, length, map}
-use Rattle.std.specs.List.{range_with_len}
-use Rattle.ctd_program.specs.declared.tree.PatternLiteral.{PatternLiteral}
 use Rattle.ctd_program.specs.Tree
+use Rattle.std.specs.Prelude.{List, [], ◌∷◌, ◌++◌}
+use Rattle.ctd_program.specs.declared.tree.PatternLiteral.{PatternLiteral}
 use Rattle.ctd_program.specs.Tree.{CommandTree, CommandList, Separator}
 
 -- the literals of a command, those of its separator and of the commands within it too, in the order of the text
@@ -29,11 +28,3 @@ abbrev mutual
   pub literals : CommandList → List PatternLiteral
   literals Tree.done = []
   literals (Tree.then c rest) = command_literals c ++ literals rest
-
--- the numbers of some literals
-abbrev pub numbers_of : List PatternLiteral → List ℕ
-numbers_of ls = map (λ l. l.number) ls
-
--- the literals of a program are numbered 0, 1, 2, .. in the order of the text
-abbrev pub IsNumbered : CommandList → Type 0
-IsNumbered program = numbers_of (literals program) ≡ range_with_len 0 (length (literals program))

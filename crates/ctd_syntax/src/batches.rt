@@ -1,12 +1,12 @@
 //! Reads a program that has no fault a batch of commands at a time, so that its tokens need not all be kept until its tree is built.
 
 ghost use Rattle.std.specs.Prelude.{◌≡◌, ◌<◌, [], None, length, map, true, IfOk, IfErr, IfSome, IsErrAnd, OnOk};
-ghost use Rattle.ctd_token.specs.Lexing.{IsLexFault};
-ghost use Rattle.ctd_syntax.specs.Front.{lexeme};
-ghost use Rattle.ctd_syntax.specs.RegexNumbers.{IsNumbered};
+ghost use Rattle.ctd_token.specs.calls.Lexing.{IsLexFault};
+ghost use Rattle.ctd_syntax.specs.inner.Front.{lexeme};
+ghost use Rattle.ctd_syntax.specs.calls.RegexNumbers.{IsNumbered};
 ghost use Rattle.ctd_syntax.specs.Reading.{Parses};
-ghost use Rattle.ctd_syntax.specs.Batches.{ReadsOff};
-ghost use Rattle.ctd_program.specs.View.{command_trees};
+ghost use Rattle.ctd_syntax.specs.inner.Batches.{ReadsOff};
+ghost use Rattle.ctd_program.specs.calls.View.{command_trees};
 
 use crate::command::command;
 use crate::front::{ParseError, Tokens};

@@ -4,10 +4,11 @@
 ghost use Rattle.std.specs.Prelude.{◌≡◌, ◌≤◌, ◌<◌, ◌∷◌, true, false, length, map, IfOk, IfSome, IfNone};
 ghost use Rattle.ctd_syntax.specs.Lexeme;
 ghost use Rattle.ctd_program.specs.Tree;
-ghost use Rattle.ctd_program.specs.View.{action_tree, boxed_separator, boxed_target, command_list, command_tree, expr_tree, guard_tree, target};
+ghost use Rattle.ctd_program.specs.calls.View.{action_tree, boxed_target, command_list, command_tree, expr_tree, guard_tree, target};
+ghost use Rattle.ctd_program.specs.inner.View.{boxed_separator};
 ghost use Rattle.ctd_syntax.specs.Grammar.{IsExpr, IsTargetEnd, IsCommand, IsCommands};
-ghost use Rattle.ctd_syntax.specs.Front.{FindsTree, Always, IsBefore, IsPair, lexeme};
-ghost use Rattle.ctd_syntax.specs.CommandWords.{IsCommandRest, CommandsEnd, IsBlock, IsBranchEnd, IsLoopEnd, IsLoopRest, command_begins, is_command_word};
+ghost use Rattle.ctd_syntax.specs.inner.Front.{FindsTree, Always, IsBefore, IsPair, lexeme};
+ghost use Rattle.ctd_syntax.specs.inner.CommandWords.{IsCommandRest, CommandsEnd, IsBlock, IsBranchEnd, IsLoopEnd, IsLoopRest, command_begins, is_command_word};
 
 use crate::condition::test_before;
 use crate::expression::{expr, expr_before};

@@ -4,11 +4,11 @@
 ghost use Rattle.std.specs.Prelude.{◌≡◌, ◌≤◌, ◌<◌, ◌++◌, [], ◌∷◌, ℕ, List, true, false, length, map, drop, IfOk, IfSome, IfNone, Some};
 ghost use Rattle.ctd_syntax.specs.Lexeme;
 ghost use Rattle.ctd_syntax.specs.Lexeme.{Lexeme};
-ghost use Rattle.ctd_program.specs.View.{expr_tree, test_tree};
+ghost use Rattle.ctd_program.specs.calls.View.{expr_tree, test_tree};
 ghost use Rattle.ctd_syntax.specs.Grammar.{IsTest, IsBoth, IsNegation, IsSimpleTest};
-ghost use Rattle.ctd_syntax.specs.Front.{FindsTree, Always, IsBefore, IsName, StartsWith, lexeme};
-ghost use Rattle.ctd_syntax.specs.Levels.{ends};
-ghost use Rattle.ctd_syntax.specs.TestGrammar.{test_ends, compare_operator, test_keyword, IsTestCall, IsLeft, IsComparison, AreGroups, AreKnownGroups, closes_before_test, role_of, holds_test, is_enough, openings, opens};
+ghost use Rattle.ctd_syntax.specs.inner.Front.{FindsTree, Always, IsBefore, IsName, StartsWith, lexeme};
+ghost use Rattle.ctd_syntax.specs.inner.Levels.{ends};
+ghost use Rattle.ctd_syntax.specs.inner.TestGrammar.{test_ends, compare_operator, test_keyword, IsTestCall, IsLeft, IsComparison, AreGroups, AreKnownGroups, closes_before_test, role_of, holds_test, is_enough, openings, opens};
 
 use crate::expression::{expr, expr_before};
 use crate::front::{ParseError, ParseResult, Tokens, after_mark, after_open, name_at};

@@ -3,10 +3,10 @@
 
 ghost use Rattle.std.specs.Prelude.{◌≡◌, ◌≤◌, ◌<◌, true, length, map, IfOk, IfSome};
 ghost use Rattle.ctd_program.specs.Tree;
-ghost use Rattle.ctd_program.specs.View.{expr_tree, expr_list, exprs_of, var_tree};
+ghost use Rattle.ctd_program.specs.calls.View.{expr_tree, expr_list, exprs_of, var_tree};
 ghost use Rattle.ctd_syntax.specs.Grammar.{IsExpr, IsProduct, IsSigned, IsPower, IsExponent, IsAtom, IsExprs, IsTarget};
-ghost use Rattle.ctd_syntax.specs.Front.{FindsTree, HasTree, Always, IsBefore, StartsWith, lexeme};
-ghost use Rattle.ctd_syntax.specs.Levels.{binding, ends, sum_operator, product_operator, join};
+ghost use Rattle.ctd_syntax.specs.inner.Front.{FindsTree, HasTree, Always, IsBefore, StartsWith, lexeme};
+ghost use Rattle.ctd_syntax.specs.inner.Levels.{binding, ends, sum_operator, product_operator, join};
 ghost use Rattle.ctd_syntax.specs.Lexeme;
 
 use crate::front::{ParseError, ParseResult, Tokens, after_mark, name_at};

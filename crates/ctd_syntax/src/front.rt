@@ -1,7 +1,7 @@
 //! What stands at the front of the tokens that are left.
 
 ghost use Rattle.std.specs.Prelude.{◌≡◌, ◌<◌, List, ℕ, ◌∷◌, length, map, IfOk, IfErr, IfSome, IfNone};
-ghost use Rattle.ctd_syntax.specs.Front.{lexeme, string_of};
+ghost use Rattle.ctd_syntax.specs.inner.Front.{lexeme, string_of};
 ghost use Rattle.ctd_syntax.specs.Lexeme;
 ghost use Rattle.ctd_syntax.specs.Lexeme.{Lexeme};
 

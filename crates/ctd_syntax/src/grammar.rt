@@ -1,10 +1,11 @@
 //! From the text of a program to its tree.
 
 ghost use Rattle.std.specs.Prelude.{◌≡◌, ◌≤◌, ◌<◌, None, length, map, IfOk, IfErr, IsErrAnd};
-ghost use Rattle.ctd_syntax.specs.Front.{lexeme, AreLexemes, NestsTooDeep, SpellsNone};
-ghost use Rattle.ctd_syntax.specs.RegexNumbers.{IsNumbered};
-ghost use Rattle.ctd_syntax.specs.Reading.{IsFault, Parses};
-ghost use Rattle.ctd_program.specs.View.{command_trees};
+ghost use Rattle.ctd_syntax.specs.inner.Front.{lexeme, AreLexemes, NestsTooDeep, SpellsNone};
+ghost use Rattle.ctd_syntax.specs.calls.RegexNumbers.{IsNumbered};
+ghost use Rattle.ctd_syntax.specs.calls.Reading.{IsFault};
+ghost use Rattle.ctd_syntax.specs.Reading.{Parses};
+ghost use Rattle.ctd_program.specs.calls.View.{command_trees};
 
 use crate::batches::program_in_batches;
 use crate::command::commands;

@@ -2,10 +2,10 @@
 //! A tree that is not wanted is given to `drop` explicitly: an implicit drop is unfolded variant by variant in the proof.
 
 ghost use Rattle.std.specs.Prelude.{◌≤◌, ◌<◌, length, map, IfOk};
-ghost use Rattle.ctd_program.specs.View.{boxed_target, guard_tree};
-ghost use Rattle.ctd_syntax.specs.Front.{FindsTree, Always, lexeme};
-ghost use Rattle.ctd_syntax.specs.TestGrammar.{test_ends};
-ghost use Rattle.ctd_syntax.specs.CommandWords.{IsCounter, IsGuard, IsLoopHead};
+ghost use Rattle.ctd_program.specs.calls.View.{boxed_target, guard_tree};
+ghost use Rattle.ctd_syntax.specs.inner.Front.{FindsTree, Always, lexeme};
+ghost use Rattle.ctd_syntax.specs.inner.TestGrammar.{test_ends};
+ghost use Rattle.ctd_syntax.specs.inner.CommandWords.{IsCounter, IsGuard, IsLoopHead};
 
 use crate::condition::test;
 use crate::expression::expr;

@@ -1,9 +1,9 @@
 //! From tokens to lists of names (checktestdata language specification, grammar).
 
 ghost use Rattle.std.specs.Prelude.{◌≤◌, length, map, IfOk};
-ghost use Rattle.ctd_program.specs.View.{names_of};
+ghost use Rattle.ctd_program.specs.calls.View.{names_of};
 ghost use Rattle.ctd_syntax.specs.Grammar.{IsNames};
-ghost use Rattle.ctd_syntax.specs.Front.{FindsTree, Always, IsBefore, lexeme};
+ghost use Rattle.ctd_syntax.specs.inner.Front.{FindsTree, Always, IsBefore, lexeme};
 
 use crate::front::{ParseError, ParseResult, Tokens, after_mark, name_at};
 use ctd_program::Names;

@@ -1,8 +1,9 @@
 //! How deep the tokens of a program nest.
 
 ghost use Rattle.std.specs.Prelude.{◌≡◌, map, IfOk};
-ghost use Rattle.ctd_syntax.specs.Front.{lexeme};
-ghost use Rattle.ctd_syntax.specs.Nesting.{change_of, start, too_deep};
+ghost use Rattle.ctd_syntax.specs.inner.Front.{lexeme};
+ghost use Rattle.ctd_syntax.specs.Nesting.{change_of, start};
+ghost use Rattle.ctd_syntax.specs.inner.Nesting.{too_deep};
 
 use crate::keyword::Keyword;
 use crate::parser_token::ParserToken;

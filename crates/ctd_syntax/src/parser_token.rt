@@ -1,8 +1,8 @@
 //! Tokens as the grammar sees them.
 
 ghost use Rattle.std.specs.Prelude.{◌≡◌, ◌+◌, ◌-◌, ◌^◌, ◌<◌, ◌≤◌, None, IfErr, IfOk, IsErrAnd, drop, length, map, take};
-ghost use Rattle.ctd_token.specs.Lexing.{IsLexFault};
-ghost use Rattle.ctd_syntax.specs.Front.{lexeme, string_of, AreLexemes, IsSpelled};
+ghost use Rattle.ctd_token.specs.calls.Lexing.{IsLexFault};
+ghost use Rattle.ctd_syntax.specs.inner.Front.{lexeme, string_of, AreLexemes, IsSpelled};
 ghost use Rattle.ctd_syntax.specs.Lexeme.{lexeme_of, regex_count, with_number};
 
 use crate::keyword::Keyword;
@@ -126,7 +126,7 @@ pub(crate) struct ParserTokens<'t> {
 impl<'t> Model for ParserTokens<'t> {
     ghost use Rattle.std.specs.Prelude.{◌≡◌, ◌≤◌, length};
     ghost use Rattle.ctd_token.specs.declared.limits.TheConstants.{PROGRAM_LIMIT};
-    ghost use Rattle.ctd_syntax.specs.Batches.{Unread};
+    ghost use Rattle.ctd_syntax.specs.inner.Batches.{Unread};
 
     ghost Value = { Unread };
 
@@ -137,8 +137,8 @@ impl<'t> Model for ParserTokens<'t> {
 
 impl<'t> ParserTokens<'t> {
     ghost use Rattle.std.specs.Prelude.{IfSome, IfNone, OnOk};
-    ghost use Rattle.ctd_token.specs.Lexing.{IsEnd, IsNextFault};
-    ghost use Rattle.ctd_syntax.specs.Batches.{IsNextSeen};
+    ghost use Rattle.ctd_token.specs.calls.Lexing.{IsEnd, IsNextFault};
+    ghost use Rattle.ctd_syntax.specs.inner.Batches.{IsNextSeen};
 
     /// Begins at the start of a text, or answers as `Lexer::new`.
     pub(crate) fn new(alloc: Global, text: &'t [u8]) -> Result<ParserTokens<'t>, LoadFault>

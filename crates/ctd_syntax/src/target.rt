@@ -3,10 +3,10 @@
 
 ghost use Rattle.std.specs.Prelude.{◌≡◌, ◌≤◌, length, map, IfOk};
 ghost use Rattle.ctd_syntax.specs.Lexeme;
-ghost use Rattle.ctd_program.specs.View.{assignment, assignments_of, target, var_tree};
+ghost use Rattle.ctd_program.specs.calls.View.{assignment, assignments_of, target, var_tree};
 ghost use Rattle.ctd_syntax.specs.Grammar.{IsTarget, IsTargetEnd, IsAssignments};
-ghost use Rattle.ctd_syntax.specs.Front.{FindsTree, Always, IsAssignment, IsBefore, lexeme};
-ghost use Rattle.ctd_syntax.specs.Levels.{binding, ends};
+ghost use Rattle.ctd_syntax.specs.inner.Front.{FindsTree, Always, IsAssignment, IsBefore, lexeme};
+ghost use Rattle.ctd_syntax.specs.inner.Levels.{binding, ends};
 
 use crate::expression::{expr, variable};
 use crate::front::{ParseError, ParseResult, Tokens, after_mark};

@@ -7,8 +7,9 @@ use Rattle.ctd_token.specs.declared.fault.LoadFault.{LoadFault}
 use Rattle.ctd_token.specs.declared.fault.TokenFault.{TokenFault}
 use Rattle.ctd_token.specs.declared.fault.TokenFault.TheVariants.{Wrong, Memory}
 use Rattle.ctd_token.specs.Cut.{skip_gap, token_at, wrong, next_token, place_at, Cuts, none, token, Faults, here, later}
-use Rattle.ctd_token.specs.Scanning.{Scans, IsFaultAt}
-use Rattle.ctd_token.specs.Lexing.{Uncut, left, IsEnd, IsNext, HasNextFault, IsNextFault}
+use Rattle.ctd_token.specs.calls.Scanning.{Scans}
+use Rattle.ctd_token.specs.inner.Scanning.{IsFaultAt}
+use Rattle.ctd_token.specs.calls.Lexing.{Uncut, left, IsEnd, IsNext, HasNextFault, IsNextFault}
 
 -- where the next token begins, behind blanks and comments
 pub gap_end : (bytes : List ℕ) (at gap : ℕ) → gap ≤ length bytes → drop gap bytes ≡ skip_gap bytes → at + gap ≡ next_token at bytes

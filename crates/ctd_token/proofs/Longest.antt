@@ -12,7 +12,7 @@ use Rattle.ctd_token.specs.declared.token.TokenKind.TheVariants as tokens
 use Rattle.ctd_token.specs.declared.token.Mark.{Mark}
 use Rattle.ctd_token.specs.Literal.{WholeLiteral, literal}
 use Rattle.ctd_token.specs.Cut.{TokenOrFault, at_first_byte, is_upper, is_lower, is_digit, is_left_out_word, word_at, name_len, decimal, has_leading_zero, fraction_begins, numeral_at, single_mark, double_mark, mark_or, mark_at, closed_text, text_at, token_at}
-use Rattle.ctd_token.specs.Form.{Form, word, name, numeral, text, mark, form_of, mark_of, IsLiteral, IsRow, HasForm, IsLongestPrefix}
+use Rattle.ctd_token.specs.calls.Form.{Form, word, name, numeral, text, mark, form_of, mark_of, IsLiteral, IsRow, HasForm, IsLongestPrefix}
 use Rattle.ctd_token.proofs.LiteralEnds.{closes_within, literal-append, literal-take}
 
 -- the bytes that pass a test at the front are a row, and no longer prefix is one

@@ -11,7 +11,8 @@ use Rattle.ctd_token.specs.declared.fault.LoadKind.{LoadKind}
 use Rattle.ctd_token.specs.declared.fault.LoadKind.TheVariants.{ProgramTooLong, BadByte, UnfinishedString, BadOctal, NumberTooLarge, NotInProfile, TooDeep, Syntax, BadPattern, Read, Memory}
 use Rattle.ctd_token.specs.Literal.{WholeLiteral, literal}
 use Rattle.ctd_token.specs.Cut.{is_upper, is_lower, is_digit, Judgement, TokenOrFault, wrong, at_first_byte, is_left_out_word, word_at, name_len, decimal, has_leading_zero, fraction_begins, numeral_at, mark_or, mark_at, single_mark, double_mark, closed_text, text_at, skip_gap, token_at, next_token, place_at}
-use Rattle.ctd_token.specs.Lexing.{Uncut, left, IsNextFault, HasFault, IsLexFault}
+use Rattle.ctd_token.specs.calls.Lexing.{Uncut, left, IsNextFault, IsLexFault}
+use Rattle.ctd_token.specs.Lexing.{HasFault}
 use Rattle.ctd_token.proofs.Cutting.{Cutting, first_fault}
 
 -- a token may have this fault

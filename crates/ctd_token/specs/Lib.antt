@@ -1,7 +1,10 @@
+-- what the theorem of the tool reaches: to be believed
 pub mod Literal
 pub mod Cut
-pub mod Form
 pub mod FaultText
-pub mod Scanning
 pub mod Lexing
 pub mod ShortNames
+-- what else the contracts of public calls say
+pub mod calls
+-- what only the proofs of this crate use
+pub mod inner

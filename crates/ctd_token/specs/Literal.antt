@@ -1,5 +1,5 @@
 -- What stands between the quotes of a string literal.
-use Rattle.std.specs.Prelude.{ℕ, zero, suc, ◌+◌, ◌-◌, ◌*◌, min, ◌&&◌, Bool, not, nat_eq, nat_le, nat_lt, if◌then◌else◌, List, [], ◌∷◌, ◌++◌, length, take, fold, sum, Option, Some, None, option_map}
+use Rattle.std.specs.Prelude.{ℕ, zero, suc, ◌+◌, ◌-◌, ◌*◌, min, ◌&&◌, Bool, nat_eq, nat_le, nat_lt, if◌then◌else◌, List, [], ◌∷◌, ◌++◌, length, take, fold, sum, Option, Some, None, option_map}
 use Rattle.std.specs.List.{prefix_len}
 
 -- `0` to `7`
@@ -44,10 +44,6 @@ abbrev pub after_backslash : List ℕ → LiteralPart
 after_backslash [] = literal_part (92 ∷ []) 1
 after_backslash (b ∷ bs) =
     if is_octal b then octal_escape (b ∷ bs) else escape b
-
--- neither a quote nor a backslash
-abbrev pub is_plain : ℕ → Bool
-is_plain b = not (nat_eq b 34) && not (nat_eq b 92)
 
 -- any other byte stands for itself
 abbrev pub part_at : ℕ → List ℕ → LiteralPart

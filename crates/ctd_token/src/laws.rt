@@ -2,8 +2,8 @@
 
 ghost use Rattle.std.specs.Prelude.{ℕ, List, ◌≡◌, Ok};
 ghost use Rattle.ctd_token.specs.Cut.{Cuts, Faults, token_at};
-ghost use Rattle.ctd_token.specs.Form.{IsLongestPrefix, form_of};
-ghost use Rattle.ctd_token.specs.Lexing.{IsDecided};
+ghost use Rattle.ctd_token.specs.calls.Form.{IsLongestPrefix, form_of};
+ghost use Rattle.ctd_token.specs.calls.Lexing.{IsDecided};
 ghost use Rattle.ctd_token.specs.declared.token.Token.{Token};
 ghost use Rattle.ctd_token.specs.declared.token.TokenKind.{TokenKind};
 ghost use Rattle.ctd_token.specs.declared.fault.LoadKind.{LoadKind};

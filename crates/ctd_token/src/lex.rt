@@ -2,8 +2,9 @@
 
 ghost use Rattle.std.specs.Prelude.{ℕ, List, ◌≡◌, ◌≤◌, ◌<◌, ◌-◌, ◌+◌, ◌^◌, length, count_by, nat_eq, None, IfOk, IfErr, IfSome, IfNone, OnOk, IsErrAnd};
 ghost use Rattle.ctd_token.specs.Cut.{Cuts, Faults, place_at};
-ghost use Rattle.ctd_token.specs.Lexing.{IsLexFault};
-ghost use Rattle.ctd_token.specs.Scanning.{FaultWithin, IsFaultAt};
+ghost use Rattle.ctd_token.specs.calls.Lexing.{IsLexFault};
+ghost use Rattle.ctd_token.specs.calls.Scanning.{FaultWithin};
+ghost use Rattle.ctd_token.specs.inner.Scanning.{IsFaultAt};
 ghost use Rattle.ctd_token.specs.declared.token.Token.{Token};
 ghost use Rattle.ctd_token.specs.declared.fault.LoadKind.{LoadKind};
 
@@ -88,7 +89,7 @@ pub struct Lexer<'t> {
 impl<'t> Model for Lexer<'t> {
     ghost use Rattle.std.specs.Prelude.{◌≡◌, ◌≤◌, length};
     ghost use Rattle.ctd_token.specs.Cut.{place_at};
-    ghost use Rattle.ctd_token.specs.Lexing.{Uncut};
+    ghost use Rattle.ctd_token.specs.calls.Lexing.{Uncut};
     ghost use Rattle.ctd_token.specs.declared.limits.TheConstants.{PROGRAM_LIMIT};
 
     ghost Value = { Uncut };
@@ -99,7 +100,7 @@ impl<'t> Model for Lexer<'t> {
 }
 
 impl<'t> Lexer<'t> {
-    ghost use Rattle.ctd_token.specs.Lexing.{IsNext, IsNextFault, IsEnd};
+    ghost use Rattle.ctd_token.specs.calls.Lexing.{IsNext, IsNextFault, IsEnd};
 
     /// Begins at the start of a text; one above `PROGRAM_LIMIT` bytes is ProgramTooLong, without a place.
     pub fn new(text: &'t [u8]) -> Result<Lexer<'t>, LoadFault>

@@ -1,7 +1,7 @@
 //! The names of variables.
 
 ghost use Rattle.std.specs.Prelude.{◌≡◌, true, IfOk};
-ghost use Rattle.ctd_token.specs.ShortNames.{pack, IsShort};
+ghost use Rattle.ctd_token.specs.calls.ShortNames.{pack, IsShort};
 
 use crate::limits::SHORT_NAME;
 use crate::text::Bytes;
@@ -52,7 +52,8 @@ const NO_NUMBER: u32 = u32::MAX;
 
 impl Model for Name {
     ghost use Rattle.std.specs.Prelude.{List, ℕ};
-    ghost use Rattle.ctd_token.specs.ShortNames.{bytes_of, IsKept};
+    ghost use Rattle.ctd_token.specs.ShortNames.{bytes_of};
+    ghost use Rattle.ctd_token.specs.calls.ShortNames.{IsKept};
 
     ghost Value = { List ℕ };
 
@@ -118,7 +119,7 @@ pub struct NameKey {
 
 impl Model for NameKey {
     ghost use Rattle.std.specs.Prelude.{◌≡◌, List, ℕ};
-    ghost use Rattle.ctd_token.specs.ShortNames.{key_bytes};
+    ghost use Rattle.ctd_token.specs.calls.ShortNames.{key_bytes};
 
     ghost Value = { List ℕ };
 

@@ -4,7 +4,8 @@
 ghost use Rattle.std.specs.Prelude.{◌≡◌, ◌≤◌, ◌<◌, ◌^◌, drop, take, false, true, slice_index, length, All, IfOk, IfErr, IfSome, MatchOption};
 ghost use Rattle.std.specs.List.{prefix_len};
 ghost use Rattle.ctd_token.specs.Cut.{is_whitespace, is_upper, is_digit, skip_gap, single_mark, double_mark, is_left_out_word, name_len, decimal, word_at, numeral_at, mark_at, token_at};
-ghost use Rattle.ctd_token.specs.Scanning.{Scans, FaultWithin, mark_judgement};
+ghost use Rattle.ctd_token.specs.calls.Scanning.{Scans, FaultWithin};
+ghost use Rattle.ctd_token.specs.inner.Scanning.{mark_judgement};
 
 use crate::fault::{LoadKind, TokenFault};
 use crate::literal::text_at;

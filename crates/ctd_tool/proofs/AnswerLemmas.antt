@@ -10,7 +10,8 @@ use Rattle.ctd_report.specs.declared.sink.Sink as sinks
 use Rattle.ctd_report.specs.declared.written.ToolFault.{ToolFault}
 use Rattle.ctd_report.specs.declared.written.ToolFault.TheVariants.{Memory, Write}
 use Rattle.ctd_report.specs.Report.{Report, usage_report}
-use Rattle.ctd_report.specs.Written.{BeforeAfter, Leaves, LeavesOneOf}
+use Rattle.ctd_report.specs.Written.{BeforeAfter, LeavesOneOf}
+use Rattle.ctd_report.specs.calls.Written.{Leaves}
 use Rattle.ctd_tool.specs.Theorem.{EndsWithReport, whole, broken_off, EndsProcess, bad_words, no_words}
 
 -- what ends in one of some reports ends in one of more

@@ -4,15 +4,15 @@ use Rattle.ctd_source.specs.declared.source.Seen.{Seen}
 use Rattle.ctd_source.specs.declared.source.Source.{Ghosts}
 use Rattle.ctd_source.specs.Agreement.{Agrees}
 use Rattle.ctd_source.specs.CursorCalls.{GaveAtMost}
-use Rattle.ctd_source.specs.ReadingOn.{gave_nothing}
+use Rattle.ctd_source.specs.inner.ReadingOn.{gave_nothing}
 use Rattle.ctd_token.specs.declared.fault.LoadFault.{LoadFault}
 use Rattle.ctd_token.specs.declared.fault.LoadKind.TheVariants.{Memory}
 use Rattle.ctd_token.specs.declared.limits.TheConstants.{PROGRAM_LIMIT}
 use Rattle.ctd_outcome.specs.declared.outcome.Checked.{Checked}
 use Rattle.ctd_program.specs.Tree.{CommandList}
-use Rattle.ctd_loader.specs.Loading.{LoadsFrom}
+use Rattle.ctd_loader.specs.calls.Loading.{LoadsFrom}
 use Rattle.ctd_check.specs.Run.{meaning}
-use Rattle.ctd_check.specs.Checks.{FindsMeaning, IsAhead}
+use Rattle.ctd_check.specs.calls.Checks.{FindsMeaning, IsAhead}
 use Rattle.ctd_arguments.specs.declared.setup.Setup.{Setup}
 use Rattle.ctd_report.specs.Report.{check_report, load_report}
 use Rattle.ctd_tool.specs.Theorem.{call, IsReport, of_meaning, of_program_fault}

@@ -1,12 +1,12 @@
 //! Values for variables (checktestdata language specification, SET).
 
 ghost use Rattle.std.specs.Prelude.{◌≡◌, ◌≢◌, Err, OnErr};
-ghost use Rattle.ctd_program.specs.View.{expr_tree, var_tree};
-ghost use Rattle.ctd_store.specs.ValueRef.{value_of_ref};
+ghost use Rattle.ctd_program.specs.calls.View.{expr_tree, var_tree};
+ghost use Rattle.ctd_store.specs.calls.ValueRef.{value_of_ref};
 ghost use Rattle.ctd_store.specs.declared.value.Value.TheVariants as values;
-ghost use Rattle.ctd_value.specs.Fault.{Gives};
-ghost use Rattle.ctd_value.specs.Lending.{map_ok};
-ghost use Rattle.ctd_value.specs.Assignments.{with_variable, with_expression};
+ghost use Rattle.ctd_value.specs.calls.Fault.{Gives};
+ghost use Rattle.ctd_value.specs.calls.Lending.{map_ok};
+ghost use Rattle.ctd_value.specs.calls.Assignments.{with_variable, with_expression};
 
 use crate::expression::{eval, fast_i64, fast_index, fast_name_index, index_values};
 use crate::fault::EvalFault;

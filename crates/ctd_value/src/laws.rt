@@ -1,6 +1,6 @@
 //! A law of arithmetic. It has no code: its contract is the law, which holds of all numbers.
 
-ghost use Rattle.ctd_value.specs.Laws.{PowersAreProducts};
+ghost use Rattle.ctd_value.specs.calls.Laws.{PowersAreProducts};
 
 /// A power is the product of equal factors, as many as its exponent says.
 pub fn powers_are_products()

@@ -3,7 +3,7 @@ use Rattle.clap.proofs.FaultLemmas.{leaf_fault}
 use Rattle.clap.proofs.OnLiterals.{clap_on_literals}
 use Rattle.clap.specs.Words.{built}
 use Rattle.ctd_arguments.specs.CommandLine.{checker}
-use Rattle.ctd_arguments.specs.Usage.{IsSingle}
+use Rattle.ctd_arguments.specs.calls.Usage.{IsSingle}
 use Rattle.ctd_arguments.proofs.SingleLemmas.{level_one}
 use Rattle.ctd_arguments.proofs.laws.refusals_have_one_kind.Goals as goal
 

@@ -1,9 +1,9 @@
 use Rattle.std.proofs.Common.{◌-◌, ◌++◌, ◌∷◌, [], ap, ◌∙◌, sym, rules}
-use Rattle.ctd_program.specs.View.{command_trees}
+use Rattle.ctd_program.specs.calls.View.{command_trees}
 use Rattle.ctd_store.specs.Store.{initial}
-use Rattle.ctd_command.specs.Performs.{state}
+use Rattle.ctd_command.specs.calls.Performs.{state}
 use Rattle.ctd_check.specs.Loops.{tasks, finish}
-use Rattle.ctd_check.specs.FrameTasks.{to_do}
+use Rattle.ctd_check.specs.inner.FrameTasks.{to_do}
 use Rattle.ctd_check.specs.Run.{run_from, at_start}
 use Rattle.ctd_check.proofs.Concluding.{found, given_count, gave_few, gave_none, starts_as}
 use Rattle.ctd_check.proofs.Knowing.{known_append, known_as, known_tasks}

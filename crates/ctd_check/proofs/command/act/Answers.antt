@@ -1,5 +1,5 @@
 use Rattle.std.proofs.Common.{[], ap, map, sym}
-use Rattle.ctd_program.specs.View.{assignment}
+use Rattle.ctd_program.specs.calls.View.{assignment}
 use Rattle.ctd_command.specs.Commands.{set, unset_all}
 use Rattle.ctd_command.proofs.Acts.{performs_answering, performs_as}
 use Rattle.ctd_check.proofs.command.act.Goals as goal

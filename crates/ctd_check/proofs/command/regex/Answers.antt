@@ -1,6 +1,6 @@
 use Rattle.std.proofs.Common.{ap, arith}
 use Rattle.std.proofs.lemmas.Grind.{common_steps}
-use Rattle.ctd_program.specs.View.{target}
+use Rattle.ctd_program.specs.calls.View.{target}
 use Rattle.ctd_command.specs.Regex.{regex}
 use Rattle.ctd_command.proofs.Acts.{performs_as}
 use Rattle.ctd_check.proofs.Knowing.{at_number}

@@ -1,7 +1,7 @@
 use Rattle.std.proofs.Common.{subst}
 use Rattle.ctd_program.proofs.Trees.{loop_tree, choice_tree}
 use Rattle.ctd_syntax.specs.RegexNumbers.{command_literals}
-use Rattle.ctd_loader.specs.PatternTable.{AreAmong}
+use Rattle.ctd_loader.specs.calls.PatternTable.{AreAmong}
 use Rattle.ctd_check.proofs.command.start_block.Goals as goal
 
 pub returns-in-If-clause-known : goal.returns-in-If-clause-known

@@ -1,9 +1,9 @@
 use Rattle.std.proofs.Common.{max, arith, refl}
 use Rattle.ctd_program.specs.Tree.{list_blocks}
-use Rattle.ctd_program.specs.View.{command_list}
+use Rattle.ctd_program.specs.calls.View.{command_list}
 use Rattle.ctd_syntax.specs.RegexNumbers.{literals}
 use Rattle.ctd_command.proofs.Acts.{and_then, early_answering, given_as}
-use Rattle.ctd_check.specs.FrameTasks.{left_tasks}
+use Rattle.ctd_check.specs.inner.FrameTasks.{left_tasks}
 use Rattle.ctd_check.proofs.Knowing.{among_front, among_back, known_tasks, known_as}
 use Rattle.ctd_check.proofs.loops.choose.Goals as goal
 

@@ -1,6 +1,6 @@
 use Rattle.std.proofs.Common.{sym}
 use Rattle.ctd_command.proofs.Acts.{and_then, early_answering, given}
-use Rattle.ctd_check.specs.FrameTasks.{guard_in}
+use Rattle.ctd_check.specs.inner.FrameTasks.{guard_in}
 use Rattle.ctd_check.proofs.loops.guard_of.Goals as goal
 
 pub returns-in_err-turns-in-Times : goal.returns-in_err-turns-in-Times

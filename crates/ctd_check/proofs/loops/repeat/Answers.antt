@@ -1,5 +1,5 @@
 use Rattle.ctd_command.proofs.Acts.{and_then, early_answering, given_as}
-use Rattle.ctd_check.specs.FrameTasks.{left_tasks}
+use Rattle.ctd_check.specs.inner.FrameTasks.{left_tasks}
 use Rattle.ctd_check.proofs.loops.repeat.Goals as goal
 
 pub returns-in_err-guard-clause-performs : goal.returns-in_err-guard-clause-performs

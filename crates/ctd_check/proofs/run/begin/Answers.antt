@@ -1,11 +1,11 @@
 use Rattle.std.proofs.Common.{ap, refl, sym, subst, OnOk}
-use Rattle.ctd_program.specs.View.{command_tree}
+use Rattle.ctd_program.specs.calls.View.{command_tree}
 use Rattle.ctd_syntax.specs.RegexNumbers.{command_literals}
 use Rattle.ctd_outcome.specs.declared.outcome.Site.TheVariants.{At}
-use Rattle.ctd_check.specs.Known.{AreKnown}
+use Rattle.ctd_check.specs.inner.Known.{AreKnown}
 use Rattle.ctd_check.specs.Loops.{start}
-use Rattle.ctd_check.specs.Opening.{Opens}
-use Rattle.ctd_check.specs.FrameTasks.{to_do}
+use Rattle.ctd_check.specs.inner.Opening.{Opens}
+use Rattle.ctd_check.specs.inner.FrameTasks.{to_do}
 use Rattle.ctd_check.specs.Run.{act_of}
 use Rattle.ctd_check.proofs.Knowing.{known_as, known_opened}
 use Rattle.ctd_check.proofs.Running.{site_is, task_does, task_opens, task_not_paid}

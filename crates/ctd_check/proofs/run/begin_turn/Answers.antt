@@ -2,9 +2,9 @@ use Rattle.std.proofs.Common.{◌+◌, ◌++◌, [], ap, sym, ◌∙◌, add-one
 use Rattle.ctd_syntax.specs.RegexNumbers.{literals, separator_literals}
 use Rattle.ctd_command.proofs.Acts.{answers_as, performs_answering}
 use Rattle.ctd_outcome.specs.declared.outcome.Site.TheVariants.{At}
-use Rattle.ctd_check.specs.Halts.{halt_of}
+use Rattle.ctd_check.specs.inner.Halts.{halt_of}
 use Rattle.ctd_check.specs.Loops.{turn, turn_tasks, tasks_before_turn}
-use Rattle.ctd_check.specs.FrameTasks.{to_do, loop_in, separator_in}
+use Rattle.ctd_check.specs.inner.FrameTasks.{to_do, loop_in, separator_in}
 use Rattle.ctd_check.proofs.Knowing.{among_front, known_as, known_separated, known_turn}
 use Rattle.ctd_check.proofs.Turns.{at_turn, to_do_at}
 use Rattle.ctd_check.proofs.Running.{advances_as, halted_as, task_done, task_failed, task_unpaid, task_then, turn_left}

@@ -1,9 +1,9 @@
 use Rattle.std.proofs.Common.{[], ap, ◌∙◌, refl, Err}
 use Rattle.ctd_command.proofs.Acts.{performs_answering}
 use Rattle.ctd_outcome.specs.declared.outcome.Site.TheVariants.{Finish}
-use Rattle.ctd_check.specs.Halts.{halt_of}
+use Rattle.ctd_check.specs.inner.Halts.{halt_of}
 use Rattle.ctd_check.specs.Loops.{finish}
-use Rattle.ctd_check.specs.FrameTasks.{to_do}
+use Rattle.ctd_check.specs.inner.FrameTasks.{to_do}
 use Rattle.ctd_check.proofs.Running.{ends_done, ends_failed, ends_unpaid}
 use Rattle.ctd_check.proofs.run.conclude.Goals as goal
 

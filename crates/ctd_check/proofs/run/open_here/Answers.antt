@@ -1,5 +1,5 @@
 use Rattle.std.proofs.Common.{[]}
-use Rattle.ctd_check.specs.FrameTasks.{left_tasks}
+use Rattle.ctd_check.specs.inner.FrameTasks.{left_tasks}
 use Rattle.ctd_check.proofs.run.open_here.Goals as goal
 
 pub returns-in-Ok-clause-opens : goal.returns-in-Ok-clause-opens

@@ -1,4 +1,4 @@
-use Rattle.ctd_check.specs.FrameTasks.{to_do}
+use Rattle.ctd_check.specs.inner.FrameTasks.{to_do}
 use Rattle.ctd_check.proofs.Running.{start_done, start_failed}
 use Rattle.ctd_check.proofs.run.run_program.Goals as goal
 

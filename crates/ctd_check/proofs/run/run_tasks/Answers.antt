@@ -1,10 +1,10 @@
 use Rattle.std.proofs.Common.{◌∷◌, arith, ap, sym, ◌∙◌, refl, Err}
 use Rattle.ctd_source.proofs.AdvanceLemmas.{advances_so, advances_both}
-use Rattle.ctd_program.specs.View.{command_tree}
-use Rattle.ctd_command.specs.Performs.{state}
+use Rattle.ctd_program.specs.calls.View.{command_tree}
+use Rattle.ctd_command.specs.calls.Performs.{state}
 use Rattle.ctd_check.specs.Loops.{start}
 use Rattle.ctd_check.specs.Run.{run}
-use Rattle.ctd_check.specs.FrameTasks.{to_do}
+use Rattle.ctd_check.specs.inner.FrameTasks.{to_do}
 use Rattle.ctd_check.proofs.Knowing.{known_as}
 use Rattle.ctd_check.proofs.Running.{follows_as, ends_early, halted_as}
 use Rattle.ctd_check.proofs.run.run_tasks.Goals as goal

@@ -1,9 +1,9 @@
 use Rattle.std.proofs.Common.{◌≡◌, ◌≤◌, ◌+◌, ◌*◌, length}
-use Rattle.ctd_source.specs.Received.{AdvancesSuchThat}
-use Rattle.ctd_command.specs.Performs.{IsSound, state}
+use Rattle.ctd_source.specs.calls.Received.{AdvancesSuchThat}
+use Rattle.ctd_command.specs.calls.Performs.{IsSound, state}
 use Rattle.ctd_check.specs.Run.{run}
-use Rattle.ctd_check.specs.Known.{AreKnown}
-use Rattle.ctd_check.specs.FrameTasks.{to_do}
+use Rattle.ctd_check.specs.inner.Known.{AreKnown}
+use Rattle.ctd_check.specs.inner.FrameTasks.{to_do}
 use Rattle.ctd_check.proofs.run.run_tasks.Given as goal
 
 -- what the frames have still to do is what is left of the whole

@@ -1,7 +1,7 @@
 use Rattle.std.proofs.Common.{◌≡◌, ◌-◌, ◌+◌, None}
-use Rattle.ctd_source.specs.CursorCalls.{state_of}
-use Rattle.ctd_source.specs.Received.{AdvancesSuchThat}
-use Rattle.ctd_command.specs.Passing.{PassesSomeBlanks}
+use Rattle.ctd_source.specs.calls.CursorCalls.{state_of}
+use Rattle.ctd_source.specs.calls.Received.{AdvancesSuchThat}
+use Rattle.ctd_command.specs.inner.Passing.{PassesSomeBlanks}
 use Rattle.ctd_command.proofs.blanks.pass_blanks.Given as goal
 
 abbrev pub invariant-loop-byte : goal.invariant-loop-byte

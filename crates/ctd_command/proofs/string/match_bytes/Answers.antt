@@ -3,7 +3,7 @@ use Rattle.std.proofs.lemmas.Grind.{common_steps}
 use Rattle.std.proofs.lemmas.List.{nil_from_length}
 use Rattle.ctd_source.proofs.AdvanceLemmas.{advances_so, advances_both, advances_nowhere}
 use Rattle.ctd_command.specs.Commands.{match_bytes}
-use Rattle.ctd_command.specs.Passing.{PassesPrefix}
+use Rattle.ctd_command.specs.inner.Passing.{PassesPrefix}
 use Rattle.ctd_command.proofs.Strings.{at_offset, does_after, stopped_alone, string_differs, string_faulty, string_more, string_done}
 use Rattle.ctd_command.proofs.string.match_bytes.Goals as goal
 

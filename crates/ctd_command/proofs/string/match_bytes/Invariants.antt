@@ -1,6 +1,6 @@
 use Rattle.std.proofs.Common.{◌≡◌, None, length}
-use Rattle.ctd_source.specs.CursorCalls.{state_of}
-use Rattle.ctd_source.specs.Received.{AdvancesSuchThat}
+use Rattle.ctd_source.specs.calls.CursorCalls.{state_of}
+use Rattle.ctd_source.specs.calls.Received.{AdvancesSuchThat}
 use Rattle.ctd_store.specs.Store.{History}
 use Rattle.ctd_program.specs.declared.mode.Mode.{Mode}
 use Rattle.ctd_command.specs.Commands.{match_bytes}

@@ -1,7 +1,8 @@
 use Rattle.std.proofs.Common.{None}
-use Rattle.ctd_program.specs.View.{boxed_separator, command_trees}
+use Rattle.ctd_program.specs.inner.View.{boxed_separator}
+use Rattle.ctd_program.specs.calls.View.{command_trees}
 use Rattle.ctd_program.specs.declared.tree.Loop.{out-Loop}
-use Rattle.ctd_findings.specs.Block.{commands_behind, separator_command}
+use Rattle.ctd_findings.specs.calls.Block.{commands_behind, separator_command}
 use Rattle.ctd_findings.proofs.Parts.{both}
 use Rattle.ctd_findings.proofs.Trees.{within_loop, within_choice}
 use Rattle.ctd_findings.proofs.block.+block.Goals as goal

@@ -1,7 +1,7 @@
 use Rattle.std.proofs.Common.{◌≡◌, ◌++◌, drop, None}
-use Rattle.ctd_program.specs.View.{command_trees}
-use Rattle.ctd_findings.specs.Block.{commands_behind}
-use Rattle.ctd_findings.specs.Listed.{command_at, in_blocks}
+use Rattle.ctd_program.specs.calls.View.{command_trees}
+use Rattle.ctd_findings.specs.calls.Block.{commands_behind}
+use Rattle.ctd_findings.specs.inner.Listed.{command_at, in_blocks}
 use Rattle.ctd_findings.proofs.block.+block.Given as goal
 
 abbrev pub invariant-list_block-loop-command : goal.invariant-list_block-loop-command

@@ -1,8 +1,8 @@
 use Rattle.std.proofs.Common.{[], ◌∷◌, ap, ◌∙◌}
 use Rattle.std.proofs.lemmas.List.{map-append}
-use Rattle.ctd_program.specs.View.{expr_list}
-use Rattle.ctd_findings.specs.Listed.{names_at}
-use Rattle.ctd_findings.specs.Names.{index_names}
+use Rattle.ctd_program.specs.calls.View.{expr_list}
+use Rattle.ctd_findings.specs.inner.Listed.{names_at}
+use Rattle.ctd_findings.specs.calls.Names.{index_names}
 use Rattle.ctd_findings.proofs.Parts.{both}
 use Rattle.ctd_findings.proofs.Trees.{element_names}
 use Rattle.ctd_findings.proofs.names.+expr_names.Goals as goal

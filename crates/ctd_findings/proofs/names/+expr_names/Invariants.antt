@@ -1,7 +1,7 @@
 use Rattle.std.proofs.Common.{◌≡◌, ◌++◌, drop}
-use Rattle.ctd_program.specs.View.{expr_list}
-use Rattle.ctd_findings.specs.Listed.{names_at}
-use Rattle.ctd_findings.specs.Names.{index_names}
+use Rattle.ctd_program.specs.calls.View.{expr_list}
+use Rattle.ctd_findings.specs.inner.Listed.{names_at}
+use Rattle.ctd_findings.specs.calls.Names.{index_names}
 use Rattle.ctd_findings.proofs.names.+expr_names.Given as goal
 
 abbrev pub invariant-list_indices-loop-index : goal.invariant-list_indices-loop-index

@@ -1,5 +1,5 @@
 use Rattle.std.proofs.Common.{◌≡◌, ◌++◌, drop}
-use Rattle.ctd_findings.specs.Listed.{names_at}
+use Rattle.ctd_findings.specs.inner.Listed.{names_at}
 use Rattle.ctd_findings.proofs.names.list_all.Given as goal
 
 abbrev pub invariant-loop-name : goal.invariant-loop-name

@@ -1,6 +1,6 @@
 use Rattle.std.proofs.Common.{◌≡◌, ◌++◌, drop}
-use Rattle.ctd_findings.specs.Listed.{assigned_trees, names_at}
-use Rattle.ctd_findings.specs.Names.{assignment_names}
+use Rattle.ctd_findings.specs.inner.Listed.{assigned_trees, names_at}
+use Rattle.ctd_findings.specs.calls.Names.{assignment_names}
 use Rattle.ctd_findings.proofs.names.list_assignments.Given as goal
 
 abbrev pub invariant-loop-a : goal.invariant-loop-a

@@ -1,5 +1,5 @@
 use Rattle.std.proofs.Common.{◌≡◌, drop}
-use Rattle.ctd_findings.specs.Outline.{is_open_count}
+use Rattle.ctd_findings.specs.calls.Outline.{is_open_count}
 use Rattle.ctd_findings.proofs.outline.is_open_count.Given as goal
 
 abbrev pub invariant-loop-i : goal.invariant-loop-i

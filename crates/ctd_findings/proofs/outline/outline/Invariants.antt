@@ -1,5 +1,5 @@
 use Rattle.std.proofs.Common.{◌≡◌, ◌++◌, drop}
-use Rattle.ctd_findings.specs.Outline.{outline, outline_from}
+use Rattle.ctd_findings.specs.calls.Outline.{outline, outline_from}
 use Rattle.ctd_findings.proofs.outline.outline.Given as goal
 
 abbrev pub invariant-loop-byte : goal.invariant-loop-byte

@@ -1,5 +1,5 @@
 use Rattle.std.proofs.Common.{◌≡◌, drop}
-use Rattle.ctd_findings.specs.Outline.{repeats_unbounded}
+use Rattle.ctd_findings.specs.calls.Outline.{repeats_unbounded}
 use Rattle.ctd_findings.proofs.outline.repeats_unbounded.Given as goal
 
 abbrev pub invariant-loop-i : goal.invariant-loop-i

@@ -1,9 +1,9 @@
 use Rattle.std.proofs.Common.{◌≡◌, ℕ, List, ◌++◌, ap, ◌∙◌}
 use Rattle.std.proofs.lemmas.Result.{IfOk-weaker}
-use Rattle.ctd_program.specs.View.{command_trees}
-use Rattle.ctd_findings.specs.Findings.{findings_among, is_given_in, is_read_in}
-use Rattle.ctd_findings.specs.Listed.{has_name, in_blocks}
-use Rattle.ctd_findings.specs.Names.{all_given, all_reads, is_among, preset_names}
+use Rattle.ctd_program.specs.calls.View.{command_trees}
+use Rattle.ctd_findings.specs.calls.Findings.{findings_among, is_given_in, is_read_in}
+use Rattle.ctd_findings.specs.inner.Listed.{has_name, in_blocks}
+use Rattle.ctd_findings.specs.calls.Names.{all_given, all_reads, is_among, preset_names}
 use Rattle.ctd_findings.proofs.program.findings.Goals as goal
 
 pub returns : goal.returns

@@ -1,4 +1,4 @@
-use Rattle.ctd_findings.specs.Listed.{has_name}
+use Rattle.ctd_findings.specs.inner.Listed.{has_name}
 use Rattle.ctd_findings.proofs.Told.{one_more}
 use Rattle.ctd_findings.proofs.program.findings_among.Goals as goal
 

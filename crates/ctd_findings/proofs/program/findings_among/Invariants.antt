@@ -1,6 +1,6 @@
 use Rattle.std.proofs.Common.{◌≡◌, ◌++◌, drop}
-use Rattle.ctd_findings.specs.Findings.{findings_among}
-use Rattle.ctd_findings.specs.Listed.{has_name, in_blocks}
+use Rattle.ctd_findings.specs.calls.Findings.{findings_among}
+use Rattle.ctd_findings.specs.inner.Listed.{has_name, in_blocks}
 use Rattle.ctd_findings.proofs.program.findings_among.Given as goal
 
 abbrev pub invariant-loop-entry : goal.invariant-loop-entry

@@ -1,6 +1,6 @@
 use Rattle.std.proofs.Common.{◌≡◌, ◌++◌, drop}
-use Rattle.ctd_findings.specs.Listed.{in_blocks, names_at}
-use Rattle.ctd_findings.specs.Names.{all_given}
+use Rattle.ctd_findings.specs.inner.Listed.{in_blocks, names_at}
+use Rattle.ctd_findings.specs.calls.Names.{all_given}
 use Rattle.ctd_findings.proofs.program.list_given.Given as goal
 
 abbrev pub invariant-loop-entry : goal.invariant-loop-entry

@@ -1,6 +1,6 @@
 use Rattle.std.proofs.Common.{◌≡◌, ◌++◌, drop}
-use Rattle.ctd_findings.specs.Listed.{names_at}
-use Rattle.ctd_findings.specs.Names.{preset_names}
+use Rattle.ctd_findings.specs.inner.Listed.{names_at}
+use Rattle.ctd_findings.specs.calls.Names.{preset_names}
 use Rattle.ctd_findings.proofs.program.list_presets.Given as goal
 
 abbrev pub invariant-loop-preset : goal.invariant-loop-preset

@@ -1,5 +1,5 @@
 use Rattle.std.proofs.Common.{◌≡◌, ◌++◌}
-use Rattle.ctd_findings.specs.Findings.{findings_at}
+use Rattle.ctd_findings.specs.calls.Findings.{findings_at}
 use Rattle.ctd_findings.proofs.program.place_all.Given as goal
 
 abbrev pub invariant-loop-warning : goal.invariant-loop-warning

@@ -4,7 +4,7 @@ use Rattle.clap.specs.Built.{AddsArg, AddsInTurn}
 use Rattle.clap.specs.Words.{app_of, with_rule}
 use Rattle.clap.specs.Simple.{app_of_fields, on_top}
 use Rattle.clap.specs.declared.builder.arg.Arg.{Arg}
-use Rattle.ctd_lint.specs.CommandLine.{linter, bare_linter}
+use Rattle.ctd_lint.specs.inner.CommandLine.{linter, bare_linter}
 use Rattle.ctd_lint.proofs.command_line.command.Goals as goal
 
 pub returns : goal.returns

@@ -4,7 +4,7 @@ use Rattle.clap.specs.declared.parser.matches.ArgMatches.{ArgMatches}
 use Rattle.clap.specs.declared.error.Error.{Error}
 use Rattle.clap.specs.Words.{App, Text, is_simple, is_simple_and_free, matches_of, fault_of, FailsBy}
 use Rattle.clap.proofs.OnLiterals.{clap_on_literals}
-use Rattle.ctd_lint.specs.CommandLine.{linter}
+use Rattle.ctd_lint.specs.inner.CommandLine.{linter}
 use Rattle.ctd_lint.proofs.command_line.matches_in.Goals as goal
 
 simple : is_simple linter ≡ true

@@ -1,9 +1,9 @@
 use Rattle.std.proofs.Common.{ap, ◌∙◌}
-use Rattle.ctd_program.specs.View.{command_trees}
+use Rattle.ctd_program.specs.calls.View.{command_trees}
 use Rattle.ctd_report.specs.Report.{load_report}
 use Rattle.ctd_report.proofs.WrittenLemmas.{Leaves-LeavesOneOf}
-use Rattle.ctd_findings.specs.Findings.{findings_of}
-use Rattle.ctd_lint.specs.Report.{findings_report}
+use Rattle.ctd_findings.specs.calls.Findings.{findings_of}
+use Rattle.ctd_lint.specs.inner.Report.{findings_report}
 use Rattle.ctd_lint.proofs.Reports.{reports_findings, reports_refusal}
 use Rattle.ctd_lint.proofs.lint.lint.Goals as goal
 

@@ -1,5 +1,5 @@
 use Rattle.std.proofs.Common.{◌≡◌, ◌++◌, drop}
-use Rattle.ctd_lint.specs.Report.{findings_lines}
+use Rattle.ctd_lint.specs.inner.Report.{findings_lines}
 use Rattle.ctd_lint.proofs.text.findings_text.Given as goal
 
 abbrev pub invariant-loop-finding : goal.invariant-loop-finding

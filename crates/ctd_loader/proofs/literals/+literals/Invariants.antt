@@ -1,7 +1,7 @@
 use Rattle.std.proofs.Common.{◌≡◌, ◌++◌, drop}
-use Rattle.ctd_program.specs.View.{command_trees}
+use Rattle.ctd_program.specs.calls.View.{command_trees}
 use Rattle.ctd_syntax.specs.RegexNumbers.{literals}
-use Rattle.ctd_loader.specs.Literals.{literals_at}
+use Rattle.ctd_loader.specs.inner.Literals.{literals_at}
 use Rattle.ctd_loader.proofs.literals.+literals.Given as goal
 
 abbrev pub invariant-list_literals-loop-command : goal.invariant-list_literals-loop-command

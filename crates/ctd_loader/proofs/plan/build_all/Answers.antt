@@ -3,7 +3,7 @@ use Rattle.std.proofs.lemmas.Grind.{common_steps}
 use Rattle.std.proofs.lemmas.List.{take_all}
 use Rattle.ctd_pattern.specs.declared.pattern.PatternFault.TheVariants.{Memory}
 use Rattle.ctd_pattern.specs.Pattern.{IsPattern}
-use Rattle.ctd_loader.specs.Literals.{literals_at}
+use Rattle.ctd_loader.specs.inner.Literals.{literals_at}
 use Rattle.ctd_loader.specs.Loading.{ArePatterns, IsUnbuilt}
 use Rattle.ctd_loader.proofs.Building.{bad_at, more_built, more_patterns, unbuilt_by}
 use Rattle.ctd_loader.proofs.Loads.{memory_alone}

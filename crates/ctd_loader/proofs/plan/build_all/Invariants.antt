@@ -1,6 +1,6 @@
 use Rattle.std.proofs.Common.{◌≡◌, take}
-use Rattle.ctd_loader.specs.PatternTable.{texts_of}
-use Rattle.ctd_loader.specs.Literals.{literals_at}
+use Rattle.ctd_loader.specs.calls.PatternTable.{texts_of}
+use Rattle.ctd_loader.specs.inner.Literals.{literals_at}
 use Rattle.ctd_loader.specs.Loading.{ArePatterns}
 use Rattle.ctd_loader.proofs.plan.build_all.Given as goal
 

@@ -1,6 +1,6 @@
 use Rattle.std.proofs.Common.{List, ap, ◌∙◌, subst, IfOk}
 use Rattle.ctd_program.specs.declared.tree.PatternLiteral.{PatternLiteral}
-use Rattle.ctd_loader.specs.Literals.{literals_at}
+use Rattle.ctd_loader.specs.inner.Literals.{literals_at}
 use Rattle.ctd_loader.specs.Loading.{ArePatterns}
 use Rattle.ctd_loader.proofs.plan.patterns_in.Goals as goal
 

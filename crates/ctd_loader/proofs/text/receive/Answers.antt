@@ -1,5 +1,5 @@
 use Rattle.std.proofs.Common.{◌≤◌, ◌-◌, ◌++◌, ℕ, List, length, take, arith, length-append, length-take, ◌∙◌, IfErr, Result, Ok, Err, rules}
-use Rattle.ctd_source.specs.ReadingOn.{gave_nothing}
+use Rattle.ctd_source.specs.inner.ReadingOn.{gave_nothing}
 use Rattle.ctd_loader.proofs.PulledText.{going_after, pulled_behind}
 use Rattle.ctd_loader.proofs.text.receive.Goals as goal
 

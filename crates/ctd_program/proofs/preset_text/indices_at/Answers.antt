@@ -4,7 +4,7 @@ use Rattle.std.proofs.lemmas.List.{take_rest}
 use Rattle.ctd_program.specs.declared.preset.Literal.{Literal}
 use Rattle.ctd_program.specs.declared.preset.PresetFault.TheVariants.{BadPreset}
 use Rattle.ctd_program.specs.Presets.{AreSeparated, IsPresetValue}
-use Rattle.ctd_program.specs.PresetFront.{MayFollowList, MayFollowTarget, IsAtFront, NothingIsAtFront, AreIndices}
+use Rattle.ctd_program.specs.inner.PresetFront.{MayFollowList, MayFollowTarget, IsAtFront, NothingIsAtFront, AreIndices}
 use Rattle.ctd_program.proofs.PresetTargets.{no_indices, no_values, not_closed, closed_indices}
 use Rattle.ctd_program.proofs.preset_text.indices_at.Goals.{then-is_empty-via-then-is_empty, then-is_empty-via-else-is_empty+then-bytes-ne91, then-close-bytes-via-then-close-bytes, then-close-bytes-via-else-close-bytes+then-bytes-close-ne93}
 use Rattle.ctd_program.proofs.preset_text.indices_at.Goals as goal

@@ -2,7 +2,7 @@ use Rattle.std.proofs.Common.{◌≡◌, ℕ, ◌+◌, ◌<◌, List, Err, lengt
 use Rattle.std.proofs.lemmas.List.{take_rest}
 use Rattle.ctd_program.specs.declared.preset.PresetFault.TheVariants.{BadPreset}
 use Rattle.ctd_program.specs.Presets.{AreSeparated}
-use Rattle.ctd_program.specs.PresetFront.{MayFollowItem, MayFollowList, IsAtFront, NothingIsAtFront}
+use Rattle.ctd_program.specs.inner.PresetFront.{MayFollowItem, MayFollowList, IsAtFront, NothingIsAtFront}
 use Rattle.ctd_program.proofs.SeparatedLists.{ReadUpTo, none_there, last, on}
 use Rattle.ctd_program.proofs.preset_text.list_at.Goals.{then-at-bytes-via-then-at-bytes, then-at-bytes-via-else-at-bytes+then-bytes-at-ne44}
 use Rattle.ctd_program.proofs.preset_text.list_at.Goals as goal

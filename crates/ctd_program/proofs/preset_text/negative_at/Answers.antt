@@ -2,7 +2,7 @@ use Rattle.std.proofs.Common.{◌≡◌, ℕ, ◌+◌, List, Ok, Some, ap, ◌�
 use Rattle.ctd_token.specs.declared.token.TokenKind.TheVariants as tokens
 use Rattle.ctd_program.specs.declared.preset.Literal.TheVariants as literals
 use Rattle.ctd_token.specs.Cut.{token_at}
-use Rattle.ctd_program.specs.PresetFront.{IsFound, negative_literal}
+use Rattle.ctd_program.specs.inner.PresetFront.{IsFound, negative_literal}
 use Rattle.ctd_program.proofs.TokenFronts.{numeral_value, negative_fits, negative_is, not_negated}
 use Rattle.ctd_program.proofs.preset_text.negative_at.Goals.{in-Numeral, in_default}
 use Rattle.ctd_program.proofs.preset_text.negative_at.Goals as goal

@@ -3,7 +3,7 @@ use Rattle.std.proofs.lemmas.List.{take_rest}
 use Rattle.ctd_program.specs.declared.preset.PresetFault.TheVariants.{BadPreset}
 use Rattle.ctd_program.specs.declared.preset.Preset.{Preset}
 use Rattle.ctd_program.specs.Presets.{IsPresetValue}
-use Rattle.ctd_program.specs.PresetFront.{MayFollowItem, IsAtFront, NothingIsAtFront}
+use Rattle.ctd_program.specs.inner.PresetFront.{MayFollowItem, IsAtFront, NothingIsAtFront}
 use Rattle.ctd_program.proofs.PresetValues.{value_read, no_value_read}
 use Rattle.ctd_program.proofs.PresetTexts.{no_target, no_equals, no_value, preset_in_front}
 use Rattle.ctd_program.proofs.preset_text.preset_at.Goals.{then-n-bytes-via-then-n-bytes, then-n-bytes-via-else-n-bytes+then-bytes-n-ne61}

@@ -3,7 +3,8 @@ use Rattle.std.proofs.lemmas.List.{take_rest}
 use Rattle.ctd_token.specs.declared.token.TokenKind.TheVariants as tokens
 use Rattle.ctd_token.specs.Cut.{token_at}
 use Rattle.ctd_program.specs.declared.preset.PresetFault.TheVariants.{BadPreset}
-use Rattle.ctd_program.specs.PresetFront.{fault_of, MayFollowTarget, IsAtFront, NothingIsAtFront, SpellsTarget, AreIndices}
+use Rattle.ctd_program.specs.calls.PresetFront.{fault_of}
+use Rattle.ctd_program.specs.inner.PresetFront.{MayFollowTarget, IsAtFront, NothingIsAtFront, SpellsTarget, AreIndices}
 use Rattle.ctd_program.proofs.TokenFronts.{same_found}
 use Rattle.ctd_program.proofs.PresetTargets.{no_name_in_front, no_name_at_fault, no_indices_behind, target_in_front}
 use Rattle.ctd_program.proofs.preset_text.target_at.Goals.{in-Name, in_default}

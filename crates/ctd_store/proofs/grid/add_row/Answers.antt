@@ -1,6 +1,6 @@
 use Rattle.std.proofs.Common.{[], ◌∷◌, ◌++◌, ap, ◌∙◌}
-use Rattle.ctd_store.specs.Grid.{grid}
-use Rattle.ctd_store.specs.ValueRef.{value_of_ref}
+use Rattle.ctd_store.specs.calls.Grid.{grid}
+use Rattle.ctd_store.specs.calls.ValueRef.{value_of_ref}
 use Rattle.ctd_store.proofs.Gridded.{row_added}
 use Rattle.ctd_store.proofs.grid.add_row.Goals as goal
 

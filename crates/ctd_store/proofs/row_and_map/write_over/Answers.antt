@@ -1,7 +1,7 @@
 use Rattle.std.proofs.Common.{ap, ◌∙◌, slice_set}
 use Rattle.std.proofs.lemmas.List.{set_split}
 use Rattle.std.proofs.lemmas.Result.{on_ok_weaker}
-use Rattle.ctd_store.specs.ValueRef.{value_of_ref}
+use Rattle.ctd_store.specs.calls.ValueRef.{value_of_ref}
 use Rattle.ctd_store.proofs.row_and_map.write_over.Goals as goal
 
 pub returns-clause-ok : goal.returns-clause-ok

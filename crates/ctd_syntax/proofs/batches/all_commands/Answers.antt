@@ -1,9 +1,9 @@
 use Rattle.std.proofs.Common.{◌≡◌, ◌∷◌, ◌++◌, [], sym, ap, ◌∙◌, append_assoc, append-nil}
 use Rattle.std.specs.Prelude.{map}
-use Rattle.ctd_program.specs.View.{command_trees}
+use Rattle.ctd_program.specs.calls.View.{command_trees}
 use Rattle.ctd_program.proofs.Trees.{trees_then}
-use Rattle.ctd_syntax.specs.Front.{lexeme}
-use Rattle.ctd_syntax.specs.CommandWords.{command_begins}
+use Rattle.ctd_syntax.specs.inner.Front.{lexeme}
+use Rattle.ctd_syntax.specs.inner.CommandWords.{command_begins}
 use Rattle.ctd_syntax.proofs.Boundaries.{found_begins}
 use Rattle.ctd_syntax.proofs.CommandReads.{commands_start, commands_next, commands_end}
 use Rattle.ctd_syntax.proofs.Parsing.{nothing, spelled_only}

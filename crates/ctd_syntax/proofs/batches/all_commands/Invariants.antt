@@ -1,8 +1,8 @@
 use Rattle.std.proofs.Common.{◌≡◌, List, ◌++◌, length}
 use Rattle.std.specs.Prelude.{map}
-use Rattle.ctd_program.specs.View.{command_trees}
+use Rattle.ctd_program.specs.calls.View.{command_trees}
 use Rattle.ctd_program.specs.declared.tree.Command.{Command}
-use Rattle.ctd_syntax.specs.Front.{lexeme}
+use Rattle.ctd_syntax.specs.inner.Front.{lexeme}
 use Rattle.ctd_syntax.proofs.CommandReads.{PartCommands}
 use Rattle.ctd_syntax.proofs.batches.all_commands.Given as goal
 

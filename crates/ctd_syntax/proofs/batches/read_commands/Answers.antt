@@ -2,9 +2,9 @@ use Rattle.std.proofs.Common.{◌≡◌, ◌++◌, ◌∷◌, [], refl, sym, sub
 use Rattle.std.specs.Prelude.{map, IfSome, IfNone}
 use Rattle.std.proofs.lemmas.List.{map-append}
 use Rattle.ctd_token.proofs.TokenFaults.{fault_is}
-use Rattle.ctd_token.specs.Lexing.{IsEnd}
-use Rattle.ctd_syntax.specs.Front.{lexeme}
-use Rattle.ctd_syntax.specs.Batches.{IsNextSeen, ReadsOff}
+use Rattle.ctd_token.specs.calls.Lexing.{IsEnd}
+use Rattle.ctd_syntax.specs.inner.Front.{lexeme}
+use Rattle.ctd_syntax.specs.inner.Batches.{IsNextSeen, ReadsOff}
 use Rattle.ctd_syntax.proofs.BatchesRead.{InBatches, begin, off, more, finish}
 use Rattle.ctd_syntax.proofs.batches.read_commands.Goals as goal
 

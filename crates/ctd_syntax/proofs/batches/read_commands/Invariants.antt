@@ -1,6 +1,6 @@
 use Rattle.std.proofs.Common.{◌-◌, length}
 use Rattle.std.specs.Prelude.{map}
-use Rattle.ctd_syntax.specs.Front.{lexeme}
+use Rattle.ctd_syntax.specs.inner.Front.{lexeme}
 use Rattle.ctd_syntax.proofs.BatchesRead.{InBatches}
 use Rattle.ctd_syntax.proofs.batches.read_commands.Given as goal
 

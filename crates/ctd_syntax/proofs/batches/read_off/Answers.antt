@@ -1,5 +1,5 @@
 use Rattle.std.specs.Prelude.{map}
-use Rattle.ctd_syntax.specs.Front.{lexeme}
+use Rattle.ctd_syntax.specs.inner.Front.{lexeme}
 use Rattle.ctd_syntax.proofs.BatchesRead.{none_off}
 use Rattle.ctd_syntax.proofs.batches.read_off.Goals as goal
 

@@ -1,15 +1,15 @@
 use Rattle.std.proofs.Common.{refl, arith, ap, ◌∙◌}
 use Rattle.std.specs.Prelude.{map}
 use Rattle.ctd_program.specs.Tree
-use Rattle.ctd_syntax.specs.Front.{Always, IsBefore, IsPair, lexeme}
+use Rattle.ctd_syntax.specs.inner.Front.{Always, IsBefore, IsPair, lexeme}
 use Rattle.ctd_syntax.specs.Grammar.{IsTest, IsCommand, IsCommands}
-use Rattle.ctd_syntax.specs.TestGrammar.{test_ends}
-use Rattle.ctd_syntax.specs.CommandWords.{IsCommandRest, CommandsEnd, IsBlock, IsBranchEnd, IsLoopHead, IsLoopEnd, IsLoopRest}
+use Rattle.ctd_syntax.specs.inner.TestGrammar.{test_ends}
+use Rattle.ctd_syntax.specs.inner.CommandWords.{IsCommandRest, CommandsEnd, IsBlock, IsBranchEnd, IsLoopHead, IsLoopEnd, IsLoopRest}
 use Rattle.ctd_token.specs.declared.token.Mark.TheVariants.{Close}
 use Rattle.ctd_syntax.specs.declared.keyword.Keyword.TheVariants as words
 use Rattle.ctd_syntax.proofs.Fronts.{reads_as, refused_as, refused_exit, built, not_built, before_reads, word_reads, pair_reads, first_none, second_none, no_tree_exit}
 use Rattle.ctd_syntax.proofs.CommandReads.{opened_reads, opened_none, before_loop_end, before_branch_end, whatever, command_reads, command_none, commands_start, commands_next, commands_no_next, commands_end, begins_at, loop_end_plain, loop_end_no_block, loop_end_separated, loop_end_no_separated, branch_ended, branch_goes_on, branch_no_block, not_opened}
-use Rattle.ctd_program.specs.View.{command_trees}
+use Rattle.ctd_program.specs.calls.View.{command_trees}
 use Rattle.ctd_program.specs.declared.tree.Choice.{rolls-Choice'}
 use Rattle.ctd_program.proofs.Trees.{list_commands, trees_then}
 use Rattle.ctd_syntax.proofs.command.+command.Goals as goal

@@ -1,8 +1,8 @@
 use Rattle.std.specs.Prelude.{map}
 use Rattle.ctd_program.specs.Tree
-use Rattle.ctd_syntax.specs.Front.{Always, IsBefore, IsPair, lexeme}
+use Rattle.ctd_syntax.specs.inner.Front.{Always, IsBefore, IsPair, lexeme}
 use Rattle.ctd_syntax.specs.Grammar.{IsExpr, IsTargetEnd}
-use Rattle.ctd_syntax.specs.CommandWords.{IsCommandRest}
+use Rattle.ctd_syntax.specs.inner.CommandWords.{IsCommandRest}
 use Rattle.ctd_token.specs.declared.token.Mark.TheVariants.{Comma}
 use Rattle.ctd_syntax.specs.declared.keyword.Keyword.TheVariants as words
 use Rattle.ctd_syntax.proofs.Fronts.{refused_as, refused_exit, pair_reads, first_none, second_none, no_tree_exit}

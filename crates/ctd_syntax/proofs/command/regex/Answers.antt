@@ -1,8 +1,8 @@
 use Rattle.std.specs.Prelude.{map}
 use Rattle.ctd_program.specs.Tree
-use Rattle.ctd_syntax.specs.Front.{Always, IsPair, lexeme}
+use Rattle.ctd_syntax.specs.inner.Front.{Always, IsPair, lexeme}
 use Rattle.ctd_syntax.specs.Grammar.{IsTargetEnd}
-use Rattle.ctd_syntax.specs.CommandWords.{IsCommandRest, IsPatternText}
+use Rattle.ctd_syntax.specs.inner.CommandWords.{IsCommandRest, IsPatternText}
 use Rattle.ctd_syntax.proofs.Fronts.{pair_reads, no_tree_exit}
 use Rattle.ctd_syntax.proofs.CommandReads.{opened_reads, whatever, pattern_found, not_opened}
 use Rattle.ctd_syntax.specs.declared.keyword.Keyword.TheVariants as words

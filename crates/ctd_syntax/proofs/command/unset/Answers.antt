@@ -1,8 +1,8 @@
 use Rattle.std.specs.Prelude.{map}
 use Rattle.ctd_program.specs.Tree
-use Rattle.ctd_syntax.specs.Front.{Always, IsBefore, lexeme}
+use Rattle.ctd_syntax.specs.inner.Front.{Always, IsBefore, lexeme}
 use Rattle.ctd_syntax.specs.Grammar.{IsNames}
-use Rattle.ctd_syntax.specs.CommandWords.{IsCommandRest}
+use Rattle.ctd_syntax.specs.inner.CommandWords.{IsCommandRest}
 use Rattle.ctd_token.specs.declared.token.Mark.TheVariants.{Close}
 use Rattle.ctd_syntax.specs.declared.keyword.Keyword.TheVariants as words
 use Rattle.ctd_syntax.proofs.Fronts.{refused_exit, no_tree_exit}

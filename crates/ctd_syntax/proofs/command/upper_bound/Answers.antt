@@ -1,7 +1,7 @@
 use Rattle.std.specs.Prelude.{map}
-use Rattle.ctd_syntax.specs.Front.{Always, IsPair, lexeme}
+use Rattle.ctd_syntax.specs.inner.Front.{Always, IsPair, lexeme}
 use Rattle.ctd_syntax.specs.Grammar.{IsExpr, IsTargetEnd}
-use Rattle.ctd_syntax.specs.Levels.{ends}
+use Rattle.ctd_syntax.specs.inner.Levels.{ends}
 use Rattle.ctd_syntax.proofs.Fronts.{refused_as, refused_exit, pair_reads, first_none, second_none}
 use Rattle.ctd_syntax.proofs.CommandReads.{before_target_end}
 use Rattle.ctd_syntax.proofs.command.upper_bound.Goals as goal

@@ -1,9 +1,9 @@
 use Rattle.std.proofs.Common.{arith}
 use Rattle.std.specs.Prelude.{map}
-use Rattle.ctd_syntax.specs.Front.{Always, IsBefore, lexeme}
+use Rattle.ctd_syntax.specs.inner.Front.{Always, IsBefore, lexeme}
 use Rattle.ctd_syntax.specs.Grammar.{IsTest, IsBoth, IsNegation, IsSimpleTest}
-use Rattle.ctd_syntax.specs.Levels.{ends}
-use Rattle.ctd_syntax.specs.TestGrammar.{test_ends, IsTestCall, IsComparison}
+use Rattle.ctd_syntax.specs.inner.Levels.{ends}
+use Rattle.ctd_syntax.specs.inner.TestGrammar.{test_ends, IsTestCall, IsComparison}
 use Rattle.ctd_token.specs.declared.token.Mark.TheVariants.{Close}
 use Rattle.ctd_syntax.proofs.Fronts.{reads_as, refused_as, refused_exit, before_reads}
 use Rattle.ctd_syntax.proofs.Chains.{start, no_start, finish, next, no_next}

@@ -1,6 +1,6 @@
 use Rattle.std.specs.Prelude.{map, drop}
-use Rattle.ctd_syntax.specs.Front.{lexeme}
-use Rattle.ctd_syntax.specs.TestGrammar.{closes_before_test}
+use Rattle.ctd_syntax.specs.inner.Front.{lexeme}
+use Rattle.ctd_syntax.specs.inner.TestGrammar.{closes_before_test}
 use Rattle.ctd_syntax.proofs.TestGroups.{exhausted}
 use Rattle.ctd_syntax.proofs.condition.closes_before_test.Goals as goal
 

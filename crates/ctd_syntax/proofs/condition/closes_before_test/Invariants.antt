@@ -1,7 +1,7 @@
 use Rattle.std.proofs.Common.{◌≡◌, ◌≤◌, ◌+◌, ◌-◌, length, drop, option_map}
 use Rattle.std.specs.Prelude.{map}
-use Rattle.ctd_syntax.specs.Front.{lexeme}
-use Rattle.ctd_syntax.specs.TestGrammar.{closes_before_test}
+use Rattle.ctd_syntax.specs.inner.Front.{lexeme}
+use Rattle.ctd_syntax.specs.inner.TestGrammar.{closes_before_test}
 use Rattle.ctd_syntax.proofs.condition.closes_before_test.Given as goal
 
 abbrev pub invariant-loop-closed : goal.invariant-loop-closed

@@ -1,8 +1,8 @@
 use Rattle.std.specs.Prelude.{map}
-use Rattle.ctd_syntax.specs.Front.{Always, lexeme}
+use Rattle.ctd_syntax.specs.inner.Front.{Always, lexeme}
 use Rattle.ctd_syntax.specs.Grammar.{IsExpr}
-use Rattle.ctd_syntax.specs.Levels.{ends}
-use Rattle.ctd_syntax.specs.TestGrammar.{IsLeft, IsComparison}
+use Rattle.ctd_syntax.specs.inner.Levels.{ends}
+use Rattle.ctd_syntax.specs.inner.TestGrammar.{IsLeft, IsComparison}
 use Rattle.ctd_syntax.proofs.Fronts.{refused_as, refused_exit}
 use Rattle.ctd_syntax.proofs.Conditions.{compared_reads, compared_no_left, compared_no_right}
 use Rattle.ctd_syntax.proofs.condition.comparison.Goals as goal

@@ -1,7 +1,7 @@
 use Rattle.std.proofs.Common.{sym, subst}
 use Rattle.std.specs.Prelude.{map}
-use Rattle.ctd_syntax.specs.Front.{lexeme}
-use Rattle.ctd_syntax.specs.TestGrammar.{AreGroups, AreKnownGroups}
+use Rattle.ctd_syntax.specs.inner.Front.{lexeme}
+use Rattle.ctd_syntax.specs.inner.TestGrammar.{AreGroups, AreKnownGroups}
 use Rattle.ctd_syntax.proofs.TestGroups.{group_is}
 use Rattle.ctd_syntax.proofs.condition.group_at.Goals.{in-Some, in-None}
 use Rattle.ctd_syntax.proofs.condition.group_at.Goals as goal

@@ -1,7 +1,7 @@
 use Rattle.std.specs.Prelude.{map}
-use Rattle.ctd_syntax.specs.Front.{Always, IsBefore, IsName, lexeme}
+use Rattle.ctd_syntax.specs.inner.Front.{Always, IsBefore, IsName, lexeme}
 use Rattle.ctd_syntax.specs.Grammar.{IsExpr}
-use Rattle.ctd_syntax.specs.TestGrammar.{IsTestCall}
+use Rattle.ctd_syntax.specs.inner.TestGrammar.{IsTestCall}
 use Rattle.ctd_token.specs.declared.token.Mark.TheVariants.{Close, Comma}
 use Rattle.ctd_syntax.specs.declared.keyword.Keyword.TheVariants.{InArray}
 use Rattle.ctd_syntax.proofs.Fronts.{refused_as, refused_exit, no_tree_exit}

@@ -1,7 +1,7 @@
 use Rattle.std.proofs.Common.{◌≡◌, ◌≤◌, ◌-◌, ◌++◌, length, drop}
 use Rattle.std.specs.Prelude.{map}
-use Rattle.ctd_syntax.specs.Front.{lexeme}
-use Rattle.ctd_syntax.specs.TestGrammar.{openings}
+use Rattle.ctd_syntax.specs.inner.Front.{lexeme}
+use Rattle.ctd_syntax.specs.inner.TestGrammar.{openings}
 use Rattle.ctd_syntax.proofs.condition.opening_len.Given as goal
 
 abbrev pub invariant-loop-n : goal.invariant-loop-n

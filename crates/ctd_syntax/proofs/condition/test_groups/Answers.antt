@@ -1,7 +1,7 @@
 use Rattle.std.proofs.Common.{◌≡◌, ◌-◌, length, take, drop, sym, arith, length-drop}
 use Rattle.std.specs.Prelude.{map}
 use Rattle.std.proofs.lemmas.List.{take_all}
-use Rattle.ctd_syntax.specs.Front.{lexeme}
+use Rattle.ctd_syntax.specs.inner.Front.{lexeme}
 use Rattle.ctd_syntax.proofs.TestGroups.{groups_some, groups_none}
 use Rattle.ctd_syntax.proofs.condition.test_groups.Goals as goal
 

@@ -1,10 +1,10 @@
 use Rattle.std.proofs.Common.{◌≡◌, [], ◌∷◌, ◌++◌, sym, ap, ◌∙◌, subst, rules, arith}
 use Rattle.std.specs.Prelude.{map}
 use Rattle.ctd_syntax.specs.Lexeme.{Lexeme, mark}
-use Rattle.ctd_program.specs.View.{expr_tree, var_tree, expr_list, exprs_of}
+use Rattle.ctd_program.specs.calls.View.{expr_tree, var_tree, expr_list, exprs_of}
 use Rattle.ctd_syntax.specs.Grammar.{IsExpr, IsExprs, IsProduct, IsSigned, IsPower, IsExponent, IsAtom, IsTarget}
-use Rattle.ctd_syntax.specs.Front.{HasTree, Always, IsBefore, lexeme}
-use Rattle.ctd_syntax.specs.Levels.{ends}
+use Rattle.ctd_syntax.specs.inner.Front.{HasTree, Always, IsBefore, lexeme}
+use Rattle.ctd_syntax.specs.inner.Levels.{ends}
 use Rattle.ctd_token.specs.declared.token.Mark.TheVariants.{Open, Close, CloseIndex}
 use Rattle.ctd_syntax.proofs.Chains.{start, no_start, finish, next, no_next}
 use Rattle.ctd_syntax.proofs.Levels.{sums, products}

@@ -1,9 +1,9 @@
 use Rattle.std.proofs.Common.{◌≤◌, length, ◌+◌, ◌*◌}
 use Rattle.std.specs.Prelude.{map}
-use Rattle.ctd_program.specs.View.{expr_tree}
+use Rattle.ctd_program.specs.calls.View.{expr_tree}
 use Rattle.ctd_syntax.specs.Grammar.{IsExpr, IsProduct, IsSigned}
-use Rattle.ctd_syntax.specs.Front.{lexeme}
-use Rattle.ctd_syntax.specs.Levels.{ends, sum_operator, product_operator, join}
+use Rattle.ctd_syntax.specs.inner.Front.{lexeme}
+use Rattle.ctd_syntax.specs.inner.Levels.{ends, sum_operator, product_operator, join}
 use Rattle.ctd_syntax.proofs.Rows.{Separated, IsOne, Before, comma, append}
 use Rattle.ctd_token.specs.declared.token.Mark.TheVariants.{CloseIndex}
 use Rattle.ctd_syntax.proofs.Chains.{Partly}

@@ -2,8 +2,8 @@ use Rattle.std.proofs.Common.{◌≡◌, ◌∷◌, ap, ◌∙◌, rules}
 use Rattle.std.proofs.lemmas.Int.{to_z-of_z}
 use Rattle.std.specs.Int.{w128}
 use Rattle.std.specs.Prelude.{map}
-use Rattle.ctd_syntax.specs.Front.{lexeme}
-use Rattle.ctd_syntax.specs.Levels.{ends}
+use Rattle.ctd_syntax.specs.inner.Front.{lexeme}
+use Rattle.ctd_syntax.specs.inner.Levels.{ends}
 use Rattle.ctd_syntax.specs.Lexeme.{Lexeme}
 use Rattle.ctd_program.specs.Tree
 use Rattle.ctd_program.specs.Tree.{VarTree}

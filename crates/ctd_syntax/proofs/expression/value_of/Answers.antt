@@ -1,5 +1,5 @@
 use Rattle.std.proofs.Common.{ap, ◌∙◌}
-use Rattle.ctd_program.specs.View.{element_tree}
+use Rattle.ctd_program.specs.inner.View.{element_tree}
 use Rattle.ctd_program.proofs.Trees.{boxed_element}
 use Rattle.ctd_syntax.proofs.expression.value_of.Goals as goal
 

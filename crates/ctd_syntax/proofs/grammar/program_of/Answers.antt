@@ -1,11 +1,12 @@
 use Rattle.std.proofs.Common.{◌≡◌, None, Some, sym, ap, ◌∙◌, subst}
 use Rattle.std.specs.Prelude.{map}
-use Rattle.ctd_syntax.specs.Front.{AreNoProgram, HasTree, HasNoTree, IsRefusal, lexeme}
+use Rattle.ctd_syntax.specs.inner.Front.{AreNoProgram, HasTree, HasNoTree, IsRefusal, lexeme}
 use Rattle.ctd_syntax.specs.Grammar.{IsCommands}
-use Rattle.ctd_syntax.specs.CommandWords.{CommandsEnd}
-use Rattle.ctd_syntax.specs.Nesting.{start, too_deep, PassesLimitAt}
+use Rattle.ctd_syntax.specs.inner.CommandWords.{CommandsEnd}
+use Rattle.ctd_syntax.specs.Nesting.{start, PassesLimitAt}
+use Rattle.ctd_syntax.specs.inner.Nesting.{too_deep}
 use Rattle.ctd_syntax.specs.Reading.{Parses, lexemes}
-use Rattle.ctd_program.specs.View.{command_list, command_trees}
+use Rattle.ctd_program.specs.calls.View.{command_list, command_trees}
 use Rattle.ctd_program.proofs.Trees.{list_commands}
 use Rattle.ctd_syntax.proofs.RegexNumberLemmas.{reads_numbered}
 use Rattle.ctd_syntax.proofs.Parsing.{parsed, spelled_only, left_over, unspelled, of_any_cut, nothing, something}

@@ -1,7 +1,7 @@
 use Rattle.std.specs.Prelude.{map}
-use Rattle.ctd_syntax.specs.Front.{Always, IsBefore, lexeme}
+use Rattle.ctd_syntax.specs.inner.Front.{Always, IsBefore, lexeme}
 use Rattle.ctd_syntax.specs.Grammar.{IsTarget}
-use Rattle.ctd_syntax.specs.CommandWords.{IsCounter}
+use Rattle.ctd_syntax.specs.inner.CommandWords.{IsCounter}
 use Rattle.ctd_token.specs.declared.token.Mark.TheVariants.{Comma}
 use Rattle.ctd_syntax.proofs.Fronts.{refused_exit}
 use Rattle.ctd_syntax.proofs.CommandReads.{counter_reads, counter_none}

@@ -1,9 +1,9 @@
 use Rattle.std.proofs.Common.{arith}
 use Rattle.std.proofs.lemmas.Grind.{common_steps}
 use Rattle.std.specs.Prelude.{map}
-use Rattle.ctd_syntax.specs.Front.{Always, IsPair, lexeme}
-use Rattle.ctd_syntax.specs.TestGrammar.{test_ends}
-use Rattle.ctd_syntax.specs.CommandWords.{IsCounter, IsGuard}
+use Rattle.ctd_syntax.specs.inner.Front.{Always, IsPair, lexeme}
+use Rattle.ctd_syntax.specs.inner.TestGrammar.{test_ends}
+use Rattle.ctd_syntax.specs.inner.CommandWords.{IsCounter, IsGuard}
 use Rattle.ctd_token.specs.declared.token.Mark.TheVariants.{Open}
 use Rattle.ctd_syntax.proofs.Fronts.{after_reads, pair_reads}
 use Rattle.ctd_syntax.proofs.loop_head.loop_head.Goals as goal

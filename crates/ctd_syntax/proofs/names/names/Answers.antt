@@ -1,6 +1,6 @@
 use Rattle.std.proofs.Common.{◌≡◌, [], ◌∷◌, ◌++◌, ap, ◌∙◌, arith}
 use Rattle.std.specs.Prelude.{map}
-use Rattle.ctd_syntax.specs.Front.{lexeme}
+use Rattle.ctd_syntax.specs.inner.Front.{lexeme}
 use Rattle.ctd_syntax.proofs.Fronts.{name_found, name_none}
 use Rattle.ctd_syntax.proofs.Rows.{name_list, lists_start, lists_next, lists_no_next, lists_end, lists_unclosed}
 use Rattle.ctd_syntax.proofs.names.names.Goals as goal

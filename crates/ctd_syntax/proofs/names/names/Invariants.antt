@@ -1,6 +1,6 @@
 use Rattle.std.proofs.Common.{◌≤◌, length}
 use Rattle.std.specs.Prelude.{map}
-use Rattle.ctd_syntax.specs.Front.{lexeme, IsName}
+use Rattle.ctd_syntax.specs.inner.Front.{lexeme, IsName}
 use Rattle.ctd_token.specs.declared.token.Mark.TheVariants.{Close}
 use Rattle.ctd_syntax.proofs.Rows.{PartRow}
 use Rattle.ctd_syntax.proofs.names.names.Given as goal

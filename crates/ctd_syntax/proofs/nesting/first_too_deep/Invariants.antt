@@ -1,8 +1,9 @@
 use Rattle.std.proofs.Common.{◌≡◌, ◌≤◌, ◌+◌, ◌-◌, length, drop}
 use Rattle.std.specs.Prelude.{map, option_map}
-use Rattle.ctd_syntax.specs.Front.{lexeme}
+use Rattle.ctd_syntax.specs.inner.Front.{lexeme}
 use Rattle.ctd_token.specs.declared.limits.TheConstants.{NESTING_LIMIT}
-use Rattle.ctd_syntax.specs.Nesting.{start, weight, too_deep}
+use Rattle.ctd_syntax.specs.Nesting.{start, weight}
+use Rattle.ctd_syntax.specs.inner.Nesting.{too_deep}
 use Rattle.ctd_syntax.proofs.nesting.first_too_deep.Given as goal
 
 abbrev pub invariant-loop-n : goal.invariant-loop-n

@@ -4,8 +4,8 @@ use Rattle.std.proofs.lemmas.List.{map-append}
 use Rattle.std.proofs.lemmas.Result.{err_from_is_err_and}
 use Rattle.ctd_token.proofs.Cutting.{none_is}
 use Rattle.ctd_token.proofs.TokenFaults.{fault_is}
-use Rattle.ctd_syntax.specs.Front.{lexeme}
-use Rattle.ctd_syntax.specs.Batches.{IsNextSeen}
+use Rattle.ctd_syntax.specs.inner.Front.{lexeme}
+use Rattle.ctd_syntax.specs.inner.Batches.{IsNextSeen}
 use Rattle.ctd_syntax.proofs.TokensRead.{HasRead, more, finish}
 use Rattle.ctd_syntax.proofs.parser_token.parser_tokens.Goals as goal
 

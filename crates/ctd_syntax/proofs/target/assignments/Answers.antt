@@ -1,10 +1,10 @@
 use Rattle.std.proofs.Common.{◌≡◌, [], ◌∷◌, ◌++◌, ap, ◌∙◌, arith}
 use Rattle.std.proofs.lemmas.Grind.{common_steps}
 use Rattle.std.specs.Prelude.{map}
-use Rattle.ctd_syntax.specs.Front.{Always, IsBefore, IsAssignment, lexeme}
+use Rattle.ctd_syntax.specs.inner.Front.{Always, IsBefore, IsAssignment, lexeme}
 use Rattle.ctd_syntax.specs.Grammar.{IsAssignments}
-use Rattle.ctd_syntax.specs.Levels.{ends}
-use Rattle.ctd_program.specs.View.{assignment}
+use Rattle.ctd_syntax.specs.inner.Levels.{ends}
+use Rattle.ctd_program.specs.calls.View.{assignment}
 use Rattle.ctd_token.specs.declared.token.Mark.TheVariants.{Close}
 use Rattle.ctd_syntax.proofs.Fronts.{refused_exit}
 use Rattle.std.proofs.lemmas.List.{map-append}

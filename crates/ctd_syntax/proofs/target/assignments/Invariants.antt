@@ -1,7 +1,7 @@
 use Rattle.std.proofs.Common.{◌≤◌, length}
 use Rattle.std.specs.Prelude.{map}
-use Rattle.ctd_syntax.specs.Front.{lexeme, IsAssignment}
-use Rattle.ctd_program.specs.View.{assignment}
+use Rattle.ctd_syntax.specs.inner.Front.{lexeme, IsAssignment}
+use Rattle.ctd_program.specs.calls.View.{assignment}
 use Rattle.ctd_token.specs.declared.token.Mark.TheVariants.{Close}
 use Rattle.ctd_syntax.proofs.Rows.{PartRow}
 use Rattle.ctd_syntax.proofs.target.assignments.Given as goal

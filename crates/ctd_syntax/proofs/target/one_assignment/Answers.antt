@@ -1,7 +1,7 @@
 use Rattle.std.specs.Prelude.{map}
-use Rattle.ctd_syntax.specs.Front.{Always, IsBefore, IsAssignment, lexeme}
+use Rattle.ctd_syntax.specs.inner.Front.{Always, IsBefore, IsAssignment, lexeme}
 use Rattle.ctd_syntax.specs.Grammar.{IsExpr, IsTarget}
-use Rattle.ctd_syntax.specs.Levels.{ends}
+use Rattle.ctd_syntax.specs.inner.Levels.{ends}
 use Rattle.ctd_token.specs.declared.token.Mark.TheVariants.{Assign}
 use Rattle.ctd_syntax.proofs.Fronts.{refused_as, refused_exit}
 use Rattle.ctd_syntax.proofs.Targets.{assignment_reads, assignment_no_target, assignment_no_value}

@@ -1,9 +1,9 @@
 use Rattle.std.proofs.Common.{arith}
 use Rattle.std.proofs.lemmas.Grind.{common_steps}
 use Rattle.std.specs.Prelude.{map}
-use Rattle.ctd_syntax.specs.Front.{lexeme}
+use Rattle.ctd_syntax.specs.inner.Front.{lexeme}
 use Rattle.ctd_syntax.specs.Grammar.{IsTarget}
-use Rattle.ctd_syntax.specs.Levels.{ends}
+use Rattle.ctd_syntax.specs.inner.Levels.{ends}
 use Rattle.ctd_syntax.proofs.Fronts.{before_reads}
 use Rattle.ctd_syntax.proofs.target.target_before.Goals as goal
 

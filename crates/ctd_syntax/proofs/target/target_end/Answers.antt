@@ -1,5 +1,5 @@
 use Rattle.std.specs.Prelude.{map}
-use Rattle.ctd_syntax.specs.Front.{Always, IsBefore, lexeme}
+use Rattle.ctd_syntax.specs.inner.Front.{Always, IsBefore, lexeme}
 use Rattle.ctd_syntax.specs.Grammar.{IsTarget, IsTargetEnd}
 use Rattle.ctd_token.specs.declared.token.Mark.TheVariants.{Close}
 use Rattle.ctd_syntax.proofs.Fronts.{refused_exit}

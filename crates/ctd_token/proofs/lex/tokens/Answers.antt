@@ -1,7 +1,7 @@
 use Rattle.std.proofs.Common.{sym, subst}
 use Rattle.std.specs.Prelude.{IfSome}
 use Rattle.std.proofs.lemmas.Result.{err_from_is_err_and}
-use Rattle.ctd_token.specs.Lexing.{IsNext}
+use Rattle.ctd_token.specs.calls.Lexing.{IsNext}
 use Rattle.ctd_token.proofs.Cutting.{Cutting, finish, more, none_is}
 use Rattle.ctd_token.proofs.TokenFaults.{fault_is}
 use Rattle.ctd_token.proofs.lex.tokens.Goals as goal

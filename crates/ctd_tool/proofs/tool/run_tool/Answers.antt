@@ -1,5 +1,5 @@
 use Rattle.std.proofs.Common.{refl}
-use Rattle.ctd_program.specs.View.{command_trees}
+use Rattle.ctd_program.specs.calls.View.{command_trees}
 use Rattle.ctd_report.specs.Report.{check_report, load_report}
 use Rattle.ctd_report.proofs.WrittenLemmas.{Leaves-LeavesOneOf}
 use Rattle.ctd_tool.proofs.HeadlineLemmas.{loads_few, gave_none, reports_meaning, reports_fault}

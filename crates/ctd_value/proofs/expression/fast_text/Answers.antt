@@ -1,5 +1,6 @@
 use Rattle.std.proofs.Common.{◌≡◌, Ok, IfSome, ap, sym, ◌∙◌, subst}
-use Rattle.ctd_program.specs.View.{element_tree, expr_tree}
+use Rattle.ctd_program.specs.inner.View.{element_tree}
+use Rattle.ctd_program.specs.calls.View.{expr_tree}
 use Rattle.ctd_program.proofs.Trees.{boxed_element}
 use Rattle.ctd_store.specs.declared.value.Value.TheVariants as values
 use Rattle.ctd_value.specs.Val.{val}

@@ -1,6 +1,6 @@
 use Rattle.std.proofs.Common.{ap, ◌∙◌, Err}
 use Rattle.std.proofs.lemmas.Result.{err_from_is_err_and}
-use Rattle.ctd_program.specs.View.{expr_tree}
+use Rattle.ctd_program.specs.calls.View.{expr_tree}
 use Rattle.ctd_value.specs.Val.{val}
 use Rattle.ctd_value.proofs.Ordinary.{value_is, no_count, no_shape}
 use Rattle.ctd_value.proofs.expression.text_of.Goals as goal

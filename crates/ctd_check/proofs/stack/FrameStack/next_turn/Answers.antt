@@ -1,7 +1,7 @@
 use Rattle.std.proofs.Common.{refl, ap, sym, ◌∙◌, subst, List, length, arith}
 use Rattle.std.proofs.lemmas.Grind.{common_steps}
 use Rattle.ctd_check.specs.declared.frame.Frame.{Frame}
-use Rattle.ctd_check.specs.FrameTasks.{to_do, Fits}
+use Rattle.ctd_check.specs.inner.FrameTasks.{to_do, Fits}
 use Rattle.ctd_check.proofs.Turns.{turn_before_last, refilled}
 use Rattle.ctd_check.proofs.stack.FrameStack.next_turn.Goals as goal
 

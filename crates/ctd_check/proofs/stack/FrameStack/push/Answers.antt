@@ -1,4 +1,4 @@
-use Rattle.ctd_check.specs.FrameTasks.{Fits}
+use Rattle.ctd_check.specs.inner.FrameTasks.{Fits}
 use Rattle.ctd_check.specs.declared.frame.Frame.{Frame}
 use Rattle.std.proofs.Common.{List, subst, sym}
 use Rattle.ctd_check.proofs.Stacks.{fits_push, to_do_push}

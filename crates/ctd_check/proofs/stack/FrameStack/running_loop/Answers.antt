@@ -1,6 +1,6 @@
 use Rattle.std.proofs.Common.{ap, sym, ◌∙◌, arith}
 use Rattle.std.proofs.lemmas.Grind.{common_steps}
-use Rattle.ctd_check.specs.FrameTasks.{top_loop}
+use Rattle.ctd_check.specs.inner.FrameTasks.{top_loop}
 use Rattle.ctd_check.proofs.Turns.{top_seen, loop_room}
 use Rattle.ctd_check.proofs.stack.FrameStack.running_loop.Goals as goal
 

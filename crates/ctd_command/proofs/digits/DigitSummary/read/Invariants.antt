@@ -1,7 +1,7 @@
 use Rattle.std.proofs.Common.{◌≡◌, ◌+◌, ◌++◌, ℕ, List, take, drop}
 use Rattle.std.specs.List.{prefix_len}
 use Rattle.std.specs.Char.{is_ascii_digit}
-use Rattle.ctd_command.specs.Summaries.{Summarizes}
+use Rattle.ctd_command.specs.inner.Summaries.{Summarizes}
 use Rattle.ctd_command.proofs.digits.DigitSummary.read.Given as goal
 
 abbrev pub invariant-loop-byte : goal.invariant-loop-byte

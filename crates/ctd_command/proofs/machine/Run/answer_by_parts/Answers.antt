@@ -1,5 +1,5 @@
 use Rattle.std.proofs.Common.{ap, Err}
-use Rattle.ctd_program.specs.View.{test_tree}
+use Rattle.ctd_program.specs.calls.View.{test_tree}
 use Rattle.ctd_command.proofs.Acts.{answers_as}
 use Rattle.ctd_command.proofs.Telling.{answered, unanswered}
 use Rattle.ctd_command.proofs.machine.Run.answer_by_parts.Goals as goal

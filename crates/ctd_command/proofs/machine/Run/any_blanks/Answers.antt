@@ -1,5 +1,5 @@
 use Rattle.ctd_source.proofs.AdvanceLemmas.{advances_so}
-use Rattle.ctd_command.specs.Performs.{state}
+use Rattle.ctd_command.specs.calls.Performs.{state}
 use Rattle.ctd_command.proofs.Acts.{stopped_by}
 use Rattle.ctd_command.proofs.Skipping.{skips, skips_to_fault}
 use Rattle.ctd_command.proofs.machine.Run.any_blanks.Goals as goal

@@ -3,7 +3,7 @@ use Rattle.std.proofs.lemmas.Int.{to_z-of_z}
 use Rattle.std.specs.Int.{w128}
 use Rattle.ctd_source.proofs.AdvanceLemmas.{advances_so, advances_both}
 use Rattle.ctd_command.specs.Commands.{decide}
-use Rattle.ctd_command.specs.Performs.{state}
+use Rattle.ctd_command.specs.calls.Performs.{state}
 use Rattle.ctd_command.proofs.Acts.{stopped_by, answers_as}
 use Rattle.ctd_command.proofs.Integers.{passed, integer_faulty, integer_unseen, integer_judged}
 use Rattle.ctd_command.proofs.machine.Run.any_integer.Goals as goal

@@ -1,6 +1,6 @@
 use Rattle.std.proofs.Common.{sym}
 use Rattle.std.proofs.lemmas.Option.{IfSome_then}
-use Rattle.ctd_program.specs.View.{test_tree}
+use Rattle.ctd_program.specs.calls.View.{test_tree}
 use Rattle.ctd_command.proofs.Telling.{answered_in_front}
 use Rattle.ctd_command.proofs.machine.Run.buffered_answer.Goals as goal
 

@@ -1,5 +1,5 @@
 use Rattle.std.proofs.lemmas.Option.{IfSome_then}
-use Rattle.ctd_program.specs.View.{test_tree}
+use Rattle.ctd_program.specs.calls.View.{test_tree}
 use Rattle.ctd_command.proofs.Telling.{answered_at_once}
 use Rattle.ctd_command.proofs.machine.Run.fast_answer.Goals as goal
 

@@ -1,6 +1,6 @@
 use Rattle.std.proofs.Common.{Ok, ap}
 use Rattle.std.proofs.lemmas.Option.{IfSome_then}
-use Rattle.ctd_program.specs.View.{expr_tree}
+use Rattle.ctd_program.specs.calls.View.{expr_tree}
 use Rattle.ctd_value.specs.Fault.{◌>>=◌, with_fault}
 use Rattle.ctd_value.specs.Val.{number, number_of}
 use Rattle.ctd_command.specs.State.{fault_of_value}

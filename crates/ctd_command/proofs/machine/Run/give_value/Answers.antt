@@ -1,4 +1,4 @@
-use Rattle.ctd_program.specs.View.{expr_tree, var_tree}
+use Rattle.ctd_program.specs.calls.View.{expr_tree, var_tree}
 use Rattle.ctd_command.proofs.Assignments.{expression_set, expression_not_set}
 use Rattle.ctd_command.proofs.machine.Run.give_value.Goals as goal
 

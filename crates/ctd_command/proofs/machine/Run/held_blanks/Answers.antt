@@ -1,10 +1,10 @@
 use Rattle.std.proofs.Common.{◌<◌, length, refl, ◌∙◌, arith}
 use Rattle.std.specs.List.{prefix_len}
 use Rattle.std.proofs.lemmas.List.Sums.{prefix_len-le-length}
-use Rattle.ctd_source.specs.CursorCalls.{state_of}
+use Rattle.ctd_source.specs.calls.CursorCalls.{state_of}
 use Rattle.ctd_source.proofs.AdvanceLemmas.{advances_so, advances_moving}
 use Rattle.ctd_command.specs.Blanks.{is_blank}
-use Rattle.ctd_command.specs.Performs.{state}
+use Rattle.ctd_command.specs.calls.Performs.{state}
 use Rattle.ctd_command.proofs.HeldBlanks.{blanks_in_line, blanks_skipped, blanks_some}
 use Rattle.ctd_command.proofs.machine.Run.held_blanks.Goals as goal
 

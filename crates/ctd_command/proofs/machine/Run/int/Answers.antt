@@ -2,9 +2,9 @@ use Rattle.std.proofs.Common.{rules, refl, ◌∙◌, Ok}
 use Rattle.std.proofs.lemmas.Int.{to_z-of_z}
 use Rattle.std.specs.Int.{w128}
 use Rattle.ctd_source.proofs.AdvanceLemmas.{advances_so, advances_moving}
-use Rattle.ctd_source.specs.CursorCalls.{state_of}
+use Rattle.ctd_source.specs.calls.CursorCalls.{state_of}
 use Rattle.ctd_command.specs.Commands.{integer}
-use Rattle.ctd_command.specs.Performs.{Performs, state}
+use Rattle.ctd_command.specs.calls.Performs.{Performs, state}
 use Rattle.ctd_command.proofs.Acts.{and_then, with_cursor}
 use Rattle.ctd_command.proofs.HeldIntegers.{integer_in_line, front_read}
 use Rattle.ctd_command.proofs.machine.Run.int.Goals as goal

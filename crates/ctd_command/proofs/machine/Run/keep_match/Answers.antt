@@ -1,5 +1,5 @@
 use Rattle.std.proofs.Common.{ap, refl, take, List, ℕ, Err}
-use Rattle.ctd_program.specs.View.{var_tree}
+use Rattle.ctd_program.specs.calls.View.{var_tree}
 use Rattle.ctd_store.specs.declared.value.Value.TheVariants.{Text}
 use Rattle.ctd_command.specs.Commands.{set_to}
 use Rattle.ctd_command.specs.Regex.{matched, shorter_match}

@@ -1,10 +1,10 @@
 use Rattle.std.proofs.Common.{◌+◌, drop, map, ap, ◌∙◌, arith}
 use Rattle.std.proofs.lemmas.List.{drop_all}
 use Rattle.ctd_source.proofs.AdvanceLemmas.{advances_so, advances_both}
-use Rattle.ctd_program.specs.View.{assignment}
+use Rattle.ctd_program.specs.calls.View.{assignment}
 use Rattle.ctd_command.specs.State.{proceed}
 use Rattle.ctd_command.specs.Commands.{set}
-use Rattle.ctd_command.specs.Performs.{state}
+use Rattle.ctd_command.specs.calls.Performs.{state}
 use Rattle.ctd_command.proofs.Acts.{performs_after, early_by, given}
 use Rattle.ctd_command.proofs.Lists.{left_at}
 use Rattle.ctd_command.proofs.machine.Run.set.Goals as goal

@@ -1,8 +1,8 @@
 use Rattle.std.proofs.Common.{◌≡◌, drop, map}
-use Rattle.ctd_source.specs.Received.{AdvancesSuchThat}
-use Rattle.ctd_program.specs.View.{assignment}
+use Rattle.ctd_source.specs.calls.Received.{AdvancesSuchThat}
+use Rattle.ctd_program.specs.calls.View.{assignment}
 use Rattle.ctd_command.specs.Commands.{set}
-use Rattle.ctd_command.specs.Performs.{IsSound, state}
+use Rattle.ctd_command.specs.calls.Performs.{IsSound, state}
 use Rattle.ctd_command.proofs.machine.Run.set.Given as goal
 
 -- the assignments that are left are what is left of all

@@ -1,7 +1,7 @@
 use Rattle.std.proofs.Common.{rules}
 use Rattle.std.proofs.lemmas.Int.{to_z-of_z}
 use Rattle.std.specs.Int.{w128}
-use Rattle.ctd_program.specs.View.{var_tree}
+use Rattle.ctd_program.specs.calls.View.{var_tree}
 use Rattle.ctd_store.specs.declared.value.Value.TheVariants as values
 use Rattle.ctd_command.proofs.Assignments.{variable_set, variable_not_set}
 use Rattle.ctd_command.proofs.machine.Run.set_to_number.Goals as goal

@@ -1,9 +1,9 @@
 use Rattle.std.proofs.Common.{Ok, Err, ap}
-use Rattle.ctd_program.specs.View.{expr_tree}
+use Rattle.ctd_program.specs.calls.View.{expr_tree}
 use Rattle.ctd_value.specs.Fault.{with_fault}
 use Rattle.ctd_value.specs.Val.{text_of}
 use Rattle.ctd_command.specs.Commands.{match_bytes}
-use Rattle.ctd_command.specs.Failures.{failure_of}
+use Rattle.ctd_command.specs.calls.Failures.{failure_of}
 use Rattle.ctd_command.specs.State.{fault_of_value}
 use Rattle.ctd_command.proofs.Acts.{and_then, early_by, evaluated}
 use Rattle.ctd_command.proofs.Telling.{tells_fault}

@@ -1,7 +1,7 @@
 use Rattle.std.proofs.Common.{◌≡◌, ◌+◌, ◌||◌, ◌∷◌, ap, sym, ◌∙◌, drop}
 use Rattle.std.specs.List.{list_any}
 use Rattle.ctd_store.specs.Order.{same_bytes}
-use Rattle.ctd_findings.specs.Listed.{names_at}
+use Rattle.ctd_findings.specs.inner.Listed.{names_at}
 use Rattle.ctd_findings.proofs.NameSets.{any_moved, is_name, name_first}
 use Rattle.ctd_findings.proofs.name_set.NameSet.of.Goals as goal
 

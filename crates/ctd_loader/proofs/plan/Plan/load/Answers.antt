@@ -1,5 +1,5 @@
 use Rattle.std.proofs.Common.{rules}
-use Rattle.ctd_program.specs.View.{command_trees}
+use Rattle.ctd_program.specs.calls.View.{command_trees}
 use Rattle.ctd_loader.proofs.Loads.{wants_memory}
 use Rattle.ctd_loader.proofs.plan.Plan.load.Goals as goal
 

@@ -1,5 +1,5 @@
 use Rattle.std.proofs.Common.{subst}
-use Rattle.ctd_program.specs.View.{command_trees}
+use Rattle.ctd_program.specs.calls.View.{command_trees}
 use Rattle.ctd_syntax.specs.RegexNumbers.{literals}
 use Rattle.ctd_loader.specs.Loading.{ArePatterns}
 use Rattle.ctd_loader.proofs.plan.Plan.read.Goals as goal

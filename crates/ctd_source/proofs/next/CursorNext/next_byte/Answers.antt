@@ -1,5 +1,5 @@
 use Rattle.std.proofs.Common.{rules}
-use Rattle.ctd_source.specs.ReadingOn.{GivesByte-Peeks}
+use Rattle.ctd_source.specs.inner.ReadingOn.{GivesByte-Peeks}
 use Rattle.ctd_source.proofs.next.CursorNext.next_byte.Goals as goal
 
 pub returns-clause-answer : goal.returns-clause-answer

@@ -1,6 +1,6 @@
 use Rattle.std.proofs.Common.{ap, ◌∙◌}
 use Rattle.std.specs.List.{fold}
-use Rattle.ctd_source.specs.TestData.{spot_after}
+use Rattle.ctd_source.specs.inner.TestData.{spot_after}
 use Rattle.ctd_source.proofs.Counted.{runs_in_line}
 use Rattle.ctd_source.proofs.running_spot.RunningSpot.pass_in_line.Goals as goal
 

@@ -1,8 +1,10 @@
 use Rattle.std.proofs.Common.{[], ◌++◌, map, ap, sym, subst, ◌∙◌}
 use Rattle.std.proofs.lemmas.Result.{on_ok_weaker}
 use Rattle.std.specs.Option.{option_copied, unwrap_or}
-use Rattle.ctd_store.specs.Showing.{entry, visible_entries}
-use Rattle.ctd_store.specs.Store.{Array, with_scalar}
+use Rattle.ctd_store.specs.calls.Showing.{entry}
+use Rattle.ctd_store.specs.inner.Showing.{visible_entries}
+use Rattle.ctd_store.specs.Store.{Array}
+use Rattle.ctd_store.specs.calls.Store.{with_scalar}
 use Rattle.ctd_store.proofs.Scalar.{added_scalar, scalar_each_once}
 use Rattle.ctd_store.proofs.Firsts.{HasEachOnce}
 use Rattle.ctd_store.proofs.array.Array.add_entries.Goals as goal

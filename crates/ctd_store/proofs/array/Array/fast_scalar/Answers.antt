@@ -1,6 +1,6 @@
 use Rattle.std.proofs.Common.{◌≡◌, Some, IfSome, sym, subst}
 use Rattle.std.specs.FinMap.{find}
-use Rattle.ctd_store.specs.Index.{indices_at}
+use Rattle.ctd_store.specs.calls.Index.{indices_at}
 use Rattle.ctd_store.specs.Order.{values_cmp}
 use Rattle.ctd_store.proofs.Scalar.{scalar_told}
 use Rattle.ctd_store.proofs.array.Array.fast_scalar.Goals as goal

@@ -1,6 +1,7 @@
 use Rattle.std.proofs.Common.{◌≡◌, Some, IfSome, ap, sym, subst, ◌∙◌}
 use Rattle.std.specs.FinMap.{find}
-use Rattle.ctd_store.specs.Index.{indices_at, HasIndices}
+use Rattle.ctd_store.specs.calls.Index.{indices_at}
+use Rattle.ctd_store.specs.inner.Index.{HasIndices}
 use Rattle.ctd_store.specs.Order.{values_cmp}
 use Rattle.ctd_store.proofs.Scalar.{found_indexed, scalar_told}
 use Rattle.ctd_store.proofs.Rows.{if_some_weaker}

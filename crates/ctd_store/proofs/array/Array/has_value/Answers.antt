@@ -1,7 +1,7 @@
 use Rattle.std.proofs.Common.{[], true, false, ap, sym, subst, ◌∙◌}
 use Rattle.std.specs.Option.{option_copied, unwrap_or}
-use Rattle.ctd_store.specs.ValueRef.{value_of_ref}
-use Rattle.ctd_store.specs.Store.{with_scalar}
+use Rattle.ctd_store.specs.calls.ValueRef.{value_of_ref}
+use Rattle.ctd_store.specs.calls.Store.{with_scalar}
 use Rattle.ctd_store.proofs.Scalar.{scalar_each_once}
 use Rattle.ctd_store.proofs.Firsts.{HasEachOnce}
 use Rattle.ctd_store.proofs.Members.{looked_scalar}

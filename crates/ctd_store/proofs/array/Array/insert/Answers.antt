@@ -1,10 +1,10 @@
 use Rattle.std.proofs.Common.{ap, sym, ◌∙◌}
 use Rattle.std.proofs.lemmas.Result.{on_ok_weaker}
 use Rattle.std.specs.FinMap.{put}
-use Rattle.ctd_store.specs.Index.{indices_at}
+use Rattle.ctd_store.specs.calls.Index.{indices_at}
 use Rattle.ctd_store.specs.Order.{values_cmp}
-use Rattle.ctd_store.specs.Store.{cell, slot, with_scalar}
-use Rattle.ctd_store.specs.ValueRef.{value_of_ref}
+use Rattle.ctd_store.specs.calls.Store.{cell, slot, with_scalar}
+use Rattle.ctd_store.specs.calls.ValueRef.{value_of_ref}
 use Rattle.ctd_store.proofs.Scalar.{written_scalar, written_indexed, indexed_after}
 use Rattle.ctd_store.proofs.array.Array.insert.Goals as goal
 

@@ -2,8 +2,8 @@ use Rattle.std.proofs.Common.{ap, sym, ◌∙◌}
 use Rattle.std.proofs.lemmas.Result.{on_ok_weaker}
 use Rattle.std.specs.FinMap.{put}
 use Rattle.ctd_store.specs.Order.{values_cmp}
-use Rattle.ctd_store.specs.Store.{with_scalar}
-use Rattle.ctd_store.specs.ValueRef.{value_of_ref}
+use Rattle.ctd_store.specs.calls.Store.{with_scalar}
+use Rattle.ctd_store.specs.calls.ValueRef.{value_of_ref}
 use Rattle.ctd_store.proofs.Scalar.{is_empty, has_indices, written_scalar, written_indexed, indexed_after}
 use Rattle.ctd_store.proofs.array.Array.insert_by_list.Goals as goal
 

@@ -1,9 +1,9 @@
 use Rattle.std.proofs.Common.{◌≡◌, ap, ◌∙◌, ◌+◌, length, Result, Ok, Err, OnErr, arith}
 use Rattle.std.specs.FinMap.{put}
-use Rattle.ctd_store.specs.Grid.{grid}
+use Rattle.ctd_store.specs.calls.Grid.{grid}
 use Rattle.ctd_store.specs.Order.{values_cmp}
-use Rattle.ctd_store.specs.Store.{cell}
-use Rattle.ctd_store.specs.ValueRef.{value_of_ref}
+use Rattle.ctd_store.specs.calls.Store.{cell}
+use Rattle.ctd_store.specs.calls.ValueRef.{value_of_ref}
 use Rattle.ctd_store.proofs.Gridded.{begun}
 use Rattle.ctd_store.proofs.grid.Grid.begin_row.Goals as goal
 

@@ -1,9 +1,9 @@
 use Rattle.std.proofs.Common.{◌≡◌, ◌∙◌, ◌+◌, ◌<◌, ◌≤◌, length, Result, Ok, Err, OnErr, refl, arith}
 use Rattle.std.specs.Prelude.{◌-◌}
 use Rattle.std.specs.FinMap.{put}
-use Rattle.ctd_store.specs.ValueRef.{value_of_ref}
+use Rattle.ctd_store.specs.calls.ValueRef.{value_of_ref}
 use Rattle.ctd_store.specs.Order.{values_cmp}
-use Rattle.ctd_store.specs.Store.{cell}
+use Rattle.ctd_store.specs.calls.Store.{cell}
 use Rattle.ctd_store.proofs.Gridded.{unchanged_in_grid, written_in_grid}
 use Rattle.ctd_store.proofs.grid.Grid.insert_in_row.Goals as goal
 

@@ -1,10 +1,10 @@
 use Rattle.std.proofs.Common.{ap, ◌∙◌, arith}
 use Rattle.std.proofs.lemmas.Result.{on_ok_weaker}
 use Rattle.std.specs.FinMap.{put}
-use Rattle.ctd_store.specs.Index.{indices_at}
-use Rattle.ctd_store.specs.ValueRef.{value_of_ref}
+use Rattle.ctd_store.specs.calls.Index.{indices_at}
+use Rattle.ctd_store.specs.calls.ValueRef.{value_of_ref}
 use Rattle.ctd_store.specs.Order.{values_cmp}
-use Rattle.ctd_store.specs.Store.{overlay_row}
+use Rattle.ctd_store.specs.calls.Store.{overlay_row}
 use Rattle.ctd_store.proofs.Overlay.{begun, written_at, written_elsewhere}
 use Rattle.ctd_store.proofs.Maps.{seen}
 use Rattle.ctd_store.proofs.row_and_map.RowAndMap.insert.Goals as goal

@@ -1,8 +1,8 @@
 use Rattle.std.proofs.Common.{IsTrue, ap, subst}
 use Rattle.std.proofs.lemmas.Result.{on_ok_weaker}
-use Rattle.ctd_store.specs.Index.{indices_at}
-use Rattle.ctd_store.specs.ValueRef.{value_of_ref}
-use Rattle.ctd_store.specs.Slot.{pins_in, values_in}
+use Rattle.ctd_store.specs.calls.Index.{indices_at}
+use Rattle.ctd_store.specs.calls.ValueRef.{value_of_ref}
+use Rattle.ctd_store.specs.calls.Slot.{pins_in, values_in}
 use Rattle.ctd_store.specs.Store.{has_indices}
 use Rattle.ctd_store.proofs.Slots.{lent_name, still_placed, array_found, assigned_here}
 use Rattle.ctd_store.proofs.store.Store.assign_at.Goals as goal

@@ -1,11 +1,12 @@
 use Rattle.std.proofs.Common.{◌≡◌, ◌≢◌, ℕ, [], ◌∷◌, None, Some, IsTrue, ap, subst}
 use Rattle.std.proofs.lemmas.Result.{on_ok_weaker}
 use Rattle.std.specs.FinMap.{find}
-use Rattle.ctd_store.specs.Index.{indices_at}
+use Rattle.ctd_store.specs.calls.Index.{indices_at}
 use Rattle.ctd_store.specs.declared.slot.Slot.{Slot}
-use Rattle.ctd_store.specs.ValueRef.{value_of_ref}
+use Rattle.ctd_store.specs.calls.ValueRef.{value_of_ref}
 use Rattle.ctd_store.specs.Order.{bytes_cmp}
-use Rattle.ctd_store.specs.Slot.{name_in, pins_in, values_in}
+use Rattle.ctd_store.specs.inner.Slot.{name_in}
+use Rattle.ctd_store.specs.calls.Slot.{pins_in, values_in}
 use Rattle.ctd_store.specs.Store.{has_indices}
 use Rattle.ctd_store.proofs.Slots.{lent_name, still_placed, array_found, assigned_here, all_placed, missing_in, assigned_behind, none_pinned}
 use Rattle.ctd_store.proofs.store.Store.assign_by_search.Goals as goal

@@ -1,6 +1,6 @@
 use Rattle.std.proofs.Common.{[], refl}
 use Rattle.std.specs.Option.{option_copied, unwrap_or}
-use Rattle.ctd_store.specs.ValueRef.{value_of_ref}
+use Rattle.ctd_store.specs.calls.ValueRef.{value_of_ref}
 use Rattle.ctd_store.proofs.Members.{in_pins, in_assigned}
 use Rattle.ctd_store.proofs.store.Store.has_value.Goals as goal
 

@@ -2,10 +2,11 @@ use Rattle.std.proofs.Common.{◌≡◌, ◌≢◌, ℕ, [], ◌∷◌, Some, su
 use Rattle.std.proofs.lemmas.Result.{on_ok_weaker}
 use Rattle.std.specs.FinMap.{find}
 use Rattle.ctd_store.specs.declared.slot.Slot.{Slot}
-use Rattle.ctd_store.specs.Index.{indices_at}
-use Rattle.ctd_store.specs.ValueRef.{value_of_ref}
+use Rattle.ctd_store.specs.calls.Index.{indices_at}
+use Rattle.ctd_store.specs.calls.ValueRef.{value_of_ref}
 use Rattle.ctd_store.specs.Order.{bytes_cmp}
-use Rattle.ctd_store.specs.Slot.{name_in, pins_in, values_in}
+use Rattle.ctd_store.specs.inner.Slot.{name_in}
+use Rattle.ctd_store.specs.calls.Slot.{pins_in, values_in}
 use Rattle.ctd_store.proofs.Slots.{lent_name, still_placed, all_placed, pinned_here, pinned_behind}
 use Rattle.ctd_store.proofs.store.Store.pin_at.Goals as goal
 

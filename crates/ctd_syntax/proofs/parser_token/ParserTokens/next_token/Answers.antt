@@ -1,6 +1,6 @@
 use Rattle.std.proofs.Common.{subst}
 use Rattle.std.specs.Prelude.{IfSome}
-use Rattle.ctd_token.specs.Lexing.{IsNext}
+use Rattle.ctd_token.specs.calls.Lexing.{IsNext}
 use Rattle.ctd_syntax.proofs.TokensRead.{spelled}
 use Rattle.ctd_syntax.proofs.parser_token.ParserTokens.next_token.Goals as goal
 

@@ -2,8 +2,8 @@ use Rattle.std.proofs.lemmas.Grind.{common_steps}
 use Rattle.std.proofs.Common.{◌≡◌, ℕ, ◌+◌, ◌<◌, ◌≤◌, List, length, drop, false, Err, sym, ap, ◌∙◌, subst, drop-drop, arith, rules}
 use Rattle.std.proofs.lemmas.List.{take_rest}
 use Rattle.ctd_token.specs.Cut.{token_at, skip_gap}
-use Rattle.ctd_token.specs.Scanning.{Scans}
-use Rattle.ctd_token.specs.Lexing.{IsNextFault}
+use Rattle.ctd_token.specs.calls.Scanning.{Scans}
+use Rattle.ctd_token.specs.calls.Lexing.{IsNextFault}
 use Rattle.ctd_token.proofs.Cutting.{gap_end, next_fault}
 use Rattle.ctd_token.proofs.lex.Lexer.next_token.Goals as goal
 

@@ -1,0 +1,11 @@
+-- The run of a program as a list of tasks, one step for each.
+-- Of this, what only the contracts of single calls and laws say.
+use Rattle.std.specs.Prelude.{◌≡◌}
+use Rattle.ctd_outcome.specs.declared.outcome.Checked.{Checked}
+use Rattle.ctd_check.specs.Run.{Meaning}
+
+-- a check found this
+pub record Finds (checked : Checked) (m : Meaning) : Type 0 where
+  pub outcome : checked.outcome ≡ m.outcome
+  pub steps : checked.steps ≡ m.steps
+  pub consumed : checked.consumed ≡ m.consumed

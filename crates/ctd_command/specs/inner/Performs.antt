@@ -1,0 +1,38 @@
+-- What each method of a run ensures.
+use Rattle.std.specs.Prelude.{◌≡◌, true, ℤ, int_le, Result, Ok, Err}
+use Rattle.ctd_source.specs.declared.source.Source.{Ghosts}
+use Rattle.ctd_source.specs.TestData.{TestData}
+use Rattle.ctd_program.specs.Tree.{ExprTree}
+use Rattle.ctd_value.specs.Val.{number_of}
+use Rattle.ctd_command.specs.declared.machine.Run.{Run}
+use Rattle.ctd_outcome.specs.declared.reason.Fault.{Fault}
+use Rattle.ctd_command.specs.declared.failure.CommandFailure.{CommandFailure}
+use Rattle.ctd_command.specs.declared.failure.Failure.TheVariants.{Rejected, Stopped, Memory}
+use Rattle.ctd_command.specs.State.{State, Act, evaluate}
+use Rattle.ctd_command.specs.calls.Performs.{Does, Performs}
+
+-- a result, with what its answer stands for in place of the answer
+abbrev pub answering : {A B E : Type 0} → (A → B) → Result A E → Result B E
+answering f (Ok x) = Ok (f x)
+answering f (Err e) = Err e
+
+-- a call that looks at no data and leaves all as it is did this, whatever the data and the state
+abbrev pub AlwaysDoes : {A : Type 0} → Result A CommandFailure → Act A → Type 0
+AlwaysDoes r act = (d : TestData) (s : State) → Does r s (act d s)
+
+-- a call that looks at no data answered this
+abbrev pub Tells : {A : Type 0} → Result A CommandFailure → Result A Fault → Type 0
+Tells (Ok x) meant = meant ≡ Ok x
+Tells (Err (Rejected reason)) meant = ⊥
+Tells (Err (Stopped fault)) meant = meant ≡ Err fault
+Tells (Err Memory) meant = Unit {0}
+
+module _ {R : Type 0} {G : Ghosts R} where
+  -- these expressions are numbers, and the value lies between them
+  pub record IsBetween (r : Run R G) (value : ℤ) (low high : ExprTree) : Type 0 where
+    pub least : ℤ
+    pub most : ℤ
+    pub low_is : Performs r r (Ok least) (evaluate (number_of low))
+    pub high_is : Performs r r (Ok most) (evaluate (number_of high))
+    pub above : int_le least value ≡ true
+    pub below : int_le value most ≡ true

@@ -1,0 +1,3 @@
+-- What else the contracts of public calls say.
+pub mod Buffers
+pub mod InMemory

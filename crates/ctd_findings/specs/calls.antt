@@ -1,0 +1,6 @@
+-- What else the contracts of public calls say.
+pub mod Block
+pub mod Names
+pub mod Literal
+pub mod Outline
+pub mod Findings

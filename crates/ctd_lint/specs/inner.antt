@@ -1,0 +1,4 @@
+-- What only the proofs of this crate use.
+pub mod CommandLine
+pub mod Report
+pub mod FileReport

@@ -1,0 +1,32 @@
+-- What is reported of a file, and of words that name none.
+use Rattle.ctd_lint.specs.declared.command_line.LintFault.TheVariants as faults
+use Rattle.std.specs.Prelude.{◌≡◌, ◌⊎◌, ℕ, List, codes}
+use Rattle.ctd_source.specs.declared.source.Source.{Ghosts}
+use Rattle.ctd_report.specs.Report.{Report, on_err, on_out, open_report}
+use Rattle.ctd_lint.specs.declared.command_line.LintSetup.{LintSetup}
+use Rattle.ctd_lint.specs.declared.command_line.LintFault.{LintFault}
+use Rattle.ctd_lint.specs.inner.Report.{Call, IsLintReport}
+
+-- the report of what some source gave
+abbrev pub IsFileReport : {P : Type 0} → Ghosts P → LintSetup → Report → Type 0
+IsFileReport {P} G setup report = (program : Call G) × IsLintReport setup.presets program report
+
+-- the report of what some source gave, or that the file cannot be opened
+abbrev pub IsNamedReport : {P : Type 0} → Ghosts P → LintSetup → Report → Type 0
+IsNamedReport G setup report = (report ≡ open_report setup.program) ⊎ IsFileReport G setup report
+
+-- what is written for words that ask for no program
+abbrev pub usage_text : LintFault → List ℕ
+usage_text faults.Words = codes "ctd-lint: bad arguments\nTry 'ctd-lint --help'.\n"
+usage_text faults.BadPreset = codes "ctd-lint: bad preset\n"
+usage_text faults.Help = codes "Usage: ctd-lint [OPTION]... PROGRAM\nTell what PROGRAM cannot mean: a line for each finding.\n  -D, --define=<name>=<value>[,...]  preset variables\n      --help                         show this text\n      --version                      show the version\n"
+usage_text faults.Version = codes "ctd-lint 1.0 (whole-number profile)\n"
+usage_text faults.Memory = codes "ctd-lint: out of memory\n"
+
+-- its report: what was asked for goes to standard output, and a fault to standard error
+abbrev pub usage_report : LintFault → Report
+usage_report faults.Words = on_err (usage_text faults.Words)
+usage_report faults.BadPreset = on_err (usage_text faults.BadPreset)
+usage_report faults.Help = on_out (usage_text faults.Help) 0
+usage_report faults.Version = on_out (usage_text faults.Version) 0
+usage_report faults.Memory = on_err (usage_text faults.Memory)

@@ -1,0 +1,2 @@
+-- What else the contracts of public calls say.
+pub mod Pattern

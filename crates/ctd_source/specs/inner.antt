@@ -1,0 +1,4 @@
+-- What only the proofs of this crate use.
+pub mod ReadingOn
+pub mod Consistency
+pub mod TestData

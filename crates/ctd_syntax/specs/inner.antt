@@ -1,0 +1,7 @@
+-- What only the proofs of this crate use.
+pub mod Nesting
+pub mod Front
+pub mod Levels
+pub mod TestGrammar
+pub mod CommandWords
+pub mod Batches
