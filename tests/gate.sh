@@ -7,7 +7,7 @@
 set -u
 cd "$(dirname "${BASH_SOURCE[0]}")/.." || exit
 # As many checks side by side as there are processors, with one job for each: of several jobs a check takes more processor time
-# (docs/DESIGN.md).
+# (docs/BUILDING.md).
 export RT_JOBS=${RT_JOBS:-$(nproc)}
 log=$(mktemp)
 trap 'rm -f "$log"' EXIT

@@ -73,7 +73,7 @@ inside_next size (done x after) next h second = second x after h
 inside_next size (rejected reason consumed) next h second = tt
 inside_next size (faulty fault consumed) next h second = tt
 
--- the same of another effect over the longer data that is equal
+-- an effect over the longer data may be replaced by an equal one
 pub instead : {A : Type 0} (size : ℕ) (short long other : Effect A) → other ≡ long → SameOrCut size short long → SameOrCut size short other
 instead size short long other is (same h) = same (is ∙ h)
 instead size short long other is (cut consumed h later early) =

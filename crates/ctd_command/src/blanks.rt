@@ -65,8 +65,8 @@ impl<'d, D: Source> Run<'d, D> {
         }
     }
 
-    /// Passes the blanks that come next, where they are at least `least` and another byte is held behind them, and tells
-    /// whether they are. It leaves all as it is where they are not, and says nothing of what is next.
+    /// Passes the blanks that come next, where they are at least `least` and another byte is held after them. Whether it did; if not, it
+    /// left all as it is, and the general path decides.
     #[inline(always)]
     fn held_blanks(&mut self, least: usize) -> bool
         requires sound { IsSound self.old }

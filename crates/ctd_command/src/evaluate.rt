@@ -11,9 +11,7 @@ use crate::failure::CommandFailure;
 use crate::machine::Run;
 use ctd_program::{Expr, Test, Var};
 use ctd_source::Source;
-use ctd_value::{
-    count_of, holds, fast_number, number_of, set_number, fast_test, test_at_byte,
-};
+use ctd_value::{count_of, fast_number, fast_test, holds, number_of, set_number, test_at_byte};
 
 impl<'d, D: Source> Run<'d, D> {
     /// The value of an expression that has to be a number.

@@ -30,7 +30,7 @@ more_patterns ls i l within is so_far here =
     let P : List PatternLiteral → Type 0 = λ x. ArePatterns x in
     subst P (sym (one_more ls i l within is)) (All-push (λ x. IsPattern x.bytes) (literals_at (take i ls)) l.now so_far here)
 
--- the answers of `Pattern::read` that are no want of memory
+-- the answers of `Pattern::read` but `Memory`
 pub unbuilt_by : {X : Type 0} (literal : List ℕ) (why : PatternFault) → ((◌≡◌ {A = Result X PatternFault} (Err why) (Err NotText)) ↔ ¬ (IsUtf8 literal)) → (◌≡◌ {A = Result X PatternFault} (Err why) (Err NotPattern) → IsNoPattern literal)
     → (◌≡◌ {A = Result X PatternFault} (Err why) (Err TooLarge) → IsPattern literal) → why ≢ patterns.Memory → IsUnbuilt literal why
 unbuilt_by literal NotText text pattern large other = text.0 refl

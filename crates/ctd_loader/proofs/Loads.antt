@@ -15,7 +15,7 @@ pub wants_memory : {V R : Type 0} (tree_of : V → CommandList) (G : Ghosts R) (
 wants_memory tree_of G old new (Ok x) is came = absurd is.1
 wants_memory tree_of G old new (Err e) is (bytes, short, gave) = record { bytes = bytes; gave = gave; short = short; answer = λ other. absurd (other (ap (λ f. f.kind) is.1)) }
 
--- want of memory is no bad pattern
+-- `Memory` is no bad pattern
 pub memory_alone : {A : Type 0} (P : LoadFault → Type 0) (q : Result A LoadFault) → IsErr q × IsErrAnd q (λ e. e ≡ record { kind = Memory; place = None }) → IfErr q (λ f. f.kind ≢ Memory → P f)
 memory_alone P (Ok x) is = tt
 memory_alone P (Err e) is = λ other. absurd (other (ap (λ f. f.kind) is.1))

@@ -30,6 +30,6 @@ end_from_start (suc start, end) = None
 abbrev pub length_of_first : Re → List ℕ → Option ℕ
 length_of_first pattern window = option_and_then end_from_start (option_map span (find pattern window 0))
 
--- the same for the pattern that a literal is: none where it is no pattern
+-- how many bytes of the window a literal matches, at its start; none where it does not match there or is no pattern
 abbrev pub length_at_start : List ℕ → List ℕ → Option ℕ
 length_at_start literal window = option_and_then (λ pattern. length_of_first pattern window) (written_pattern literal)

@@ -6,6 +6,7 @@ use Rattle.ctd_program.specs.declared.tree.PatternLiteral.{PatternLiteral}
 
 -- an expression, and a list of them
 mutual
+  -- an expression
   pub data ExprTree : Type 0 where
     numeral : (n : ℤ) → ExprTree
     text : (bytes : List ℕ) → ExprTree
@@ -47,6 +48,7 @@ pub data GuardTree : Type 0 where
 
 -- a command with its place, a separator or none, and a list of commands
 mutual
+  -- a command, with the place of its word
   pub data CommandTree : Type 0 where
     space : (place : Place) → CommandTree
     newline : (place : Place) → CommandTree
@@ -72,6 +74,7 @@ mutual
 
 -- how many blocks are open at a command at most
 abbrev mutual
+  -- how many blocks are open at most inside a command
   pub blocks : CommandTree → ℕ
   blocks (space place) = 0
   blocks (newline place) = 0
@@ -85,7 +88,7 @@ abbrev mutual
   blocks (loop place guard counter sep body) = 1 + max (separator_blocks sep) (list_blocks body)
   blocks (choice place t a b) = 1 + max (list_blocks a) (list_blocks b)
 
-  -- the same of a separator
+  -- how many blocks a separator opens inside one another
   pub separator_blocks : Separator → ℕ
   separator_blocks nothing = 0
   separator_blocks (between c) = blocks c

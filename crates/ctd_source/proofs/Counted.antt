@@ -90,7 +90,7 @@ column_in_line s (x ∷ xs) none = column_by (is_newline x) s x xs refl none (λ
 pub spot_in_line : (s : Spot) (xs : List ℕ) (n : ℕ) → length xs ≡ n → count_by is_newline xs ≡ 0 → record { line = s.line; column = s.column + n; offset = s.offset + n } ≡ fold spot_after s xs
 spot_in_line s xs n len none = same_spot _ _ (omega (arith, fold_line s xs, none)) (omega (arith, column_in_line s xs none, len)) (omega (arith, fold_offset s xs, len))
 
--- The same of a spot that runs on: its column counts from where the line began.
+-- A spot that runs on over bytes of one line: its column counts from where the line began.
 pub runs_no_newline : (line from offset : ℕ) (xs : List ℕ) → from ≤ offset → Nowhere (Passes (is_byte 10) xs) 0 (length xs)
     → record { line = line; column = offset + length xs - from + 1; offset = offset + length xs } ≡ fold spot_after (record { line = line; column = offset - from + 1; offset = offset }) xs
 runs_no_newline line from offset xs begun none =

@@ -51,7 +51,7 @@ fn run_in(ring: &HeapCircularBuffer<u8>, passed: usize) -> &[u8]
     }
 }
 
-/// The same, where the first piece of the ring is passed. A function of its own, since mostly there is no need to find the second.
+/// The run of the second piece of the ring, where the first is passed. Out of line, since it is rarely needed.
 #[cold]
 #[inline(never)]
 fn second_run_in(ring: &HeapCircularBuffer<u8>, passed: usize) -> &[u8]

@@ -116,7 +116,7 @@ fn newlines_of_few(bytes: &[u8]) -> u8
     count
 }
 
-/// How many newlines there are. A function of its own, so that bytes of one line are passed without making room for it.
+/// How many newlines there are. Out of line: keeps the passing of bytes of one line small.
 #[inline(never)]
 fn newlines(bytes: &[u8]) -> u64
     ensures count { result ≡ count_by is_newline bytes.now }

@@ -14,7 +14,7 @@ use crate::array::{Array, has_indices};
 use crate::index::Index;
 use crate::value::Value;
 use crate::value_ref::ValueRef;
-use ctd_token::{NameKey, Name};
+use ctd_token::{Name, NameKey};
 use std::alloc::{AllocError, Global};
 use std::mem::replace;
 

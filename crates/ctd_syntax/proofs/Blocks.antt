@@ -94,11 +94,11 @@ target_ends ts target i = let b = target_balanced ts target i in subst Ends (sym
 abbrev Holds : List Lexeme → ℕ → Type 0
 Holds ts n = (c : ℕ) (cs : List ℕ) (rest : List Lexeme) → length cs ≤ NESTING_LIMIT → IsLight (c, cs) (ts ++ rest) → (n + length cs ≤ NESTING_LIMIT) × IsLight (c, cs) rest
 
--- the same of the tokens behind the parentheses of a block, which drop its counter
+-- the tokens after the parentheses of a block drop its counter, and so many blocks fit
 abbrev HoldsWithin : List Lexeme → ℕ → Type 0
 HoldsWithin ts n = (d : ℕ) (cs : List ℕ) (rest : List Lexeme) → suc (length cs) ≤ NESTING_LIMIT → IsLight (0, d ∷ cs) (ts ++ rest) → (n + suc (length cs) ≤ NESTING_LIMIT) × IsLight (d, cs) rest
 
--- the same of tokens that close these parentheses too
+-- tokens that close these parentheses too drop its counter, and so many blocks fit
 abbrev HoldsBehind : List Lexeme → ℕ → Type 0
 HoldsBehind ts n = (c d : ℕ) (cs : List ℕ) (rest : List Lexeme) → suc (length cs) ≤ NESTING_LIMIT → IsLight (c, 0 ∷ d ∷ cs) (ts ++ rest) → (n + suc (length cs) ≤ NESTING_LIMIT) × IsLight (d, cs) rest
 
@@ -177,21 +177,21 @@ mutual
   command_holds ts u (Grammar.choice {ts = ws} {us} {then_do} {else_do} {at} i r) =
       block words.If at ws (mark Close ∷ us) (max (list_blocks then_do) (list_blocks else_do)) refl (even ws (test_balanced ws _ i)) (closed us (max (list_blocks then_do) (list_blocks else_do)) (branches_hold us then_do else_do r))
 
-  -- the same of what follows the head of a loop
+  -- what follows the head of a loop holds so many blocks
   repeated_holds : (ts : List Lexeme) (separator : Separator) (body : CommandList) → IsRepeated ts separator body → HoldsBehind ts (max (separator_blocks separator) (list_blocks body))
   repeated_holds ts separator body (Grammar.without_separator {us} at i) = subst (HoldsBehind ts) (sym (zero-max (list_blocks body))) (closed (us ++ keyword words.End at ∷ []) (list_blocks body) (one_body us at (list_blocks body) (commands_hold us body i)))
   repeated_holds ts separator body (Grammar.with_separator {ts = ws} {us} {c} at i j) =
       subst (λ l. HoldsBehind (mark Comma ∷ l) (max (blocks c) (list_blocks body))) (sym (append_assoc ws (mark Close ∷ us) (keyword words.End at ∷ [])))
       (separator_behind ws (mark Close ∷ us ++ keyword words.End at ∷ []) (blocks c) (list_blocks body) (command_holds ws c i) (closed (us ++ keyword words.End at ∷ []) (list_blocks body) (one_body us at (list_blocks body) (commands_hold us body j))))
 
-  -- the same of what follows the head of an IF
+  -- what follows the head of an IF holds so many blocks
   branches_hold : (ts : List Lexeme) (then_do else_do : CommandList) → IsBranches ts then_do else_do → HoldsWithin ts (max (list_blocks then_do) (list_blocks else_do))
   branches_hold ts then_do else_do (Grammar.one_way {us} at i) = subst (HoldsWithin ts) (sym (max-zero (list_blocks then_do))) (one_body us at (list_blocks then_do) (commands_hold us then_do i))
   branches_hold ts then_do else_do (Grammar.two_ways {us} {vs} at else_at i j) =
       subst (λ l. HoldsWithin l (max (list_blocks then_do) (list_blocks else_do))) (sym (append_assoc us (keyword words.Else else_at ∷ vs) (keyword words.End at ∷ [])))
       (two_bodies us (vs ++ keyword words.End at ∷ []) else_at (list_blocks then_do) (list_blocks else_do) (commands_hold us then_do i) (one_body vs at (list_blocks else_do) (commands_hold vs else_do j)))
 
-  -- the same of commands one after the other
+  -- commands one after the other hold so many blocks
   commands_hold : (ts : List Lexeme) (u : CommandList) → IsCommands ts u → Holds ts (list_blocks u)
   commands_hold ts u Grammar.done = no_blocks [] (λ c cs rest h. h)
   commands_hold ts u (Grammar.then {ts = ws} {us} {c} {rest} i j) = one_more ws us (blocks c) (list_blocks rest) (command_holds ws c i) (commands_hold us rest j)

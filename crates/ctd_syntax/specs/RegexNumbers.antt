@@ -6,6 +6,7 @@ use Rattle.ctd_program.specs.Tree.{CommandTree, CommandList, Separator}
 
 -- the literals of a command, those of its separator and of the commands within it too, in the order of the text
 abbrev mutual
+  -- the literals of REGEX in a command
   pub command_literals : CommandTree → List PatternLiteral
   command_literals (Tree.space place) = []
   command_literals (Tree.newline place) = []

@@ -44,7 +44,8 @@ abbrev mutual
       else if nat_eq b 35 then skip_comment bs
       else b ∷ bs
 
-  -- the same where the text begins within a comment, which runs up to the next line feed or the end of the text
+  -- what is left after blanks and comments where the text begins within a comment, which runs up to the next line feed or the end of the
+  -- text
   pub skip_comment : List ℕ → List ℕ
   skip_comment [] = []
   skip_comment (b ∷ bs) = if nat_eq b 10 then skip_gap bs else skip_comment bs

@@ -59,7 +59,7 @@ pub record WholeLiteral : Type 0 where
 abbrev pub closing_quote : WholeLiteral
 closing_quote = record { values = []; bad_octal = None; length = 1 }
 
--- the same from a byte before
+-- a literal that begins one byte earlier
 abbrev pub one_later : WholeLiteral → WholeLiteral
 one_later c = record { values = c.values; bad_octal = option_map (λ n. 1 + n) c.bad_octal; length = 1 + c.length }
 

@@ -16,7 +16,7 @@ pub use fault::{LoadFault, LoadKind, TokenFault};
 pub use laws::{tokens_are_longest, tokens_are_unique};
 pub use lex::{Lexer, advance, tokens};
 pub use limits::{NESTING_LIMIT, PROGRAM_LIMIT};
-pub use name::{NameKey, Name};
+pub use name::{Name, NameKey};
 pub use scan::token_at;
 pub use text::{Bytes, Place};
 pub use token::{Mark, Token, TokenKind};

@@ -36,7 +36,7 @@ pub breaks_off : {O E : Type 0} {S : sinks.Ghosts O} {T : sinks.Ghosts E} (out :
 breaks_off out err report Write other h = broken_off report refl h refl
 breaks_off out err report Memory other h = absurd (other refl)
 
--- for want of memory nothing was written
+-- after `Memory` nothing was written
 pub Memory-untouched : {O E : Type 0} {S : sinks.Ghosts O} {T : sinks.Ghosts E} (out : BeforeAfter S) (err : BeforeAfter T) (IsReport : Report → Type 0) (answer : Result ℕ ToolFault)
     → answer ≡ Err Memory → LeavesOneOf out err IsReport answer → (out.new ≡ out.old) × (err.new ≡ err.old)
 Memory-untouched out err IsReport answer is h = subst (LeavesOneOf out err IsReport) is h

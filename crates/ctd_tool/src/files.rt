@@ -49,7 +49,10 @@ pub struct FilesRun<R: Read> {
 }
 
 /// A reader behind a buffer, as a source.
-fn buffered_source<R: Read + Drop>(alloc: Global, reader: R) -> Result<FromRead<BufReader<R>>, ToolFault>
+fn buffered_source<R: Read + Drop>(
+    alloc: Global,
+    reader: R,
+) -> Result<FromRead<BufReader<R>>, ToolFault>
     ensures starts { IfOk result (StartsOn R.remaining ⟦<FromRead<BufReader<R>> as Source>⟧ reader) }
     ensures memory { IfErr result (λ fault. fault ≡ ToolFault.Memory) }
 {

@@ -115,6 +115,7 @@ FitsFrom i left (frame ∷ above) = (i + 1 + frame_blocks frame ≤ 201) × ((lo
 abbrev pub Fits : ℕ → List Frame → Type 0
 Fits left frames = FitsFrom 0 left frames
 
+-- that frames have room is a mere fact: two proofs of it are one
 fits_from_prop : (i left : ℕ) (fs : List Frame) → IsProp (FitsFrom i left fs)
 fits_from_prop i left [] = Unit-prop
 fits_from_prop i left (frame ∷ above) = ×_prop le_prop (×_prop le_prop (fits_from_prop (i + 1) left above))

@@ -41,6 +41,7 @@ commands_of c = (out-Commands c).items.items
 
 -- expressions
 abbrev mutual
+  -- the tree of an expression of the code
   pub expr_tree : Expr → ExprTree
   expr_tree (Numeral n) = Tree.numeral n
   expr_tree (Text t) = Tree.text t
@@ -74,7 +75,7 @@ abbrev pub target : Option Var → Option VarTree
 target None = None
 target (Some v) = Some (var_tree v)
 
--- the same in its box
+-- a target in its box, or none
 abbrev pub boxed_target : Option (Box Var) → Option VarTree
 boxed_target None = None
 boxed_target (Some v) = Some (var_tree v.value)
@@ -101,6 +102,7 @@ assignment a = (var_tree a.target, expr_tree a.value)
 
 -- a command at its place
 abbrev mutual
+  -- the tree of a command of the code, with its place
   pub action_tree : Action → Place → CommandTree
   action_tree Space place = Tree.space place
   action_tree Newline place = Tree.newline place

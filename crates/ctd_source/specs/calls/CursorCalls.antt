@@ -23,6 +23,7 @@ whether_byte wanted (Ok next) = Ok (is_byte wanted next)
 whether_byte wanted (Err fault) = Err fault
 
 module _ {R : Type 0} {G : Ghosts R} where
+  -- the state of a cursor
   abbrev pub state_of : Cursor R G → CursorState
   state_of c = record { held = c.window.items; taken = c.taken; seen = c.intake.seen; spot = c.spot; limit = c.limit; fault = c.fault }
 

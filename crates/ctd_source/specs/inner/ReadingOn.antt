@@ -18,6 +18,7 @@ pub consumes_nothing : (known : Option (List ℕ)) → Consumes known known []
 consumes_nothing None = tt
 consumes_nothing (Some xs) = refl
 
+-- what is consumed in two calls is consumed in both together
 consumes_both : (a b c : Option (List ℕ)) (xs ys : List ℕ) → Consumes a b xs → Consumes b c ys → Consumes a c (xs ++ ys)
 consumes_both None b c xs ys h k = tt
 consumes_both (Some us) None c xs ys h k = absurd h
@@ -30,15 +31,18 @@ consumed_to_end None new bytes h end = tt
 consumed_to_end (Some us) None bytes h end = absurd h
 consumed_to_end (Some us) (Some vs) bytes h end = sym (h ∙ ap (λ zs. bytes ++ zs) end ∙ append-nil bytes)
 
+-- what is consumed in two calls is all that there was, if the second came to the end
 consumed_all : (a b : Option (List ℕ)) (xs ys : List ℕ) → Consumes a b xs → IfSome b (λ all. ys ≡ all) → IfSome a (λ all. xs ++ ys ≡ all)
 consumed_all None b xs ys h k = tt
 consumed_all (Some us) None xs ys h k = absurd h
 consumed_all (Some us) (Some vs) xs ys h k = ap (λ zs. xs ++ zs) k ∙ sym h
 
+-- where all bytes were consumed, a call that gives none changes nothing
 nothing_behind_all : (a : Option (List ℕ)) (xs ys : List ℕ) → ys ≡ [] → IfSome a (λ all. xs ≡ all) → IfSome a (λ all. xs ++ ys ≡ all)
 nothing_behind_all None xs ys none h = tt
 nothing_behind_all (Some us) xs ys none h = ap (λ zs. xs ++ zs) none ∙ append-nil xs ∙ h
 
+-- a list of length 0 has no bytes
 no_bytes : (xs : List ℕ) → length xs ≡ 0 → xs ≡ []
 no_bytes [] none = refl
 no_bytes (x ∷ xs) none = absurd (omega (arith, none))
@@ -62,6 +66,7 @@ faulty (Ok x) is = cc
 faulty (Err f) is = let same : f ≡ Read = cc in ap Err same
 
 module _ {R : Type 0} {G : Ghosts R} where
+  -- a source that was left alone gave no bytes
   pub gave_nothing : (s : R) → Gave G s s []
   gave_nothing s =
       record {
@@ -75,6 +80,7 @@ module _ {R : Type 0} {G : Ghosts R} where
         };
       }
 
+  -- two calls give their bytes one after the other, if no read failed between them
   gave_sound : (a b c : R) (xs ys : List ℕ) → G.seen b ≢ Broken → (G.seen a ≡ Going → G.seen c ≡ Ended → IfSome (G.left a) (λ all. xs ++ ys ≡ all))
       → Gave G a b xs → Gave G b c ys → Gave G a c (xs ++ ys)
   gave_sound a b c xs ys sound whole f s =
@@ -89,6 +95,7 @@ module _ {R : Type 0} {G : Ghosts R} where
         };
       }
 
+  -- a call after a failed read gives nothing more
   gave_broken : (a b c : R) (xs ys : List ℕ) → G.seen b ≡ Broken → Gave G a b xs → Gave G b c ys → Gave G a c (xs ++ ys)
   gave_broken a b c xs ys broken f s =
       let end : (ys ≡ []) × (G.seen c ≡ G.seen b) = s.end.final (λ e. cc) in
@@ -114,6 +121,7 @@ module _ {R : Type 0} {G : Ghosts R} where
       gave_sound a b c xs ys sound (λ going ended. nothing_behind_all (G.left a) xs ys (s.end.final (λ e. cc)).0 (f.end.all going is)) f s
   gave_both Broken a b c xs ys is f s = gave_broken a b c xs ys is f s
 
+  -- a cursor that was left alone read on by no bytes
   pub reads_nothing : (c : Cursor R G) → ReadsOn c c
   reads_nothing c =
       record {
@@ -127,6 +135,7 @@ module _ {R : Type 0} {G : Ghosts R} where
         stood = λ _ h. h;
       }
 
+  -- to read on twice is to read on
   pub reads_twice : (a b c : Cursor R G) → ReadsOn a b → ReadsOn b c → ReadsOn a c
   reads_twice a b c f s =
       record {
@@ -153,9 +162,11 @@ module _ {R : Type 0} {G : Ghosts R} where
   failed_in_both Ended a b P is r going broken = let both : Going ≡ Ended = sym going ∙ b.intake.seen_agrees ∙ (r.gave.end.final (λ e. let x : Ended ≡ Going = sym is ∙ a.intake.seen_agrees ∙ e in cc)).1 ∙ sym a.intake.seen_agrees ∙ is in absurd (let never : ⊥ = cc in never)
   failed_in_both Broken a b P is r going broken = inl (a.broken is)
 
+  -- a failed read stays so
   stays_broken : (b c : Cursor R G) → ReadsOn b c → (state_of b).seen ≡ Broken → (state_of c).seen ≡ Broken
   stays_broken b c r is = c.intake.seen_agrees ∙ (r.gave.end.final (λ e. let x : Broken ≡ Going = sym is ∙ b.intake.seen_agrees ∙ e in cc)).1 ∙ sym b.intake.seen_agrees ∙ is
 
+  -- a fault Read of the second of two looks was there before both, or a read failed in one of them
   read_twice : (a b c : Cursor R G) → Peeks a b → Peeks b c → ((state_of b).fault ≡ Some Read) ⊎ (((state_of b).seen ≡ Going) × ((state_of c).seen ≡ Broken))
       → ((state_of a).fault ≡ Some Read) ⊎ (((state_of a).seen ≡ Going) × ((state_of c).seen ≡ Broken))
   read_twice a b c f s (inl before) = elim (f.read before) [ inl first ↦ inl first | inr now ↦ inr (now.0, stays_broken b c s.reads now.1) ]
@@ -172,6 +183,7 @@ module _ {R : Type 0} {G : Ghosts R} where
         read = λ failed. inl failed;
       }
 
+  -- to look twice at the next byte is to look once
   pub peeks_twice : (a b c : Cursor R G) → Peeks a b → Peeks b c → Peeks a c
   peeks_twice a b c f s =
       record {
@@ -193,9 +205,11 @@ module _ {R : Type 0} {G : Ghosts R} where
         read = λ failed. look.read (faulty result (sym look.fault ∙ failed));
       }
 
+  -- a cursor that was left alone moved past no bytes
   pub moves_nowhere : (c : Cursor R G) → MovesPast 0 c c
   moves_nowhere c = record { held = refl; offset = omega arith; taken = refl; limit = refl; fault = refl; seen = refl; source_is = refl; same_reference = refl; stands = λ _ h. h }
 
+  -- to move past m bytes and then past n is to move past m + n
   pub moves_twice : (m n : ℕ) (a b c : Cursor R G) → MovesPast m a b → MovesPast n b c → MovesPast (m + n) a c
   moves_twice m n a b c f s =
       record {

@@ -25,7 +25,7 @@ impl<'d, R: Source> Cursor<'d, R> {
         }
     }
 
-    /// The same, where some of the bytes that are held may pass the limit.
+    /// The first held bytes up to the limit, where some of the held bytes may pass it.
     #[cold]
     #[inline(never)]
     fn run_before_limit(&self) -> &[u8]

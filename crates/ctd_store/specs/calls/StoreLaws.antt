@@ -31,6 +31,7 @@ UnsetKeepsOtherNames = (h : History) (name : List ℕ) (key : Key) → key.name 
 abbrev pub AssignmentKeepsPins : Type 0
 AssignmentKeepsPins = (h : History) (key : Key) (value : Value) → (assign h key value).pins ≡ h.pins
 
+-- UNSET changes no preset
 abbrev pub UnsetKeepsPins : Type 0
 UnsetKeepsPins = (h : History) (name : List ℕ) → (unset h name).pins ≡ h.pins
 

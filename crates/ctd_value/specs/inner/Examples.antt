@@ -14,18 +14,23 @@ use Rattle.ctd_value.specs.Fault.{Overflow, Exponent, DivisionByZero, WrongType,
 use Rattle.ctd_value.specs.Val.{val, key, count}
 use Rattle.ctd_value.specs.Truth.{truth}
 
+-- no variable has a value
 abbrev pub nothing : History
 nothing = initial []
 
+-- a numeral
 abbrev pub num : ℤ → ExprTree
 num n = Tree.numeral n
 
+-- data of one byte
 abbrev pub one_byte : TestData
 one_byte = record { bytes = codes "b"; broken = false; limit = 10 }
 
+-- data without a byte
 abbrev pub no_bytes : TestData
 no_bytes = record { bytes = []; broken = false; limit = 10 }
 
+-- data whose first read fails
 abbrev pub failing : TestData
 failing = record { bytes = []; broken = true; limit = 10 }
 
@@ -46,9 +51,11 @@ precedence = refl
 abbrev pub least : ExprTree
 least = Tree.difference (Tree.minus (num (pos 170141183460469231731687303715884105727))) (num (pos 1))
 
+-- the least value leaves 0 when it is divided by -1
 pub least_by_minus_one : val (Tree.remainder least (Tree.minus (num (pos 1)))) nothing ≡ Ok (values.Int (pos 0))
 least_by_minus_one = refl
 
+-- but its quotient is no value
 pub least_over_minus_one : val (Tree.quotient least (Tree.minus (num (pos 1)))) nothing ≡ Err Overflow
 least_over_minus_one = refl
 
@@ -60,9 +67,11 @@ pub powers : truth (Tree.and (Tree.and
     nothing no_bytes 0 ≡ Ok true
 powers = refl
 
+-- an exponent has 64 bits
 pub exponent_too_large : val (Tree.power (num (pos 1)) (num (pos 18446744073709551616))) nothing ≡ Err Exponent
 exponent_too_large = refl
 
+-- 2^127 is no value
 pub power_too_large : val (Tree.power (num (pos 2)) (num (pos 127))) nothing ≡ Err Overflow
 power_too_large = refl
 
@@ -70,15 +79,19 @@ power_too_large = refl
 abbrev pub one_is_one : TestTree
 one_is_one = Tree.compare Equal (num (pos 1)) (num (pos 1))
 
+-- a test with a division by zero
 abbrev pub by_zero : TestTree
 by_zero = Tree.compare Equal (Tree.quotient (num (pos 1)) (num (pos 0))) (num (pos 1))
 
+-- || asks for its right side only where its left side is false
 pub short_cut : truth (Tree.or one_is_one by_zero) nothing no_bytes 0 ≡ Ok true
 short_cut = refl
 
+-- a fault of the left side is a fault of the whole
 pub no_short_cut : truth (Tree.or by_zero one_is_one) nothing no_bytes 0 ≡ Err (faults.Value DivisionByZero)
 no_short_cut = refl
 
+-- a number and a string are not compared
 pub apart : truth (Tree.compare Equal (num (pos 1)) (Tree.text (codes "1"))) nothing no_bytes 0 ≡ Err (faults.Value WrongType)
 apart = refl
 
@@ -90,15 +103,19 @@ pin_stays = refl
 abbrev pub a_preset : Preset
 a_preset = record { name = codes "a"; indices = literals.Int (pos 1) ∷ []; value = literals.Int (pos 5) }
 
+-- the element of a at an index
 abbrev pub element : ℤ → Key
 element n = record { name = codes "a"; indices = values.Int n ∷ [] }
 
+-- two elements that were set, the first of which is a preset
 abbrev pub set_elements : History
 set_elements = assign (assign (initial (a_preset ∷ [])) (element (pos 1)) (values.Int (pos 9))) (element (pos 2)) (values.Int (pos 9))
 
+-- the preset keeps its value
 pub element_stays : value_at set_elements (element (pos 1)) ≡ Some (values.Int (pos 5))
 element_stays = refl
 
+-- the other has the value that was set
 pub other_element : value_at set_elements (element (pos 2)) ≡ Some (values.Int (pos 9))
 other_element = refl
 
@@ -110,6 +127,7 @@ element_is_left = refl
 pub last_of_element : value_at (initial (a_preset ∷ record { name = codes "a"; indices = literals.Text (codes "1") ∷ []; value = literals.Int (pos 7) } ∷ record a_preset { value = literals.Int (pos 6) } ∷ [])) (element (pos 1)) ≡ Some (values.Int (pos 6))
 last_of_element = refl
 
+-- of two presets of one variable the last counts
 pub last_counts : value_at (initial (record { name = codes "n"; indices = []; value = literals.Int (negsuc 2) } ∷ record { name = codes "n"; indices = []; value = literals.Int (pos 4) } ∷ [])) (record { name = codes "n"; indices = [] }) ≡ Some (values.Int (pos 4))
 last_counts = refl
 
@@ -117,9 +135,11 @@ last_counts = refl
 abbrev pub one_entry : History
 one_entry = assign nothing (record { name = codes "a"; indices = values.Int (pos 1) ∷ [] }) (values.Text (codes "x"))
 
+-- the entries of a, where one element was set
 pub entries_of_one : values_of one_entry (codes "a") ≡ ((values.Int (pos 1) ∷ [], values.Text (codes "x")) ∷ [])
 entries_of_one = refl
 
+-- after UNSET the element has no value
 pub unset_one : value_at (unset one_entry (codes "a")) (record { name = codes "a"; indices = values.Int (pos 1) ∷ [] }) ≡ None
 unset_one = refl
 
@@ -127,6 +147,7 @@ unset_one = refl
 abbrev pub two_names : History
 two_names = assign (assign (assign nothing (record { name = codes "a"; indices = [] }) (values.Int (pos 7))) (record { name = codes "b"; indices = [] }) (values.Int (pos 8))) (record { name = codes "a"; indices = values.Int (pos 1) ∷ [] }) (values.Int (pos 9))
 
+-- UNSET takes all of a name, and leaves other names alone
 pub unset_all : unset two_names (codes "a") ≡ assign nothing (record { name = codes "b"; indices = [] }) (values.Int (pos 8))
 unset_all = refl
 
@@ -139,12 +160,15 @@ beside_a_pin = refl
 pub key_of_sum : key (record { name = codes "a"; indices = Tree.some (Tree.sum (num (pos 1)) (num (pos 1))) Tree.none }) nothing ≡ Ok (record { name = codes "a"; indices = values.Int (pos 2) ∷ [] })
 key_of_sum = refl
 
+-- the count 3
 pub count_three : count (num (pos 3)) nothing ≡ Ok 3
 count_three = refl
 
+-- a count is not negative
 pub count_negative : count (Tree.minus (num (pos 1))) nothing ≡ Err Count
 count_negative = refl
 
+-- a count is a number
 pub count_text : count (Tree.text (codes "x")) nothing ≡ Err WrongType
 count_text = refl
 
@@ -152,9 +176,11 @@ count_text = refl
 pub match_b : truth (Tree.matches (Tree.text (codes "ab"))) nothing one_byte 0 ≡ Ok true
 match_b = refl
 
+-- MATCH is false at the end of the data
 pub match_at_end : truth (Tree.matches (Tree.text (codes "ab"))) nothing no_bytes 0 ≡ Ok false
 match_at_end = refl
 
+-- MATCH has the fault of the look where the read fails
 pub match_failing : truth (Tree.matches (Tree.text (codes "ab"))) nothing failing 0 ≡ Err (Look Read)
 match_failing = refl
 
@@ -162,5 +188,6 @@ match_failing = refl
 pub unasked : truth (Tree.and (Tree.compare Equal (num (pos 1)) (num (pos 2))) Tree.at_end) nothing failing 0 ≡ Ok false
 unasked = refl
 
+-- a count has 64 bits
 pub count_too_large : count (num (pos 18446744073709551616)) nothing ≡ Err Count
 count_too_large = refl

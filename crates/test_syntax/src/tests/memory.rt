@@ -25,7 +25,7 @@ const PROGRAM: &str = "INT(1,n+1,a[i]) STRING(\"x\") REGEX(\"y\",word)
 ASSERT(!(1<2) && MATCH(\"z\") || UNIQUE(a,b)) SET(x=-2^3) UNSET(x,longname)
 REPI(i,3,SPACE) NEWLINE END WHILE(ISEOF) REP(1) END END IF(INARRAY(1,a)) ELSE EOF END";
 
-/// Each ends in want of memory or in its own answer.
+/// Each ends in `Memory` or in its own answer.
 #[test]
 fn small_texts_end_in_their_answers(rt: HostRuntime) -> Result<(), Fail> {
     let count = count_tokens(rt.alloc(), b"INT(a1) \"x\"")?;

@@ -4,7 +4,7 @@ use std::alloc::{AllocError, Global};
 use std::fmt::{Display, Write};
 use std::test::Fail;
 
-/// Text that is written part by part; want of memory is told where the text is asked for.
+/// Text that is written part by part; asking for the text returns the allocation error.
 #[derive(Drop)]
 pub(super) struct Shown {
     text: String,

@@ -3,8 +3,7 @@
 use super::answers::{Asked, judge_lines, judge_rows, judged};
 use super::shown::Shown;
 use ctd_token::{
-    Bytes, NameKey, Lexer, Name, PROGRAM_LIMIT, Place, Token, TokenKind, advance, token_at,
-    tokens,
+    Bytes, Lexer, Name, NameKey, PROGRAM_LIMIT, Place, Token, TokenKind, advance, token_at, tokens,
 };
 use std::alloc::{AllocError, Global};
 use std::test::Fail;

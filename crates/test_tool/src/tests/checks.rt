@@ -34,7 +34,7 @@ const FAILING: Terms = Terms {
     ..PLAIN
 };
 
-/// The same in whitespace mode.
+/// The terms under which a read fails after the data, in whitespace mode.
 const BLANKS_FAILING: Terms = Terms {
     mode: Mode::BlanksOk,
     ..FAILING

@@ -100,7 +100,7 @@ fn is_answered(alloc: Global, words: &[Bytes], failing: &str, room: Room, row: &
     written.is(Ok(*status_wanted), out_text.as_bytes(), err_text.as_bytes()) && is_asked
 }
 
-/// The same of the words of the row's command line.
+/// Whether a run gives what a row says, for the words of the row's command line.
 fn is_line_answered(
     alloc: Global,
     failing: &str,

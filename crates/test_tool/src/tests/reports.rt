@@ -17,7 +17,7 @@ use std::process::Abort;
 pub(super) enum Report {
     /// How a check ended.
     Outcome(Outcome),
-    /// The same of a quiet run.
+    /// How a check ended, in a quiet run.
     Quiet(Outcome),
     /// Why a program was not read.
     LoadFault(LoadFault),

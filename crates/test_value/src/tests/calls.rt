@@ -6,8 +6,8 @@ use super::{same, store_of};
 use ctd_source::{LookFault, Plain};
 use ctd_syntax::{Action, Assignment, Command, Name, Test, Var, parse};
 use ctd_value::{
-    EvalFault, Key, Store, TestFault, Value, count_of, eval, holds, locate, fast_number,
-    number_of, set_expression, set_number, set_text, text_of, fast_test, test_at_byte,
+    EvalFault, Key, Store, TestFault, Value, count_of, eval, fast_number, fast_test, holds, locate,
+    number_of, set_expression, set_number, set_text, test_at_byte, text_of,
 };
 use std::alloc::{AllocError, Global};
 use std::process::Abort;
@@ -269,7 +269,7 @@ fn judge_row(rt: &impl Abort, alloc: Global, row: &Row) -> Result<(), Fail> {
     judge(rt, alloc, &mut store, filling, steps)
 }
 
-/// The same of each row.
+/// Judges the steps of each row.
 pub(super) fn judge_all(rt: &impl Abort, alloc: Global, rows: &[Row]) -> Result<(), Fail> {
     for row in rows {
         judge_row(rt, alloc, row)?;

@@ -265,7 +265,7 @@ pub(super) fn judge<R: Source>(rt: &impl Abort, cursor: &mut Cursor<'_, R>, asks
     }
 }
 
-/// The same of a cursor at the start of what a reader gives.
+/// Judges a cursor at the start of what a reader gives.
 fn judge_start<R: Read + Drop>(
     rt: &impl Abort,
     alloc: Global,

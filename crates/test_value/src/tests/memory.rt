@@ -1,5 +1,5 @@
-//! Small rows on the calls that take memory. `tests/allocations.py` at the top of the repository lets each allocation fail in
-//! turn: then each row ends in want of memory or in its own answer.
+//! Small rows on the calls that take memory. `tests/allocations.py` at the top of the repository lets each allocation fail in turn: then
+//! each row ends in `Memory` or in its own answer.
 
 use super::calls::{READ, Row, SHAPE, Step, Steps, judge, judge_all};
 use super::{key, same, store_of};
