@@ -5,7 +5,6 @@ use Rattle.std.specs.List.{prefix_len}
 use Rattle.std.proofs.lemmas.List.Sums.{prefix_len-le-length}
 use Rattle.ctd_source.specs.declared.limits.TheConstants.{WINDOW}
 use Rattle.ctd_source.specs.declared.spot.LookFault.{LookFault}
-use Rattle.ctd_source.specs.declared.spot.LookFault.TheVariants as looks
 use Rattle.ctd_source.specs.TestData.{TestData, next_byte, look, is_byte}
 use Rattle.ctd_program.specs.declared.mode.Mode.{Mode}
 use Rattle.ctd_program.specs.declared.mode.Mode.TheVariants.{Exact, BlanksOk}
@@ -29,7 +28,7 @@ use Rattle.ctd_command.specs.Regex.{shorter_match, matched, regex}
 use Rattle.ctd_check.specs.Loops.{Guard, times, while_true, Task, start, turn, finish, Loop, loop_of, tasks, turn_tasks, goes_on, count_turn, take_turn, run_turn, guard_of, repeat, choice}
 use Rattle.ctd_check.specs.Run.{simple, act_of, perform}
 use Rattle.ctd_check.proofs.Prefixes.{same_prefix, same_minus, same_digits, integer_within, less_prefix, less_integer}
-use Rattle.ctd_check.proofs.LongerData.{begins, byte_within, look_within}
+use Rattle.ctd_check.proofs.LongerData.{byte_within, look_within}
 use Rattle.ctd_check.proofs.ActLocality.{Forward, Inside, SameOrCut, same, IsLocal, both, either, given, idle, rejecting, stopping, assigning, unsetting, evaluating, seeing, windowing, answering, on, forward_past, passing, forward_next, longer_next}
 
 -- one byte
