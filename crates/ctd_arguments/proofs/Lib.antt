@@ -1,2 +1,3 @@
 pub mod NamedProgram
 pub mod SingleLemmas
+pub mod UsageFaults

@@ -1,6 +1,6 @@
 -- Which fault the words have.
 use Rattle.ctd_arguments.specs.declared.setup.UsageFault.TheVariants as fault
-use Rattle.std.specs.Prelude.{◌≡◌, ◌⊎◌, ◌^◌, ◌<◌, Bool, true, false, List, [], Option, None, Some, All, IsUtf8, codes}
+use Rattle.std.specs.Prelude.{◌≡◌, ◌⊎◌, ◌^◌, ◌<◌, Bool, true, false, List, [], ◌∷◌, Option, None, Some, All, IsUtf8, codes}
 use Rattle.std.specs.Option.{option_map_or}
 use Rattle.std.specs.Str.{bytes_eq}
 use Rattle.std.specs.Str.Parse.{IsNumeral, digits_value}
@@ -35,9 +35,9 @@ flag_in words name = is_on name (matches_of checker words)
 abbrev pub IsStepNumber : Text → Type 0
 IsStepNumber text = IsNumeral 10 text × (digits_value 10 text < 2 ^ 64)
 
--- clap refuses the words with a kind of this fault
-abbrev pub IsRefusedAs : List Text → UsageFault → Type 0
-IsRefusedAs words f = (kind : ErrorKind) × IsAmong kind (fault_of checker words) × (fault_by_kind kind ≡ f)
+-- this is the fault of a kind of error that clap finds in the words
+abbrev pub IsFaultOfClap : List Text → UsageFault → Type 0
+IsFaultOfClap words f = (kind : ErrorKind) × IsAmong kind (fault_of checker words) × (fault_by_kind kind ≡ f)
 
 -- the words are texts, and clap takes them
 abbrev pub IsTaken : List Text → Type 0
@@ -48,23 +48,30 @@ abbrev pub IsBadPreset : Option Text → Type 0
 IsBadPreset None = ⊥
 IsBadPreset (Some text) = (presets : List Preset) → ¬ (ArePresets text presets)
 
--- no text is given, or it spells presets
-abbrev pub IsGoodPreset : Option Text → Type 0
-IsGoodPreset None = Unit {0}
-IsGoodPreset (Some text) = (presets : List Preset) × ArePresets text presets
-
 -- a text is given, and is no number of steps
 abbrev pub IsBadSteps : Option Text → Type 0
 IsBadSteps None = ⊥
 IsBadSteps (Some text) = ¬ (IsStepNumber text)
 
--- the words have this fault; memory may run out whatever the words
+-- a rule: when it applies, and which fault it then gives
+abbrev pub FaultRule : Type 1
+FaultRule = Type 0 × (UsageFault → Type 0)
+
+-- the rules, in the order in which they are tried
+abbrev pub fault_rules : List Text → List FaultRule
+fault_rules words =
+    (¬ (All IsUtf8 words), λ f. f ≡ fault.Words)
+    ∷ (¬ (fault_of checker words ≡ []), IsFaultOfClap words)
+    ∷ (flag_in words (codes "generate") ≡ true, λ f. f ≡ fault.Generate)
+    ∷ (IsBadPreset (value_in words (codes "define")), λ f. f ≡ fault.BadPreset)
+    ∷ (IsBadSteps (value_in words (codes "max-steps")), λ f. f ≡ fault.BadSteps)
+    ∷ []
+
+-- the first rule that applies gives the fault
+abbrev pub GivesFirst : List FaultRule → UsageFault → Type 0
+GivesFirst [] f = ⊥
+GivesFirst (rule ∷ later) f = (rule.0 × rule.1 f) ⊎ (¬ rule.0 × GivesFirst later f)
+
+-- the words have this fault by the rules; memory may run out whatever the words
 abbrev pub IsUsageFault : List Text → UsageFault → Type 0
-IsUsageFault words fault.Words = ¬ (All IsUtf8 words) ⊎ (All IsUtf8 words × IsRefusedAs words fault.Words)
-IsUsageFault words fault.BadSteps = IsTaken words × (flag_in words (codes "generate") ≡ false) × IsGoodPreset (value_in words (codes "define"))
-    × IsBadSteps (value_in words (codes "max-steps"))
-IsUsageFault words fault.BadPreset = IsTaken words × (flag_in words (codes "generate") ≡ false) × IsBadPreset (value_in words (codes "define"))
-IsUsageFault words fault.Generate = IsTaken words × (flag_in words (codes "generate") ≡ true)
-IsUsageFault words fault.Help = All IsUtf8 words × IsRefusedAs words fault.Help
-IsUsageFault words fault.Version = All IsUtf8 words × IsRefusedAs words fault.Version
-IsUsageFault words fault.Memory = Unit {0}
+IsUsageFault words f = GivesFirst (fault_rules words) f ⊎ (f ≡ fault.Memory)

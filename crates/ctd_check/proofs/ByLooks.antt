@@ -1,4 +1,4 @@
--- INT, STRING and blanks look by look.
+-- INT and blanks look by look, and STRING by the visible bytes.
 use Rattle.std.proofs.Common.{◌≡◌, ℕ, ◌+◌, Bool, true, false, cond, nat_eq, ℤ, List, [], ◌∷◌, length, drop, Option, Some, None, Result, Ok, Err, refl, ap, sym, ◌∙◌, subst, arith}
 use Rattle.std.specs.Prelude.{⊤, if◌then◌else◌}
 use Rattle.std.specs.Char.{is_ascii_digit}
@@ -14,9 +14,9 @@ use Rattle.ctd_outcome.specs.declared.reason.Fault.{Fault}
 use Rattle.ctd_outcome.specs.declared.reason.Reason.TheVariants.{StringMismatch}
 use Rattle.ctd_command.specs.State.{State, Effect, done, rejected, faulty, Act, proceed, ◌>>=◌, return, reject, pass, lift, see_next, fault_of_look}
 use Rattle.ctd_command.specs.Integer.{judge, is_minus, digits_of}
-use Rattle.ctd_command.specs.Commands.{decide, integer, match_bytes, differ}
+use Rattle.ctd_command.specs.Commands.{decide, integer, match_bytes}
 use Rattle.ctd_command.specs.Blanks.{is_blank, skip_blanks}
-use Rattle.ctd_check.specs.calls.ByLooks.{past_one, prepend_byte, PassesWhile, byte_fits, other_byte, no_byte, look_fails, pass_bytes, pass_visible, digits_by_looks, integer_by_looks, match_by_looks, blanks_by_looks}
+use Rattle.ctd_check.specs.calls.ByLooks.{past_one, prepend_byte, PassesWhile, byte_fits, other_byte, no_byte, look_fails, pass_visible, digits_by_looks, integer_by_looks, blanks_by_looks, mismatch, match_visible}
 
 -- a state so many bytes on
 abbrev on : ℕ → State → State
@@ -50,6 +50,10 @@ while_none test b xs is = take_while-cons test b xs ∙ ap (λ c. cond c (b ∷ 
 front_of : (b : ℕ) (bytes : List ℕ) (r : Result (Option ℕ) Fault) (s : State) → proceed (lift r s) (λ _ u. done (b ∷ bytes) u) ≡ prepend_byte b (proceed (lift r s) (λ _ u. done bytes u))
 front_of b bytes (Ok next) s = refl
 front_of b bytes (Err fault) s = refl
+
+-- these bytes are passed, and the next one is seen
+abbrev pass_bytes : List ℕ → Act (List ℕ)
+pass_bytes bytes = pass (length bytes) >>= λ _. see_next >>= λ _. return bytes
 
 visible_more : (test : ℕ → Bool) (d : TestData) (s : State) (b : ℕ) → next_byte d s.offset ≡ Ok (Some b) → test b ≡ true → pass_visible test d s ≡ prepend_byte b (pass_visible test d (past_one s))
 visible_more test d s b is fits =
@@ -151,40 +155,44 @@ module _ (least most : ℤ) (d : TestData) where
   integers_are_seen s = integer_by_case s (next_byte d s.offset) refl
 
 -- Strings.
-abbrev behind_common : List ℕ → ℕ → Act ⊤
-behind_common wanted n = if nat_eq n (length wanted) then return tt else differ
+abbrev behind_front : List ℕ → ℕ → Act ⊤
+behind_front wanted n = if nat_eq n (length wanted) then return tt else mismatch
 
 differs : (d : TestData) (s : State) (w : ℕ) (ws : List ℕ) (r : Result (Option ℕ) LookFault) → next_byte d s.offset ≡ r → common_prefix_len nat_eq (w ∷ ws) (visible d s.offset) ≡ 0
-    → match_bytes (w ∷ ws) d s ≡ proceed (lift (with_fault fault_of_look r) s) (λ _ u. rejected StringMismatch u.offset)
+    → match_visible (w ∷ ws) d s ≡ proceed (lift (with_fault fault_of_look r) s) (λ _ u. rejected StringMismatch u.offset)
 differs d s w ws r is none =
     let some : nat_eq 0 (length (w ∷ ws)) ≡ false = grind (arith, nat_tests) in
-    ap (λ n. behind_common (w ∷ ws) n d (on n s)) none ∙ ap (λ c. (if c then return tt else differ) d (on 0 s)) some ∙ ap (λ u. differ d u) (on_none s) ∙ ap (λ x. proceed x (λ _ u. rejected StringMismatch u.offset)) (sees d s r is)
+    ap (λ n. behind_front (w ∷ ws) n d (on n s)) none ∙ ap (λ c. (if c then return tt else mismatch) d (on 0 s)) some ∙ ap (λ u. mismatch d u) (on_none s) ∙ ap (λ x. proceed x (λ _ u. rejected StringMismatch u.offset)) (sees d s r is)
 
-abbrev matched : TestData → ℕ → List ℕ → Option ℕ → State → Effect ⊤
-matched d w ws next u = (if is_byte w next then (pass 1 >>= λ _. match_by_looks ws) else reject StringMismatch) d u
-
-same_byte : (d : TestData) (s : State) (w : ℕ) (ws : List ℕ) (b : ℕ) → next_byte d s.offset ≡ Ok (Some b) → nat_eq b w ≡ true → match_bytes (w ∷ ws) d s ≡ match_bytes ws d (past_one s)
+same_byte : (d : TestData) (s : State) (w : ℕ) (ws : List ℕ) (b : ℕ) → next_byte d s.offset ≡ Ok (Some b) → nat_eq b w ≡ true → match_visible (w ∷ ws) d s ≡ match_visible ws d (past_one s)
 same_byte d s w ws b is equal =
     let m : ℕ = common_prefix_len nat_eq ws (visible d (s.offset + 1)) in
     let turned : nat_eq w b ≡ true = grind (arith, nat_tests, equal) in
     let one_more : common_prefix_len nat_eq (w ∷ ws) (visible d s.offset) ≡ 1 + m = ap (common_prefix_len nat_eq (w ∷ ws)) (seen_byte d s.offset b is) ∙ ap (λ c. cond c (1 + m) 0) turned in
     let same : nat_eq (1 + m) (length (w ∷ ws)) ≡ nat_eq m (length ws) = grind (arith, nat_tests) in
-    ap (λ n. behind_common (w ∷ ws) n d (on n s)) one_more ∙ ap (λ c. (if c then return tt else differ) d (on (1 + m) s)) same ∙ ap (λ u. behind_common ws m d u) (sym (on_more m (1 + m) s refl))
+    ap (λ n. behind_front (w ∷ ws) n d (on n s)) one_more ∙ ap (λ c. (if c then return tt else mismatch) d (on (1 + m) s)) same ∙ ap (λ u. behind_front ws m d u) (sym (on_more m (1 + m) s refl))
 
-by_byte : (d : TestData) (s : State) (w : ℕ) (ws : List ℕ) (b : ℕ) (c : Bool) → next_byte d s.offset ≡ Ok (Some b) → nat_eq b w ≡ c → match_bytes ws d (past_one s) ≡ match_by_looks ws d (past_one s)
-    → match_bytes (w ∷ ws) d s ≡ (if c then (pass 1 >>= λ _. match_by_looks ws) else reject StringMismatch) d s
+-- what is left of a string after its first byte, where that one was seen
+abbrev match_rest : TestData → List ℕ → Effect ⊤ → Effect ⊤
+match_rest d ws first = proceed first (λ _ u. match_bytes ws d u)
+
+by_byte : (d : TestData) (s : State) (w : ℕ) (ws : List ℕ) (b : ℕ) (c : Bool) → next_byte d s.offset ≡ Ok (Some b) → nat_eq b w ≡ c → match_visible ws d (past_one s) ≡ match_bytes ws d (past_one s)
+    → match_visible (w ∷ ws) d s ≡ match_rest d ws ((if c then pass 1 else reject StringMismatch) d s)
 by_byte d s w ws b true is equal rest = same_byte d s w ws b is equal ∙ rest
 by_byte d s w ws b false is other rest =
     let turned : nat_eq w b ≡ false = grind (arith, nat_tests, other) in
     let none : common_prefix_len nat_eq (w ∷ ws) (visible d s.offset) ≡ 0 = ap (common_prefix_len nat_eq (w ∷ ws)) (seen_byte d s.offset b is) ∙ ap (λ c. cond c (1 + common_prefix_len nat_eq ws (visible d (s.offset + 1))) 0) turned in
     differs d s w ws (Ok (Some b)) is none
 
-match_by_case : (d : TestData) (s : State) (w : ℕ) (ws : List ℕ) (r : Result (Option ℕ) LookFault) → next_byte d s.offset ≡ r → match_bytes ws d (past_one s) ≡ match_by_looks ws d (past_one s)
-    → match_bytes (w ∷ ws) d s ≡ proceed (lift (with_fault fault_of_look r) s) (matched d w ws)
+match_by_case : (d : TestData) (s : State) (w : ℕ) (ws : List ℕ) (r : Result (Option ℕ) LookFault) → next_byte d s.offset ≡ r → match_visible ws d (past_one s) ≡ match_bytes ws d (past_one s)
+    → match_visible (w ∷ ws) d s ≡ match_rest d ws (proceed (lift (with_fault fault_of_look r) s) (λ next u. (if is_byte w next then pass 1 else reject StringMismatch) d u))
 match_by_case d s w ws (Ok None) is rest = differs d s w ws (Ok None) is (ap (common_prefix_len nat_eq (w ∷ ws)) (seen_end d s.offset is))
 match_by_case d s w ws (Ok (Some b)) is rest = by_byte d s w ws b (nat_eq b w) is refl rest
 match_by_case d s w ws (Err fault) is rest = differs d s w ws (Err fault) is (ap (common_prefix_len nat_eq (w ∷ ws)) (seen_fault d s.offset fault is))
 
-pub strings_are_seen : (bytes : List ℕ) (d : TestData) (s : State) → match_bytes bytes d s ≡ match_by_looks bytes d s
-strings_are_seen [] d s = ap (λ u. done tt u) (on_none s)
-strings_are_seen (w ∷ ws) d s = match_by_case d s w ws (next_byte d s.offset) refl (strings_are_seen ws d (past_one s))
+visible_is_matched : (bytes : List ℕ) (d : TestData) (s : State) → match_visible bytes d s ≡ match_bytes bytes d s
+visible_is_matched [] d s = ap (λ u. done tt u) (on_none s)
+visible_is_matched (w ∷ ws) d s = match_by_case d s w ws (next_byte d s.offset) refl (visible_is_matched ws d (past_one s))
+
+pub strings_are_visible : (bytes : List ℕ) (d : TestData) (s : State) → match_bytes bytes d s ≡ match_visible bytes d s
+strings_are_visible bytes d s = sym (visible_is_matched bytes d s)

@@ -1,13 +1,11 @@
 -- What each command does to its place in the data, and over longer data.
-use Rattle.std.proofs.Common.{◌≡◌, ℕ, ◌+◌, ◌<◌, ◌≤◌, Bool, true, false, nat_eq, nat_lt, ℤ, List, [], ◌∷◌, ◌⊎◌, inl, inr, length, take, Option, Some, None, Result, Ok, Err, refl, ap, sym, ◌∙◌, arith, le_refl, le-add_right, length-take}
+use Rattle.std.proofs.Common.{◌≡◌, ℕ, ◌+◌, ◌≤◌, Bool, true, false, nat_eq, nat_lt, ℤ, List, [], ◌∷◌, length, take, Option, Some, None, Result, Ok, Err, refl, ap, ◌∙◌, arith, le_refl, le-add_right, length-take}
 use Rattle.std.specs.Prelude.{⊤, if◌then◌else◌, pos}
-use Rattle.std.specs.List.{common_prefix_len, prefix_len}
-use Rattle.std.proofs.lemmas.Bool.Decides.{nat_tests}
-use Rattle.std.proofs.lemmas.List.Sums.{prefix_len-le-length, common_prefix_len-le}
+use Rattle.std.specs.List.{prefix_len}
+use Rattle.std.proofs.lemmas.List.Sums.{prefix_len-le-length}
 use Rattle.ctd_source.specs.declared.limits.TheConstants.{WINDOW}
 use Rattle.ctd_source.specs.declared.spot.LookFault.{LookFault}
-use Rattle.ctd_source.specs.declared.spot.LookFault.TheVariants as looks
-use Rattle.ctd_source.specs.TestData.{TestData, next_byte, look, visible, is_byte}
+use Rattle.ctd_source.specs.TestData.{TestData, next_byte, look, is_byte}
 use Rattle.ctd_program.specs.declared.mode.Mode.{Mode}
 use Rattle.ctd_program.specs.declared.mode.Mode.TheVariants.{Exact, BlanksOk}
 use Rattle.ctd_program.specs.Tree
@@ -24,14 +22,14 @@ use Rattle.ctd_outcome.specs.declared.reason.Reason.TheVariants.{ExpectedSpace, 
 use Rattle.ctd_outcome.specs.declared.reason.Fault.TheVariants.{MatchTooLong}
 use Rattle.ctd_command.specs.State.{State, done, Act, proceed, return, reject, stop, pass, lift, fault_of_look, evaluate, see_next, see_window}
 use Rattle.ctd_command.specs.Integer.{judge, is_minus, digits_of, prefix_len_of}
-use Rattle.ctd_command.specs.Commands.{one_byte, eof, set_to, keep, decide, integer, int, differ, match_bytes, string, answer, assert, give_value, set, unset_all}
+use Rattle.ctd_command.specs.Commands.{one_byte, eof, set_to, keep, decide, integer, int, match_bytes, string, answer, assert, give_value, set, unset_all}
 use Rattle.ctd_command.specs.Blanks.{is_blank, blank_next, skip_blanks, some_blanks, newline_between_blanks, end_behind_blanks, space_in, newline_in, end_in, start_in, space, newline, end, first_skip}
 use Rattle.ctd_command.specs.Regex.{shorter_match, matched, regex}
 use Rattle.ctd_check.specs.Loops.{Guard, times, while_true, Task, start, turn, finish, Loop, loop_of, tasks, turn_tasks, goes_on, count_turn, take_turn, run_turn, guard_of, repeat, choice}
 use Rattle.ctd_check.specs.Run.{simple, act_of, perform}
-use Rattle.ctd_check.proofs.Prefixes.{common_of_front, same_prefix, same_common, same_minus, same_digits, integer_within, less_prefix, less_common, less_integer}
-use Rattle.ctd_check.proofs.LongerData.{Extends, longer_visible, same_visible, visible_within, begins, byte_within, look_within}
-use Rattle.ctd_check.proofs.ActLocality.{Forward, Inside, SameOrCut, same, IsLocal, both, either, given, idle, rejecting, stopping, assigning, unsetting, evaluating, seeing, windowing, answering, on, forward_past, cut_behind, passing, forward_next, longer_next, instead}
+use Rattle.ctd_check.proofs.Prefixes.{same_prefix, same_minus, same_digits, integer_within, less_prefix, less_integer}
+use Rattle.ctd_check.proofs.LongerData.{byte_within, look_within}
+use Rattle.ctd_check.proofs.ActLocality.{Forward, Inside, SameOrCut, same, IsLocal, both, either, given, idle, rejecting, stopping, assigning, unsetting, evaluating, seeing, windowing, answering, on, forward_past, passing, forward_next, longer_next}
 
 -- one byte
 taken_inside : (b : Bool) (reason : Reason) (d : TestData) (s : State) → s.offset + 1 ≤ length d.bytes → Inside (length d.bytes) ((if b then pass 1 else reject reason) d s)
@@ -90,60 +88,10 @@ of_integer least most =
 of_int : (low high : ExprTree) (target : Option VarTree) → IsLocal (int low high target)
 of_int low high target = both (evaluate (number_of low)) _ (evaluating (number_of low)) (λ least. both (evaluate (number_of high)) _ (evaluating (number_of high)) (λ most. both (integer least most) _ (of_integer least most) (λ z. keeping target (values.Int z))))
 
--- a string: as many bytes as agree, and where they are not all, a look at the one that differs
-differing : IsLocal differ
-differing = both see_next _ seeing (λ _. rejecting StringMismatch)
-
-abbrev behind_common : List ℕ → ℕ → Act ⊤
-behind_common wanted n = if nat_eq n (length wanted) then return tt else differ
-
-agreeing : (wanted : List ℕ) (n : ℕ) → IsLocal (behind_common wanted n)
-agreeing wanted n = either (nat_eq n (length wanted)) (return tt) differ idle differing
-
-all_agree : (wanted ys xs : List ℕ) (n : ℕ) → n ≡ common_prefix_len nat_eq wanted xs → n ≡ length wanted → take n ys ≡ take n xs → common_prefix_len nat_eq wanted ys ≡ n
-all_agree wanted ys xs n is whole front =
-    let most : common_prefix_len nat_eq wanted ys ≤ length wanted = (common_prefix_len-le nat_eq wanted ys).0 in
-    omega (arith, most, is, whole, common_of_front wanted n ys, common_of_front wanted n xs, ap (common_prefix_len nat_eq wanted) front)
-
--- the bytes that agree are found, and all else goes by their number
-same_behind : (wanted : List ℕ) (d e : TestData) (s : State) (n k : ℕ) (b : Bool) → nat_eq n (length wanted) ≡ b → k ≡ n → behind_common wanted k e (on k s) ≡ (if b then return tt else differ) e (on n s)
-same_behind wanted d e s n k b whole is = ap (λ j. behind_common wanted j e (on j s)) is ∙ ap (λ c. (if c then return tt else differ) e (on n s)) whole
-
-differ_by_case : (wanted : List ℕ) (d e : TestData) (s : State) (n : ℕ) → Extends d e → s.offset ≤ length d.bytes → n ≡ common_prefix_len nat_eq wanted (visible d s.offset) → nat_eq n (length wanted) ≡ false
-    → (take (n + 1) (visible e s.offset) ≡ take (n + 1) (visible d s.offset)) ⊎ ((next_byte d (s.offset + n) ≡ Err looks.Read) × (length d.bytes < (s.offset + n) + 1)) → SameOrCut (length d.bytes) (differ d (on n s)) (match_bytes wanted e s)
-differ_by_case wanted d e s n x within is whole (inl front) =
-    let rest : List ℕ = visible d s.offset in
-    let m : ℕ = common_prefix_len nat_eq wanted rest in
-    let longest : take (m + 1) (visible e s.offset) ≡ take (m + 1) rest = ap (λ j. take (j + 1) (visible e s.offset)) (sym is) ∙ front ∙ ap (λ j. take (j + 1) rest) is in
-    let found : common_prefix_len nat_eq wanted (visible e s.offset) ≡ n = same_common wanted (visible e s.offset) rest longest ∙ sym is in
-    let inside : s.offset + n ≤ length d.bytes = visible_within d s.offset n within (omega (arith, is, (common_prefix_len-le nat_eq wanted rest).1)) in
-    instead (length d.bytes) (differ d (on n s)) (differ e (on n s)) (match_bytes wanted e s) (same_behind wanted d e s n (common_prefix_len nat_eq wanted (visible e s.offset)) false whole found) (differing.longer d e (on n s) x inside)
-differ_by_case wanted d e s n x within is whole (inr early) =
-    let k : ℕ = common_prefix_len nat_eq wanted (visible e s.offset) in
-    let front : n ≤ k = omega (arith, is, less_common wanted (length (visible d s.offset)) (visible e s.offset), ap (common_prefix_len nat_eq wanted) (begins d e s.offset x within)) in
-    cut_behind (length d.bytes) n k d e s (λ _. reject StringMismatch) (behind_common wanted k) (agreeing wanted k) front early.0 early.1
-
-match_by_case : (wanted : List ℕ) (d e : TestData) (s : State) (n : ℕ) (b : Bool) → Extends d e → s.offset ≤ length d.bytes → n ≡ common_prefix_len nat_eq wanted (visible d s.offset) → nat_eq n (length wanted) ≡ b
-    → SameOrCut (length d.bytes) ((if b then return tt else differ) d (on n s)) (match_bytes wanted e s)
-match_by_case wanted d e s n true x within is whole =
-    let inside : s.offset + n ≤ length d.bytes = visible_within d s.offset n within (omega (arith, is, (common_prefix_len-le nat_eq wanted (visible d s.offset)).1)) in
-    let all : n ≡ length wanted = grind (arith, nat_tests, whole) in
-    let found : common_prefix_len nat_eq wanted (visible e s.offset) ≡ n = all_agree wanted (visible e s.offset) (visible d s.offset) n is all (same_visible d e s.offset n x inside) in
-    same (same_behind wanted d e s n (common_prefix_len nat_eq wanted (visible e s.offset)) true whole found)
-match_by_case wanted d e s n false x within is whole = differ_by_case wanted d e s n x within is whole (longer_visible d e s.offset n x)
-
+-- a string: one byte after the other
 matching : (wanted : List ℕ) → IsLocal (match_bytes wanted)
-matching wanted = record {
-  forward = λ d s.
-      let n : ℕ = common_prefix_len nat_eq wanted (visible d s.offset) in
-      forward_past n (behind_common wanted n) d s (agreeing wanted n);
-  inside = λ d s within.
-      let n : ℕ = common_prefix_len nat_eq wanted (visible d s.offset) in
-      (agreeing wanted n).inside d (on n s) (visible_within d s.offset n within (common_prefix_len-le nat_eq wanted (visible d s.offset)).1);
-  longer = λ d e s x within.
-      let n : ℕ = common_prefix_len nat_eq wanted (visible d s.offset) in
-      match_by_case wanted d e s n (nat_eq n (length wanted)) x within refl refl;
-}
+matching [] = idle
+matching (b ∷ rest) = both (one_byte b StringMismatch) _ (of_byte b StringMismatch) (λ _. matching rest)
 
 of_string : (e : ExprTree) → IsLocal (string e)
 of_string e = both (evaluate (text_of e)) _ (evaluating (text_of e)) (λ wanted. matching wanted)

@@ -1,7 +1,7 @@
 -- How much of a list a prefix takes, by the front of the list.
 use Rattle.std.proofs.Common.{◌≡◌, ℕ, zero, suc, ◌+◌, ◌<◌, ◌≤◌, min, Bool, true, false, cond, nat_eq, List, [], ◌∷◌, length, take, drop, get_or, refl, ap, sym, ◌∙◌, arith, le_refl, take-take, get_or-take, length-drop}
 use Rattle.std.specs.Prelude.{if◌then◌else◌}
-use Rattle.std.specs.List.{prefix_len, common_prefix_len, take_while}
+use Rattle.std.specs.List.{prefix_len, take_while}
 use Rattle.std.specs.Char.{is_ascii_digit}
 use Rattle.std.proofs.lemmas.List.{drop-take}
 use Rattle.std.proofs.lemmas.List.Folds.{length-prefix_len}
@@ -18,12 +18,6 @@ prefix_of_front p zero xs = omega arith
 prefix_of_front p (suc k) [] = omega arith
 prefix_of_front p (suc k) (x ∷ xs) = step (p x) k (prefix_len p (take k xs)) (prefix_len p xs) (prefix_of_front p k xs)
 
-pub common_of_front : (wanted : List ℕ) (k : ℕ) (xs : List ℕ) → common_prefix_len nat_eq wanted (take k xs) ≡ min k (common_prefix_len nat_eq wanted xs)
-common_of_front [] k xs = omega arith
-common_of_front (w ∷ wanted) zero xs = omega arith
-common_of_front (w ∷ wanted) (suc k) [] = omega arith
-common_of_front (w ∷ wanted) (suc k) (x ∷ xs) = step (nat_eq w x) k (common_prefix_len nat_eq wanted (take k xs)) (common_prefix_len nat_eq wanted xs) (common_of_front wanted k xs)
-
 -- two numbers that are the same up to one past the second are the same
 same_below : (a b m n : ℕ) → a ≡ min (n + 1) m → b ≡ min (n + 1) n → a ≡ b → m ≡ n
 same_below a b m n left right same = omega arith
@@ -33,11 +27,6 @@ pub same_prefix : (p : ℕ → Bool) (ys xs : List ℕ) → take (prefix_len p x
 same_prefix p ys xs front =
     let n : ℕ = prefix_len p xs in
     same_below (prefix_len p (take (n + 1) ys)) (prefix_len p (take (n + 1) xs)) (prefix_len p ys) n (prefix_of_front p (n + 1) ys) (prefix_of_front p (n + 1) xs) (ap (prefix_len p) front)
-
-pub same_common : (wanted ys xs : List ℕ) → take (common_prefix_len nat_eq wanted xs + 1) ys ≡ take (common_prefix_len nat_eq wanted xs + 1) xs → common_prefix_len nat_eq wanted ys ≡ common_prefix_len nat_eq wanted xs
-same_common wanted ys xs front =
-    let n : ℕ = common_prefix_len nat_eq wanted xs in
-    same_below (common_prefix_len nat_eq wanted (take (n + 1) ys)) (common_prefix_len nat_eq wanted (take (n + 1) xs)) (common_prefix_len nat_eq wanted ys) n (common_of_front wanted (n + 1) ys) (common_of_front wanted (n + 1) xs) (ap (common_prefix_len nat_eq wanted) front)
 
 same_while : (p : ℕ → Bool) (ys xs : List ℕ) → take (prefix_len p xs + 1) ys ≡ take (prefix_len p xs + 1) xs → take_while p ys ≡ take_while p xs
 same_while p ys xs front =
@@ -78,9 +67,6 @@ integer_within xs =
 -- The prefix of a front is no longer than that of the list.
 pub less_prefix : (p : ℕ → Bool) (k : ℕ) (xs : List ℕ) → prefix_len p (take k xs) ≤ prefix_len p xs
 less_prefix p k xs = omega (arith, prefix_of_front p k xs)
-
-pub less_common : (wanted : List ℕ) (k : ℕ) (xs : List ℕ) → common_prefix_len nat_eq wanted (take k xs) ≤ common_prefix_len nat_eq wanted xs
-less_common wanted k xs = omega (arith, common_of_front wanted k xs)
 
 less_while : (k : ℕ) (xs : List ℕ) → length (take_while is_ascii_digit (take k xs)) ≤ length (take_while is_ascii_digit xs)
 less_while k xs = omega (arith, length-prefix_len is_ascii_digit (take k xs), length-prefix_len is_ascii_digit xs, less_prefix is_ascii_digit k xs)

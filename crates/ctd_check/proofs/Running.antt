@@ -26,7 +26,7 @@ use Rattle.ctd_command.specs.State.{State, Effect}
 use Rattle.ctd_command.specs.Blanks.{first_skip}
 use Rattle.ctd_program.specs.declared.mode.Mode.{Mode}
 use Rattle.ctd_command.specs.calls.Performs.{Does, state, Performs}
-use Rattle.ctd_command.specs.inner.Performs.{answering}
+use Rattle.ctd_value.specs.calls.Lending.{map_ok}
 use Rattle.ctd_check.specs.declared.stack.FrameStack.{FrameStack}
 use Rattle.ctd_outcome.specs.declared.outcome.Site.{Site}
 use Rattle.ctd_outcome.specs.declared.outcome.Site.TheVariants.{Start, At}
@@ -130,7 +130,7 @@ module _ {R : Type 0} {G : Ghosts R} where
   task_unpaid old t left spot halt rest stack (Err e) q none none' there is = record { sound = tt; goes = unpaid_goes old t left stack.left spot e rest (to_do stack.frames.items) none none' there (q.1 ∙ is) }
 
   -- a command that stands in no other, by its answer
-  pub task_does : (old new : Run R G) (t : Task) (left left' : ℕ) (rest : List Task) (stack : FrameStack) (spot : Spot) (site : Site) (r : Result (Unit {0}) CommandFailure) → left ≡ left' + 1 → stack.left ≡ left' → to_do stack.frames.items ≡ rest → spot ≡ old.cursor.spot → site ≡ site_of t → Performs {A = List Task} old new (answering (λ _. []) r) (perform t)
+  pub task_does : (old new : Run R G) (t : Task) (left left' : ℕ) (rest : List Task) (stack : FrameStack) (spot : Spot) (site : Site) (r : Result (Unit {0}) CommandFailure) → left ≡ left' + 1 → stack.left ≡ left' → to_do stack.frames.items ≡ rest → spot ≡ old.cursor.spot → site ≡ site_of t → Performs {A = List Task} old new (map_ok (λ _. []) r) (perform t)
       → Advances {A = Unit {0}} old new left (t ∷ rest) stack (halt_result spot site r)
   task_does old new t left left' rest stack spot site (Ok x) one same is there at p = task_done old new t left left' [] rest stack one same is p
   task_does old new t left left' rest stack spot site (Err failure) one same is there at p =

@@ -10,7 +10,7 @@ use Rattle.ctd_program.specs.calls.View.{command_trees}
 use Rattle.ctd_check.specs.declared.frame.Frame.{Frame}
 use Rattle.ctd_check.specs.declared.frame.RunningLoop.{RunningLoop}
 use Rattle.ctd_check.specs.Loops.{turn, tasks}
-use Rattle.ctd_check.specs.inner.FrameTasks.{to_do, Fits, top_loop, next_turn, loop_tasks, loop_in, body_tasks, frame_tasks, frame_blocks, loop_blocks, loop_turn, IsAtTurn, IsListDone}
+use Rattle.ctd_check.specs.inner.FrameTasks.{most_frames, to_do, Fits, top_loop, next_turn, loop_tasks, loop_in, body_tasks, frame_tasks, frame_blocks, loop_blocks, loop_turn, IsAtTurn, IsListDone}
 use Rattle.ctd_check.proofs.Stacks.{IsOnTop, split_last, with_top, to_do_push, fits_pop, fits_push, fits_less}
 
 top_of : (below : List Frame) (f : Frame) → top_loop (below ++ f ∷ []) ≡ f.running_loop
@@ -35,7 +35,7 @@ top_seen (g ∷ []) f is = let same : Some f ≡ Some g = is in ap (λ o. IfLoop
 top_seen (g ∷ h ∷ fs) f is = top_seen (h ∷ fs) f (is ∙ ap (slice_get (g ∷ h ∷ fs)) (before_last (length fs)))
 
 -- what is known of it
-pub top_room : (left : ℕ) (all : List Frame) (running_loop : RunningLoop) → top_loop all ≡ Some running_loop → Fits left all → length all + loop_blocks (Some running_loop) ≤ 201
+pub top_room : (left : ℕ) (all : List Frame) (running_loop : RunningLoop) → top_loop all ≡ Some running_loop → Fits left all → length all + loop_blocks (Some running_loop) ≤ most_frames
 top_room left [] running_loop is fits = cc
 top_room left (g ∷ fs) running_loop is fits =
     let split = split_last g fs in
@@ -50,7 +50,7 @@ top_turn left (g ∷ fs) running_loop is fits =
     let turn = (fits_pop left (g ∷ fs) split.1 split.0 split.2 fits).turn in
     omega (arith, turn, ap loop_turn (sym (top_of split.1 split.0) ∙ sym (ap top_loop split.2) ∙ is))
 
-pub loop_room : (left : ℕ) (all : List Frame) (r : Option (Bor RunningLoop)) → option_copied r ≡ top_loop all → Fits left all → IfSome r (λ running_loop. length all + loop_blocks (Some running_loop.now) ≤ 201)
+pub loop_room : (left : ℕ) (all : List Frame) (r : Option (Bor RunningLoop)) → option_copied r ≡ top_loop all → Fits left all → IfSome r (λ running_loop. length all + loop_blocks (Some running_loop.now) ≤ most_frames)
 loop_room left all None is fits = tt
 loop_room left all (Some running_loop) is fits = top_room left all running_loop.now (sym is) fits
 

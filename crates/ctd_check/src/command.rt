@@ -6,7 +6,7 @@ ghost use Rattle.ctd_syntax.specs.RegexNumbers.{command_literals};
 ghost use Rattle.ctd_loader.specs.calls.PatternTable.{AreAmong, IsAmong};
 ghost use Rattle.ctd_command.specs.Regex.{regex};
 ghost use Rattle.ctd_command.specs.calls.Performs.{IsSound, Performs};
-ghost use Rattle.ctd_command.specs.inner.Performs.{answering};
+ghost use Rattle.ctd_value.specs.calls.Lending.{map_ok};
 ghost use Rattle.ctd_check.specs.inner.Known.{LeavesKnown};
 ghost use Rattle.ctd_check.specs.Run.{act_of};
 ghost use Rattle.ctd_check.specs.inner.FrameTasks.{left_tasks};
@@ -44,7 +44,7 @@ pub(crate) fn act<D: Source>(
 ) -> Option<Result<(), CommandFailure>>
     requires sound { IsSound run.old }
     requires known { AreAmong matchers.old (command_literals (command_tree command.now)) }
-    ensures performs { IfSome result (λ done. Performs run.old run.new (answering (λ _. []) done) (act_of (command_tree command.now))) }
+    ensures performs { IfSome result (λ done. Performs run.old run.new (map_ok (λ _. []) done) (act_of (command_tree command.now))) }
     ensures block { IfNone result (0 < blocks (command_tree command.now)) }
     ensures stays { IfNone result (run.new ≡ run.old) }
     ensures kept { matchers.new ≡ matchers.old }
@@ -81,7 +81,7 @@ pub(crate) fn start_block<'p, D: Source>(
 ) -> Result<Option<Frame<'p>>, CommandFailure>
     requires sound { IsSound run.old }
     requires block { 0 < blocks (command_tree command.now) }
-    ensures performs { Performs run.old run.new (answering left_tasks result) (act_of (command_tree command.now)) }
+    ensures performs { Performs run.old run.new (map_ok left_tasks result) (act_of (command_tree command.now)) }
     ensures room { NeedsRoom result (blocks (command_tree command.now)) }
     ensures known { (patterns : List (List ℕ)) → AreAmong patterns (command_literals (command_tree command.now)) → LeavesKnown patterns result }
 {

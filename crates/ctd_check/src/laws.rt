@@ -1,7 +1,7 @@
 //! The laws of the run. They have no code: each contract is a law that holds of every run.
 
 ghost use Rattle.ctd_check.specs.calls.BigSteps.{BigStepsHold, BigStepsHaveOneEnd, MeaningIsBigSteps};
-ghost use Rattle.ctd_check.specs.calls.ByLooks.{VisibleBytesAreSeen, LooksHaveOneEffect, IntegersGoByLooks, StringsGoByLooks, BlanksGoByLooks};
+ghost use Rattle.ctd_check.specs.calls.ByLooks.{VisibleBytesAreSeen, LooksHaveOneEffect, IntegersGoByLooks, BlanksGoByLooks, StringsGoByVisibleBytes};
 ghost use Rattle.ctd_check.specs.calls.Laws.{ListsRunInTurn, CommandsMeanInTurn, OfEveryProgram, StepsAreWithin, EnoughStepsAgree, TooFewStepsStop, LowerLimitsStop, MoreStepsConsumeNoLess, CostIsTheSame, LooksAWindowAhead, UnreadBytesDoNotCount, TakenBytesDecide, FindsDataOfCall, FindsKnownBytes};
 
 use ctd_source::Source;
@@ -55,12 +55,13 @@ pub fn big_steps_are_the_run()
     ensures meaning { MeaningIsBigSteps }
 {}
 
-/// INT, STRING and blanks see one byte after the other: what their definitions say of the visible bytes is what looks give,
-/// one at each offset, and a fault of a look stops them with the bytes before it consumed.
+/// INT and blanks see one byte after the other: what their definitions say of the visible bytes is what looks give, one at
+/// each offset, and a fault of a look stops them with the bytes before it consumed. STRING, whose definition goes byte by
+/// byte, passes as many of the visible bytes as agree with it.
 pub fn commands_look_byte_by_byte()
     ensures seen { VisibleBytesAreSeen }
     ensures one { LooksHaveOneEffect }
     ensures integers { IntegersGoByLooks }
-    ensures strings { StringsGoByLooks }
     ensures blanks { BlanksGoByLooks }
+    ensures strings { StringsGoByVisibleBytes }
 {}

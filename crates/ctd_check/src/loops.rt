@@ -6,7 +6,7 @@ ghost use Rattle.ctd_program.specs.calls.View.{boxed_target, command_list, guard
 ghost use Rattle.ctd_syntax.specs.RegexNumbers.{literals, separator_literals};
 ghost use Rattle.ctd_loader.specs.calls.PatternTable.{AreAmong};
 ghost use Rattle.ctd_command.specs.calls.Performs.{IsSound, Performs};
-ghost use Rattle.ctd_command.specs.inner.Performs.{answering};
+ghost use Rattle.ctd_value.specs.calls.Lending.{map_ok};
 ghost use Rattle.ctd_check.specs.inner.Known.{LeavesKnown};
 ghost use Rattle.ctd_check.specs.Loops.{tasks, loop_of, turn, take_turn, count_turn, goes_on, guard_of, repeat, choice};
 ghost use Rattle.ctd_check.specs.inner.FrameTasks.{frame_tasks, separator_in, frame_blocks, loop_turn, guard_in, counter_in, loop_in, left_tasks, IsWithin};
@@ -89,7 +89,7 @@ pub(crate) fn choose<'p, D: Source>(
     else_do: &'p Commands,
 ) -> Result<Option<Frame<'p>>, CommandFailure>
     requires sound { IsSound run.old }
-    ensures performs { Performs run.old run.new (answering left_tasks result) (choice (test_tree t.now) (command_list then_do.now) (command_list else_do.now)) }
+    ensures performs { Performs run.old run.new (map_ok left_tasks result) (choice (test_tree t.now) (command_list then_do.now) (command_list else_do.now)) }
     ensures room { NeedsRoom result (1 + max (list_blocks (command_list then_do.now)) (list_blocks (command_list else_do.now))) }
     ensures known { (patterns : List (List ℕ)) → AreAmong patterns (literals (command_list then_do.now) ++ literals (command_list else_do.now)) → LeavesKnown patterns result }
 {
@@ -106,7 +106,7 @@ fn guard_of<'p, D: Source>(
     guard: &'p LoopGuard,
 ) -> Result<Guard<'p>, CommandFailure>
     requires sound { IsSound run.now }
-    ensures performs { Performs run.now run.now (answering guard_in result) (guard_of (guard_tree guard.now)) }
+    ensures performs { Performs run.now run.now (map_ok guard_in result) (guard_of (guard_tree guard.now)) }
 {
     match guard {
         LoopGuard::Times(count) => {
@@ -128,7 +128,7 @@ pub(crate) fn repeat<'p, D: Source>(
     body: &'p Commands,
 ) -> Result<Option<Frame<'p>>, CommandFailure>
     requires sound { IsSound run.old }
-    ensures performs { Performs run.old run.new (answering left_tasks result) (repeat place (guard_tree guard.now) (boxed_target counter.now) (boxed_separator between.now) (command_list body.now)) }
+    ensures performs { Performs run.old run.new (map_ok left_tasks result) (repeat place (guard_tree guard.now) (boxed_target counter.now) (boxed_separator between.now) (command_list body.now)) }
     ensures room { NeedsRoom result (1 + max (separator_blocks (boxed_separator between.now)) (list_blocks (command_list body.now))) }
     ensures known { (patterns : List (List ℕ)) → AreAmong patterns (separator_literals (boxed_separator between.now) ++ literals (command_list body.now)) → LeavesKnown patterns result }
 {

@@ -7,7 +7,7 @@ ghost use Rattle.ctd_syntax.specs.RegexNumbers.{command_literals};
 ghost use Rattle.ctd_command.specs.calls.Performs.{IsSound, state};
 ghost use Rattle.ctd_check.specs.inner.Known.{AreKnown};
 ghost use Rattle.ctd_check.specs.Loops.{start, tasks_before_turn};
-ghost use Rattle.ctd_check.specs.inner.FrameTasks.{to_do, top_loop, loop_blocks, separator_in, separator_tasks, IsListDone};
+ghost use Rattle.ctd_check.specs.inner.FrameTasks.{most_frames, to_do, top_loop, loop_blocks, separator_in, separator_tasks, IsListDone};
 ghost use Rattle.ctd_check.specs.inner.Advances.{Advances, RunsTo};
 ghost use Rattle.ctd_check.specs.inner.Opening.{Opens, halt_result};
 ghost use Rattle.ctd_check.specs.Run.{act_of, run as result_of, run_from};
@@ -32,7 +32,7 @@ fn begin<'p, D: Source>(
     matchers: &mut [Matcher<'_>],
 ) -> Result<(), CommandFailure>
     requires sound { IsSound run.old }
-    requires room { length stack.old.frames.items + blocks (command_tree command.now) ≤ 201 }
+    requires room { length stack.old.frames.items + blocks (command_tree command.now) ≤ most_frames }
     requires known { AreKnown matchers.old (start (command_tree command.now) ∷ to_do stack.old.frames.items) }
     ensures spent { stack.new.left ≤ stack.old.left }
     ensures less { OnOk result (2 * stack.new.left + length stack.new.frames.items < 2 * stack.old.left + length stack.old.frames.items) }
@@ -56,7 +56,7 @@ fn open<'p, D: Source>(
 ) -> Result<(), CommandFailure>
     requires sound { IsSound run.old }
     requires block { 0 < blocks (command_tree command.now) }
-    requires room { length stack.old.frames.items + blocks (command_tree command.now) ≤ 201 }
+    requires room { length stack.old.frames.items + blocks (command_tree command.now) ≤ most_frames }
     requires bound { stack.old.left + 1 ≤ 2 ^ 64 }
     ensures left { stack.new.left ≡ stack.old.left }
     ensures len { length stack.new.frames.items ≤ length stack.old.frames.items + 1 }
@@ -78,7 +78,7 @@ fn open_loop<'p, D: Source>(
 ) -> Result<(), CommandFailure>
     requires sound { IsSound run.old }
     requires block { 0 < blocks (command_tree command.now) }
-    requires room { length stack.old.frames.items + blocks (command_tree command.now) ≤ 201 }
+    requires room { length stack.old.frames.items + blocks (command_tree command.now) ≤ most_frames }
     requires bound { stack.old.left + 1 ≤ 2 ^ 64 }
     ensures left { stack.new.left ≡ stack.old.left }
     ensures len { length stack.new.frames.items ≤ length stack.old.frames.items + 1 }
@@ -96,7 +96,7 @@ fn open_here<'p, D: Source>(
 ) -> Result<(), CommandFailure>
     requires sound { IsSound run.old }
     requires block { 0 < blocks (command_tree command.now) }
-    requires room { length stack.old.frames.items + blocks (command_tree command.now) ≤ 201 }
+    requires room { length stack.old.frames.items + blocks (command_tree command.now) ≤ most_frames }
     requires bound { stack.old.left + 1 ≤ 2 ^ 64 }
     ensures left { stack.new.left ≡ stack.old.left }
     ensures len { length stack.new.frames.items ≤ length stack.old.frames.items + 1 }

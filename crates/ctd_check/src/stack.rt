@@ -5,7 +5,7 @@ ghost use Rattle.ctd_program.specs.Tree.{blocks, list_blocks};
 ghost use Rattle.ctd_program.specs.calls.View.{command_tree, command_trees};
 ghost use Rattle.ctd_check.specs.Loops.{start, tasks, finish};
 ghost use Rattle.ctd_check.specs.declared.frame.RunningLoop.{RunningLoop};
-ghost use Rattle.ctd_check.specs.inner.FrameTasks.{Fits, fits_prop, to_do, top_loop, frame_tasks, left_tasks, body_tasks, loop_blocks, frame_blocks, loop_turn, IsAtTurn, IsListDone, IsWithin};
+ghost use Rattle.ctd_check.specs.inner.FrameTasks.{most_frames, Fits, fits_prop, to_do, top_loop, frame_tasks, left_tasks, body_tasks, loop_blocks, frame_blocks, loop_turn, IsAtTurn, IsListDone, IsWithin};
 
 use crate::frame::{Frame, RunningLoop};
 use arrayvec::ArrayVec;
@@ -28,7 +28,7 @@ pub(crate) struct FrameStack<'p> {
 fn next_command_in<'p>(frames: &mut [Frame<'p>]) -> Option<&'p Command>
     ensures len { length frames.new ≡ length frames.old }
     ensures to_do { IfSome result (λ c. to_do frames.old ≡ start (command_tree c.now) ∷ to_do frames.new) }
-    ensures room { (left : ℕ) → Fits left frames.old → IfSome result (λ c. length frames.old + blocks (command_tree c.now) ≤ 201) }
+    ensures room { (left : ℕ) → Fits left frames.old → IfSome result (λ c. length frames.old + blocks (command_tree c.now) ≤ most_frames) }
     ensures fits { (left : ℕ) → Fits left frames.old → Fits left frames.new }
     ensures none { IfNone result ((frames.new ≡ frames.old) × IsListDone frames.old) }
 {
@@ -100,7 +100,7 @@ impl<'p> FrameStack<'p> {
         ensures left { self.new.left ≡ self.old.left }
         ensures len { length self.new.frames.items ≡ length self.old.frames.items }
         ensures to_do { IfSome result (λ c. to_do self.old.frames.items ≡ start (command_tree c.now) ∷ to_do self.new.frames.items) }
-        ensures room { IfSome result (λ c. length self.old.frames.items + blocks (command_tree c.now) ≤ 201) }
+        ensures room { IfSome result (λ c. length self.old.frames.items + blocks (command_tree c.now) ≤ most_frames) }
         ensures none { IfNone result ((self.new.frames.items ≡ self.old.frames.items) × IsListDone self.old.frames.items) }
     {
         next_command_in(self.frames.as_mut_slice())
@@ -116,7 +116,7 @@ impl<'p> FrameStack<'p> {
     /// The loop of the topmost frame, before its next turn.
     pub(crate) fn running_loop(&self) -> Option<&RunningLoop<'p>>
         ensures value { option_copied result ≡ top_loop self.now.frames.items }
-        ensures room { IfSome result (λ running_loop. length self.now.frames.items + loop_blocks (Some running_loop.now) ≤ 201) }
+        ensures room { IfSome result (λ running_loop. length self.now.frames.items + loop_blocks (Some running_loop.now) ≤ most_frames) }
     {
         match self.frames.as_slice().last() {
             Some(frame) => frame.running_loop.as_ref(),
@@ -160,7 +160,7 @@ impl<'p> FrameStack<'p> {
 
     /// Puts a frame on top.
     pub(crate) fn push(&mut self, frame: Frame<'p>)
-        requires room { length self.old.frames.items + 1 + frame_blocks frame ≤ 201 }
+        requires room { length self.old.frames.items + 1 + frame_blocks frame ≤ most_frames }
         requires turn { loop_turn frame.running_loop + self.old.left + 1 ≤ 2 ^ 64 }
         ensures left { self.new.left ≡ self.old.left }
         ensures len { length self.new.frames.items ≡ length self.old.frames.items + 1 }
@@ -171,7 +171,7 @@ impl<'p> FrameStack<'p> {
 
     /// Puts the frame on top that a command leaves, if it leaves one.
     pub(crate) fn leave(&mut self, frame: Option<Frame<'p>>)
-        requires room { IsWithin frame (201 - length self.old.frames.items) }
+        requires room { IsWithin frame (most_frames - length self.old.frames.items) }
         requires bound { self.old.left + 1 ≤ 2 ^ 64 }
         ensures left { self.new.left ≡ self.old.left }
         ensures len { length self.new.frames.items ≤ length self.old.frames.items + 1 }

@@ -12,6 +12,7 @@ use Rattle.ctd_source.specs.calls.Received.{AdvancesSuchThat}
 use Rattle.ctd_source.proofs.AdvanceLemmas.{advances_so, advances_both, advances_nowhere, advances_looking, advances_moving}
 use Rattle.ctd_store.specs.Store.{History}
 use Rattle.ctd_value.specs.Fault.{ValueFault, with_fault}
+use Rattle.ctd_value.specs.calls.Lending.{map_ok}
 use Rattle.ctd_command.specs.Commands.{one_byte}
 use Rattle.ctd_command.specs.declared.machine.Run.{Run}
 use Rattle.ctd_outcome.specs.declared.reason.Reason.{Reason}
@@ -20,7 +21,7 @@ use Rattle.ctd_command.specs.declared.failure.CommandFailure.{CommandFailure}
 use Rattle.ctd_command.specs.declared.failure.Failure.TheVariants.{Rejected, Stopped, Memory}
 use Rattle.ctd_command.specs.State.{State, Effect, Act, done, faulty, proceed, ◌>>=◌, return, reject, lift, evaluate, fault_of_value, fault_of_look, see_next, pass}
 use Rattle.ctd_command.specs.calls.Performs.{Does, state, IsSound, Performs}
-use Rattle.ctd_command.specs.inner.Performs.{Tells, answering}
+use Rattle.ctd_command.specs.inner.Performs.{Tells}
 
 pub does_early : {A B : Type 0} (r : CommandFailure) (s : State) (e : Effect A) (k : A → State → Effect B) → Does {A = A} (Err r) s e → Does {A = B} (Err r) s (proceed e k)
 does_early (Rejected reason) s e k is = ap (λ x. proceed x k) is
@@ -38,13 +39,13 @@ pub always : {A : Type 0} {P : Type 0} (r : Result A CommandFailure) → P → O
 always (Ok x) p = p
 always (Err e) p = tt
 
-does_answering : {A B : Type 0} (g : A → B) (r : Result A CommandFailure) (s : State) (e : Effect A) → Does r s e → Does (answering g r) s (proceed e (λ x t. done (g x) t))
-does_answering g (Ok x) s e is = ap (λ y. proceed y (λ z t. done (g z) t)) is
-does_answering g (Err failure) s e is = does_early failure s e (λ x t. done (g x) t) is
+does_map_ok : {A B : Type 0} (g : A → B) (r : Result A CommandFailure) (s : State) (e : Effect A) → Does r s e → Does (map_ok g r) s (proceed e (λ x t. done (g x) t))
+does_map_ok g (Ok x) s e is = ap (λ y. proceed y (λ z t. done (g z) t)) is
+does_map_ok g (Err failure) s e is = does_early failure s e (λ x t. done (g x) t) is
 
-sound_answering : {A B : Type 0} (P : Type 0) (g : A → B) (r : Result A CommandFailure) → OnOk r P → OnOk (answering g r) P
-sound_answering P g (Ok x) p = p
-sound_answering P g (Err failure) p = tt
+sound_map_ok : {A B : Type 0} (P : Type 0) (g : A → B) (r : Result A CommandFailure) → OnOk r P → OnOk (map_ok g r) P
+sound_map_ok P g (Ok x) p = p
+sound_map_ok P g (Err failure) p = tt
 
 -- whether a byte is the one that is wanted has one answer; apart, since `cc` looks at all that a lemma is given
 answer_is : (wanted : ℕ) (next : Option ℕ) (answer : Bool) → Ok answer ≡ whether_byte wanted (Ok next) → is_byte wanted next ≡ answer
@@ -118,16 +119,16 @@ module _ {R : Type 0} {G : Ghosts R} where
   early_by f (Err e) is p = answers_as (ap Err is.1) (early f p)
 
   -- an answer that stands for something
-  pub performs_answering : {A B : Type 0} {a b : Run R G} {r : Result A CommandFailure} {m : Act A} (g : A → B) → Performs a b r m → Performs a b (answering g r) (m >>= λ x. return (g x))
-  performs_answering {A = A} {B = B} {a = a} {b = b} {r = r} {m = m} g p = record {
-    sound = sound_answering (IsSound b) g r p.sound;
-    goes = advances_so p.goes (λ d _ e. does_answering g r (state b) (m d (state a)) e);
+  pub performs_map_ok : {A B : Type 0} {a b : Run R G} {r : Result A CommandFailure} {m : Act A} (g : A → B) → Performs a b r m → Performs a b (map_ok g r) (m >>= λ x. return (g x))
+  performs_map_ok {A = A} {B = B} {a = a} {b = b} {r = r} {m = m} g p = record {
+    sound = sound_map_ok (IsSound b) g r p.sound;
+    goes = advances_so p.goes (λ d _ e. does_map_ok g r (state b) (m d (state a)) e);
   }
 
   -- what `?` gives, where the answer stands for something
-  pub early_answering : {A B C : Type 0} {a b : Run R G} {failure : CommandFailure} {m : Act A} (g : B → C) (f : A → Act C) (q : Result B CommandFailure) → IsErr q × IsErrAnd q (λ e. e ≡ failure) → Performs {A = A} a b (Err failure) m → Performs {A = C} a b (answering g q) (m >>= f)
-  early_answering g f (Ok x) is p = let e : true ≡ false = sym is.0 in cc
-  early_answering g f (Err e) is p = answers_as (ap Err is.1) (early f p)
+  pub early_map_ok : {A B C : Type 0} {a b : Run R G} {failure : CommandFailure} {m : Act A} (g : B → C) (f : A → Act C) (q : Result B CommandFailure) → IsErr q × IsErrAnd q (λ e. e ≡ failure) → Performs {A = A} a b (Err failure) m → Performs {A = C} a b (map_ok g q) (m >>= f)
+  early_map_ok g f (Ok x) is p = let e : true ≡ false = sym is.0 in cc
+  early_map_ok g f (Err e) is p = answers_as (ap Err is.1) (early f p)
 
   -- a given answer under another name
   pub given_as : {A : Type 0} (a : Run R G) (x y : A) → x ≡ y → IsSound a → Performs a a (Ok x) (return y)

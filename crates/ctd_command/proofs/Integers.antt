@@ -17,7 +17,7 @@ use Rattle.ctd_command.specs.Integer.{is_minus, sign_len, digits_of, prefix_len_
 use Rattle.ctd_command.specs.inner.Summaries.{Summarizes}
 use Rattle.ctd_command.specs.inner.Passing.{PassesMinus, PassesRow, PassesDigits, IsPast, StopsAt}
 use Rattle.ctd_command.specs.State.{State, Effect, faulty, proceed, lift, fault_of_look}
-use Rattle.ctd_command.specs.Commands.{decide, read_integer, integer}
+use Rattle.ctd_command.specs.Commands.{decide, integer}
 
 -- no digit comes first
 abbrev pub NoDigit : List ℕ → Type 0
@@ -140,8 +140,9 @@ integer_faulty least most d s q negative row fault f e = integer_parts least mos
 -- nothing is visible where the look for the sign had a fault
 pub integer_unseen : (least most : ℤ) (d : TestData) (s : State) (q : ℕ) (fault : LookFault) → PassesMinus d s.offset q (Err fault) → integer least most d s ≡ faulty (fault_of_look fault) q
 integer_unseen least most d s q fault f =
+    let read : List ℕ → Effect ℤ = λ xs. by_parts least most d s (s.offset + prefix_len_of xs) (next_byte d (s.offset + prefix_len_of xs)) (is_minus xs) (digits_of xs) in
     let there : s.offset + 0 ≡ q = omega (arith, f.0) in
-    ap (λ xs. read_integer least most xs d s) (seen_fault d s.offset fault f.1)
+    ap read (seen_fault d s.offset fault f.1)
     ∙ ap (λ k. by_parts least most d s k (next_byte d k) false []) there
     ∙ ap (λ next. by_parts least most d s q next false []) (ap (next_byte d) f.0 ∙ f.1)
 

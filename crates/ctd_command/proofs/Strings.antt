@@ -1,6 +1,6 @@
 -- A string that is passed in parts.
 use Rattle.std.specs.Prelude.{⊤}
-use Rattle.std.proofs.Common.{◌≡◌, ◌<◌, ◌≤◌, ℕ, ◌+◌, Bool, true, false, OnOk, nat_eq, List, [], ◌∷◌, ◌++◌, length, take, drop, refl, ap, sym, ◌∙◌, subst, arith, length-append, length-take, length-drop, min, Option, Some, None, Result, Ok, Err, cond, if◌then◌else◌, IsOk}
+use Rattle.std.proofs.Common.{◌≡◌, ◌<◌, ◌≤◌, ℕ, ◌+◌, Bool, true, false, OnOk, nat_eq, List, [], ◌∷◌, ◌++◌, length, take, drop, refl, ap, sym, ◌∙◌, subst, arith, length-take, length-drop, min, Option, Some, None, Result, Ok, Err, cond, if◌then◌else◌, IsOk}
 use Rattle.std.specs.List.{common_prefix_len}
 use Rattle.std.proofs.lemmas.List.Sums.{common_prefix_len-le}
 use Rattle.std.proofs.lemmas.Bool.Decides.{nat_tests}
@@ -11,16 +11,16 @@ use Rattle.ctd_source.specs.declared.source.Source.{Ghosts}
 use Rattle.ctd_source.specs.declared.spot.LookFault.{LookFault}
 use Rattle.ctd_source.specs.calls.Received.{AdvancesSuchThat}
 use Rattle.ctd_source.proofs.AdvanceLemmas.{advances_so}
-use Rattle.ctd_source.specs.TestData.{TestData, next_byte, visible}
-use Rattle.ctd_source.proofs.Visible.{seen_fault, seen_end}
+use Rattle.ctd_source.specs.TestData.{TestData, next_byte, visible, is_byte}
+use Rattle.ctd_source.proofs.Visible.{seen_byte, seen_end, seen_fault}
 use Rattle.ctd_store.specs.Store.{History}
 use Rattle.ctd_value.specs.Fault.{with_fault}
 use Rattle.ctd_command.specs.declared.failure.CommandFailure.{CommandFailure}
 use Rattle.ctd_command.specs.declared.failure.Failure.TheVariants.{Stopped}
 use Rattle.ctd_program.specs.declared.mode.Mode.{Mode}
 use Rattle.ctd_outcome.specs.declared.reason.Reason.TheVariants.{StringMismatch}
-use Rattle.ctd_command.specs.State.{State, Effect, Act, done, rejected, faulty, proceed, return, lift, fault_of_look}
-use Rattle.ctd_command.specs.Commands.{differ, compare, match_bytes}
+use Rattle.ctd_command.specs.State.{State, Effect, Act, rejected, faulty, proceed, reject, pass, lift, fault_of_look}
+use Rattle.ctd_command.specs.Commands.{match_bytes}
 use Rattle.ctd_command.specs.inner.Passing.{PassesPrefix, PassesSome}
 use Rattle.ctd_command.specs.inner.Alone.{DoesAlone}
 use Rattle.ctd_command.specs.calls.Performs.{Does, Performs}
@@ -55,62 +55,64 @@ all_agree m wanted bytes is same =
     ∙ front_both (take m wanted) a b in
     omega (arith, split, le.0, le.1, length-take m wanted, length-drop m wanted, length-drop m bytes, is)
 
--- a comparison by how many bytes agree, and whether these are all
-abbrev by_count : TestData → State → ℕ → Bool → Effect ⊤
-by_count d s n all = (if all then return tt else differ) d (record { offset = s.offset + n; store = s.store; mode = s.mode })
+-- a byte that comes next where it is visible first
+next_by : (r : Result (Option ℕ) LookFault) (d : TestData) (p c : ℕ) (rest : List ℕ) → next_byte d p ≡ r → visible d p ≡ c ∷ rest → (next_byte d p ≡ Ok (Some c)) × (visible d (p + 1) ≡ rest)
+next_by (Ok (Some b)) d p c rest next is =
+    let split : b ∷ visible d (p + 1) ≡ c ∷ rest = sym (seen_byte d p b next) ∙ is in
+    let first : b ≡ c = cc in
+    let tails : visible d (p + 1) ≡ rest = cc in
+    (next ∙ ap (λ x. Ok (Some x)) first, tails)
+next_by (Ok None) d p c rest next is = let wrong : [] ≡ c ∷ rest = sym (seen_end d p next) ∙ is in cc
+next_by (Err fault) d p c rest next is = let wrong : [] ≡ c ∷ rest = sym (seen_fault d p fault next) ∙ is in cc
 
-same_more : (k n m : ℕ) → nat_eq (k + n) (k + m) ≡ nat_eq n m
-same_more k n m = grind (arith, nat_tests)
+-- what matching bytes does, by a look at the next one
+abbrev by_next : TestData → State → ℕ → List ℕ → Result (Option ℕ) LookFault → Effect ⊤
+by_next d s c cs next = proceed (proceed (lift (with_fault fault_of_look next) s) (λ x t. (if is_byte c x then pass 1 else reject StringMismatch) d t)) (λ _ t. match_bytes cs d t)
 
-compare_more : (d : TestData) (s : State) (x a b : List ℕ) → compare (x ++ a) (x ++ b) d s ≡ compare a b d (record { offset = s.offset + length x; store = s.store; mode = s.mode })
-compare_more d s x a b =
-    let n = common_prefix_len nat_eq a b in
-    let there : s.offset + (length x + n) ≡ s.offset + length x + n = omega arith in
-    ap (λ k. by_count d s k (nat_eq k (length (x ++ a)))) (front_both x a b)
-    ∙ ap (λ l. by_count d s (length x + n) (nat_eq (length x + n) l)) (length-append x a)
-    ∙ ap (by_count d s (length x + n)) (same_more (length x) n (length a))
-    ∙ ap (λ p. (if nat_eq n (length a) then return tt else differ) d (record { offset = p; store = s.store; mode = s.mode })) there
+abbrev by_test : TestData → State → List ℕ → Bool → Effect ⊤
+by_test d s cs same = proceed ((if same then pass 1 else reject StringMismatch) d s) (λ _ t. match_bytes cs d t)
 
--- where none agrees and some are wanted
-compare_none : (d : TestData) (s : State) (wanted rest : List ℕ) → 0 < length wanted → common_prefix_len nat_eq wanted rest ≡ 0 → compare wanted rest d s ≡ differ d (record { offset = s.offset; store = s.store; mode = s.mode })
-compare_none d s wanted rest some none =
-    let not_all : nat_eq 0 (length wanted) ≡ false = grind (arith, nat_tests) in
-    let there : s.offset + 0 ≡ s.offset = omega arith in
-    ap (λ k. by_count d s k (nat_eq k (length wanted))) none
-    ∙ ap (by_count d s 0) not_all
-    ∙ ap (λ p. differ d (record { offset = p; store = s.store; mode = s.mode })) there
+-- a front that is visible is passed
+front_more : (d : TestData) (s : State) (front rest : List ℕ) (q : ℕ) → q ≡ s.offset + length front → visible d s.offset ≡ front ++ visible d q → match_bytes (front ++ rest) d s ≡ match_bytes rest d (record { offset = q; store = s.store; mode = s.mode })
+front_more d s [] rest q offset is = let same : s.offset ≡ q = omega (arith, offset) in ap (λ p. match_bytes rest d (record { offset = p; store = s.store; mode = s.mode })) same
+front_more d s (c ∷ cs) rest q offset is =
+    let next = next_by (next_byte d s.offset) d s.offset c (cs ++ visible d q) refl is in
+    let later : q ≡ s.offset + 1 + length cs = omega (arith, offset) in
+    ap (by_next d s c (cs ++ rest)) next.0
+    ∙ ap (by_test d s (cs ++ rest)) (same_byte c)
+    ∙ front_more d (record { offset = s.offset + 1; store = s.store; mode = s.mode }) cs rest q later next.1
 
-next_differs : (d : TestData) (s : State) (next : Result (Option ℕ) LookFault) → next_byte d s.offset ≡ next → IsOk next → differ d s ≡ rejected StringMismatch s.offset
-next_differs d s (Ok x) e seen = ap (λ n. proceed (lift (with_fault fault_of_look n) s) (λ _ t. rejected StringMismatch t.offset)) e
-next_differs d s (Err fault) e seen = let never : false ≡ true = seen in cc
+-- two bytes that do not agree
+other_byte : (same : Bool) (c b n : ℕ) → nat_eq c b ≡ same → cond same (1 + n) 0 ≡ 0 → nat_eq b c ≡ false
+other_byte true c b n is none = let never : 1 + n ≡ 0 = none in absurd (omega (arith, never))
+other_byte false c b n is none = grind (arith, nat_tests, is)
+
+differs_by : (r : Result (Option ℕ) LookFault) (d : TestData) (s : State) (c : ℕ) (cs : List ℕ) → next_byte d s.offset ≡ r → IsOk r → common_prefix_len nat_eq (c ∷ cs) (visible d s.offset) ≡ 0 → match_bytes (c ∷ cs) d s ≡ rejected StringMismatch s.offset
+differs_by (Ok None) d s c cs next seen none = ap (by_next d s c cs) next
+differs_by (Ok (Some b)) d s c cs next seen none =
+    let later = common_prefix_len nat_eq cs (visible d (s.offset + 1)) in
+    let first : cond (nat_eq c b) (1 + later) 0 ≡ 0 = ap (common_prefix_len nat_eq (c ∷ cs)) (sym (seen_byte d s.offset b next)) ∙ none in
+    ap (by_next d s c cs) next ∙ ap (by_test d s cs) (other_byte (nat_eq c b) c b later refl first)
+differs_by (Err fault) d s c cs next seen none = let never : false ≡ true = seen in cc
 
 -- another byte, or none
 pub string_differs : (d : TestData) (s : State) (wanted : List ℕ) (q : ℕ) → 0 < length wanted → PassesPrefix wanted d s.offset q 0 → match_bytes wanted d s ≡ rejected StringMismatch q
-string_differs d s wanted q some f =
+string_differs d s [] q some f = absurd (omega (arith, some))
+string_differs d s (c ∷ cs) q some f =
     let there : s.offset ≡ q = omega (arith, f.offset) in
-    compare_none d s wanted (visible d s.offset) some (f.differs refl) ∙ next_differs d s (next_byte d s.offset) refl f.seen ∙ ap (rejected StringMismatch) there
+    differs_by (next_byte d s.offset) d s c cs refl f.seen (f.differs refl) ∙ ap (rejected StringMismatch) there
 
 -- a fault
 pub string_faulty : (d : TestData) (s : State) (wanted : List ℕ) (q : ℕ) (fault : LookFault) → 0 < length wanted → q ≡ s.offset → next_byte d s.offset ≡ Err fault → match_bytes wanted d s ≡ faulty (fault_of_look fault) q
-string_faulty d s wanted q fault some same e =
-    ap (λ xs. compare wanted xs d s) (seen_fault d s.offset fault e)
-    ∙ compare_none d s wanted [] some (no_bytes wanted)
-    ∙ ap (λ n. proceed (lift (with_fault fault_of_look n) s) (λ _ t. rejected StringMismatch t.offset)) e
-    ∙ ap (faulty (fault_of_look fault)) (sym same)
-
--- none is wanted
-pub string_done : (d : TestData) (s : State) → match_bytes [] d s ≡ done tt s
-string_done d s = let there : s.offset + 0 ≡ s.offset = omega arith in ap (λ p. done tt (record { offset = p; store = s.store; mode = s.mode })) there
+string_faulty d s [] q fault some same e = absurd (omega (arith, some))
+string_faulty d s (c ∷ cs) q fault some same e = ap (by_next d s c cs) e ∙ ap (faulty (fault_of_look fault)) (sym same)
 
 -- some of them
 pub string_more : (d : TestData) (s : State) (wanted : List ℕ) (q n : ℕ) → n ≤ length wanted → PassesPrefix wanted d s.offset q n → match_bytes wanted d s ≡ match_bytes (drop n wanted) d (record { offset = q; store = s.store; mode = s.mode })
 string_more d s wanted q n within f =
     let len : length (take n wanted) ≡ n = omega (arith, length-take n wanted) in
-    let there : s.offset + length (take n wanted) ≡ q = omega (arith, f.offset) in
-    ap (λ xs. compare xs (visible d s.offset) d s) (sym (take-append-drop n wanted))
-    ∙ ap (λ rest. compare (take n wanted ++ drop n wanted) rest d s) f.visible_is
-    ∙ compare_more d s (take n wanted) (drop n wanted) (visible d q)
-    ∙ ap (λ p. compare (drop n wanted) (visible d q) d (record { offset = p; store = s.store; mode = s.mode })) there
+    let there : q ≡ s.offset + length (take n wanted) = omega (arith, f.offset) in
+    ap (λ xs. match_bytes xs d s) (sym (take-append-drop n wanted)) ∙ front_more d s (take n wanted) (drop n wanted) q there f.visible_is
 
 is_ok : {A : Type 0} (r : Result A LookFault) (x : A) → r ≡ Ok x → IsOk r
 is_ok {A} r x e = let P : Result A LookFault → Type 0 = λ y. IsOk y in subst P (sym e) refl

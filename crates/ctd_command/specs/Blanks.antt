@@ -4,7 +4,7 @@ use Rattle.std.specs.List.{prefix_len}
 use Rattle.ctd_program.specs.declared.mode.Mode.{Mode}
 use Rattle.ctd_program.specs.declared.mode.Mode.TheVariants.{Exact, BlanksOk}
 use Rattle.ctd_outcome.specs.declared.reason.Reason.TheVariants.{ExpectedSpace, ExpectedNewline}
-use Rattle.ctd_command.specs.State.{Act, ◌>>=◌, return, reject, see_next, see_visible, pass_then}
+use Rattle.ctd_command.specs.State.{Act, ◌>>=◌, return, reject, see_next, pass_longest}
 use Rattle.ctd_command.specs.Commands.{one_byte, eof}
 
 -- a blank is a space, a tab, a vertical tab, a form feed or a carriage return
@@ -18,9 +18,7 @@ blank_next (Some b) = is_blank b
 
 -- all blanks that come next, up to another byte or the end
 abbrev pub skip_blanks : Act ⊤
-skip_blanks = do
-  rest ← see_visible
-  pass_then (prefix_len is_blank rest) (return tt)
+skip_blanks = pass_longest (prefix_len is_blank) (λ _. return tt)
 
 -- one blank or more, as many as there are
 abbrev pub some_blanks : Act ⊤

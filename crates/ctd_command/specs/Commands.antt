@@ -1,6 +1,5 @@
 -- What each simple command does.
-use Rattle.std.specs.Prelude.{ℕ, Bool, nat_eq, ⊤, List, [], ◌∷◌, length, fold, ℤ, Option, Some, None, Result, Ok, Err, if◌then◌else◌}
-use Rattle.std.specs.List.{common_prefix_len}
+use Rattle.std.specs.Prelude.{ℕ, Bool, ⊤, List, [], ◌∷◌, fold, ℤ, Option, Some, None, Result, Ok, Err, if◌then◌else◌}
 use Rattle.ctd_source.specs.TestData.{is_byte}
 use Rattle.ctd_program.specs.Tree.{ExprTree, VarTree, TestTree}
 use Rattle.ctd_store.specs.declared.value.Value.{Value}
@@ -13,7 +12,7 @@ use Rattle.ctd_value.specs.Truth.{truth}
 use Rattle.ctd_outcome.specs.declared.reason.Reason.{Reason}
 use Rattle.ctd_outcome.specs.declared.reason.Reason.TheVariants.{ExpectedEof, StringMismatch, AssertFailed}
 use Rattle.ctd_command.specs.Integer.{prefix_len_of, judge, is_minus, digits_of}
-use Rattle.ctd_command.specs.State.{Act, done, ◌>>=◌, return, reject, pass, lift, evaluate, see_next, see_visible, pass_then, fault_of_truth}
+use Rattle.ctd_command.specs.State.{Act, done, ◌>>=◌, return, reject, pass, lift, evaluate, see_next, pass_longest, fault_of_truth}
 
 -- this byte, and else the reason
 abbrev pub one_byte : ℕ → Reason → Act ⊤
@@ -47,15 +46,9 @@ abbrev pub decide : Result ℤ Reason → Act ℤ
 decide (Ok z) = return z
 decide (Err reason) = reject reason
 
--- bytes of the form of an integer are passed, up to a byte that does not belong to it or the end, and they are judged
-abbrev pub read_integer : ℤ → ℤ → List ℕ → Act ℤ
-read_integer least most rest = pass_then (prefix_len_of rest) (decide (judge least most (is_minus rest) (digits_of rest)))
-
--- an integer in an interval
+-- an integer in an interval: the bytes of its form are passed, up to a byte that does not belong to it or the end, and they are judged
 abbrev pub integer : ℤ → ℤ → Act ℤ
-integer least most = do
-  rest ← see_visible
-  read_integer least most rest
+integer least most = pass_longest prefix_len_of (λ rest. decide (judge least most (is_minus rest) (digits_of rest)))
 
 -- both bounds, then the integer, then its target
 abbrev pub int : ExprTree → ExprTree → Option VarTree → Act ⊤
@@ -65,24 +58,12 @@ int low high target = do
   z ← integer least most
   keep target (values.Int z)
 
--- the next byte is not the one that is wanted, or there is none
-abbrev pub differ : Act ⊤
-differ = do
-  _ ← see_next
-  reject StringMismatch
-
--- of these bytes as many are passed as agree with those that come; where these are not all, another byte comes next, or none
-abbrev pub compare : List ℕ → List ℕ → Act ⊤
-compare wanted rest =
-    let n = common_prefix_len nat_eq wanted rest in do
-      _ ← pass n
-      if nat_eq n (length wanted) then return tt else differ
-
--- just these bytes
+-- just these bytes, one after the other
 abbrev pub match_bytes : List ℕ → Act ⊤
-match_bytes wanted = do
-  rest ← see_visible
-  compare wanted rest
+match_bytes [] = return tt
+match_bytes (b ∷ rest) = do
+  _ ← one_byte b StringMismatch
+  match_bytes rest
 
 -- the value, which has to be a string, and then its bytes
 abbrev pub string : ExprTree → Act ⊤

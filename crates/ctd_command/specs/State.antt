@@ -92,12 +92,13 @@ see_next d s = lift (faults.with_fault fault_of_look (next_byte d s.offset)) s
 abbrev pub see_visible : Act (List ℕ)
 see_visible d s = done (visible d s.offset) s
 
--- so many of the visible bytes are passed, and the byte after them is seen before anything else is done
-abbrev pub pass_then : {A : Type 0} → ℕ → Act A → Act A
-pass_then n next = do
-  _ ← pass n
+-- of the visible bytes the longest prefix of a form is passed, and the byte after it is seen; then it goes on with what was visible
+abbrev pub pass_longest : {A : Type 0} → (List ℕ → ℕ) → (List ℕ → Act A) → Act A
+pass_longest prefix_len next = do
+  rest ← see_visible
+  _ ← pass (prefix_len rest)
   _ ← see_next
-  next
+  next rest
 
 -- the window: as many of the bytes to come as it has, or all of them
 abbrev pub see_window : Act (List ℕ)

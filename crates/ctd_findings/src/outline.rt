@@ -1,7 +1,7 @@
 //! The form of a pattern, by the bytes of its literal.
 
 ghost use Rattle.std.specs.Prelude.{◌≡◌, IfOk};
-ghost use Rattle.ctd_findings.specs.calls.Outline.{ends_with, is_digit_byte, is_open_count, next_part, opens, outline, repeats_unbounded, starts_with};
+ghost use Rattle.ctd_findings.specs.calls.Outline.{ends_with, is_open_count, next_part, opens, outline, repeats_unbounded, starts_with};
 
 use std::alloc::{AllocError, Global};
 

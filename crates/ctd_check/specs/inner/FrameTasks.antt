@@ -106,10 +106,14 @@ abbrev pub IsWithin : Option Frame → ℕ → Type 0
 IsWithin None blocks = Unit {0}
 IsWithin (Some frame) blocks = (1 + frame_blocks frame ≤ blocks) × (loop_turn frame.running_loop ≡ 0)
 
+-- how many frames may lie on one another: that of the program itself, and those of 200 blocks
+abbrev pub most_frames : ℕ
+most_frames = 201
+
 -- each frame, from number i on, has room for its blocks, and its turns can be counted
 abbrev pub FitsFrom : ℕ → ℕ → List Frame → Type 0
 FitsFrom i left [] = Unit {0}
-FitsFrom i left (frame ∷ above) = (i + 1 + frame_blocks frame ≤ 201) × ((loop_turn frame.running_loop + left + 1 ≤ 2 ^ 64) × FitsFrom (i + 1) left above)
+FitsFrom i left (frame ∷ above) = (i + 1 + frame_blocks frame ≤ most_frames) × ((loop_turn frame.running_loop + left + 1 ≤ 2 ^ 64) × FitsFrom (i + 1) left above)
 
 -- so it is of all frames of a stack, the lowest first
 abbrev pub Fits : ℕ → List Frame → Type 0

@@ -7,7 +7,7 @@ use Rattle.ctd_loader.specs.calls.PatternTable.{AreAmong}
 use Rattle.ctd_command.specs.declared.machine.Run.{Run}
 use Rattle.ctd_command.specs.declared.failure.CommandFailure.{CommandFailure}
 use Rattle.ctd_command.specs.calls.Performs.{Performs}
-use Rattle.ctd_command.specs.inner.Performs.{answering}
+use Rattle.ctd_value.specs.calls.Lending.{map_ok}
 use Rattle.ctd_command.specs.State.{Act}
 use Rattle.ctd_check.specs.declared.stack.FrameStack.{FrameStack}
 use Rattle.ctd_check.specs.declared.halt.Halt.{Halt}
@@ -26,6 +26,6 @@ module _ {R : Type 0} {G : Ghosts R} where
   -- a command with these literals did this, and what it leaves is to be done before all else
   pub record Opens (old new : Run R G) (from to : FrameStack) (of : List PatternLiteral) (result : Result (Unit {0}) CommandFailure) (act : Act (List Task)) : Type 0 where
     pub more : List Task
-    pub performs : Performs old new (answering (λ _. more) result) act
+    pub performs : Performs old new (map_ok (λ _. more) result) act
     pub comes_first : OnOk result (to_do to.frames.items ≡ more ++ to_do from.frames.items)
     pub known : (patterns : List (List ℕ)) → AreAmong patterns of → OnOk result (AreKnown patterns more)

@@ -11,11 +11,6 @@ use Rattle.ctd_command.specs.declared.failure.Failure.TheVariants.{Rejected, Sto
 use Rattle.ctd_command.specs.State.{State, Act, evaluate}
 use Rattle.ctd_command.specs.calls.Performs.{Does, Performs}
 
--- a result, with what its answer stands for in place of the answer
-abbrev pub answering : {A B E : Type 0} → (A → B) → Result A E → Result B E
-answering f (Ok x) = Ok (f x)
-answering f (Err e) = Err e
-
 -- a call that looks at no data and leaves all as it is did this, whatever the data and the state
 abbrev pub AlwaysDoes : {A : Type 0} → Result A CommandFailure → Act A → Type 0
 AlwaysDoes r act = (d : TestData) (s : State) → Does r s (act d s)

@@ -1,6 +1,7 @@
 -- The form of a pattern, by the bytes of its literal.
 use Rattle.ctd_findings.specs.declared.outline.Part.TheVariants as part
-use Rattle.std.specs.Prelude.{ℕ, Bool, false, ◌||◌, ◌&&◌, nat_eq, nat_le, List, [], ◌∷◌, ◌++◌, if◌then◌else◌}
+use Rattle.std.specs.Prelude.{ℕ, Bool, false, ◌||◌, ◌&&◌, nat_eq, List, [], ◌∷◌, ◌++◌, if◌then◌else◌}
+use Rattle.std.specs.Char.{is_ascii_digit}
 use Rattle.ctd_findings.specs.declared.outline.Part.{Part}
 
 -- where the byte behind this one stands
@@ -45,14 +46,10 @@ ends_with b [] = false
 ends_with b (c ∷ []) = nat_eq c b
 ends_with b (c ∷ d ∷ rest) = ends_with b (d ∷ rest)
 
--- a digit, from 0 to 9
-abbrev pub is_digit_byte : ℕ → Bool
-is_digit_byte b = nat_le 48 b && nat_le b 57
-
 -- digits, and then `,}`
 abbrev pub is_open_count : List ℕ → Bool
 is_open_count [] = false
-is_open_count (b ∷ rest) = if is_digit_byte b then is_open_count rest else nat_eq b 44 && starts_with 125 rest
+is_open_count (b ∷ rest) = if is_ascii_digit b then is_open_count rest else nat_eq b 44 && starts_with 125 rest
 
 -- somewhere stands `*`, `+` or `{n,}`
 abbrev pub repeats_unbounded : List ℕ → Bool

@@ -2,13 +2,13 @@ use Rattle.std.proofs.Common.{max, arith, refl}
 use Rattle.ctd_program.specs.Tree.{list_blocks}
 use Rattle.ctd_program.specs.calls.View.{command_list}
 use Rattle.ctd_syntax.specs.RegexNumbers.{literals}
-use Rattle.ctd_command.proofs.Acts.{and_then, early_answering, given_as}
+use Rattle.ctd_command.proofs.Acts.{and_then, early_map_ok, given_as}
 use Rattle.ctd_check.specs.inner.FrameTasks.{left_tasks}
 use Rattle.ctd_check.proofs.Knowing.{among_front, among_back, known_tasks, known_as}
 use Rattle.ctd_check.proofs.loops.choose.Goals as goal
 
 pub returns-in_err-answer-clause-performs : goal.returns-in_err-answer-clause-performs
-returns-in_err-answer-clause-performs g c = early_answering left_tasks _ _ c.from_residual.ensures c.in_err-answer.ensures.performs
+returns-in_err-answer-clause-performs g c = early_map_ok left_tasks _ _ c.from_residual.ensures c.in_err-answer.ensures.performs
 
 pub returns-then-branch-clause-performs : goal.returns-then-branch-clause-performs
 returns-then-branch-clause-performs g c =

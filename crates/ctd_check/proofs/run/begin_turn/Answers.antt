@@ -1,6 +1,6 @@
 use Rattle.std.proofs.Common.{◌+◌, ◌++◌, [], ap, sym, ◌∙◌, add-one, refl, Ok, Err, if◌then◌else◌}
 use Rattle.ctd_syntax.specs.RegexNumbers.{literals, separator_literals}
-use Rattle.ctd_command.proofs.Acts.{answers_as, performs_answering}
+use Rattle.ctd_command.proofs.Acts.{answers_as, performs_map_ok}
 use Rattle.ctd_outcome.specs.declared.outcome.Site.TheVariants.{At}
 use Rattle.ctd_check.specs.inner.Halts.{halt_of}
 use Rattle.ctd_check.specs.Loops.{turn, turn_tasks, tasks_before_turn}
@@ -40,7 +40,7 @@ returns-in-Ok-clause-advances g c =
     advances_as (to_do_at frames running_loop at)
     (task_then c.args.run.now c.take_turn.new.run c.begin.new.run (turn loop k) _ c.next_turn.new.self.left (turn_tasks loop k) (to_do at.below) _ c.begin.new.stack (Ok tt) c.next_turn.ensures.paid
     (ap (λ ts. ts ++ to_do c.next_turn.new.self.frames.items) (sym c.in-Some-separator.ensures.tasks) ∙ turn_left (tasks_before_turn k (separator_in running_loop.between)) _ _ _ _ _ (ap (turn loop) (add-one k)) (c.next_turn.ensures.to_do running_loop at))
-    (answers_as (ap (λ b. Ok (if b then turn_tasks loop k else [])) (sym c.in-Ok-true.field-0-test)) (performs_answering (λ b. if b then turn_tasks loop k else []) c.in-Ok-true.ensures.performs)) c.in-Ok.ensures.advances)
+    (answers_as (ap (λ b. Ok (if b then turn_tasks loop k else [])) (sym c.in-Ok-true.field-0-test)) (performs_map_ok (λ b. if b then turn_tasks loop k else []) c.in-Ok-true.ensures.performs)) c.in-Ok.ensures.advances)
 
 pub returns-in-Err-begin-clause-advances : goal.returns-in-Err-begin-clause-advances
 returns-in-Err-begin-clause-advances g c =
@@ -52,7 +52,7 @@ returns-in-Err-begin-clause-advances g c =
     advances_as (to_do_at frames running_loop at)
     (task_then c.args.run.now c.take_turn.new.run c.begin.new.run (turn loop k) _ c.next_turn.new.self.left (turn_tasks loop k) (to_do at.below) _ c.begin.new.stack (Err c.of-in-Err-begin.result) c.next_turn.ensures.paid
     (ap (λ ts. ts ++ to_do c.next_turn.new.self.frames.items) (sym c.in-Some-separator.ensures.tasks) ∙ turn_left (tasks_before_turn k (separator_in running_loop.between)) _ _ _ _ _ (ap (turn loop) (add-one k)) (c.next_turn.ensures.to_do running_loop at))
-    (answers_as (ap (λ b. Ok (if b then turn_tasks loop k else [])) (sym c.in-Ok-true.field-0-test)) (performs_answering (λ b. if b then turn_tasks loop k else []) c.in-Ok-true.ensures.performs)) (halted_as _ _ _ _ c.of-in-Err-begin.ensures c.spot-spot-in-Some-separator.ensures c.in-Err-begin.ensures.advances))
+    (answers_as (ap (λ b. Ok (if b then turn_tasks loop k else [])) (sym c.in-Ok-true.field-0-test)) (performs_map_ok (λ b. if b then turn_tasks loop k else []) c.in-Ok-true.ensures.performs)) (halted_as _ _ _ _ c.of-in-Err-begin.ensures c.spot-spot-in-Some-separator.ensures c.in-Err-begin.ensures.advances))
 
 pub returns-in-None-clause-advances : goal.returns-in-None-clause-advances
 returns-in-None-clause-advances g c =
@@ -64,7 +64,7 @@ returns-in-None-clause-advances g c =
     advances_as (to_do_at frames running_loop at)
     (task_done c.args.run.now c.take_turn.new.run (turn loop k) _ c.next_turn.new.self.left (turn_tasks loop k) (to_do at.below) c.next_turn.new.self c.next_turn.ensures.paid refl
     (ap (λ ts. ts ++ to_do c.next_turn.new.self.frames.items) (sym c.in-None.ensures.tasks) ∙ turn_left (tasks_before_turn k (separator_in running_loop.between)) _ _ _ _ _ (ap (turn loop) (add-one k)) (c.next_turn.ensures.to_do running_loop at))
-    (answers_as (ap (λ b. Ok (if b then turn_tasks loop k else [])) (sym c.in-Ok-true.field-0-test)) (performs_answering (λ b. if b then turn_tasks loop k else []) c.in-Ok-true.ensures.performs)))
+    (answers_as (ap (λ b. Ok (if b then turn_tasks loop k else [])) (sym c.in-Ok-true.field-0-test)) (performs_map_ok (λ b. if b then turn_tasks loop k else []) c.in-Ok-true.ensures.performs)))
 
 pub returns-in-None-clause-known : goal.returns-in-None-clause-known
 returns-in-None-clause-known g c =
@@ -84,7 +84,7 @@ returns-in-Ok-false-clause-advances g c =
     let at = at_turn frames running_loop (sym c.in-Some.ensures.value) c.requires.done in
     advances_as (to_do_at frames running_loop at)
     (task_done c.args.run.now c.take_turn.new.run (turn loop k) _ c.end_loop.new.self.left [] (to_do at.below) c.end_loop.new.self c.end_loop.ensures.paid refl (ap to_do (c.end_loop.ensures.frames running_loop at))
-    (answers_as (ap (λ b. Ok (if b then turn_tasks loop k else [])) (sym c.in-Ok-false.field-0-test)) (performs_answering (λ b. if b then turn_tasks loop k else []) c.in-Ok-false.ensures.performs)))
+    (answers_as (ap (λ b. Ok (if b then turn_tasks loop k else [])) (sym c.in-Ok-false.field-0-test)) (performs_map_ok (λ b. if b then turn_tasks loop k else []) c.in-Ok-false.ensures.performs)))
 
 pub returns-in-Ok-false-clause-known : goal.returns-in-Ok-false-clause-known
 returns-in-Ok-false-clause-known g c =
@@ -103,4 +103,4 @@ returns-in-Err-clause-advances g c =
     let at = at_turn frames running_loop (sym c.in-Some.ensures.value) c.requires.done in
     advances_as (to_do_at frames running_loop at)
     (task_failed c.args.run.now c.take_turn.new.run (turn loop k) _ c.spot-spot.result c.of-halt.result c.in-Err.failure (to_do at.below) c.end_loop-in-Err.new.self c.end_loop-in-Err.ensures.paid c.spot-spot.ensures c.of-halt.ensures
-    (performs_answering (λ b. if b then turn_tasks loop k else []) c.in-Err.ensures.performs))
+    (performs_map_ok (λ b. if b then turn_tasks loop k else []) c.in-Err.ensures.performs))

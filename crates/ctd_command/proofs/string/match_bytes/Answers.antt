@@ -4,7 +4,7 @@ use Rattle.std.proofs.lemmas.List.{nil_from_length}
 use Rattle.ctd_source.proofs.AdvanceLemmas.{advances_so, advances_both, advances_nowhere}
 use Rattle.ctd_command.specs.Commands.{match_bytes}
 use Rattle.ctd_command.specs.inner.Passing.{PassesPrefix}
-use Rattle.ctd_command.proofs.Strings.{at_offset, does_after, stopped_alone, string_differs, string_faulty, string_more, string_done}
+use Rattle.ctd_command.proofs.Strings.{at_offset, does_after, stopped_alone, string_differs, string_faulty, string_more}
 use Rattle.ctd_command.proofs.string.match_bytes.Goals as goal
 
 pub loop-rest-init : goal.loop-rest-init
@@ -47,7 +47,7 @@ returns g c =
     let p = c.loop-rest.cursor.spot.offset in
     record {
       sound = c.loop-rest.invariant.sound;
-      matches = advances_so c.loop-rest.invariant.goes (λ d _ e store mode. e store mode ∙ ap (λ xs. match_bytes xs d (at_offset p store mode)) empty ∙ string_done d (at_offset p store mode));
+      matches = advances_so c.loop-rest.invariant.goes (λ d _ e store mode. e store mode ∙ ap (λ xs. match_bytes xs d (at_offset p store mode)) empty);
     }
 
 pub loop-rest-smaller : goal.loop-rest-smaller
