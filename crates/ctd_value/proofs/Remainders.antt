@@ -1,5 +1,5 @@
 -- What a division leaves.
-use Rattle.std.proofs.Common.{◌≡◌, ◌<◌, ℕ, zero, suc, ◌%◌, Bool, true, false, ℤ, pos, negsuc, neg_ℤ, ◌<ℤ◌, Ok, Err, if◌then◌else◌, refl, sym, subst, arith, unsigned_abs}
+use Rattle.std.proofs.Common.{◌≡◌, ◌<◌, ℕ, zero, suc, ◌%◌, true, false, ℤ, pos, negsuc, neg_ℤ, ◌<ℤ◌, Ok, Err, if◌then◌else◌, sym, subst, arith, unsigned_abs}
 use Rattle.std.specs.Prelude.{int_div, int_rem}
 use Rattle.std.proofs.lemmas.Int.{ints, quot-rem, rem_below}
 use Rattle.ctd_value.specs.Fault.{Overflow}
