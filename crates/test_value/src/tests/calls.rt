@@ -454,7 +454,10 @@ const OF_ARRAYS: Steps = &[
     ("ASSERT(UNIQUE(b))", Step::Holds(b"", true, 10, Ok(false))),
     ("ASSERT(UNIQUE(a,b))", Step::Holds(b"", true, 10, Ok(true))),
     ("ASSERT(UNIQUE(a,g))", Step::Holds(b"", true, 10, SHAPE)),
-    ("ASSERT(n==3&&UNIQUE(a))", Step::Holds(b"", true, 10, Ok(true))),
+    (
+        "ASSERT(n==3&&UNIQUE(a))",
+        Step::Holds(b"", true, 10, Ok(true)),
+    ),
     ("ASSERT(INARRAY(2,a))", Step::Holds(b"", true, 10, Ok(true))),
     (
         "ASSERT(INARRAY(3,a)||INARRAY(2,c))",
