@@ -1,5 +1,4 @@
 -- What only the proofs of this crate use.
 pub mod Operators
 pub mod Lending
-pub mod Testing
 pub mod Examples

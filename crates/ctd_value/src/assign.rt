@@ -55,7 +55,7 @@ pub fn set_expression(alloc: Global, v: &Var, e: &Expr, store: &mut Store) -> Re
     }
 }
 
-/// Sets a variable to the value of an expression that may be a string or a large number.
+/// Sets a variable to the value of an expression that may be a string or a large number. Out of line: keeps `set_expression` small.
 #[inline(never)]
 fn set_to_any_expression(
     alloc: Global,
@@ -72,7 +72,8 @@ fn set_to_any_expression(
     set_variable(alloc, v, ValueRef::of(&value), store)
 }
 
-/// Sets a variable with indices to a number. An index that is a name comes first: most are, and then nothing is kept over a call.
+/// Sets a variable with indices to a number. An index that is a name comes first: most are, and then nothing is kept over a call. Out of
+/// line: keeps `set_number` small.
 #[inline(never)]
 fn set_element_to_number(
     alloc: Global,
@@ -94,7 +95,7 @@ fn set_element_to_number(
     }
 }
 
-/// Sets a variable to a number whose two indices are names, or one with indices of any kind.
+/// Sets a variable to a number whose two indices are names, or one with indices of any kind. Out of line: keeps the caller small.
 #[inline(never)]
 fn set_cell_to_number(alloc: Global, v: &Var, n: i128, store: &mut Store) -> Result<(), EvalFault>
     ensures value { Gives (map_ok (λ _. store.new) result) (with_variable (var_tree v.now) (values.Int n) store.old) }
@@ -113,7 +114,7 @@ fn set_cell_to_number(alloc: Global, v: &Var, n: i128, store: &mut Store) -> Res
     }
 }
 
-/// Sets a variable with indices of any kind to a number.
+/// Sets a variable with indices of any kind to a number. Out of line: keeps the callers small.
 #[inline(never)]
 fn set_number_at_any(alloc: Global, v: &Var, n: i128, store: &mut Store) -> Result<(), EvalFault>
     ensures value { Gives (map_ok (λ _. store.new) result) (with_variable (var_tree v.now) (values.Int n) store.old) }

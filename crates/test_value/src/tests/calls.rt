@@ -414,23 +414,17 @@ const AT_HAND: Steps = &[
     ("ASSERT(1==2||a[1]<=1)", Step::AtHand(Some(false))),
     ("ASSERT(s==\"x\")", Step::AtHand(Some(true))),
     ("ASSERT(s!=\"x\")", Step::AtHand(Some(false))),
-    ("ASSERT(\"x\"!=\"y\")", Step::AtHand(Some(true))),
+    ("ASSERT(\"x\"!=\"y\")", Step::AtHand(None)),
     ("ASSERT(\"\"<s)", Step::AtHand(None)),
     ("ASSERT(s<=\"wz\")", Step::AtHand(Some(false))),
     ("ASSERT(c[k]==\"2\")", Step::AtHand(Some(true))),
     ("ASSERT(w[1,k]!=\"#\")", Step::AtHand(Some(false))),
     ("ASSERT(w[k,1]==\"#\")", Step::AtHand(None)),
     ("ASSERT(c[1]==\"2\")", Step::AtHand(None)),
-    ("ASSERT(UNIQUE(a))", Step::AtHand(Some(true))),
-    ("ASSERT(UNIQUE(b))", Step::AtHand(None)),
-    ("ASSERT(UNIQUE(a,b))", Step::AtHand(None)),
-    ("ASSERT(INARRAY(2,a))", Step::AtHand(Some(true))),
-    (
-        "ASSERT(INARRAY(3,a)||INARRAY(2,c))",
-        Step::AtHand(Some(false)),
-    ),
-    ("ASSERT(INARRAY(1,c))", Step::AtHand(Some(true))),
-    ("ASSERT(INARRAY(\"2\",c))", Step::AtHand(None)),
+    ("ASSERT(UNIQUE(a))", Step::AtHand(None)),
+    ("ASSERT(INARRAY(2,a))", Step::AtHand(None)),
+    ("ASSERT(n==3&&INARRAY(2,a))", Step::AtHand(None)),
+    ("ASSERT(n==4&&INARRAY(2,a))", Step::AtHand(Some(false))),
     ("ASSERT(n==s)", Step::AtHand(None)),
     ("ASSERT(none==1)", Step::AtHand(None)),
     ("ASSERT(9223372036854775808>0)", Step::AtHand(None)),
@@ -452,6 +446,32 @@ const AT_HAND: Steps = &[
     ("SET(x=n*n-2)", Step::NumberAtHand(Some(7))),
     ("SET(x=\"7\")", Step::NumberAtHand(None)),
     ("SET(x=n/0)", Step::NumberAtHand(None)),
+];
+
+/// What tests of arrays say where each look would fail.
+const OF_ARRAYS: Steps = &[
+    ("ASSERT(UNIQUE(a))", Step::Holds(b"", true, 10, Ok(true))),
+    ("ASSERT(UNIQUE(b))", Step::Holds(b"", true, 10, Ok(false))),
+    ("ASSERT(UNIQUE(a,b))", Step::Holds(b"", true, 10, Ok(true))),
+    ("ASSERT(UNIQUE(a,g))", Step::Holds(b"", true, 10, SHAPE)),
+    (
+        "ASSERT(n==3&&UNIQUE(a))",
+        Step::Holds(b"", true, 10, Ok(true)),
+    ),
+    ("ASSERT(INARRAY(2,a))", Step::Holds(b"", true, 10, Ok(true))),
+    (
+        "ASSERT(INARRAY(3,a)||INARRAY(2,c))",
+        Step::Holds(b"", true, 10, Ok(false)),
+    ),
+    ("ASSERT(INARRAY(1,c))", Step::Holds(b"", true, 10, Ok(true))),
+    (
+        "ASSERT(INARRAY(\"2\",c))",
+        Step::Holds(b"", true, 10, Ok(true)),
+    ),
+    (
+        "ASSERT(INARRAY(none,a))",
+        Step::Holds(b"", true, 10, UNDEFINED),
+    ),
 ];
 
 /// Tests in front of a b, and the answer to each that this byte tells.
@@ -549,8 +569,9 @@ const LOOKS_THAT_FAIL: Steps = &[
     ("ASSERT(MATCH(\"\"))", Step::Holds(b"", true, 10, READ)),
 ];
 
-const OF_TESTS: [Row; 4] = [
+const OF_TESTS: [Row; 5] = [
     ("", FILLING, AT_HAND),
+    ("", FILLING, OF_ARRAYS),
     ("", "", IN_FRONT_OF_B),
     ("", "", LOOKS),
     ("", "", LOOKS_THAT_FAIL),
