@@ -19,7 +19,7 @@ fn fixed_text(warning: &Warning) -> &'static str
         Warning::AlwaysFalse => "the test is false whatever the data are",
         Warning::EmptyRange => "the least integer is above the greatest",
         Warning::EmptyString => "the string is empty",
-        Warning::StartsWithCaret => "a match always begins here, so ^ says nothing",
+        Warning::StartsWithCaret => "a match always begins here, so ^ has no effect",
         Warning::EndsWithDollar => "$ is the end of the window, not of a line",
         Warning::Unbounded => "the pattern has no bound on its length",
         Warning::Unreachable => "never reached: the loop before does not end",
