@@ -33,6 +33,8 @@ MEGABYTE = 1_048_576
 Left = tuple[int, str, str]
 # A name for the report, the program, further words, and what has to be left.
 Case = tuple[str, str, list[str], Left]
+# A name for the report, a program, and the status that has to be left.
+Hostile = tuple[str, str, int]
 
 
 def told(findings: list[list[object]]) -> Left:
@@ -61,15 +63,15 @@ def documented(table: dict[str, list[dict[str, object]]]) -> Iterator[Case]:
         yield f"{name}, which is explained and not there", "", [], (-1, "", "")
 
 
-def hostile() -> Iterator[tuple[str, str]]:
-    """Programs of nearly a megabyte."""
-    yield "one command many times", "SPACE " * (MEGABYTE // 6)
-    yield "many names", "SET(" + ",".join(f"v{i}=0" for i in range(100_000))[: MEGABYTE - 8] + "0)"
-    yield "many names that are read", "".join(f"ASSERT(v{i}==0)" for i in range(60_000))
-    yield "one long expression", "ASSERT(" + "1+" * (MEGABYTE // 2 - 8) + "1==0)"
-    yield "one long pattern", 'REGEX("' + "[" * (MEGABYTE - 16) + '")'
-    yield "counts in a pattern", 'STRING("x") ' + 'REGEX("a{1,}")' * 1000
-    yield "one name many times", "SET(n=1) ASSERT(n==1) UNSET(" + ",".join("n" for _ in range(MEGABYTE // 2 - 20)) + ")"
+def hostile() -> Iterator[Hostile]:
+    """Programs of nearly a megabyte, some of which are refused."""
+    yield "one command many times", "SPACE " * (MEGABYTE // 6), 0
+    yield "many names", "SET(" + ",".join(f"v{i}=0" for i in range(100_000)) + ")", 1
+    yield "many names that are read", "".join(f"ASSERT(v{i}==0)" for i in range(60_000)), 1
+    yield "one long expression", "ASSERT(" + "1+" * (MEGABYTE // 2 - 8) + "1==0)", 2
+    yield "one long pattern", 'REGEX("' + "[" * (MEGABYTE - 16) + '")', 2
+    yield "counts in a pattern", 'STRING("x") ' + 'REGEX("a{1,}")' * 1000, 1
+    yield "one name many times", "SET(n=1) ASSERT(n==1) UNSET(" + ",".join("n" for _ in range(MEGABYTE // 2 - 20)) + ")", 0
 
 
 class Linter:
@@ -84,15 +86,15 @@ class Linter:
         done = subprocess.run([self.program, *words, self.file], capture_output=True, text=True, timeout=OUT_OF_TIME, check=False)
         return done.returncode, done.stdout, done.stderr
 
-    def least_time(self, text: str) -> float:
-        """The least processor time that the program took for a text, in seconds."""
-        times = []
+    def least_time(self, text: str) -> tuple[int, float]:
+        """The status for a text, and the least processor time that the program took for it, in seconds."""
+        status, times = -1, []
         for _ in range(TRIES):
             before = resource.getrusage(resource.RUSAGE_CHILDREN)
-            self.run(text, [])
+            status, _, _ = self.run(text, [])
             after = resource.getrusage(resource.RUSAGE_CHILDREN)
             times.append(after.ru_utime - before.ru_utime + after.ru_stime - before.ru_stime)
-        return min(times)
+        return status, min(times)
 
 
 def main() -> int:
@@ -107,12 +109,13 @@ def main() -> int:
             failed += found != wanted
             if found != wanted:
                 print(f"lint: {name}\n    wanted {wanted}\n    found  {found}")
-        for name, text in hostile():
-            seconds = linter.least_time(text)
-            passed += seconds < TIME_LIMIT
-            failed += seconds >= TIME_LIMIT
-            if seconds >= TIME_LIMIT:
-                print(f"lint: {name}: {seconds:.2f} s")
+        for name, text, wanted_status in hostile():
+            status, seconds = linter.least_time(text)
+            is_right = status == wanted_status and seconds < TIME_LIMIT
+            passed += is_right
+            failed += not is_right
+            if not is_right:
+                print(f"lint: {name}: status {status} after {seconds:.2f} s")
     print(f"{passed} passed, {failed} failed")
     return int(failed > 0)
 

@@ -22,9 +22,9 @@ use std::alloc::{AllocError, Global};
 
 /// What is known of a program: the names to which it, or a preset, gives values, those that it reads, and a store that has no variables.
 #[derive(Drop)]
-pub(crate) struct Known {
-    pub(crate) given: NameSet,
-    pub(crate) read: NameSet,
+pub(crate) struct Known<'p> {
+    pub(crate) given: NameSet<'p>,
+    pub(crate) read: NameSet<'p>,
     pub(crate) nothing: Store,
 }
 
@@ -39,10 +39,10 @@ fn warn_if(is_so: bool, warning: Warning, found: &mut Vec<Warning>) -> Result<()
 }
 
 /// Appends a warning for each name that nothing gives a value.
-fn list_without_value(
+fn list_without_value<'p>(
     alloc: Global,
-    names: &[&Name],
-    given: &NameSet,
+    names: &[&'p Name],
+    given: &NameSet<'p>,
     found: &mut Vec<Warning>,
 ) -> Result<(), AllocError>
     ensures lists { OnOk result (found.new.items ≡ found.old.items ++ warn_unknown Warning.NoValue (λ name. has_name name given.now) (names_at names.now)) }
@@ -57,10 +57,10 @@ fn list_without_value(
 }
 
 /// Appends a warning for each name that nothing reads.
-fn list_unread(
+fn list_unread<'p>(
     alloc: Global,
-    names: &[&Name],
-    read: &NameSet,
+    names: &[&'p Name],
+    read: &NameSet<'p>,
     found: &mut Vec<Warning>,
 ) -> Result<(), AllocError>
     ensures lists { OnOk result (found.new.items ≡ found.old.items ++ warn_unknown Warning.NeverRead (λ name. has_name name read.now) (names_at names.now)) }
@@ -202,10 +202,10 @@ fn list_own(
 }
 
 /// Appends warnings for the names of a command.
-fn list_names(
+fn list_names<'p>(
     alloc: Global,
-    command: &Command,
-    known: &Known,
+    command: &'p Command,
+    known: &Known<'p>,
     found: &mut Vec<Warning>,
 ) -> Result<(), AllocError>
     ensures lists { OnOk result (found.new.items ≡ found.old.items
@@ -222,10 +222,10 @@ fn list_names(
 }
 
 /// The warnings of a command.
-pub(crate) fn command_warnings(
+pub(crate) fn command_warnings<'p>(
     alloc: Global,
-    entry: &CommandInBlock<'_>,
-    known: &Known,
+    entry: &CommandInBlock<'p>,
+    known: &Known<'p>,
 ) -> Result<Vec<Warning>, AllocError>
     requires { known.now.nothing ≡ no_variables }
     ensures { IfOk result (λ found. found.items ≡ command_warnings (λ name. has_name name known.now.given) (λ name. has_name name known.now.read) (in_block entry.now)) }

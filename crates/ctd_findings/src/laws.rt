@@ -8,12 +8,12 @@ ghost use Rattle.ctd_value.specs.Truth.{truth};
 ghost use Rattle.ctd_value.specs.Val.{number_of};
 ghost use Rattle.ctd_findings.specs.calls.Literal.{literal_number, literal_truth};
 
-/// A test of which a truth is told has it whatever the variables and the data are.
-pub fn told_truth_is_always_so()
+/// A test that is true, or false, by its literals is so whatever the variables and the data are.
+pub fn literal_truth_is_the_truth()
     ensures always { (t : TestTree) (b : Bool) → literal_truth t ≡ Some b → (h : History) (d : TestData) (p : ℕ) → truth t h d p ≡ Ok b }
 {}
 
 /// An expression that is a number by its literals is this number whatever the variables are.
-pub fn told_number_is_always_so()
+pub fn literal_number_is_the_number()
     ensures always { (e : ExprTree) (n : ℤ) → literal_number e ≡ Some n → (h : History) → number_of e h ≡ Ok n }
 {}

@@ -12,5 +12,5 @@ mod outline;
 mod program;
 
 pub use finding::{Finding, Warning};
-pub use laws::{told_number_is_always_so, told_truth_is_always_so};
+pub use laws::{literal_number_is_the_number, literal_truth_is_the_truth};
 pub use program::findings;

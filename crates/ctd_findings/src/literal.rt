@@ -14,14 +14,10 @@ fn compares_only(t: &Test) -> bool
     ensures { result ≡ compares_only (test_tree t.now) }
 {
     match t {
-        Test::Or(a, b) => compares_only(a) && compares_only(b),
-        Test::And(a, b) => compares_only(a) && compares_only(b),
+        Test::Or(a, b) | Test::And(a, b) => compares_only(a) && compares_only(b),
         Test::Not(t) => compares_only(t),
         Test::Compare(_, _, _) => true,
-        Test::Match(_) => false,
-        Test::IsEof => false,
-        Test::Unique(_) => false,
-        Test::InArray(_, _) => false,
+        Test::Match(_) | Test::IsEof | Test::Unique(_) | Test::InArray(_, _) => false,
     }
 }
 

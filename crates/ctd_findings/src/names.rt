@@ -24,29 +24,13 @@ fn list_expr<'p>(e: &'p Expr, found: &mut Vec<&'p Name>) -> Result<(), AllocErro
             found.push(&element.name)?;
             list_indices(element.indices.as_slice(), found)
         }
-        Expr::Strlen(e) => list_expr(e, found),
-        Expr::Minus(e) => list_expr(e, found),
-        Expr::Add(a, b) => {
-            list_expr(a, found)?;
-            list_expr(b, found)
-        }
-        Expr::Sub(a, b) => {
-            list_expr(a, found)?;
-            list_expr(b, found)
-        }
-        Expr::Mul(a, b) => {
-            list_expr(a, found)?;
-            list_expr(b, found)
-        }
-        Expr::Div(a, b) => {
-            list_expr(a, found)?;
-            list_expr(b, found)
-        }
-        Expr::Rem(a, b) => {
-            list_expr(a, found)?;
-            list_expr(b, found)
-        }
-        Expr::Pow(a, b) => {
+        Expr::Strlen(e) | Expr::Minus(e) => list_expr(e, found),
+        Expr::Add(a, b)
+        | Expr::Sub(a, b)
+        | Expr::Mul(a, b)
+        | Expr::Div(a, b)
+        | Expr::Rem(a, b)
+        | Expr::Pow(a, b) => {
             list_expr(a, found)?;
             list_expr(b, found)
         }
@@ -87,11 +71,7 @@ fn list_test<'p>(t: &'p Test, found: &mut Vec<&'p Name>) -> Result<(), AllocErro
     ensures lists { OnOk result (names_at found.new.items ≡ names_at found.old.items ++ test_names (test_tree t.now)) }
 {
     match t {
-        Test::Or(a, b) => {
-            list_test(a, found)?;
-            list_test(b, found)
-        }
-        Test::And(a, b) => {
+        Test::Or(a, b) | Test::And(a, b) => {
             list_test(a, found)?;
             list_test(b, found)
         }

@@ -32,7 +32,7 @@ fn list_all_reads<'p>(
 }
 
 /// The names that some commands read.
-fn read_names(alloc: Global, commands: &[CommandInBlock<'_>]) -> Result<NameSet, AllocError>
+fn read_names<'p>(alloc: Global, commands: &[CommandInBlock<'p>]) -> Result<NameSet<'p>, AllocError>
     ensures members { IfOk result (λ set. (name : List ℕ) → has_name name set ≡ is_among name (all_reads (in_blocks commands.now))) }
 {
     let mut names = Vec::new(alloc);
@@ -65,11 +65,11 @@ fn list_presets<'p>(presets: &'p Presets, names: &mut Vec<&'p Name>) -> Result<(
 }
 
 /// The names to which some commands, or presets, give a value.
-fn given_names(
+fn given_names<'p>(
     alloc: Global,
-    commands: &[CommandInBlock<'_>],
-    presets: &Presets,
-) -> Result<NameSet, AllocError>
+    commands: &[CommandInBlock<'p>],
+    presets: &'p Presets,
+) -> Result<NameSet<'p>, AllocError>
     ensures members { IfOk result (λ set. (name : List ℕ) → has_name name set ≡ is_among name (all_given (in_blocks commands.now) ++ preset_names presets.now)) }
 {
     let mut names = Vec::new(alloc);
@@ -93,10 +93,10 @@ fn place_all(
 }
 
 /// The findings of some commands.
-fn findings_among(
+fn findings_among<'p>(
     alloc: Global,
-    commands: &[CommandInBlock<'_>],
-    known: &Known,
+    commands: &[CommandInBlock<'p>],
+    known: &Known<'p>,
 ) -> Result<Vec<Finding>, AllocError>
     requires { known.now.nothing ≡ no_variables }
     ensures { IfOk result (λ found. found.items ≡ findings_among (λ name. has_name name known.now.given) (λ name. has_name name known.now.read) (in_blocks commands.now)) }
@@ -110,10 +110,10 @@ fn findings_among(
 }
 
 /// The findings of a program, where these presets are given, in the order of the text.
-pub fn findings(
+pub fn findings<'p>(
     alloc: Global,
-    commands: &[Command],
-    presets: &Presets,
+    commands: &'p [Command],
+    presets: &'p Presets,
 ) -> Result<Vec<Finding>, AllocError>
     ensures { IfOk result (λ found. found.items ≡ findings_of (command_trees commands.now) presets.now) }
 {

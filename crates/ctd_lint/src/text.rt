@@ -1,11 +1,12 @@
 //! How findings are written.
 
-ghost use Rattle.std.specs.Prelude.{◌≡◌, ◌++◌, OnOk, IfOk, string_bytes};
+ghost use Rattle.std.specs.Prelude.{◌≡◌, ◌++◌, decimal, OnOk, IfOk};
 ghost use Rattle.ctd_token.specs.FaultText.{place_text};
 ghost use Rattle.ctd_lint.specs.inner.Report.{finding_line, findings_lines, fixed_text, warning_text};
 
 use ctd_findings::{Finding, Warning};
 use ctd_token::Place;
+use itoa::Buffer;
 use std::alloc::{AllocError, Global};
 
 /// The text of a warning that names no variable.
@@ -19,7 +20,7 @@ fn fixed_text(warning: &Warning) -> &'static str
         Warning::AlwaysFalse => "the test is false whatever the data are",
         Warning::EmptyRange => "the least integer is above the greatest",
         Warning::EmptyString => "the string is empty",
-        Warning::StartsWithCaret => "a match always begins here, so ^ says nothing",
+        Warning::StartsWithCaret => "a match always begins here, so ^ has no effect",
         Warning::EndsWithDollar => "$ is the end of the window, not of a line",
         Warning::Unbounded => "the pattern has no bound on its length",
         Warning::Unreachable => "never reached: the loop before does not end",
@@ -40,19 +41,29 @@ fn write_warning(warning: &Warning, text: &mut Vec<u8>) -> Result<(), AllocError
     }
 }
 
-/// The text of a place.
-fn place_text(alloc: Global, place: Place) -> Result<String, AllocError>
-    ensures { IfOk result (λ text. string_bytes text ≡ place_text place) }
+/// Appends a number.
+fn write_number(number: u32, text: &mut Vec<u8>) -> Result<(), AllocError>
+    ensures { OnOk result (text.new.items ≡ text.old.items ++ decimal number) }
 {
-    format!(in alloc; "{place}")
+    text.extend_from_slice(Buffer::new().format(number).as_bytes())
+}
+
+/// Appends a place.
+fn write_place(place: Place, text: &mut Vec<u8>) -> Result<(), AllocError>
+    ensures { OnOk result (text.new.items ≡ text.old.items ++ place_text place) }
+{
+    text.extend_from_slice(b"program line ")?;
+    write_number(place.line, text)?;
+    text.extend_from_slice(b" column ")?;
+    write_number(place.column, text)?;
+    Ok(())
 }
 
 /// Appends the line of a finding.
-fn write_finding(alloc: Global, finding: &Finding, text: &mut Vec<u8>) -> Result<(), AllocError>
+fn write_finding(finding: &Finding, text: &mut Vec<u8>) -> Result<(), AllocError>
     ensures { OnOk result (text.new.items ≡ text.old.items ++ finding_line finding.now) }
 {
-    let place = place_text(alloc, finding.place)?;
-    text.extend_from_slice(place.as_bytes())?;
+    write_place(finding.place, text)?;
     text.extend_from_slice(b": warning: ")?;
     write_warning(&finding.warning, text)?;
     text.push(b'\n')?;
@@ -65,7 +76,7 @@ pub(crate) fn findings_text(alloc: Global, found: &[Finding]) -> Result<Vec<u8>,
 {
     let mut text = Vec::new(alloc);
     for finding in found {
-        write_finding(alloc, finding, &mut text)?;
+        write_finding(finding, &mut text)?;
     }
     Ok(text)
 }

@@ -37,7 +37,7 @@ assigned_trees assignments = map assignment assignments
 
 -- whether a set has a name
 abbrev pub has_name : List ℕ → NameSet → Bool
-has_name name set = list_any (λ k. is_eq (bytes_cmp name k.items)) set.names.keys
+has_name name set = list_any (λ k. is_eq (bytes_cmp name k.now)) set.names.keys
 
 -- a test behind a reference, if there is one
 abbrev pub test_at : Option (Bor Test) → Option TestTree

@@ -8,8 +8,7 @@ use Rattle.ctd_findings.proofs.name_set.NameSet.of.Goals as goal
 pub loop-name-preserved : goal.loop-name-preserved
 loop-name-preserved c q =
     let rest = names_at (drop (c.loop-name.name-index + 1) c.args.names.now) in
-    let name = c.in_ok-bytes.ensures.items_if_clones_equal (λ x y e. e) ∙ c.as_slice.ensures.whole in
-    let step : names_at (drop c.loop-name.name-index c.args.names.now) ≡ c.in_ok-bytes.bytes.items ∷ rest =
-    name_first c.args.names.now c.loop-name.name-index c.name-item.result c.loop-name-test.true c.name-item.is ∙ ap (λ n. n ∷ rest) (sym name) in
-    any_moved (λ k. k.items) q c.loop-name.set.keys c.insert.new.self.keys c.in_ok-bytes.bytes rest (names_at c.args.names.now) c.in_ok-insert.ensures.keys
-    (ap (λ r. list_any (is_name (λ k. k.items) q) c.loop-name.set.keys || list_any (same_bytes q) r) (sym step) ∙ c.loop-name.invariant q)
+    let step : names_at (drop c.loop-name.name-index c.args.names.now) ≡ c.as_slice.result.now ∷ rest =
+    name_first c.args.names.now c.loop-name.name-index c.name-item.result c.loop-name-test.true c.name-item.is ∙ ap (λ n. n ∷ rest) (sym c.as_slice.ensures.whole) in
+    any_moved (λ k. k.now) q c.loop-name.set.keys c.insert.new.self.keys c.as_slice.result rest (names_at c.args.names.now) c.in_ok-insert.ensures.keys
+    (ap (λ r. list_any (is_name (λ k. k.now) q) c.loop-name.set.keys || list_any (same_bytes q) r) (sym step) ∙ c.loop-name.invariant q)

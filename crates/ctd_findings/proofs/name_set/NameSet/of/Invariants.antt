@@ -7,4 +7,4 @@ use Rattle.ctd_findings.specs.calls.Names.{is_among}
 use Rattle.ctd_findings.proofs.name_set.NameSet.of.Given as goal
 
 abbrev pub invariant-loop-name : goal.invariant-loop-name
-invariant-loop-name l = (q : List ℕ) → (list_any (λ k. is_eq (bytes_cmp q k.items)) l.set.keys || is_among q (names_at (drop l.name-index l.names))) ≡ is_among q (names_at l.names)
+invariant-loop-name l = (q : List ℕ) → (list_any (λ k. is_eq (bytes_cmp q k.now)) l.set.keys || is_among q (names_at (drop l.name-index l.names))) ≡ is_among q (names_at l.names)
