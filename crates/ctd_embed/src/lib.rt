@@ -1,28 +1,13 @@
-//! The checker for a caller in another language: one function over bytes in memory, as a static library.
+//! The checker as a static library, for callers in other languages: one function over bytes in memory.
 #![tactic(auto)]
 
 ghost use Rattle.std.specs.Prelude.{◌==◌};
 ghost use Rattle.std.specs.List.{slice_split};
-ghost use Rattle.ctd_embed.specs.calls.Buffers.{ReceivesText, FillsBuffers};
-ghost use Rattle.ctd_embed.specs.calls.InMemory.{IsAnswerTo};
+ghost use Rattle.ctd_buffers.specs.calls.Buffers.{FillsBuffers};
+ghost use Rattle.ctd_buffers.specs.calls.InMemory.{IsAnswerTo};
 
-mod memory_source;
-mod run;
-mod text_sink;
-mod words;
-
-use crate::run::run_in_memory;
+use ctd_buffers::{Lengths, answer_in_buffers};
 use std::alloc::Global;
-
-/// How long the two texts of an answer are, in bytes, also where a buffer is too small for its text.
-#[repr(C)]
-#[derive(Drop)]
-pub struct Lengths {
-    /// The length of the text for standard output.
-    pub out: usize,
-    /// The length of the text for standard error.
-    pub err: usize,
-}
 
 /// Checks data against a program, both in memory, as the command line would, and returns the exit status.
 ///
@@ -44,19 +29,5 @@ pub extern "C" fn checktestdata_run(
     ensures answers { FillsBuffers (IsAnswerTo (slice_split (λ b. b == 0) words.now) program.now testdata.now)
         (record { length_given = lengths.new.out; bytes = out.new }) (record { length_given = lengths.new.err; bytes = err.new }) result }
 {
-    let answer = run_in_memory(alloc, words, program, testdata);
-    lengths.out = copy_text(answer.out.bytes.as_slice(), out);
-    lengths.err = copy_text(answer.err.bytes.as_slice(), err);
-    answer.status
-}
-
-/// Copies a text to the front of a buffer, if it fits, and returns its length in bytes.
-fn copy_text(text: &[u8], buffer: &mut [u8]) -> usize
-    ensures receives { ReceivesText text.now (record { length_given = result; bytes = buffer.new }) }
-{
-    let length = text.len();
-    if length <= buffer.len() {
-        buffer[..length].copy_from_slice(text);
-    }
-    length
+    answer_in_buffers(alloc, words, program, testdata, out, err, lengths)
 }

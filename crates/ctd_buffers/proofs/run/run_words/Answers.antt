@@ -2,8 +2,8 @@ use Rattle.std.proofs.Common.{◌≡◌, Err, inl, inr, rules}
 use Rattle.ctd_report.specs.declared.written.ToolFault.TheVariants.{Memory, Write}
 use Rattle.ctd_report.specs.Written.{before_after}
 use Rattle.ctd_tool.proofs.AnswerLemmas.{EndsWithReport-weaker, LeavesOneOf-EndsWithReport, BreaksOff-EndsWithReport, Memory-untouched}
-use Rattle.ctd_embed.proofs.SourceLemmas.{report_in_memory}
-use Rattle.ctd_embed.proofs.run.run_words.Goals as goal
+use Rattle.ctd_buffers.proofs.SourceLemmas.{report_in_memory}
+use Rattle.ctd_buffers.proofs.run.run_words.Goals as goal
 
 pub returns-in-Ok-run_tool : goal.returns-in-Ok-run_tool
 returns-in-Ok-run_tool g c =

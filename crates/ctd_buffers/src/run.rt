@@ -4,8 +4,8 @@ ghost use Rattle.std.specs.Prelude.{◌≡◌, ◌==◌, false};
 ghost use Rattle.std.specs.List.{slice_split};
 ghost use Rattle.ctd_tool.specs.Theorem.{EndsWithReport};
 ghost use Rattle.ctd_report.specs.Written.{before_after};
-ghost use Rattle.ctd_embed.specs.calls.Buffers.{HoldReport};
-ghost use Rattle.ctd_embed.specs.calls.InMemory.{IsAnswerTo};
+ghost use Rattle.ctd_buffers.specs.calls.Buffers.{HoldReport};
+ghost use Rattle.ctd_buffers.specs.calls.InMemory.{IsAnswerTo};
 
 use crate::memory_source::MemorySource;
 use crate::text_sink::TextSink;
