@@ -1,5 +1,5 @@
 -- Names with their arrays in any order: what a look-up, a write and a removal are in the order of the names.
-use Rattle.std.proofs.Common.{◌≡◌, ◌≢◌, ℕ, zero, suc, ◌+◌, Bool, true, false, cond, not, filter, ◌&&◌, T, List, [], ◌∷◌, ◌++◌, length, Option, Some, None, refl, ap, sym, subst, ◌∙◌, arith}
+use Rattle.std.proofs.Common.{◌≡◌, ◌≢◌, ℕ, zero, suc, ◌+◌, ◌<◌, Bool, true, false, cond, not, filter, ◌&&◌, T, List, [], ◌∷◌, ◌++◌, length, Option, Some, None, refl, ap, sym, subst, ◌∙◌, arith}
 use Rattle.std.specs.Prelude.{nat_eq, slice_get, slice_set, option_map}
 use Rattle.std.specs.declared.cmp.Ordering.TheVariants.{Less, Equal, Greater}
 use Rattle.std.specs.Cmp.{tied_itself, eq_by_cmp_equiv}
@@ -14,7 +14,7 @@ use Rattle.std.proofs.lemmas.Map.Lookups.{exact_bytes}
 use Rattle.ctd_store.specs.declared.value.Value.{Value}
 use Rattle.ctd_store.specs.Order.{bytes_cmp, same_bytes, values_cmp}
 use Rattle.ctd_store.specs.Store.{Array, Variables, array_of}
-use Rattle.ctd_store.specs.calls.Store.{Positions, with_array, in_order, is_position, have_positions}
+use Rattle.ctd_store.specs.calls.Store.{slot, overlay_row, Positions, with_array, in_order, is_position, have_positions}
 use Rattle.ctd_store.specs.inner.Store.{name_at}
 use Rattle.ctd_store.proofs.Overlay.{left_of, right_of}
 
@@ -191,6 +191,16 @@ put_filled k v (e ∷ es) h = elim (values_cmp k e.0) as (λ o. by_order o ((k, 
   | Equal ↦ λ h. cc
   | Greater ↦ λ h. cc
 ] h
+
+-- no test has two answers
+pub opposite : (b : Bool) → b ≡ false → b ≡ true → ⊥
+opposite true denied given = cc
+opposite false denied given = cc
+
+-- a row with values overlaid is not empty
+pub row_filled : (n : ℕ) (xs : List Value) (es : Array) → 0 < length xs → overlay_row n xs es ≢ []
+row_filled n [] es filled h = absurd (omega (arith, filled))
+row_filled n (x ∷ xs) es filled h = put_filled (slot n) x (overlay_row (suc n) xs es) h
 
 find_without : (q x : List ℕ) (vs : Variables) → find bytes_cmp x (filter (λ v. not (same_bytes q v.0)) vs) ≡ cond (same_bytes x q) None (find bytes_cmp x vs)
 find_without q x vs =

@@ -61,10 +61,6 @@ pub if_none_weaker : {X : Type 0} (o : Option X) (P Q : Type 0) → (P → Q) �
 if_none_weaker None P Q f h = f h
 if_none_weaker (Some x) P Q f h = tt
 
-pub if_none_both : {X : Type 0} (o : Option X) (P Q : Type 0) → IfNone o P → IfNone o Q → IfNone o (P × Q)
-if_none_both None P Q h k = (h, k)
-if_none_both (Some x) P Q h k = tt
-
 pub if_some_weaker : {X : Type 0} (o : Option X) (P Q : X → Type 0) → ((x : X) → P x → Q x) → IfSome o P → IfSome o Q
 if_some_weaker None P Q f h = tt
 if_some_weaker (Some x) P Q f h = f x h

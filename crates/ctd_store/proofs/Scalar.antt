@@ -1,8 +1,7 @@
 -- A value without indices overlay_row over an array that has none: what a look-up, a write and the entries in order are.
-use Rattle.std.proofs.Common.{arith, ◌≡◌, ◌≢◌, ℕ, suc, Bool, true, false, not, ◌&&◌, T, List, [], ◌∷◌, ◌++◌, length, Option, Bor, Some, None, is_some, Result, Ok, Err, OnOk, OnErr, refl, sym, subst, ◌∙◌}
+use Rattle.std.proofs.Common.{arith, ◌≡◌, ◌≢◌, ℕ, suc, Bool, true, false, not, ◌&&◌, T, List, [], ◌∷◌, ◌++◌, length, Option, Some, None, is_some, Result, Ok, Err, OnOk, OnErr, refl, sym, subst, ◌∙◌}
 use Rattle.std.proofs.lemmas.Bool.Decides.{nat_tests}
 use Rattle.std.specs.Bool.{◌==◌}
-use Rattle.std.specs.Option.{option_copied, IfSome}
 use Rattle.std.specs.FinMap.{find, put, is_sorted}
 use Rattle.std.specs.FinMap.Entries.{is_sorted-put, find-put}
 use Rattle.ctd_store.specs.declared.value.Value.{Value}
@@ -93,8 +92,3 @@ scalar_first x ((i ∷ is, w) ∷ es) h = refl
 -- and is added before the others
 pub added_scalar : (hidden sofar more total : Array) (x : Value) (es : Array) → T (is_indexed es) → sofar ++ visible_entries hidden (put values_cmp [] x es) ≡ total → more ≡ sofar ++ visible_entries hidden (([], x) ∷ []) → more ++ visible_entries hidden es ≡ total
 added_scalar hidden sofar more total x es h before is = added hidden sofar more (put values_cmp [] x es) es total ([], x) before (scalar_first x es h) is
-
--- the value without indices, if there is one
-pub scalar_told : (r : Option (Bor Value)) (o : Option Value) → option_copied r ≡ o → IfSome r (λ x. o ≡ Some x.now)
-scalar_told None o e = tt
-scalar_told (Some x) o e = sym e

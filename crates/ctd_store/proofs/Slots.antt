@@ -1,6 +1,7 @@
 -- The slots of names, and what one or the other of their arrays are, in the order of the names.
-use Rattle.std.proofs.Common.{◌≡◌, ◌≢◌, Bool, true, false, IsTrue, Result, Ok, Err, OnOk, OnErr, if◌then◌else◌, ℕ, zero, suc, ◌<◌, T, not, filter, List, [], ◌∷◌, ◌++◌, length, get_or, Some, None, refl, ap, sym, subst, ◌∙◌, arith}
+use Rattle.std.proofs.Common.{◌≡◌, ◌≢◌, Bool, true, false, IsTrue, Result, Ok, Err, OnOk, OnErr, if◌then◌else◌, ℕ, zero, suc, ◌<◌, T, not, filter, List, [], ◌∷◌, ◌++◌, length, get_or, Option, Bor, Some, None, is_some, refl, ap, sym, subst, ◌∙◌, arith}
 use Rattle.std.specs.Prelude.{slice_get, slice_set}
+use Rattle.std.specs.Option.{IfSome, option_copied, option_or, unwrap_or}
 use Rattle.std.specs.FinMap.{find, put}
 use Rattle.ctd_store.specs.declared.slot.Slot.{Slot}
 use Rattle.ctd_store.specs.declared.value.Value.{Value}
@@ -130,6 +131,21 @@ module _ (part : Slot → Array) where
       → OnOk r ((new ≡ items ++ y ∷ []) × (qs ≡ put bytes_cmp y.name (length items) ps)) → OnErr r ((new ≡ items) × (qs ≡ ps)) → T (have_positions 0 (arrays_by part new) qs)
   all_placed (Ok x) items new ps qs y placed unknown done kept = subst (λ (p : List Slot × Positions). T (have_positions 0 (arrays_by part p.0) p.1)) (λ i. (sym done.0 i, sym done.1 i)) (placed_behind items ps y placed unknown)
   all_placed (Err e) items new ps qs y placed unknown done kept = subst (λ (p : List Slot × Positions). T (have_positions 0 (arrays_by part p.0) p.1)) (λ i. (sym kept.0 i, sym kept.1 i)) placed
+
+-- nothing is pinned where a slot has no pins
+pub no_pins : (pins : Option Array) (none : Bool) → is_some pins ≡ not none → none ≡ true → unwrap_or pins [] ≡ []
+no_pins None none is so = refl
+no_pins (Some a) true is so = cc
+no_pins (Some a) false is so = cc
+
+-- a value that is lent, and the pin of a key that is
+pub lent_value : (lent : Option (Bor Value)) (o : Option Value) → option_copied lent ≡ o → IfSome lent (λ x. o ≡ Some x.now)
+lent_value None o e = tt
+lent_value (Some x) o e = sym e
+
+pub lent_pin : (lent : Option (Bor Value)) (pin value : Option Value) → option_copied lent ≡ pin → IfSome lent (λ x. option_or pin value ≡ Some x.now)
+lent_pin None pin value e = tt
+lent_pin (Some x) pin value e = ap (λ o. option_or o value) (sym e)
 
 -- no value is pinned where there is no pin
 pub none_pinned : (is : List Value) → IsTrue (has_indices [] is) → ⊥

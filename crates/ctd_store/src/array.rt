@@ -55,27 +55,16 @@ impl Array {
         }
     }
 
-    /// The value without indices, or at one number or two where it stands in the row or in the grid. `None` means: take the general path.
+    /// The value at an index. Allocates nothing.
     #[inline(always)]
-    pub(crate) fn fast_value(&self, index: Index<'_>) -> Option<&Value>
-        ensures value { IfSome result (λ x. find values_cmp (indices_at index.entry) self.now ≡ Some x.now) }
+    pub(crate) fn value(&self, index: Index<'_>) -> Option<&Value>
+        ensures value { option_copied result ≡ find values_cmp (indices_at index.entry) self.now }
     {
         match index {
             Index::Scalar => self.scalar(),
-            Index::One(_) => self.indexed.fast_value(index),
-            Index::Two(_, _) => self.indexed.fast_value(index),
-            Index::List(_) => None,
-        }
-    }
-
-    /// The value at an index, where that is the value without indices. `None` means: take the general path.
-    #[inline(always)]
-    pub(crate) fn fast_scalar(&self, index: Index<'_>) -> Option<&Value>
-        ensures value { IfSome result (λ x. find values_cmp (indices_at index.entry) self.now ≡ Some x.now) }
-    {
-        match index {
-            Index::Scalar => self.scalar(),
-            Index::One(_) | Index::Two(_, _) | Index::List(_) => None,
+            Index::One(number) => self.indexed.get_one(number),
+            Index::Two(row, column) => self.indexed.get_two(row, column),
+            Index::List(indices) => self.get(indices),
         }
     }
 
@@ -87,7 +76,8 @@ impl Array {
         self.scalar.as_ref()
     }
 
-    /// The value at an index list. Allocates nothing.
+    /// The value at an index list. Allocates nothing. Out of line: keeps the caller small.
+    #[inline(never)]
     pub(crate) fn get(&self, indices: &[Value]) -> Option<&Value>
         ensures value { option_copied result ≡ find values_cmp indices.now self.now }
     {

@@ -1,6 +1,6 @@
 //! Values at two numbers: rows of values, whose numbers follow one another.
 
-ghost use Rattle.std.specs.Prelude.{◌≡◌, ◌≢◌, ◌+◌, ◌<◌, ℕ, ℤ, ◌∷◌, ◌++◌, [], map, length, not, true, false, Some, None, Ok, IfOk, OnOk, OnErr};
+ghost use Rattle.std.specs.Prelude.{◌≡◌, ◌≢◌, ◌+◌, ◌<◌, ℕ, ℤ, ◌∷◌, ◌++◌, [], map, length, true, false, Ok, IfOk, OnOk, OnErr};
 ghost use Rattle.std.specs.List.{list_any};
 ghost use Rattle.std.specs.Option.{option_copied, unwrap_or, IfSome, IfNone};
 ghost use Rattle.std.specs.FinMap.{find, put};
@@ -12,14 +12,14 @@ ghost use Rattle.ctd_store.specs.Order.{values_cmp, same_value};
 ghost use Rattle.ctd_store.specs.calls.Showing.{entry};
 ghost use Rattle.ctd_store.specs.inner.Showing.{visible_entries};
 ghost use Rattle.ctd_store.specs.calls.Store.{cell};
-ghost use Rattle.ctd_store.specs.Store.{has_indices};
 ghost use Rattle.ctd_store.specs.declared.value.Value.TheVariants as values;
 
 use crate::array::{Array, add_entry, has_indices};
 use crate::index::{Index, Indices};
-use crate::row_and_map::{RowAndMap, clear_list, place_below, write};
+use crate::row_and_map::{RowAndMap, number_below, place_below};
 use crate::store::EntryRef;
 use crate::value::Value;
+use crate::value_list::{clear_list, write};
 use crate::value_ref::ValueRef;
 use std::alloc::{AllocError, Global};
 use std::marker::Model;
@@ -74,19 +74,14 @@ impl Grid {
         Some(&row.values[at])
     }
 
-    /// The value at a row and a column of 64 bits, where the grid has it. `None` means: take the general path.
+    /// The value at a row and a column of 64 bits. Allocates nothing.
     #[inline(always)]
     pub(crate) fn at(&self, row: usize, column: usize) -> Option<&Value>
-        ensures value { IfSome result (λ x. find values_cmp (cell row column) self.now ≡ Some x.now) }
+        ensures value { option_copied result ≡ find values_cmp (cell row column) self.now }
     {
-        if row < self.base {
-            return None;
-        }
-        let at = row - self.base;
-        if at >= self.rows.len() {
-            return None;
-        }
-        value_at(&self.rows[at], column)
+        let row = &self.rows[number_below(self.base, self.rows.len(), row)?];
+        let at = number_below(row.base, row.values.len(), column)?;
+        Some(&row.values[at])
     }
 
     /// Gives a row and a column a value, where the grid has the row and the column stands in it or just behind it, and tells whether it did.
@@ -218,22 +213,6 @@ fn pair_of(indices: &[Value]) -> Option<(i128, i128)>
     match indices {
         [Value::Int(row), Value::Int(column)] => Some((*row, *column)),
         _ => None,
-    }
-}
-
-/// The value of a row at a column.
-#[inline(always)]
-fn value_at(row: &GridRow, column: usize) -> Option<&Value>
-    ensures value { (number : ℕ) → IfSome result (λ x. find values_cmp (cell number column) (cells number row.now.base row.now.values.items) ≡ Some x.now) }
-{
-    if column < row.base {
-        return None;
-    }
-    let at = column - row.base;
-    if at < row.values.len() {
-        Some(&row.values[at])
-    } else {
-        None
     }
 }
 

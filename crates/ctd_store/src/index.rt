@@ -1,8 +1,7 @@
 //! Where in the array of a name a value stands.
 
-ghost use Rattle.std.specs.Prelude.{◌≡◌, [], false, IfOk, IsTrue};
+ghost use Rattle.std.specs.Prelude.{◌≡◌, IfOk};
 ghost use Rattle.ctd_store.specs.calls.Index.{indices_at, indices_of};
-ghost use Rattle.ctd_store.specs.inner.Index.{HasIndices};
 
 use crate::value::Value;
 use std::alloc::{AllocError, Global};
@@ -45,19 +44,6 @@ impl<'i> Index<'i> {
                 _ => Index::List(indices),
             },
             _ => Index::List(indices),
-        }
-    }
-
-    /// Whether it has no values.
-    #[inline(always)]
-    pub(crate) fn is_scalar(self) -> bool
-        ensures none { IsTrue result → indices_at self.entry ≡ [] }
-        ensures some { result ≡ false → HasIndices (indices_at self.entry) }
-    {
-        match self {
-            Index::Scalar => true,
-            Index::One(_) | Index::Two(_, _) => false,
-            Index::List(indices) => indices.is_empty(),
         }
     }
 

@@ -1,8 +1,8 @@
 //! Index lists with their values: a grid where the indices are two numbers, and else a row and a map.
 
-ghost use Rattle.std.specs.Prelude.{◌≡◌, ◌++◌, [], map, true, false, Some, Ok, IfOk, OnOk, OnErr};
+ghost use Rattle.std.specs.Prelude.{◌≡◌, ◌++◌, [], map, true, false, Ok, OnOk, OnErr};
 ghost use Rattle.std.specs.List.{list_any};
-ghost use Rattle.std.specs.Option.{option_copied, unwrap_or, IfSome, IfNone};
+ghost use Rattle.std.specs.Option.{option_copied, unwrap_or, IfSome};
 ghost use Rattle.std.specs.FinMap.{find, put};
 ghost use Rattle.ctd_store.specs.calls.Index.{indices_at};
 ghost use Rattle.ctd_store.specs.calls.ValueRef.{value_of_ref};
@@ -64,16 +64,35 @@ impl Indexed {
         }
     }
 
-    /// The value at one number or two, where it stands in the row or in the grid. `None` means: take the general path.
+    /// The value at a number. Allocates nothing.
     #[inline(always)]
-    pub(crate) fn fast_value(&self, index: Index<'_>) -> Option<&Value>
-        ensures value { IfSome result (λ x. find values_cmp (indices_at index.entry) self.now ≡ Some x.now) }
+    pub(crate) fn get_one(&self, number: usize) -> Option<&Value>
+        ensures value { option_copied result ≡ find values_cmp (slot number) self.now }
     {
-        match (&self.form, index) {
-            (ArrayRepr::RowAndMap(plain), Index::One(number)) => plain.value_in_row(number),
-            (ArrayRepr::Grid(grid), Index::Two(row, column)) => grid.at(row, column),
-            _ => None,
+        match &self.form {
+            ArrayRepr::RowAndMap(plain) => plain.get_one(number),
+            ArrayRepr::Grid(_) => self.get_by_list(Index::One(number)),
         }
+    }
+
+    /// The value at two numbers. Allocates nothing.
+    #[inline(always)]
+    pub(crate) fn get_two(&self, row: usize, column: usize) -> Option<&Value>
+        ensures value { option_copied result ≡ find values_cmp (cell row column) self.now }
+    {
+        match &self.form {
+            ArrayRepr::Grid(grid) => grid.at(row, column),
+            ArrayRepr::RowAndMap(_) => self.get_by_list(Index::Two(row, column)),
+        }
+    }
+
+    /// The value at an index, by a list of its values. Out of line: keeps the caller small.
+    #[cold]
+    #[inline(never)]
+    fn get_by_list(&self, index: Index<'_>) -> Option<&Value>
+        ensures value { option_copied result ≡ find values_cmp (indices_at index.entry) self.now }
+    {
+        self.get(index.to_indices().as_slice())
     }
 
     /// The values, where they are a row alone. `None` means: take the general path.

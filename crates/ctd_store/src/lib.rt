@@ -12,6 +12,7 @@ mod row_and_map;
 mod slot;
 mod store;
 mod value;
+mod value_list;
 mod value_ref;
 
 pub use index::{Index, Indices};

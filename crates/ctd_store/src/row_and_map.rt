@@ -1,13 +1,12 @@
 //! Index lists with their values: a row of values for the numbers from 0 or 1 on, and an ordered map for all others.
 
-ghost use Rattle.std.specs.Prelude.{◌≡◌, ◌≢◌, ℕ, suc, pos, ◌+◌, ◌<◌, ◌≤◌, length, take, drop, [], ◌∷◌, ◌++◌, map, not, ◌&&◌, true, false, Some, IfOk, T, IsTrue, OnOk, OnErr};
+ghost use Rattle.std.specs.Prelude.{◌≡◌, ◌≢◌, ◌↔◌, ℕ, pos, ◌+◌, ◌<◌, ◌≤◌, length, take, drop, [], ◌∷◌, ◌++◌, map, not, ◌&&◌, true, false, Some, IfOk, T, IsTrue, OnOk, OnErr};
 ghost use Rattle.std.specs.List.{list_any};
 ghost use Rattle.std.specs.Option.{option_copied, unwrap_or, IfSome, IfNone};
 ghost use Rattle.std.specs.FinMap.{find, put, is_sorted};
 ghost use Rattle.std.specs.declared.cmp.Ordering.TheVariants.{Less};
 ghost use Rattle.ctd_store.specs.calls.Index.{indices_at, indices_of};
 ghost use Rattle.ctd_store.specs.declared.index.Index.TheVariants as indexes;
-ghost use Rattle.ctd_store.specs.declared.value.Value.TheVariants.{Int, Text};
 ghost use Rattle.ctd_store.specs.calls.ValueRef.{value_of_ref};
 ghost use Rattle.ctd_store.specs.Order.{values_cmp, same_value};
 ghost use Rattle.ctd_store.specs.calls.Showing.{entry};
@@ -20,15 +19,12 @@ use crate::array::{Array, add_entry, has_indices};
 use crate::index::{Index, Indices};
 use crate::store::EntryRef;
 use crate::value::Value;
+use crate::value_list::{clear_list, write};
 use crate::value_ref::ValueRef;
 use std::alloc::{AllocError, Global};
 use std::cmp::Ordering;
 use std::collections::BTreeMap;
 use std::marker::Model;
-use std::mem::replace;
-
-/// How many elements the room is for that a list may keep while it has none.
-const ROOM_KEPT: usize = 64;
 
 /// Index lists with their values, each index list once, which contracts see as the list of them in order.
 #[derive(Drop)]
@@ -75,9 +71,9 @@ impl RowAndMap {
         }
     }
 
-    /// Whether there are no values. `false` means: take the general path.
+    /// Whether there are no values.
     pub(crate) fn is_empty(&self) -> bool
-        ensures none { IsTrue result → self.now ≡ [] }
+        ensures value { IsTrue result ↔ (self.now ≡ []) }
     {
         self.dense.is_empty() && self.rest.is_empty()
     }
@@ -92,15 +88,24 @@ impl RowAndMap {
         }
     }
 
-    /// The value at a number, where it stands in the row. `None` means: take the general path.
+    /// The value at a number. Allocates nothing.
     #[inline(always)]
-    pub(crate) fn value_in_row(&self, number: usize) -> Option<&Value>
-        ensures value { IfSome result (λ x. find values_cmp (slot number) self.now ≡ Some x.now) }
+    pub(crate) fn get_one(&self, number: usize) -> Option<&Value>
+        ensures value { option_copied result ≡ find values_cmp (slot number) self.now }
     {
         match number_below(self.base, self.dense.len(), number) {
             Some(at) => Some(&self.dense[at]),
-            None => None,
+            None => self.get_by_list(number),
         }
+    }
+
+    /// The value at a number, by a list of it. Out of line: keeps the caller small.
+    #[cold]
+    #[inline(never)]
+    fn get_by_list(&self, number: usize) -> Option<&Value>
+        ensures value { option_copied result ≡ find values_cmp (slot number) self.now }
+    {
+        self.get(Index::One(number).to_indices().as_slice())
     }
 
     /// The values, where they are a row alone. `None` means: take the general path.
@@ -317,87 +322,6 @@ pub(crate) fn is_visible(
     value.order(ValueRef::of(stored)).is_eq() && !has_indices(hidden, indices)
 }
 
-/// Gives a slot of a list a value, where one past its end is a slot too; after an error all is as it was.
-#[inline(always)]
-pub(crate) fn write(
-    alloc: Global,
-    values: &mut Vec<Value>,
-    at: usize,
-    value: ValueRef<'_>,
-) -> Result<(), AllocError>
-    requires { at ≤ length values.old.items }
-    ensures ok { OnOk result (values.new.items ≡ take at values.old.items ++ value_of_ref value.entry ∷ drop (suc at) values.old.items) }
-    ensures err { OnErr result (values.new.items ≡ values.old.items) }
-{
-    if at < values.len() {
-        return write_over(alloc, values, at, value);
-    }
-    push(alloc, values, value)
-}
-
-/// Gives a slot that is there a value; after an error all is as it was.
-#[inline(always)]
-fn write_over(
-    alloc: Global,
-    values: &mut Vec<Value>,
-    at: usize,
-    value: ValueRef<'_>,
-) -> Result<(), AllocError>
-    requires { at < length values.old.items }
-    ensures ok { OnOk result (values.new.items ≡ take at values.old.items ++ value_of_ref value.entry ∷ drop (suc at) values.old.items) }
-    ensures err { OnErr result (values.new.items ≡ values.old.items) }
-{
-    value.put_into(alloc, &mut values[at])
-}
-
-/// Adds a value behind others; after an error all is as it was.
-#[inline(always)]
-fn push(alloc: Global, values: &mut Vec<Value>, value: ValueRef<'_>) -> Result<(), AllocError>
-    ensures ok { OnOk result (values.new.items ≡ values.old.items ++ value_of_ref value.entry ∷ []) }
-    ensures err { OnErr result (values.new.items ≡ values.old.items) }
-{
-    match value {
-        ValueRef::Int(n) => push_number(values, n),
-        ValueRef::Text(bytes) => push_text(alloc, values, bytes),
-    }
-}
-
-/// Adds a number behind others; after an error all is as it was.
-#[inline(always)]
-fn push_number(values: &mut Vec<Value>, n: i128) -> Result<(), AllocError>
-    ensures ok { OnOk result (values.new.items ≡ values.old.items ++ Int n ∷ []) }
-    ensures err { OnErr result (values.new.items ≡ values.old.items) }
-{
-    if values.len() >= values.capacity() {
-        return push_grown(values, n);
-    }
-    values.push_reserved(Value::Int(n));
-    Ok(())
-}
-
-/// Makes room for a number and adds it behind others; after an error all is as it was. Out of line: keeps the caller small.
-#[cold]
-#[inline(never)]
-fn push_grown(values: &mut Vec<Value>, n: i128) -> Result<(), AllocError>
-    ensures ok { OnOk result (values.new.items ≡ values.old.items ++ Int n ∷ []) }
-    ensures err { OnErr result (values.new.items ≡ values.old.items) }
-{
-    values.reserve(1)?;
-    values.push_reserved(Value::Int(n));
-    Ok(())
-}
-
-/// Adds a copy of a string behind others; after an error all is as it was.
-#[inline(never)]
-fn push_text(alloc: Global, values: &mut Vec<Value>, bytes: &[u8]) -> Result<(), AllocError>
-    ensures ok { OnOk result (values.new.items ≡ values.old.items ++ Text bytes.now ∷ []) }
-    ensures err { OnErr result (values.new.items ≡ values.old.items) }
-{
-    values.reserve(1)?;
-    values.push_reserved(ValueRef::Text(bytes).to_value(alloc)?);
-    Ok(())
-}
-
 /// Gives an index list a value in a map; after an error all is as it was.
 #[cold]
 #[inline(never)]
@@ -416,18 +340,6 @@ fn insert_in_map(
     let value = value.to_value(alloc)?;
     rest.insert(indices, value)?;
     Ok(())
-}
-
-/// Removes all elements of a list; if it has much room, also that.
-pub(crate) fn clear_list<T: Drop>(list: &mut Vec<T>)
-    ensures empty { list.new.items ≡ [] }
-{
-    if list.capacity() <= ROOM_KEPT {
-        list.clear();
-    } else {
-        let empty = Vec::new(*list.allocator());
-        drop(replace(list, empty));
-    }
 }
 
 /// Where a row begins once an index list gets a value. A row with no values begins at 1 if that is the index list, and
@@ -462,7 +374,7 @@ fn place_in_row(base: usize, bound: usize, index: Index<'_>) -> Option<usize>
 
 /// Where a number of 64 bits stands from a base on, where it is below a bound there.
 #[inline(always)]
-fn number_below(base: usize, bound: usize, number: usize) -> Option<usize>
+pub(crate) fn number_below(base: usize, bound: usize, number: usize) -> Option<usize>
     ensures found { IfSome result (λ n. (n < bound) × (number ≡ base + n)) }
     ensures none { IfNone result ((n : ℕ) → n < bound → number ≢ base + n) }
 {

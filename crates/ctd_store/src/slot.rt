@@ -1,8 +1,8 @@
 //! The slot of a name: what is pinned of it, and what is assigned to it.
 
-ghost use Rattle.std.specs.Prelude.{◌≡◌, [], None, Some, IfOk, IfSome, IsOk, IsTrue, OnOk, OnErr};
-ghost use Rattle.std.specs.Option.{option_or, option_copied, unwrap_or};
-ghost use Rattle.std.specs.FinMap.{find, put};
+ghost use Rattle.std.specs.Prelude.{◌≡◌, [], None, IfOk, IsOk, IsTrue, OnOk, OnErr};
+ghost use Rattle.std.specs.Option.{option_copied, unwrap_or};
+ghost use Rattle.std.specs.FinMap.{put};
 ghost use Rattle.ctd_store.specs.calls.Index.{indices_at};
 ghost use Rattle.ctd_store.specs.calls.ValueRef.{value_of_ref};
 ghost use Rattle.ctd_store.specs.Order.{values_cmp};
@@ -48,17 +48,6 @@ impl Slot {
         ensures assigned { unwrap_or (option_copied result.1) [] ≡ self.now.values }
     {
         (self.pins.as_ref(), Some(&self.values))
-    }
-
-    /// The value at an index, where no search is needed for it. `None` means: take the general path.
-    #[inline(always)]
-    pub(crate) fn fast_value(&self, index: Index<'_>) -> Option<&Value>
-        ensures value { IfSome result (λ x. option_or (find values_cmp (indices_at index.entry) (pins_in self.now)) (find values_cmp (indices_at index.entry) self.now.values) ≡ Some x.now) }
-    {
-        match &self.pins {
-            Some(pins) => pins.fast_scalar(index),
-            None => self.values.fast_value(index),
-        }
     }
 
     /// Gives an index list a value, unless a preset pins it; after an error all is as it was.

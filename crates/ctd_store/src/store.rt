@@ -113,19 +113,24 @@ impl Store {
         ensures value { option_copied result ≡ value_at self.now (record { name = name.now; indices = indices_at index.entry }) }
         ensures listed { option_copied result ≡ find values_cmp (indices_at index.entry) (values_of self.now name.now) }
     {
-        match self.fast_value_at(name, index) {
-            Some(value) => Some(value),
-            None => self.value_by_list(name, index),
+        match fast_position(&self.slots, &self.positions, name) {
+            Some(at) if self.slots[at].pins.is_none() => self.slots[at].values.value(index),
+            _ => self.value_by_list(name, index),
         }
     }
 
-    /// The value of a name at an index, where it is found without a search. `None` means: take the general path.
+    /// The value of a name at an index, where the hint leads to the name, and the value is pinned if any of the name is. Without an index it calls
+    /// nothing. `None` means: take the general path.
     #[inline(always)]
     pub fn fast_value_at(&self, name: &Name, index: Index<'_>) -> Option<&Value>
         ensures value { IfSome result (λ x. value_at self.now (record { name = name.now; indices = indices_at index.entry }) ≡ Some x.now) }
     {
         let at = fast_position(&self.slots, &self.positions, name)?;
-        self.slots[at].fast_value(index)
+        let slot = &self.slots[at];
+        match &slot.pins {
+            Some(pins) => pins.value(index),
+            None => slot.values.value(index),
+        }
     }
 
     /// The value of a name at an index, by a search. In line, so that only this rare way makes room for the values of the index.
@@ -313,10 +318,9 @@ fn fast_position(slots: &[Slot], positions: &Positions, name: &Name) -> Option<u
     ensures found { IfSome result (λ at. name_in slots.now at ≡ Some name.now) }
 {
     let at = positions.hint(name);
-    if has_short_name(slots, at, name) {
-        Some(at)
-    } else {
-        None
+    match slots.get(at) {
+        Some(slot) if slot.name.is_same_short(name) => Some(at),
+        _ => None,
     }
 }
 
@@ -334,17 +338,6 @@ fn position_by_search(slots: &[Slot], positions: &Positions, name: &Name) -> Opt
     match positions.get(name) {
         Some(at) if has_name(slots, at, name) => Some(at),
         _ => None,
-    }
-}
-
-/// Whether a short name stands at a position of a list. `false` means: take the general path.
-#[inline(always)]
-fn has_short_name(slots: &[Slot], at: usize, name: &Name) -> bool
-    ensures there { result ≡ true → name_in slots.now at ≡ Some name.now }
-{
-    match slots.get(at) {
-        Some(slot) => slot.name.is_same_short(name),
-        None => false,
     }
 }
 
