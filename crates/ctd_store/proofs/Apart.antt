@@ -8,7 +8,7 @@ use Rattle.ctd_store.specs.declared.value.Value.{Value}
 use Rattle.ctd_store.specs.Order.{values_cmp}
 use Rattle.ctd_store.specs.inner.OrderLaws.{values_total}
 use Rattle.ctd_store.specs.Store.{Array, History, array_of, values_of, has_indices, first_of_each}
-use Rattle.ctd_store.specs.inner.Store.{are_apart, with_unpinned}
+use Rattle.ctd_store.specs.inner.Store.{are_apart}
 use Rattle.ctd_store.proofs.Firsts.{visible_entries, one_hides}
 use Rattle.ctd_store.proofs.Overlay.{left_of, right_of, sorted_each_once}
 
@@ -23,15 +23,19 @@ both : (a b : Bool) → T a → T b → T (a && b)
 both true b p h = h
 both false b p h = p
 
+-- what is pinned is in order
 pins_sorted : (p vs : Array) → T (are_apart p vs) → T (is_sorted values_cmp p)
 pins_sorted p vs h = left_of _ _ (left_of (is_sorted values_cmp p && is_sorted values_cmp vs) (list_all (λ e. not (has_indices p e.0)) vs) h)
 
+-- what is assigned is in order
 values_sorted : (p vs : Array) → T (are_apart p vs) → T (is_sorted values_cmp vs)
 values_sorted p vs h = right_of (is_sorted values_cmp p) _ (left_of (is_sorted values_cmp p && is_sorted values_cmp vs) (list_all (λ e. not (has_indices p e.0)) vs) h)
 
+-- none of the one is in the other
 none_pinned : (p vs : Array) → T (are_apart p vs) → T (list_all (λ e. not (has_indices p e.0)) vs)
 none_pinned p vs h = right_of (is_sorted values_cmp p && is_sorted values_cmp vs) (list_all (λ e. not (has_indices p e.0)) vs) h
 
+-- all index lists still pass a test where one that passes it gets a value
 all_put : (F : List Value → Bool) (k : List Value) (v : Value) (es : Array) → T (F k) → T (list_all (λ e. F e.0) es) → T (list_all (λ e. F e.0) (put values_cmp k v es))
 all_put F k v [] here h = both (F k) true here tt
 all_put F k v (e ∷ es) here h = elim (values_cmp k e.0) as (λ o. T (list_all (λ e. F e.0) (by_order o ((k, v) ∷ e ∷ es) ((e.0, v) ∷ es) (e ∷ put values_cmp k v es)))) [
@@ -52,21 +56,24 @@ pub apart_after : {A E : Type 0} (r : Result A E) (p old new : Array) (k : List 
 apart_after (Ok x) p old new k v free h written refused = subst (λ es. IsTrue (are_apart p es)) (sym written) (is_true _ (apart_put p old k v free (holds _ h)))
 apart_after (Err e) p old new k v free h written refused = subst (λ es. IsTrue (are_apart p es)) (sym refused) h
 
-none_apart : (p none : Array) → none ≡ [] → T (is_sorted values_cmp p) → IsTrue (are_apart p none)
-none_apart p none empty h = subst (λ es. IsTrue (are_apart p es)) (sym empty) (is_true _ (both _ _ (both _ _ h tt) tt))
+-- where nothing is assigned
+none_apart : (p vs : Array) → vs ≡ [] → T (is_sorted values_cmp p) → IsTrue (are_apart p vs)
+none_apart p vs none h = subst (λ es. IsTrue (are_apart p es)) (sym none) (is_true _ (both _ _ (both _ _ h tt) tt))
 
 -- a value is pinned or refused, where none is assigned
-pub pinned_after : {A E : Type 0} (r : Result A E) (old new vs none : Array) (k : List Value) (v : Value) → IsTrue (are_apart old vs) → OnOk r (new ≡ put values_cmp k v old) → OnErr r (new ≡ old) → none ≡ [] → IsTrue (are_apart new none)
-pinned_after (Ok x) old new vs none k v h written refused empty =
-    none_apart new none empty (subst (λ es. T (is_sorted values_cmp es)) (sym written) (is_sorted-put values_cmp values_total k v old (pins_sorted old vs (holds _ h))))
-pinned_after (Err e) old new vs none k v h written refused empty = none_apart new none empty (subst (λ es. T (is_sorted values_cmp es)) (sym refused) (pins_sorted old vs (holds _ h)))
+pub pinned_after : {A E : Type 0} (r : Result A E) (old new vs : Array) (k : List Value) (v : Value) → IsTrue (are_apart old vs) → vs ≡ [] → OnOk r (new ≡ put values_cmp k v old) → OnErr r (new ≡ old) → IsTrue (are_apart new vs)
+pinned_after (Ok x) old new vs k v h none written refused =
+    none_apart new vs none (subst (λ es. T (is_sorted values_cmp es)) (sym written) (is_sorted-put values_cmp values_total k v old (pins_sorted old vs (holds _ h))))
+pinned_after (Err e) old new vs k v h none written refused = subst (λ es. IsTrue (are_apart es vs)) (sym refused) h
 
+-- where none is in both, none is left out
 all_visible : (p es : Array) → T (list_all (λ e. not (has_indices p e.0)) es) → visible_entries p es ≡ es
 all_visible p [] h = refl
 all_visible p (e ∷ es) h =
     ap (λ b. cond b (e ∷ visible_entries p es) (visible_entries p es)) (is_true _ (left_of _ _ h))
     ∙ ap (λ r. e ∷ r) (all_visible p es (right_of _ _ h))
 
+-- and each is the first of its index list
 all_first_apart : (p vs : Array) → T (are_apart p vs) → first_of_each (p ++ vs) ≡ p ++ vs
 all_first_apart p vs h =
     sym (one_hides p vs (sorted_each_once p (pins_sorted p vs h)) (sorted_each_once vs (values_sorted p vs h))) ∙ ap (λ r. p ++ r) (all_visible p vs (none_pinned p vs h))

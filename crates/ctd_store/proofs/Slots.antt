@@ -1,5 +1,5 @@
 -- The slots of names, and what one or the other of their arrays are, in the order of the names.
-use Rattle.std.proofs.Common.{◌≡◌, ◌≢◌, Bool, true, false, IsTrue, Result, Ok, Err, OnOk, OnErr, if◌then◌else◌, ℕ, zero, suc, ◌<◌, T, not, filter, List, [], ◌∷◌, ◌++◌, length, get_or, Some, None, refl, ap, sym, subst, ◌∙◌, arith}
+use Rattle.std.proofs.Common.{◌≡◌, ◌≢◌, Bool, true, false, IsTrue, Result, Ok, Err, OnOk, OnErr, if◌then◌else◌, ℕ, zero, suc, ◌<◌, T, not, filter, List, [], ◌∷◌, ◌++◌, length, get_or, Some, refl, ap, sym, subst, ◌∙◌, arith}
 use Rattle.std.specs.Prelude.{slice_get, slice_set}
 use Rattle.std.specs.FinMap.{find, put}
 use Rattle.ctd_store.specs.declared.slot.Slot.{Slot}
@@ -7,7 +7,7 @@ use Rattle.ctd_store.specs.declared.value.Value.{Value}
 use Rattle.ctd_store.specs.Order.{bytes_cmp, same_bytes, values_cmp}
 use Rattle.ctd_store.specs.calls.Slot.{arrays_by, pins_in, values_in}
 use Rattle.ctd_store.specs.inner.Slot.{name_in}
-use Rattle.ctd_store.specs.Store.{Array, Variables, History, array_of, with_value, has_indices, assign, unset}
+use Rattle.ctd_store.specs.Store.{Array, Variables, History, array_of, with_value, has_indices, is_pinned, assign, unset}
 use Rattle.ctd_store.specs.calls.Store.{Positions, in_order, have_positions}
 use Rattle.ctd_store.specs.inner.Store.{name_at, with_unpinned}
 use Rattle.ctd_store.proofs.Lookups.{put_in}
@@ -137,13 +137,18 @@ module _ (part : Slot → Array) where
       (placed_behind items ps y placed (subst (Unknown items ps) (sym same) unknown))
   all_placed (Err e) items new ps qs y q same placed unknown done kept = subst (λ (p : List Slot × Positions). T (have_positions 0 (arrays_by part p.0) p.1)) (λ i. (sym kept.0 i, sym kept.1 i)) placed
 
--- no value is pinned where there is no pin
-pub none_pinned : (is : List Value) → IsTrue (has_indices [] is) → ⊥
-none_pinned is h = cc
-
 -- the variables that slots are
 abbrev pub history_of : List Slot → History
 history_of items = record { pins = in_order (arrays_by pins_in items); assigned = in_order (arrays_by values_in items) }
+
+-- nothing is pinned of a name that has no position
+pub none_pinned : (lent items : List Slot) (ps : Positions) (q : List ℕ) (h : History) (is : List Value) → T (have_positions 0 (arrays_by pins_in items) ps) → lent ≡ items → Unknown lent ps q → history_of items ≡ h
+    → IsTrue (is_pinned h (record { name = q; indices = is })) → ⊥
+none_pinned lent items ps q h is placed same unknown view pinned =
+    none_in_none (subst (λ a. IsTrue (has_indices a is)) (missing_in pins_in items ps q h.pins placed (subst (λ l. Unknown l ps q) same unknown) (ap (λ h. h.pins) view)) pinned)
+  where
+    none_in_none : IsTrue (has_indices [] is) → ⊥
+    none_in_none h = cc
 
 -- what they are where a slot keeps its arrays
 pub kept_here : (items : List Slot) (at : ℕ) (q : List ℕ) (x y : Slot) (h : History) → name_in items at ≡ Some q → x ≡ get_or items at x → y.name ≡ x.name → pins_in y ≡ pins_in x → history_of items ≡ h → y.values ≡ x.values → history_of (slice_set items at y) ≡ h

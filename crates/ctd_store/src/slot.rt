@@ -167,7 +167,7 @@ impl Slot {
         ensures ok { OnOk result (pins_in self.new ≡ put values_cmp (indices_at index.entry) (value_of_ref value.entry) (pins_in self.old)) }
         ensures err { OnErr result (pins_in self.new ≡ pins_in self.old) }
     {
-        self.values.clear();
+        self.unset();
         match &mut self.pins {
             Some(pins) => pins.insert(alloc, index, value),
             None => {
@@ -180,7 +180,7 @@ impl Slot {
     }
 
     /// Removes what was assigned; pins stay. Allocates nothing.
-    pub(crate) fn clear(&mut self)
+    pub(crate) fn unset(&mut self)
         ensures name { self.new.name ≡ self.old.name }
         ensures pins { pins_in self.new ≡ pins_in self.old }
         ensures values { self.new.values ≡ [] }

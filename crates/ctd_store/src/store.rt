@@ -260,7 +260,7 @@ impl Store {
         ensures value { self.new ≡ unset self.old name.now }
     {
         if let Some(at) = position(&self.slots, &self.positions, name) {
-            self.slots[at].clear();
+            self.slots[at].unset();
         }
     }
 

@@ -14,7 +14,7 @@ use Rattle.ctd_store.specs.calls.Store.{slot}
 abbrev pub is_indexed : Array → Bool
 is_indexed array = is_sorted values_cmp array && not (is_some (find values_cmp [] array))
 
--- whether two arrays are in order, and no index list of the one is in the other
+-- whether two arrays are in order and have no index list in common
 abbrev pub are_apart : Array → Array → Bool
 are_apart pins values = is_sorted values_cmp pins && is_sorted values_cmp values && list_all (λ e. not (has_indices pins e.0)) values
 

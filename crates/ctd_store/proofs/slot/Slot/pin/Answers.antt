@@ -8,6 +8,6 @@ use Rattle.ctd_store.proofs.slot.Slot.pin.Goals as goal
 
 pub invariant_of-self : goal.invariant_of-self
 invariant_of-self c = record {
-  apart = pinned_after c.insert.result c.in-Some.pins c.insert.new.self c.args.self.now.values c.clear.new.self (indices_at c.args.index) (value_of_ref c.args.value)
-      (subst (λ o. IsTrue (are_apart (unwrap_or o []) c.args.self.now.values)) c.in-Some.is c.args.self.now.apart) c.insert.ensures.ok c.insert.ensures.err c.clear.ensures.empty;
+  apart = pinned_after c.insert.result c.in-Some.pins c.insert.new.self c.unset.new.self.values (indices_at c.args.index) (value_of_ref c.args.value)
+      (subst (λ o. IsTrue (are_apart (unwrap_or o []) c.unset.new.self.values)) c.in-Some.is c.unset.new.self.apart) c.unset.ensures.values c.insert.ensures.ok c.insert.ensures.err;
 }

@@ -4,7 +4,7 @@ use Rattle.ctd_store.specs.calls.Index.{indices_at}
 use Rattle.ctd_store.specs.calls.ValueRef.{value_of_ref}
 use Rattle.ctd_store.specs.calls.Slot.{pins_in, values_in}
 use Rattle.ctd_store.specs.Store.{has_indices}
-use Rattle.ctd_store.proofs.Slots.{Unknown, lent_name, still_placed, array_found, assigned_here, kept_here, all_placed, missing_in, assigned_behind, none_pinned}
+use Rattle.ctd_store.proofs.Slots.{Unknown, lent_name, still_placed, array_found, assigned_here, kept_here, all_placed, assigned_behind, none_pinned}
 use Rattle.ctd_store.proofs.store.Store.assign_by_search.Goals as goal
 
 pub invariant_of-self : goal.invariant_of-self
@@ -55,12 +55,8 @@ returns-in_ok-slot-in-None-clause-ok c =
 
 pub returns-in_err-slot-in-None-clause-pinned : goal.returns-in_err-slot-in-None-clause-pinned
 returns-in_err-slot-in-None-clause-pinned c pinned =
-    let unknown = subst (λ l. Unknown l c.self.inside.positions c.args.name.now) c.deref.ensures.value c.in-None.ensures.none in
-    let none = missing_in pins_in c.self.inside.slots.items c.self.inside.positions c.args.name.now c.args.self.now.pins c.self.invariant.0 unknown (ap (λ h. h.pins) c.self.view_is) in
-    absurd (none_pinned (indices_at c.args.index) (subst (λ a. IsTrue (has_indices a (indices_at c.args.index))) none pinned))
+    absurd (none_pinned c.deref.result.now c.self.inside.slots.items c.self.inside.positions c.args.name.now c.args.self.now (indices_at c.args.index) c.self.invariant.0 c.deref.ensures.value c.in-None.ensures.none c.self.view_is pinned)
 
 pub returns-in_ok-slot-in-None-clause-pinned : goal.returns-in_ok-slot-in-None-clause-pinned
 returns-in_ok-slot-in-None-clause-pinned c pinned =
-    let unknown = subst (λ l. Unknown l c.self.inside.positions c.args.name.now) c.deref.ensures.value c.in-None.ensures.none in
-    let none = missing_in pins_in c.self.inside.slots.items c.self.inside.positions c.args.name.now c.args.self.now.pins c.self.invariant.0 unknown (ap (λ h. h.pins) c.self.view_is) in
-    absurd (none_pinned (indices_at c.args.index) (subst (λ a. IsTrue (has_indices a (indices_at c.args.index))) none pinned))
+    absurd (none_pinned c.deref.result.now c.self.inside.slots.items c.self.inside.positions c.args.name.now c.args.self.now (indices_at c.args.index) c.self.invariant.0 c.deref.ensures.value c.in-None.ensures.none c.self.view_is pinned)
