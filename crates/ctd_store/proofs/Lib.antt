@@ -11,3 +11,4 @@ pub mod Rows
 pub mod StoreLaws
 pub mod Gridded
 pub mod AnyVisible
+pub mod Apart

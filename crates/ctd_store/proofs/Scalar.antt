@@ -8,12 +8,10 @@ use Rattle.ctd_store.specs.declared.value.Value.{Value}
 use Rattle.ctd_store.specs.inner.Index.{HasIndices}
 use Rattle.ctd_store.specs.Order.{values_cmp}
 use Rattle.ctd_store.specs.inner.OrderLaws.{values_total}
-use Rattle.ctd_store.specs.inner.Showing.{visible_entries}
 use Rattle.ctd_store.specs.Store.{Array}
 use Rattle.ctd_store.specs.calls.Store.{with_scalar}
 use Rattle.ctd_store.specs.inner.Store.{is_indexed}
-use Rattle.ctd_store.proofs.Firsts.{HasEachOnce}
-use Rattle.ctd_store.proofs.Overlay.{put_other, put_again, sorted_each_once, left_of, right_of}
+use Rattle.ctd_store.proofs.Overlay.{put_other, put_again, left_of, right_of}
 use Rattle.ctd_store.proofs.Merged.{added}
 
 no_successor : (n : ℕ) → (suc n == 0) ≡ true → ⊥
@@ -78,11 +76,6 @@ pub indexed_after : {A E : Type 0} (r : Result A E) (q : List Value) (v : Value)
 indexed_after (Ok x) q v old new h indexed written refused = subst (λ es. T (is_indexed es)) (sym written) (still_indexed q v old h indexed)
 indexed_after (Err e) q v old new h indexed written refused = subst (λ es. T (is_indexed es)) (sym refused) indexed
 
--- each index list comes once
-pub scalar_each_once : (scalar : Option Value) (es : Array) → T (is_indexed es) → HasEachOnce (with_scalar scalar es)
-scalar_each_once None es h = sorted_each_once es (sorted_part es h)
-scalar_each_once (Some x) es h = sorted_each_once (put values_cmp [] x es) (is_sorted-put values_cmp values_total [] x es (sorted_part es h))
-
 -- the value without indices is the first entry
 pub scalar_first : (x : Value) (es : Array) → T (is_indexed es) → put values_cmp [] x es ≡ ([], x) ∷ es
 scalar_first x [] h = refl
@@ -90,5 +83,5 @@ scalar_first x (([], w) ∷ es) h = absurd (right_of (is_sorted values_cmp (([],
 scalar_first x ((i ∷ is, w) ∷ es) h = refl
 
 -- and is added before the others
-pub added_scalar : (hidden sofar more total : Array) (x : Value) (es : Array) → T (is_indexed es) → sofar ++ visible_entries hidden (put values_cmp [] x es) ≡ total → more ≡ sofar ++ visible_entries hidden (([], x) ∷ []) → more ++ visible_entries hidden es ≡ total
-added_scalar hidden sofar more total x es h before is = added hidden sofar more (put values_cmp [] x es) es total ([], x) before (scalar_first x es h) is
+pub added_scalar : (sofar more total : Array) (x : Value) (es : Array) → T (is_indexed es) → sofar ++ put values_cmp [] x es ≡ total → more ≡ sofar ++ ([], x) ∷ [] → more ++ es ≡ total
+added_scalar sofar more total x es h before is = added sofar more (put values_cmp [] x es) es total ([], x) before (scalar_first x es h) is

@@ -1,16 +1,16 @@
 -- The slots of names, and what one or the other of their arrays are, in the order of the names.
-use Rattle.std.proofs.Common.{◌≡◌, ◌≢◌, Bool, true, false, IsTrue, Result, Ok, Err, OnOk, OnErr, if◌then◌else◌, ℕ, zero, suc, ◌<◌, T, not, filter, List, [], ◌∷◌, ◌++◌, length, get_or, Option, Bor, Some, None, is_some, refl, ap, sym, subst, ◌∙◌, arith}
+use Rattle.std.proofs.Common.{◌≡◌, ◌≢◌, Bool, true, false, IsTrue, Result, Ok, Err, OnOk, OnErr, if◌then◌else◌, ℕ, zero, suc, ◌<◌, T, not, filter, List, [], ◌∷◌, ◌++◌, length, get_or, Option, Bor, Some, None, refl, ap, sym, subst, ◌∙◌, arith}
 use Rattle.std.specs.Prelude.{slice_get, slice_set}
-use Rattle.std.specs.Option.{IfSome, option_copied, option_or, unwrap_or}
+use Rattle.std.specs.Option.{IfSome, option_copied}
 use Rattle.std.specs.FinMap.{find, put}
 use Rattle.ctd_store.specs.declared.slot.Slot.{Slot}
 use Rattle.ctd_store.specs.declared.value.Value.{Value}
 use Rattle.ctd_store.specs.Order.{bytes_cmp, same_bytes, values_cmp}
 use Rattle.ctd_store.specs.calls.Slot.{arrays_by, pins_in, values_in}
-use Rattle.ctd_store.specs.inner.Slot.{name_in, with_unpinned}
-use Rattle.ctd_store.specs.Store.{Array, Variables, History, array_of, with_value, has_indices, assign}
+use Rattle.ctd_store.specs.inner.Slot.{name_in}
+use Rattle.ctd_store.specs.Store.{Array, Variables, History, array_of, with_value, has_indices, is_pinned, assign, unset}
 use Rattle.ctd_store.specs.calls.Store.{Positions, in_order, have_positions}
-use Rattle.ctd_store.specs.inner.Store.{name_at}
+use Rattle.ctd_store.specs.inner.Store.{name_at, with_unpinned}
 use Rattle.ctd_store.proofs.Lookups.{put_in}
 use Rattle.ctd_store.proofs.Named.{IsAbsent, nothing, same_some, absent, missing_array, array_at, written_at, emptied_at, none_left_out, positions_set, positions_added, put_filled, added, added_empty}
 
@@ -29,6 +29,10 @@ name_here (y ∷ xs) (suc at) x inside is = name_here xs at x (omega (arith, ins
 -- a name at a position, in a list and where it is lent
 pub lent_name : (lent items : List Slot) (at : ℕ) (q : List ℕ) → lent ≡ items → name_in lent at ≡ Some q → name_in items at ≡ Some q
 lent_name lent items at q same name = subst (λ l. name_in l at ≡ Some q) same name
+
+-- a name that has no position in the list
+abbrev pub Unknown : List Slot → Positions → List ℕ → Type 0
+Unknown items ps q = (at : ℕ) → find bytes_cmp q ps ≡ Some at → name_in items at ≢ Some q
 
 -- and so of the array, of either kind
 module _ (part : Slot → Array) where
@@ -85,14 +89,14 @@ module _ (part : Slot → Array) where
       ∙ ap (filter (λ v. not (same_bytes q v.0))) view
 
   -- where the name has no position
-  absent_in : (items : List Slot) (ps : Positions) (q : List ℕ) → T (have_positions 0 (arrays_by part items) ps) → ((at : ℕ) → find bytes_cmp q ps ≡ Some at → name_in items at ≢ Some q) → IsAbsent q (arrays_by part items)
+  absent_in : (items : List Slot) (ps : Positions) (q : List ℕ) → T (have_positions 0 (arrays_by part items) ps) → Unknown items ps q → IsAbsent q (arrays_by part items)
   absent_in items ps q placed unknown = absent q (arrays_by part items) ps placed (λ at known is. unknown at known (sym (name_by items at) ∙ is))
 
-  pub missing_in : (items : List Slot) (ps : Positions) (q : List ℕ) (h : Variables) → T (have_positions 0 (arrays_by part items) ps) → ((at : ℕ) → find bytes_cmp q ps ≡ Some at → name_in items at ≢ Some q)
+  pub missing_in : (items : List Slot) (ps : Positions) (q : List ℕ) (h : Variables) → T (have_positions 0 (arrays_by part items) ps) → Unknown items ps q
       → in_order (arrays_by part items) ≡ h → array_of q h ≡ []
   missing_in items ps q h placed unknown view = ap (array_of q) (sym view) ∙ missing_array q (arrays_by part items) (absent_in items ps q placed unknown)
 
-  pub left_out : (items : List Slot) (ps : Positions) (q : List ℕ) (h : Variables) → T (have_positions 0 (arrays_by part items) ps) → ((at : ℕ) → find bytes_cmp q ps ≡ Some at → name_in items at ≢ Some q)
+  pub left_out : (items : List Slot) (ps : Positions) (q : List ℕ) (h : Variables) → T (have_positions 0 (arrays_by part items) ps) → Unknown items ps q
       → in_order (arrays_by part items) ≡ h → h ≡ filter (λ v. not (same_bytes q v.0)) h
   left_out items ps q h placed unknown view =
       subst (λ vs. vs ≡ filter (λ v. not (same_bytes q v.0)) vs) view (none_left_out q (arrays_by part items) (absent_in items ps q placed unknown))
@@ -105,21 +109,21 @@ module _ (part : Slot → Array) where
   many [] = refl
   many (x ∷ xs) = ap suc (many xs)
 
-  pub placed_behind : (items : List Slot) (ps : Positions) (y : Slot) → T (have_positions 0 (arrays_by part items) ps) → ((at : ℕ) → find bytes_cmp y.name ps ≡ Some at → name_in items at ≢ Some y.name)
+  pub placed_behind : (items : List Slot) (ps : Positions) (y : Slot) → T (have_positions 0 (arrays_by part items) ps) → Unknown items ps y.name
       → T (have_positions 0 (arrays_by part (items ++ y ∷ [])) (put bytes_cmp y.name (length items) ps))
   placed_behind items ps y placed unknown =
       let count = many items in
       subst (λ vs. T (have_positions 0 vs (put bytes_cmp y.name (length items) ps))) (sym (behind items y)) (positions_added 0 (length items) (arrays_by part items) ps y.name (part y) (omega (arith, count)) (absent_in items ps y.name placed unknown) placed)
 
   -- a slot behind the others, with one value or none
-  pub one_behind : (items : List Slot) (ps : Positions) (y : Slot) (h : Variables) (is : List Value) (v : Value) → T (have_positions 0 (arrays_by part items) ps) → ((at : ℕ) → find bytes_cmp y.name ps ≡ Some at → name_in items at ≢ Some y.name)
+  pub one_behind : (items : List Slot) (ps : Positions) (y : Slot) (h : Variables) (is : List Value) (v : Value) → T (have_positions 0 (arrays_by part items) ps) → Unknown items ps y.name
       → in_order (arrays_by part items) ≡ h → part y ≡ (is, v) ∷ [] → in_order (arrays_by part (items ++ y ∷ [])) ≡ with_value (record { name = y.name; indices = is }) v h
   one_behind items ps y h is v placed unknown view one =
       ap in_order (behind items y ∙ ap (λ a. arrays_by part items ++ (y.name, a) ∷ []) one)
       ∙ added (arrays_by part items) ps y.name (is, v) [] placed (absent_in items ps y.name placed unknown)
       ∙ put_in (record { name = y.name; indices = is }) v h (in_order (arrays_by part items)) y.name is [] ((is, v) ∷ []) refl refl view (missing_array y.name (arrays_by part items) (absent_in items ps y.name placed unknown)) refl
 
-  pub none_behind : (items : List Slot) (ps : Positions) (y : Slot) (h : Variables) → T (have_positions 0 (arrays_by part items) ps) → ((at : ℕ) → find bytes_cmp y.name ps ≡ Some at → name_in items at ≢ Some y.name)
+  pub none_behind : (items : List Slot) (ps : Positions) (y : Slot) (h : Variables) → T (have_positions 0 (arrays_by part items) ps) → Unknown items ps y.name
       → in_order (arrays_by part items) ≡ h → part y ≡ [] → in_order (arrays_by part (items ++ y ∷ [])) ≡ h
   none_behind items ps y h placed unknown view none =
       ap in_order (behind items y ∙ ap (λ a. arrays_by part items ++ (y.name, a) ∷ []) none)
@@ -127,81 +131,84 @@ module _ (part : Slot → Array) where
       ∙ view
 
   -- whether a slot was put behind the others or not
-  pub all_placed : {A E : Type 0} (r : Result A E) (items new : List Slot) (ps qs : Positions) (y : Slot) → T (have_positions 0 (arrays_by part items) ps) → ((at : ℕ) → find bytes_cmp y.name ps ≡ Some at → name_in items at ≢ Some y.name)
-      → OnOk r ((new ≡ items ++ y ∷ []) × (qs ≡ put bytes_cmp y.name (length items) ps)) → OnErr r ((new ≡ items) × (qs ≡ ps)) → T (have_positions 0 (arrays_by part new) qs)
-  all_placed (Ok x) items new ps qs y placed unknown done kept = subst (λ (p : List Slot × Positions). T (have_positions 0 (arrays_by part p.0) p.1)) (λ i. (sym done.0 i, sym done.1 i)) (placed_behind items ps y placed unknown)
-  all_placed (Err e) items new ps qs y placed unknown done kept = subst (λ (p : List Slot × Positions). T (have_positions 0 (arrays_by part p.0) p.1)) (λ i. (sym kept.0 i, sym kept.1 i)) placed
+  pub all_placed : {A E : Type 0} (r : Result A E) (items new : List Slot) (ps qs : Positions) (y : Slot) (q : List ℕ) → y.name ≡ q → T (have_positions 0 (arrays_by part items) ps) → Unknown items ps q
+      → OnOk r ((new ≡ items ++ y ∷ []) × (qs ≡ put bytes_cmp q (length items) ps)) → OnErr r ((new ≡ items) × (qs ≡ ps)) → T (have_positions 0 (arrays_by part new) qs)
+  all_placed (Ok x) items new ps qs y q same placed unknown done kept =
+      subst (λ (p : List Slot × Positions). T (have_positions 0 (arrays_by part p.0) p.1)) (λ i. (sym done.0 i, sym (done.1 ∙ ap (λ n. put bytes_cmp n (length items) ps) (sym same)) i))
+      (placed_behind items ps y placed (subst (Unknown items ps) (sym same) unknown))
+  all_placed (Err e) items new ps qs y q same placed unknown done kept = subst (λ (p : List Slot × Positions). T (have_positions 0 (arrays_by part p.0) p.1)) (λ i. (sym kept.0 i, sym kept.1 i)) placed
 
--- nothing is pinned where a slot has no pins
-pub no_pins : (pins : Option Array) (none : Bool) → is_some pins ≡ not none → none ≡ true → unwrap_or pins [] ≡ []
-no_pins None none is so = refl
-no_pins (Some a) true is so = cc
-no_pins (Some a) false is so = cc
-
--- a value that is lent, and the pin of a key that is
+-- a value that is lent
 pub lent_value : (lent : Option (Bor Value)) (o : Option Value) → option_copied lent ≡ o → IfSome lent (λ x. o ≡ Some x.now)
 lent_value None o e = tt
 lent_value (Some x) o e = sym e
 
-pub lent_pin : (lent : Option (Bor Value)) (pin value : Option Value) → option_copied lent ≡ pin → IfSome lent (λ x. option_or pin value ≡ Some x.now)
-lent_pin None pin value e = tt
-lent_pin (Some x) pin value e = ap (λ o. option_or o value) (sym e)
+-- the variables that slots are
+abbrev pub history_of : List Slot → History
+history_of items = record { pins = in_order (arrays_by pins_in items); assigned = in_order (arrays_by values_in items) }
 
--- no value is pinned where there is no pin
-pub none_pinned : (is : List Value) → IsTrue (has_indices [] is) → ⊥
-none_pinned is h = cc
+-- nothing is pinned of a name that has no position
+pub none_pinned : (lent items : List Slot) (ps : Positions) (q : List ℕ) (h : History) (is : List Value) → T (have_positions 0 (arrays_by pins_in items) ps) → lent ≡ items → Unknown lent ps q → history_of items ≡ h
+    → IsTrue (is_pinned h (record { name = q; indices = is })) → ⊥
+none_pinned lent items ps q h is placed same unknown view pinned =
+    none_in_none (subst (λ a. IsTrue (has_indices a is)) (missing_in pins_in items ps q h.pins placed (subst (λ l. Unknown l ps q) same unknown) (ap (λ h. h.pins) view)) pinned)
+  where
+    none_in_none : IsTrue (has_indices [] is) → ⊥
+    none_in_none h = cc
 
--- what the variables are where a slot gets a value
+-- what they are where a slot keeps its arrays
+pub kept_here : (items : List Slot) (at : ℕ) (q : List ℕ) (x y : Slot) (h : History) → name_in items at ≡ Some q → x ≡ get_or items at x → y.name ≡ x.name → pins_in y ≡ pins_in x → history_of items ≡ h → y.values ≡ x.values → history_of (slice_set items at y) ≡ h
+kept_here items at q x y h name there same kept view e = λ i. record {
+  pins = unwritten pins_in items at q x y h.pins name there same kept (ap (λ h. h.pins) view) i;
+  assigned = unwritten values_in items at q x y h.assigned name there same e (ap (λ h. h.assigned) view) i;
+}
+
+-- where one gets a value
 pub assigned_here : (items : List Slot) (ps : Positions) (at : ℕ) (q : List ℕ) (x y : Slot) (h : History) (is : List Value) (v : Value) → T (have_positions 0 (arrays_by pins_in items) ps) → T (have_positions 0 (arrays_by values_in items) ps) → name_in items at ≡ Some q
-    → x ≡ get_or items at x → y.name ≡ x.name → pins_in y ≡ pins_in x → record { pins = in_order (arrays_by pins_in items); assigned = in_order (arrays_by values_in items) } ≡ h → y ≡ with_unpinned is v x
-    → record { pins = in_order (arrays_by pins_in (slice_set items at y)); assigned = in_order (arrays_by values_in (slice_set items at y)) } ≡ assign h (record { name = q; indices = is }) v
+    → x ≡ get_or items at x → y.name ≡ x.name → pins_in y ≡ pins_in x → history_of items ≡ h → y.values ≡ with_unpinned (pins_in x) is v x.values → history_of (slice_set items at y) ≡ assign h (record { name = q; indices = is }) v
 assigned_here items ps at q x y h is v placed placed_too name there same kept view e =
     by_pin (has_indices (pins_in x) is) e
     ∙ ap (λ a. if has_indices a is then h else record { pins = h.pins; assigned = with_value (record { name = q; indices = is }) v h.assigned }) (sym (array_found pins_in items ps at q x h.pins placed name there (ap (λ h. h.pins) view)))
   where
-    by_pin : (b : Bool) → y ≡ (if b then x else record { name = x.name; pins = x.pins; values = put values_cmp is v x.values })
-        → record { pins = in_order (arrays_by pins_in (slice_set items at y)); assigned = in_order (arrays_by values_in (slice_set items at y)) } ≡ (if b then h else record { pins = h.pins; assigned = with_value (record { name = q; indices = is }) v h.assigned })
-    by_pin true e = λ i. record {
-      pins = unwritten pins_in items at q x y h.pins name there same kept (ap (λ h. h.pins) view) i;
-      assigned = unwritten values_in items at q x y h.assigned name there same (ap values_in e) (ap (λ h. h.assigned) view) i;
-    }
+    by_pin : (b : Bool) → y.values ≡ (if b then x.values else put values_cmp is v x.values)
+        → history_of (slice_set items at y) ≡ (if b then h else record { pins = h.pins; assigned = with_value (record { name = q; indices = is }) v h.assigned })
+    by_pin true e = kept_here items at q x y h name there same kept view e
     by_pin false e = λ i. record {
       pins = unwritten pins_in items at q x y h.pins name there same kept (ap (λ h. h.pins) view) i;
-      assigned = value_written values_in items ps at q x y h.assigned is v placed_too name there same (ap (λ h. h.assigned) view) (ap values_in e) i;
+      assigned = value_written values_in items ps at q x y h.assigned is v placed_too name there same (ap (λ h. h.assigned) view) e i;
     }
 
 -- and where one with the value is put behind the others
-pub assigned_behind : (items new : List Slot) (ps : Positions) (q : List ℕ) (h : History) (is : List Value) (v : Value) → T (have_positions 0 (arrays_by pins_in items) ps) → T (have_positions 0 (arrays_by values_in items) ps)
-    → ((at : ℕ) → find bytes_cmp q ps ≡ Some at → name_in items at ≢ Some q) → record { pins = in_order (arrays_by pins_in items); assigned = in_order (arrays_by values_in items) } ≡ h
-    → new ≡ items ++ record { name = q; pins = None; values = (is, v) ∷ [] } ∷ []
-    → record { pins = in_order (arrays_by pins_in new); assigned = in_order (arrays_by values_in new) } ≡ assign h (record { name = q; indices = is }) v
-assigned_behind items new ps q h is v placed placed_too unknown view e =
-    let y : Slot = record { name = q; pins = None; values = (is, v) ∷ [] } in
-    (λ i. record { pins = in_order (arrays_by pins_in (e i)); assigned = in_order (arrays_by values_in (e i)) })
+pub assigned_behind : (items new : List Slot) (ps : Positions) (y : Slot) (q : List ℕ) (h : History) (is : List Value) (v : Value) → y.name ≡ q → pins_in y ≡ [] → y.values ≡ (is, v) ∷ [] → T (have_positions 0 (arrays_by pins_in items) ps) → T (have_positions 0 (arrays_by values_in items) ps)
+    → Unknown items ps q → history_of items ≡ h → new ≡ items ++ y ∷ [] → history_of new ≡ assign h (record { name = q; indices = is }) v
+assigned_behind items new ps y q h is v same none one placed placed_too unknown view e =
+    let here = subst (Unknown items ps) (sym same) unknown in
+    subst (λ n. history_of new ≡ assign h (record { name = n; indices = is }) v) same
+    (ap history_of e
     ∙ (λ i. record {
-      pins = none_behind pins_in items ps y h.pins placed unknown (ap (λ h. h.pins) view) refl i;
-      assigned = one_behind values_in items ps y h.assigned is v placed_too unknown (ap (λ h. h.assigned) view) refl i;
+      pins = none_behind pins_in items ps y h.pins placed here (ap (λ h. h.pins) view) none i;
+      assigned = one_behind values_in items ps y h.assigned is v placed_too here (ap (λ h. h.assigned) view) one i;
     })
-    ∙ ap (λ a. if has_indices a is then h else record { pins = h.pins; assigned = with_value (record { name = q; indices = is }) v h.assigned }) (sym (missing_in pins_in items ps q h.pins placed unknown (ap (λ h. h.pins) view)))
+    ∙ ap (λ a. if has_indices a is then h else record { pins = h.pins; assigned = with_value (record { name = y.name; indices = is }) v h.assigned }) (sym (missing_in pins_in items ps y.name h.pins placed here (ap (λ h. h.pins) view))))
 
 -- what they are where a slot gets a pin
-pub pinned_here : (items : List Slot) (ps : Positions) (at : ℕ) (q : List ℕ) (x y : Slot) (h : History) (is : List Value) (v : Value) → T (have_positions 0 (arrays_by pins_in items) ps) → name_in items at ≡ Some q
-    → x ≡ get_or items at x → y.name ≡ x.name → y.values ≡ x.values → record { pins = in_order (arrays_by pins_in items); assigned = in_order (arrays_by values_in items) } ≡ h → pins_in y ≡ put values_cmp is v (pins_in x)
-    → ◌≡◌ {A = History} (record { pins = in_order (arrays_by pins_in (slice_set items at y)); assigned = in_order (arrays_by values_in (slice_set items at y)) }) (record { pins = with_value (record { name = q; indices = is }) v h.pins; assigned = h.assigned })
-pinned_here items ps at q x y h is v placed name there same kept view e = λ i. record {
+pub pinned_here : (items : List Slot) (ps : Positions) (at : ℕ) (q : List ℕ) (x y : Slot) (h : History) (is : List Value) (v : Value) → T (have_positions 0 (arrays_by pins_in items) ps) → T (have_positions 0 (arrays_by values_in items) ps) → name_in items at ≡ Some q
+    → x ≡ get_or items at x → y.name ≡ x.name → y.values ≡ [] → history_of items ≡ h → pins_in y ≡ put values_cmp is v (pins_in x)
+    → history_of (slice_set items at y) ≡ unset (record { pins = with_value (record { name = q; indices = is }) v h.pins; assigned = h.assigned }) q
+pinned_here items ps at q x y h is v placed placed_too name there same none view e = λ i. record {
   pins = value_written pins_in items ps at q x y h.pins is v placed name there same (ap (λ h. h.pins) view) e i;
-  assigned = unwritten values_in items at q x y h.assigned name there same kept (ap (λ h. h.assigned) view) i;
+  assigned = emptied values_in items ps at q x y h.assigned placed_too name there same (ap (λ h. h.assigned) view) none i;
 }
 
 -- and where one with the pin is put behind the others
-pub pinned_behind : (items new : List Slot) (ps : Positions) (q : List ℕ) (h : History) (is : List Value) (v : Value) → T (have_positions 0 (arrays_by pins_in items) ps) → T (have_positions 0 (arrays_by values_in items) ps)
-    → ((at : ℕ) → find bytes_cmp q ps ≡ Some at → name_in items at ≢ Some q) → record { pins = in_order (arrays_by pins_in items); assigned = in_order (arrays_by values_in items) } ≡ h
-    → new ≡ items ++ record { name = q; pins = Some ((is, v) ∷ []); values = [] } ∷ []
-    → ◌≡◌ {A = History} (record { pins = in_order (arrays_by pins_in new); assigned = in_order (arrays_by values_in new) }) (record { pins = with_value (record { name = q; indices = is }) v h.pins; assigned = h.assigned })
-pinned_behind items new ps q h is v placed placed_too unknown view e =
-    let y : Slot = record { name = q; pins = Some ((is, v) ∷ []); values = [] } in
-    (λ i. record { pins = in_order (arrays_by pins_in (e i)); assigned = in_order (arrays_by values_in (e i)) })
+pub pinned_behind : (items new : List Slot) (ps : Positions) (y : Slot) (q : List ℕ) (h : History) (is : List Value) (v : Value) → y.name ≡ q → pins_in y ≡ (is, v) ∷ [] → y.values ≡ [] → T (have_positions 0 (arrays_by pins_in items) ps) → T (have_positions 0 (arrays_by values_in items) ps)
+    → Unknown items ps q → history_of items ≡ h → new ≡ items ++ y ∷ []
+    → history_of new ≡ unset (record { pins = with_value (record { name = q; indices = is }) v h.pins; assigned = h.assigned }) q
+pinned_behind items new ps y q h is v same one none placed placed_too unknown view e =
+    let here = subst (Unknown items ps) (sym same) unknown in
+    subst (λ n. history_of new ≡ unset (record { pins = with_value (record { name = n; indices = is }) v h.pins; assigned = h.assigned }) n) same
+    (ap history_of e
     ∙ (λ i. record {
-      pins = one_behind pins_in items ps y h.pins is v placed unknown (ap (λ h. h.pins) view) refl i;
-      assigned = none_behind values_in items ps y h.assigned placed_too unknown (ap (λ h. h.assigned) view) refl i;
-    })
+      pins = one_behind pins_in items ps y h.pins is v placed here (ap (λ h. h.pins) view) one i;
+      assigned = (none_behind values_in items ps y h.assigned placed_too here (ap (λ h. h.assigned) view) none ∙ left_out values_in items ps y.name h.assigned placed_too here (ap (λ h. h.assigned) view)) i;
+    }))

@@ -1,20 +1,18 @@
 //! The array of a name: index lists with their values, in their order.
 
-ghost use Rattle.std.specs.Prelude.{◌≡◌, [], ◌∷◌, ◌++◌, map, true, false, Some, IfSome, OnOk, OnErr};
-ghost use Rattle.std.specs.List.{IsDistinct, list_any};
+ghost use Rattle.std.specs.Prelude.{◌≡◌, [], ◌∷◌, ◌++◌, map, Some, IfSome, OnOk, OnErr};
+ghost use Rattle.std.specs.List.{list_any};
 ghost use Rattle.std.specs.Option.{option_copied, unwrap_or};
 ghost use Rattle.std.specs.FinMap.{find, put};
 ghost use Rattle.ctd_store.specs.calls.Index.{indices_at, indices_of};
 ghost use Rattle.ctd_store.specs.calls.ValueRef.{value_of_ref};
-ghost use Rattle.ctd_store.specs.Order.{values_cmp, same_value, same_values};
+ghost use Rattle.ctd_store.specs.Order.{values_cmp, same_value};
 ghost use Rattle.ctd_store.specs.calls.Showing.{entry};
-ghost use Rattle.ctd_store.specs.inner.Showing.{visible_entries};
-ghost use Rattle.ctd_store.specs.Store.{has_indices};
-ghost use Rattle.ctd_store.specs.calls.Store.{index_lists, overlay_row};
+ghost use Rattle.ctd_store.specs.calls.Store.{overlay_row};
 
 use crate::index::{Index, Indices};
 use crate::indexed::Indexed;
-use crate::row_and_map::{Row, is_visible};
+use crate::row_and_map::Row;
 use crate::store::EntryRef;
 use crate::value::Value;
 use crate::value_ref::ValueRef;
@@ -144,37 +142,26 @@ impl Array {
         self.indexed.clear();
     }
 
-    /// Adds the entries to others, but for those at whose index lists the hidden array, if there is one, has a value.
-    fn add_entries<'s>(
-        &'s self,
-        hidden: Option<&Array>,
-        entries: &mut Vec<EntryRef<'s>>,
-    ) -> Result<(), AllocError>
-        ensures added { OnOk result (map entry entries.new.items ≡ map entry entries.old.items ++ visible_entries (unwrap_or (option_copied hidden.entry) []) self.now) }
-        ensures once { IsDistinct same_values (index_lists self.now) }
+    /// Adds the entries to others.
+    fn add_entries<'s>(&'s self, entries: &mut Vec<EntryRef<'s>>) -> Result<(), AllocError>
+        ensures added { OnOk result (map entry entries.new.items ≡ map entry entries.old.items ++ self.now) }
     {
         match &self.scalar {
             Some(value) => {
-                add_entry(hidden, Indices::List(&[]), value, entries)?;
-                self.indexed.add_entries(hidden, entries)
+                add_entry(Indices::List(&[]), value, entries)?;
+                self.indexed.add_entries(entries)
             }
-            None => self.indexed.add_entries(hidden, entries),
+            None => self.indexed.add_entries(entries),
         }
     }
 
-    /// Whether a value is among those at whose index lists the hidden array, if there is one, has none. Allocates nothing.
-    fn has_value(&self, hidden: Option<&Array>, value: ValueRef<'_>) -> bool
-        ensures value { result ≡ list_any (λ e. same_value (value_of_ref value.entry) e.1) (visible_entries (unwrap_or (option_copied hidden.entry) []) self.now) }
-        ensures once { IsDistinct same_values (index_lists self.now) }
+    /// Whether a value is among those of the array. Allocates nothing.
+    fn has_value(&self, value: ValueRef<'_>) -> bool
+        ensures value { result ≡ list_any (λ e. same_value (value_of_ref value.entry) e.1) self.now }
     {
         match &self.scalar {
-            Some(scalar) => {
-                if is_visible(hidden, &[], scalar, value) {
-                    return true;
-                }
-                self.indexed.has_value(hidden, value)
-            }
-            None => self.indexed.has_value(hidden, value),
+            Some(scalar) => value.is_same(scalar) || self.indexed.has_value(value),
+            None => self.indexed.has_value(value),
         }
     }
 }
@@ -230,55 +217,37 @@ pub(crate) fn get<'s>(array: Option<&'s Array>, indices: &[Value]) -> Option<&'s
     array?.get(indices)
 }
 
-/// Adds the entries of an array, if there is one, to others, but for those at whose index lists the hidden array, if there is one, has a
-/// value.
+/// Adds the entries of an array, if there is one, to others.
 pub(crate) fn add_entries<'s>(
     array: Option<&'s Array>,
-    hidden: Option<&Array>,
     entries: &mut Vec<EntryRef<'s>>,
 ) -> Result<(), AllocError>
-    ensures added { OnOk result (map entry entries.new.items ≡ map entry entries.old.items ++ visible_entries (unwrap_or (option_copied hidden.entry) []) (unwrap_or (option_copied array.entry) [])) }
-    ensures once { IsDistinct same_values (index_lists (unwrap_or (option_copied array.entry) [])) }
+    ensures added { OnOk result (map entry entries.new.items ≡ map entry entries.old.items ++ unwrap_or (option_copied array.entry) []) }
 {
     match array {
-        Some(array) => array.add_entries(hidden, entries),
+        Some(array) => array.add_entries(entries),
         None => Ok(()),
     }
 }
 
-/// Whether a value is among those of an array, if there is one, at whose index lists the hidden array, if there is one, has
-/// none. Allocates nothing.
-pub(crate) fn has_value(array: Option<&Array>, hidden: Option<&Array>, value: ValueRef<'_>) -> bool
-    ensures value { result ≡ list_any (λ e. same_value (value_of_ref value.entry) e.1) (visible_entries (unwrap_or (option_copied hidden.entry) []) (unwrap_or (option_copied array.entry) [])) }
-    ensures once { IsDistinct same_values (index_lists (unwrap_or (option_copied array.entry) [])) }
+/// Whether a value is among those of an array, if there is one. Allocates nothing.
+pub(crate) fn has_value(array: Option<&Array>, value: ValueRef<'_>) -> bool
+    ensures value { result ≡ list_any (λ e. same_value (value_of_ref value.entry) e.1) (unwrap_or (option_copied array.entry) []) }
 {
     match array {
-        Some(array) => array.has_value(hidden, value),
+        Some(array) => array.has_value(value),
         None => false,
     }
 }
 
-/// Adds an entry to others where the hidden array, if there is one, has no value at its index list.
+/// Adds an entry to others.
 pub(crate) fn add_entry<'s>(
-    hidden: Option<&Array>,
     indices: Indices<'s>,
     value: &'s Value,
     entries: &mut Vec<EntryRef<'s>>,
 ) -> Result<(), AllocError>
-    ensures added { OnOk result (map entry entries.new.items ≡ map entry entries.old.items ++ visible_entries (unwrap_or (option_copied hidden.entry) []) ((indices_of indices.entry, value.now) ∷ [])) }
+    ensures added { OnOk result (map entry entries.new.items ≡ map entry entries.old.items ++ (indices_of indices.entry, value.now) ∷ []) }
 {
-    if !has_indices(hidden, indices.as_slice()) {
-        entries.push(EntryRef { indices, value })?;
-    }
+    entries.push(EntryRef { indices, value })?;
     Ok(())
-}
-
-/// Whether an array, if there is one, has a value at an index list.
-pub(crate) fn has_indices(array: Option<&Array>, indices: &[Value]) -> bool
-    ensures value { result ≡ has_indices (unwrap_or (option_copied array.entry) []) indices.now }
-{
-    match array {
-        Some(array) => array.get(indices).is_some(),
-        None => false,
-    }
 }

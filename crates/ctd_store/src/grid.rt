@@ -2,7 +2,7 @@
 
 ghost use Rattle.std.specs.Prelude.{◌≡◌, ◌≢◌, ◌+◌, ◌<◌, ℕ, ℤ, ◌∷◌, ◌++◌, [], map, length, true, false, Ok, IfOk, OnOk, OnErr};
 ghost use Rattle.std.specs.List.{list_any};
-ghost use Rattle.std.specs.Option.{option_copied, unwrap_or, IfSome, IfNone};
+ghost use Rattle.std.specs.Option.{option_copied, IfSome, IfNone};
 ghost use Rattle.std.specs.FinMap.{find, put};
 ghost use Rattle.ctd_store.specs.calls.Grid.{cells, grid};
 ghost use Rattle.ctd_store.specs.inner.Grid.{put_each};
@@ -10,11 +10,10 @@ ghost use Rattle.ctd_store.specs.calls.Index.{indices_of};
 ghost use Rattle.ctd_store.specs.calls.ValueRef.{value_of_ref};
 ghost use Rattle.ctd_store.specs.Order.{values_cmp, same_value};
 ghost use Rattle.ctd_store.specs.calls.Showing.{entry};
-ghost use Rattle.ctd_store.specs.inner.Showing.{visible_entries};
 ghost use Rattle.ctd_store.specs.calls.Store.{cell};
 ghost use Rattle.ctd_store.specs.declared.value.Value.TheVariants as values;
 
-use crate::array::{Array, add_entry, has_indices};
+use crate::array::add_entry;
 use crate::index::{Index, Indices};
 use crate::row_and_map::{RowAndMap, number_below, place_below};
 use crate::store::EntryRef;
@@ -170,26 +169,25 @@ impl Grid {
         Ok(spread)
     }
 
-    /// Adds the entries to others, but for those at whose index lists the hidden array, if there is one, has a value.
+    /// Adds the entries to others.
     pub(crate) fn add_entries<'s>(
         &'s self,
-        hidden: Option<&Array>,
         entries: &mut Vec<EntryRef<'s>>,
     ) -> Result<(), AllocError>
-        ensures added { OnOk result (map entry entries.new.items ≡ map entry entries.old.items ++ visible_entries (unwrap_or (option_copied hidden.entry) []) self.now) }
+        ensures added { OnOk result (map entry entries.new.items ≡ map entry entries.old.items ++ self.now) }
     {
         for at in 0..self.rows.len() {
-            add_row_entries(hidden, self.base, at, &self.rows[at], entries)?;
+            add_row_entries(self.base, at, &self.rows[at], entries)?;
         }
         Ok(())
     }
 
-    /// Whether a value is among those at whose index lists the hidden array, if there is one, has none. Allocates nothing.
-    pub(crate) fn has_value(&self, hidden: Option<&Array>, value: ValueRef<'_>) -> bool
-        ensures value { result ≡ list_any (λ e. same_value (value_of_ref value.entry) e.1) (visible_entries (unwrap_or (option_copied hidden.entry) []) self.now) }
+    /// Whether a value is among those of the grid. Allocates nothing.
+    pub(crate) fn has_value(&self, value: ValueRef<'_>) -> bool
+        ensures value { result ≡ list_any (λ e. same_value (value_of_ref value.entry) e.1) self.now }
     {
-        for at in 0..self.rows.len() {
-            if row_has_value(hidden, self.base, at, &self.rows[at], value) {
+        for row in &self.rows {
+            if value.is_among(&row.values) {
                 return true;
             }
         }
@@ -257,42 +255,20 @@ fn spread_row(
     Ok(())
 }
 
-/// Adds the entries of the row at a place from a base on to others, but for those that the hidden array, if there is one, hides.
+/// Adds the entries of the row at a place from a base on to others.
 fn add_row_entries<'s>(
-    hidden: Option<&Array>,
     base: usize,
     at: usize,
     row: &'s GridRow,
     entries: &mut Vec<EntryRef<'s>>,
 ) -> Result<(), AllocError>
-    ensures added { OnOk result (map entry entries.new.items ≡ map entry entries.old.items ++ visible_entries (unwrap_or (option_copied hidden.entry) []) (cells (base + at) row.now.base row.now.values.items)) }
+    ensures added { OnOk result (map entry entries.new.items ≡ map entry entries.old.items ++ cells (base + at) row.now.base row.now.values.items) }
 {
     for column in 0..row.values.len() {
         let indices = cell_indices(base, at, row.base, column);
-        add_entry(hidden, indices, &row.values[column], entries)?;
+        add_entry(indices, &row.values[column], entries)?;
     }
     Ok(())
-}
-
-/// Whether a value is among those of the row at a place from a base on that the hidden array, if there is one, does not hide.
-fn row_has_value(
-    hidden: Option<&Array>,
-    base: usize,
-    at: usize,
-    row: &GridRow,
-    value: ValueRef<'_>,
-) -> bool
-    ensures value { result ≡ list_any (λ e. same_value (value_of_ref value.entry) e.1) (visible_entries (unwrap_or (option_copied hidden.entry) []) (cells (base + at) row.now.base row.now.values.items)) }
-{
-    for column in 0..row.values.len() {
-        if value.order(ValueRef::of(&row.values[column])).is_eq() {
-            let indices = cell_indices(base, at, row.base, column);
-            if !has_indices(hidden, indices.as_slice()) {
-                return true;
-            }
-        }
-    }
-    false
 }
 
 /// The index list of the row and the column at places from two bases on.

@@ -2,16 +2,14 @@
 
 ghost use Rattle.std.specs.Prelude.{◌≡◌, ◌++◌, [], map, true, false, Ok, OnOk, OnErr};
 ghost use Rattle.std.specs.List.{list_any};
-ghost use Rattle.std.specs.Option.{option_copied, unwrap_or, IfSome};
+ghost use Rattle.std.specs.Option.{option_copied, IfSome};
 ghost use Rattle.std.specs.FinMap.{find, put};
 ghost use Rattle.ctd_store.specs.calls.Index.{indices_at};
 ghost use Rattle.ctd_store.specs.calls.ValueRef.{value_of_ref};
 ghost use Rattle.ctd_store.specs.Order.{values_cmp, same_value};
 ghost use Rattle.ctd_store.specs.calls.Showing.{entry};
-ghost use Rattle.ctd_store.specs.inner.Showing.{visible_entries};
 ghost use Rattle.ctd_store.specs.calls.Store.{cell, overlay_row, slot};
 
-use crate::array::Array;
 use crate::grid::Grid;
 use crate::index::Index;
 use crate::row_and_map::{Row, RowAndMap};
@@ -255,27 +253,26 @@ impl Indexed {
         }
     }
 
-    /// Adds the entries to others, but for those at whose index lists the hidden array, if there is one, has a value.
+    /// Adds the entries to others.
     pub(crate) fn add_entries<'s>(
         &'s self,
-        hidden: Option<&Array>,
         entries: &mut Vec<EntryRef<'s>>,
     ) -> Result<(), AllocError>
-        ensures added { OnOk result (map entry entries.new.items ≡ map entry entries.old.items ++ visible_entries (unwrap_or (option_copied hidden.entry) []) self.now) }
+        ensures added { OnOk result (map entry entries.new.items ≡ map entry entries.old.items ++ self.now) }
     {
         match &self.form {
-            ArrayRepr::RowAndMap(plain) => plain.add_entries(hidden, entries),
-            ArrayRepr::Grid(grid) => grid.add_entries(hidden, entries),
+            ArrayRepr::RowAndMap(plain) => plain.add_entries(entries),
+            ArrayRepr::Grid(grid) => grid.add_entries(entries),
         }
     }
 
-    /// Whether a value is among those at whose index lists the hidden array, if there is one, has none. Allocates nothing.
-    pub(crate) fn has_value(&self, hidden: Option<&Array>, value: ValueRef<'_>) -> bool
-        ensures value { result ≡ list_any (λ e. same_value (value_of_ref value.entry) e.1) (visible_entries (unwrap_or (option_copied hidden.entry) []) self.now) }
+    /// Whether a value is among those of the array. Allocates nothing.
+    pub(crate) fn has_value(&self, value: ValueRef<'_>) -> bool
+        ensures value { result ≡ list_any (λ e. same_value (value_of_ref value.entry) e.1) self.now }
     {
         match &self.form {
-            ArrayRepr::RowAndMap(plain) => plain.has_value(hidden, value),
-            ArrayRepr::Grid(grid) => grid.has_value(hidden, value),
+            ArrayRepr::RowAndMap(plain) => plain.has_value(value),
+            ArrayRepr::Grid(grid) => grid.has_value(value),
         }
     }
 }

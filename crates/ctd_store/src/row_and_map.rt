@@ -1,8 +1,8 @@
 //! Index lists with their values: a row of values for the numbers from 0 or 1 on, and an ordered map for all others.
 
-ghost use Rattle.std.specs.Prelude.{◌≡◌, ◌≢◌, ◌↔◌, ℕ, pos, ◌+◌, ◌<◌, ◌≤◌, length, take, drop, [], ◌∷◌, ◌++◌, map, not, ◌&&◌, true, false, Some, IfOk, T, IsTrue, OnOk, OnErr};
+ghost use Rattle.std.specs.Prelude.{◌≡◌, ◌≢◌, ◌↔◌, ℕ, pos, ◌+◌, ◌<◌, ◌≤◌, length, take, drop, [], ◌∷◌, ◌++◌, map, true, false, Some, IfOk, T, IsTrue, OnOk, OnErr};
 ghost use Rattle.std.specs.List.{list_any};
-ghost use Rattle.std.specs.Option.{option_copied, unwrap_or, IfSome, IfNone};
+ghost use Rattle.std.specs.Option.{option_copied, IfSome, IfNone};
 ghost use Rattle.std.specs.FinMap.{find, put, is_sorted};
 ghost use Rattle.std.specs.declared.cmp.Ordering.TheVariants.{Less};
 ghost use Rattle.ctd_store.specs.calls.Index.{indices_at, indices_of};
@@ -10,12 +10,11 @@ ghost use Rattle.ctd_store.specs.declared.index.Index.TheVariants as indexes;
 ghost use Rattle.ctd_store.specs.calls.ValueRef.{value_of_ref};
 ghost use Rattle.ctd_store.specs.Order.{values_cmp, same_value};
 ghost use Rattle.ctd_store.specs.calls.Showing.{entry};
-ghost use Rattle.ctd_store.specs.inner.Showing.{visible_entries};
-ghost use Rattle.ctd_store.specs.Store.{Array as Entries, has_indices};
+ghost use Rattle.ctd_store.specs.Store.{Array};
 ghost use Rattle.ctd_store.specs.calls.Store.{overlay_row, slot};
 ghost use Rattle.ctd_store.specs.inner.Store.{order_of_slot};
 
-use crate::array::{Array, add_entry, has_indices};
+use crate::array::add_entry;
 use crate::index::{Index, Indices};
 use crate::store::EntryRef;
 use crate::value::Value;
@@ -181,13 +180,12 @@ impl RowAndMap {
         self.rest.clear();
     }
 
-    /// Adds the entries to others, but for those at whose index lists the hidden array, if there is one, has a value.
+    /// Adds the entries to others.
     pub(crate) fn add_entries<'s>(
         &'s self,
-        hidden: Option<&Array>,
         entries: &mut Vec<EntryRef<'s>>,
     ) -> Result<(), AllocError>
-        ensures added { OnOk result (map entry entries.new.items ≡ map entry entries.old.items ++ visible_entries (unwrap_or (option_copied hidden.entry) []) self.now) }
+        ensures added { OnOk result (map entry entries.new.items ≡ map entry entries.old.items ++ self.now) }
     {
         let row = Row {
             base: self.base,
@@ -195,23 +193,21 @@ impl RowAndMap {
         };
         let mut next = 0;
         for (indices, value) in &self.rest {
-            next = add_through(hidden, row, next, indices, value, entries)?;
+            next = add_through(row, next, indices, value, entries)?;
         }
-        add_slots(hidden, row, next, row.values.len(), entries)
+        add_slots(row, next, row.values.len(), entries)
     }
 
-    /// Whether a value is among those at whose index lists the hidden array, if there is one, has none. Allocates nothing.
-    pub(crate) fn has_value(&self, hidden: Option<&Array>, value: ValueRef<'_>) -> bool
-        ensures value { result ≡ list_any (λ e. same_value (value_of_ref value.entry) e.1) (visible_entries (unwrap_or (option_copied hidden.entry) []) self.now) }
+    /// Whether a value is among those of the row, or of the map at an index list that the row does not have. Allocates nothing.
+    pub(crate) fn has_value(&self, value: ValueRef<'_>) -> bool
+        ensures value { result ≡ list_any (λ e. same_value (value_of_ref value.entry) e.1) self.now }
     {
-        if slots_have_value(hidden, self.base, &self.dense, value) {
+        if value.is_among(&self.dense) {
             return true;
         }
         for (indices, stored) in &self.rest {
             let indices = indices.as_slice();
-            if is_visible(hidden, indices, stored, value)
-                && slot_below(self.base, self.dense.len(), indices).is_none()
-            {
+            if value.is_same(stored) && slot_below(self.base, self.dense.len(), indices).is_none() {
                 return true;
             }
         }
@@ -220,10 +216,8 @@ impl RowAndMap {
 }
 
 /// Adds the entries of a row from a place on that come before an entry of the map, and then that entry, with the value of the row
-/// where the row has its index list; but for those at whose index lists the hidden array, if there is one, has a value. Gives the
-/// place behind them.
+/// where the row has its index list. Gives the place behind them.
 fn add_through<'s>(
-    hidden: Option<&Array>,
     row: Row<'s>,
     from: usize,
     indices: &'s [Value],
@@ -232,34 +226,33 @@ fn add_through<'s>(
 ) -> Result<usize, AllocError>
     requires { from ≤ length row.values.now }
     ensures within { IfOk result (λ next. next ≤ length row.entry.values.now) }
-    ensures added { IfOk result (λ next. (later : Entries) → map entry entries.new.items ++ visible_entries (unwrap_or (option_copied hidden.entry) []) (overlay_row (row.entry.base + next) (drop next row.entry.values.now) later) ≡ map entry entries.old.items ++ visible_entries (unwrap_or (option_copied hidden.entry) []) (overlay_row (row.entry.base + from) (drop from row.entry.values.now) ((indices.now, value.now) ∷ later))) }
+    ensures added { IfOk result (λ next. (later : Array) → map entry entries.new.items ++ overlay_row (row.entry.base + next) (drop next row.entry.values.now) later ≡ map entry entries.old.items ++ overlay_row (row.entry.base + from) (drop from row.entry.values.now) ((indices.now, value.now) ∷ later)) }
 {
     let count = row.values.len();
     let at = first_not_before(row.base, from, count, indices);
-    add_slots(hidden, row, from, at, entries)?;
+    add_slots(row, from, at, entries)?;
     if order_of_slot(row.base, at, count, indices).is_eq() {
-        add_entry(hidden, Indices::List(indices), &row.values[at], entries)?;
+        add_entry(Indices::List(indices), &row.values[at], entries)?;
         Ok(at + 1)
     } else {
-        add_entry(hidden, Indices::List(indices), value, entries)?;
+        add_entry(Indices::List(indices), value, entries)?;
         Ok(at)
     }
 }
 
-/// Adds the entries of a row from a place to another, but for those that the hidden array, if there is one, hides.
+/// Adds the entries of a row from a place to another.
 #[inline(always)]
 fn add_slots<'s>(
-    hidden: Option<&Array>,
     row: Row<'s>,
     from: usize,
     to: usize,
     entries: &mut Vec<EntryRef<'s>>,
 ) -> Result<(), AllocError>
     requires { to ≤ length row.values.now }
-    ensures added { OnOk result (map entry entries.new.items ≡ map entry entries.old.items ++ visible_entries (unwrap_or (option_copied hidden.entry) []) (overlay_row (row.entry.base + from) (drop from (take to row.entry.values.now)) [])) }
+    ensures added { OnOk result (map entry entries.new.items ≡ map entry entries.old.items ++ overlay_row (row.entry.base + from) (drop from (take to row.entry.values.now)) []) }
 {
     for at in from..to {
-        add_entry(hidden, slot_indices(row.base, at), &row.values[at], entries)?;
+        add_entry(slot_indices(row.base, at), &row.values[at], entries)?;
     }
     Ok(())
 }
@@ -276,50 +269,6 @@ fn first_not_before(base: usize, from: usize, count: usize, indices: &[Value]) -
         at += 1;
     }
     at
-}
-
-/// Whether a value is among those of a row at whose numbers the hidden array, if there is one, has none.
-fn slots_have_value(
-    hidden: Option<&Array>,
-    base: usize,
-    values: &[Value],
-    value: ValueRef<'_>,
-) -> bool
-    ensures value { result ≡ list_any (λ e. same_value (value_of_ref value.entry) e.1) (visible_entries (unwrap_or (option_copied hidden.entry) []) (overlay_row base values.now [])) }
-{
-    for at in 0..values.len() {
-        if is_visible_at(hidden, base, at, &values[at], value) {
-            return true;
-        }
-    }
-    false
-}
-
-/// Whether a value is the one at a place from a base on, and the hidden array, if there is one, has none there.
-#[inline(always)]
-fn is_visible_at(
-    hidden: Option<&Array>,
-    base: usize,
-    at: usize,
-    stored: &Value,
-    value: ValueRef<'_>,
-) -> bool
-    ensures value { result ≡ (same_value (value_of_ref value.entry) stored.now && not (has_indices (unwrap_or (option_copied hidden.entry) []) (slot (base + at)))) }
-{
-    value.order(ValueRef::of(stored)).is_eq()
-        && !has_indices(hidden, slot_indices(base, at).as_slice())
-}
-
-/// Whether a value is the one at an index list, and the hidden array, if there is one, has none there.
-pub(crate) fn is_visible(
-    hidden: Option<&Array>,
-    indices: &[Value],
-    stored: &Value,
-    value: ValueRef<'_>,
-) -> bool
-    ensures value { result ≡ (same_value (value_of_ref value.entry) stored.now && not (has_indices (unwrap_or (option_copied hidden.entry) []) indices.now)) }
-{
-    value.order(ValueRef::of(stored)).is_eq() && !has_indices(hidden, indices)
 }
 
 /// Gives an index list a value in a map; after an error all is as it was.

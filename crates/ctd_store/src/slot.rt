@@ -1,16 +1,15 @@
 //! The slot of a name: what is pinned of it, and what is assigned to it.
 
-ghost use Rattle.std.specs.Prelude.{◌≡◌, [], None, IfOk, IsOk, IsTrue, OnOk, OnErr};
-ghost use Rattle.std.specs.Option.{option_copied, unwrap_or};
-ghost use Rattle.std.specs.FinMap.{put};
+ghost use Rattle.std.specs.Prelude.{◌≡◌, [], ◌∷◌, None, IfOk, IsOk, IsTrue, OnOk, OnErr};
+ghost use Rattle.std.specs.Option.{option_copied, option_or, unwrap_or};
+ghost use Rattle.std.specs.FinMap.{find, put};
 ghost use Rattle.ctd_store.specs.calls.Index.{indices_at};
 ghost use Rattle.ctd_store.specs.calls.ValueRef.{value_of_ref};
 ghost use Rattle.ctd_store.specs.Order.{values_cmp};
-ghost use Rattle.ctd_store.specs.calls.Slot.{pins_in};
-ghost use Rattle.ctd_store.specs.inner.Slot.{with_unpinned};
 ghost use Rattle.ctd_store.specs.Store.{has_indices};
+ghost use Rattle.ctd_store.specs.inner.Store.{are_apart, with_unpinned};
 
-use crate::array::{Array, has_indices};
+use crate::array::Array;
 use crate::index::Index;
 use crate::value::Value;
 use crate::value_ref::ValueRef;
@@ -18,19 +17,23 @@ use ctd_token::{Name, NameKey};
 use std::alloc::{AllocError, Global};
 use std::mem::replace;
 
-/// A name with the values that presets pin, if there are any, and those that were assigned. A name that lost all has no values.
+/// A name with the values that presets pin, if there are any, and those that were assigned, which are at other index lists. A name that
+/// lost all has no values.
 #[derive(Drop)]
 pub(crate) struct Slot {
     pub(crate) name: NameKey,
     pub(crate) pins: Option<Array>,
     pub(crate) values: Array,
+    ghost apart: { IsTrue (are_apart (unwrap_or pins []) values) },
 }
 
 impl Slot {
+    ghost use Rattle.ctd_store.specs.calls.Slot.{pins_in};
+
     /// A name with no values, or an error where no memory is left for it.
     pub(crate) fn new(alloc: Global, name: &Name) -> Result<Slot, AllocError>
         ensures name { IfOk result (λ slot. slot.name ≡ name.now) }
-        ensures pins { IfOk result (λ slot. slot.pins ≡ None) }
+        ensures pins { IfOk result (λ slot. pins_in slot ≡ []) }
         ensures values { IfOk result (λ slot. slot.values ≡ []) }
     {
         let copied = Name::copy(alloc, name.as_slice())?;
@@ -41,6 +44,38 @@ impl Slot {
         })
     }
 
+    /// A name with a single value that is assigned, or an error where no memory is left for it.
+    pub(crate) fn of_value(
+        alloc: Global,
+        name: &Name,
+        index: Index<'_>,
+        value: ValueRef<'_>,
+    ) -> Result<Slot, AllocError>
+        ensures name { IfOk result (λ slot. slot.name ≡ name.now) }
+        ensures pins { IfOk result (λ slot. pins_in slot ≡ []) }
+        ensures values { IfOk result (λ slot. slot.values ≡ (indices_at index.entry, value_of_ref value.entry) ∷ []) }
+    {
+        let mut slot = Slot::new(alloc, name)?;
+        slot.assign(alloc, index, value)?;
+        Ok(slot)
+    }
+
+    /// A name with a single pin, or an error where no memory is left for it.
+    pub(crate) fn of_pin(
+        alloc: Global,
+        name: &Name,
+        index: Index<'_>,
+        value: ValueRef<'_>,
+    ) -> Result<Slot, AllocError>
+        ensures name { IfOk result (λ slot. slot.name ≡ name.now) }
+        ensures pins { IfOk result (λ slot. pins_in slot ≡ (indices_at index.entry, value_of_ref value.entry) ∷ []) }
+        ensures values { IfOk result (λ slot. slot.values ≡ []) }
+    {
+        let mut slot = Slot::new(alloc, name)?;
+        slot.pin(alloc, index, value)?;
+        Ok(slot)
+    }
+
     /// What is pinned and what is assigned.
     #[inline(always)]
     pub(crate) fn arrays(&self) -> (Option<&Array>, Option<&Array>)
@@ -48,6 +83,17 @@ impl Slot {
         ensures assigned { unwrap_or (option_copied result.1) [] ≡ self.now.values }
     {
         (self.pins.as_ref(), Some(&self.values))
+    }
+
+    /// The value at an index list: its pin, or else what was assigned. Allocates nothing.
+    #[inline(always)]
+    pub(crate) fn value(&self, index: Index<'_>) -> Option<&Value>
+        ensures value { option_copied result ≡ option_or (find values_cmp (indices_at index.entry) (pins_in self.now)) (find values_cmp (indices_at index.entry) self.now.values) }
+    {
+        match &self.pins {
+            Some(pins) => value_under_pins(pins, &self.values, index),
+            None => self.values.value(index),
+        }
     }
 
     /// Gives an index list a value, unless a preset pins it; after an error all is as it was.
@@ -60,9 +106,9 @@ impl Slot {
     ) -> Result<(), AllocError>
         ensures name { self.new.name ≡ self.old.name }
         ensures pins { pins_in self.new ≡ pins_in self.old }
-        ensures ok { OnOk result (self.new ≡ with_unpinned (indices_at index.entry) (value_of_ref value.entry) self.old) }
+        ensures ok { OnOk result (self.new.values ≡ with_unpinned (pins_in self.old) (indices_at index.entry) (value_of_ref value.entry) self.old.values) }
         ensures pinned { IsTrue (has_indices (pins_in self.old) (indices_at index.entry)) → IsOk result }
-        ensures err { OnErr result (self.new ≡ self.old) }
+        ensures err { OnErr result (self.new.values ≡ self.old.values) }
     {
         match self.pins {
             None => self.values.insert(alloc, index, value),
@@ -81,9 +127,9 @@ impl Slot {
     ) -> Result<(), AllocError>
         ensures name { self.new.name ≡ self.old.name }
         ensures pins { pins_in self.new ≡ pins_in self.old }
-        ensures ok { OnOk result (self.new ≡ with_unpinned (indices_at index.entry) (value_of_ref value.entry) self.old) }
+        ensures ok { OnOk result (self.new.values ≡ with_unpinned (pins_in self.old) (indices_at index.entry) (value_of_ref value.entry) self.old.values) }
         ensures pinned { IsTrue (has_indices (pins_in self.old) (indices_at index.entry)) → IsOk result }
-        ensures err { OnErr result (self.new ≡ self.old) }
+        ensures err { OnErr result (self.new.values ≡ self.old.values) }
     {
         self.assign_unpinned(alloc, index, value)
     }
@@ -99,9 +145,9 @@ impl Slot {
     ) -> Result<(), AllocError>
         ensures name { self.new.name ≡ self.old.name }
         ensures pins { pins_in self.new ≡ pins_in self.old }
-        ensures ok { OnOk result (self.new ≡ with_unpinned (indices_at index.entry) (value_of_ref value.entry) self.old) }
+        ensures ok { OnOk result (self.new.values ≡ with_unpinned (pins_in self.old) (indices_at index.entry) (value_of_ref value.entry) self.old.values) }
         ensures pinned { IsTrue (has_indices (pins_in self.old) (indices_at index.entry)) → IsOk result }
-        ensures err { OnErr result (self.new ≡ self.old) }
+        ensures err { OnErr result (self.new.values ≡ self.old.values) }
     {
         if self.is_pinned(index) {
             return Ok(());
@@ -109,7 +155,7 @@ impl Slot {
         self.values.insert(alloc, index, value)
     }
 
-    /// Pins an index list to a value; after an error all is as it was.
+    /// Pins an index list to a value, and removes what was assigned; after an error the pins are as they were.
     pub(crate) fn pin(
         &mut self,
         alloc: Global,
@@ -117,10 +163,11 @@ impl Slot {
         value: ValueRef<'_>,
     ) -> Result<(), AllocError>
         ensures name { self.new.name ≡ self.old.name }
-        ensures values { self.new.values ≡ self.old.values }
+        ensures values { self.new.values ≡ [] }
         ensures ok { OnOk result (pins_in self.new ≡ put values_cmp (indices_at index.entry) (value_of_ref value.entry) (pins_in self.old)) }
         ensures err { OnErr result (pins_in self.new ≡ pins_in self.old) }
     {
+        self.unset();
         match &mut self.pins {
             Some(pins) => pins.insert(alloc, index, value),
             None => {
@@ -130,6 +177,15 @@ impl Slot {
                 Ok(())
             }
         }
+    }
+
+    /// Removes what was assigned; pins stay. Allocates nothing.
+    pub(crate) fn unset(&mut self)
+        ensures name { self.new.name ≡ self.old.name }
+        ensures pins { pins_in self.new ≡ pins_in self.old }
+        ensures values { self.new.values ≡ [] }
+    {
+        self.values.clear();
     }
 
     /// Whether a preset pins an index list.
@@ -148,4 +204,15 @@ fn is_among(array: &Array, index: Index<'_>) -> bool
     ensures value { result ≡ has_indices array.now (indices_at index.entry) }
 {
     array.get(index.to_indices().as_slice()).is_some()
+}
+
+/// The value at an index list: that of the first array, or else that of the second. Out of line: keeps the caller small.
+#[inline(never)]
+fn value_under_pins<'s>(pins: &'s Array, values: &'s Array, index: Index<'_>) -> Option<&'s Value>
+    ensures value { option_copied result ≡ option_or (find values_cmp (indices_at index.entry) pins.now) (find values_cmp (indices_at index.entry) values.now) }
+{
+    match pins.value(index) {
+        Some(value) => Some(value),
+        None => values.value(index),
+    }
 }

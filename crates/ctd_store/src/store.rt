@@ -68,16 +68,16 @@ impl Store {
         Ok(store)
     }
 
-    /// Pins what a preset says.
+    /// Pins what a preset says, and unsets its name.
     fn pin(&mut self, alloc: Global, preset: &Preset) -> Result<(), AllocError>
-        ensures ok { OnOk result (self.new ≡ record { pins = with_pin self.old.pins preset.now; assigned = self.old.assigned }) }
+        ensures ok { OnOk result (self.new ≡ unset (record { pins = with_pin self.old.pins preset.now; assigned = self.old.assigned }) preset.now.name) }
     {
         let indices = literal_values(alloc, preset.indices.as_slice())?;
         let value = literal_ref(&preset.value);
         self.pin_at(alloc, &preset.name, Index::List(indices.as_slice()), value)
     }
 
-    /// Pins a name at an index to a value.
+    /// Pins a name at an index to a value, and unsets the name. Presets are pinned before anything is assigned, so nothing is lost.
     fn pin_at(
         &mut self,
         alloc: Global,
@@ -85,18 +85,14 @@ impl Store {
         index: Index<'_>,
         value: ValueRef<'_>,
     ) -> Result<(), AllocError>
-        ensures ok { OnOk result (self.new ≡ record { pins = with_value (record { name = name.now; indices = indices_at index.entry }) (value_of_ref value.entry) self.old.pins; assigned = self.old.assigned }) }
+        ensures ok { OnOk result (self.new ≡ unset (record { pins = with_value (record { name = name.now; indices = indices_at index.entry }) (value_of_ref value.entry) self.old.pins; assigned = self.old.assigned }) name.now) }
     {
         match position(&self.slots, &self.positions, name) {
             Some(at) => self.slots[at].pin(alloc, index, value),
-            None => add_pin(
-                alloc,
-                &mut self.slots,
-                &mut self.positions,
-                name,
-                index,
-                value,
-            ),
+            None => {
+                let slot = Slot::of_pin(alloc, name, index, value)?;
+                add_slot(alloc, &mut self.slots, &mut self.positions, name, slot)
+            }
         }
     }
 
@@ -114,23 +110,19 @@ impl Store {
         ensures listed { option_copied result ≡ find values_cmp (indices_at index.entry) (values_of self.now name.now) }
     {
         match fast_position(&self.slots, &self.positions, name) {
-            Some(at) if self.slots[at].pins.is_none() => self.slots[at].values.value(index),
-            _ => self.value_by_list(name, index),
+            Some(at) => self.slots[at].value(index),
+            None => self.value_by_list(name, index),
         }
     }
 
-    /// The value of a name at an index, where the hint leads to the name, and the value is pinned if any of the name is. Without an index it calls
-    /// nothing. `None` means: take the general path.
+    /// The value of a name at an index, where its hint leads to the name. Where no preset is of the name, it calls nothing without an index. `None`
+    /// means: take the general path.
     #[inline(always)]
     pub fn fast_value_at(&self, name: &Name, index: Index<'_>) -> Option<&Value>
         ensures value { IfSome result (λ x. value_at self.now (record { name = name.now; indices = indices_at index.entry }) ≡ Some x.now) }
     {
         let at = fast_position(&self.slots, &self.positions, name)?;
-        let slot = &self.slots[at];
-        match &slot.pins {
-            Some(pins) => pins.value(index),
-            None => slot.values.value(index),
-        }
+        self.slots[at].value(index)
     }
 
     /// The value of a name at an index, by a search. In line, so that only this rare way makes room for the values of the index.
@@ -159,6 +151,7 @@ impl Store {
     fn arrays(&self, name: &Name) -> (Option<&Array>, Option<&Array>)
         ensures pins { unwrap_or (option_copied result.0) [] ≡ array_of name.now self.now.pins }
         ensures assigned { unwrap_or (option_copied result.1) [] ≡ array_of name.now self.now.assigned }
+        ensures values { values_of self.now name.now ≡ unwrap_or (option_copied result.0) [] ++ unwrap_or (option_copied result.1) [] }
     {
         match position(&self.slots, &self.positions, name) {
             Some(at) => self.slots[at].arrays(),
@@ -189,10 +182,7 @@ impl Store {
         ensures value { result ≡ list_any (λ e. same_value (value_of_ref value.entry) e.1) (values_of self.now name.now) }
     {
         let (pins, assigned) = self.arrays(name);
-        if has_value(pins, None, value) {
-            return true;
-        }
-        has_value(assigned, pins, value)
+        has_value(pins, value) || has_value(assigned, value)
     }
 
     /// Gives a key a value. A pinned key stays as it is, and that takes no memory; after an error the variables are as they
@@ -259,14 +249,10 @@ impl Store {
     {
         match position(&self.slots, &self.positions, name) {
             Some(at) => self.slots[at].assign(alloc, index, value),
-            None => add_value(
-                alloc,
-                &mut self.slots,
-                &mut self.positions,
-                name,
-                index,
-                value,
-            ),
+            None => {
+                let slot = Slot::of_value(alloc, name, index, value)?;
+                add_slot(alloc, &mut self.slots, &mut self.positions, name, slot)
+            }
         }
     }
 
@@ -275,7 +261,7 @@ impl Store {
         ensures value { self.new ≡ unset self.old name.now }
     {
         if let Some(at) = position(&self.slots, &self.positions, name) {
-            self.slots[at].values.clear();
+            self.slots[at].unset();
         }
     }
 
@@ -294,8 +280,8 @@ impl Store {
     {
         let (pins, assigned) = self.arrays(name);
         let mut entries = Vec::new(alloc);
-        add_entries(pins, None, &mut entries)?;
-        add_entries(assigned, pins, &mut entries)?;
+        add_entries(pins, &mut entries)?;
+        add_entries(assigned, &mut entries)?;
         Ok(entries)
     }
 }
@@ -349,42 +335,6 @@ fn has_name(slots: &[Slot], at: usize, name: &Name) -> bool
         Some(slot) => slot.name.as_slice() == name.as_slice(),
         None => false,
     }
-}
-
-/// Adds a name with a single value; after an error the list and the positions are as they were.
-fn add_value(
-    alloc: Global,
-    slots: &mut Vec<Slot>,
-    positions: &mut Positions,
-    name: &Name,
-    index: Index<'_>,
-    value: ValueRef<'_>,
-) -> Result<(), AllocError>
-    ensures ok { OnOk result ((slots.new.items ≡ slots.old.items ++ record { name = name.now; pins = None; values = (indices_at index.entry, value_of_ref value.entry) ∷ [] } ∷ []) × (positions.new ≡ put bytes_cmp name.now (length slots.old.items) positions.old)) }
-    ensures err { OnErr result ((slots.new.items ≡ slots.old.items) × (positions.new ≡ positions.old)) }
-{
-    let mut slot = Slot::new(alloc, name)?;
-    slot.values.insert(alloc, index, value)?;
-    add_slot(alloc, slots, positions, name, slot)
-}
-
-/// Adds a name with a single pin; after an error the list and the positions are as they were.
-fn add_pin(
-    alloc: Global,
-    slots: &mut Vec<Slot>,
-    positions: &mut Positions,
-    name: &Name,
-    index: Index<'_>,
-    value: ValueRef<'_>,
-) -> Result<(), AllocError>
-    ensures ok { OnOk result ((slots.new.items ≡ slots.old.items ++ record { name = name.now; pins = Some ((indices_at index.entry, value_of_ref value.entry) ∷ []); values = [] } ∷ []) × (positions.new ≡ put bytes_cmp name.now (length slots.old.items) positions.old)) }
-    ensures err { OnErr result ((slots.new.items ≡ slots.old.items) × (positions.new ≡ positions.old)) }
-{
-    let mut slot = Slot::new(alloc, name)?;
-    let mut pins = Array::new(alloc);
-    pins.insert(alloc, index, value)?;
-    slot.pins = Some(pins);
-    add_slot(alloc, slots, positions, name, slot)
 }
 
 /// Adds a slot with its name; after an error the list and the positions are as they were.

@@ -1,9 +1,10 @@
 //! Values that are not copied.
 
 ghost use Rattle.std.specs.Int.{w64};
+ghost use Rattle.std.specs.List.{list_any};
 ghost use Rattle.std.specs.Prelude.{◌≡◌, ◌≤◌, ℤ, ℕ, List, length, true, false, FitsSigned, IfNone, IfOk, IfSome, OnOk, OnErr};
 ghost use Rattle.ctd_store.specs.calls.ValueRef.{value_of_ref};
-ghost use Rattle.ctd_store.specs.Order.{value_cmp};
+ghost use Rattle.ctd_store.specs.Order.{value_cmp, same_value};
 ghost use Rattle.ctd_store.specs.declared.value.Value.TheVariants as values;
 
 use crate::value::{Value, as_i64};
@@ -104,6 +105,25 @@ impl<'v> ValueRef<'v> {
             (ValueRef::Text(_), ValueRef::Int(_)) => Ordering::Greater,
             (ValueRef::Text(a), ValueRef::Text(b)) => a.cmp(b),
         }
+    }
+
+    /// Whether it is the value of a variable.
+    pub(crate) fn is_same(self, value: &Value) -> bool
+        ensures value { result ≡ same_value (value_of_ref self.entry) value.now }
+    {
+        self.order(ValueRef::of(value)).is_eq()
+    }
+
+    /// Whether it is one of some values.
+    pub(crate) fn is_among(self, values: &[Value]) -> bool
+        ensures value { result ≡ list_any (λ x. same_value (value_of_ref self.entry) x) values.now }
+    {
+        for value in values {
+            if self.is_same(value) {
+                return true;
+            }
+        }
+        false
     }
 }
 
