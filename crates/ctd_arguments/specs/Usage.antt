@@ -43,34 +43,71 @@ IsFaultOfClap words f = (kind : ErrorKind) × IsAmong kind (fault_of checker wor
 abbrev pub IsTaken : List Text → Type 0
 IsTaken words = All IsUtf8 words × (fault_of checker words ≡ [])
 
+-- no text is given, or it spells presets
+abbrev pub IsGoodPreset : Option Text → Type 0
+IsGoodPreset None = Unit {0}
+IsGoodPreset (Some text) = (presets : List Preset) × ArePresets text presets
+
 -- a text is given, and spells no presets
 abbrev pub IsBadPreset : Option Text → Type 0
 IsBadPreset None = ⊥
 IsBadPreset (Some text) = (presets : List Preset) → ¬ (ArePresets text presets)
+
+-- no text is given, or it is a number of steps
+abbrev pub IsGoodSteps : Option Text → Type 0
+IsGoodSteps None = Unit {0}
+IsGoodSteps (Some text) = IsStepNumber text
 
 -- a text is given, and is no number of steps
 abbrev pub IsBadSteps : Option Text → Type 0
 IsBadSteps None = ⊥
 IsBadSteps (Some text) = ¬ (IsStepNumber text)
 
--- a rule: when it applies, and which fault it then gives
-abbrev pub FaultRule : Type 1
-FaultRule = Type 0 × (UsageFault → Type 0)
+-- a rule for the words, and the fault for breaking it
+pub record FaultRule : Type 1 where
+  -- the words keep the rule
+  pub IsKept : Type 0
+  -- the words break the rule
+  pub IsBroken : Type 0
+  -- words that break it have this fault
+  pub Gives : UsageFault → Type 0
+
+-- each word is UTF-8
+abbrev pub utf8_rule : List Text → FaultRule
+utf8_rule words = record { IsKept = All IsUtf8 words; IsBroken = ¬ (All IsUtf8 words); Gives = λ f. f ≡ fault.Words }
+
+-- clap finds no error in the words, of which a request for the help or the version is one
+abbrev pub clap_rule : List Text → FaultRule
+clap_rule words =
+    let kinds = fault_of checker words in
+    record { IsKept = kinds ≡ []; IsBroken = ¬ (kinds ≡ []); Gives = IsFaultOfClap words }
+
+-- no data are to be generated
+abbrev pub generate_rule : List Text → FaultRule
+generate_rule words =
+    let generates = flag_in words (codes "generate") in
+    record { IsKept = generates ≡ false; IsBroken = generates ≡ true; Gives = λ f. f ≡ fault.Generate }
+
+-- the text of the presets, if there is one, spells presets
+abbrev pub preset_rule : List Text → FaultRule
+preset_rule words =
+    let given = value_in words (codes "define") in
+    record { IsKept = IsGoodPreset given; IsBroken = IsBadPreset given; Gives = λ f. f ≡ fault.BadPreset }
+
+-- the limit on steps, if there is one, is a number of 64 bits
+abbrev pub steps_rule : List Text → FaultRule
+steps_rule words =
+    let given = value_in words (codes "max-steps") in
+    record { IsKept = IsGoodSteps given; IsBroken = IsBadSteps given; Gives = λ f. f ≡ fault.BadSteps }
 
 -- the rules, in the order in which they are tried
 abbrev pub fault_rules : List Text → List FaultRule
-fault_rules words =
-    (¬ (All IsUtf8 words), λ f. f ≡ fault.Words)
-    ∷ (¬ (fault_of checker words ≡ []), IsFaultOfClap words)
-    ∷ (flag_in words (codes "generate") ≡ true, λ f. f ≡ fault.Generate)
-    ∷ (IsBadPreset (value_in words (codes "define")), λ f. f ≡ fault.BadPreset)
-    ∷ (IsBadSteps (value_in words (codes "max-steps")), λ f. f ≡ fault.BadSteps)
-    ∷ []
+fault_rules words = utf8_rule words ∷ clap_rule words ∷ generate_rule words ∷ preset_rule words ∷ steps_rule words ∷ []
 
--- the first rule that applies gives the fault
+-- the first rule that is broken gives the fault: all before it are kept
 abbrev pub GivesFirst : List FaultRule → UsageFault → Type 0
 GivesFirst [] f = ⊥
-GivesFirst (rule ∷ later) f = (rule.0 × rule.1 f) ⊎ (¬ rule.0 × GivesFirst later f)
+GivesFirst (rule ∷ later) f = (rule.IsBroken × rule.Gives f) ⊎ (rule.IsKept × GivesFirst later f)
 
 -- the words have this fault by the rules; memory may run out whatever the words
 abbrev pub IsUsageFault : List Text → UsageFault → Type 0

@@ -4,7 +4,7 @@ use Rattle.clap.specs.Words.{Text, first_of, found_of}
 use Rattle.ctd_arguments.specs.Settings.{ArePresetsOf, IsStepLimitOf, file_of, mode_by}
 use Rattle.clap.proofs.WalkLemmas.{first_value-rows}
 use Rattle.ctd_arguments.specs.Usage.{is_on, value_in}
-use Rattle.ctd_arguments.proofs.UsageFaults.{returned, no_presets, no_steps}
+use Rattle.ctd_arguments.proofs.UsageFaults.{holds_on_return, no_presets, no_steps}
 use Rattle.ctd_arguments.proofs.words.setup_of.Goals as goal
 
 -- a value that is there is the text that is lent
@@ -14,13 +14,13 @@ lent (Some t) v other is given = sym is
 
 pub returns-in_err-presets-clause-fault : goal.returns-in_err-presets-clause-fault
 returns-in_err-presets-clause-fault c =
-    returned _ c.in_err-presets.field-0.0 c.from_residual.result c.from_residual.ensures (λ words found.
+    holds_on_return _ c.in_err-presets.field-0.0 c.from_residual.result c.from_residual.ensures (λ words found.
     let rows = found.1 in
     no_presets words found.0 (sym (c.is_set.ensures ∙ ap (is_on (codes "generate")) rows) ∙ c.if-is_set.false) _ _ (c.value_of.ensures ∙ ap (first_of (codes "define")) rows) c.in_err-presets.ensures)
 
 pub returns-in_err-steps-clause-fault : goal.returns-in_err-steps-clause-fault
 returns-in_err-steps-clause-fault c =
-    returned _ c.in_err-steps.field-0.0 c.from_residual-in_err-steps.result c.from_residual-in_err-steps.ensures (λ words found.
+    holds_on_return _ c.in_err-steps.field-0.0 c.from_residual-in_err-steps.result c.from_residual-in_err-steps.ensures (λ words found.
     let rows = found.1 in
     no_steps words found.0 (sym (c.is_set.ensures ∙ ap (is_on (codes "generate")) rows) ∙ c.if-is_set.false) _ _ _ c.in_ok-presets.presets
     (c.value_of.ensures ∙ ap (first_of (codes "define")) rows) (c.value_of-2.ensures ∙ ap (first_of (codes "max-steps")) rows) c.in_ok-presets.ensures c.in_err-steps.ensures)
