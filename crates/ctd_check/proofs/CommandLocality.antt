@@ -24,7 +24,7 @@ use Rattle.ctd_command.specs.State.{State, done, Act, proceed, return, reject, s
 use Rattle.ctd_command.specs.Integer.{judge, is_minus, digits_of, prefix_len_of}
 use Rattle.ctd_command.specs.Commands.{one_byte, eof, set_to, keep, decide, integer, int, match_bytes, string, answer, assert, give_value, set, unset_all}
 use Rattle.ctd_command.specs.Blanks.{is_blank, blank_next, skip_blanks, some_blanks, newline_between_blanks, end_behind_blanks, space_in, newline_in, end_in, start_in, space, newline, end, first_skip}
-use Rattle.ctd_command.specs.Regex.{shorter_match, matched, regex}
+use Rattle.ctd_command.specs.Regex.{shorter_match, leading_match, regex}
 use Rattle.ctd_check.specs.Loops.{Guard, times, while_true, Task, start, turn, finish, Loop, loop_of, tasks, turn_tasks, goes_on, count_turn, take_turn, run_turn, guard_of, repeat, choice}
 use Rattle.ctd_check.specs.Run.{simple, act_of, perform}
 use Rattle.ctd_check.proofs.Prefixes.{same_prefix, same_minus, same_digits, integer_within, less_prefix, less_integer}
@@ -101,8 +101,8 @@ of_match : (n : Option ℕ) → IsLocal (shorter_match n)
 of_match None = rejecting RegexMismatch
 of_match (Some n) = either (nat_eq n WINDOW) (stop MatchTooLong) (return n) (stopping MatchTooLong (λ e. cc)) (given n)
 
-of_matched : (literal : List ℕ) → IsLocal (matched literal)
-of_matched literal = both see_window _ windowing (λ window. both (shorter_match (length_at_start literal window)) _ (of_match (length_at_start literal window)) (λ n. given (take n window)))
+of_leading_match : (literal : List ℕ) → IsLocal (leading_match literal)
+of_leading_match literal = both see_window _ windowing (λ window. both (shorter_match (length_at_start literal window)) _ (of_match (length_at_start literal window)) (λ n. given (take n window)))
 
 abbrev keep_match : Option VarTree → List ℕ → Act ⊤
 keep_match target bytes d s = keep target (values.Text bytes) d (on (length bytes) s)
@@ -131,10 +131,10 @@ window_inside d s literal target (Err fault) is within = tt
 
 of_regex : (literal : List ℕ) (target : Option VarTree) → IsLocal (regex literal target)
 of_regex literal target = record {
-  forward = λ d s. forward_next s.offset (matched literal d s) (λ bytes u. keep_match target bytes d u) ((of_matched literal).forward d s) (λ bytes u. match_forward target bytes d u);
+  forward = λ d s. forward_next s.offset (leading_match literal d s) (λ bytes u. keep_match target bytes d u) ((of_leading_match literal).forward d s) (λ bytes u. match_forward target bytes d u);
   inside = λ d s within. window_inside d s literal target (look d s.offset WINDOW) refl within;
-  longer = λ d e s x within. longer_next (length d.bytes) (matched literal d s) (matched literal e s) (λ bytes u. keep_match target bytes d u) (λ bytes u. keep_match target bytes e u)
-      ((of_matched literal).inside d s within) (λ bytes u. match_forward target bytes e u) (λ bytes u inside. match_longer (length d.bytes) target bytes d e u) ((of_matched literal).longer d e s x within);
+  longer = λ d e s x within. longer_next (length d.bytes) (leading_match literal d s) (leading_match literal e s) (λ bytes u. keep_match target bytes d u) (λ bytes u. keep_match target bytes e u)
+      ((of_leading_match literal).inside d s within) (λ bytes u. match_forward target bytes e u) (λ bytes u inside. match_longer (length d.bytes) target bytes d e u) ((of_leading_match literal).longer d e s x within);
 }
 
 -- blanks

@@ -16,8 +16,8 @@ use Rattle.ctd_command.specs.declared.failure.CommandFailure.{CommandFailure}
 use Rattle.ctd_command.specs.State.{State, Effect, Act, done, rejected, faulty, proceed, ◌>>=◌, return, pass, lift, fault_of_look, see_window}
 use Rattle.ctd_command.specs.calls.Performs.{Does, state, IsSound, Performs}
 use Rattle.ctd_command.specs.inner.Performs.{AlwaysDoes}
-use Rattle.ctd_command.specs.Regex.{shorter_match, matched, regex}
-use Rattle.ctd_command.specs.inner.Regex.{matched_len}
+use Rattle.ctd_command.specs.Regex.{shorter_match, leading_match, regex}
+use Rattle.ctd_command.specs.inner.Regex.{match_len}
 use Rattle.ctd_command.proofs.Acts.{does_early, always, and_then, given, passed, performs_as, with_cursor}
 
 -- the length of a match that is cut out of its window
@@ -43,8 +43,8 @@ counted_by (done x after) d = refl
 counted_by (rejected reason consumed) d = refl
 counted_by (faulty fault consumed) d = refl
 
-pub counted_first : (literal : List ℕ) (d : TestData) (s : State) → (matched_len literal >>= λ n. (pass n >>= λ _. return tt)) d s ≡ regex literal None d s
-counted_first literal d s = counted_by (matched literal d s) d
+pub counted_first : (literal : List ℕ) (d : TestData) (s : State) → (match_len literal >>= λ n. (pass n >>= λ _. return tt)) d s ≡ regex literal None d s
+counted_first literal d s = counted_by (leading_match literal d s) d
 
 module _ {R : Type 0} {G : Ghosts R} where
   -- what looks at no data
@@ -71,17 +71,17 @@ module _ {R : Type 0} {G : Ghosts R} where
       ap (λ x. lift (with_fault fault_of_look x) (state a)) (ap (λ s. look d s.offset WINDOW) (sym w.reads.spot) ∙ sym (w.answer sound d stand.after))
       ∙ ap (λ s. faulty (fault_of_look fault) s.offset) (sym w.reads.spot))
 
-  pub matched_faulty : (a : Run R G) (now : Cursor R G) (fault : LookFault) (literal : List ℕ) → IsSound a → GivesWindow a.cursor now (Err fault) → AdvancesSuchThat a.cursor now (λ d. matched literal d (state a) ≡ faulty (fault_of_look fault) now.spot.offset)
-  matched_faulty a now fault literal sound w =
+  pub match_faulty : (a : Run R G) (now : Cursor R G) (fault : LookFault) (literal : List ℕ) → IsSound a → GivesWindow a.cursor now (Err fault) → AdvancesSuchThat a.cursor now (λ d. leading_match literal d (state a) ≡ faulty (fault_of_look fault) now.spot.offset)
+  match_faulty a now fault literal sound w =
       advances_so (window_faulty a now fault sound w) (λ d _ e. ap (λ x. proceed {A = List ℕ} {B = List ℕ} x (λ window t. proceed (shorter_match (length_at_start literal window) d t) (λ n u. done (take n window) u))) e)
 
-  pub measured_faulty : (a : Run R G) (now : Cursor R G) (fault : LookFault) (literal : List ℕ) → IsSound a → GivesWindow a.cursor now (Err fault) → AdvancesSuchThat a.cursor now (λ d. matched_len literal d (state a) ≡ faulty (fault_of_look fault) now.spot.offset)
+  pub measured_faulty : (a : Run R G) (now : Cursor R G) (fault : LookFault) (literal : List ℕ) → IsSound a → GivesWindow a.cursor now (Err fault) → AdvancesSuchThat a.cursor now (λ d. match_len literal d (state a) ≡ faulty (fault_of_look fault) now.spot.offset)
   measured_faulty a now fault literal sound w =
-      advances_so (matched_faulty a now fault literal sound w) (λ d _ e. ap (λ x. proceed {A = List ℕ} {B = ℕ} x (λ bytes t. done (length bytes) t)) e)
+      advances_so (match_faulty a now fault literal sound w) (λ d _ e. ap (λ x. proceed {A = List ℕ} {B = ℕ} x (λ bytes t. done (length bytes) t)) e)
 
   -- how long a match is
   pub measured : (a : Run R G) (now : Cursor R G) (window : Bor (List ℕ)) (literal : List ℕ) (found : Option ℕ) (r : Result ℕ CommandFailure) → IsSound a → GivesWindow a.cursor now (Ok window) → found ≡ length_at_start literal window.now
-      → AlwaysDoes r (shorter_match found) → IfOk r (λ n. found ≡ Some n) → IfSome found (λ k. k ≤ length window.now) → Performs a (with_cursor a now) r (matched_len literal)
+      → AlwaysDoes r (shorter_match found) → IfOk r (λ n. found ≡ Some n) → IfSome found (λ k. k ≤ length window.now) → Performs a (with_cursor a now) r (match_len literal)
   measured a now window literal found r sound w found_is does is within = record {
     sound = always r w.fault;
     goes = advances_so (windowed a now window sound w).goes (λ d _ e.
@@ -95,10 +95,10 @@ module _ {R : Type 0} {G : Ghosts R} where
   -- what is done with a match once it is passed
   pub with_match : {r : Result ⊤ CommandFailure} {c : Run R G} (f : List ℕ → Act ⊤) (a : Run R G) (now past : Cursor R G) (window : Bor (List ℕ)) (literal : List ℕ) (found : Option ℕ) (n : ℕ) → IsSound a → GivesWindow a.cursor now (Ok window) → found ≡ length_at_start literal window.now
       → AlwaysDoes (Ok n) (shorter_match found) → found ≡ Some n → IfSome found (λ k. k ≤ length window.now) → MovesPast n now past
-      → (IsSound (with_cursor a past) → Performs (with_cursor a past) c r (f (take n window.now))) → Performs a c r (matched literal >>= λ bytes. (pass (length bytes) >>= λ _. f bytes))
+      → (IsSound (with_cursor a past) → Performs (with_cursor a past) c r (f (take n window.now))) → Performs a c r (leading_match literal >>= λ bytes. (pass (length bytes) >>= λ _. f bytes))
   with_match f a now past window literal found n sound w found_is does is within moves next =
       let b = with_cursor a now in
       let seen = windowed a now window sound w in
       let m = and_then {m = see_window} _ seen (and_then _ (performs_as (λ d s. ap (λ l. shorter_match l d s) found_is) (doing b (Ok n) (shorter_match found) seen.sound does)) (given b (take n window.now) seen.sound)) in
       let p = performs_as (λ d s. ap (λ k. pass k d s) (sym (taken_len n found window.now within is))) (passed n b past seen.sound moves) in
-      and_then {m = matched literal} _ m (and_then (λ _. f (take n window.now)) p (next p.sound))
+      and_then {m = leading_match literal} _ m (and_then (λ _. f (take n window.now)) p (next p.sound))

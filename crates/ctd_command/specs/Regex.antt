@@ -15,8 +15,8 @@ shorter_match None = reject RegexMismatch
 shorter_match (Some n) = if nat_eq n WINDOW then stop MatchTooLong else return n
 
 -- the bytes that the pattern of a literal matches at the start of the window
-abbrev pub matched : List ℕ → Act (List ℕ)
-matched literal = do
+abbrev pub leading_match : List ℕ → Act (List ℕ)
+leading_match literal = do
   window ← see_window
   n ← shorter_match (length_at_start literal window)
   return (take n window)
@@ -24,6 +24,6 @@ matched literal = do
 -- they are passed, and the target gets them
 abbrev pub regex : List ℕ → Option VarTree → Act ⊤
 regex literal target = do
-  bytes ← matched literal
+  bytes ← leading_match literal
   _ ← pass (length bytes)
   keep target (values.Text bytes)

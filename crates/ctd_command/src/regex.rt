@@ -2,7 +2,7 @@
 ghost use Rattle.std.specs.Prelude.{◌≡◌, ◌≤◌, length, Some, IfOk};
 ghost use Rattle.ctd_source.specs.calls.CursorCalls.{state_of};
 ghost use Rattle.ctd_program.specs.calls.View.{target, var_tree};
-ghost use Rattle.ctd_command.specs.inner.Regex.{matched_len};
+ghost use Rattle.ctd_command.specs.inner.Regex.{match_len};
 ghost use Rattle.ctd_command.specs.Regex.{regex, shorter_match};
 ghost use Rattle.ctd_command.specs.calls.Performs.{IsSound, Performs};
 ghost use Rattle.ctd_command.specs.inner.Performs.{AlwaysDoes};
@@ -43,7 +43,7 @@ impl<'d, D: Source> Run<'d, D> {
         match var {
             Some(v) => self.keep_match(v, matcher),
             None => {
-                let n = self.matched_len(matcher)?;
+                let n = self.match_len(matcher)?;
                 self.pass_many(n);
                 Ok(())
             }
@@ -67,9 +67,9 @@ impl<'d, D: Source> Run<'d, D> {
     }
 
     /// How many bytes a pattern matches at the start of the window.
-    fn matched_len(&mut self, matcher: &mut Matcher<'_>) -> Result<usize, CommandFailure>
+    fn match_len(&mut self, matcher: &mut Matcher<'_>) -> Result<usize, CommandFailure>
         requires sound { IsSound self.old }
-        ensures performs { Performs self.old self.new result (matched_len matcher.old) }
+        ensures performs { Performs self.old self.new result (match_len matcher.old) }
         ensures held { IfOk result (λ n. n ≤ length (state_of self.new.cursor).held) }
         ensures kept { matcher.new ≡ matcher.old }
     {

@@ -2,10 +2,10 @@
 -- Of this, what only the proofs of this crate use.
 use Rattle.std.specs.Prelude.{ℕ, List, length}
 use Rattle.ctd_command.specs.State.{Act, ◌>>=◌, return}
-use Rattle.ctd_command.specs.Regex.{matched}
+use Rattle.ctd_command.specs.Regex.{leading_match}
 
 -- how many they are
-abbrev pub matched_len : List ℕ → Act ℕ
-matched_len literal = do
-  bytes ← matched literal
+abbrev pub match_len : List ℕ → Act ℕ
+match_len literal = do
+  bytes ← leading_match literal
   return (length bytes)

@@ -2,15 +2,15 @@ use Rattle.std.proofs.Common.{ap, refl, take, List, ℕ, Err}
 use Rattle.ctd_program.specs.calls.View.{var_tree}
 use Rattle.ctd_store.specs.declared.value.Value.TheVariants.{Text}
 use Rattle.ctd_command.specs.Commands.{set_to}
-use Rattle.ctd_command.specs.Regex.{matched, shorter_match}
+use Rattle.ctd_command.specs.Regex.{leading_match, shorter_match}
 use Rattle.ctd_command.proofs.Acts.{and_then, early, early_by, performs_as, stopped_by, with_cursor}
 use Rattle.ctd_command.proofs.Assignments.{variable_set, variable_not_set}
-use Rattle.ctd_command.proofs.Windows.{doing, gives_as, windowed, matched_faulty, with_match}
+use Rattle.ctd_command.proofs.Windows.{doing, gives_as, windowed, match_faulty, with_match}
 use Rattle.ctd_command.proofs.machine.Run.keep_match.Goals as goal
 
 pub returns-in_err-window-clause-performs : goal.returns-in_err-window-clause-performs
 returns-in_err-window-clause-performs g c =
-    early_by {m = matched c.args.matcher.now} _ _ c.from_residual.ensures (stopped_by {A = List ℕ} c.in_err-window.field-0.0 (Err _) (refl, refl) (matched_faulty c.args.self.now _ c.in_err-window.field-0.0 c.args.matcher.now c.requires.sound (gives_as _ _ _ _ c.in_err-window.was c.window.follows.holds-at-none)))
+    early_by {m = leading_match c.args.matcher.now} _ _ c.from_residual.ensures (stopped_by {A = List ℕ} c.in_err-window.field-0.0 (Err _) (refl, refl) (match_faulty c.args.self.now _ c.in_err-window.field-0.0 c.args.matcher.now c.requires.sound (gives_as _ _ _ _ c.in_err-window.was c.window.follows.holds-at-none)))
 
 pub returns-in_err-n-clause-performs : goal.returns-in_err-n-clause-performs
 returns-in_err-n-clause-performs g c =

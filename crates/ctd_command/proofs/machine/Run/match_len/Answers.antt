@@ -1,6 +1,6 @@
 use Rattle.ctd_command.proofs.Acts.{stopped_by}
 use Rattle.ctd_command.proofs.Windows.{gives_as, measured_faulty, measured}
-use Rattle.ctd_command.proofs.machine.Run.matched_len.Goals as goal
+use Rattle.ctd_command.proofs.machine.Run.match_len.Goals as goal
 
 pub returns-in_err-window-clause-performs : goal.returns-in_err-window-clause-performs
 returns-in_err-window-clause-performs g c =
