@@ -91,7 +91,7 @@ impl Slot {
         ensures value { option_copied result ≡ option_or (find values_cmp (indices_at index.entry) (pins_in self.now)) (find values_cmp (indices_at index.entry) self.now.values) }
     {
         match &self.pins {
-            Some(pins) => value_under_pins(pins, &self.values, index),
+            Some(pins) => { value_under_pins(pins, &self.values, index.to_indices().as_slice()) }
             None => self.values.value(index),
         }
     }
@@ -207,12 +207,13 @@ fn is_among(array: &Array, index: Index<'_>) -> bool
 }
 
 /// The value at an index list: that of the first array, or else that of the second. Out of line: keeps the caller small.
+#[cold]
 #[inline(never)]
-fn value_under_pins<'s>(pins: &'s Array, values: &'s Array, index: Index<'_>) -> Option<&'s Value>
-    ensures value { option_copied result ≡ option_or (find values_cmp (indices_at index.entry) pins.now) (find values_cmp (indices_at index.entry) values.now) }
+fn value_under_pins<'s>(pins: &'s Array, values: &'s Array, indices: &[Value]) -> Option<&'s Value>
+    ensures value { option_copied result ≡ option_or (find values_cmp indices.now pins.now) (find values_cmp indices.now values.now) }
 {
-    match pins.value(index) {
+    match pins.get(indices) {
         Some(value) => Some(value),
-        None => values.value(index),
+        None => values.get(indices),
     }
 }
