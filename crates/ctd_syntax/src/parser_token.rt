@@ -90,12 +90,8 @@ fn give_number<'t>(token: ParserToken<'t>, before: &mut usize) -> ParserToken<'t
 
 // The number of a name, which a name that is not yet known gets: the numbers are 0, 1, 2, .. in the order of the text.
 fn number_of<'t>(name: &'t [u8], numbers: &mut BTreeMap<&'t [u8], u32>) -> Result<u32, AllocError> {
-    if let Some(number) = numbers.get(&name) {
-        return Ok(*number);
-    }
-    let number = u32::try_from(numbers.len()).unwrap_or(u32::MAX);
-    numbers.insert(name, number)?;
-    Ok(number)
+    let next = u32::try_from(numbers.len()).unwrap_or(u32::MAX);
+    Ok(*numbers.entry(name)?.or_insert(next))
 }
 
 // Gives a name its number.
