@@ -3,4 +3,4 @@ pub mod Trees
 pub mod Parts
 pub mod Everywhere
 pub mod Ends
-pub mod Told
+pub mod NextCommand

@@ -1,4 +1,4 @@
-//! What is told of a command.
+//! The warnings of a command.
 
 ghost use Rattle.std.specs.Prelude.{◌≡◌, ◌++◌, OnOk, IfOk};
 ghost use Rattle.ctd_program.specs.calls.View.{command_tree, expr_tree, guard_tree, test_tree};
@@ -165,7 +165,7 @@ fn is_empty_text(e: &Expr) -> bool
     }
 }
 
-/// Appends what is told of a pattern.
+/// Appends the warnings of a pattern: what its outline shows.
 fn list_outline(alloc: Global, pattern: &[u8], found: &mut Vec<Warning>) -> Result<(), AllocError>
     ensures lists { OnOk result (found.new.items ≡ found.old.items ++ outline_warnings (outline pattern.now)) }
 {
@@ -176,7 +176,7 @@ fn list_outline(alloc: Global, pattern: &[u8], found: &mut Vec<Warning>) -> Resu
     warn_if(repeats_unbounded(form), Warning::Unbounded, found)
 }
 
-/// Appends what is told of a command by itself.
+/// Appends the warnings that follow from a command alone.
 fn list_own(
     alloc: Global,
     command: &Command,

@@ -1,4 +1,4 @@
-//! What is told of a program: a warning at the place of a command.
+//! A finding: a warning, with the place of its command.
 
 use ctd_token::{Bytes, Place};
 

@@ -1,8 +1,12 @@
 //! What follows from literals alone.
 
-ghost use Rattle.std.specs.Prelude.{◌≡◌, IfOk};
+ghost use Rattle.std.specs.Prelude.{◌≡◌, ℤ, Bool, Result, IfOk};
+ghost use Rattle.std.specs.Result.{result_ok};
 ghost use Rattle.ctd_program.specs.calls.View.{expr_tree, test_tree};
-ghost use Rattle.ctd_findings.specs.calls.Literal.{compares_only, literal_number, literal_truth, no_variables};
+ghost use Rattle.ctd_value.specs.Fault.{TruthFault, ValueFault};
+ghost use Rattle.ctd_value.specs.Truth.{truth};
+ghost use Rattle.ctd_value.specs.calls.Fault.{Answers, Gives};
+ghost use Rattle.ctd_findings.specs.calls.Literal.{compares_only, literal_number, literal_truth, no_data, no_variables};
 
 use ctd_program::{Expr, Test};
 use ctd_source::Plain;
@@ -21,6 +25,25 @@ fn compares_only(t: &Test) -> bool
     }
 }
 
+/// The truth of a test where there are no data, or its fault.
+fn truth_without_data(alloc: Global, t: &Test, store: &Store) -> Result<bool, TestFault>
+    ensures { Answers result (truth (test_tree t.now) store.now no_data 0) }
+{
+    let mut no_data = Plain::new(&[], false, 0);
+    holds(alloc, t, store, &mut no_data)
+}
+
+/// A truth, or none where there is a fault. It is not known where memory ran out.
+fn known_truth(answer: Result<bool, TestFault>) -> Result<Option<bool>, AllocError>
+    ensures { (meant : Result Bool TruthFault) → Answers answer meant → IfOk result (λ truth. truth ≡ result_ok meant) }
+{
+    match answer {
+        Ok(truth) => Ok(Some(truth)),
+        Err(TestFault::Eval(EvalFault::Memory)) => Err(AllocError),
+        Err(_) => Ok(None),
+    }
+}
+
 /// The truth of a test that follows from its literals. The store has no variables.
 pub(crate) fn literal_truth(
     alloc: Global,
@@ -33,10 +56,16 @@ pub(crate) fn literal_truth(
     if !compares_only(t) {
         return Ok(None);
     }
-    let mut no_data = Plain::new(&[], false, 0);
-    match holds(alloc, t, nothing, &mut no_data) {
-        Ok(truth) => Ok(Some(truth)),
-        Err(TestFault::Eval(EvalFault::Memory)) => Err(AllocError),
+    known_truth(truth_without_data(alloc, t, nothing))
+}
+
+/// A number, or none where there is a fault. It is not known where memory ran out.
+fn known_number(answer: Result<i128, EvalFault>) -> Result<Option<i128>, AllocError>
+    ensures { (meant : Result ℤ ValueFault) → Gives answer meant → IfOk result (λ number. number ≡ result_ok meant) }
+{
+    match answer {
+        Ok(number) => Ok(Some(number)),
+        Err(EvalFault::Memory) => Err(AllocError),
         Err(_) => Ok(None),
     }
 }
@@ -50,9 +79,5 @@ pub(crate) fn literal_number(
     requires { nothing.now ≡ no_variables }
     ensures { IfOk result (λ number. number ≡ literal_number (expr_tree e.now)) }
 {
-    match number_of(alloc, e, nothing) {
-        Ok(number) => Ok(Some(number)),
-        Err(EvalFault::Memory) => Err(AllocError),
-        Err(_) => Ok(None),
-    }
+    known_number(number_of(alloc, e, nothing))
 }

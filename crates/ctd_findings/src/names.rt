@@ -1,6 +1,6 @@
 //! The names in expressions and tests, and those that a command reads or gives a value.
 
-ghost use Rattle.std.specs.Prelude.{◌≡◌, ◌++◌, OnOk};
+ghost use Rattle.std.specs.Prelude.{◌≡◌, ◌∷◌, ◌++◌, [], OnOk};
 ghost use Rattle.ctd_program.specs.calls.View.{boxed_target, command_tree, expr_list, expr_tree, guard_tree, target, test_tree};
 ghost use Rattle.ctd_findings.specs.inner.Listed.{assigned_trees, names_at};
 ghost use Rattle.ctd_findings.specs.calls.Names.{assignment_names, assignment_reads, counts, expr_names, guard_names, index_names, reads, sets, target_name, target_reads, test_names, unsets};
@@ -9,19 +9,24 @@ use ctd_program::{Action, Assignment, Command, Expr, IntArguments, LoopGuard, Te
 use ctd_token::Name;
 use std::alloc::AllocError;
 
+/// Appends a name.
+pub(crate) fn list_name<'p>(name: &'p Name, found: &mut Vec<&'p Name>) -> Result<(), AllocError>
+    ensures lists { OnOk result (names_at found.new.items ≡ names_at found.old.items ++ name.now ∷ []) }
+{
+    found.push(name)?;
+    Ok(())
+}
+
 /// Appends the names in an expression.
 #[cycle(expr_names)]
 fn list_expr<'p>(e: &'p Expr, found: &mut Vec<&'p Name>) -> Result<(), AllocError>
     ensures lists { OnOk result (names_at found.new.items ≡ names_at found.old.items ++ expr_names (expr_tree e.now)) }
 {
     match e {
-        Expr::Name(name) => {
-            found.push(name)?;
-            Ok(())
-        }
+        Expr::Name(name) => list_name(name, found),
         Expr::Numeral(_) | Expr::Text(_) => Ok(()),
         Expr::Element(element) => {
-            found.push(&element.name)?;
+            list_name(&element.name, found)?;
             list_indices(element.indices.as_slice(), found)
         }
         Expr::Strlen(e) | Expr::Minus(e) => list_expr(e, found),
@@ -61,7 +66,7 @@ fn list_all<'p>(names: &'p [Name], found: &mut Vec<&'p Name>) -> Result<(), Allo
     ensures lists { OnOk result (names_at found.new.items ≡ names_at found.old.items ++ names.now) }
 {
     for name in names {
-        found.push(name)?;
+        list_name(name, found)?;
     }
     Ok(())
 }
@@ -82,8 +87,7 @@ fn list_test<'p>(t: &'p Test, found: &mut Vec<&'p Name>) -> Result<(), AllocErro
         Test::Unique(names) => list_all(names.as_slice(), found),
         Test::InArray(e, name) => {
             list_expr(e, found)?;
-            found.push(name)?;
-            Ok(())
+            list_name(name, found)
         }
     }
 }
@@ -106,10 +110,7 @@ fn list_target<'p>(variable: &'p Option<Var>, found: &mut Vec<&'p Name>) -> Resu
     ensures lists { OnOk result (names_at found.new.items ≡ names_at found.old.items ++ target_name (target variable.now)) }
 {
     match variable {
-        Some(v) => {
-            found.push(&v.name)?;
-            Ok(())
-        }
+        Some(v) => list_name(&v.name, found),
         None => Ok(()),
     }
 }
@@ -136,7 +137,7 @@ fn list_assignments<'p>(
     ensures lists { OnOk result (names_at found.new.items ≡ names_at found.old.items ++ assignment_names (assigned_trees assignments.now)) }
 {
     for a in assignments {
-        found.push(&a.target.name)?;
+        list_name(&a.target.name, found)?;
     }
     Ok(())
 }
@@ -180,10 +181,7 @@ fn list_counter<'p>(
     ensures lists { OnOk result (names_at found.new.items ≡ names_at found.old.items ++ target_name (boxed_target counter.now)) }
 {
     match counter {
-        Some(v) => {
-            found.push(&v.name)?;
-            Ok(())
-        }
+        Some(v) => list_name(&v.name, found),
         None => Ok(()),
     }
 }

@@ -12,7 +12,7 @@ use crate::block::{CommandInBlock, all_commands};
 use crate::command::{Known, command_warnings};
 use crate::finding::{Finding, Warning};
 use crate::name_set::NameSet;
-use crate::names::{list_counts, list_reads, list_sets};
+use crate::names::{list_counts, list_name, list_reads, list_sets};
 use ctd_program::{Command, Presets};
 use ctd_token::{Name, Place};
 use ctd_value::Store;
@@ -59,7 +59,7 @@ fn list_presets<'p>(presets: &'p Presets, names: &mut Vec<&'p Name>) -> Result<(
     ensures lists { OnOk result (names_at names.new.items ≡ names_at names.old.items ++ preset_names presets.now) }
 {
     for preset in presets.pins() {
-        names.push(&preset.name)?;
+        list_name(&preset.name, names)?;
     }
     Ok(())
 }

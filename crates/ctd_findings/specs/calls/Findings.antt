@@ -68,13 +68,13 @@ is_empty_text (Tree.quotient a b) = false
 is_empty_text (Tree.remainder a b) = false
 is_empty_text (Tree.power a b) = false
 
--- what is told of a pattern by its outline
+-- the warnings of a pattern, by its outline
 abbrev pub outline_warnings : List ℕ → List Warning
 outline_warnings o = warn_if (starts_with 94 o) warnings.StartsWithCaret
     ++ warn_if (ends_with 36 o) warnings.EndsWithDollar
     ++ warn_if (repeats_unbounded o) warnings.Unbounded
 
--- what is told of a command by itself
+-- the warnings that follow from a command alone
 abbrev pub own_warnings : CommandTree → List Warning
 own_warnings (Tree.space place) = []
 own_warnings (Tree.newline place) = []

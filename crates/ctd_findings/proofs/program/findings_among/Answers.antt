@@ -1,5 +1,5 @@
 use Rattle.ctd_findings.specs.inner.Listed.{has_name}
-use Rattle.ctd_findings.proofs.Told.{one_more}
+use Rattle.ctd_findings.proofs.NextCommand.{one_more}
 use Rattle.ctd_findings.proofs.program.findings_among.Goals as goal
 
 pub loop-entry-preserved : goal.loop-entry-preserved
