@@ -1,6 +1,6 @@
 //! The words of the command line.
 
-ghost use Rattle.std.specs.Prelude.{◌≡◌, IfOk, map, option_map};
+ghost use Rattle.std.specs.Prelude.{◌≡◌, IfOk, Some, codes, map, option_map};
 ghost use Rattle.clap.specs.Words.{FailsBy, app_of, fault_of, first_of, found_of, matches_of, rows_of, rule_of};
 ghost use Rattle.ctd_arguments.specs.CommandLine.{define_rule, program_rule};
 ghost use Rattle.ctd_arguments.specs.inner.RequiredProgram.{IsLocal};
@@ -130,21 +130,26 @@ fn presets_of(alloc: Global, text: Option<&str>) -> Result<Presets, LintFault>
     }
 }
 
+/// What is asked for by the values that clap found.
+fn setup_of(alloc: Global, matches: &ArgMatches<'_>) -> Result<LintSetup, LintFault>
+    ensures program { IfOk result (λ s. first_of (codes "PROGRAM") (rows_of (found_of matches.now)) ≡ Some s.program) }
+    ensures presets { IfOk result (λ s. ArePresetsOf (first_of (codes "define") (rows_of (found_of matches.now))) s.presets) }
+{
+    let Some(program) = value_of(matches, "PROGRAM") else {
+        return Err(LintFault::Words);
+    };
+    let program = Bytes::copy(alloc, program.as_bytes())?;
+    let presets = presets_of(alloc, value_of(matches, "define"))?;
+    Ok(LintSetup { program, presets })
+}
+
 /// What the words ask for: after the program's own name the option of the presets, and PROGRAM.
 pub(crate) fn settings(alloc: Global, words: &[Bytes]) -> Result<LintSetup, LintFault>
     ensures setup { IfOk result (IsLintSetup words.now) }
 {
     let texts = texts_of(alloc, words)?;
-    let matches = match matches_in(alloc, texts.as_slice()) {
-        Ok(matches) => matches,
-        Err(error) => return Err(fault_for(&error)),
-    };
-    let Some(program) = value_of(&matches, "PROGRAM") else {
-        return Err(LintFault::Words);
-    };
-    let presets = presets_of(alloc, value_of(&matches, "define"))?;
-    Ok(LintSetup {
-        program: Bytes::copy(alloc, program.as_bytes())?,
-        presets,
-    })
+    match matches_in(alloc, texts.as_slice()) {
+        Ok(matches) => setup_of(alloc, &matches),
+        Err(error) => Err(fault_for(&error)),
+    }
 }
