@@ -1,6 +1,7 @@
 //! The run of a program: its tasks one after the other, each for one step.
 ghost use Rattle.std.specs.Prelude.{◌≡◌, ◌≤◌, ◌<◌, ◌+◌, ◌*◌, ◌^◌, ◌∷◌, [], length, is_some, true, OnOk, IfSome, Some};
 ghost use Rattle.ctd_source.specs.calls.CursorCalls.{state_of};
+ghost use Rattle.ctd_token.specs.declared.text.Place.{Place};
 ghost use Rattle.ctd_program.specs.Tree.{blocks};
 ghost use Rattle.ctd_program.specs.calls.View.{command_tree};
 ghost use Rattle.ctd_command.specs.calls.Performs.{IsSound, state};
@@ -9,7 +10,7 @@ ghost use Rattle.ctd_check.specs.Loops.{start, tasks_before_turn};
 ghost use Rattle.ctd_check.specs.inner.FrameTasks.{most_frames, to_do, top_loop, loop_blocks, separator_in, separator_tasks, IsListDone};
 ghost use Rattle.ctd_check.specs.inner.Advances.{Advances, RunsTo};
 ghost use Rattle.ctd_check.specs.inner.Opening.{Opens, halt_result};
-ghost use Rattle.ctd_check.specs.inner.Progress.{loop_at};
+ghost use Rattle.ctd_check.specs.inner.Progress.{if_at, if_blocks, loop_at};
 ghost use Rattle.ctd_check.specs.Run.{run as result_of, run_from};
 
 use crate::command::{Progress, act};
@@ -21,7 +22,7 @@ use ctd_command::{CommandFailure, Run};
 use ctd_outcome::{Fault, Site};
 use ctd_pattern::Matcher;
 use ctd_source::Source;
-use ctd_syntax::{Command, Loop, Place};
+use ctd_syntax::{Choice, Command, Loop, Place};
 
 /// Pays for a command and starts it. It answers a failure, which stands in registers; a halt would not.
 #[inline(always)]
@@ -43,12 +44,27 @@ fn begin<'p, D: Source>(
     stack.pay()?;
     match act(run, command, matchers) {
         Progress::Done(done) => done,
-        Progress::If(parts) => {
-            let (then_do, else_do) = (&parts.then_do, &parts.else_do);
-            stack.leave(choose(run, &parts.condition, then_do, else_do))
-        }
+        Progress::If(parts) => open_if(parts, run, stack),
         Progress::Loop(parts) => open_loop(command.place, parts, run, stack),
     }
+}
+
+/// Starts an IF, and puts the list that its test picks on top.
+#[inline(always)]
+fn open_if<'p, D: Source>(
+    parts: &'p Choice,
+    run: &mut Run<'_, D>,
+    stack: &mut FrameStack<'p>,
+) -> Result<(), CommandFailure>
+    requires sound { IsSound run.old }
+    requires room { length stack.old.frames.items + if_blocks parts.now ≤ most_frames }
+    requires bound { stack.old.left + 1 ≤ 2 ^ 64 }
+    ensures left { stack.new.left ≡ stack.old.left }
+    ensures len { length stack.new.frames.items ≤ length stack.old.frames.items + 1 }
+    ensures opens { (place : Place) → Opens run.old run.new stack.old stack.new (if_at place parts.now) result }
+{
+    let (then_do, else_do) = (&parts.then_do, &parts.else_do);
+    stack.leave(choose(run, &parts.condition, then_do, else_do))
 }
 
 /// Starts a loop that stands at this place, and puts its frame on top. Out of line: keeps `begin` small.
