@@ -1,6 +1,5 @@
 use Rattle.std.proofs.Common.{[], ap, map, sym}
 use Rattle.ctd_program.specs.calls.View.{assignment}
-use Rattle.ctd_program.proofs.Trees.{choice_tree, loop_tree}
 use Rattle.ctd_command.specs.Commands.{set, unset_all}
 use Rattle.ctd_command.proofs.Acts.{performs_map_ok, performs_as}
 use Rattle.ctd_check.proofs.command.act.Goals as goal
@@ -31,9 +30,3 @@ returns-in-Set-clause-performs g c = rw (c.in-Set.is, sym c.deref-in-Set.ensures
 
 pub returns-in-Unset-clause-performs : goal.returns-in-Unset-clause-performs
 returns-in-Unset-clause-performs g c = rw (c.in-Unset.is, sym c.deref-in-Unset.ensures) (performs_map_ok (λ _. []) (performs_as (λ d s. ap (λ xs. unset_all xs d s) c.as_slice-in-Unset.ensures) c.unset.ensures.performs))
-
-pub returns-in-If-clause-parts : goal.returns-in-If-clause-parts
-returns-in-If-clause-parts g c = choice_tree _ c.in-If.parts c.deref-in-If.result.now c.args.command.now.place c.in-If.is c.deref-in-If.ensures
-
-pub returns-in-Loop-clause-parts : goal.returns-in-Loop-clause-parts
-returns-in-Loop-clause-parts g c = loop_tree _ c.in-Loop.parts c.deref-in-Loop.result.now c.args.command.now.place c.in-Loop.is c.deref-in-Loop.ensures
