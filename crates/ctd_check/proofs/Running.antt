@@ -1,5 +1,5 @@
 -- Tasks one after the other.
-use Rattle.std.proofs.Common.{arith, ◌≡◌, ℕ, suc, ◌+◌, ◌-◌, List, [], ◌∷◌, ◌++◌, refl, ap, sym, ◌∙◌, subst, append_assoc, Result, Ok, Err, true, false}
+use Rattle.std.proofs.Common.{arith, ◌≡◌, ℕ, suc, ◌+◌, ◌-◌, List, [], ◌∷◌, ◌++◌, refl, ap, sym, ◌∙◌, subst, append_assoc, Option, Result, Ok, Err, OnOk, IfOk, true, false}
 use Rattle.std.specs.Result.{IsErr, IsErrAnd}
 use Rattle.std.specs.Prelude.{⊤}
 use Rattle.ctd_source.specs.declared.source.Source.{Ghosts}
@@ -14,10 +14,12 @@ use Rattle.ctd_program.specs.declared.tree.Action.TheVariants as actions
 use Rattle.ctd_program.specs.declared.tree.Loop.{Loop'}
 use Rattle.ctd_program.specs.declared.tree.Choice.{Choice'}
 use Rattle.ctd_program.specs.declared.tree.Command.{Command}
-use Rattle.ctd_program.specs.Tree.{place_of, CommandList}
+use Rattle.ctd_program.specs.Tree.{place_of, CommandList, CommandTree}
 use Rattle.ctd_program.specs.calls.View.{action_tree, command_tree}
 use Rattle.ctd_program.specs.declared.preset.Preset.{Preset}
-use Rattle.ctd_program.specs.declared.tree.PatternLiteral.{PatternLiteral}
+use Rattle.ctd_syntax.specs.RegexNumbers.{command_literals}
+use Rattle.ctd_loader.specs.calls.PatternTable.{AreAmong}
+use Rattle.ctd_command.proofs.Acts.{answers_as}
 use Rattle.ctd_command.specs.declared.machine.Run.{Run}
 use Rattle.ctd_command.specs.declared.failure.CommandFailure.{CommandFailure}
 use Rattle.ctd_command.specs.declared.failure.Failure.TheVariants.{Rejected, Stopped, Memory}
@@ -34,12 +36,15 @@ use Rattle.ctd_check.specs.declared.halt.Halt.{Halt}
 use Rattle.ctd_check.specs.declared.halt.Halt.TheVariants as halts
 use Rattle.ctd_outcome.specs.declared.outcome.Outcome.TheVariants as outcomes
 use Rattle.ctd_check.specs.Loops.{Task, start, finish, tasks}
-use Rattle.ctd_check.specs.Run.{RunResult, stopped, site_of, perform, resume, run, run_from, with_steps, meaning, at_start}
+use Rattle.ctd_check.specs.Run.{RunResult, stopped, site_of, act_of, perform, resume, run, run_from, with_steps, meaning, at_start}
 use Rattle.ctd_check.specs.calls.Run.{Finds}
 use Rattle.ctd_outcome.specs.declared.outcome.Checked.{Checked}
 use Rattle.ctd_check.specs.inner.Halts.{halt_of, at_limit, Concludes}
 use Rattle.ctd_check.specs.inner.Opening.{halt_result, Opens}
-use Rattle.ctd_check.specs.inner.FrameTasks.{to_do}
+use Rattle.ctd_check.specs.declared.frame.Frame.{Frame}
+use Rattle.ctd_check.specs.inner.FrameTasks.{to_do, left_tasks}
+use Rattle.ctd_check.specs.inner.Known.{AreKnown, LeavesKnown}
+use Rattle.ctd_check.proofs.Knowing.{known_as, known_opened}
 use Rattle.ctd_check.specs.inner.Advances.{ContinuesWith, Advances, RunsTo}
 
 -- a command has its own place
@@ -136,12 +141,32 @@ module _ {R : Type 0} {G : Ghosts R} where
   task_does old new t left left' rest stack spot site (Err failure) one same is there at p =
       task_failed old new t left spot (halt_of spot site failure) failure rest stack (one ∙ ap (λ n. n + 1) (sym same)) there (ap (λ s. halt_of spot s failure) at) p
 
-  -- a command in which commands stand, by its answer
-  pub task_opens : (old new : Run R G) (t : Task) (left left' : ℕ) (rest : List Task) (from to : FrameStack) (of : List PatternLiteral) (spot : Spot) (site : Site) (r : Result (Unit {0}) CommandFailure) → left ≡ left' + 1 → to.left ≡ left' → to_do from.frames.items ≡ rest → spot ≡ old.cursor.spot → site ≡ site_of t
-      → Opens old new from to of r (perform t) → Advances {A = Unit {0}} old new left (t ∷ rest) to (halt_result spot site r)
-  task_opens old new t left left' rest from to of spot site (Ok x) one same is there at opens = task_done old new t left left' opens.more rest to one same (opens.comes_first ∙ ap (λ ts. opens.more ++ ts) is) opens.performs
-  task_opens old new t left left' rest from to of spot site (Err failure) one same is there at opens =
-      task_failed old new t left spot (halt_of spot site failure) failure rest to (one ∙ ap (λ n. n + 1) (sym same)) there (ap (λ s. halt_of spot s failure) at) opens.performs
+  -- a command that was started with this answer
+  pub task_opens : (old new : Run R G) (c : CommandTree) (left left' : ℕ) (rest : List Task) (from to : FrameStack) (spot : Spot) (site : Site) (r : Result (Unit {0}) CommandFailure) → left ≡ left' + 1 → to.left ≡ left' → to_do from.frames.items ≡ rest → spot ≡ old.cursor.spot → site ≡ site_of (start c)
+      → Opens old new from to c r → Advances {A = Unit {0}} old new left (start c ∷ rest) to (halt_result spot site r)
+  task_opens old new c left left' rest from to spot site (Ok x) one same is there at opens = task_done old new (start c) left left' opens.more rest to one same (opens.comes_first ∙ ap (λ ts. opens.more ++ ts) is) opens.performs
+  task_opens old new c left left' rest from to spot site (Err failure) one same is there at opens =
+      task_failed old new (start c) left spot (halt_of spot site failure) failure rest to (one ∙ ap (λ n. n + 1) (sym same)) there (ap (λ s. halt_of spot s failure) at) opens.performs
+
+  -- it leaves the frame that was put on top
+  pub opens_leaving : (old new : Run R G) (from to : FrameStack) (c : CommandTree) (r : Result (Option Frame) CommandFailure) (q : Result (Unit {0}) CommandFailure) → q ≡ map_ok (λ _. tt) r → Performs old new (map_ok left_tasks r) (act_of c)
+      → IfOk r (λ frame. to_do to.frames.items ≡ left_tasks frame ++ to_do from.frames.items) → ((patterns : List (List ℕ)) → AreAmong patterns (command_literals c) → LeavesKnown patterns r) → Opens old new from to c q
+  opens_leaving old new from to c (Ok frame) (Ok x) same p first known = record { more = left_tasks frame; performs = p; comes_first = first; known = known }
+  opens_leaving old new from to c (Ok frame) (Err e) same p first known = cc
+  opens_leaving old new from to c (Err failure) (Ok x) same p first known = cc
+  opens_leaving old new from to c (Err failure) (Err e) same p first known = let is : e ≡ failure = cc in record { more = []; performs = answers_as (ap Err is) p; comes_first = tt; known = λ ps among. tt }
+
+  -- under the names of the command and of the state before it
+  pub opens_as : {old before new : Run R G} {from to : FrameStack} {c d : CommandTree} {r : Result (Unit {0}) CommandFailure} → before ≡ old → c ≡ d → Opens before new from to d r → Opens old new from to c r
+  opens_as {before = before} {new = new} {from = from} {to = to} {c = c} {r = r} stays is opens =
+      let P : Run R G → Type 0 = λ run. Opens run new from to c r in
+      let Q : CommandTree → Type 0 = λ t. Opens before new from to t r in
+      subst P stays (subst Q (sym is) opens)
+
+  -- and what is to be done then finds its patterns
+  pub known_opens : {old new : Run R G} {from to : FrameStack} {c : CommandTree} {r : Result (Unit {0}) CommandFailure} (ps : List (List ℕ)) (rest : List Task) → Opens old new from to c r → to_do from.frames.items ≡ rest → AreKnown ps (start c ∷ rest) → OnOk r (AreKnown ps (to_do to.frames.items))
+  known_opens {from = from} {to = to} {r = r} ps rest opens is known =
+      known_opened ps r opens.more (to_do from.frames.items) (to_do to.frames.items) opens.comes_first (opens.known ps known.0) (known_as ps ps rest (to_do from.frames.items) refl is known.1)
 
   -- the same with no step left
   pub task_not_paid : (old : Run R G) (t : Task) (left : ℕ) (spot : Spot) (site : Site) (failure : CommandFailure) (rest : List Task) (stack : FrameStack) (q : Result (Unit {0}) CommandFailure) → IsErr q × IsErrAnd q (λ e. e ≡ failure) → failure ≡ Stopped StepLimit → left ≡ 0 → stack.left ≡ 0 → spot ≡ old.cursor.spot → site ≡ site_of t

@@ -4,3 +4,4 @@ pub mod FrameTasks
 pub mod Known
 pub mod Advances
 pub mod Opening
+pub mod Progress

@@ -9,8 +9,7 @@ ghost use Rattle.ctd_command.specs.calls.Performs.{IsSound, Performs};
 ghost use Rattle.ctd_value.specs.calls.Lending.{map_ok};
 ghost use Rattle.ctd_check.specs.inner.Known.{LeavesKnown};
 ghost use Rattle.ctd_check.specs.Loops.{tasks, loop_of, turn, take_turn, count_turn, goes_on, guard_of, repeat, choice};
-ghost use Rattle.ctd_check.specs.inner.FrameTasks.{frame_tasks, separator_in, frame_blocks, loop_turn, guard_in, counter_in, loop_in, left_tasks, IsWithin};
-ghost use Rattle.ctd_check.specs.inner.Advances.{NeedsRoom};
+ghost use Rattle.ctd_check.specs.inner.FrameTasks.{frame_tasks, separator_in, frame_blocks, loop_turn, guard_in, counter_in, loop_in, left_tasks, IsWithin, NeedsRoom};
 
 use crate::frame::{Frame, Guard, RunningLoop};
 use ctd_command::{CommandFailure, Run};

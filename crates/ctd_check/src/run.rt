@@ -1,27 +1,28 @@
 //! The run of a program: its tasks one after the other, each for one step.
 ghost use Rattle.std.specs.Prelude.{◌≡◌, ◌≤◌, ◌<◌, ◌+◌, ◌*◌, ◌^◌, ◌∷◌, [], length, is_some, true, OnOk, IfSome, Some};
 ghost use Rattle.ctd_source.specs.calls.CursorCalls.{state_of};
+ghost use Rattle.ctd_token.specs.declared.text.Place.{Place};
 ghost use Rattle.ctd_program.specs.Tree.{blocks};
 ghost use Rattle.ctd_program.specs.calls.View.{command_tree};
-ghost use Rattle.ctd_syntax.specs.RegexNumbers.{command_literals};
 ghost use Rattle.ctd_command.specs.calls.Performs.{IsSound, state};
 ghost use Rattle.ctd_check.specs.inner.Known.{AreKnown};
 ghost use Rattle.ctd_check.specs.Loops.{start, tasks_before_turn};
 ghost use Rattle.ctd_check.specs.inner.FrameTasks.{most_frames, to_do, top_loop, loop_blocks, separator_in, separator_tasks, IsListDone};
 ghost use Rattle.ctd_check.specs.inner.Advances.{Advances, RunsTo};
 ghost use Rattle.ctd_check.specs.inner.Opening.{Opens, halt_result};
-ghost use Rattle.ctd_check.specs.Run.{act_of, run as result_of, run_from};
+ghost use Rattle.ctd_check.specs.inner.Progress.{if_at, if_blocks, loop_at};
+ghost use Rattle.ctd_check.specs.Run.{run as result_of, run_from};
 
-use crate::command::{act, start_block};
+use crate::command::{Progress, act};
 use crate::frame::RunningLoop;
 use crate::halt::Halt;
-use crate::loops::take_turn;
+use crate::loops::{choose, repeat, take_turn};
 use crate::stack::FrameStack;
 use ctd_command::{CommandFailure, Run};
 use ctd_outcome::{Fault, Site};
 use ctd_pattern::Matcher;
 use ctd_source::Source;
-use ctd_syntax::{Action, Command};
+use ctd_syntax::{Choice, Command, Loop, Place};
 
 /// Pays for a command and starts it. It answers a failure, which stands in registers; a halt would not.
 #[inline(always)]
@@ -42,73 +43,48 @@ fn begin<'p, D: Source>(
 {
     stack.pay()?;
     match act(run, command, matchers) {
-        Some(done) => done,
-        None => open(command, run, stack),
+        Progress::Done(done) => done,
+        Progress::If(parts) => open_if(parts, run, stack),
+        Progress::Loop(parts) => open_loop(command.place, parts, run, stack),
     }
 }
 
-/// Starts a command in which commands stand, and puts the frame that it leaves on top. Out of line: keeps the caller small.
-#[inline(never)]
-fn open<'p, D: Source>(
-    command: &'p Command,
+/// Starts an IF, and puts the list that its test picks on top.
+#[inline(always)]
+fn open_if<'p, D: Source>(
+    parts: &'p Choice,
     run: &mut Run<'_, D>,
     stack: &mut FrameStack<'p>,
 ) -> Result<(), CommandFailure>
     requires sound { IsSound run.old }
-    requires block { 0 < blocks (command_tree command.now) }
-    requires room { length stack.old.frames.items + blocks (command_tree command.now) ≤ most_frames }
+    requires room { length stack.old.frames.items + if_blocks parts.now ≤ most_frames }
     requires bound { stack.old.left + 1 ≤ 2 ^ 64 }
     ensures left { stack.new.left ≡ stack.old.left }
     ensures len { length stack.new.frames.items ≤ length stack.old.frames.items + 1 }
-    ensures opens { Opens run.old run.new stack.old stack.new (command_literals (command_tree command.now)) result (act_of (command_tree command.now)) }
+    ensures opens { (place : Place) → Opens run.old run.new stack.old stack.new (if_at place parts.now) result }
 {
-    if matches!(command.action, Action::If(_)) {
-        open_here(command, run, stack)
-    } else {
-        open_loop(command, run, stack)
-    }
+    let (then_do, else_do) = (&parts.then_do, &parts.else_do);
+    stack.leave(choose(run, &parts.condition, then_do, else_do))
 }
 
-/// `open` of a loop. Out of line: keeps `open` small, which does IF itself.
+/// Starts a loop that stands at this place, and puts its frame on top. Out of line: keeps `begin` small.
 #[inline(never)]
 fn open_loop<'p, D: Source>(
-    command: &'p Command,
+    place: Place,
+    parts: &'p Loop,
     run: &mut Run<'_, D>,
     stack: &mut FrameStack<'p>,
 ) -> Result<(), CommandFailure>
     requires sound { IsSound run.old }
-    requires block { 0 < blocks (command_tree command.now) }
-    requires room { length stack.old.frames.items + blocks (command_tree command.now) ≤ most_frames }
+    requires room { length stack.old.frames.items + blocks (loop_at place parts.now) ≤ most_frames }
     requires bound { stack.old.left + 1 ≤ 2 ^ 64 }
     ensures left { stack.new.left ≡ stack.old.left }
     ensures len { length stack.new.frames.items ≤ length stack.old.frames.items + 1 }
-    ensures opens { Opens run.old run.new stack.old stack.new (command_literals (command_tree command.now)) result (act_of (command_tree command.now)) }
+    ensures opens { Opens run.old run.new stack.old stack.new (loop_at place parts.now) result }
 {
-    open_here(command, run, stack)
-}
-
-/// `open` of either, inlined into both.
-#[inline(always)]
-fn open_here<'p, D: Source>(
-    command: &'p Command,
-    run: &mut Run<'_, D>,
-    stack: &mut FrameStack<'p>,
-) -> Result<(), CommandFailure>
-    requires sound { IsSound run.old }
-    requires block { 0 < blocks (command_tree command.now) }
-    requires room { length stack.old.frames.items + blocks (command_tree command.now) ≤ most_frames }
-    requires bound { stack.old.left + 1 ≤ 2 ^ 64 }
-    ensures left { stack.new.left ≡ stack.old.left }
-    ensures len { length stack.new.frames.items ≤ length stack.old.frames.items + 1 }
-    ensures opens { Opens run.old run.new stack.old stack.new (command_literals (command_tree command.now)) result (act_of (command_tree command.now)) }
-{
-    match start_block(run, command) {
-        Ok(frame) => {
-            stack.leave(frame);
-            Ok(())
-        }
-        Err(failure) => Err(failure),
-    }
+    let (guard, counter) = (&parts.guard, &parts.counter);
+    let (between, body) = (&parts.between, &parts.body);
+    stack.leave(repeat(run, place, guard, counter, between, body))
 }
 
 /// The separator before a turn, which the first turn lacks.

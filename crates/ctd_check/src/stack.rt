@@ -1,11 +1,12 @@
 //! What a run has still to do: its frames, and the steps that are left.
-ghost use Rattle.std.specs.Prelude.{◌≡◌, ℕ, ◌≤◌, ◌<◌, ◌+◌, ◌-◌, ◌^◌, ◌++◌, ◌∷◌, [], length, is_some, true, false, None, Some, OnOk, IfErr, IfNone, IfSome};
+ghost use Rattle.std.specs.Prelude.{◌≡◌, ℕ, ◌≤◌, ◌<◌, ◌+◌, ◌-◌, ◌^◌, ◌++◌, ◌∷◌, [], length, is_some, true, false, None, Some, OnOk, IfErr, IfNone, IfOk, IfSome};
 ghost use Rattle.std.specs.Option.{option_copied};
 ghost use Rattle.ctd_program.specs.Tree.{blocks, list_blocks};
 ghost use Rattle.ctd_program.specs.calls.View.{command_tree, command_trees};
+ghost use Rattle.ctd_value.specs.calls.Lending.{map_ok};
 ghost use Rattle.ctd_check.specs.Loops.{start, tasks, finish};
 ghost use Rattle.ctd_check.specs.declared.frame.RunningLoop.{RunningLoop};
-ghost use Rattle.ctd_check.specs.inner.FrameTasks.{most_frames, Fits, fits_prop, to_do, top_loop, frame_tasks, left_tasks, body_tasks, loop_blocks, frame_blocks, loop_turn, IsAtTurn, IsListDone, IsWithin};
+ghost use Rattle.ctd_check.specs.inner.FrameTasks.{most_frames, Fits, fits_prop, to_do, top_loop, frame_tasks, left_tasks, body_tasks, loop_blocks, frame_blocks, loop_turn, IsAtTurn, IsListDone, NeedsRoom};
 
 use crate::frame::{Frame, RunningLoop};
 use arrayvec::ArrayVec;
@@ -169,17 +170,26 @@ impl<'p> FrameStack<'p> {
         self.frames.push(frame);
     }
 
-    /// Puts the frame on top that a command leaves, if it leaves one.
-    pub(crate) fn leave(&mut self, frame: Option<Frame<'p>>)
-        requires room { IsWithin frame (most_frames - length self.old.frames.items) }
+    /// Puts the frame on top that a command leaves, if it leaves one. The failure of a command is handed on.
+    #[inline(always)]
+    pub(crate) fn leave(
+        &mut self,
+        frame: Result<Option<Frame<'p>>, CommandFailure>,
+    ) -> Result<(), CommandFailure>
+        requires room { NeedsRoom frame (most_frames - length self.old.frames.items) }
         requires bound { self.old.left + 1 ≤ 2 ^ 64 }
         ensures left { self.new.left ≡ self.old.left }
         ensures len { length self.new.frames.items ≤ length self.old.frames.items + 1 }
-        ensures to_do { to_do self.new.frames.items ≡ left_tasks frame.entry ++ to_do self.old.frames.items }
+        ensures same { result ≡ map_ok (λ _. tt) frame.entry }
+        ensures to_do { IfOk frame.entry (λ f. to_do self.new.frames.items ≡ left_tasks f ++ to_do self.old.frames.items) }
     {
         match frame {
-            Some(frame) => self.push(frame),
-            None => {}
+            Ok(Some(frame)) => {
+                self.push(frame);
+                Ok(())
+            }
+            Ok(None) => Ok(()),
+            Err(failure) => Err(failure),
         }
     }
 }

@@ -1,24 +1,17 @@
 -- What the steps of a run ensure.
 use Rattle.ctd_check.specs.declared.halt.Halt.TheVariants as halts
-use Rattle.std.specs.Prelude.{◌≡◌, ℕ, Option, Result, Ok, Err, OnOk, List, []}
+use Rattle.std.specs.Prelude.{◌≡◌, ℕ, Result, Ok, Err, OnOk, List, []}
 use Rattle.ctd_source.specs.declared.source.Source.{Ghosts}
 use Rattle.ctd_source.specs.TestData.{TestData}
 use Rattle.ctd_source.specs.calls.Received.{AdvancesSuchThat}
 use Rattle.ctd_command.specs.declared.machine.Run.{Run}
-use Rattle.ctd_command.specs.declared.failure.CommandFailure.{CommandFailure}
 use Rattle.ctd_command.specs.calls.Performs.{state, IsSound}
 use Rattle.ctd_command.specs.State.{State}
 use Rattle.ctd_check.specs.declared.stack.FrameStack.{FrameStack}
-use Rattle.ctd_check.specs.declared.frame.Frame.{Frame}
 use Rattle.ctd_check.specs.declared.halt.Halt.{Halt}
-use Rattle.ctd_check.specs.inner.FrameTasks.{to_do, IsWithin}
+use Rattle.ctd_check.specs.inner.FrameTasks.{to_do}
 use Rattle.ctd_check.specs.Loops.{Task}
 use Rattle.ctd_check.specs.Run.{RunResult, stopped, run}
-
--- a frame that is left has room within so many blocks
-abbrev pub NeedsRoom : Result (Option Frame) CommandFailure → ℕ → Type 0
-NeedsRoom (Ok frame) blocks = IsWithin frame blocks
-NeedsRoom (Err e) blocks = Unit {0}
 
 -- with so many steps left, these tasks and this state the whole run goes on; or it is over, with this outcome
 abbrev pub ContinuesWith : {A : Type 0} → TestData → Result A Halt → ℕ → List Task → State → RunResult → Type 0

@@ -2,13 +2,14 @@
 use Rattle.ctd_program.specs.Tree
 use Rattle.ctd_check.specs.declared.frame.Guard.TheVariants as guards
 use Rattle.ctd_check.specs.Loops
-use Rattle.std.specs.Prelude.{◌≡◌, ℕ, ◌+◌, ◌^◌, ◌≤◌, max, List, [], ◌∷◌, ◌++◌, Option, Some, None}
+use Rattle.std.specs.Prelude.{◌≡◌, ℕ, ◌+◌, ◌^◌, ◌≤◌, max, List, [], ◌∷◌, ◌++◌, Option, Some, None, Result, Ok, Err}
 use Rattle.std.specs.Coded.{×_prop, Unit-prop, le_prop}
 use Rattle.std.proofs.Common.{Bor}
 use Rattle.ctd_program.specs.declared.tree.Command.{Command}
 use Rattle.ctd_program.specs.declared.tree.Var.{Var}
 use Rattle.ctd_program.specs.Tree.{VarTree, Separator, list_blocks, separator_blocks}
 use Rattle.ctd_program.specs.calls.View.{var_tree, test_tree, command_tree, command_trees}
+use Rattle.ctd_command.specs.declared.failure.CommandFailure.{CommandFailure}
 use Rattle.ctd_check.specs.declared.frame.Guard.{Guard}
 use Rattle.ctd_check.specs.declared.frame.RunningLoop.{RunningLoop}
 use Rattle.ctd_check.specs.declared.frame.Frame.{Frame}
@@ -105,6 +106,11 @@ loop_turn (Some running_loop) = running_loop.turn
 abbrev pub IsWithin : Option Frame → ℕ → Type 0
 IsWithin None blocks = Unit {0}
 IsWithin (Some frame) blocks = (1 + frame_blocks frame ≤ blocks) × (loop_turn frame.running_loop ≡ 0)
+
+-- the frame that a command leaves, if it leaves one, has room within so many blocks
+abbrev pub NeedsRoom : Result (Option Frame) CommandFailure → ℕ → Type 0
+NeedsRoom (Ok frame) blocks = IsWithin frame blocks
+NeedsRoom (Err e) blocks = Unit {0}
 
 -- how many frames may lie on one another: that of the program itself, and those of 200 blocks
 abbrev pub most_frames : ℕ

@@ -2,19 +2,20 @@
 use Rattle.std.specs.Prelude.{◌≡◌, ℕ, List, ◌++◌, Result, Ok, Err, OnOk}
 use Rattle.ctd_source.specs.declared.source.Source.{Ghosts}
 use Rattle.ctd_source.specs.declared.spot.Spot.{Spot}
-use Rattle.ctd_program.specs.declared.tree.PatternLiteral.{PatternLiteral}
+use Rattle.ctd_program.specs.Tree.{CommandTree}
+use Rattle.ctd_syntax.specs.RegexNumbers.{command_literals}
 use Rattle.ctd_loader.specs.calls.PatternTable.{AreAmong}
 use Rattle.ctd_command.specs.declared.machine.Run.{Run}
 use Rattle.ctd_command.specs.declared.failure.CommandFailure.{CommandFailure}
 use Rattle.ctd_command.specs.calls.Performs.{Performs}
 use Rattle.ctd_value.specs.calls.Lending.{map_ok}
-use Rattle.ctd_command.specs.State.{Act}
 use Rattle.ctd_check.specs.declared.stack.FrameStack.{FrameStack}
 use Rattle.ctd_check.specs.declared.halt.Halt.{Halt}
 use Rattle.ctd_outcome.specs.declared.outcome.Site.{Site}
 use Rattle.ctd_check.specs.inner.Halts.{halt_of}
 use Rattle.ctd_check.specs.inner.Known.{AreKnown}
 use Rattle.ctd_check.specs.Loops.{Task}
+use Rattle.ctd_check.specs.Run.{act_of}
 use Rattle.ctd_check.specs.inner.FrameTasks.{to_do}
 
 -- how a run goes on or ends by the answer of a command that began at this spot and stands at this site
@@ -23,9 +24,9 @@ halt_result spot place (Ok x) = Ok x
 halt_result spot place (Err failure) = Err (halt_of spot place failure)
 
 module _ {R : Type 0} {G : Ghosts R} where
-  -- a command with these literals did this, and what it leaves is to be done before all else
-  pub record Opens (old new : Run R G) (from to : FrameStack) (of : List PatternLiteral) (result : Result (Unit {0}) CommandFailure) (act : Act (List Task)) : Type 0 where
+  -- this command was started with this answer, and what it leaves is to be done before all else
+  pub record Opens (old new : Run R G) (from to : FrameStack) (c : CommandTree) (result : Result (Unit {0}) CommandFailure) : Type 0 where
     pub more : List Task
-    pub performs : Performs old new (map_ok (λ _. more) result) act
+    pub performs : Performs old new (map_ok (λ _. more) result) (act_of c)
     pub comes_first : OnOk result (to_do to.frames.items ≡ more ++ to_do from.frames.items)
-    pub known : (patterns : List (List ℕ)) → AreAmong patterns of → OnOk result (AreKnown patterns more)
+    pub known : (patterns : List (List ℕ)) → AreAmong patterns (command_literals c) → OnOk result (AreKnown patterns more)
