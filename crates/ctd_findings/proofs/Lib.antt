@@ -3,4 +3,3 @@ pub mod Trees
 pub mod Parts
 pub mod Everywhere
 pub mod Ends
-pub mod NextCommand
