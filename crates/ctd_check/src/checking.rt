@@ -30,8 +30,8 @@ fn outcome_of(ended: Result<(), Halt>) -> Result<Outcome, AllocError>
     }
 }
 
-/// Checks what a source gives against the program of a plan, once and forward: the program's meaning on the whole data,
-/// with the presets pinned.
+/// Checks what a source gives against the program of a plan, once and forward, with the presets pinned. The answer is the
+/// program's meaning on all data that agree with what was read.
 ///
 /// The source is read only as far as the program needs, at most a window ahead of what is consumed. Every program, data
 /// and limits get an answer; the only error is that memory ran out.

@@ -10,7 +10,7 @@ use ctd_source::{Cursor, Source};
 use ctd_value::Store;
 use std::alloc::Global;
 
-/// The state of a run. Its commands are methods, each in the file of its kind (checktestdata language specification, commands).
+/// The state of a run. Its commands are methods, each in the file of its kind (docs/LANGUAGE.md, commands).
 #[derive(Drop)]
 pub struct Run<'d, D: Source> {
     pub(crate) alloc: Global,

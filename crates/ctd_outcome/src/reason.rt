@@ -2,7 +2,7 @@
 
 use std::fmt;
 
-/// Why the data do not match the program (checktestdata language specification, commands).
+/// Why the data do not match the program (docs/LANGUAGE.md, commands).
 #[derive(Clone, Copy, PartialEq, Eq, Debug)]
 pub enum Reason {
     /// SPACE found another byte than 0x20, or the end of the data.

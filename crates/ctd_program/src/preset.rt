@@ -83,7 +83,7 @@ impl Presets {
     ///
     /// A name is a token of a program, and an index and a value are each a numeral, a numeral behind a
     /// minus, or a string literal, to which the commas, brackets and escapes between its quotes belong
-    /// (checktestdata language specification, tokens). So a numeral has no leading zero and is at most
+    /// (docs/LANGUAGE.md, tokens). So a numeral has no leading zero and is at most
     /// 2^127 - 1, and `-0` is 0. Any other text, the empty one too, is BadPreset, and a refused growth
     /// is Memory. The time is linear in the bytes of the text.
     pub fn read(alloc: Global, text: &str) -> Result<Presets, PresetFault>

@@ -1,5 +1,5 @@
 //! The trees of programs: one variant for each alternative of the grammar that is not a single part or parentheses
-//! (checktestdata language specification, grammar). Each list in a tree is a small type of its own.
+//! (docs/LANGUAGE.md, grammar). Each list in a tree is a small type of its own.
 
 ghost use Rattle.std.specs.Prelude.{◌≡◌};
 ghost use Rattle.ctd_program.specs.calls.View.{commands_of};

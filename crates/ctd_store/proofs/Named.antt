@@ -56,7 +56,7 @@ not_there x k vs none = elim (same_bytes x k) as (λ b. same_bytes x k ≡ b →
   | false ↦ λ _. refl
 ] refl
 
--- what is found where an array is overlay_row over variables without its name
+-- what is found where an array is laid over variables without its name
 overlay_over : (x k : List ℕ) (a : Array) (vs : Variables) → find bytes_cmp k vs ≡ None → find bytes_cmp x (with_array k a vs) ≡ cond (same_bytes x k) (given a) (find bytes_cmp x vs)
 overlay_over x k [] vs none = not_there x k vs none
 overlay_over x k (e ∷ es) vs none = find-put bytes_cmp nat_list_cmp_total x k (e ∷ es) vs
@@ -124,7 +124,7 @@ twice q n at v vs ps placed is e =
 first_absent : (n : ℕ) (v : List ℕ × Array) (vs : Variables) (ps : Positions) → T (have_positions n (v ∷ vs) ps) → IsAbsent v.0 vs
 first_absent n v vs ps placed at is = twice v.0 n at v vs ps placed is refl
 
--- what is found where the first array is overlay_row over the others
+-- what is found where the first array is laid over the others
 found_first : (x : List ℕ) (n : ℕ) (v : List ℕ × Array) (vs : Variables) (ps : Positions) → T (have_positions n (v ∷ vs) ps) → find bytes_cmp x (in_order (v ∷ vs)) ≡ cond (same_bytes x v.0) (given v.1) (find bytes_cmp x (in_order vs))
 found_first x n v vs ps placed = overlay_over x v.0 v.1 (in_order vs) (missing v.0 vs (first_absent n v vs ps placed))
 

@@ -1,4 +1,4 @@
--- A value without indices overlay_row over an array that has none: what a look-up, a write and the entries in order are.
+-- A value without indices laid over an array that has none: what a look-up, a write and the entries in order are.
 use Rattle.std.proofs.Common.{arith, ◌≡◌, ◌≢◌, ℕ, suc, Bool, true, false, not, ◌&&◌, T, List, [], ◌∷◌, ◌++◌, length, Option, Some, None, is_some, Result, Ok, Err, OnOk, OnErr, refl, sym, subst, ◌∙◌}
 use Rattle.std.proofs.lemmas.Bool.Decides.{nat_tests}
 use Rattle.std.specs.Bool.{◌==◌}

@@ -1,4 +1,4 @@
-//! From tokens to tests, by levels and loops (checktestdata language specification, grammar).
+//! From tokens to tests, by levels and loops (docs/LANGUAGE.md, grammar).
 //! A tree that is not wanted is given to `drop` explicitly: an implicit drop is unfolded variant by variant in the proof.
 
 ghost use Rattle.std.specs.Prelude.{◌≡◌, ◌≤◌, ◌<◌, ◌++◌, [], ◌∷◌, ℕ, List, true, false, length, map, drop, IfOk, IfSome, IfNone, Some};

@@ -1,4 +1,4 @@
-//! From tokens to expressions, by levels and loops (checktestdata language specification, grammar).
+//! From tokens to expressions, by levels and loops (docs/LANGUAGE.md, grammar).
 //! A tree that is not wanted is given to `drop` explicitly: an implicit drop is unfolded variant by variant in the proof.
 
 ghost use Rattle.std.specs.Prelude.{◌≡◌, ◌≤◌, ◌<◌, true, length, map, IfOk, IfSome};

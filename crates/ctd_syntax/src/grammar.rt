@@ -81,7 +81,7 @@ fn program_of(alloc: Global, text: &[u8], tokens: &[ParserToken<'_>]) -> Result<
     }
 }
 
-/// Reads the text of a program: the one tree that the grammar spells (checktestdata language specification, grammar).
+/// Reads the text of a program: the one tree that the grammar spells (docs/LANGUAGE.md, grammar).
 ///
 /// A text above `PROGRAM_LIMIT` bytes is ProgramTooLong. Else the first token with a fault gives the answer, as for
 /// `tokens`; else the first token after which the weight passes `NESTING_LIMIT` is TooDeep; else a text that spells no

@@ -1,4 +1,4 @@
-//! From tokens to the heads of loops: what stands before the separator and the block (checktestdata language specification, grammar).
+//! From tokens to the heads of loops: what stands before the separator and the block (docs/LANGUAGE.md, grammar).
 //! A tree that is not wanted is given to `drop` explicitly: an implicit drop is unfolded variant by variant in the proof.
 
 ghost use Rattle.std.specs.Prelude.{◌≤◌, ◌<◌, length, map, IfOk};

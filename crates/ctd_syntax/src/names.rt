@@ -1,4 +1,4 @@
-//! From tokens to lists of names (checktestdata language specification, grammar).
+//! From tokens to lists of names (docs/LANGUAGE.md, grammar).
 
 ghost use Rattle.std.specs.Prelude.{◌≤◌, length, map, IfOk};
 ghost use Rattle.ctd_program.specs.calls.View.{names_of};

@@ -73,7 +73,7 @@ fn fault_at(fault: TokenFault, place: Place, text: &[u8], at: usize) -> LoadFaul
     }
 }
 
-/// Cuts the text of a program into its tokens, one after another (checktestdata language specification, tokens).
+/// Cuts the text of a program into its tokens, one after another (docs/LANGUAGE.md, tokens).
 ///
 /// It holds no token, so a text takes no more memory than its caller keeps of it.
 #[derive(Drop)]

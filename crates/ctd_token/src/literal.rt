@@ -1,4 +1,4 @@
-//! String literals (checktestdata language specification, tokens).
+//! String literals (docs/LANGUAGE.md, tokens).
 
 ghost use Rattle.std.specs.Prelude.{◌≡◌, ◌+◌, ◌<◌, ◌≤◌, drop, IfOk, IfErr, length, slice_index, option_to_list};
 ghost use Rattle.std.specs.List.{prefix_len};

@@ -1,4 +1,4 @@
-//! The tokens of a program (checktestdata language specification, tokens).
+//! The tokens of a program (docs/LANGUAGE.md, tokens).
 
 use crate::text::{Bytes, Place};
 

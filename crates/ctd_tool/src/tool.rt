@@ -12,8 +12,8 @@ use ctd_check::{LoadKind, Plan, Source, check};
 use ctd_report::{Sink, ToolFault, write_load_fault, write_outcome};
 use std::alloc::Global;
 
-/// Reads the program, checks the data against it, writes the report and answers the status: the report of the program's
-/// meaning on the whole data, or of a fault of the program; then the data are not touched.
+/// Reads the program, checks the data against it, writes the report and answers the status. The report is that of the program's
+/// meaning on all data that agree with what was read, or of a fault of the program; then the data are not touched.
 ///
 /// `Write` is returned where a stream failed, which then holds a part of its text from the start, and the other stream nothing.
 /// `Memory` is returned where memory ran out: nothing was written.

@@ -1,4 +1,4 @@
-//! Values for variables (checktestdata language specification, SET).
+//! Values for variables (docs/LANGUAGE.md, SET).
 
 ghost use Rattle.std.specs.Prelude.{◌≡◌, ◌≢◌, Err, OnErr};
 ghost use Rattle.ctd_program.specs.calls.View.{expr_tree, var_tree};

@@ -21,17 +21,17 @@ slot n = values.Int (pos n) ∷ []
 abbrev pub cell : ℕ → ℕ → List Value
 cell m n = values.Int (pos m) ∷ values.Int (pos n) ∷ []
 
--- an array, with values at the numbers from n on overlay_row over it
+-- an array, with values at the numbers from n on laid over it
 abbrev pub overlay_row : ℕ → List Value → Array → Array
 overlay_row n [] array = array
 overlay_row n (x ∷ xs) array = put values_cmp (slot n) x (overlay_row (suc n) xs array)
 
--- an array, with the value without indices overlay_row over it, if there is one
+-- an array, with the value without indices laid over it, if there is one
 abbrev pub with_scalar : Option Value → Array → Array
 with_scalar None array = array
 with_scalar (Some x) array = put values_cmp [] x array
 
--- the variables, with the array of a name overlay_row over them, if it has entries
+-- the variables, with the array of a name laid over them, if it has entries
 abbrev pub with_array : List ℕ → Array → Variables → Variables
 with_array name [] variables = variables
 with_array name (e ∷ es) variables = put bytes_cmp name (e ∷ es) variables
