@@ -8,7 +8,7 @@ ghost use Rattle.ctd_source.specs.declared.source.Seen.TheVariants.{Going, Ended
 use ctd_source::{Failed, Source};
 use std::alloc::{AllocError, Global};
 
-/// How many bytes are pulled at a time. Most programs have fewer.
+/// How many bytes are pulled at a time. Most programs have fewer, so a check touches no more memory for its program than it needs.
 const PIECE: usize = 16_384;
 
 /// The text that a source gave.

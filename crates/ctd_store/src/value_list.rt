@@ -9,7 +9,7 @@ use crate::value_ref::ValueRef;
 use std::alloc::{AllocError, Global};
 use std::mem::replace;
 
-/// How many elements the room is for that a list may keep while it has none.
+/// How many elements the room is for that a list may keep while it has none. To fill a longer list costs far more than to make room for it again.
 const ROOM_KEPT: usize = 64;
 
 /// Gives a slot of a list a value, where one past its end is a slot too; after an error all is as it was.
