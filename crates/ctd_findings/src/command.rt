@@ -3,7 +3,7 @@
 ghost use Rattle.std.specs.Prelude.{◌≡◌, ◌++◌, OnOk, IfOk};
 ghost use Rattle.ctd_program.specs.calls.View.{command_tree, expr_tree, guard_tree, test_tree};
 ghost use Rattle.ctd_findings.specs.calls.Findings.{command_warnings, follows_endless, guard_test, is_above, is_empty_text, is_endless, is_known_true, loop_test, outline_warnings, own_warnings, truth_warning, warn_if, warn_unknown};
-ghost use Rattle.ctd_findings.specs.inner.Listed.{command_at, has_name, in_block, names_at, test_at};
+ghost use Rattle.ctd_findings.specs.inner.Listed.{command_at, has_name, in_block, lack_warning, names_at, test_at};
 ghost use Rattle.ctd_findings.specs.calls.Names.{reads, sets, unsets};
 ghost use Rattle.ctd_findings.specs.calls.Literal.{literal_number, literal_truth, no_variables};
 ghost use Rattle.ctd_findings.specs.calls.Outline.{outline};
@@ -38,37 +38,39 @@ fn warn_if(is_so: bool, warning: Warning, found: &mut Vec<Warning>) -> Result<()
     Ok(())
 }
 
-/// Appends a warning for each name that nothing gives a value.
-fn list_without_value<'p>(
-    alloc: Global,
-    names: &[&'p Name],
-    given: &NameSet<'p>,
-    found: &mut Vec<Warning>,
-) -> Result<(), AllocError>
-    ensures lists { OnOk result (found.new.items ≡ found.old.items ++ warn_unknown Warning.NoValue (λ name. has_name name given.now) (names_at names.now)) }
-{
-    for name in names {
-        if !given.contains(name) {
-            let bytes = Bytes::copy(alloc, name.as_slice())?;
-            found.push(Warning::NoValue(bytes))?;
-        }
-    }
-    Ok(())
+/// What nothing in a program does with a name.
+#[derive(Clone, Copy)]
+enum Lack {
+    /// Nothing gives it a value.
+    Value,
+    /// Nothing reads it.
+    Reader,
 }
 
-/// Appends a warning for each name that nothing reads.
-fn list_unread<'p>(
+/// The warning for a name of which nothing does this.
+fn lack_warning(lack: Lack, name: Bytes) -> Warning
+    ensures { result ≡ lack_warning lack name }
+{
+    match lack {
+        Lack::Value => Warning::NoValue(name),
+        Lack::Reader => Warning::NeverRead(name),
+    }
+}
+
+/// Appends a warning for each name that is not known.
+fn list_unknown<'p>(
     alloc: Global,
     names: &[&'p Name],
-    read: &NameSet<'p>,
+    known: &NameSet<'p>,
+    lack: Lack,
     found: &mut Vec<Warning>,
 ) -> Result<(), AllocError>
-    ensures lists { OnOk result (found.new.items ≡ found.old.items ++ warn_unknown Warning.NeverRead (λ name. has_name name read.now) (names_at names.now)) }
+    ensures lists { OnOk result (found.new.items ≡ found.old.items ++ warn_unknown (lack_warning lack) (λ name. has_name name known.now) (names_at names.now)) }
 {
     for name in names {
-        if !read.contains(name) {
-            let bytes = Bytes::copy(alloc, name.as_slice())?;
-            found.push(Warning::NeverRead(bytes))?;
+        if !known.contains(name) {
+            let name = Bytes::copy(alloc, name.as_slice())?;
+            found.push(lack_warning(lack, name))?;
         }
     }
     Ok(())
@@ -215,10 +217,10 @@ fn list_names<'p>(
     let mut needed = Vec::new(alloc);
     list_reads(command, &mut needed)?;
     list_unsets(command, &mut needed)?;
-    list_without_value(alloc, needed.as_slice(), &known.given, found)?;
+    list_unknown(alloc, needed.as_slice(), &known.given, Lack::Value, found)?;
     let mut set = Vec::new(alloc);
     list_sets(command, &mut set)?;
-    list_unread(alloc, set.as_slice(), &known.read, found)
+    list_unknown(alloc, set.as_slice(), &known.read, Lack::Reader, found)
 }
 
 /// The warnings of a command.

@@ -78,6 +78,33 @@ fn given_names<'p>(
     NameSet::of(alloc, names.as_slice())
 }
 
+/// A store that has no variables.
+fn empty_store(alloc: Global) -> Result<Store, AllocError>
+    ensures { IfOk result (λ store. store ≡ no_variables) }
+{
+    Store::new(alloc, &Presets::none(alloc))
+}
+
+/// What is known of some commands, where these presets are given.
+fn known_of<'p>(
+    alloc: Global,
+    commands: &[CommandInBlock<'p>],
+    presets: &'p Presets,
+) -> Result<Known<'p>, AllocError>
+    ensures given { IfOk result (λ known. (name : List ℕ) → has_name name known.given ≡ is_among name (all_given (in_blocks commands.now) ++ preset_names presets.now)) }
+    ensures read { IfOk result (λ known. (name : List ℕ) → has_name name known.read ≡ is_among name (all_reads (in_blocks commands.now))) }
+    ensures nothing { IfOk result (λ known. known.nothing ≡ no_variables) }
+{
+    let nothing = empty_store(alloc)?;
+    let given = given_names(alloc, commands, presets)?;
+    let read = read_names(alloc, commands)?;
+    Ok(Known {
+        given,
+        read,
+        nothing,
+    })
+}
+
 /// Appends warnings at a place.
 fn place_all(
     place: Place,
@@ -118,10 +145,6 @@ pub fn findings<'p>(
     ensures { IfOk result (λ found. found.items ≡ findings_of (command_trees commands.now) presets.now) }
 {
     let entries = all_commands(alloc, commands)?;
-    let known = Known {
-        given: given_names(alloc, entries.as_slice(), presets)?,
-        read: read_names(alloc, entries.as_slice())?,
-        nothing: Store::new(alloc, &Presets::none(alloc))?,
-    };
+    let known = known_of(alloc, entries.as_slice(), presets)?;
     findings_among(alloc, entries.as_slice(), &known)
 }

@@ -11,8 +11,8 @@ returns c =
     let program = command_trees c.args.commands.now in
     let presets = c.args.presets.now in
     let all = c.in_ok-entries.ensures.all in
-    let given : (n : List ℕ) → has_name n c.in_ok-given_names.field-0 ≡ is_given_in program presets n = λ n.
-    c.in_ok-given_names.ensures.members n ∙ ap (λ cs. is_among n (all_given cs ++ preset_names presets)) (ap in_blocks c.as_slice.ensures.value ∙ all) in
-    let read : (n : List ℕ) → has_name n c.in_ok-read_names.field-0 ≡ is_read_in program n = λ n.
-    c.in_ok-read_names.ensures.members n ∙ ap (λ cs. is_among n (all_reads cs)) (ap in_blocks c.as_slice-2.ensures.value ∙ all) in
-    IfOk-weaker c.findings_among.result _ _ (λ found is. is ∙ (λ i. findings_among (λ n. given n i) (λ n. read n i) ((ap in_blocks c.as_slice-3.ensures.value ∙ all) i))) c.findings_among.ensures
+    let given : (n : List ℕ) → has_name n c.in_ok-known.known.given ≡ is_given_in program presets n = λ n.
+    c.in_ok-known.ensures.given n ∙ ap (λ cs. is_among n (all_given cs ++ preset_names presets)) (ap in_blocks c.as_slice.ensures.value ∙ all) in
+    let read : (n : List ℕ) → has_name n c.in_ok-known.known.read ≡ is_read_in program n = λ n.
+    c.in_ok-known.ensures.read n ∙ ap (λ cs. is_among n (all_reads cs)) (ap in_blocks c.as_slice.ensures.value ∙ all) in
+    IfOk-weaker c.findings_among.result _ _ (λ found is. is ∙ (λ i. findings_among (λ n. given n i) (λ n. read n i) ((ap in_blocks c.as_slice-2.ensures.value ∙ all) i))) c.findings_among.ensures

@@ -1,9 +1,0 @@
-use Rattle.std.proofs.Common.{◌≡◌, ◌++◌, drop}
-use Rattle.ctd_findings.specs.declared.finding.Warning.TheVariants.{NeverRead}
-use Rattle.ctd_findings.specs.calls.Findings.{warn_unknown}
-use Rattle.ctd_findings.specs.inner.Listed.{has_name, names_at}
-use Rattle.ctd_findings.proofs.command.list_unread.Given as goal
-
-abbrev pub invariant-loop-name : goal.invariant-loop-name
-invariant-loop-name l = l.found.items ++ warn_unknown NeverRead (λ name. has_name name l.read) (names_at (drop l.name-index l.names))
-    ≡ l.initial.found.items ++ warn_unknown NeverRead (λ name. has_name name l.read) (names_at l.names)
