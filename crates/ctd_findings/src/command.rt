@@ -11,6 +11,7 @@ ghost use Rattle.std.specs.Option.{option_and_then};
 
 use crate::block::CommandInBlock;
 use crate::finding::Warning;
+use crate::found_names::FoundNames;
 use crate::literal::{literal_number, literal_truth};
 use crate::name_set::NameSet;
 use crate::names::{list_reads, list_sets, list_unsets};
@@ -214,13 +215,25 @@ fn list_names<'p>(
         ++ warn_unknown Warning.NoValue (λ name. has_name name known.now.given) (reads (command_tree command.now) ++ unsets (command_tree command.now))
         ++ warn_unknown Warning.NeverRead (λ name. has_name name known.now.read) (sets (command_tree command.now))) }
 {
-    let mut needed = Vec::new(alloc);
-    list_reads(command, &mut needed)?;
-    list_unsets(command, &mut needed)?;
-    list_unknown(alloc, needed.as_slice(), &known.given, Lack::Value, found)?;
-    let mut set = Vec::new(alloc);
-    list_sets(command, &mut set)?;
-    list_unknown(alloc, set.as_slice(), &known.read, Lack::Reader, found)
+    let mut needed = FoundNames::new(alloc);
+    list_reads(command, &mut needed);
+    list_unsets(command, &mut needed);
+    list_unknown(
+        alloc,
+        needed.finish()?.as_slice(),
+        &known.given,
+        Lack::Value,
+        found,
+    )?;
+    let mut set = FoundNames::new(alloc);
+    list_sets(command, &mut set);
+    list_unknown(
+        alloc,
+        set.finish()?.as_slice(),
+        &known.read,
+        Lack::Reader,
+        found,
+    )
 }
 
 /// The warnings of a command.

@@ -4,6 +4,7 @@
 mod block;
 mod command;
 mod finding;
+mod found_names;
 mod laws;
 mod literal;
 mod name_set;

@@ -4,64 +4,57 @@ ghost use Rattle.std.specs.Prelude.{◌≡◌, ◌++◌, ℕ, List, OnOk, IfOk};
 ghost use Rattle.ctd_program.specs.calls.View.{command_trees};
 ghost use Rattle.ctd_token.specs.declared.text.Place.{Place};
 ghost use Rattle.ctd_findings.specs.calls.Findings.{findings_among, findings_at, findings_of};
-ghost use Rattle.ctd_findings.specs.inner.Listed.{has_name, in_blocks, names_at};
+ghost use Rattle.ctd_findings.specs.inner.Found.{Adds, names_in};
+ghost use Rattle.ctd_findings.specs.inner.Listed.{has_name, in_blocks};
 ghost use Rattle.ctd_findings.specs.calls.Literal.{no_variables};
 ghost use Rattle.ctd_findings.specs.calls.Names.{all_given, all_reads, is_among, preset_names};
 
 use crate::block::{CommandInBlock, all_commands};
 use crate::command::{Known, command_warnings};
 use crate::finding::{Finding, Warning};
+use crate::found_names::FoundNames;
 use crate::name_set::NameSet;
-use crate::names::{list_counts, list_name, list_reads, list_sets};
+use crate::names::{list_counts, list_reads, list_sets};
 use ctd_program::{Command, Presets};
-use ctd_token::{Name, Place};
+use ctd_token::Place;
 use ctd_value::Store;
 use std::alloc::{AllocError, Global};
 
 /// Appends the names that some commands read.
-fn list_all_reads<'p>(
-    commands: &[CommandInBlock<'p>],
-    names: &mut Vec<&'p Name>,
-) -> Result<(), AllocError>
-    ensures lists { OnOk result (names_at names.new.items ≡ names_at names.old.items ++ all_reads (in_blocks commands.now)) }
+fn list_all_reads<'p>(commands: &[CommandInBlock<'p>], names: &mut FoundNames<'p>)
+    ensures adds { Adds (names_in names.old) (all_reads (in_blocks commands.now)) (names_in names.new) }
 {
     for entry in commands {
-        list_reads(entry.command, names)?;
+        list_reads(entry.command, names);
     }
-    Ok(())
 }
 
 /// The names that some commands read.
 fn read_names<'p>(alloc: Global, commands: &[CommandInBlock<'p>]) -> Result<NameSet<'p>, AllocError>
     ensures members { IfOk result (λ set. (name : List ℕ) → has_name name set ≡ is_among name (all_reads (in_blocks commands.now))) }
 {
-    let mut names = Vec::new(alloc);
-    list_all_reads(commands, &mut names)?;
-    NameSet::of(alloc, names.as_slice())
+    let mut names = FoundNames::new(alloc);
+    list_all_reads(commands, &mut names);
+    NameSet::of(alloc, names.finish()?.as_slice())
 }
 
 /// Appends the names to which some commands give a value.
-fn list_given<'p>(
-    commands: &[CommandInBlock<'p>],
-    names: &mut Vec<&'p Name>,
-) -> Result<(), AllocError>
-    ensures lists { OnOk result (names_at names.new.items ≡ names_at names.old.items ++ all_given (in_blocks commands.now)) }
+fn list_given<'p>(commands: &[CommandInBlock<'p>], names: &mut FoundNames<'p>)
+    ensures adds { Adds (names_in names.old) (all_given (in_blocks commands.now)) (names_in names.new) }
 {
     for entry in commands {
-        list_sets(entry.command, names)?;
-        list_counts(entry.command, names)?;
+        list_sets(entry.command, names);
+        list_counts(entry.command, names);
     }
-    Ok(())
 }
 
 /// Appends the names of presets.
-fn list_presets<'p>(presets: &'p Presets, names: &mut Vec<&'p Name>) -> Result<(), AllocError>
-    ensures lists { OnOk result (names_at names.new.items ≡ names_at names.old.items ++ preset_names presets.now) }
+fn list_presets<'p>(presets: &'p Presets, names: &mut FoundNames<'p>)
+    ensures adds { Adds (names_in names.old) (preset_names presets.now) (names_in names.new) }
 {
     for preset in presets.pins() {
-        list_name(&preset.name, names)?;
+        names.add(&preset.name);
     }
-    Ok(())
 }
 
 /// The names to which some commands, or presets, give a value.
@@ -72,10 +65,10 @@ fn given_names<'p>(
 ) -> Result<NameSet<'p>, AllocError>
     ensures members { IfOk result (λ set. (name : List ℕ) → has_name name set ≡ is_among name (all_given (in_blocks commands.now) ++ preset_names presets.now)) }
 {
-    let mut names = Vec::new(alloc);
-    list_given(commands, &mut names)?;
-    list_presets(presets, &mut names)?;
-    NameSet::of(alloc, names.as_slice())
+    let mut names = FoundNames::new(alloc);
+    list_given(commands, &mut names);
+    list_presets(presets, &mut names);
+    NameSet::of(alloc, names.finish()?.as_slice())
 }
 
 /// A store that has no variables.

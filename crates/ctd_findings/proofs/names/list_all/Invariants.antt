@@ -1,6 +1,7 @@
-use Rattle.std.proofs.Common.{◌≡◌, ◌++◌, drop}
-use Rattle.ctd_findings.specs.inner.Listed.{names_at}
+use Rattle.std.proofs.Common.{drop}
+use Rattle.ctd_findings.specs.inner.Found.{names_in}
+use Rattle.ctd_findings.proofs.FoundNames.{Leads}
 use Rattle.ctd_findings.proofs.names.list_all.Given as goal
 
 abbrev pub invariant-loop-name : goal.invariant-loop-name
-invariant-loop-name l = names_at l.found.items ++ drop l.name-index l.names ≡ names_at l.initial.found.items ++ l.names
+invariant-loop-name l = Leads (names_in l.initial.found) l.names (names_in l.found) (drop l.name-index l.names)

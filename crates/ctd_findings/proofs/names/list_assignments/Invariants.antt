@@ -1,7 +1,9 @@
-use Rattle.std.proofs.Common.{◌≡◌, ◌++◌, drop}
-use Rattle.ctd_findings.specs.inner.Listed.{assigned_trees, names_at}
+use Rattle.std.proofs.Common.{drop}
+use Rattle.ctd_findings.specs.inner.Listed.{assigned_trees}
 use Rattle.ctd_findings.specs.calls.Names.{assignment_names}
+use Rattle.ctd_findings.specs.inner.Found.{names_in}
+use Rattle.ctd_findings.proofs.FoundNames.{Leads}
 use Rattle.ctd_findings.proofs.names.list_assignments.Given as goal
 
 abbrev pub invariant-loop-a : goal.invariant-loop-a
-invariant-loop-a l = names_at l.found.items ++ assignment_names (assigned_trees (drop l.a-index l.assignments)) ≡ names_at l.initial.found.items ++ assignment_names (assigned_trees l.assignments)
+invariant-loop-a l = Leads (names_in l.initial.found) (assignment_names (assigned_trees l.assignments)) (names_in l.found) (assignment_names (assigned_trees (drop l.a-index l.assignments)))

@@ -1,7 +1,9 @@
-use Rattle.std.proofs.Common.{◌≡◌, ◌++◌, drop}
-use Rattle.ctd_findings.specs.inner.Listed.{in_blocks, names_at}
+use Rattle.std.proofs.Common.{drop}
+use Rattle.ctd_findings.specs.inner.Listed.{in_blocks}
 use Rattle.ctd_findings.specs.calls.Names.{all_reads}
+use Rattle.ctd_findings.specs.inner.Found.{names_in}
+use Rattle.ctd_findings.proofs.FoundNames.{Leads}
 use Rattle.ctd_findings.proofs.program.list_all_reads.Given as goal
 
 abbrev pub invariant-loop-entry : goal.invariant-loop-entry
-invariant-loop-entry l = names_at l.names.items ++ all_reads (in_blocks (drop l.entry-index l.commands)) ≡ names_at l.initial.names.items ++ all_reads (in_blocks l.commands)
+invariant-loop-entry l = Leads (names_in l.initial.names) (all_reads (in_blocks l.commands)) (names_in l.names) (all_reads (in_blocks (drop l.entry-index l.commands)))
