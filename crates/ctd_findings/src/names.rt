@@ -10,7 +10,7 @@ use crate::found_names::FoundNames;
 use ctd_program::{Action, Assignment, Command, Expr, IntArguments, LoopGuard, Test, Var};
 use ctd_token::Name;
 
-/// Appends the names in an expression.
+/// Adds the names in an expression.
 #[cycle(expr_names)]
 fn list_expr<'p>(e: &'p Expr, found: &mut FoundNames<'p>)
     ensures adds { Adds (names_in found.old) (expr_names (expr_tree e.now)) (names_in found.new) }
@@ -35,7 +35,7 @@ fn list_expr<'p>(e: &'p Expr, found: &mut FoundNames<'p>)
     }
 }
 
-/// Appends the names in indices.
+/// Adds the names in indices.
 #[cycle(expr_names)]
 fn list_indices<'p>(indices: &'p [Expr], found: &mut FoundNames<'p>)
     ensures adds { Adds (names_in found.old) (index_names (expr_list indices.now)) (names_in found.new) }
@@ -45,7 +45,7 @@ fn list_indices<'p>(indices: &'p [Expr], found: &mut FoundNames<'p>)
     }
 }
 
-/// Appends the names in two expressions.
+/// Adds the names in two expressions.
 fn list_both<'p>(a: &'p Expr, b: &'p Expr, found: &mut FoundNames<'p>)
     ensures adds { Adds (names_in found.old) (expr_names (expr_tree a.now) ++ expr_names (expr_tree b.now)) (names_in found.new) }
 {
@@ -53,7 +53,7 @@ fn list_both<'p>(a: &'p Expr, b: &'p Expr, found: &mut FoundNames<'p>)
     list_expr(b, found)
 }
 
-/// Appends names.
+/// Adds names.
 fn list_all<'p>(names: &'p [Name], found: &mut FoundNames<'p>)
     ensures adds { Adds (names_in found.old) names.now (names_in found.new) }
 {
@@ -62,7 +62,7 @@ fn list_all<'p>(names: &'p [Name], found: &mut FoundNames<'p>)
     }
 }
 
-/// Appends the names in a test.
+/// Adds the names in a test.
 fn list_test<'p>(t: &'p Test, found: &mut FoundNames<'p>)
     ensures adds { Adds (names_in found.old) (test_names (test_tree t.now)) (names_in found.new) }
 {
@@ -83,7 +83,7 @@ fn list_test<'p>(t: &'p Test, found: &mut FoundNames<'p>)
     }
 }
 
-/// Appends the names that are read where a variable is set.
+/// Adds the names that are read where a variable is set.
 fn list_target_reads<'p>(variable: &'p Option<Var>, found: &mut FoundNames<'p>)
     ensures adds { Adds (names_in found.old) (target_reads (target variable.now)) (names_in found.new) }
 {
@@ -93,7 +93,7 @@ fn list_target_reads<'p>(variable: &'p Option<Var>, found: &mut FoundNames<'p>)
     }
 }
 
-/// Appends the name of a variable, if there is one.
+/// Adds the name of a variable, if there is one.
 fn list_target<'p>(variable: &'p Option<Var>, found: &mut FoundNames<'p>)
     ensures adds { Adds (names_in found.old) (target_name (target variable.now)) (names_in found.new) }
 {
@@ -103,7 +103,7 @@ fn list_target<'p>(variable: &'p Option<Var>, found: &mut FoundNames<'p>)
     }
 }
 
-/// Appends the names that are read in assignments.
+/// Adds the names that are read in assignments.
 fn list_assignment_reads<'p>(assignments: &'p [Assignment], found: &mut FoundNames<'p>)
     ensures adds { Adds (names_in found.old) (assignment_reads (assigned_trees assignments.now)) (names_in found.new) }
 {
@@ -113,7 +113,7 @@ fn list_assignment_reads<'p>(assignments: &'p [Assignment], found: &mut FoundNam
     }
 }
 
-/// Appends the names that assignments set.
+/// Adds the names that assignments set.
 fn list_assignments<'p>(assignments: &'p [Assignment], found: &mut FoundNames<'p>)
     ensures adds { Adds (names_in found.old) (assignment_names (assigned_trees assignments.now)) (names_in found.new) }
 {
@@ -122,7 +122,7 @@ fn list_assignments<'p>(assignments: &'p [Assignment], found: &mut FoundNames<'p
     }
 }
 
-/// Appends the names that are read for what INT takes.
+/// Adds the names that are read for what INT takes.
 fn list_int<'p>(int: &'p IntArguments, found: &mut FoundNames<'p>)
     ensures adds { Adds (names_in found.old) (expr_names (expr_tree int.now.low) ++ expr_names (expr_tree int.now.high) ++ target_reads (target int.now.target)) (names_in found.new) }
 {
@@ -130,7 +130,7 @@ fn list_int<'p>(int: &'p IntArguments, found: &mut FoundNames<'p>)
     list_target_reads(&int.target, found)
 }
 
-/// Appends the names in the head of a loop.
+/// Adds the names in the head of a loop.
 fn list_guard<'p>(guard: &'p LoopGuard, found: &mut FoundNames<'p>)
     ensures adds { Adds (names_in found.old) (guard_names (guard_tree guard.now)) (names_in found.new) }
 {
@@ -140,7 +140,7 @@ fn list_guard<'p>(guard: &'p LoopGuard, found: &mut FoundNames<'p>)
     }
 }
 
-/// Appends the names that are read where a counter is set.
+/// Adds the names that are read where a counter is set.
 fn list_counter_reads<'p>(counter: &'p Option<Box<Var>>, found: &mut FoundNames<'p>)
     ensures adds { Adds (names_in found.old) (target_reads (boxed_target counter.now)) (names_in found.new) }
 {
@@ -150,7 +150,7 @@ fn list_counter_reads<'p>(counter: &'p Option<Box<Var>>, found: &mut FoundNames<
     }
 }
 
-/// Appends the name of a counter, if there is one.
+/// Adds the name of a counter, if there is one.
 fn list_counter<'p>(counter: &'p Option<Box<Var>>, found: &mut FoundNames<'p>)
     ensures adds { Adds (names_in found.old) (target_name (boxed_target counter.now)) (names_in found.new) }
 {
@@ -160,7 +160,7 @@ fn list_counter<'p>(counter: &'p Option<Box<Var>>, found: &mut FoundNames<'p>)
     }
 }
 
-/// Appends the names that a command reads.
+/// Adds the names that a command reads.
 pub(crate) fn list_reads<'p>(command: &'p Command, found: &mut FoundNames<'p>)
     ensures adds { Adds (names_in found.old) (reads (command_tree command.now)) (names_in found.new) }
 {
@@ -179,7 +179,7 @@ pub(crate) fn list_reads<'p>(command: &'p Command, found: &mut FoundNames<'p>)
     }
 }
 
-/// Appends the names of UNSET.
+/// Adds the names of UNSET.
 pub(crate) fn list_unsets<'p>(command: &'p Command, found: &mut FoundNames<'p>)
     ensures adds { Adds (names_in found.old) (unsets (command_tree command.now)) (names_in found.new) }
 {
@@ -191,7 +191,7 @@ pub(crate) fn list_unsets<'p>(command: &'p Command, found: &mut FoundNames<'p>)
     }
 }
 
-/// Appends the names that INT, REGEX and SET give a value.
+/// Adds the names that INT, REGEX and SET give a value.
 pub(crate) fn list_sets<'p>(command: &'p Command, found: &mut FoundNames<'p>)
     ensures adds { Adds (names_in found.old) (sets (command_tree command.now)) (names_in found.new) }
 {
@@ -205,7 +205,7 @@ pub(crate) fn list_sets<'p>(command: &'p Command, found: &mut FoundNames<'p>)
     }
 }
 
-/// Appends the name of the counter of a loop.
+/// Adds the name of the counter of a loop.
 pub(crate) fn list_counts<'p>(command: &'p Command, found: &mut FoundNames<'p>)
     ensures adds { Adds (names_in found.old) (counts (command_tree command.now)) (names_in found.new) }
 {

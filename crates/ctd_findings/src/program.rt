@@ -20,7 +20,7 @@ use ctd_token::Place;
 use ctd_value::Store;
 use std::alloc::{AllocError, Global};
 
-/// Appends the names that some commands read.
+/// Adds the names that some commands read.
 fn list_all_reads<'p>(commands: &[CommandInBlock<'p>], names: &mut FoundNames<'p>)
     ensures adds { Adds (names_in names.old) (all_reads (in_blocks commands.now)) (names_in names.new) }
 {
@@ -38,7 +38,7 @@ fn read_names<'p>(alloc: Global, commands: &[CommandInBlock<'p>]) -> Result<Name
     NameSet::of(alloc, names.finish()?.as_slice())
 }
 
-/// Appends the names to which some commands give a value.
+/// Adds the names to which some commands give a value.
 fn list_given<'p>(commands: &[CommandInBlock<'p>], names: &mut FoundNames<'p>)
     ensures adds { Adds (names_in names.old) (all_given (in_blocks commands.now)) (names_in names.new) }
 {
@@ -48,7 +48,7 @@ fn list_given<'p>(commands: &[CommandInBlock<'p>], names: &mut FoundNames<'p>)
     }
 }
 
-/// Appends the names of presets.
+/// Adds the names of presets.
 fn list_presets<'p>(presets: &'p Presets, names: &mut FoundNames<'p>)
     ensures adds { Adds (names_in names.old) (preset_names presets.now) (names_in names.new) }
 {
