@@ -2,13 +2,9 @@
 use Rattle.std.proofs.Common.{◌≡◌, ℕ, ◌+◌, ◌<◌, List, ◌∷◌, ◌++◌, length, drop, get_or, Result, Ok, Err, OnOk, sym, ap, ◌∙◌, append_assoc}
 use Rattle.std.proofs.lemmas.List.{at_drop_more}
 
--- two parts, one after the other
-pub two_parts : {A : Type 0} (old mid new xs ys : List A) → mid ≡ old ++ xs → new ≡ mid ++ ys → new ≡ old ++ (xs ++ ys)
-two_parts old mid new xs ys first second = second ∙ ap (λ l. l ++ ys) first ∙ append_assoc old xs ys
-
 -- one part and then another
 pub both : {A E : Type 0} (r : Result (Unit {0}) E) (old mid new xs ys all : List A) → mid ≡ old ++ xs → OnOk r (new ≡ mid ++ ys) → all ≡ xs ++ ys → OnOk r (new ≡ old ++ all)
-both (Ok x) old mid new xs ys all first second is = two_parts old mid new xs ys first second ∙ ap (λ l. old ++ l) (sym is)
+both (Ok x) old mid new xs ys all first second is = second ∙ ap (λ l. l ++ ys) first ∙ append_assoc old xs ys ∙ ap (λ l. old ++ l) (sym is)
 both (Err e) old mid new xs ys all first second is = tt
 
 -- what is left of a list, and the part that its next element adds; what is made of the rest may depend on this element
