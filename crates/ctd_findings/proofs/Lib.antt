@@ -3,4 +3,4 @@ pub mod Trees
 pub mod Parts
 pub mod Everywhere
 pub mod Ends
-pub mod FoundNames
+pub mod Additions

@@ -1,6 +1,5 @@
 -- What stands in loops and IF, by what their boxes hold.
-use Rattle.std.proofs.Common.{◌≡◌, refl, List, [], ◌∷◌, ◌++◌, Option, None, Some, sym, ap, ap₂, ◌∙◌, append_assoc}
-use Rattle.std.proofs.lemmas.List.{map-append}
+use Rattle.std.proofs.Common.{◌≡◌, refl, List, [], ◌∷◌, ◌++◌, None, sym, ap, ap₂, ◌∙◌}
 use Rattle.std.specs.Global.{Box}
 use Rattle.ctd_token.specs.declared.text.Place.{Place}
 use Rattle.ctd_program.specs.declared.tree.Command.{Command}
@@ -13,13 +12,11 @@ use Rattle.ctd_program.specs.declared.tree.Choice.{Choice, Choice', out-Choice}
 use Rattle.ctd_program.specs.declared.tree.Expr.{Expr}
 use Rattle.ctd_program.specs.declared.tree.Expr.TheVariants.{Element}
 use Rattle.ctd_program.specs.declared.tree.Element as elements
-use Rattle.ctd_findings.specs.inner.Listed.{in_block, in_blocks}
-use Rattle.ctd_program.specs.calls.View.{action_tree, command_list, command_tree, command_trees, commands_of, expr_list, expr_tree, exprs_of}
+use Rattle.ctd_program.specs.calls.View.{action_tree, command_list, command_trees, commands_of, expr_list, expr_tree, exprs_of}
 use Rattle.ctd_program.specs.inner.View.{boxed_separator}
 use Rattle.ctd_program.proofs.Trees.{boxed_element, list_commands, loop_tree, choice_tree}
 use Rattle.ctd_program.specs.Tree.{place_of}
-use Rattle.ctd_findings.specs.declared.block.CommandInBlock.{CommandInBlock}
-use Rattle.ctd_findings.specs.calls.Block.{InBlock, commands_behind, commands_within, separator_command}
+use Rattle.ctd_findings.specs.calls.Block.{commands_behind, commands_within, separator_command}
 use Rattle.ctd_findings.specs.calls.Names.{expr_names, index_names}
 
 -- the commands of a block
@@ -35,21 +32,6 @@ pub within_choice : (a : Action) (x : Box Choice) (c : Choice) (place : Place) (
     → commands_within (action_tree a place) ≡ commands_behind None (command_trees cs) ++ commands_behind None (command_trees ds)
 within_choice a x c place cs ds is held then_do else_do = ap commands_within (choice_tree a x c place is held)
     ∙ sym (ap₂ (λ xs ys. xs ++ ys) (block_commands (out-Choice c).then_do cs then_do) (block_commands (out-Choice c).else_do ds else_do))
-
--- a separator, by what its box holds
-pub separator_is : (between : Option (Box Command)) (x : Box Command) (c d : Command) → between ≡ Some x → c ≡ x.value → d ≡ x.value
-    → separator_command (boxed_separator between) ≡ record { previous = None; command = command_tree c } ∷ commands_within (command_tree d)
-separator_is between x c d is held held_too = ap (λ b. separator_command (boxed_separator b)) is
-    ∙ ap₂ (λ c d. record { previous = None; command = command_tree c } ∷ commands_within (command_tree d)) (sym held) (sym held_too)
-
--- a command that is put behind others
-pub put_behind : (old new : List CommandInBlock) (x : CommandInBlock) → new ≡ old ++ x ∷ [] → in_blocks new ≡ in_blocks old ++ in_block x ∷ []
-put_behind old new x is = ap in_blocks is ∙ map-append in_block old (x ∷ [])
-
--- a command that is put behind others, and then those in it
-pub put_with_parts : (old mid new : List CommandInBlock) (x : CommandInBlock) (within : List InBlock) → mid ≡ old ++ x ∷ [] → in_blocks new ≡ in_blocks mid ++ within
-    → in_blocks new ≡ in_blocks old ++ in_block x ∷ within
-put_with_parts old mid new x within put parts = parts ∙ ap (λ l. l ++ within) (put_behind old mid x put) ∙ append_assoc (in_blocks old) (in_block x ∷ []) within
 
 -- the names in an element, by what its box holds
 pub element_names : (e : Expr) (x : Box elements.Element) (el indexed : elements.Element) (es : List Expr) → e ≡ Element x → el ≡ x.value → indexed ≡ x.value → es ≡ exprs_of indexed.indices

@@ -1,11 +1,13 @@
 //! The commands of a program, one after the other.
 
-ghost use Rattle.std.specs.Prelude.{◌≡◌, ◌++◌, None, OnOk, IfOk};
+ghost use Rattle.std.specs.Prelude.{◌≡◌, None, IfOk};
 ghost use Rattle.ctd_program.specs.inner.View.{boxed_separator};
 ghost use Rattle.ctd_program.specs.calls.View.{command_tree, command_trees};
 ghost use Rattle.ctd_findings.specs.calls.Block.{all_commands, commands_behind, commands_within, separator_command};
+ghost use Rattle.ctd_findings.specs.inner.Found.{Adds, blocks_in};
 ghost use Rattle.ctd_findings.specs.inner.Listed.{in_blocks};
 
+use crate::found::Found;
 use ctd_program::{Action, Choice, Command, Loop};
 use std::alloc::{AllocError, Global};
 
@@ -16,38 +18,31 @@ pub(crate) struct CommandInBlock<'p> {
     pub(crate) command: &'p Command,
 }
 
-/// Appends the commands of a list, and those in them.
+/// Adds the commands of a list, and those in them.
 #[cycle(block)]
-fn list_block<'p>(
-    commands: &'p [Command],
-    found: &mut Vec<CommandInBlock<'p>>,
-) -> Result<(), AllocError>
-    ensures lists { OnOk result (in_blocks found.new.items ≡ in_blocks found.old.items ++ commands_behind None (command_trees commands.now)) }
+fn list_block<'p>(commands: &'p [Command], found: &mut Found<CommandInBlock<'p>>)
+    ensures adds { Adds (blocks_in found.old) (commands_behind None (command_trees commands.now)) (blocks_in found.new) }
 {
     let mut previous = None;
     for command in commands {
-        found.push(CommandInBlock { previous, command })?;
-        list_within(command, found)?;
+        found.add(CommandInBlock { previous, command });
+        list_within(command, found);
         previous = Some(command);
     }
-    Ok(())
 }
 
-/// Appends the commands in a command.
+/// Adds the commands in a command.
 #[cycle(block)]
-fn list_within<'p>(
-    command: &'p Command,
-    found: &mut Vec<CommandInBlock<'p>>,
-) -> Result<(), AllocError>
-    ensures lists { OnOk result (in_blocks found.new.items ≡ in_blocks found.old.items ++ commands_within (command_tree command.now)) }
+fn list_within<'p>(command: &'p Command, found: &mut Found<CommandInBlock<'p>>)
+    ensures adds { Adds (blocks_in found.old) (commands_within (command_tree command.now)) (blocks_in found.new) }
 {
     match &command.action {
-        Action::Space | Action::Newline | Action::Eof => Ok(()),
-        Action::Int(_) | Action::String(_) | Action::Regex(_) => Ok(()),
-        Action::Assert(_) | Action::Set(_) | Action::Unset(_) => Ok(()),
+        Action::Space | Action::Newline | Action::Eof => (),
+        Action::Int(_) | Action::String(_) | Action::Regex(_) => (),
+        Action::Assert(_) | Action::Set(_) | Action::Unset(_) => (),
         Action::Loop(repeated) => {
             let Loop { between, body, .. } = &**repeated;
-            list_separator(between, found)?;
+            list_separator(between, found);
             list_block(body.as_slice(), found)
         }
         Action::If(choice) => {
@@ -56,29 +51,26 @@ fn list_within<'p>(
                 else_do,
                 ..
             } = &**choice;
-            list_block(then_do.as_slice(), found)?;
+            list_block(then_do.as_slice(), found);
             list_block(else_do.as_slice(), found)
         }
     }
 }
 
-/// Appends a separator, if there is one.
+/// Adds a separator, if there is one.
 #[cycle(block)]
-fn list_separator<'p>(
-    between: &'p Option<Box<Command>>,
-    found: &mut Vec<CommandInBlock<'p>>,
-) -> Result<(), AllocError>
-    ensures lists { OnOk result (in_blocks found.new.items ≡ in_blocks found.old.items ++ separator_command (boxed_separator between.now)) }
+fn list_separator<'p>(between: &'p Option<Box<Command>>, found: &mut Found<CommandInBlock<'p>>)
+    ensures adds { Adds (blocks_in found.old) (separator_command (boxed_separator between.now)) (blocks_in found.new) }
 {
     match between {
         Some(command) => {
-            found.push(CommandInBlock {
+            found.add(CommandInBlock {
                 previous: None,
                 command,
-            })?;
+            });
             list_within(command, found)
         }
-        None => Ok(()),
+        None => (),
     }
 }
 
@@ -89,7 +81,7 @@ pub(crate) fn all_commands(
 ) -> Result<Vec<CommandInBlock<'_>>, AllocError>
     ensures all { IfOk result (λ found. in_blocks found.items ≡ all_commands (command_trees commands.now)) }
 {
-    let mut found = Vec::new(alloc);
-    list_block(commands, &mut found)?;
-    Ok(found)
+    let mut found = Found::new(alloc);
+    list_block(commands, &mut found);
+    found.finish()
 }

@@ -11,7 +11,7 @@ ghost use Rattle.std.specs.Option.{option_and_then};
 
 use crate::block::CommandInBlock;
 use crate::finding::Warning;
-use crate::found_names::FoundNames;
+use crate::found::Found;
 use crate::literal::{literal_number, literal_truth};
 use crate::name_set::NameSet;
 use crate::names::{list_reads, list_sets, list_unsets};
@@ -215,7 +215,7 @@ fn list_names<'p>(
         ++ warn_unknown Warning.NoValue (λ name. has_name name known.now.given) (reads (command_tree command.now) ++ unsets (command_tree command.now))
         ++ warn_unknown Warning.NeverRead (λ name. has_name name known.now.read) (sets (command_tree command.now))) }
 {
-    let mut needed = FoundNames::new(alloc);
+    let mut needed = Found::new(alloc);
     list_reads(command, &mut needed);
     list_unsets(command, &mut needed);
     list_unknown(
@@ -225,7 +225,7 @@ fn list_names<'p>(
         Lack::Value,
         found,
     )?;
-    let mut set = FoundNames::new(alloc);
+    let mut set = Found::new(alloc);
     list_sets(command, &mut set);
     list_unknown(
         alloc,

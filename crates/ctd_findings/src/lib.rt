@@ -4,7 +4,7 @@
 mod block;
 mod command;
 mod finding;
-mod found_names;
+mod found;
 mod laws;
 mod literal;
 mod name_set;

@@ -1,25 +1,32 @@
 //! The names in expressions and tests, and those that a command reads or gives a value.
 
-ghost use Rattle.std.specs.Prelude.{◌++◌};
+ghost use Rattle.std.specs.Prelude.{◌++◌, ◌∷◌, []};
 ghost use Rattle.ctd_program.specs.calls.View.{boxed_target, command_tree, expr_list, expr_tree, guard_tree, target, test_tree};
 ghost use Rattle.ctd_findings.specs.inner.Found.{Adds, names_in};
 ghost use Rattle.ctd_findings.specs.inner.Listed.{assigned_trees};
 ghost use Rattle.ctd_findings.specs.calls.Names.{assignment_names, assignment_reads, counts, expr_names, guard_names, index_names, reads, sets, target_name, target_reads, test_names, unsets};
 
-use crate::found_names::FoundNames;
+use crate::found::Found;
 use ctd_program::{Action, Assignment, Command, Expr, IntArguments, LoopGuard, Test, Var};
 use ctd_token::Name;
 
+/// Adds a name.
+pub(crate) fn list_name<'p>(name: &'p Name, found: &mut Found<&'p Name>)
+    ensures adds { Adds (names_in found.old) (name.now ∷ []) (names_in found.new) }
+{
+    found.add(name);
+}
+
 /// Adds the names in an expression.
 #[cycle(expr_names)]
-fn list_expr<'p>(e: &'p Expr, found: &mut FoundNames<'p>)
+fn list_expr<'p>(e: &'p Expr, found: &mut Found<&'p Name>)
     ensures adds { Adds (names_in found.old) (expr_names (expr_tree e.now)) (names_in found.new) }
 {
     match e {
-        Expr::Name(name) => found.add(name),
+        Expr::Name(name) => list_name(name, found),
         Expr::Numeral(_) | Expr::Text(_) => (),
         Expr::Element(element) => {
-            found.add(&element.name);
+            list_name(&element.name, found);
             list_indices(element.indices.as_slice(), found)
         }
         Expr::Strlen(e) | Expr::Minus(e) => list_expr(e, found),
@@ -37,7 +44,7 @@ fn list_expr<'p>(e: &'p Expr, found: &mut FoundNames<'p>)
 
 /// Adds the names in indices.
 #[cycle(expr_names)]
-fn list_indices<'p>(indices: &'p [Expr], found: &mut FoundNames<'p>)
+fn list_indices<'p>(indices: &'p [Expr], found: &mut Found<&'p Name>)
     ensures adds { Adds (names_in found.old) (index_names (expr_list indices.now)) (names_in found.new) }
 {
     for index in indices {
@@ -46,7 +53,7 @@ fn list_indices<'p>(indices: &'p [Expr], found: &mut FoundNames<'p>)
 }
 
 /// Adds the names in two expressions.
-fn list_both<'p>(a: &'p Expr, b: &'p Expr, found: &mut FoundNames<'p>)
+fn list_both<'p>(a: &'p Expr, b: &'p Expr, found: &mut Found<&'p Name>)
     ensures adds { Adds (names_in found.old) (expr_names (expr_tree a.now) ++ expr_names (expr_tree b.now)) (names_in found.new) }
 {
     list_expr(a, found);
@@ -54,16 +61,16 @@ fn list_both<'p>(a: &'p Expr, b: &'p Expr, found: &mut FoundNames<'p>)
 }
 
 /// Adds names.
-fn list_all<'p>(names: &'p [Name], found: &mut FoundNames<'p>)
+fn list_all<'p>(names: &'p [Name], found: &mut Found<&'p Name>)
     ensures adds { Adds (names_in found.old) names.now (names_in found.new) }
 {
     for name in names {
-        found.add(name);
+        list_name(name, found);
     }
 }
 
 /// Adds the names in a test.
-fn list_test<'p>(t: &'p Test, found: &mut FoundNames<'p>)
+fn list_test<'p>(t: &'p Test, found: &mut Found<&'p Name>)
     ensures adds { Adds (names_in found.old) (test_names (test_tree t.now)) (names_in found.new) }
 {
     match t {
@@ -78,13 +85,13 @@ fn list_test<'p>(t: &'p Test, found: &mut FoundNames<'p>)
         Test::Unique(names) => list_all(names.as_slice(), found),
         Test::InArray(e, name) => {
             list_expr(e, found);
-            found.add(name)
+            list_name(name, found)
         }
     }
 }
 
 /// Adds the names that are read where a variable is set.
-fn list_target_reads<'p>(variable: &'p Option<Var>, found: &mut FoundNames<'p>)
+fn list_target_reads<'p>(variable: &'p Option<Var>, found: &mut Found<&'p Name>)
     ensures adds { Adds (names_in found.old) (target_reads (target variable.now)) (names_in found.new) }
 {
     match variable {
@@ -94,17 +101,17 @@ fn list_target_reads<'p>(variable: &'p Option<Var>, found: &mut FoundNames<'p>)
 }
 
 /// Adds the name of a variable, if there is one.
-fn list_target<'p>(variable: &'p Option<Var>, found: &mut FoundNames<'p>)
+fn list_target<'p>(variable: &'p Option<Var>, found: &mut Found<&'p Name>)
     ensures adds { Adds (names_in found.old) (target_name (target variable.now)) (names_in found.new) }
 {
     match variable {
-        Some(v) => found.add(&v.name),
+        Some(v) => list_name(&v.name, found),
         None => (),
     }
 }
 
 /// Adds the names that are read in assignments.
-fn list_assignment_reads<'p>(assignments: &'p [Assignment], found: &mut FoundNames<'p>)
+fn list_assignment_reads<'p>(assignments: &'p [Assignment], found: &mut Found<&'p Name>)
     ensures adds { Adds (names_in found.old) (assignment_reads (assigned_trees assignments.now)) (names_in found.new) }
 {
     for a in assignments {
@@ -114,16 +121,16 @@ fn list_assignment_reads<'p>(assignments: &'p [Assignment], found: &mut FoundNam
 }
 
 /// Adds the names that assignments set.
-fn list_assignments<'p>(assignments: &'p [Assignment], found: &mut FoundNames<'p>)
+fn list_assignments<'p>(assignments: &'p [Assignment], found: &mut Found<&'p Name>)
     ensures adds { Adds (names_in found.old) (assignment_names (assigned_trees assignments.now)) (names_in found.new) }
 {
     for a in assignments {
-        found.add(&a.target.name);
+        list_name(&a.target.name, found);
     }
 }
 
 /// Adds the names that are read for what INT takes.
-fn list_int<'p>(int: &'p IntArguments, found: &mut FoundNames<'p>)
+fn list_int<'p>(int: &'p IntArguments, found: &mut Found<&'p Name>)
     ensures adds { Adds (names_in found.old) (expr_names (expr_tree int.now.low) ++ expr_names (expr_tree int.now.high) ++ target_reads (target int.now.target)) (names_in found.new) }
 {
     list_both(&int.low, &int.high, found);
@@ -131,7 +138,7 @@ fn list_int<'p>(int: &'p IntArguments, found: &mut FoundNames<'p>)
 }
 
 /// Adds the names in the head of a loop.
-fn list_guard<'p>(guard: &'p LoopGuard, found: &mut FoundNames<'p>)
+fn list_guard<'p>(guard: &'p LoopGuard, found: &mut Found<&'p Name>)
     ensures adds { Adds (names_in found.old) (guard_names (guard_tree guard.now)) (names_in found.new) }
 {
     match guard {
@@ -141,7 +148,7 @@ fn list_guard<'p>(guard: &'p LoopGuard, found: &mut FoundNames<'p>)
 }
 
 /// Adds the names that are read where a counter is set.
-fn list_counter_reads<'p>(counter: &'p Option<Box<Var>>, found: &mut FoundNames<'p>)
+fn list_counter_reads<'p>(counter: &'p Option<Box<Var>>, found: &mut Found<&'p Name>)
     ensures adds { Adds (names_in found.old) (target_reads (boxed_target counter.now)) (names_in found.new) }
 {
     match counter {
@@ -151,17 +158,17 @@ fn list_counter_reads<'p>(counter: &'p Option<Box<Var>>, found: &mut FoundNames<
 }
 
 /// Adds the name of a counter, if there is one.
-fn list_counter<'p>(counter: &'p Option<Box<Var>>, found: &mut FoundNames<'p>)
+fn list_counter<'p>(counter: &'p Option<Box<Var>>, found: &mut Found<&'p Name>)
     ensures adds { Adds (names_in found.old) (target_name (boxed_target counter.now)) (names_in found.new) }
 {
     match counter {
-        Some(v) => found.add(&v.name),
+        Some(v) => list_name(&v.name, found),
         None => (),
     }
 }
 
 /// Adds the names that a command reads.
-pub(crate) fn list_reads<'p>(command: &'p Command, found: &mut FoundNames<'p>)
+pub(crate) fn list_reads<'p>(command: &'p Command, found: &mut Found<&'p Name>)
     ensures adds { Adds (names_in found.old) (reads (command_tree command.now)) (names_in found.new) }
 {
     match &command.action {
@@ -180,7 +187,7 @@ pub(crate) fn list_reads<'p>(command: &'p Command, found: &mut FoundNames<'p>)
 }
 
 /// Adds the names of UNSET.
-pub(crate) fn list_unsets<'p>(command: &'p Command, found: &mut FoundNames<'p>)
+pub(crate) fn list_unsets<'p>(command: &'p Command, found: &mut Found<&'p Name>)
     ensures adds { Adds (names_in found.old) (unsets (command_tree command.now)) (names_in found.new) }
 {
     match &command.action {
@@ -192,7 +199,7 @@ pub(crate) fn list_unsets<'p>(command: &'p Command, found: &mut FoundNames<'p>)
 }
 
 /// Adds the names that INT, REGEX and SET give a value.
-pub(crate) fn list_sets<'p>(command: &'p Command, found: &mut FoundNames<'p>)
+pub(crate) fn list_sets<'p>(command: &'p Command, found: &mut Found<&'p Name>)
     ensures adds { Adds (names_in found.old) (sets (command_tree command.now)) (names_in found.new) }
 {
     match &command.action {
@@ -206,7 +213,7 @@ pub(crate) fn list_sets<'p>(command: &'p Command, found: &mut FoundNames<'p>)
 }
 
 /// Adds the name of the counter of a loop.
-pub(crate) fn list_counts<'p>(command: &'p Command, found: &mut FoundNames<'p>)
+pub(crate) fn list_counts<'p>(command: &'p Command, found: &mut Found<&'p Name>)
     ensures adds { Adds (names_in found.old) (counts (command_tree command.now)) (names_in found.new) }
 {
     match &command.action {

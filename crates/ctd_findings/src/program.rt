@@ -12,16 +12,16 @@ ghost use Rattle.ctd_findings.specs.calls.Names.{all_given, all_reads, is_among,
 use crate::block::{CommandInBlock, all_commands};
 use crate::command::{Known, command_warnings};
 use crate::finding::{Finding, Warning};
-use crate::found_names::FoundNames;
+use crate::found::Found;
 use crate::name_set::NameSet;
-use crate::names::{list_counts, list_reads, list_sets};
+use crate::names::{list_counts, list_name, list_reads, list_sets};
 use ctd_program::{Command, Presets};
-use ctd_token::Place;
+use ctd_token::{Name, Place};
 use ctd_value::Store;
 use std::alloc::{AllocError, Global};
 
 /// Adds the names that some commands read.
-fn list_all_reads<'p>(commands: &[CommandInBlock<'p>], names: &mut FoundNames<'p>)
+fn list_all_reads<'p>(commands: &[CommandInBlock<'p>], names: &mut Found<&'p Name>)
     ensures adds { Adds (names_in names.old) (all_reads (in_blocks commands.now)) (names_in names.new) }
 {
     for entry in commands {
@@ -33,13 +33,13 @@ fn list_all_reads<'p>(commands: &[CommandInBlock<'p>], names: &mut FoundNames<'p
 fn read_names<'p>(alloc: Global, commands: &[CommandInBlock<'p>]) -> Result<NameSet<'p>, AllocError>
     ensures members { IfOk result (λ set. (name : List ℕ) → has_name name set ≡ is_among name (all_reads (in_blocks commands.now))) }
 {
-    let mut names = FoundNames::new(alloc);
+    let mut names = Found::new(alloc);
     list_all_reads(commands, &mut names);
     NameSet::of(alloc, names.finish()?.as_slice())
 }
 
 /// Adds the names to which some commands give a value.
-fn list_given<'p>(commands: &[CommandInBlock<'p>], names: &mut FoundNames<'p>)
+fn list_given<'p>(commands: &[CommandInBlock<'p>], names: &mut Found<&'p Name>)
     ensures adds { Adds (names_in names.old) (all_given (in_blocks commands.now)) (names_in names.new) }
 {
     for entry in commands {
@@ -49,11 +49,11 @@ fn list_given<'p>(commands: &[CommandInBlock<'p>], names: &mut FoundNames<'p>)
 }
 
 /// Adds the names of presets.
-fn list_presets<'p>(presets: &'p Presets, names: &mut FoundNames<'p>)
+fn list_presets<'p>(presets: &'p Presets, names: &mut Found<&'p Name>)
     ensures adds { Adds (names_in names.old) (preset_names presets.now) (names_in names.new) }
 {
     for preset in presets.pins() {
-        names.add(&preset.name);
+        list_name(&preset.name, names);
     }
 }
 
@@ -65,7 +65,7 @@ fn given_names<'p>(
 ) -> Result<NameSet<'p>, AllocError>
     ensures members { IfOk result (λ set. (name : List ℕ) → has_name name set ≡ is_among name (all_given (in_blocks commands.now) ++ preset_names presets.now)) }
 {
-    let mut names = FoundNames::new(alloc);
+    let mut names = Found::new(alloc);
     list_given(commands, &mut names);
     list_presets(presets, &mut names);
     NameSet::of(alloc, names.finish()?.as_slice())

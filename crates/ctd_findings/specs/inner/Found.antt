@@ -1,15 +1,30 @@
--- Names that are found one after the other, as long as there is memory for them.
-use Rattle.std.specs.Prelude.{◌≡◌, ◌++◌, Option, Some, None, if◌then◌else◌}
-use Rattle.ctd_findings.specs.declared.found_names.FoundNames.{FoundNames}
+-- What is found piece by piece, as long as there is memory for it.
+use Rattle.std.specs.Prelude.{◌≡◌, ◌++◌, ℕ, List, Option, Some, None, if◌then◌else◌}
+use Rattle.std.specs.Borrow.{Bor}
+use Rattle.ctd_findings.specs.declared.found.Found.{Found}
+use Rattle.ctd_findings.specs.declared.block.CommandInBlock.{CommandInBlock}
+use Rattle.ctd_findings.specs.calls.Block.{InBlock}
 use Rattle.ctd_findings.specs.calls.Names.{NameList}
-use Rattle.ctd_findings.specs.inner.Listed.{names_at}
+use Rattle.ctd_findings.specs.inner.Listed.{in_blocks, names_at}
 
--- the names that were found; none of them once memory ran out for one
-abbrev pub names_in : FoundNames → Option NameList
-names_in found = if found.is_complete then Some (names_at found.names.items) else None
+-- what was found, as a view of the items has it; nothing once memory ran out for one
+abbrev pub seen_in : {T U : Type 0} → (List T → List U) → Found T → Option (List U)
+seen_in view found = if found.is_complete then Some (view found.items.items) else None
 
--- some names are found in addition, unless memory runs out
-abbrev pub Adds : Option NameList → NameList → Option NameList → Type 0
+-- the items themselves
+abbrev pub items_in : {T : Type 0} → Found T → Option (List T)
+items_in found = seen_in (λ items. items) found
+
+-- the names behind references
+abbrev pub names_in : Found (Bor (List ℕ)) → Option NameList
+names_in found = seen_in names_at found
+
+-- the commands behind references
+abbrev pub blocks_in : Found CommandInBlock → Option (List InBlock)
+blocks_in found = seen_in in_blocks found
+
+-- more is found, unless memory runs out
+abbrev pub Adds : {U : Type 0} → Option (List U) → List U → Option (List U) → Type 0
 Adds before part None = Unit {0}
 Adds None part (Some after) = ⊥
 Adds (Some before) part (Some after) = after ≡ before ++ part

@@ -1,13 +1,13 @@
 use Rattle.std.proofs.Common.{[], ◌∷◌}
 use Rattle.ctd_program.specs.calls.View.{expr_list}
 use Rattle.ctd_findings.specs.calls.Names.{index_names}
-use Rattle.ctd_findings.proofs.FoundNames.{adds_both}
+use Rattle.ctd_findings.proofs.Additions.{adds_both}
 use Rattle.ctd_findings.proofs.Trees.{element_names}
 use Rattle.ctd_findings.proofs.names.+expr_names.Goals as goal
 
 pub list_expr-returns-in-Element : goal.list_expr-returns-in-Element
 list_expr-returns-in-Element t c = record {
   adds = adds_both _ _ _ (c.deref.result.now.name ∷ []) (index_names (expr_list c.as_slice.result.now)) _
-      c.add-in-Element.ensures.adds c.list_indices.ensures.adds
+      c.list_name-in-Element.ensures.adds c.list_indices.ensures.adds
       (element_names c.args.e.now c.in-Element.element c.deref.result.now c.deref-in-Element.result.now c.as_slice.result.now c.in-Element.is c.deref.ensures c.deref-in-Element.ensures c.as_slice.ensures);
 }

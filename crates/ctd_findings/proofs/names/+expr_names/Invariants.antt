@@ -2,7 +2,7 @@ use Rattle.std.proofs.Common.{drop}
 use Rattle.ctd_program.specs.calls.View.{expr_list}
 use Rattle.ctd_findings.specs.calls.Names.{index_names}
 use Rattle.ctd_findings.specs.inner.Found.{names_in}
-use Rattle.ctd_findings.proofs.FoundNames.{Leads}
+use Rattle.ctd_findings.proofs.Additions.{Leads}
 use Rattle.ctd_findings.proofs.names.+expr_names.Given as goal
 
 abbrev pub invariant-list_indices-loop-index : goal.invariant-list_indices-loop-index

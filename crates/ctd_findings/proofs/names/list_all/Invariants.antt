@@ -1,6 +1,6 @@
 use Rattle.std.proofs.Common.{drop}
 use Rattle.ctd_findings.specs.inner.Found.{names_in}
-use Rattle.ctd_findings.proofs.FoundNames.{Leads}
+use Rattle.ctd_findings.proofs.Additions.{Leads}
 use Rattle.ctd_findings.proofs.names.list_all.Given as goal
 
 abbrev pub invariant-loop-name : goal.invariant-loop-name

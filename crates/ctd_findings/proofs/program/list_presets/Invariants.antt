@@ -1,7 +1,7 @@
 use Rattle.std.proofs.Common.{drop}
 use Rattle.ctd_findings.specs.calls.Names.{preset_names}
 use Rattle.ctd_findings.specs.inner.Found.{names_in}
-use Rattle.ctd_findings.proofs.FoundNames.{Leads}
+use Rattle.ctd_findings.proofs.Additions.{Leads}
 use Rattle.ctd_findings.proofs.program.list_presets.Given as goal
 
 abbrev pub invariant-loop-preset : goal.invariant-loop-preset

@@ -1,0 +1,45 @@
+//! What is found piece by piece.
+
+ghost use Rattle.std.specs.Prelude.{◌≡◌, ◌∷◌, [], IfOk, Some};
+ghost use Rattle.ctd_findings.specs.inner.Found.{Adds, items_in};
+
+use std::alloc::{AllocError, Global};
+
+/// Items that are found one after the other. Once memory ran out for one, they are not complete, and `finish` says so.
+#[derive(Drop)]
+pub(crate) struct Found<T> {
+    items: Vec<T>,
+    is_complete: bool,
+}
+
+impl<T: Drop> Found<T> {
+    /// No items.
+    pub(crate) fn new(alloc: Global) -> Found<T>
+        ensures empty { items_in result ≡ Some [] }
+    {
+        Found {
+            items: Vec::new(alloc),
+            is_complete: true,
+        }
+    }
+
+    /// Adds an item.
+    pub(crate) fn add(&mut self, item: T)
+        ensures adds { Adds (items_in self.old) (item ∷ []) (items_in self.new) }
+    {
+        if self.items.push(item).is_err() {
+            self.is_complete = false;
+        }
+    }
+
+    /// The items; an error where memory ran out for one.
+    pub(crate) fn finish(self) -> Result<Vec<T>, AllocError>
+        ensures all { IfOk result (λ items. items_in self ≡ Some items.items) }
+    {
+        if self.is_complete {
+            Ok(self.items)
+        } else {
+            Err(AllocError)
+        }
+    }
+}
