@@ -3,6 +3,7 @@
 ghost use Rattle.std.specs.Prelude.{◌≡◌, ◌++◌, OnOk, IfOk};
 ghost use Rattle.ctd_program.specs.calls.View.{command_tree, expr_tree, guard_tree, test_tree};
 ghost use Rattle.ctd_findings.specs.calls.Findings.{command_warnings, follows_endless, guard_test, is_above, is_empty_text, is_endless, is_known_true, loop_test, outline_warnings, own_warnings, truth_warning, warn_if, warn_unknown};
+ghost use Rattle.ctd_findings.specs.inner.Found.{Adds, items_in};
 ghost use Rattle.ctd_findings.specs.inner.Listed.{command_at, has_name, in_block, lack_warning, names_at, test_at};
 ghost use Rattle.ctd_findings.specs.calls.Names.{reads, sets, unsets};
 ghost use Rattle.ctd_findings.specs.calls.Literal.{literal_number, literal_truth, no_variables};
@@ -29,14 +30,13 @@ pub(crate) struct Known<'p> {
     pub(crate) nothing: Store,
 }
 
-/// Appends a warning where this is so.
-fn warn_if(is_so: bool, warning: Warning, found: &mut Vec<Warning>) -> Result<(), AllocError>
-    ensures lists { OnOk result (found.new.items ≡ found.old.items ++ warn_if is_so warning) }
+/// Adds a warning where this is so.
+fn warn_if(is_so: bool, warning: Warning, found: &mut Found<Warning>)
+    ensures adds { Adds (items_in found.old) (warn_if is_so warning) (items_in found.new) }
 {
     if is_so {
-        found.push(warning)?;
+        found.add(warning);
     }
-    Ok(())
 }
 
 /// What nothing in a program does with a name.
@@ -58,20 +58,20 @@ fn lack_warning(lack: Lack, name: Bytes) -> Warning
     }
 }
 
-/// Appends a warning for each name that is not known.
+/// Adds a warning for each name that is not known.
 fn list_unknown<'p>(
     alloc: Global,
     names: &[&'p Name],
     known: &NameSet<'p>,
     lack: Lack,
-    found: &mut Vec<Warning>,
+    found: &mut Found<Warning>,
 ) -> Result<(), AllocError>
-    ensures lists { OnOk result (found.new.items ≡ found.old.items ++ warn_unknown (lack_warning lack) (λ name. has_name name known.now) (names_at names.now)) }
+    ensures adds { OnOk result (Adds (items_in found.old) (warn_unknown (lack_warning lack) (λ name. has_name name known.now) (names_at names.now)) (items_in found.new)) }
 {
     for name in names {
         if !known.contains(name) {
             let name = Bytes::copy(alloc, name.as_slice())?;
-            found.push(lack_warning(lack, name))?;
+            found.add(lack_warning(lack, name));
         }
     }
     Ok(())
@@ -125,19 +125,19 @@ fn follows_endless(
     }
 }
 
-/// Appends a warning where the truth of a test follows from its literals.
+/// Adds a warning where the truth of a test follows from its literals.
 fn list_truth(
     alloc: Global,
     t: Option<&Test>,
     nothing: &Store,
-    found: &mut Vec<Warning>,
+    found: &mut Found<Warning>,
 ) -> Result<(), AllocError>
     requires { nothing.now ≡ no_variables }
-    ensures lists { OnOk result (found.new.items ≡ found.old.items ++ truth_warning (option_and_then literal_truth (test_at t.entry))) }
+    ensures adds { OnOk result (Adds (items_in found.old) (truth_warning (option_and_then literal_truth (test_at t.entry))) (items_in found.new)) }
 {
     match truth_of(alloc, t, nothing)? {
-        Some(true) => found.push(Warning::AlwaysTrue)?,
-        Some(false) => found.push(Warning::AlwaysFalse)?,
+        Some(true) => found.add(Warning::AlwaysTrue),
+        Some(false) => found.add(Warning::AlwaysFalse),
         None => (),
     }
     Ok(())
@@ -168,72 +168,82 @@ fn is_empty_text(e: &Expr) -> bool
     }
 }
 
-/// Appends the warnings of a pattern: what its outline shows.
-fn list_outline(alloc: Global, pattern: &[u8], found: &mut Vec<Warning>) -> Result<(), AllocError>
-    ensures lists { OnOk result (found.new.items ≡ found.old.items ++ outline_warnings (outline pattern.now)) }
+/// Adds the warnings of a pattern, by its outline.
+fn list_outline(form: &[u8], found: &mut Found<Warning>)
+    ensures adds { Adds (items_in found.old) (outline_warnings form.now) (items_in found.new) }
 {
-    let outline = outline(alloc, pattern)?;
-    let form = outline.as_slice();
-    warn_if(starts_with(b'^', form), Warning::StartsWithCaret, found)?;
-    warn_if(ends_with(b'$', form), Warning::EndsWithDollar, found)?;
-    warn_if(repeats_unbounded(form), Warning::Unbounded, found)
+    warn_if(starts_with(b'^', form), Warning::StartsWithCaret, found);
+    warn_if(ends_with(b'$', form), Warning::EndsWithDollar, found);
+    warn_if(repeats_unbounded(form), Warning::Unbounded, found);
 }
 
-/// Appends the warnings that follow from a command alone.
+/// Adds the warnings of a pattern.
+fn list_pattern(alloc: Global, pattern: &[u8], found: &mut Found<Warning>) -> Result<(), AllocError>
+    ensures adds { OnOk result (Adds (items_in found.old) (outline_warnings (outline pattern.now)) (items_in found.new)) }
+{
+    let form = outline(alloc, pattern)?;
+    list_outline(form.as_slice(), found);
+    Ok(())
+}
+
+/// Adds the warnings that follow from a command alone.
 fn list_own(
     alloc: Global,
     command: &Command,
     nothing: &Store,
-    found: &mut Vec<Warning>,
+    found: &mut Found<Warning>,
 ) -> Result<(), AllocError>
     requires { nothing.now ≡ no_variables }
-    ensures lists { OnOk result (found.new.items ≡ found.old.items ++ own_warnings (command_tree command.now)) }
+    ensures adds { OnOk result (Adds (items_in found.old) (own_warnings (command_tree command.now)) (items_in found.new)) }
 {
     match &command.action {
         Action::Space | Action::Newline | Action::Eof => Ok(()),
         Action::Set(_) | Action::Unset(_) => Ok(()),
         Action::Int(int) => {
             let is_empty = is_above(alloc, &int.low, &int.high, nothing)?;
-            warn_if(is_empty, Warning::EmptyRange, found)
+            warn_if(is_empty, Warning::EmptyRange, found);
+            Ok(())
         }
-        Action::String(e) => warn_if(is_empty_text(e), Warning::EmptyString, found),
-        Action::Regex(regex) => list_outline(alloc, regex.literal.bytes.as_slice(), found),
+        Action::String(e) => {
+            warn_if(is_empty_text(e), Warning::EmptyString, found);
+            Ok(())
+        }
+        Action::Regex(regex) => list_pattern(alloc, regex.literal.bytes.as_slice(), found),
         Action::Assert(t) => list_truth(alloc, Some(t), nothing, found),
         Action::Loop(repeated) => list_truth(alloc, guard_test(&repeated.guard), nothing, found),
         Action::If(choice) => list_truth(alloc, Some(&choice.condition), nothing, found),
     }
 }
 
-/// Appends warnings for the names of a command.
-fn list_names<'p>(
+/// Adds a warning for each name that a command reads or unsets and nothing gives a value.
+fn list_without_value<'p>(
     alloc: Global,
     command: &'p Command,
-    known: &Known<'p>,
-    found: &mut Vec<Warning>,
+    given: &NameSet<'p>,
+    found: &mut Found<Warning>,
 ) -> Result<(), AllocError>
-    ensures lists { OnOk result (found.new.items ≡ found.old.items
-        ++ warn_unknown Warning.NoValue (λ name. has_name name known.now.given) (reads (command_tree command.now) ++ unsets (command_tree command.now))
-        ++ warn_unknown Warning.NeverRead (λ name. has_name name known.now.read) (sets (command_tree command.now))) }
+    ensures adds { OnOk result (Adds (items_in found.old) (warn_unknown Warning.NoValue (λ name. has_name name given.now) (reads (command_tree command.now) ++ unsets (command_tree command.now))) (items_in found.new)) }
 {
-    let mut needed = Found::new(alloc);
-    list_reads(command, &mut needed);
-    list_unsets(command, &mut needed);
-    list_unknown(
-        alloc,
-        needed.finish()?.as_slice(),
-        &known.given,
-        Lack::Value,
-        found,
-    )?;
-    let mut set = Found::new(alloc);
-    list_sets(command, &mut set);
-    list_unknown(
-        alloc,
-        set.finish()?.as_slice(),
-        &known.read,
-        Lack::Reader,
-        found,
-    )
+    let mut names = Found::new(alloc);
+    list_reads(command, &mut names);
+    list_unsets(command, &mut names);
+    let names = names.finish()?;
+    list_unknown(alloc, names.as_slice(), given, Lack::Value, found)
+}
+
+/// Adds a warning for each name to which a command gives a value and that nothing reads.
+fn list_unread<'p>(
+    alloc: Global,
+    command: &'p Command,
+    read: &NameSet<'p>,
+    found: &mut Found<Warning>,
+) -> Result<(), AllocError>
+    ensures adds { OnOk result (Adds (items_in found.old) (warn_unknown Warning.NeverRead (λ name. has_name name read.now) (sets (command_tree command.now))) (items_in found.new)) }
+{
+    let mut names = Found::new(alloc);
+    list_sets(command, &mut names);
+    let names = names.finish()?;
+    list_unknown(alloc, names.as_slice(), read, Lack::Reader, found)
 }
 
 /// The warnings of a command.
@@ -245,10 +255,11 @@ pub(crate) fn command_warnings<'p>(
     requires { known.now.nothing ≡ no_variables }
     ensures { IfOk result (λ found. found.items ≡ command_warnings (λ name. has_name name known.now.given) (λ name. has_name name known.now.read) (in_block entry.now)) }
 {
-    let mut found = Vec::new(alloc);
+    let mut found = Found::new(alloc);
     let is_unreachable = follows_endless(alloc, entry.previous, &known.nothing)?;
-    warn_if(is_unreachable, Warning::Unreachable, &mut found)?;
-    list_names(alloc, entry.command, known, &mut found)?;
+    warn_if(is_unreachable, Warning::Unreachable, &mut found);
+    list_without_value(alloc, entry.command, &known.given, &mut found)?;
+    list_unread(alloc, entry.command, &known.read, &mut found)?;
     list_own(alloc, entry.command, &known.nothing, &mut found)?;
-    Ok(found)
+    found.finish()
 }
