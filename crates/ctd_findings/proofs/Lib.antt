@@ -2,5 +2,4 @@ pub mod NameSets
 pub mod Trees
 pub mod Parts
 pub mod Everywhere
-pub mod Ends
 pub mod Additions

@@ -2,5 +2,4 @@
 pub mod Block
 pub mod Names
 pub mod Literal
-pub mod Outline
 pub mod Findings

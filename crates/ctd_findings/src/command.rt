@@ -7,7 +7,7 @@ ghost use Rattle.ctd_findings.specs.inner.Found.{Adds, items_in};
 ghost use Rattle.ctd_findings.specs.inner.Listed.{command_at, has_name, in_block, lack_warning, names_at, test_at};
 ghost use Rattle.ctd_findings.specs.calls.Names.{reads, sets, unsets};
 ghost use Rattle.ctd_findings.specs.calls.Literal.{literal_number, literal_truth, no_variables};
-ghost use Rattle.ctd_findings.specs.calls.Outline.{outline};
+ghost use Rattle.ctd_outline.specs.calls.Outline.{outline};
 ghost use Rattle.std.specs.Option.{option_and_then};
 
 use crate::block::CommandInBlock;
@@ -16,7 +16,7 @@ use crate::found::Found;
 use crate::literal::{literal_number, literal_truth};
 use crate::name_set::NameSet;
 use crate::names::{list_reads, list_sets, list_unsets};
-use crate::outline::{ends_with, outline, repeats_unbounded, starts_with};
+use ctd_outline::{ends_with, outline, repeats_unbounded, starts_with};
 use ctd_program::{Action, Command, Expr, LoopGuard, Test};
 use ctd_token::{Bytes, Name};
 use ctd_value::Store;

@@ -9,7 +9,6 @@ mod laws;
 mod literal;
 mod name_set;
 mod names;
-mod outline;
 mod program;
 
 pub use finding::{Finding, Warning};

@@ -12,7 +12,7 @@ use Rattle.ctd_findings.specs.declared.finding.Warning.{Warning}
 use Rattle.ctd_findings.specs.calls.Block.{InBlock, all_commands}
 use Rattle.ctd_findings.specs.calls.Names.{NameList, is_among, reads, unsets, sets, all_reads, all_given, preset_names}
 use Rattle.ctd_findings.specs.calls.Literal.{literal_truth, literal_number}
-use Rattle.ctd_findings.specs.calls.Outline.{outline, starts_with, ends_with, repeats_unbounded}
+use Rattle.ctd_outline.specs.calls.Outline.{outline, starts_with, ends_with, repeats_unbounded}
 
 -- a warning for each of the names that is not known
 abbrev pub warn_unknown : (List ℕ → Warning) → (List ℕ → Bool) → NameList → List Warning

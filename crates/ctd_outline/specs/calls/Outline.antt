@@ -1,8 +1,8 @@
 -- The form of a pattern, by the bytes of its literal.
-use Rattle.ctd_findings.specs.declared.outline.Part.TheVariants as part
+use Rattle.ctd_outline.specs.declared.form.Part.TheVariants as part
 use Rattle.std.specs.Prelude.{ℕ, Bool, false, ◌||◌, ◌&&◌, nat_eq, List, [], ◌∷◌, ◌++◌, if◌then◌else◌}
 use Rattle.std.specs.Char.{is_ascii_digit}
-use Rattle.ctd_findings.specs.declared.outline.Part.{Part}
+use Rattle.ctd_outline.specs.declared.form.Part.{Part}
 
 -- where the byte behind this one stands
 abbrev pub next_part : Part → ℕ → Part

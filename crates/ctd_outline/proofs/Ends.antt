@@ -1,6 +1,6 @@
 -- The last byte of a list.
 use Rattle.std.proofs.Common.{◌≡◌, ℕ, List, [], ◌∷◌, ◌-◌, ◌≤◌, length, get_or, nat_eq, refl, ap, ◌∙◌, arith}
-use Rattle.ctd_findings.specs.calls.Outline.{ends_with}
+use Rattle.ctd_outline.specs.calls.Outline.{ends_with}
 
 last_is : (byte b : ℕ) (bs : List ℕ) → nat_eq (get_or (b ∷ bs) (length bs) 0) byte ≡ ends_with byte (b ∷ bs)
 last_is byte b [] = refl

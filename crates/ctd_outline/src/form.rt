@@ -1,7 +1,7 @@
 //! The form of a pattern, by the bytes of its literal.
 
 ghost use Rattle.std.specs.Prelude.{◌≡◌, IfOk};
-ghost use Rattle.ctd_findings.specs.calls.Outline.{ends_with, is_open_count, next_part, opens, outline, repeats_unbounded, starts_with};
+ghost use Rattle.ctd_outline.specs.calls.Outline.{ends_with, is_open_count, next_part, opens, outline, repeats_unbounded, starts_with};
 
 use std::alloc::{AllocError, Global};
 
@@ -51,7 +51,7 @@ fn opens(byte: u8) -> bool
 }
 
 /// The outline of a pattern: a point in place of each escape and of each class.
-pub(crate) fn outline(alloc: Global, pattern: &[u8]) -> Result<Vec<u8>, AllocError>
+pub fn outline(alloc: Global, pattern: &[u8]) -> Result<Vec<u8>, AllocError>
     ensures { IfOk result (λ o. o.items ≡ outline pattern.now) }
 {
     let mut outlined = Vec::new(alloc);
@@ -66,7 +66,7 @@ pub(crate) fn outline(alloc: Global, pattern: &[u8]) -> Result<Vec<u8>, AllocErr
 }
 
 /// Whether the first byte is this one.
-pub(crate) fn starts_with(byte: u8, outline: &[u8]) -> bool
+pub fn starts_with(byte: u8, outline: &[u8]) -> bool
     ensures { result ≡ starts_with byte outline.now }
 {
     match outline {
@@ -76,7 +76,7 @@ pub(crate) fn starts_with(byte: u8, outline: &[u8]) -> bool
 }
 
 /// Whether the last byte is this one.
-pub(crate) fn ends_with(byte: u8, outline: &[u8]) -> bool
+pub fn ends_with(byte: u8, outline: &[u8]) -> bool
     ensures { result ≡ ends_with byte outline.now }
 {
     match outline {
@@ -98,7 +98,7 @@ fn is_open_count(outline: &[u8]) -> bool
 }
 
 /// Whether `*`, `+` or `{n,}` stands somewhere.
-pub(crate) fn repeats_unbounded(outline: &[u8]) -> bool
+pub fn repeats_unbounded(outline: &[u8]) -> bool
     ensures { result ≡ repeats_unbounded outline.now }
 {
     for (i, byte) in outline.iter().enumerate() {
