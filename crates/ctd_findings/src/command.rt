@@ -16,7 +16,7 @@ use crate::found::Found;
 use crate::literal::{literal_number, literal_truth};
 use crate::name_set::NameSet;
 use crate::names::{list_reads, list_sets, list_unsets};
-use ctd_outline::{ends_with, outline, repeats_unbounded, starts_with};
+use ctd_outline::form_of;
 use ctd_program::{Action, Command, Expr, LoopGuard, Test};
 use ctd_token::{Bytes, Name};
 use ctd_value::Store;
@@ -168,21 +168,14 @@ fn is_empty_text(e: &Expr) -> bool
     }
 }
 
-/// Adds the warnings of a pattern, by its outline.
-fn list_outline(form: &[u8], found: &mut Found<Warning>)
-    ensures adds { Adds (items_in found.old) (outline_warnings form.now) (items_in found.new) }
-{
-    warn_if(starts_with(b'^', form), Warning::StartsWithCaret, found);
-    warn_if(ends_with(b'$', form), Warning::EndsWithDollar, found);
-    warn_if(repeats_unbounded(form), Warning::Unbounded, found);
-}
-
-/// Adds the warnings of a pattern.
+/// Adds the warnings of a pattern, by what its outline shows.
 fn list_pattern(alloc: Global, pattern: &[u8], found: &mut Found<Warning>) -> Result<(), AllocError>
     ensures adds { OnOk result (Adds (items_in found.old) (outline_warnings (outline pattern.now)) (items_in found.new)) }
 {
-    let form = outline(alloc, pattern)?;
-    list_outline(form.as_slice(), found);
+    let form = form_of(alloc, pattern)?;
+    warn_if(form.starts_with_caret, Warning::StartsWithCaret, found);
+    warn_if(form.ends_with_dollar, Warning::EndsWithDollar, found);
+    warn_if(form.is_unbounded, Warning::Unbounded, found);
     Ok(())
 }
 

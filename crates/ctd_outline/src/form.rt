@@ -5,6 +5,17 @@ ghost use Rattle.ctd_outline.specs.calls.Outline.{ends_with, is_open_count, next
 
 use std::alloc::{AllocError, Global};
 
+/// What the outline of a pattern shows.
+#[derive(Clone, Copy)]
+pub struct Form {
+    /// It begins with `^`.
+    pub starts_with_caret: bool,
+    /// It ends with `$`.
+    pub ends_with_dollar: bool,
+    /// It has `*`, `+` or `{n,}`.
+    pub is_unbounded: bool,
+}
+
 /// Where a byte of a pattern stands.
 #[derive(Clone, Copy)]
 pub(crate) enum Part {
@@ -51,7 +62,7 @@ fn opens(byte: u8) -> bool
 }
 
 /// The outline of a pattern: a point in place of each escape and of each class.
-pub fn outline(alloc: Global, pattern: &[u8]) -> Result<Vec<u8>, AllocError>
+fn outline(alloc: Global, pattern: &[u8]) -> Result<Vec<u8>, AllocError>
     ensures { IfOk result (λ o. o.items ≡ outline pattern.now) }
 {
     let mut outlined = Vec::new(alloc);
@@ -66,7 +77,7 @@ pub fn outline(alloc: Global, pattern: &[u8]) -> Result<Vec<u8>, AllocError>
 }
 
 /// Whether the first byte is this one.
-pub fn starts_with(byte: u8, outline: &[u8]) -> bool
+fn starts_with(byte: u8, outline: &[u8]) -> bool
     ensures { result ≡ starts_with byte outline.now }
 {
     match outline {
@@ -76,7 +87,7 @@ pub fn starts_with(byte: u8, outline: &[u8]) -> bool
 }
 
 /// Whether the last byte is this one.
-pub fn ends_with(byte: u8, outline: &[u8]) -> bool
+fn ends_with(byte: u8, outline: &[u8]) -> bool
     ensures { result ≡ ends_with byte outline.now }
 {
     match outline {
@@ -98,7 +109,7 @@ fn is_open_count(outline: &[u8]) -> bool
 }
 
 /// Whether `*`, `+` or `{n,}` stands somewhere.
-pub fn repeats_unbounded(outline: &[u8]) -> bool
+fn repeats_unbounded(outline: &[u8]) -> bool
     ensures { result ≡ repeats_unbounded outline.now }
 {
     for (i, byte) in outline.iter().enumerate() {
@@ -110,4 +121,19 @@ pub fn repeats_unbounded(outline: &[u8]) -> bool
         }
     }
     false
+}
+
+/// What the outline of a pattern shows. The outline is the bytes of the pattern, with a point in place of each escape and of each class.
+pub fn form_of(alloc: Global, pattern: &[u8]) -> Result<Form, AllocError>
+    ensures caret { IfOk result (λ form. form.starts_with_caret ≡ starts_with 94 (outline pattern.now)) }
+    ensures dollar { IfOk result (λ form. form.ends_with_dollar ≡ ends_with 36 (outline pattern.now)) }
+    ensures unbounded { IfOk result (λ form. form.is_unbounded ≡ repeats_unbounded (outline pattern.now)) }
+{
+    let outline = outline(alloc, pattern)?;
+    let bytes = outline.as_slice();
+    Ok(Form {
+        starts_with_caret: starts_with(b'^', bytes),
+        ends_with_dollar: ends_with(b'$', bytes),
+        is_unbounded: repeats_unbounded(bytes),
+    })
 }

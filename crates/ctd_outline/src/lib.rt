@@ -1,6 +1,6 @@
-//! The outline of a pattern: its bytes, with a point in place of each escape and each class, and what the outline shows.
+//! The form of a pattern: what its outline shows, which is its bytes with a point in place of each escape and each class.
 #![tactic(auto)]
 
 mod form;
 
-pub use form::{ends_with, outline, repeats_unbounded, starts_with};
+pub use form::{Form, form_of};
