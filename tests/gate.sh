@@ -29,12 +29,14 @@ count() {
 }
 
 count scripts/believed.py
+count tests/memory_faults.py
 count rt ci
 if [ "$failed" -eq 0 ]; then
     count tests/tables.py
     count tests/process.sh
     count tests/lint.py
     count tests/failing_calls.py
+    count tests/reads.py
     count tests/allocations.py
     count tests/companions.py
     count tests/editors.py
