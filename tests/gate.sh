@@ -29,6 +29,7 @@ count() {
 }
 
 count scripts/believed.py
+count tests/belief.py
 count tests/memory_faults.py
 count rt ci
 if [ "$failed" -eq 0 ]; then
