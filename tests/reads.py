@@ -59,7 +59,7 @@ def cases() -> Iterator[Case]:
         yield Case(f"one byte, {how}", b'STRING("a")', letters, data_left(1), 1, piece)
         yield Case(f"no byte, {how}", b"", letters, data_left(0), 0, piece)
         yield Case(f"many matches, {how}", b'REP(20000) REGEX("a") END', letters, data_left(20_000), 20_000, piece)
-        yield Case(f"all bytes, {how}", b'REP(3) REGEX("a{1000000}") END', letters, FITS, 3_000_000, piece)
+        yield Case(f"all bytes, {how}", b'REP(3000) REGEX("a{1000}") END', letters, FITS, 3_000_000, piece)
     yield Case("a program of the limit", PROGRAM_LIMIT * b" ", b"", FITS, 0)
     yield Case("a program a byte too long", (PROGRAM_LIMIT + 1) * b" ", letters, TOO_LONG, 0)
     yield Case("a program three times too long", 3 * PROGRAM_LIMIT * b" ", letters, TOO_LONG, 0)
