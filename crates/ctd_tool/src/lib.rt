@@ -12,7 +12,8 @@ pub use ctd_report::{
     Sink, ToWrite, ToolFault, Writer, report_usage, write_cannot_open, write_load_fault,
     write_outcome,
 };
-pub use files::{Files, FilesRun, Sources, check_files};
-pub use host::answer;
+pub use ctd_process::{Files, Host, System, SystemFile};
+pub use files::{FilesRun, Sources, check_files};
+pub use host::{Answered, answer};
 pub use run::{WordsRun, run_words, usage_status};
 pub use tool::run_tool;
