@@ -1,4 +1,4 @@
-//! The system as a host. Each method calls std once; that it does what its name says is believed.
+//! The system as a host. Its methods call std and do little else; that each does what its name says is believed.
 
 use crate::host::{Files, Host};
 use std::env::{self, Args};
