@@ -88,14 +88,13 @@ impl<'m> Host for MemoryHost<'m> {
     }
 }
 
-/// The words of a line as the system gives them, behind the program's own name.
-fn args_of(alloc: Global, line: &str) -> Result<Args, AllocError> {
-    let mut words = Vec::new(alloc);
-    words.push(String::from_str(alloc, "checktestdata")?)?;
-    for word in line.split(' ') {
-        words.push(String::from_str(alloc, word)?)?;
+/// Words as the system gives them.
+fn args_of(alloc: Global, words: &[&str]) -> Result<Args, AllocError> {
+    let mut args = Vec::new(alloc);
+    for word in words {
+        args.push(String::from_str(alloc, word)?)?;
     }
-    Ok(words.into_iter())
+    Ok(args.into_iter())
 }
 
 /// What a host is asked for in order, the status, and what is written to both streams.
@@ -144,7 +143,7 @@ const NO_MEMORY: Left = (
 
 #[test]
 fn a_process_asks_once_for_each_thing(rt: HostRuntime) -> Result<(), Fail> {
-    let args = args_of(rt.alloc(), "p.ctd right.in")?;
+    let args = args_of(rt.alloc(), &["checktestdata", "p.ctd", "right.in"])?;
     judge(&rt, rt.alloc(), Ok(args), &CHECKED);
     Ok(())
 }
