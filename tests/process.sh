@@ -79,6 +79,17 @@ with_closed "$without_input" 'an input that is at its end' 2 '' "$no_end" "$chec
 with_closed "$without_input" 'an input for a program that asks for nothing' 2 '' "$no_end" "$checker" comment.ctd -
 with_closed "$without_input" 'an input that is read' 2 '' "$no_first_byte" "$checker" p.ctd
 
+# The data are what standard input still has as the checker starts.
+printf 'no integer\n5\n' >lines.in
+behind_the_first_line() {
+    {
+        read -r _
+        "$checker" "$@"
+    } <lines.in
+}
+expect 'an input behind its first line' 0 "$fits" '' behind_the_first_line p.ctd
+expect 'an input behind its first line, as a dash' 0 "$fits" '' behind_the_first_line p.ctd -
+
 expect 'a full output' 2 '' '' full_output p.ctd right.in
 expect 'a full output for data that do not fit' 2 '' '' full_output p.ctd short.in
 expect 'a full output that is not written to' 2 '' "$refused" full_output open.ctd right.in
