@@ -1,6 +1,7 @@
 -- What only the proofs of this crate use.
 pub mod Store
 pub mod OrderLaws
+pub mod Hashed
 pub mod Grid
 pub mod Index
 pub mod Slot
