@@ -1,7 +1,6 @@
 -- What only the proofs of this crate use.
 pub mod Store
 pub mod OrderLaws
-pub mod Hashed
 pub mod Grid
 pub mod Index
 pub mod Slot
