@@ -1,4 +1,5 @@
 // The checker as a WebAssembly module, for a page, a worker and Node.
+import { findingsIn } from "./message.js";
 
 // Room for each of the two texts of an answer, in bytes. A message has a few hundred, the help some two thousand.
 const TEXT_SIZE = 4096;
@@ -33,10 +34,10 @@ export class Checker {
     return place;
   }
 
-  // Checks data that lie in the memory against a program. `options` are words of the command line, such as ["-w", "-D", "n=5"].
+  // Checks data against a program, both in the memory. `options` are words of the command line, such as ["-w", "-D", "n=5"].
   run(options, program, testdata) {
     const words = ["checktestdata", ...options, "--", "program", "testdata"].join("\0");
-    const inputs = [this.copy(new TextEncoder().encode(words)), this.copy(program), testdata];
+    const inputs = [this.copy(new TextEncoder().encode(words)), program, testdata];
     const [out, err, lengths] = [TEXT_SIZE, TEXT_SIZE, 16].map((size) => this.reserve(size));
     const slices = [...inputs, out, err].flatMap(({ start, size }) => [start, BigInt(size)]);
     const began = performance.now();
@@ -44,6 +45,12 @@ export class Checker {
     const milliseconds = performance.now() - began;
     const [outLength, errLength] = new BigUint64Array(this.bytesAt(lengths.start, 16).slice().buffer);
     return { status, out: this.#text(out, outLength), err: this.#text(err, errLength), milliseconds };
+  }
+
+  // What can be said of a program in the memory without data: why it is refused.
+  lint(options, program) {
+    const { out, err } = this.run([...options, "--max-steps=0"], program, this.reserve(0));
+    return findingsIn(out + err);
   }
 
   #text({ start, size }, length) {

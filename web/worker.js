@@ -1,4 +1,4 @@
-// Runs one check in the background. The page ends the worker to stop a check, and starts a new one for the next.
+// Runs the checker in the background. The page ends the worker to stop a check, and starts a new one for the next.
 import { Checker } from "./checker.js";
 import { excerpt, placesIn } from "./message.js";
 
@@ -17,15 +17,25 @@ async function load(checker, data) {
 
 async function check({ module, options, program, data }) {
   const checker = await Checker.start(module);
-  const testdata = await load(checker, data);
-  const answer = checker.run(options, program, testdata);
-  const { spot } = placesIn(answer.out + answer.err);
-  const around = spot && excerpt(checker.bytesAt(testdata.start, testdata.size), spot);
+  const [text, testdata] = [await load(checker, program), await load(checker, data)];
+  const answer = checker.run(options, text, testdata);
+  const { spot, place } = placesIn(answer.out + answer.err);
+  const around = {
+    data: spot && excerpt(checker.bytesAt(testdata.start, testdata.size), spot),
+    program: place && excerpt(checker.bytesAt(text.start, text.size), place),
+  };
   return { ...answer, around, memory: checker.exports.memory.buffer.byteLength };
 }
 
+async function lint({ module, options, program }) {
+  const checker = await Checker.start(module);
+  return checker.lint(options, await load(checker, program));
+}
+
+const JOBS = { check, lint };
+
 self.onmessage = ({ data }) =>
-  check(data).then(
+  JOBS[data.job](data).then(
     (answer) => self.postMessage(answer),
     (error) => self.postMessage({ error: error.message }),
   );
