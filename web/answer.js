@@ -89,12 +89,13 @@ export class Answer {
   // Shows the bytes around a place, with a mark.
   #showAround(name, { line, column }, around) {
     if (!around) return;
-    const line_of_page = part(`${name}-around`);
+    const shown = part(`${name}-around`);
     const mark = document.createElement("mark");
     mark.textContent = around.mark;
-    line_of_page.querySelector("span").textContent = `line ${line} column ${column}`;
-    line_of_page.querySelector("code").replaceChildren(around.before, mark, around.after);
-    line_of_page.hidden = false;
+    shown.querySelector("span").textContent = `line ${line} column ${column}`;
+    const before = name === "program" ? around.before.trimStart() : around.before;
+    shown.querySelector("code").replaceChildren(before, mark, around.after);
+    shown.hidden = false;
   }
 
   // Brings the answer in sight.

@@ -1,15 +1,14 @@
 // One of the two texts of the page: an editor, and a file that stands in its place where the editor cannot hold it.
 import { END, LINE_FEED, columnIn } from "./message.js";
 
-// Files with more bytes, or with a line of more characters, are checked but not shown.
+// Files with more bytes are checked but not shown.
 const LONGEST = 2 ** 20;
-const WIDEST = 20_000;
 
-// The text of some bytes, or null where the editor cannot hold it.
-function editable(bytes) {
+// The text of a file, or null where the editor cannot hold it.
+async function textOf(file) {
+  if (file.size > LONGEST) return null;
   try {
-    const text = new TextDecoder("utf-8", { fatal: true, ignoreBOM: true }).decode(bytes);
-    return text.split("\n").some((line) => line.length > WIDEST) ? null : text;
+    return new TextDecoder("utf-8", { fatal: true, ignoreBOM: true }).decode(await file.arrayBuffer());
   } catch {
     return null;
   }
@@ -78,7 +77,7 @@ export class Field {
   // Takes the bytes of a file. The editor gets them where it can hold them; until then, and else, the file itself is checked.
   async open(file) {
     this.#setFile(file);
-    const text = file.size <= LONGEST ? editable(await file.arrayBuffer().catch(() => null)) : null;
+    const text = await textOf(file);
     if (text === null || this.file !== file) return;
     this.isQuiet = true;
     this.set(text);

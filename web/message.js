@@ -16,17 +16,22 @@ export function placesIn(message) {
   return { spot: numbers(spot), place: numbers(place) };
 }
 
-// The findings in the lines of ctd-lint, `FILE:LINE:COLUMN: RANK: TEXT`, or in the message of the checker for a program that it refuses: each
-// with its place, its rank (error, warning or note) and its text.
+// The findings in the lines of ctd-lint, `FILE:LINE:COLUMN: RANK: TEXT` or `ctd-lint: TEXT`: each with its rank (error, warning or note), its text,
+// and its place, or null where it has none.
 export function findingsIn(lines) {
   const found = [];
   for (const line of lines.split("\n")) {
-    const finding = /^[^:]*:(\d+):(\d+): (error|warning|note): (.*)$/.exec(line);
-    const refusal = /^checktestdata: program line (\d+) column (\d+): (.*)$/.exec(line);
-    const [, row, column, rank, text] = finding ?? (refusal && [...refusal.slice(0, 3), "error", refusal[3]]) ?? [];
-    if (row) found.push({ place: { line: Number(row), column: Number(column) }, rank, text });
+    const [, row, column, rank, text] = /^program(?::(\d+):(\d+))?: (error|warning|note): (.*)$/.exec(line) ?? old(line) ?? [];
+    const fault = /^ctd-lint: (.*)$/.exec(line);
+    if (text) found.push({ place: row ? { line: Number(row), column: Number(column) } : null, rank, text });
+    else if (fault) found.push({ place: null, rank: "error", text: fault[1] });
   }
   return found;
+}
+
+function old(line) {
+  const found = /^(?:checktestdata: )?program line (\d+) column (\d+): (?:(warning): )?(.*)$/.exec(line);
+  return found && [found[0], found[1], found[2], found[3] ?? "error", found[4]];
 }
 
 // The index of a column in the text of a line. Columns count bytes from 1, and a text has units of UTF-16.

@@ -7,9 +7,12 @@ import { defineMode } from "./mode.js";
 const part = (id) => document.getElementById(id);
 const WORKER = new URL("worker.js", import.meta.url);
 
-const compiled = fetch(new URL("checktestdata.wasm", import.meta.url))
-  .then((response) => response.arrayBuffer())
-  .then((bytes) => WebAssembly.compile(bytes));
+async function compile(name) {
+  const response = await fetch(new URL(name, import.meta.url));
+  return WebAssembly.compile(await response.arrayBuffer());
+}
+
+const [checker, linter] = ["checktestdata.wasm", "ctd-lint.wasm"].map(compile);
 
 // The check that runs: its worker, and whether a text or an option changed since it began. Null where none runs.
 let running = null;
@@ -33,7 +36,7 @@ const data = new Field(
 );
 const answer = new Answer({ data, program });
 const findings = new Findings(program, part("findings"), async () => ({
-  module: await compiled,
+  module: await linter,
   options: presetOption(),
   program: program.blob(),
 }));
@@ -77,7 +80,7 @@ async function check() {
   run.worker.onmessage = (event) => finish(event.data);
   run.worker.onerror = (event) => finish({ error: event.message });
   const job = { job: "check", options: options(), program: program.blob(), data: data.blob() };
-  run.worker.postMessage({ ...job, module: await compiled });
+  run.worker.postMessage({ ...job, module: await checker });
 }
 
 // A link holds the program and the options behind its #, which a browser does not send anywhere.
@@ -146,7 +149,7 @@ async function start() {
   await defineMode();
   program.editor.setOption("mode", "checktestdata");
   try {
-    await compiled;
+    await Promise.all([checker, linter]);
   } catch (error) {
     answer.cannotRun(error.message);
     return;

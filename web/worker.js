@@ -1,16 +1,16 @@
-// Runs the checker in the background. The page ends the worker to stop a check, and starts a new one for the next.
-import { Checker } from "./checker.js";
+// Runs the checker or ctd-lint in the background. The page ends the worker to stop a check, and starts a new one for the next.
+import { Checker, Linter } from "./checker.js";
 import { excerpt, placesIn } from "./message.js";
 
 // Reads a file or a Blob into the module's memory, a piece at a time.
-async function load(checker, data) {
-  const place = checker.reserve(data.size);
+async function load(instance, data) {
+  const place = instance.reserve(data.size);
   const reader = data.stream().getReader();
   let offset = 0;
   for (;;) {
     const { done, value } = await reader.read();
     if (done) return place;
-    checker.bytesAt(place.start + BigInt(offset), value.length).set(value);
+    instance.bytesAt(place.start + BigInt(offset), value.length).set(value);
     offset += value.length;
   }
 }
@@ -28,8 +28,8 @@ async function check({ module, options, program, data }) {
 }
 
 async function lint({ module, options, program }) {
-  const checker = await Checker.start(module);
-  return checker.lint(options, await load(checker, program));
+  const linter = await Linter.start(module);
+  return linter.findings(options, await load(linter, program));
 }
 
 const JOBS = { check, lint };
