@@ -1,6 +1,6 @@
 #!/usr/bin/env python3
-"""Makes pages of the documents for juries, for the page: each in HTML, by cmark-gfm. A link to a text that is not among them is left out, and so is
-what leads to definitions and code. A program has a link that opens it in the page. usage: documents.py FOLDER TO"""
+"""Makes pages of the documents for juries, for the page: each in HTML, by cmark-gfm. A link to a file that is not among them is left out, and its
+words stay. A program has a link that opens it in the page. usage: documents.py FOLDER TO"""
 import html
 import re
 import subprocess
@@ -8,6 +8,7 @@ import sys
 from pathlib import Path
 from urllib.parse import quote
 
+# The documents, each with the words of the link to it. What has none is only reached from another.
 NAMES = {
     "TUTORIAL": "Tutorial",
     "LANGUAGE": "Language",
@@ -15,6 +16,7 @@ NAMES = {
     "FAQ": "Messages",
     "MIGRATION": "Migration",
     "INTEGRATION": "Scripts and packages",
+    "DESIGN": None,
 }
 PAGE = """<!doctype html>
 <html lang="en">
@@ -25,7 +27,7 @@ PAGE = """<!doctype html>
 <link rel="icon" href="data:,">
 <link rel="stylesheet" href="../style.css">
 <header>
-<p><a href="../index.html">checktestdata</a></p>
+<a class="brand" href="../index.html">checktestdata</a>
 <nav aria-label="Documents">
 {links}
 </nav>
@@ -36,7 +38,6 @@ PAGE = """<!doctype html>
 """
 HEADING = re.compile(r"<h([1-6])>(.*?)</h\1>")
 LINK = re.compile(r'<a href="([^"]*)">(.*?)</a>', re.S)
-TO_CODE = re.compile(r"<p><em>Definition and code: .*?</p>\n", re.S)
 PROGRAM = re.compile(r'<pre><code class="language-ctd">(.*?)</code></pre>', re.S)
 TAG = re.compile(r"<[^>]*>")
 
@@ -65,10 +66,10 @@ def with_opener(program: re.Match[str]) -> str:
 
 
 def page_of(file: Path) -> str:
-    written = subprocess.run(["cmark-gfm", "-e", "table", file], capture_output=True, text=True, check=True).stdout
-    text = PROGRAM.sub(with_opener, LINK.sub(in_the_page, HEADING.sub(with_mark, TO_CODE.sub("", written))))
+    written = subprocess.run(["cmark-gfm", "--unsafe", "-e", "table", file], capture_output=True, text=True, check=True).stdout
+    text = PROGRAM.sub(with_opener, LINK.sub(in_the_page, HEADING.sub(with_mark, written)))
     here = {file.stem: ' aria-current="page"'}
-    links = "\n".join(f'<a href="{name}.html"{here.get(name, "")}>{words}</a>' for name, words in NAMES.items())
+    links = "\n".join(f'<a href="{name}.html"{here.get(name, "")}>{words}</a>' for name, words in NAMES.items() if words)
     title = html.unescape(TAG.sub("", re.search("<h1[^>]*>(.*?)</h1>", text)[1]))
     return PAGE.format(title=html.escape(title), links=links, text=text)
 

@@ -2,7 +2,6 @@
 
 const PAUSE = 300; // milliseconds
 const MOST = 50;
-const NAMES = { error: "error", warning: "warning", note: "note" };
 
 export class Findings {
   // `list` is the element of the findings; `job` gives what the worker needs, with the program as it is now.
@@ -37,12 +36,17 @@ export class Findings {
 
   async #ask() {
     this.worker ??= new Worker(new URL("worker.js", import.meta.url), { type: "module" });
-    const job = await this.job();
-    return new Promise((done) => {
-      this.worker.onmessage = ({ data }) => done(data.error ? [] : data);
-      this.worker.onerror = () => done([]);
-      this.worker.postMessage({ ...job, job: "lint" });
-    });
+    const brokeOff = (reason) => [{ place: null, rank: "error", text: `ctd-lint broke off: ${reason}` }];
+    try {
+      const job = await this.job();
+      return await new Promise((done) => {
+        this.worker.onmessage = ({ data }) => done(data.error ? brokeOff(data.error) : data);
+        this.worker.onerror = ({ message }) => done(brokeOff(message));
+        this.worker.postMessage({ ...job, job: "lint" });
+      });
+    } catch (error) {
+      return brokeOff(error.message);
+    }
   }
 
   #show(findings) {
@@ -65,7 +69,7 @@ export class Findings {
     const line = document.createElement("li");
     const name = document.createElement("strong");
     name.className = rank;
-    name.textContent = NAMES[rank];
+    name.textContent = rank;
     line.append(name, " ");
     if (place) {
       const button = document.createElement("button");

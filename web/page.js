@@ -61,14 +61,13 @@ function options() {
 function end() {
   running?.worker.terminate();
   running = null;
-  part("check").disabled = false;
-  part("stop").disabled = true;
+  part("stop").ariaDisabled = "true";
 }
 
+// Begins a check, in place of one that runs.
 async function check() {
   end();
-  part("check").disabled = true;
-  part("stop").disabled = false;
+  part("stop").ariaDisabled = "false";
   answer.checking();
   const run = { worker: new Worker(WORKER, { type: "module" }), isStale: false };
   running = run;
@@ -130,6 +129,7 @@ async function listExamples() {
 function listen() {
   part("check").onclick = check;
   part("stop").onclick = () => {
+    if (!running) return;
     end();
     answer.stopped();
   };

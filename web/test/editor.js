@@ -106,13 +106,17 @@ export async function testKeyboard(page) {
   await page.waitForEnd();
   expect("what was typed", [await page.text("program"), await page.text("data")], ["INT(1,5)\nNEWLINE", " 5\n"]);
   expect("Ctrl and Enter check", await page.message(), "line 1 column 1: expected an integer (program line 1 column 1)\n");
+  await page.evaluate("check.focus()");
+  await tab.press("Enter");
+  await page.waitForEnd();
+  expect("the focus stays at Check", await focused(), "check");
   const reached = new Set();
   await page.evaluate("document.activeElement.blur(); document.querySelector('nav a').focus()");
   for (let turn = 0; turn < 30; turn++) {
     await tab.press("Tab");
     reached.add(await focused());
   }
-  const wanted = ["examples", "link", "program-file", "program-side", "data-file", "data-side", "whitespace", "presets", "steps", "check"];
+  const wanted = ["examples", "link", "program-file", "program-side", "data-file", "data-side", "whitespace", "presets", "steps", "check", "stop"];
   expect("what Tab does not reach", wanted.filter((id) => !reached.has(id)), []);
   const unlabelled = `[...document.querySelectorAll("input, select, textarea, [contenteditable=true]")].filter((it) => it.offsetParent && !it.labels?.length && !it.ariaLabel).map((it) => it.id || it.outerHTML)`;
   expect("fields without a label", await tab.evaluate(unlabelled), []);

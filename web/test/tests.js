@@ -62,7 +62,7 @@ export class Page {
   }
 
   waitForEnd() {
-    return this.tab.wait(`document.getElementById("stop").disabled && !["checking", "none"].includes(result.dataset.state)`);
+    return this.tab.wait(`document.getElementById("stop").ariaDisabled === "true" && !["checking", "none"].includes(result.dataset.state)`);
   }
 
   // Presses Check, and gives the message that the page then shows.
