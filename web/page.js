@@ -126,6 +126,11 @@ async function listExamples() {
   };
 }
 
+// A file that is dropped beside the editors does not leave the page.
+function keepPage(event) {
+  if (event.dataTransfer?.types.includes("Files")) event.preventDefault();
+}
+
 function listen() {
   part("check").onclick = check;
   part("stop").onclick = () => {
@@ -139,10 +144,12 @@ function listen() {
   document.addEventListener("keydown", (event) => {
     if (event.key === "Enter" && (event.ctrlKey || event.metaKey) && !part("check").disabled) check();
   });
+  for (const kind of ["dragover", "drop"]) document.addEventListener(kind, keepPage);
   window.onhashchange = openLink;
 }
 
 async function start() {
+  data.editor.getInputField().setAttribute("aria-describedby", "data-hint");
   listen();
   openLink();
   listExamples();
