@@ -81,6 +81,7 @@ export class Answer {
     for (const [name, field] of Object.entries(this.fields)) {
       const place = this.places[name];
       if (!place) continue;
+      part(`${name}-around`).querySelector("button").disabled = Boolean(field.file);
       this.#showAround(name, place, around[name]);
       field.markFault(place);
     }

@@ -96,9 +96,14 @@ function openLink() {
   program.set(parts.get("program"));
   for (const id of ["presets", "steps"]) part(id).value = parts.get(id) ?? "";
   part("whitespace").checked = parts.has("whitespace");
+  changed();
 }
 
 async function copyLink() {
+  if (program.file) {
+    part("copied").textContent = "a link cannot hold this file";
+    return;
+  }
   history.replaceState(null, "", link());
   const copied = await navigator.clipboard?.writeText(location.href).then(() => true, () => false);
   part("copied").textContent = copied ? "copied" : "the link stands in the address line";
@@ -153,8 +158,7 @@ async function start() {
   listen();
   openLink();
   listExamples();
-  await defineMode();
-  program.editor.setOption("mode", "checktestdata");
+  defineMode().then(() => program.editor.setOption("mode", "checktestdata"));
   try {
     await Promise.all([checker, linter]);
   } catch (error) {

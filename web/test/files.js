@@ -44,6 +44,12 @@ export async function testFiles(page) {
   await page.evaluate(`document.querySelector("#data-side .file button").click()`);
   await page.set("data", "5");
 
+  remove = await choose(page, "program", "bytes.ctd", Buffer.from([0x23, 0xff]));
+  expect("a program that is no text", await shown(page, "program"), "bytes.ctd, 2 bytes, is checked as it is.");
+  await page.click("link");
+  expect("no link holds it", await page.evaluate("[copied.textContent, location.hash]"), ["a link cannot hold this file", ""]);
+  remove();
+
   remove = await choose(page, "program", "one.ctd", "EOF");
   remove();
   expect("a file of a program", await page.text("program"), "EOF");

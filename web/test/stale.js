@@ -36,12 +36,13 @@ export async function testStale(page) {
     "the blanks": () => page.click("whitespace"),
     "an example": () => page.set("examples", "numbers: right.in, fits"),
     "a link": () => page.evaluate(`location.hash = "program=EOF"`),
+    "a link to the same program": () => page.evaluate(`location.hash = "program=INT(1,5)+NEWLINE%0A&steps=7"`),
   };
   for (const [name, change] of Object.entries(changes)) {
     await page.open();
     await checkRejected(page);
     await change();
-    if (name === "a link") await page.tab.wait(`result.dataset.state === "stale"`);
+    if (name.startsWith("a link")) await page.tab.wait(`result.dataset.state === "stale"`);
     await expectStale(page, name);
   }
   await page.set("program", "EOF");
