@@ -145,11 +145,18 @@ class Progress:
     unit: str
     due: float = field(default_factory=lambda: time.monotonic() + 1)
     shown: bool = False
+    # how many were done before those that are counted
+    before: int = 0
+
+    def behind(self, before: int) -> Progress:
+        """The same line, where so many are done already."""
+        self.before = before
+        return self
 
     def show(self, done: int) -> None:
         """Says how many of all are done, at most ten times a second."""
         if time.monotonic() >= self.due and sys.stderr.isatty():
-            sys.stderr.write(f"\r\x1b[K{done} of {self.total} {self.unit}")
+            sys.stderr.write(f"\r\x1b[K{self.before + done} of {self.total} {self.unit}")
             sys.stderr.flush()
             self.due, self.shown = time.monotonic() + 0.1, True
 

@@ -168,6 +168,10 @@ class Block:
     is_entered: Callable[[Findings], bool]
     parent: Block | None = None
 
+    def is_run(self, found: Findings) -> bool:
+        """Whether some file runs these commands."""
+        return self.is_entered(found) and (self.parent is None or self.parent.is_run(found))
+
 
 @dataclass
 class Watched:

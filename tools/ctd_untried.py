@@ -1,27 +1,46 @@
 """What files of test data do not try of a program: how all files are asked, and what is said of each command."""
 from __future__ import annotations
 
+import re
+import shutil
+import sys
 import tempfile
 import threading
-from collections.abc import Callable, Iterator, Mapping, Sequence
+from collections.abc import Iterator, Sequence
 from dataclasses import dataclass, field
 from pathlib import Path
 
 from ctd_companion import FITS, Checker, Progress, results_in_order
-from ctd_coverage import LOOPS, FileRun, Findings, Found, Skeleton, Thing, Watched, merged
+from ctd_coverage import LOOPS, FileRun, Findings, Skeleton, Watched, merged
 from ctd_program import commands_of
 from ctd_questions import Asker, fresh_name, place_at
 from ctd_ranges import Range
 
-# How many files begin with what was found in those before them; a number of its own, so that the results do not depend on the jobs.
+# How many files begin with what was found in those before them: not the number of jobs, so that no result depends on that.
 TOGETHER = 8
 # How much of a command is shown.
-ROOM = 60
+ROOM = 40
+
+
+class Refused(Exception):
+    """The program, or an option for the checker, is refused."""
+
+
+@dataclass(frozen=True)
+class DataFile:
+    """A file of data: the name that it was given by, and where it can be read more than once."""
+
+    name: str
+    path: Path
+
+    @property
+    def size(self) -> int:
+        return self.path.stat().st_size
 
 
 @dataclass
 class Coverage:
-    """What files try of a program, and the files that do not fit, each with its line."""
+    """What files try of a program; and the files that do not fit, each with its line."""
 
     skeleton: Skeleton
     found: Findings = field(default_factory=dict)
@@ -30,14 +49,208 @@ class Coverage:
     runs: int = 0
 
 
-def skeleton_of(checker: Checker, text: bytes) -> Skeleton:
-    """The program of a checker with places for questions. The checker has accepted it."""
-    presets = [name.encode() for option in checker.options if option.startswith("--define=") for name in names_in(option.partition("=")[2])]
+@dataclass
+class Workshop:
+    """A folder for copies of the program, and of data that can be read only once."""
+
+    folder: Path
+
+    def data_file(self, name: str) -> DataFile:
+        """A file of data. Raises OSError where it cannot be read."""
+        with open(0, "rb", closefd=False) if name == "-" else open(name, "rb") as data:
+            if name != "-" and data.seekable():
+                data.read(1)
+                return DataFile(name, Path(name))
+            copy = Path(tempfile.mkstemp(dir=self.folder)[1])
+            with copy.open("wb") as written:
+                shutil.copyfileobj(data, written)
+        return DataFile(name, copy)
+
+    def copy_file(self) -> Path:
+        """Where a worker writes its copies of the program."""
+        return self.folder / f"{threading.get_ident()}.ctd"
+
+
+def skeleton_of(checker: Checker) -> Skeleton:
+    """The program of a checker, which it has accepted, with places for questions."""
+    # A program nests at most 200 deep, and each level takes some calls.
+    sys.setrecursionlimit(max(sys.getrecursionlimit(), 10_000))
+    text = Path(checker.program).read_bytes()
+    presets = [name.encode() for option in checker.options if option.startswith("--define=") for name in re.findall("[a-z][a-z0-9]*", option[9:])]
     return Skeleton(text, commands_of(text), fresh_name(text, checker.options), presets)
 
 
-def names_in(presets: str) -> list[str]:
-    """All names in a text of presets, and words in its strings."""
-    import re
+def fitting(checker: Checker, names: Sequence[str], shop: Workshop, jobs: int) -> Iterator[DataFile | str]:
+    """Each file that fits, or a line for one that does not. Raises Refused where the program is."""
 
-    return re.findall("[a-z][a-z0-9]*", presets)
+    def one(name: str) -> tuple[DataFile | str, bool]:
+        try:
+            file = shop.data_file(name)
+            with file.path.open("rb") as data:
+                answer, _ = checker.check_file(data)
+        except OSError as error:
+            return f"{name}: cannot read: {error.strerror}", False
+        if answer.status == FITS:
+            return file, False
+        return answer.line if answer.is_of_the_call else f"{name}: {answer.line}", answer.is_of_the_call
+
+    for found, is_of_the_call in results_in_order(one, names, jobs, Progress(len(names), "files checked")):
+        if is_of_the_call:
+            raise Refused(found)
+        yield found
+
+
+def cover(checker: Checker, names: Sequence[str], jobs: int) -> Coverage:
+    """What files try of a program. Raises Refused where the program is, and CannotAsk where questions cannot be put into it."""
+    with tempfile.TemporaryDirectory() as folder:
+        shop = Workshop(Path(folder))
+        checked = list(fitting(checker, names, shop, jobs))
+        files = sorted((file for file in checked if isinstance(file, DataFile)), key=lambda file: file.size)
+        coverage = Coverage(skeleton_of(checker), misfits=[line for line in checked if isinstance(line, str)], files=len(files), runs=len(checked))
+
+        def one(task: tuple[DataFile, Findings]) -> tuple[Findings, int]:
+            file, before = task
+            with file.path.open("rb", buffering=0) as data:
+                asker = Asker(checker, data, shop.copy_file())
+                return FileRun(coverage.skeleton, asker, file.name, before).whole(), asker.runs
+
+        progress = Progress(len(files), "files asked")
+        # small files first: most is answered by them
+        for start in range(0, len(files), TOGETHER):
+            tasks = [(file, coverage.found) for file in files[start : start + TOGETHER]]
+            for found, runs in results_in_order(one, tasks, jobs, progress.behind(start)):
+                coverage.found = merged(coverage.found, found)
+                coverage.runs += runs
+        return coverage
+
+
+@dataclass(frozen=True)
+class Row:
+    """What is said of a command: where it stands, its text, what was seen of it, and what was not."""
+
+    line: int
+    column: int
+    command: str
+    seen: str
+    untried: str
+
+
+def shown(text: bytes, room: int = ROOM) -> str:
+    """A part of a program on one line, cut where it is long."""
+    line = " ".join(text.decode("utf-8", "backslashreplace").split())
+    line = "".join(one if one.isprintable() else repr(one)[1:-1] for one in line)
+    return line if len(line) <= room else line[: room - 1] + "…"
+
+
+def rows(coverage: Coverage) -> Iterator[Row]:
+    """What is said of each command of which something is watched, and of the commands that no file runs, in the order of the program."""
+    skeleton, found = coverage.skeleton, coverage.found
+    if not coverage.files:
+        return
+    said: list[tuple[int, Row]] = []
+    for block in skeleton.blocks:
+        if block.commands and not block.is_entered(found) and (block.parent is None or block.parent.is_run(found)):
+            count = len(block.commands)
+            said.append(row_of(skeleton, block.commands[0].offset, block.commands[0].end, "never run", "no file runs this command" if count == 1 else f"no file runs these {count} commands"))
+    for watched in skeleton.watched:
+        if watched.block.is_run(found):
+            command = watched.command
+            seen, untried = SAYERS[command.word](skeleton, watched, found)
+            end = command.end if command.word not in (*LOOPS, "IF") else command.arguments[-1].end
+            if seen or untried:
+                said.append(row_of(skeleton, command.offset, end, seen, untried))
+    yield from (row for _, row in sorted(said, key=lambda one: one[0]))
+
+
+def row_of(skeleton: Skeleton, offset: int, end: int, seen: str, untried: str) -> tuple[int, Row]:
+    place = place_at(skeleton.text, offset)
+    return offset, Row(place.line, place.column, shown(skeleton.text[offset:end]), seen, untried)
+
+
+def bound_text(skeleton: Skeleton, watched: Watched, index: int, known: Range | None) -> str:
+    """A bound of an INT: its number, or what the program says."""
+    return str(known.only) if known and known.only is not None else shown(skeleton.source(watched.command.arguments[index]), 20)
+
+
+def seen_range(watched: Watched, found: Findings) -> str:
+    least, greatest = found[watched.things["least"]], found[watched.things["greatest"]]
+    return f"{least.value} ({least.spot}) .. {greatest.value} ({greatest.spot})"
+
+
+def missing_bounds(missed: Sequence[str]) -> str:
+    return "neither bound is ever taken" if len(missed) == 2 else f"the {missed[0]} is never taken"
+
+
+def of_integer(skeleton: Skeleton, watched: Watched, found: Findings) -> tuple[str, str]:
+    things = watched.things
+    least, greatest = found[things["least"]], found[things["greatest"]]
+    missed = []
+    for bound, name, end, known in (("low", "least", least, watched.low), ("high", "greatest", greatest, watched.high)):
+        if not (things[bound] in found if bound in things else known is not None and end.value == known.only):
+            missed.append(name)
+    low, high = bound_text(skeleton, watched, 0, watched.low), bound_text(skeleton, watched, 1, watched.high)
+    spots = [str(end.spot) for name, end in (("least", least), ("greatest", greatest)) if name in missed]
+    untried = f"took {least.value}..{greatest.value} of {low}..{high}: {missing_bounds(missed)} ({', '.join(spots)})" if missed else ""
+    return f"{seen_range(watched, found)} of {low}..{high}", untried
+
+
+def of_regex(skeleton: Skeleton, watched: Watched, found: Findings) -> tuple[str, str]:
+    least, greatest = found[watched.things["least"]], found[watched.things["greatest"]]
+    untried = ""
+    if watched.low and watched.high:
+        bounds = (watched.low.least, watched.high.greatest)
+        missed = [name for name, end, bound in (("least", least, bounds[0]), ("greatest", greatest, bounds[1])) if end.value != bound]
+        if missed:
+            untried = f"took {least.value}..{greatest.value} of {bounds[0]}..{bounds[1]} bytes: {missing_bounds(missed)}"
+    return f"{seen_range(watched, found)} bytes", untried
+
+
+def of_choice(skeleton: Skeleton, watched: Watched, found: Findings) -> tuple[str, str]:
+    seen = [name for name in ("true", "false") if watched.things[name] in found]
+    missed = [name for name in ("true", "false") if name not in seen]
+    return ", ".join(seen), f"the test is never {missed[0]}" if missed else ""
+
+
+TURNS = {"none": ("no turn", "never has no turn"), "one": ("one turn", "never has one turn alone"), "more": ("more turns", "never has more than one turn")}
+
+
+def of_loop(skeleton: Skeleton, watched: Watched, found: Findings) -> tuple[str, str]:
+    names = [name for name in TURNS if name in watched.things]
+    seen = [TURNS[name][0] for name in names if watched.things[name] in found]
+    missed = [TURNS[name][1] for name in names if watched.things[name] not in found]
+    most = found[watched.things["most"]]
+    return f"{', '.join(seen) or 'turns'}; at most {most.value} ({most.spot})", ", ".join(missed)
+
+
+def of_assertion(skeleton: Skeleton, watched: Watched, found: Findings) -> tuple[str, str]:
+    seen = [f"tight: {name} ({found[thing].spot})" for name, thing in watched.things.items() if thing in found]
+    missed = [shown(name.encode()) for name, thing in watched.things.items() if thing not in found]
+    return ", ".join(seen), f"never tight: {', '.join(missed)}" if missed else ""
+
+
+SAYERS = {"INT": of_integer, "REGEX": of_regex, "IF": of_choice, "ASSERT": of_assertion, **{word: of_loop for word in LOOPS}}
+
+
+def notes(coverage: Coverage, program: str, said: Sequence[Row]) -> Iterator[str]:
+    """What was not tried, in the form of compilers."""
+    for row in said:
+        if row.untried:
+            word = row.command.partition("(")[0]
+            what = row.untried if row.untried.startswith("no file") else f"{word}: {row.untried}"
+            yield f"{program}:{row.line}:{row.column}: note: {what}"
+
+
+def table(said: Sequence[Row]) -> Iterator[str]:
+    """All that was seen, in columns."""
+    cells = [("place", "command", "seen", "not tried"), *((f"{row.line}:{row.column}", row.command, row.seen, row.untried) for row in said)]
+    widths = [max(len(row[column]) for row in cells) for column in range(3)]
+    for row in cells:
+        yield "  ".join([f"{cell:{width}}" for cell, width in zip(row, widths)] + [row[3]]).rstrip()
+
+
+def summary(coverage: Coverage, said: Sequence[Row]) -> str:
+    """How many commands were watched, and how many have something that was not tried."""
+    untried = sum(1 for row in said if row.untried)
+    files = "1 file" if coverage.files == 1 else f"{coverage.files} files"
+    return f"{len(said)} commands watched in {files}, {untried} not fully tried"
+
