@@ -106,11 +106,11 @@ class Checker:
         ran = subprocess.run(self.words, input=data, stdout=subprocess.PIPE, stderr=subprocess.PIPE, check=False)
         return answer_of(ran.returncode, ran.stdout, ran.stderr)
 
-    def check_file(self, data: IO[bytes]) -> tuple[Answer, IO[bytes]]:
+    def check_file(self, data: IO[bytes], seconds: float | None = None) -> tuple[Answer, IO[bytes]]:
         """Checks the data of a file from where it stands. The second result is a file that can be read again: the same, or where it is a pipe
-        a copy of what the checker was given."""
+        a copy of what the checker was given. Raises subprocess.TimeoutExpired where a file takes longer than so many seconds."""
         if data.seekable():
-            ran = subprocess.run(self.words, stdin=data, stdout=subprocess.PIPE, stderr=subprocess.PIPE, check=False)
+            ran = subprocess.run(self.words, stdin=data, stdout=subprocess.PIPE, stderr=subprocess.PIPE, timeout=seconds, check=False)
             return answer_of(ran.returncode, ran.stdout, ran.stderr), data
         return self._check_pipe(data)
 

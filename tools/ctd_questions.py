@@ -2,7 +2,10 @@
 place in the checker's message says which one it was. So each answer rests on a verdict of the checker."""
 from __future__ import annotations
 
+import os
 import re
+import subprocess
+import time
 from bisect import bisect_right
 from collections.abc import Callable, Sequence
 from dataclasses import dataclass, field
@@ -21,7 +24,19 @@ BLOCK = 1 << 20
 
 
 class CannotAsk(Exception):
-    """The checker has no answer to a question: the copy nests too deeply or is too long, or a run ended in another way."""
+    """Questions cannot be put into the program: it nests too deeply with them, or is too long."""
+
+
+class EndedOtherwise(Exception):
+    """A run with questions ended at something else, or at a question with another fault."""
+
+    def __init__(self, answer: Answer, question: Question | None) -> None:
+        super().__init__(f"a run with questions ended otherwise: {answer.line}")
+        self.message, self.question = answer.message, question
+
+
+class OutOfTime(Exception):
+    """The answers take longer than they may."""
 
 
 @dataclass(eq=False)
@@ -113,14 +128,22 @@ class Asker:
     checker: Checker
     data: IO[bytes]
     copy_file: Path
+    # where the data begin in the file, and the time by which all answers have to be there
+    origin: int = 0
+    due: float | None = None
     runs: int = 0
 
     def run(self, copy: Copy) -> Answer:
         """The answer to a copy."""
         self.copy_file.write_bytes(copy.text)
-        self.data.seek(0)
+        # (a seek of the file object might stay within what it holds, and leave the descriptor where the last run left it)
+        os.lseek(self.data.fileno(), self.origin, os.SEEK_SET)
         self.runs += 1
-        answer, _ = Checker(self.checker.path, str(self.copy_file), without_step_limit(self.checker.options)).check_file(self.data)
+        left = None if self.due is None else max(self.due - time.monotonic(), 0.001)
+        try:
+            answer, _ = Checker(self.checker.path, str(self.copy_file), without_step_limit(self.checker.options)).check_file(self.data, left)
+        except subprocess.TimeoutExpired as late:
+            raise OutOfTime from late
         if answer.is_of_the_call:
             raise CannotAsk(f"questions cannot be put into the program: {answer.message}")
         return answer
@@ -131,9 +154,10 @@ class Asker:
         if answer.status == FITS:
             return None
         source = copy.source_at(answer.in_program) if answer.in_program else None
-        if not isinstance(source, Question) or answer.in_data is None:
-            raise CannotAsk(f"a run with questions ended otherwise: {answer.line}")
-        return source, answer.in_data
+        question = source if isinstance(source, Question) else None
+        if question is None or answer.in_data is None or answer.message != "assertion failed":
+            raise EndedOtherwise(answer, question)
+        return question, answer.in_data
 
 
 def without_step_limit(options: Sequence[str]) -> list[str]:

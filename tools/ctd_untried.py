@@ -10,9 +10,9 @@ from collections.abc import Iterator, Sequence
 from dataclasses import dataclass, field
 from pathlib import Path
 
-from ctd_companion import FITS, Checker, Progress, results_in_order
+from ctd_companion import FITS, STANDARD_INPUT, Checker, DataFile, Progress, open_data, results_in_order
 from ctd_coverage import LOOPS, FileRun, Findings, Skeleton, Watched, merged
-from ctd_program import commands_of
+from ctd_program import Command, commands_of
 from ctd_questions import Asker, fresh_name, place_at
 from ctd_ranges import Range
 
@@ -27,8 +27,8 @@ class Refused(Exception):
 
 
 @dataclass(frozen=True)
-class DataFile:
-    """A file of data: the name that it was given by, and where it can be read more than once."""
+class HeldFile:
+    """A file of data: the name that is shown, and where it can be read more than once."""
 
     name: str
     path: Path
@@ -55,16 +55,16 @@ class Workshop:
 
     folder: Path
 
-    def data_file(self, name: str) -> DataFile:
-        """A file of data. Raises OSError where it cannot be read."""
-        with open(0, "rb", closefd=False) if name == "-" else open(name, "rb") as data:
-            if name != "-" and data.seekable():
+    def hold(self, file: DataFile) -> HeldFile:
+        """A file that can be read more than once. Raises OSError where it cannot be read."""
+        with open_data(file.name) as data:
+            if file.name != STANDARD_INPUT and data.seekable():
                 data.read(1)
-                return DataFile(name, Path(name))
-            copy = Path(tempfile.mkstemp(dir=self.folder)[1])
-            with copy.open("wb") as written:
+                return HeldFile(file.shown, Path(file.name))
+            descriptor, copy = tempfile.mkstemp(dir=self.folder)
+            with open(descriptor, "wb") as written:
                 shutil.copyfileobj(data, written)
-        return DataFile(name, copy)
+        return HeldFile(file.shown, Path(copy))
 
     def copy_file(self) -> Path:
         """Where a worker writes its copies of the program."""
@@ -80,35 +80,37 @@ def skeleton_of(checker: Checker) -> Skeleton:
     return Skeleton(text, commands_of(text), fresh_name(text, checker.options), presets)
 
 
-def fitting(checker: Checker, names: Sequence[str], shop: Workshop, jobs: int) -> Iterator[DataFile | str]:
+def fitting(checker: Checker, files: Sequence[DataFile], shop: Workshop, jobs: int) -> Iterator[HeldFile | str]:
     """Each file that fits, or a line for one that does not. Raises Refused where the program is."""
 
-    def one(name: str) -> tuple[DataFile | str, bool]:
+    def one(file: DataFile) -> tuple[HeldFile | str, bool]:
+        if file.fault is not None:
+            return f"{file.shown}: {file.fault}", False
         try:
-            file = shop.data_file(name)
-            with file.path.open("rb") as data:
+            held = shop.hold(file)
+            with held.path.open("rb") as data:
                 answer, _ = checker.check_file(data)
         except OSError as error:
-            return f"{name}: cannot read: {error.strerror}", False
+            return f"{file.shown}: cannot read: {error.strerror}", False
         if answer.status == FITS:
-            return file, False
-        return answer.line if answer.is_of_the_call else f"{name}: {answer.line}", answer.is_of_the_call
+            return held, False
+        return answer.line if answer.is_of_the_call else f"{file.shown}: {answer.line}", answer.is_of_the_call
 
-    for found, is_of_the_call in results_in_order(one, names, jobs, Progress(len(names), "files checked")):
+    for found, is_of_the_call in results_in_order(one, files, jobs, Progress(len(files), "files checked")):
         if is_of_the_call:
             raise Refused(found)
         yield found
 
 
-def cover(checker: Checker, names: Sequence[str], jobs: int) -> Coverage:
+def cover(checker: Checker, given: Sequence[DataFile], jobs: int) -> Coverage:
     """What files try of a program. Raises Refused where the program is, and CannotAsk where questions cannot be put into it."""
     with tempfile.TemporaryDirectory() as folder:
         shop = Workshop(Path(folder))
-        checked = list(fitting(checker, names, shop, jobs))
-        files = sorted((file for file in checked if isinstance(file, DataFile)), key=lambda file: file.size)
+        checked = list(fitting(checker, given, shop, jobs))
+        files = sorted((file for file in checked if isinstance(file, HeldFile)), key=lambda file: file.size)
         coverage = Coverage(skeleton_of(checker), misfits=[line for line in checked if isinstance(line, str)], files=len(files), runs=len(checked))
 
-        def one(task: tuple[DataFile, Findings]) -> tuple[Findings, int]:
+        def one(task: tuple[HeldFile, Findings]) -> tuple[Findings, int]:
             file, before = task
             with file.path.open("rb", buffering=0) as data:
                 asker = Asker(checker, data, shop.copy_file())
@@ -125,14 +127,23 @@ def cover(checker: Checker, names: Sequence[str], jobs: int) -> Coverage:
 
 
 @dataclass(frozen=True)
+class Seen:
+    """What was seen of a command; what was not, if anything; and what a note of that has besides."""
+
+    seen: str
+    untried: str = ""
+    before: str = ""
+    behind: str = ""
+
+
+@dataclass(frozen=True)
 class Row:
-    """What is said of a command: where it stands, its text, what was seen of it, and what was not."""
+    """What is said of a command: where it stands, its text, and what was seen of it."""
 
     line: int
     column: int
     command: str
-    seen: str
-    untried: str
+    what: Seen
 
 
 def shown(text: bytes, room: int = ROOM) -> str:
@@ -142,29 +153,31 @@ def shown(text: bytes, room: int = ROOM) -> str:
     return line if len(line) <= room else line[: room - 1] + "…"
 
 
-def rows(coverage: Coverage) -> Iterator[Row]:
+def rows(coverage: Coverage) -> list[Row]:
     """What is said of each command of which something is watched, and of the commands that no file runs, in the order of the program."""
     skeleton, found = coverage.skeleton, coverage.found
     if not coverage.files:
-        return
-    said: list[tuple[int, Row]] = []
+        return []
+    said = {command.offset: row_of(skeleton, command, what) for command, what in never_run(skeleton, found)}
+    for watched in skeleton.watched:
+        if watched.block.is_run(found) and watched.things:
+            said[watched.command.offset] = row_of(skeleton, watched.command, SAYERS[watched.command.word](skeleton, watched, found))
+    return [said[offset] for offset in sorted(said)]
+
+
+def never_run(skeleton: Skeleton, found: Findings) -> Iterator[tuple[Command, Seen]]:
+    """The first command of each list of commands that no file runs, where what stands around the list is run."""
     for block in skeleton.blocks:
         if block.commands and not block.is_entered(found) and (block.parent is None or block.parent.is_run(found)):
             count = len(block.commands)
-            said.append(row_of(skeleton, block.commands[0].offset, block.commands[0].end, "never run", "no file runs this command" if count == 1 else f"no file runs these {count} commands"))
-    for watched in skeleton.watched:
-        if watched.block.is_run(found):
-            command = watched.command
-            seen, untried = SAYERS[command.word](skeleton, watched, found)
-            end = command.end if command.word not in (*LOOPS, "IF") else command.arguments[-1].end
-            if seen or untried:
-                said.append(row_of(skeleton, command.offset, end, seen, untried))
-    yield from (row for _, row in sorted(said, key=lambda one: one[0]))
+            yield block.commands[0], Seen("never run", "no file runs this command" if count == 1 else f"no file runs these {count} commands")
 
 
-def row_of(skeleton: Skeleton, offset: int, end: int, seen: str, untried: str) -> tuple[int, Row]:
-    place = place_at(skeleton.text, offset)
-    return offset, Row(place.line, place.column, shown(skeleton.text[offset:end]), seen, untried)
+def row_of(skeleton: Skeleton, command: Command, what: Seen) -> Row:
+    place = place_at(skeleton.text, command.offset)
+    is_block = command.word in (*LOOPS, "IF")
+    head = skeleton.text[command.offset : command.arguments[-1].end] + b")" if is_block else skeleton.text[command.offset : command.end]
+    return Row(place.line, place.column, shown(head), what)
 
 
 def bound_text(skeleton: Skeleton, watched: Watched, index: int, known: Range | None) -> str:
@@ -178,10 +191,10 @@ def seen_range(watched: Watched, found: Findings) -> str:
 
 
 def missing_bounds(missed: Sequence[str]) -> str:
-    return "neither bound is ever taken" if len(missed) == 2 else f"the {missed[0]} is never taken"
+    return "neither bound is ever taken" if len(missed) == 2 else f"the {missed[0]} is never taken" if missed else ""
 
 
-def of_integer(skeleton: Skeleton, watched: Watched, found: Findings) -> tuple[str, str]:
+def of_integer(skeleton: Skeleton, watched: Watched, found: Findings) -> Seen:
     things = watched.things
     least, greatest = found[things["least"]], found[things["greatest"]]
     missed = []
@@ -190,59 +203,57 @@ def of_integer(skeleton: Skeleton, watched: Watched, found: Findings) -> tuple[s
             missed.append(name)
     low, high = bound_text(skeleton, watched, 0, watched.low), bound_text(skeleton, watched, 1, watched.high)
     spots = [str(end.spot) for name, end in (("least", least), ("greatest", greatest)) if name in missed]
-    untried = f"took {least.value}..{greatest.value} of {low}..{high}: {missing_bounds(missed)} ({', '.join(spots)})" if missed else ""
-    return f"{seen_range(watched, found)} of {low}..{high}", untried
+    before = f"took {least.value}..{greatest.value} of {low}..{high}: "
+    return Seen(f"{seen_range(watched, found)} of {low}..{high}", missing_bounds(missed), before, f" ({', '.join(spots)})")
 
 
-def of_regex(skeleton: Skeleton, watched: Watched, found: Findings) -> tuple[str, str]:
+def of_regex(skeleton: Skeleton, watched: Watched, found: Findings) -> Seen:
     least, greatest = found[watched.things["least"]], found[watched.things["greatest"]]
-    untried = ""
-    if watched.low and watched.high:
-        bounds = (watched.low.least, watched.high.greatest)
-        missed = [name for name, end, bound in (("least", least, bounds[0]), ("greatest", greatest, bounds[1])) if end.value != bound]
-        if missed:
-            untried = f"took {least.value}..{greatest.value} of {bounds[0]}..{bounds[1]} bytes: {missing_bounds(missed)}"
-    return f"{seen_range(watched, found)} bytes", untried
+    seen = f"{seen_range(watched, found)} bytes"
+    if not (watched.low and watched.high):
+        return Seen(seen)
+    low, high = watched.low.least, watched.high.greatest
+    missed = [name for name, end, bound in (("least", least, low), ("greatest", greatest, high)) if end.value != bound]
+    return Seen(f"{seen} of {low}..{high}", missing_bounds(missed), f"took {least.value}..{greatest.value} of {low}..{high} bytes: ")
 
 
-def of_choice(skeleton: Skeleton, watched: Watched, found: Findings) -> tuple[str, str]:
+def of_choice(skeleton: Skeleton, watched: Watched, found: Findings) -> Seen:
     seen = [name for name in ("true", "false") if watched.things[name] in found]
     missed = [name for name in ("true", "false") if name not in seen]
-    return ", ".join(seen), f"the test is never {missed[0]}" if missed else ""
+    return Seen(", ".join(seen), f"the test is never {missed[0]}" if missed else "")
 
 
-TURNS = {"none": ("no turn", "never has no turn"), "one": ("one turn", "never has one turn alone"), "more": ("more turns", "never has more than one turn")}
+TURNS = {"none": ("no turn", "never no turn"), "one": ("one turn", "never one turn"), "more": ("more turns", "never more than one turn")}
 
 
-def of_loop(skeleton: Skeleton, watched: Watched, found: Findings) -> tuple[str, str]:
+def of_loop(skeleton: Skeleton, watched: Watched, found: Findings) -> Seen:
     names = [name for name in TURNS if name in watched.things]
     seen = [TURNS[name][0] for name in names if watched.things[name] in found]
     missed = [TURNS[name][1] for name in names if watched.things[name] not in found]
     most = found[watched.things["most"]]
-    return f"{', '.join(seen) or 'turns'}; at most {most.value} ({most.spot})", ", ".join(missed)
+    return Seen(f"{', '.join(seen) or 'turns'}; at most {most.value} ({most.spot})", ", ".join(missed))
 
 
-def of_assertion(skeleton: Skeleton, watched: Watched, found: Findings) -> tuple[str, str]:
+def of_assertion(skeleton: Skeleton, watched: Watched, found: Findings) -> Seen:
     seen = [f"tight: {name} ({found[thing].spot})" for name, thing in watched.things.items() if thing in found]
     missed = [shown(name.encode()) for name, thing in watched.things.items() if thing not in found]
-    return ", ".join(seen), f"never tight: {', '.join(missed)}" if missed else ""
+    return Seen(", ".join(seen), f"never tight: {', '.join(missed)}" if missed else "")
 
 
 SAYERS = {"INT": of_integer, "REGEX": of_regex, "IF": of_choice, "ASSERT": of_assertion, **{word: of_loop for word in LOOPS}}
 
 
-def notes(coverage: Coverage, program: str, said: Sequence[Row]) -> Iterator[str]:
+def notes(program: str, said: Sequence[Row]) -> Iterator[str]:
     """What was not tried, in the form of compilers."""
     for row in said:
-        if row.untried:
-            word = row.command.partition("(")[0]
-            what = row.untried if row.untried.startswith("no file") else f"{word}: {row.untried}"
-            yield f"{program}:{row.line}:{row.column}: note: {what}"
+        if what := row.what.untried:
+            word = "" if what.startswith("no file") else f"{row.command.partition('(')[0]}: "
+            yield f"{program}:{row.line}:{row.column}: note: {word}{row.what.before}{what}{row.what.behind}"
 
 
 def table(said: Sequence[Row]) -> Iterator[str]:
     """All that was seen, in columns."""
-    cells = [("place", "command", "seen", "not tried"), *((f"{row.line}:{row.column}", row.command, row.seen, row.untried) for row in said)]
+    cells = [("place", "command", "seen", "not tried"), *((f"{row.line}:{row.column}", row.command, row.what.seen, row.what.untried) for row in said)]
     widths = [max(len(row[column]) for row in cells) for column in range(3)]
     for row in cells:
         yield "  ".join([f"{cell:{width}}" for cell, width in zip(row, widths)] + [row[3]]).rstrip()
@@ -250,7 +261,7 @@ def table(said: Sequence[Row]) -> Iterator[str]:
 
 def summary(coverage: Coverage, said: Sequence[Row]) -> str:
     """How many commands were watched, and how many have something that was not tried."""
-    untried = sum(1 for row in said if row.untried)
+    untried = sum(1 for row in said if row.what.untried)
     files = "1 file" if coverage.files == 1 else f"{coverage.files} files"
     return f"{len(said)} commands watched in {files}, {untried} not fully tried"
 
