@@ -37,6 +37,8 @@ if [ "$failed" -eq 0 ]; then
     count tests/failing_calls.py
     count tests/allocations.py
     count tests/companions.py
+    count tests/cover.py
+    count tests/package.py
     count tests/editors.py
     count tests/build.py
     count tests/install.sh

@@ -269,16 +269,22 @@ def positive(text: str) -> int:
     return number
 
 
-def parser(name: str, description: str, epilog: str) -> argparse.ArgumentParser:
-    """A command line with the options that all companions have."""
+def parser_of_checks(name: str, description: str, epilog: str) -> argparse.ArgumentParser:
+    """A command line with the options that all companions have, and no files."""
     words = argparse.ArgumentParser(prog=name, description=description, epilog=epilog, allow_abbrev=False)
     words.add_argument("-V", "--version", action="version", version=f"{name} {VERSION}")
     jobs = min(os.cpu_count() or 1, 8)
     words.add_argument("-j", "--jobs", metavar="N", type=positive, default=jobs, help="run N checks at once (default: one for each processor, at most 8)")
     words.add_argument("--checker", metavar="PATH", help="the checker (default: beside this program, or on PATH)")
+    words.add_argument("--max-steps", metavar="N", action="append", default=[], help="given to the checker: stop a check after N steps")
+    return words
+
+
+def parser(name: str, description: str, epilog: str) -> argparse.ArgumentParser:
+    """A command line with a program, its options, and data."""
+    words = parser_of_checks(name, description, epilog)
     words.add_argument("-D", "--define", metavar="NAME=VALUE,..", action="append", default=[], help="given to the checker: values of variables")
     words.add_argument("-w", "--whitespace-ok", action="store_true", help="given to the checker: blanks may differ")
-    words.add_argument("--max-steps", metavar="N", action="append", default=[], help="given to the checker: stop a check after N steps")
     words.add_argument("--files-from", metavar="FILE", help="read the names of further files from a file, one a line or ended by a byte 0; - is standard input")
     words.add_argument("program", metavar="PROGRAM", help="the program of checktestdata")
     words.add_argument("data", metavar="DATA", nargs="*", help=f"a file of test data, or a folder for all *{DATA_SUFFIX} below it; - is standard input")
@@ -290,11 +296,17 @@ def given_words(words: argparse.ArgumentParser) -> argparse.Namespace:
     return words.parse_args() if "--" in sys.argv else words.parse_intermixed_args()
 
 
-def checker_of(words: argparse.ArgumentParser, given: argparse.Namespace) -> Checker:
-    """The checker with the program and the options that were given; where it is not found, that is said and the run ends."""
+def checker_path(words: argparse.ArgumentParser, given: argparse.Namespace) -> str:
+    """The path of the checker; where it is not found, that is said and the run ends."""
     path = find_checker(given.checker)
     if path is None:
         words.error("the checker is not found; say where it is by --checker")
+    return path
+
+
+def checker_of(words: argparse.ArgumentParser, given: argparse.Namespace) -> Checker:
+    """The checker with the program and the options that were given."""
+    path = checker_path(words, given)
     # (an option that is given twice is refused by the checker)
     options = ["-w"] if given.whitespace_ok else []
     options += [f"--define={value}" for value in given.define]

@@ -410,7 +410,7 @@ def tightness(skeleton: Skeleton, left: Tree, sign: str, right: Tree) -> bytes |
     first, second = skeleton.source(left), skeleton.source(right)
     if sign in ("<=", ">="):
         return b"(%b)!=(%b)" % (first, second)
-    if not (is_number(left) or is_number(right)):
+    if not any(is_number(side) or range_of(side, skeleton.known) for side in (left, right)):
         return None
     small, large = (first, second) if sign == "<" else (second, first)
     return b"(%b)!=(%b)-1" % (small, large)

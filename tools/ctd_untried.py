@@ -108,7 +108,9 @@ def cover(checker: Checker, given: Sequence[DataFile], jobs: int) -> Coverage:
         shop = Workshop(Path(folder))
         checked = list(fitting(checker, given, shop, jobs))
         files = sorted((file for file in checked if isinstance(file, HeldFile)), key=lambda file: file.size)
-        coverage = Coverage(skeleton_of(checker), misfits=[line for line in checked if isinstance(line, str)], files=len(files), runs=len(checked))
+        # (a program is accepted where a file fits it)
+        skeleton = skeleton_of(checker) if files else Skeleton(b"", [], b"", [])
+        coverage = Coverage(skeleton, misfits=[line for line in checked if isinstance(line, str)], files=len(files), runs=len(checked))
 
         def one(task: tuple[HeldFile, Findings]) -> tuple[Findings, int]:
             file, before = task
@@ -235,9 +237,9 @@ def of_loop(skeleton: Skeleton, watched: Watched, found: Findings) -> Seen:
 
 
 def of_assertion(skeleton: Skeleton, watched: Watched, found: Findings) -> Seen:
-    seen = [f"tight: {name} ({found[thing].spot})" for name, thing in watched.things.items() if thing in found]
+    seen = [f"{shown(name.encode())} ({found[thing].spot})" for name, thing in watched.things.items() if thing in found]
     missed = [shown(name.encode()) for name, thing in watched.things.items() if thing not in found]
-    return Seen(", ".join(seen), f"never tight: {', '.join(missed)}" if missed else "")
+    return Seen(f"tight: {', '.join(seen)}" if seen else "", f"never tight: {', '.join(missed)}" if missed else "")
 
 
 SAYERS = {"INT": of_integer, "REGEX": of_regex, "IF": of_choice, "ASSERT": of_assertion, **{word: of_loop for word in LOOPS}}
@@ -261,7 +263,10 @@ def table(said: Sequence[Row]) -> Iterator[str]:
 
 def summary(coverage: Coverage, said: Sequence[Row]) -> str:
     """How many commands were watched, and how many have something that was not tried."""
+    if not coverage.files:
+        return "no file fits"
     untried = sum(1 for row in said if row.what.untried)
     files = "1 file" if coverage.files == 1 else f"{coverage.files} files"
-    return f"{len(said)} commands watched in {files}, {untried} not fully tried"
+    commands = "1 command" if len(said) == 1 else f"{len(said)} commands"
+    return f"{commands} watched in {files}, {untried} not fully tried"
 
