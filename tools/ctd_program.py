@@ -347,13 +347,13 @@ def parse(tokens: list[Token], table: list[State] | None = None) -> list[Tree]:
     # the states that led here, and what was read between each two of them
     path = [0]
     entries: list[Entry] = []
-    for token in tokens:
+    for index, token in enumerate(tokens):
         symbol = token.symbol
         state = table[path[-1]]
         while symbol not in state.shifts:
             production = state.reductions.get(symbol)
             if production is None:
-                raise Refused("syntax error", token.offset, expected(table, path))
+                raise Refused("syntax error", token.offset, expected(table, tokens[:index]))
             length = len(production.parts)
             if length == 1:
                 path.pop()
@@ -368,11 +368,14 @@ def parse(tokens: list[Token], table: list[State] | None = None) -> list[Tree]:
     return program_of(entries)
 
 
-def expected(table: list[State], path: list[int]) -> tuple[str, ...]:
-    """The tokens with which some program goes on, behind what led through these states."""
+def expected(table: list[State], tokens: list[Token]) -> tuple[str, ...]:
+    """The tokens with which some program goes on, behind others with which one does."""
+    path = [0]
+    for token in tokens:
+        goes_on(table, path, token.symbol)
     state = table[path[-1]]
-    tokens = [symbol for symbol in state.shifts.keys() | state.reductions.keys() if is_token(symbol)]
-    return tuple(sorted(token for token in tokens if is_taken(table, [*path], token)))
+    choices = [symbol for symbol in state.shifts.keys() | state.reductions.keys() if is_token(symbol)]
+    return tuple(sorted(choice for choice in choices if goes_on(table, [*path], choice)))
 
 
 def is_token(symbol: str) -> bool:
@@ -380,14 +383,15 @@ def is_token(symbol: str) -> bool:
     return symbol == END or not (symbol.islower() or symbol.startswith("{"))
 
 
-def is_taken(table: list[State], path: list[int], symbol: str) -> bool:
-    """Whether a parser that went through these states takes a token."""
+def goes_on(table: list[State], path: list[int], symbol: str) -> bool:
+    """Whether a parser that went through these states takes a token; it then goes on."""
     while symbol not in table[path[-1]].shifts:
         production = table[path[-1]].reductions.get(symbol)
         if production is None:
             return False
         del path[len(path) - len(production.parts) :]
         path.append(table[path[-1]].shifts[production.symbol])
+    path.append(table[path[-1]].shifts[symbol])
     return True
 
 

@@ -12,7 +12,7 @@ from pathlib import Path
 from typing import IO, Union
 
 from ctd_companion import Answer, Checker
-from ctd_program import NAME, NUMERAL, TEXT, Command, Node, Refused, Token, Tree, commands_of
+from ctd_program import END, NAME, NUMERAL, TEXT, Command, Node, Refused, Token, Tree, commands_of
 from ctd_questions import Asker, CannotAsk, Copy, EndedOtherwise, OutOfTime, Question, fresh_name, number_asked, offset_at
 from ctd_ranges import all_commands, name_of
 
@@ -65,7 +65,9 @@ GROUPS = [
     ("a comparison", {"<", ">", "<=", ">=", "==", "!="}),
     ("an operator", {"+", "-", "*", "/", "%", "^"}),
 ]
-SINGLE = {NAME: "a name", NUMERAL: "a number", TEXT: "a string"}
+SINGLE = {NAME: "a name", NUMERAL: "a number", TEXT: "a string", END: "the end of the program"}
+# The order of what could stand somewhere: marks, groups, words.
+ORDER = [",", ")", "]", "=", "[", "(", "&&", "||", "!", *(title for title, _ in GROUPS), *SINGLE.values()]
 
 
 def expected_line(text: bytes) -> str:
@@ -78,7 +80,8 @@ def expected_line(text: bytes) -> str:
             if tokens <= rest:
                 rest -= tokens
                 groups.append(title)
-        choices = [*sorted((SINGLE.get(one, one) for one in rest), key=lambda one: (one.isalpha(), len(one) > 1, one)), *groups]
+        choices = [*groups, *(SINGLE.get(one, one) for one in sorted(rest))]
+        choices.sort(key=lambda one: ORDER.index(one) if one in ORDER else len(ORDER))
         return f"expected {' or '.join(choices)}"
     return ""
 
