@@ -117,7 +117,7 @@ def words_of(path: Path, flags: object) -> list[str]:
     try:
         return shlex.split(flags)
     except ValueError as fault:
-        raise BadPackage(f"{path}: {FLAGS}: {fault}".lower().replace(str(path).lower(), str(path))) from fault
+        raise BadPackage(f"{path}: {FLAGS}: {fault}") from fault
 
 
 def options_of(path: Path, words: Sequence[str]) -> tuple[str, ...]:
