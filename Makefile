@@ -1,8 +1,8 @@
 # build: prove and compile the programs, with all processors (scripts/crates.mk); test: rebuild every proof and test from scratch, then run the
 # built program; install, uninstall: PREFIX and DESTDIR as usual; deb, dist: a Debian package and an archive of the built program, in out/.
 # lib: builds the libraries for C and Python, and installs them as install does; page: makes the page for the browser in web/out; test-lib and
-# test-page test these (docs/EMBEDDING.md). fuzz: compares the checker with a reference in Python on COUNT generated cases of a SEED. bench:
-# times the checker beside C written by hand (bench/README.md).
+# test-page test these (docs/EMBEDDING.md). fuzz: compares the checker with a reference in Python on COUNT generated cases of a SEED. nightly:
+# tests that take too long for test. bench: times the checker beside C written by hand (bench/README.md).
 version := 1.0
 
 PREFIX ?= /usr/local
@@ -40,7 +40,7 @@ missing = $(shell scripts/missing_toolchain.sh)
 embedded := crates/ctd_embed/out/build/libctd_embed.a
 strip := $(if $(shell command -v strip),--strip)
 
-.PHONY: build build-lib test test-lib test-page fuzz bench install install-built lib page uninstall deb dist clean
+.PHONY: build build-lib test nightly test-lib test-page fuzz bench install install-built lib page uninstall deb dist clean
 
 build: $(all_built)
 
@@ -70,6 +70,9 @@ page: $(embedded)
 test:
 	$(need_toolchain)
 	@tests/gate.sh
+
+nightly: build
+	@tests/nightly.sh
 
 test-lib: build-lib
 	@embed/test.py

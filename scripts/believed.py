@@ -13,6 +13,7 @@ from collections import deque
 from pathlib import Path
 
 from spec_reader import bound_names, domains_of, exported, logical_lines, read_modules, read_source, words_of
+from toolchain_reader import PLAINEST, Toolchain, toolchain_folder
 
 ROOT = Path(__file__).resolve().parent.parent
 PAGE = 'docs/TRUST.md'
@@ -227,16 +228,19 @@ def code_table(repository):
 
 
 def kit_table(repository):
-    """The words of the toolchain's crates that these definitions use, but for the plainest."""
+    """The words of the toolchain's crates that these definitions use, but for the plainest, and how many lines of definitions they lead to."""
     found = {}
     for path, definition in repository.definitions():
         if repository.folder(path) == '':
             names = repository.modules[path].names
             for head, _ in words_of('\n'.join(definition.parts())):
-                if head in names and names[head][0].split('.')[0] not in repository.exports and names[head][0] != 'std.specs.Prelude':
+                if head in names and names[head][0].split('.')[0] not in repository.exports and names[head][0].split('.')[-1] != PLAINEST:
                     found.setdefault(names[head][0], set()).add(names[head][1])
-    rows = [row(f'`{path}`', ', '.join(f'`{name}`' for name in sorted(names))) for path, names in sorted(found.items())]
-    return [row('Module of the toolchain', 'Words'), row('---', '---'), *rows]
+    toolchain = Toolchain(toolchain_folder())
+    reached = {path: toolchain.reached((path, name) for name in names) for path, names in found.items()}
+    rows = [row(f'`{path}`', ', '.join(f'`{name}`' for name in sorted(names)), toolchain.lines(reached[path]) or '') for path, names in sorted(found.items())]
+    total = row('', 'all, each once', toolchain.lines(set().union(*reached.values())))
+    return [row('Module of the toolchain', 'Words', 'Lines that they lead to'), row(*['---'] * 3), *rows, total]
 
 
 TABLES = {'definitions': definitions_table, 'code': code_table, 'toolchain': kit_table}

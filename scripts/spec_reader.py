@@ -62,7 +62,7 @@ class Module:
 def read_imports(lines, names, aliases, passed_on=None):
     """Puts the imports of `use` lines into `names` (name -> path, item) and `aliases` (name -> path)."""
     for line in lines:
-        found = re.match(r'\s*(pub )?(?:ghost )?(use Rattle\..*)', line)
+        found = re.match(r'\s*(?:unfoldable )?(pub )?(?:ghost )?(use Rattle\..*)', line)
         if not found:
             continue
         path, items, alias = IMPORT.match(found[2].strip()).groups()
@@ -104,7 +104,7 @@ def read_definitions(module, start, end, indent, unit=None):
             module.blocks.append((index if above is None else above, stop, mutual))
             read_definitions(module, index + 1, stop, indent + 2, index if mutual else unit)
             above = current = None
-        elif re.match(r'(pub )?(use|mod) ', text):
+        elif re.match(r'(unfoldable )?(pub )?(use|mod) ', text):
             if text.startswith(('mod ', 'pub mod ')):
                 module.children.append(text.split()[-1])
             above = current = None

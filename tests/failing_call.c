@@ -3,7 +3,8 @@
    READ_FAILS=N, WRITE_FAILS=N  the Nth of these calls fails, counted from 1; none where it is 0
    FAILS_WITH=NUMBER            with the error of this number; where it is 0 it moves no byte
    READ_MOST=N, WRITE_MOST=N    a call moves at most so many bytes; any number where it is 0
-   CALLS_TOLD=FILE              where the process writes at its end how often it read and wrote */
+   CALLS_TOLD=FILE              where the process writes at its end how often it read and wrote, and how many bytes its reads gave of standard
+                                input and of other files */
 #define _GNU_SOURCE
 #include <errno.h>
 #include <fcntl.h>
@@ -17,7 +18,7 @@ struct calls {
 };
 
 static struct calls reads, writes;
-static long error;
+static long error, input_bytes, file_bytes;
 
 static long number(const char *name) {
     const char *word = getenv(name);
@@ -31,8 +32,8 @@ __attribute__((constructor)) static void begin(void) {
 }
 
 __attribute__((destructor)) static void end(void) {
-    char text[48];
-    int length = snprintf(text, sizeof text, "%ld %ld", reads.made, writes.made);
+    char text[96];
+    int length = snprintf(text, sizeof text, "%ld %ld %ld %ld", reads.made, writes.made, input_bytes, file_bytes);
     const char *file = getenv("CALLS_TOLD");
     int told = file ? open(file, O_WRONLY | O_CREAT | O_TRUNC, 0600) : -1;
     if (told < 0 || syscall(SYS_write, told, text, (size_t)length) != length) _exit(125);
@@ -49,7 +50,9 @@ static ssize_t call(struct calls *calls, long number, int file, void *bytes, siz
 }
 
 ssize_t read(int file, void *bytes, size_t count) {
-    return call(&reads, SYS_read, file, bytes, count);
+    ssize_t given = call(&reads, SYS_read, file, bytes, count);
+    if (given > 0) *(file == STDIN_FILENO ? &input_bytes : &file_bytes) += given;
+    return given;
 }
 
 ssize_t write(int file, const void *bytes, size_t count) {

@@ -68,7 +68,7 @@ class Checker:
             ended = subprocess.run(
                 [self.program, *case.words], stdin=data, capture_output=True, cwd=self.folder, env=environment, check=False
             )
-        reads, writes = map(int, told.read_text().split())
+        reads, writes, *_ = map(int, told.read_text().split())
         return Left(ended.returncode, ended.stdout, ended.stderr, reads, writes)
 
 

@@ -27,7 +27,8 @@ A command line is run in a folder with the `files` that its document lists at th
     status          the status that it ends with
     out, err        what it writes to standard output and to standard error
 
-The last line counts the rows that were answered so, as passed, and the others. usage: tests/tables.py [PROGRAM]"""
+The last line counts the rows that were answered so, as passed, and the others. usage: tests/tables.py [PROGRAM [FOLDER]], with another
+folder of tables"""
 import fcntl
 import os
 import re
@@ -283,13 +284,13 @@ def results_of(file: Path, checker: Checker) -> Iterator[tuple[str, list[str]]]:
         yield f"{name}: {line.case}", [] if found == line.wanted() else [f"{found}, wanted {line.wanted()}"]
 
 
-def all_results(program: Path) -> Iterator[tuple[str, list[str]]]:
+def all_results(program: Path, tables: Path) -> Iterator[tuple[str, list[str]]]:
     """The results of each file of tables, which has a folder of its own."""
-    for file in sorted(TABLES.glob("*.toml")):
+    for file in sorted(tables.glob("*.toml")):
         with tempfile.TemporaryDirectory() as folder:
             write_files(file, Path(folder))
             yield from results_of(file, Checker(program, Path(folder)))
 
 
 if __name__ == "__main__":
-    sys.exit(print_results("tables", all_results(checker_to_test())))
+    sys.exit(print_results("tables", all_results(checker_to_test(), Path(sys.argv[2]) if len(sys.argv) > 2 else TABLES)))

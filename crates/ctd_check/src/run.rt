@@ -24,7 +24,7 @@ use ctd_pattern::Matcher;
 use ctd_source::Source;
 use ctd_syntax::{Choice, Command, Loop, Place};
 
-/// Pays for a command and starts it. It answers a failure, which stands in registers; a halt would not.
+/// Pays for a command and starts it. Returns the small failure, so that it fits in registers.
 #[inline(always)]
 fn begin<'p, D: Source>(
     command: &'p Command,

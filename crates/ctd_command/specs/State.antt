@@ -92,7 +92,7 @@ see_next d s = lift (faults.with_fault fault_of_look (next_byte d s.offset)) s
 abbrev pub see_visible : Act (List ℕ)
 see_visible d s = done (visible d s.offset) s
 
--- of the visible bytes the longest prefix of a form is passed, and the byte after it is seen; then it goes on with what was visible
+-- consumes the longest prefix of a form, then peeks at the byte after it; goes on with the bytes that were visible
 abbrev pub pass_longest : {A : Type 0} → (List ℕ → ℕ) → (List ℕ → Act A) → Act A
 pass_longest prefix_len next = do
   rest ← see_visible

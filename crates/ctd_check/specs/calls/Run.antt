@@ -1,5 +1,5 @@
 -- The run of a program as a list of tasks, one step for each.
--- Of this, what only the contracts of single calls and laws say.
+-- Used only by the contracts of single calls and laws.
 use Rattle.std.specs.Prelude.{◌≡◌}
 use Rattle.ctd_outcome.specs.declared.outcome.Checked.{Checked}
 use Rattle.ctd_check.specs.Run.{Meaning}
