@@ -135,6 +135,9 @@ class Completions(unittest.TestCase):
         ("ctd-cover --tab\t pro\t data.in da\t", ["--table", "program.ctd", "data.in", "data.in"]),
         ("ctd-package --verb\t pack\t", ["--verbose", "package/"]),
         ("ctd-mutate --only trail\t pro\t da\t", ["--only", "trailing-space", "program.ctd", "data.in"]),
+        ("ctd-mutate --only plus,trail\t pro\t da\t", ["--only", "plus,trailing-space", "program.ctd", "data.in"]),
+        ("ctd-mutate --ignore plus,hu\t pro\t da\t", ["--ignore", "plus,huge", "program.ctd", "data.in"]),
+        ("ctd-mutate --only=plus,trail\t pro\t da\t", ["--only=plus,trailing-space", "program.ctd", "data.in"]),
     ]
 
     def try_shell(self, call: list[str], first: str) -> None:
@@ -179,6 +182,8 @@ class Completions(unittest.TestCase):
                 ("ctd-package --js", "--json"),
                 ("ctd-package pack", "package/"),
                 ("ctd-mutate --only trail", "trailing-space"),
+                ("ctd-mutate --only plus,trail", "plus,trailing-space"),
+                ("ctd-mutate --ignore=plus,trail", "--ignore=plus,trailing-space"),
             ]:
                 with self.subTest(line):
                     command = line.split()[0]

@@ -58,6 +58,7 @@ share/checktestdata/tools/ctd-cover
 share/checktestdata/tools/ctd-mutate
 share/checktestdata/tools/ctd-package
 share/checktestdata/tools/ctd-show
+share/checktestdata/tools/ctd_changes.py
 share/checktestdata/tools/ctd_companion.py
 share/checktestdata/tools/ctd_coverage.py
 share/checktestdata/tools/ctd_problem.py
@@ -112,7 +113,7 @@ printf '77\n' >"$work/wrong.in"
 beside() { (cd "$work" && "$prefix/bin/$1" number.ctd "${@:2}"); }
 expect 'ctd-lint runs' same '' "$(beside ctd-lint)"
 expect 'ctd-show finds the checker beside it' same 'right.in: testdata ok!' "$(beside ctd-show right.in)"
-expect 'ctd-mutate finds the checker beside it' same '11 made, 11 rejected, 0 let through, 0 without verdict' "$(beside ctd-mutate right.in | tail -n 1)"
+expect 'ctd-mutate finds the checker beside it' same 'may fit: 7 made, 7 rejected, 0 let through, 0 without verdict' "$(beside ctd-mutate right.in | tail -n 1)"
 expect 'ctd-cover finds the checker beside it' same 'number.ctd:1:1: note: INT: took 7..7 of 1..10: neither bound is ever taken (right.in:1:1, right.in:1:1)' "$(beside ctd-cover right.in | head -n 1)"
 package=$work/package/data
 mkdir -p "$package/sample" "$package/invalid_inputs" "$work/package/input_validators"
