@@ -19,7 +19,7 @@ from pathlib import Path
 from markdown_blocks import INDENTED, Block, Command, anchors, blocks, commands, links
 from results import TOP, checker_to_test, print_results
 
-GUIDES = ["TUTORIAL", "COOKBOOK", "MIGRATION", "INTEGRATION", "FAQ"]
+GUIDES = ["TUTORIAL", "COOKBOOK", "MIGRATION", "INTEGRATION", "FAQ", "MISTAKES"]
 DOCUMENTS = ["README.md", "SECURITY.md", "examples/README.md", *(f"docs/{name}.md" for name in GUIDES)]
 SESSIONS = ["console", INDENTED]
 OUT_OF_TIME = 60

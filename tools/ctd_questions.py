@@ -87,20 +87,25 @@ def place_at(text: bytes, offset: int) -> Place:
     return Place(text.count(b"\n", 0, offset) + 1, offset - text.rfind(b"\n", 0, offset))
 
 
+def line_offset(file: IO[bytes], origin: int, number: int) -> int:
+    """The offset at which a line begins, of those from an origin on. Reads no more than up to it."""
+    file.seek(origin)
+    start, breaks = origin, number - 1
+    while breaks and (block := file.read(BLOCK)):
+        count = block.count(b"\n")
+        if count < breaks:
+            start, breaks = start + len(block), breaks - count
+            continue
+        at = -1
+        for _ in range(breaks):
+            at = block.index(b"\n", at + 1)
+        return start + at + 1
+    return start
+
+
 def bytes_before(file: IO[bytes], place: Place, count: int) -> bytes:
     """The bytes of a file before a place, in its line, at most so many."""
-    start, breaks = 0, place.line - 1
-    file.seek(0)
-    while breaks:
-        block = file.read(BLOCK)
-        found = block.count(b"\n")
-        if found >= breaks or not block:
-            at = -1
-            for _ in range(breaks):
-                at = block.index(b"\n", at + 1)
-            start, breaks = start + at + 1, 0
-        else:
-            start, breaks = start + len(block), breaks - found
+    start = line_offset(file, 0, place.line)
     first = max(start, start + place.column - 1 - count)
     file.seek(first)
     return file.read(start + place.column - 1 - first)

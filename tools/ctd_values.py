@@ -13,7 +13,7 @@ from typing import IO, Union
 
 from ctd_companion import Answer, Checker
 from ctd_program import END, NAME, NUMERAL, TEXT, Command, Node, Refused, Token, Tree, commands_of
-from ctd_questions import Asker, CannotAsk, Copy, EndedOtherwise, OutOfTime, Question, fresh_name, number_asked, offset_at
+from ctd_questions import Asker, CannotAsk, Copy, EndedOtherwise, OutOfTime, Question, fresh_name, line_offset, number_asked, offset_at
 from ctd_ranges import all_commands, name_of
 
 SECONDS = 1.0
@@ -287,10 +287,8 @@ class Fault:
         """The number that the data have at the place of the fault."""
         place, data = self.answer.in_data, self.asker.data
         assert place
-        data.seek(self.asker.origin)
-        for _ in range(place.line - 1):
-            data.readline()
-        data.seek(place.column - 1, 1)
+        start = line_offset(data, self.asker.origin, place.line)
+        data.seek(start + place.column - 1)
         found = re.match(rb"-?[0-9]*", data.read(2 * STRING_ROOM))
         number = found[0].decode() if found else ""
         return number if len(number) <= STRING_ROOM else number[:STRING_ROOM] + "…"
