@@ -3,7 +3,7 @@
 and greatest values that other readers of the data find. Programs that are put together again have the checker's answer, as they stand and
 with questions that never fail: on the rows of tests/tables and on generated cases.
 
-The last line counts what passed and failed. usage: tests/cover.py [PROGRAM]"""
+The last line counts what passed and failed. usage: tests/cover.py [PROGRAM [CASES]]"""
 from __future__ import annotations
 
 import multiprocessing
@@ -34,7 +34,7 @@ from ctd_questions import Asker, Copy, Question, fresh_name, offset_at, place_at
 from ctd_untried import Coverage, cover, rows  # noqa: E402
 
 CHECKER = checker_to_test()
-GENERATED = 10_000
+GENERATED = int(sys.argv[2]) if len(sys.argv) > 2 else 1_000
 SEED = 20
 JOBS = min(os.cpu_count() or 1, 4)
 STEP_LIMIT = "step limit reached"
