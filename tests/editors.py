@@ -133,7 +133,7 @@ class Completions(unittest.TestCase):
         ("ctd-lint --def\tn=5 pro\t", ["--define=n=5", "program.ctd"]),
         ("ctd-show --gc\t pro\t data.in da\t", ["--gcc", "program.ctd", "data.in", "data.in"]),
         ("ctd-cover --tab\t pro\t data.in da\t", ["--table", "program.ctd", "data.in", "data.in"]),
-        ("ctd-package --verb\t pack\t", ["--verbose", "package/"]),
+        ("ctd-package --js\t --verb\t package", ["--json", "--verbose", "package"]),
         ("ctd-mutate --only trail\t pro\t da\t", ["--only", "trailing-space", "program.ctd", "data.in"]),
         ("ctd-mutate --only plus,trail\t pro\t da\t", ["--only", "plus,trailing-space", "program.ctd", "data.in"]),
         ("ctd-mutate --ignore plus,hu\t pro\t da\t", ["--ignore", "plus,huge", "program.ctd", "data.in"]),

@@ -4,10 +4,11 @@ from __future__ import annotations
 import re
 from collections.abc import Callable, Iterator, Mapping, Sequence
 from dataclasses import dataclass, field
+from typing import FrozenSet
 
 from ctd_companion import Place
 from ctd_program import TEXT, Command, Node, Token, Tree
-from ctd_questions import GREATEST, LEAST, Asker, Copy, Question, bytes_before, number_asked, numeral
+from ctd_questions import GREATEST, LEAST, Asker, CannotAsk, Copy, Question, bytes_before, number_asked, numeral
 from ctd_ranges import Range, all_commands, range_of, ranges_of
 
 # How often one number is found anew in one file, before the copy keeps the greatest itself.
@@ -126,7 +127,8 @@ class FileRun:
             stopped = self.asker.first_failing(self.skeleton.copy(self))
         finally:
             self.only, self.asked, self.frame = None, [], (b"", [])
-        assert stopped, "a question that was answered before has another answer"
+        if stopped is None:
+            raise CannotAsk("a question that was answered before has another answer")
         return stopped
 
     def number(self, thing: Thing, place: Place) -> int:
@@ -438,27 +440,47 @@ def lengths_of(pattern: Tree) -> tuple[Range | None, Range | None]:
 BLANK, OTHER = "a blank", "anything else"
 
 
+Taken = FrozenSet[str]
+
+
 def parted_integers(commands: Sequence[Command]) -> set[Command]:
     """The INTs before which a SPACE or a NEWLINE took something, or nothing did: what they take begins behind a blank, or at the start."""
-    unparted: set[Command] = set()
-    taken_last(commands, frozenset(), unparted)
-    return {command for command in all_commands(commands) if command.word == "INT"} - unparted
+    takers = Takers()
+    takers.behind_all(commands, frozenset())
+    return {command for command in all_commands(commands) if command.word == "INT"} - takers.unparted
 
 
-def taken_last(commands: Sequence[Command], before: frozenset[str], unparted: set[Command]) -> frozenset[str]:
-    """What may have been taken last behind some commands, by what it may have been before them; collects the INTs that are not parted."""
-    for command in commands:
+@dataclass
+class Takers:
+    """What may have been taken last behind a command, by what it may have been before it; and the INTs that are not parted."""
+
+    known: dict[tuple[Command, Taken], Taken] = field(default_factory=dict)
+    unparted: set[Command] = field(default_factory=set)
+
+    def behind_all(self, commands: Sequence[Command], before: Taken) -> Taken:
+        for command in commands:
+            if (command, before) not in self.known:
+                self.known[command, before] = self.behind(command, before)
+            before = self.known[command, before]
+        return before
+
+    def behind(self, command: Command, before: Taken) -> Taken:
         if command.word in ("SPACE", "NEWLINE"):
-            before = frozenset({BLANK})
-        elif command.word in ("STRING", "REGEX", "INT"):
-            if command.word == "INT" and OTHER in before:
-                unparted.add(command)
+            return frozenset({BLANK})
+        if command.word == "INT":
+            if OTHER in before:
+                self.unparted.add(command)
+            return frozenset({OTHER})
+        if command.word in ("STRING", "REGEX"):
             # (a string may be empty)
-            before = before | {OTHER} if command.word != "INT" else frozenset({OTHER})
-        elif command.word == "IF":
-            before = taken_last(command.body, before, unparted) | taken_last(command.otherwise or [], before, unparted)
-        elif command.word in LOOPS:
-            turn = [*([command.separator] if command.separator else []), *command.body]
-            once = taken_last(command.body, before, unparted)
-            before = before | once | taken_last(turn, taken_last(turn, once, unparted) | once, unparted)
-    return before
+            return before | {OTHER}
+        if command.word == "IF":
+            return self.behind_all(command.body, before) | self.behind_all(command.otherwise or [], before)
+        if command.word in LOOPS:
+            turn = [command.separator, *command.body] if command.separator else command.body
+            behind = self.behind_all(command.body, before)
+            # what a turn may find before it grows at most twice, since there are two things to be taken
+            for _ in range(2):
+                behind |= self.behind_all(turn, behind)
+            return before | behind
+        return before

@@ -75,11 +75,13 @@ class Copy:
 
 
 def offset_at(text: bytes, place: Place) -> int:
-    """The offset of a place in a text."""
+    """The offset of a place in a text, or its end where it has no such place."""
     start = 0
     for _ in range(place.line - 1):
-        start = text.index(b"\n", start) + 1
-    return start + place.column - 1
+        start = text.find(b"\n", start) + 1
+        if not start:
+            return len(text)
+    return min(start + place.column - 1, len(text))
 
 
 def place_at(text: bytes, offset: int) -> Place:

@@ -13,7 +13,7 @@ from pathlib import Path
 from ctd_companion import FITS, STANDARD_INPUT, Checker, DataFile, Progress, open_data, results_in_order
 from ctd_coverage import LOOPS, FileRun, Findings, Skeleton, Watched, merged
 from ctd_program import Command, commands_of
-from ctd_questions import Asker, fresh_name, place_at
+from ctd_questions import Asker, CannotAsk, fresh_name, place_at
 from ctd_ranges import Range
 
 # How many files begin with what was found in those before them: not the number of jobs, so that no result depends on that.
@@ -75,6 +75,8 @@ def skeleton_of(checker: Checker) -> Skeleton:
     """The program of a checker, which it has accepted, with places for questions."""
     # A program nests at most 200 deep, and each level takes some calls.
     sys.setrecursionlimit(max(sys.getrecursionlimit(), 10_000))
+    if not Path(checker.program).is_file():
+        raise CannotAsk("the program is no file, and cannot be read again")
     text = Path(checker.program).read_bytes()
     presets = [name.encode() for option in checker.options if option.startswith("--define=") for name in re.findall("[a-z][a-z0-9]*", option[9:])]
     return Skeleton(text, commands_of(text), fresh_name(text, checker.options), presets)

@@ -30,6 +30,9 @@ def value_lines(checker: Checker, answer: Answer, data: IO[bytes], origin: int) 
     """What is shown of a fault: the values of the variables in its command, or what could stand at a syntax error; nothing where there is
     none of it."""
     try:
+        if not Path(checker.program).is_file():
+            # (a pipe cannot be read again)
+            return []
         text = Path(checker.program).read_bytes()
         if answer.is_of_the_call:
             return [expected_line(text)] if answer.message == "syntax error" else []
@@ -39,6 +42,8 @@ def value_lines(checker: Checker, answer: Answer, data: IO[bytes], origin: int) 
         sys.setrecursionlimit(max(sys.getrecursionlimit(), 10_000))
         offset = offset_at(text, answer.in_program)
         found = [(one, is_separator) for one, is_separator in with_separators(commands_of(text)) if one.offset == offset]
+        if not found:
+            return []
         with tempfile.TemporaryDirectory() as folder:
             asker = Asker(checker, data, Path(folder) / "copy.ctd", origin, time.monotonic() + SECONDS)
             fault = Fault(text, *found[0], answer, asker, fresh_name(text, checker.options))
@@ -197,7 +202,8 @@ class Fault:
     def ask(self, questions: Sequence[Question], setting: bytes = b"") -> Question:
         """The question that fails first. Raises EndedOtherwise where one ends with another fault, or none fails."""
         stopped = self.asker.first_failing(self.copy(questions, setting))
-        assert stopped, "the data fit a copy of a program that they do not fit"
+        if stopped is None:
+            raise CannotAsk("the data fit a copy of a program that they do not fit")
         return stopped[0]
 
     def count(self) -> None:
