@@ -726,7 +726,7 @@ class Both(CompanionTest):
 
     def test_help_and_version(self) -> None:
         version = self.written_by(CHECKER, "--version").split()[1]
-        for tool in self.TOOLS:
+        for tool in [*self.TOOLS, "ctd-cover", "ctd-package"]:
             with self.subTest(tool):
                 self.assertTrue(self.written_by(TOOLS / tool, "--help").startswith(f"usage: {tool} [-h]"))
                 self.assertEqual(self.written_by(TOOLS / tool, "--version"), f"{tool} {version}\n")

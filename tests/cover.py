@@ -310,8 +310,8 @@ class Cover(CompanionTest):
         self.assertEqual(self.told(program, "1")[1][1:-1], ["1:12: note: IF: the test is never true", "1:21: note: no file runs this command"])
 
     def test_a_file_that_does_not_fit_is_named_first(self) -> None:
-        status, lines = self.told("INT(1,9) NEWLINE", "1\n", "99\n", "9\n")
-        self.assertEqual((status, lines), (2, ["2.in: line 1 column 1: value out of range (program line 1 column 1)", "1 command watched in 2 files, 0 not fully tried"]))
+        lines = ["2.in: line 1 column 1: value out of range (program line 1 column 1)", "1 command watched in 2 files, 0 not fully tried"]
+        self.assertEqual(self.told("INT(1,9) NEWLINE", "1\n", "99\n", "9\n"), (2, lines))
 
     def test_groups(self) -> None:
         self.write("p.ctd", "INT(1,9) NEWLINE")
@@ -331,7 +331,8 @@ class Cover(CompanionTest):
 
     def test_standard_input(self) -> None:
         self.write("p.ctd", "INT(1,9) NEWLINE")
-        self.assert_run(1, "p.ctd:1:1: note: INT: took 1..1 of 1..9: the greatest is never taken (-:1:1)\n1 command watched in 1 file, 1 not fully tried\n", "p.ctd", "-", stdin=b"1\n")
+        note = "p.ctd:1:1: note: INT: took 1..1 of 1..9: the greatest is never taken (-:1:1)\n"
+        self.assert_run(1, f"{note}1 command watched in 1 file, 1 not fully tried\n", "p.ctd", "-", stdin=b"1\n")
 
     def test_what_cannot_be_asked(self) -> None:
         self.write("open.ctd", "INT(1,10")
@@ -351,7 +352,28 @@ class Cover(CompanionTest):
         self.assertEqual((ran.returncode, len(ran.stdout.splitlines()), ran.stderr), (1, 199, b""))
         self.write("deeper.ctd", 199 * "IF(ISEOF) " + 199 * "END ")
         ran = self.run_tool("deeper.ctd", "1.in")
-        self.assertEqual((ran.returncode, ran.stdout, ran.stderr), (2, b"", b"ctd-cover: deeper.ctd: questions cannot be put into the program: nested too deeply\n"))
+        told = b"ctd-cover: deeper.ctd: questions cannot be put into the program: nested too deeply\n"
+        self.assertEqual((ran.returncode, ran.stdout, ran.stderr), (2, b"", told))
+
+    def test_streams_that_are_closed_or_full(self) -> None:
+        self.write("p.ctd", "INT(5,5) NEWLINE")
+        self.write("1.in", "5\n")
+        for rest, status, err in [
+            ("p.ctd 1.in >&-", 2, "ctd-cover: standard output is closed\n"),
+            ("p.ctd 1.in >/dev/full", 2, "ctd-cover: No space left on device\n"),
+            ("p.ctd 1.in >/dev/null 2>&-", 0, ""),
+            ("p.ctd 1.in <&- >/dev/null", 0, ""),
+            ("p.ctd - <&- >/dev/null", 2, ""),
+        ]:
+            with self.subTest(rest):
+                ran = self.run_shell(f"{TOP}/tools/ctd-cover --checker {CHECKER} {rest}")
+                self.assertEqual((ran.stdout, ran.stderr.decode(), ran.returncode), (b"", err, status))
+
+    def test_a_program_that_cannot_be_read_again(self) -> None:
+        self.write("1.in", "5\n")
+        ran = self.run_shell(f"mkfifo pipe; echo 'INT(5,5) NEWLINE' >pipe & {TOP}/tools/ctd-cover --checker {CHECKER} pipe 1.in")
+        told = b"ctd-cover: pipe: the program is no file, and cannot be read again\n"
+        self.assertEqual((ran.stdout, ran.stderr, ran.returncode), (b"", told, 2))
 
     def test_the_jobs_change_nothing(self) -> None:
         data = [f"{n}\n" for n in (5, 3, 7, 3, 8, 2, 2, 8, 9, 4, 6, 9)]
