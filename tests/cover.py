@@ -6,6 +6,7 @@ with questions that never fail: on the rows of tests/tables and on generated cas
 The last line counts what passed and failed. usage: tests/cover.py [PROGRAM [CASES]]"""
 from __future__ import annotations
 
+import importlib.util
 import multiprocessing
 import os
 import subprocess
@@ -328,6 +329,19 @@ class Cover(CompanionTest):
             "a",
             "b",
         )
+
+    @unittest.skipUnless(importlib.util.find_spec("yaml"), "PyYAML is not there")
+    def test_groups_with_flags(self) -> None:
+        self.write("p.ctd", "SET(maxn=9) INT(1,maxn) NEWLINE")
+        for name, text in (("data/sample/1.in", "1\n"), ("data/small/1.in", "2\n"), ("data/small/deep/1.in", "2\n")):
+            (self.folder / name).parent.mkdir(parents=True, exist_ok=True)
+            self.write(name, text)
+        self.write("data/small/testdata.yaml", "input_validator_flags: maxn=2")
+        note, counts = "p.ctd:1:13: note: INT: took ", "1 command watched in 1 file, 1 not fully tried\n"
+        sample = f"data/sample:\n{note}1..1 of 1..9: the greatest is never taken (data/sample/1.in:1:1)\n{counts}"
+        small = f"data/small (--define=maxn=2):\n{note}2..2 of 1..maxn: the least is never taken (data/small/1.in:1:1)\n{counts}"
+        deep = f"data/small/deep (--define=maxn=2):\n{note}2..2 of 1..maxn: the least is never taken (data/small/deep/1.in:1:1)\n{counts}"
+        self.assert_run(1, sample + small + deep, "--groups", "p.ctd", "data")
 
     def test_standard_input(self) -> None:
         self.write("p.ctd", "INT(1,9) NEWLINE")

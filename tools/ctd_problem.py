@@ -79,6 +79,18 @@ def data_below(package: Path, folder: Path, has_to_fit: bool, flags: tuple[str, 
             yield DataInPackage(entry.relative_to(package), group.as_posix(), has_to_fit, flags)
 
 
+def flags_for(folder: Path) -> tuple[str, ...]:
+    """The options that the settings of a group say, or of the nearest group around it, up to the folder `data` of its package."""
+    groups = [folder, *folder.parents]
+    names = [group.name for group in groups]
+    if "data" not in names:
+        return ()
+    flags: tuple[str, ...] = ()
+    for group in reversed(groups[: names.index("data") + 1]):
+        flags = flags_in(group, flags)
+    return flags
+
+
 def flags_in(folder: Path, inherited: tuple[str, ...]) -> tuple[str, ...]:
     """The options for the checker that the settings of a group say, or else those of the group around it."""
     for name in SETTINGS:
