@@ -1,5 +1,5 @@
 #!/usr/bin/env bash
-# Runs the built checker with a standard stream that is closed or full: what stands on the other streams, and the status. What it does with
+# Runs the built checker with standard streams that are closed or full: what stands on the other streams, and the status. What it does with
 # all of its streams open is in tests/tables/process.toml. The last line counts passed and failed.
 # usage: tests/process.sh [PROGRAM]
 set -u
@@ -11,12 +11,13 @@ cd "$work" || exit
 passed=0
 failed=0
 
-# expect NAME STATUS OUT ERR COMMAND..: runs the command and compares what it leaves; both texts have the escapes of printf.
+# expect NAME STATUS OUT ERR COMMAND..: runs the command on an input that is at its end, and compares what it leaves; both texts have the escapes
+# of printf.
 expect() {
     local name=$1 status=$2 got
     printf '%b' "$3" >want.out
     printf '%b' "$4" >want.err
-    "${@:5}" >out 2>err
+    "${@:5}" </dev/null >out 2>err
     got=$?
     if [ $got -eq "$status" ] && cmp -s out want.out && cmp -s err want.err; then
         passed=$((passed + 1))
@@ -28,23 +29,67 @@ expect() {
     fi
 }
 
-closed_input() { "$checker" "$@" <&-; }
-closed_output() { "$checker" "$@" >&-; }
+# closed STREAMS COMMAND..: runs the command with the streams of these numbers closed.
+closed() (
+    [[ $1 != *0* ]] || exec <&-
+    [[ $1 != *1* ]] || exec >&-
+    [[ $1 != *2* ]] || exec 2>&-
+    exec "${@:2}"
+)
+
+# with_closed SETS NAME STATUS OUT ERR COMMAND..: runs the command once with the streams of each set closed. A closed stream shows nothing, and a
+# text that goes to a closed standard output is a failed write.
+with_closed() {
+    local set status out err
+    for set in $1; do
+        status=$3 out=$4 err=$5
+        [[ $set != *2* ]] || err=
+        if [[ $set == *1* && -n $out ]]; then
+            status=2 out=
+        fi
+        expect "$2, closed: $set" "$status" "$out" "$err" closed "$set" "${@:6}"
+    done
+}
+
 full_output() { "$checker" "$@" >/dev/full; }
 full_error() { "$checker" "$@" 2>/dev/full; }
 
 printf 'INT(1,10) NEWLINE' >p.ctd
+printf '' >empty.ctd
+printf '# 12345' >comment.ctd
 printf 'INT(1,10' >open.ctd
 printf '5\n' >right.in
 printf '5' >short.in
 fits='testdata ok!\n'
-no_integer='line 1 column 1: expected an integer (program line 1 column 1)\n'
 refused='checktestdata: program line 1 column 9: syntax error\n'
+no_first_byte='checktestdata: line 1 column 1: read failed (program line 1 column 1)\n'
+no_end='checktestdata: line 1 column 1: read failed (program end)\n'
 
-# std reads a closed standard input as an empty one.
-expect 'a closed input' 1 "$no_integer" '' closed_input p.ctd
-expect 'a closed input that is not read' 0 "$fits" '' closed_input p.ctd right.in
-expect 'a closed output' 2 '' '' closed_output p.ctd right.in
+# All eight sets of streams that may be closed: no file that the checker opens stands for one of them. A read of a closed standard input fails, and
+# so does a write to a closed output.
+sets='none 0 1 2 01 02 12 012'
+with_input='none 1 2 12'
+without_input='0 01 02 012'
+with_closed "$sets" 'data that fit' 0 "$fits" '' "$checker" p.ctd right.in
+with_closed "$sets" 'data that fit, and -q' 0 '' '' "$checker" -q p.ctd right.in
+with_closed "$sets" 'a program that is refused' 2 '' "$refused" "$checker" open.ctd right.in
+with_closed "$sets" 'the version' 0 'checktestdata 1.0 (whole-number profile)\n' '' "$checker" --version
+with_closed "$with_input" 'an input that is at its end' 0 "$fits" '' "$checker" empty.ctd
+with_closed "$without_input" 'an input that is at its end' 2 '' "$no_end" "$checker" empty.ctd
+with_closed "$without_input" 'an input for a program that asks for nothing' 2 '' "$no_end" "$checker" comment.ctd -
+with_closed "$without_input" 'an input that is read' 2 '' "$no_first_byte" "$checker" p.ctd
+
+# The data are what standard input still has as the checker starts.
+printf 'no integer\n5\n' >lines.in
+behind_the_first_line() {
+    {
+        read -r _
+        "$checker" "$@"
+    } <lines.in
+}
+expect 'an input behind its first line' 0 "$fits" '' behind_the_first_line p.ctd
+expect 'an input behind its first line, as a dash' 0 "$fits" '' behind_the_first_line p.ctd -
+
 expect 'a full output' 2 '' '' full_output p.ctd right.in
 expect 'a full output for data that do not fit' 2 '' '' full_output p.ctd short.in
 expect 'a full output that is not written to' 2 '' "$refused" full_output open.ctd right.in

@@ -2,9 +2,8 @@
 use Rattle.std.proofs.Common.{◌≡◌, ℕ, List, [], Option, Some, None, take, inl, inr, refl, sym, subst}
 use Rattle.std.specs.Io.KnownBytes.{Appends}
 use Rattle.ctd_report.specs.declared.sink.Sink.{Ghosts}
-use Rattle.ctd_report.specs.Written.{BeforeAfter, before_after}
-use Rattle.ctd_tool.specs.Theorem.{EndsWithReport, whole, broken_off}
-use Rattle.ctd_tool.proofs.AnswerLemmas.{EndsWithReport-weaker}
+use Rattle.ctd_report.specs.Written.{BeforeAfter, before_after, EndsWithReport, whole, broken_off}
+use Rattle.ctd_report.proofs.EndLemmas.{EndsWithReport-weaker}
 use Rattle.ctd_arguments.specs.declared.setup.UsageFault.TheVariants.{Memory}
 use Rattle.ctd_report.specs.Report.{Report, usage_report}
 use Rattle.ctd_buffers.specs.calls.Buffers.{HoldReport}

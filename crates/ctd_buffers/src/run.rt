@@ -2,8 +2,7 @@
 
 ghost use Rattle.std.specs.Prelude.{◌≡◌, ◌==◌, false};
 ghost use Rattle.std.specs.List.{slice_split};
-ghost use Rattle.ctd_tool.specs.Theorem.{EndsWithReport};
-ghost use Rattle.ctd_report.specs.Written.{before_after};
+ghost use Rattle.ctd_report.specs.Written.{EndsWithReport, before_after};
 ghost use Rattle.ctd_buffers.specs.calls.Buffers.{HoldReport};
 ghost use Rattle.ctd_buffers.specs.calls.InMemory.{IsAnswerTo};
 

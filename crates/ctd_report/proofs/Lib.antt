@@ -1,2 +1,4 @@
 pub mod TakenLemmas
 pub mod WrittenLemmas
+pub mod EndLemmas
+mod PutsLemmas

@@ -1,6 +1,7 @@
 -- What writing a report leaves on the two streams.
-use Rattle.std.specs.Prelude.{◌≡◌, ◌≢◌, ◌≤◌, ◌⊎◌, ℕ, true, false, List, [], Option, Result, Ok, Err, length, take}
+use Rattle.std.specs.Prelude.{◌≡◌, ◌≢◌, ◌≤◌, ◌⊎◌, ℕ, true, false, List, [], Option, Result, Ok, Err, length, take, drop}
 use Rattle.std.specs.Io.KnownBytes.{Appends}
+use Rattle.ctd_source.specs.declared.source.Failed.{Failed}
 use Rattle.ctd_report.specs.declared.sink.Sink.{Ghosts}
 use Rattle.ctd_report.specs.declared.written.ToolFault.{ToolFault}
 use Rattle.ctd_report.specs.declared.written.ToolFault.TheVariants.{Memory, Write}
@@ -19,11 +20,25 @@ before_after G old new = record { old = old; new = new }
 abbrev pub AppendsPart : Option (List ℕ) → Option (List ℕ) → List ℕ → Type 0
 AppendsPart old new text = (n : ℕ) × (n ≤ length text) × Appends old new (take n text)
 
--- a flush that succeeded came last, when the whole text was taken
+-- a stream was given a text by one put after the other, each of all that those before it had left; this is what is left of it now
+pub data Puts {S : Type 0} (G : Ghosts S) (old : S) (text : List ℕ) : List ℕ → S → Type 0 where
+  no_put : Puts G old text text old
+  one_more : (rest : List ℕ) (between new : S) (n : ℕ) → Puts G old text rest between → rest ≢ [] → G.puts between rest (Ok n) new → Puts G old text (drop n rest) new
+
+-- the whole text was put, a flush that succeeded came last, and nothing else was asked of the stream
 pub record FlushedAfter {S : Type 0} (G : Ghosts S) (old new : S) (text : List ℕ) : Type 0 where
   pub before : S
   pub whole : Appends (G.taken old) (G.taken before) text
-  pub last : G.flushes before new
+  pub puts : Puts G old text [] before
+  pub last : G.flushes before (Ok tt) new
+
+-- a put of what was left of the text failed, or a flush when nothing was left; that came last, and nothing else was asked of the stream
+pub record StopsIn {S : Type 0} (G : Ghosts S) (old new : S) (text : List ℕ) : Type 0 where
+  pub rest : List ℕ
+  pub before : S
+  pub puts : Puts G old text rest before
+  pub fault : Failed
+  pub last : ((rest ≢ []) × G.puts before rest (Err fault) new) ⊎ ((rest ≡ []) × G.flushes before (Err fault) new)
 
 -- the stream took the whole text and was flushed after it, and works; where there is no text it was not touched
 pub record TakesAll {S : Type 0} {G : Ghosts S} (stream : BeforeAfter G) (text : List ℕ) : Type 0 where
@@ -36,6 +51,7 @@ pub record TakesAll {S : Type 0} {G : Ghosts S} (stream : BeforeAfter G) (text :
 pub record FailsIn {S : Type 0} {G : Ghosts S} (stream : BeforeAfter G) (text : List ℕ) : Type 0 where
   pub some : text ≢ []
   pub bytes : AppendsPart (G.taken stream.old) (G.taken stream.new) text
+  pub stopped : StopsIn G stream.old stream.new text
   pub failed : G.has_failed stream.new ≡ true
 
 -- the stream was not touched
@@ -57,3 +73,8 @@ abbrev pub LeavesOneOf : {O E : Type 0} {G : Ghosts O} {H : Ghosts E} → Before
 LeavesOneOf out err IsReport (Ok status) = (report : Report) × IsReport report × WritesAll out err report status
 LeavesOneOf out err IsReport (Err Write) = (report : Report) × IsReport report × BreaksOff out err report
 LeavesOneOf out err IsReport (Err Memory) = IsUntouched out × IsUntouched err
+
+-- one of these reports was written whole, and the status is its own; or a stream failed in it, and the status is 2
+pub data EndsWithReport {O E : Type 0} {G : Ghosts O} {H : Ghosts E} (out : BeforeAfter G) (err : BeforeAfter H) (Reports : Report → Type 0) (status : ℕ) : Type 0 where
+  whole : (report : Report) → Reports report → WritesAll out err report status → EndsWithReport out err Reports status
+  broken_off : (report : Report) → Reports report → BreaksOff out err report → status ≡ 2 → EndsWithReport out err Reports status

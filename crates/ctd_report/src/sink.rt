@@ -1,6 +1,6 @@
 //! What takes bytes, until it fails.
 
-ghost use Rattle.std.specs.Prelude.{◌≡◌, ◌<◌, ◌≤◌, ℕ, Bool, List, Option, Result, true, false, length, is_err, IfOk, IsErr, OnOk, ⊤};
+ghost use Rattle.std.specs.Prelude.{◌≡◌, ◌<◌, ◌≤◌, ℕ, Bool, List, Option, Result, true, false, length, is_err, IfOk, IsErr, ⊤};
 ghost use Rattle.std.specs.Io.KnownBytes.{Keeps, WriteAppends};
 
 use ctd_source::Failed;
@@ -8,26 +8,32 @@ use std::io::Write;
 
 /// Takes bytes until it fails; a failure is final.
 pub trait Sink {
+    ghost use Rattle.ctd_source.specs.declared.source.Failed.{Failed};
+
     // The bytes that it took, where it can tell.
     ghost taken: { Self → Option (List ℕ) };
 
     ghost has_failed: { Self → Bool };
 
-    // What a flush that succeeds does.
-    ghost flushes: { Self → Self → Type 0 };
+    // What a put does: the sink before, the bytes, the answer, and the sink after.
+    ghost puts: { Self → List ℕ → Result ℕ Failed → Self → Type 0 };
+
+    // What a flush does: the sink before, the answer, and the sink after.
+    ghost flushes: { Self → Result (Unit {0}) Failed → Self → Type 0 };
 
     /// Takes the first of the bytes, at least one, and tells how many; or fails and takes none.
     fn put(&mut self, bytes: &[u8]) -> Result<usize, Failed>
         requires { 0 < length bytes.now }
         ensures count { IfOk result (λ n. (0 < n) × (n ≤ length bytes.now)) }
         ensures first { WriteAppends (taken self.old) (taken self.new) result bytes.now }
+        ensures one { has_failed self.old ≡ false → puts self.old bytes.now result self.new }
         ensures failed { has_failed self.new ≡ is_err result }
         ensures stays { has_failed self.old ≡ true → IsErr result };
 
     /// Sees to it that what was taken arrives; takes no bytes.
     fn flush(&mut self) -> Result<(), Failed>
         ensures none { Keeps (taken self.old) (taken self.new) }
-        ensures flushed { OnOk result (flushes self.old self.new) }
+        ensures one { has_failed self.old ≡ false → flushes self.old result self.new }
         ensures failed { has_failed self.new ≡ is_err result }
         ensures stays { has_failed self.old ≡ true → IsErr result };
 }
@@ -84,7 +90,7 @@ pub struct ToWrite<W> {
 }
 
 impl<W: Writer> ToWrite<W> {
-    ghost use Rattle.ctd_report.specs.calls.Writer.{new_sink};
+    ghost use Rattle.ctd_report.specs.Writer.{new_sink};
 
     /// A sink that has not failed.
     pub fn new(writer: W) -> Self
@@ -98,14 +104,16 @@ impl<W: Writer> ToWrite<W> {
 }
 
 impl<W: Writer> Sink for ToWrite<W> {
-    ghost use Rattle.std.specs.Prelude.{Ok};
-    ghost use Rattle.ctd_report.specs.calls.Writer.{WritesOnce};
+    ghost use Rattle.ctd_report.specs.Writer.{WritesOnce};
 
     ghost taken = { λ s. W.contents s.writer };
 
     ghost has_failed = { λ s. s.has_failed };
 
-    ghost flushes = { λ old new. W.flushes old.writer (Ok tt) new.writer };
+    // the writer is asked just once
+    ghost puts = { λ old bytes result new. WritesOnce W.writes old.writer bytes result new.writer };
+
+    ghost flushes = { λ old result new. W.flushes old.writer result new.writer };
 
     fn put(&mut self, bytes: &[u8]) -> Result<usize, Failed>
         requires { 0 < length bytes.now }
@@ -113,8 +121,8 @@ impl<W: Writer> Sink for ToWrite<W> {
         ensures first { WriteAppends (W.contents self.old.writer) (W.contents self.new.writer) result bytes.now }
         ensures failed { self.new.has_failed ≡ is_err result }
         ensures stays { self.old.has_failed ≡ true → IsErr result }
-        // the writer is asked just once, and after a failure never again
-        ensures once { self.old.has_failed ≡ false → WritesOnce W.writes self.old.writer bytes.now result self.new.writer }
+        // after a failure the writer is never asked again
+        ensures one { self.old.has_failed ≡ false → WritesOnce W.writes self.old.writer bytes.now result self.new.writer }
         ensures idle { self.old.has_failed ≡ true → self.new ≡ self.old }
     {
         if self.has_failed {
@@ -131,11 +139,10 @@ impl<W: Writer> Sink for ToWrite<W> {
 
     fn flush(&mut self) -> Result<(), Failed>
         ensures none { Keeps (W.contents self.old.writer) (W.contents self.new.writer) }
-        ensures flushed { OnOk result (W.flushes self.old.writer (Ok tt) self.new.writer) }
         ensures failed { self.new.has_failed ≡ is_err result }
         ensures stays { self.old.has_failed ≡ true → IsErr result }
-        // the writer is flushed just once, and after a failure never again
-        ensures once { self.old.has_failed ≡ false → W.flushes self.old.writer result self.new.writer }
+        // after a failure the writer is never flushed again
+        ensures one { self.old.has_failed ≡ false → W.flushes self.old.writer result self.new.writer }
         ensures idle { self.old.has_failed ≡ true → self.new ≡ self.old }
     {
         if self.has_failed {

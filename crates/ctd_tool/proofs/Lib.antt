@@ -1,2 +1,2 @@
 pub mod HeadlineLemmas
-pub mod AnswerLemmas
+mod Refused

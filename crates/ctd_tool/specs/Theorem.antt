@@ -1,13 +1,14 @@
 -- The theorem of the tool: what a process writes and ends with. It is `EndsProcess`, the last definition, which the contract of `answer` names.
-use Rattle.std.specs.Prelude.{◌≡◌, ◌⊎◌, ◌+◌, ◌≤◌, ℕ, Bool, List, Option, None, Some, Result, Ok, Err, length}
-use Rattle.std.specs.Io.Buffered.{reader_inner}
+use Rattle.std.specs.Prelude.{◌≡◌, ◌≢◌, ◌+◌, ◌≤◌, ℕ, Bool, List, Option, None, Some, Result, Ok, Err, length}
 use Rattle.std.specs.declared.alloc.Global.{Global}
+use Rattle.std.specs.declared.io.ErrorKind.{ErrorKind}
+use Rattle.std.specs.declared.io.ErrorKind.TheVariants.{OutOfMemory}
 use Rattle.std.specs.declared.io.buffered.BufReader.{BufReader}
+use Rattle.std.specs.declared.string.String.{String}
+use Rattle.std.specs.declared.vec.IntoIter.{IntoIter}
 use Rattle.ctd_source.specs.declared.from_read.FromRead.{FromRead}
 use Rattle.ctd_source.specs.declared.source.Source as sources
-use Rattle.ctd_source.specs.declared.source.Seen.TheVariants.{Going}
 use Rattle.ctd_source.specs.declared.limits.TheConstants.{WINDOW}
-use Rattle.ctd_source.specs.Reader.{reader_of}
 use Rattle.ctd_source.specs.TestData.{TestData}
 use Rattle.ctd_source.specs.Agreement.{Agrees}
 use Rattle.ctd_source.specs.CursorCalls.{Gave}
@@ -22,9 +23,13 @@ use Rattle.ctd_arguments.specs.declared.setup.UsageFault.TheVariants.{Memory, Wo
 use Rattle.ctd_arguments.specs.Settings.{IsSetup}
 use Rattle.ctd_arguments.specs.Usage.{IsUsageFault}
 use Rattle.ctd_report.specs.declared.sink.Sink as sinks
+use Rattle.ctd_report.specs.declared.sink.ToWrite.{ToWrite}
+use Rattle.ctd_report.specs.Writer.{new_sink}
 use Rattle.ctd_report.specs.Report.{Report, check_report, load_report, open_report, usage_report}
-use Rattle.ctd_report.specs.Written.{BeforeAfter, WritesAll, BreaksOff}
+use Rattle.ctd_report.specs.Written.{BeforeAfter, before_after, EndsWithReport}
+use Rattle.ctd_process.specs.Process.{Args, Begins, Gives, StartsOn, Visit, visit, words_in}
 use Rattle.ctd_tool.specs.declared.files.Sources.{Sources}
+use Rattle.ctd_tool.specs.declared.host.Answered.{Answered}
 
 -- I. The report of a program and data that two sources give.
 
@@ -71,17 +76,6 @@ pub data IsReport {P D : Type 0} {G : sources.Ghosts P} {H : sources.Ghosts D} (
 
 -- II. The report of files.
 
--- files before and after a call, with what opening one of them does, and what taking standard input does
-pub record Visit (F R : Type 0) : Type 1 where
-  pub opens : F → List ℕ → Option R → F → Type 0
-  pub takes_input : F → R → F → Type 0
-  pub old : F
-  pub new : F
-
--- files that were these as a call began, and are those as it ends
-abbrev pub visit : {F R : Type 0} → (F → List ℕ → Option R → F → Type 0) → (F → R → F → Type 0) → F → F → Visit F R
-visit opens takes_input old new = record { opens = opens; takes_input = takes_input; old = old; new = new }
-
 -- data of this name are that file, and data with no name are standard input
 abbrev pub OpensTestdata : {F R : Type 0} → Visit F R → Option (List ℕ) → F → R → Type 0
 OpensTestdata v None between testdata = v.takes_input between testdata v.new
@@ -106,12 +100,11 @@ pub record RefusesProgram {F R : Type 0} (v : Visit F R) (s : Setup) (name : Lis
   pub name_is : s.program ≡ name
   pub refused : v.opens v.old name None v.new
 
--- a source that reads this reader behind a buffer; it has given nothing, and has left what the reader tells of its bytes
-pub record StartsOn {R : Type 0} (remaining : R → Option (List ℕ)) (G : sources.Ghosts (FromRead (BufReader R Global))) (reader : R) (source : FromRead (BufReader R Global)) : Type 0 where
-  pub inner : reader_inner (reader_of source) ≡ reader
-  pub going : G.seen source ≡ Going
-  pub given : G.given source ≡ 0
-  pub left : G.left source ≡ remaining reader
+-- which files were asked for, whatever came of it: the program, and then, if it was opened, the data
+pub data Visits {F R : Type 0} (v : Visit F R) (s : Setup) : Type 0 where
+  both : (program testdata : R) → OpensBoth v s program testdata → Visits v s
+  not_the_program : (name : List ℕ) → RefusesProgram v s name → Visits v s
+  not_the_testdata : (name : List ℕ) → RefusesTestdata v s name → Visits v s
 
 -- the report of a run on two readers, by what their sources gave
 pub record IsRunReport {R : Type 0} (remaining : R → Option (List ℕ)) (G : sources.Ghosts (FromRead (BufReader R Global))) (s : Setup) (program testdata : R) (left : Option (Sources R)) (report : Report) : Type 0 where
@@ -129,23 +122,23 @@ pub data IsFilesReport {F R : Type 0} (remaining : R → Option (List ℕ)) (G :
   no_program : (name : List ℕ) → RefusesProgram v s name → report ≡ open_report name → IsFilesReport remaining G s v left report
   no_testdata : (name : List ℕ) → RefusesTestdata v s name → report ≡ open_report name → IsFilesReport remaining G s v left report
 
--- III. The report of a command line, and what is written.
+-- III. The report of a command line.
 
--- the words ask for a check, and the report is that of the files that they name; or they have this fault, no file was asked for, and the report is that of the fault; or no memory was left
+-- the words ask for a check, and the report is that of the files that they name; or they have this fault, no file was asked for, and the report is that of the fault; or no memory was left, before the files that the words name were asked for or after
 pub data IsAnswer {F R : Type 0} (remaining : R → Option (List ℕ)) (G : sources.Ghosts (FromRead (BufReader R Global))) (words : List (List ℕ)) (v : Visit F R) (left : Option (Sources R)) (report : Report) : Type 0 where
   of_files : (s : Setup) → IsSetup words s → IsFilesReport remaining G s v left report → IsAnswer remaining G words v left report
   of_words : (fault : UsageFault) → IsUsageFault words fault → v.new ≡ v.old → report ≡ usage_report fault → IsAnswer remaining G words v left report
-  no_memory : report ≡ usage_report Memory → IsAnswer remaining G words v left report
+  no_memory : (s : Setup) → IsSetup words s → Visits v s → report ≡ usage_report Memory → IsAnswer remaining G words v left report
 
--- one of these reports was written whole, and the status is its own; or a stream failed in it, and the status is 2
-pub data EndsWithReport {O E : Type 0} {S : sinks.Ghosts O} {T : sinks.Ghosts E} (out : BeforeAfter S) (err : BeforeAfter T) (Reports : Report → Type 0) (status : ℕ) : Type 0 where
-  whole : (report : Report) → Reports report → WritesAll out err report status → EndsWithReport out err Reports status
-  broken_off : (report : Report) → Reports report → BreaksOff out err report → status ≡ 2 → EndsWithReport out err Reports status
+-- IV. The process.
 
--- the process got these words, and ends with the answer to them, of files that were visited and of the sources that were left; or it got none, and ends with the report of why
-pub data EndsProcess {F R O E : Type 0} {S : sinks.Ghosts O} {T : sinks.Ghosts E} (opens : F → List ℕ → Option R → F → Type 0) (takes_input : F → R → F → Type 0) (remaining : R → Option (List ℕ))
-    (G : sources.Ghosts (FromRead (BufReader R Global))) (out : BeforeAfter S) (err : BeforeAfter T) (status : ℕ) : Type 0 where
-  with_words : (words : List (List ℕ)) (old new : F) (left : Option (Sources R)) → EndsWithReport out err (IsAnswer remaining G words (visit opens takes_input old new) left) status
-      → EndsProcess opens takes_input remaining G out err status
-  bad_words : EndsWithReport out err (λ report. report ≡ usage_report Words) status → EndsProcess opens takes_input remaining G out err status
-  no_words : EndsWithReport out err (λ report. report ≡ usage_report Memory) status → EndsProcess opens takes_input remaining G out err status
+-- the system gave words, and the report is that of just these; or it gave none, and the report is that of bad words; or no memory was left. In the last two no file was asked for
+pub data IsProcessReport {F R : Type 0} (remaining : R → Option (List ℕ)) (G : sources.Ghosts (FromRead (BufReader R Global))) (args : Args) (v : Visit F R) (left : Option (Sources R)) (report : Report) : Type 0 where
+  with_words : (given : IntoIter (String Global) Global) → args ≡ Ok given → IsAnswer remaining G (words_in given) v left report → IsProcessReport remaining G args v left report
+  bad_words : (kind : ErrorKind) → args ≡ Err kind → kind ≢ OutOfMemory → v.new ≡ v.old → report ≡ usage_report Words → IsProcessReport remaining G args v left report
+  no_room : v.new ≡ v.old → report ≡ usage_report Memory → IsProcessReport remaining G args v left report
+
+-- a process asked its host for the two streams, each once, and for the words, once. Then it asked for the files of the report, and for nothing else; it wrote the report, and has its status
+pub record EndsProcess {F R O E : Type 0} (h : Gives F R O E) (remaining : R → Option (List ℕ)) (G : sources.Ghosts (FromRead (BufReader R Global))) (S : sinks.Ghosts (ToWrite O)) (T : sinks.Ghosts (ToWrite E)) (old new : F) (end : Answered R O E) : Type 0 where
+  pub begins : Begins h old
+  pub ends : EndsWithReport (before_after S (new_sink begins.out) end.out) (before_after T (new_sink begins.err) end.err) (IsProcessReport remaining G begins.args (visit h.opens h.takes_input begins.after_args new) end.sources) end.status

@@ -1,97 +1,90 @@
-//! The files, the words and the streams of the process.
+//! The process: what it gets from its host, and how it ends.
 
-ghost use Rattle.std.specs.Prelude.{◌≡◌, ◌⊎◌, false, IfErr};
-ghost use Rattle.ctd_tool.specs.Theorem.{EndsProcess};
-ghost use Rattle.ctd_arguments.specs.declared.setup.UsageFault.{UsageFault};
-ghost use Rattle.ctd_report.specs.Written.{before_after};
+ghost use Rattle.std.specs.Prelude.{◌≡◌, false};
+ghost use Rattle.ctd_tool.specs.Theorem.{EndsProcess, IsProcessReport};
+ghost use Rattle.ctd_process.specs.Process.{visit};
+ghost use Rattle.ctd_report.specs.Report.{usage_report};
+ghost use Rattle.ctd_report.specs.Written.{EndsWithReport, before_after};
 
-use crate::files::Files;
-use crate::run::{run_words, usage_status};
+use crate::files::Sources;
+use crate::run::{WordsRun, run_words, usage_status};
 use ctd_arguments::UsageFault;
-use ctd_check::{Bytes, FromRead, Source};
+use ctd_check::{FromRead, Source};
+use ctd_process::{Files, Host, copy_words};
 use ctd_report::{Sink, ToWrite};
-use std::alloc::{AllocError, Global};
-use std::fs::File;
-use std::io::{self, BufReader, ErrorKind, Read, Stderr, Stdin, Stdout};
-use std::rt::Env;
-use std::str::from_utf8;
+use std::alloc::Global;
+use std::env::Args;
+use std::io::{BufReader, ErrorKind, Read};
 
-/// The words of the command line, the program's own name first. A word that is not UTF-8 is refused as
-/// Words.
-pub(crate) fn words_of(
-    rt: &(impl Env + AllocGlobal),
+/// How a process ended: its status, and its streams and sources as it left them.
+#[derive(Drop)]
+pub struct Answered<R: Read, O, E> {
+    pub status: u8,
+    pub out: ToWrite<O>,
+    pub err: ToWrite<E>,
+    pub sources: Option<Sources<R>>,
+}
+
+/// Reports a fault for which no file was asked.
+fn without_words<R: Read + Drop, O: Sink, E: Sink>(
+    fault: &UsageFault,
+    out: &mut O,
+    err: &mut E,
+) -> WordsRun<R>
+    requires out_works { O.has_failed out.old ≡ false }
+    requires err_works { E.has_failed err.old ≡ false }
+    ensures { EndsWithReport (before_after O.Sink out.old out.new) (before_after E.Sink err.old err.new)
+        (λ report. report ≡ usage_report fault.now) result.status }
+{
+    WordsRun {
+        status: usage_status(fault, out, err),
+        sources: None,
+    }
+}
+
+/// Answers the words that the system gave, or that it gave none, with a status.
+fn answer_args<H: Files, O: Sink, E: Sink>(
     alloc: Global,
-) -> Result<Vec<Bytes>, UsageFault>
-    ensures faults { IfErr result (λ fault. (fault ≡ UsageFault.Words) ⊎ (fault ≡ UsageFault.Memory)) }
+    args: Result<Args, ErrorKind>,
+    host: &mut H,
+    out: &mut O,
+    err: &mut E,
+) -> WordsRun<H::File>
+    requires out_works { O.has_failed out.old ≡ false }
+    requires err_works { E.has_failed err.old ≡ false }
+    ensures { EndsWithReport (before_after O.Sink out.old out.new) (before_after E.Sink err.old err.new)
+        (IsProcessReport H.File.remaining ⟦<FromRead<BufReader<H::File>> as Source>⟧ args
+        (visit H.opens H.takes_input host.old host.new) result.sources) result.status }
 {
-    let args = match std::env::args(rt) {
+    let args = match args {
         Ok(args) => args,
-        Err(error) if error.kind() == ErrorKind::OutOfMemory => return Err(UsageFault::Memory),
-        Err(_) => return Err(UsageFault::Words),
-    };
-    let mut words = Vec::new(alloc);
-    for arg in args {
-        let word = Bytes::copy(alloc, arg.as_bytes())?;
-        words.push(word).map_err(AllocError::from)?;
-    }
-    Ok(words)
-}
-
-/// A file of the system, or standard input.
-#[derive(Drop)]
-pub(crate) enum HostFile {
-    Named(File),
-    Input(Stdin),
-}
-
-impl Read for HostFile {
-    fn read(&mut self, buf: &mut [u8]) -> io::Result<usize> {
-        match self {
-            HostFile::Named(file) => file.read(buf),
-            HostFile::Input(input) => input.read(buf),
+        Err(kind) => {
+            return match kind {
+                ErrorKind::OutOfMemory => without_words(&UsageFault::Memory, out, err),
+                _ => without_words(&UsageFault::Words, out, err),
+            };
         }
-    }
+    };
+    let Ok(words) = copy_words(alloc, args) else {
+        return without_words(&UsageFault::Memory, out, err);
+    };
+    run_words(alloc, words.as_slice(), host, out, err)
 }
 
-/// The files of the system.
-#[derive(Drop)]
-pub(crate) struct HostFiles<'r> {
-    pub(crate) rt: &'r HostRuntime,
-}
-
-impl Files for HostFiles<'_> {
-    ghost use Rattle.std.specs.Prelude.{⊤};
-
-    type File = HostFile;
-
-    // The system tells nothing of its files.
-    ghost opens = { λ _ _ _ _. ⊤ };
-
-    ghost takes_input = { λ _ _ _. ⊤ };
-
-    fn open(&mut self, name: &[u8]) -> Option<HostFile> {
-        let name = from_utf8(name).ok()?;
-        Some(HostFile::Named(File::open(self.rt, name).ok()?))
-    }
-
-    fn input(&mut self) -> HostFile {
-        HostFile::Input(self.rt.stdin())
-    }
-}
-
-/// Answers the words of the process with a status. The streams are of two types, so that no caller can exchange them.
-pub fn answer(rt: &HostRuntime, out: &mut ToWrite<Stdout>, err: &mut ToWrite<Stderr>) -> u8
-    requires out_works { ⟦<ToWrite<Stdout> as Sink>⟧.has_failed out.old ≡ false }
-    requires err_works { ⟦<ToWrite<Stderr> as Sink>⟧.has_failed err.old ≡ false }
-    ensures { EndsProcess ⟦<HostFiles<'static> as Files>⟧.opens ⟦<HostFiles<'static> as Files>⟧.takes_input
-        ⟦<HostFile as Read>⟧.remaining ⟦<FromRead<BufReader<HostFile>> as Source>⟧
-        (before_after ⟦<ToWrite<Stdout> as Sink>⟧ out.old out.new)
-        (before_after ⟦<ToWrite<Stderr> as Sink>⟧ err.old err.new)
-        result }
+/// Answers the words of the process with a status.
+pub fn answer<H: Host>(alloc: Global, host: &mut H) -> Answered<H::File, H::Out, H::Err>
+    ensures { EndsProcess
+        (record { gives_out = H.gives_out; gives_err = H.gives_err; gives_args = H.gives_args; opens = H.opens; takes_input = H.takes_input })
+        H.File.remaining ⟦<FromRead<BufReader<H::File>> as Source>⟧ ⟦<ToWrite<H::Out> as Sink>⟧ ⟦<ToWrite<H::Err> as Sink>⟧ host.old host.new result }
 {
-    let alloc = rt.alloc();
-    match words_of(rt, alloc) {
-        Ok(words) => run_words(alloc, words.as_slice(), &mut HostFiles { rt }, out, err).status,
-        Err(fault) => usage_status(&fault, out, err),
+    let mut out = ToWrite::new(host.out());
+    let mut err = ToWrite::new(host.err());
+    let args = host.args();
+    let WordsRun { status, sources } = answer_args(alloc, args, host, &mut out, &mut err);
+    Answered {
+        status,
+        out,
+        err,
+        sources,
     }
 }

@@ -8,11 +8,12 @@ mod run;
 mod tool;
 
 pub use ctd_arguments::{Setup, UsageFault, settings};
+pub use ctd_process::{Files, Host, System, SystemFile};
 pub use ctd_report::{
     Sink, ToWrite, ToolFault, Writer, report_usage, write_cannot_open, write_load_fault,
     write_outcome,
 };
-pub use files::{Files, FilesRun, Sources, check_files};
-pub use host::answer;
+pub use files::{FilesRun, Sources, check_files};
+pub use host::{Answered, answer};
 pub use run::{WordsRun, run_words, usage_status};
 pub use tool::run_tool;

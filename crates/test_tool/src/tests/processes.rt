@@ -3,6 +3,7 @@
 ghost use Rattle.std.specs.Prelude.{⊤};
 
 use crate::tests::memory::{AMPLE, Clipped, MemoryFile, Refusal, Room, Written};
+use crate::tests::reports::BAD_ARGUMENTS;
 use crate::tests::same;
 use crate::tests::words::words_of;
 use ctd_check::Bytes;
@@ -16,16 +17,26 @@ const LINE_OF_ONE: &str = "INT(1,10) NEWLINE";
 
 /// Files by their names, and standard input; it keeps a list of what it was asked for.
 #[derive(Drop)]
-struct MemoryFiles<'m> {
+pub(crate) struct MemoryFiles<'m> {
     named: &'m [(&'m str, &'m str)],
     input: &'m str,
     failing: &'m str,
-    asked: Vec<u8>,
+    pub(crate) asked: Vec<u8>,
 }
 
-impl MemoryFiles<'_> {
+impl<'m> MemoryFiles<'m> {
+    /// The files of these tests, where reading the file of this name fails after its bytes.
+    pub(crate) fn new(alloc: Global, failing: &'m str) -> Self {
+        MemoryFiles {
+            named: &NAMED,
+            input: "7",
+            failing,
+            asked: Vec::new(alloc),
+        }
+    }
+
     /// Adds a name to the list of what was asked for.
-    fn note(&mut self, name: &[u8]) {
+    pub(crate) fn note(&mut self, name: &[u8]) {
         let _ = self.asked.extend_from_slice(name);
         let _ = self.asked.push(b';');
     }
@@ -75,12 +86,7 @@ type Row = (&'static str, &'static str, u8, &'static str, &'static str);
 /// and the output has this room.
 fn is_answered(alloc: Global, words: &[Bytes], failing: &str, room: Room, row: &Row) -> bool {
     let (_, asked, status_wanted, out_text, err_text) = row;
-    let mut files = MemoryFiles {
-        named: &NAMED,
-        input: "7",
-        failing,
-        asked: Vec::new(alloc),
-    };
+    let mut files = MemoryFiles::new(alloc, failing);
     let mut out = Clipped::new(alloc, room);
     let mut err = Vec::new(alloc);
     let status = run_words(
@@ -140,8 +146,6 @@ fn a_verdict_is_of_the_files_that_the_words_name(rt: HostRuntime) -> Result<(), 
     judge(&rt, rt.alloc(), "", AMPLE, &VERDICTS)?;
     Ok(())
 }
-
-const BAD_ARGUMENTS: &str = "checktestdata: bad arguments\nTry 'checktestdata --help'.\n";
 
 const REFUSED: [Row; 6] = [
     (

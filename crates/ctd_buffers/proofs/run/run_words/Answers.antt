@@ -1,7 +1,7 @@
 use Rattle.std.proofs.Common.{◌≡◌, Err, inl, inr, rules}
 use Rattle.ctd_report.specs.declared.written.ToolFault.TheVariants.{Memory, Write}
 use Rattle.ctd_report.specs.Written.{before_after}
-use Rattle.ctd_tool.proofs.AnswerLemmas.{EndsWithReport-weaker, LeavesOneOf-EndsWithReport, BreaksOff-EndsWithReport, Memory-untouched}
+use Rattle.ctd_report.proofs.EndLemmas.{EndsWithReport-weaker, LeavesOneOf-EndsWithReport, BreaksOff-EndsWithReport, Memory-untouched}
 use Rattle.ctd_buffers.proofs.SourceLemmas.{report_in_memory}
 use Rattle.ctd_buffers.proofs.run.run_words.Goals as goal
 

@@ -1,9 +1,17 @@
-use Rattle.ctd_tool.proofs.AnswerLemmas.{ends_without_words}
-use Rattle.ctd_tool.specs.Theorem.{with_words}
 use Rattle.ctd_tool.proofs.host.answer.Goals as goal
 
-pub returns-in-Ok : goal.returns-in-Ok
-returns-in-Ok c = with_words c.as_slice.result.now _ _ _ c.run_words.ensures
-
-pub returns-in-Err : goal.returns-in-Err
-returns-in-Err c = ends_without_words _ _ _ _ _ _ _ c.in-Err.fault c.in-Err.ensures.faults c.usage_status.ensures
+pub returns : goal.returns
+returns g c = record {
+  begins = record {
+    out = c.out.result;
+    after_out = c.out.new.self;
+    out_is = c.out.ensures;
+    err = c.err.result;
+    after_err = c.err.new.self;
+    err_is = c.err.ensures;
+    args = c.args-args.result;
+    after_args = c.args-args.new.self;
+    args_are = c.args-args.ensures;
+  };
+  ends = rw (c.new-out.ensures, c.new-err.ensures) at c.answer_args-status.ensures;
+}

@@ -1,5 +1,5 @@
 use Rattle.std.proofs.Common.{◌≡◌, Err, refl, rules}
-use Rattle.ctd_tool.proofs.AnswerLemmas.{EndsWithReport-weaker, LeavesOneOf-EndsWithReport, BreaksOff-EndsWithReport, Memory-untouched}
+use Rattle.ctd_report.proofs.EndLemmas.{EndsWithReport-weaker, LeavesOneOf-EndsWithReport, BreaksOff-EndsWithReport, Memory-untouched}
 use Rattle.ctd_report.specs.Written.{before_after}
 use Rattle.ctd_report.specs.declared.written.ToolFault.TheVariants.{Memory, Write}
 use Rattle.ctd_tool.specs.Theorem.{of_files, of_words, no_memory}
@@ -19,7 +19,7 @@ returns g c =
           (before_after g.O.Sink c.args.out.now c.check_files-answer.new.out)
           (before_after g.E.Sink c.args.err.now c.check_files-answer.new.err)
           _ _ fault_is written in
-          EndsWithReport-weaker _ _ _ _ _ (λ report is. no_memory is) (rw (untouched.0, untouched.1) at w.usage_status-status.ensures))
+          EndsWithReport-weaker _ _ _ _ _ (λ report is. no_memory c.in-Ok.setup setup_is c.check_files-answer.ensures.visits is) (rw (untouched.0, untouched.1) at w.usage_status-status.ensures))
       | in-Err-Write w ↦ rw (w.out-is, w.err-is, w.status-is)
           (let fault_is : c.check_files-answer.result.answer ≡ Err Write = search rules in
           EndsWithReport-weaker _ _ _ _ _ (λ report files. of_files c.in-Ok.setup setup_is files) (BreaksOff-EndsWithReport _ _ _ (rw fault_is at written)))

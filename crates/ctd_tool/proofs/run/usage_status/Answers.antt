@@ -1,7 +1,7 @@
 use Rattle.std.proofs.Common.{Err, ap, refl}
 use Rattle.ctd_report.specs.Report.{usage_report}
-use Rattle.ctd_tool.proofs.AnswerLemmas.{breaks_off}
-use Rattle.ctd_tool.specs.Theorem.{whole}
+use Rattle.ctd_report.proofs.EndLemmas.{breaks_off}
+use Rattle.ctd_report.specs.Written.{whole}
 use Rattle.ctd_tool.proofs.run.usage_status.Goals as goal
 
 pub returns-in-Ok : goal.returns-in-Ok

@@ -1,18 +1,11 @@
--- Laws of what a command line is answered.
-use Rattle.std.proofs.Common.{◌≡◌, ◌≢◌, ◌⊎◌, ℕ, List, Option, Result, Ok, Err, inl, inr, refl, subst}
-use Rattle.std.specs.declared.alloc.Global.{Global}
-use Rattle.std.specs.declared.io.buffered.BufReader.{BufReader}
-use Rattle.ctd_source.specs.declared.from_read.FromRead.{FromRead}
-use Rattle.ctd_source.specs.declared.source.Source as sources
-use Rattle.ctd_arguments.specs.declared.setup.UsageFault.{UsageFault}
-use Rattle.ctd_arguments.specs.declared.setup.UsageFault.TheVariants as usage
+-- Laws of what a program ends with.
+use Rattle.std.proofs.Common.{◌≡◌, ◌≢◌, ℕ, Result, Ok, Err, refl, subst}
 use Rattle.ctd_report.specs.declared.sink.Sink as sinks
 use Rattle.ctd_report.specs.declared.written.ToolFault.{ToolFault}
 use Rattle.ctd_report.specs.declared.written.ToolFault.TheVariants.{Memory, Write}
-use Rattle.ctd_report.specs.Report.{Report, usage_report}
-use Rattle.ctd_report.specs.Written.{BeforeAfter, LeavesOneOf}
+use Rattle.ctd_report.specs.Report.{Report}
+use Rattle.ctd_report.specs.Written.{BeforeAfter, LeavesOneOf, EndsWithReport, whole, broken_off}
 use Rattle.ctd_report.specs.calls.Written.{Leaves}
-use Rattle.ctd_tool.specs.Theorem.{EndsWithReport, whole, broken_off, EndsProcess, bad_words, no_words}
 
 -- what ends in one of some reports ends in one of more
 pub EndsWithReport-weaker : {O E : Type 0} {S : sinks.Ghosts O} {T : sinks.Ghosts E} (out : BeforeAfter S) (err : BeforeAfter T) (IsReport IsMore : Report → Type 0) (status : ℕ)
@@ -40,10 +33,3 @@ breaks_off out err report Memory other h = absurd (other refl)
 pub Memory-untouched : {O E : Type 0} {S : sinks.Ghosts O} {T : sinks.Ghosts E} (out : BeforeAfter S) (err : BeforeAfter T) (IsReport : Report → Type 0) (answer : Result ℕ ToolFault)
     → answer ≡ Err Memory → LeavesOneOf out err IsReport answer → (out.new ≡ out.old) × (err.new ≡ err.old)
 Memory-untouched out err IsReport answer is h = subst (LeavesOneOf out err IsReport) is h
-
--- a process that got no words ends with the report of why
-pub ends_without_words : {F R O E : Type 0} {S : sinks.Ghosts O} {T : sinks.Ghosts E} (opens : F → List ℕ → Option R → F → Type 0) (takes_input : F → R → F → Type 0) (remaining : R → Option (List ℕ))
-    (G : sources.Ghosts (FromRead (BufReader R Global))) (out : BeforeAfter S) (err : BeforeAfter T) (status : ℕ) (fault : UsageFault) → (fault ≡ usage.Words) ⊎ (fault ≡ usage.Memory)
-    → EndsWithReport out err (λ report. report ≡ usage_report fault) status → EndsProcess opens takes_input remaining G out err status
-ends_without_words opens takes_input remaining G out err status fault (inl words) h = bad_words (subst (λ f. EndsWithReport out err (λ report. report ≡ usage_report f) status) words h)
-ends_without_words opens takes_input remaining G out err status fault (inr memory) h = no_words (subst (λ f. EndsWithReport out err (λ report. report ≡ usage_report f) status) memory h)

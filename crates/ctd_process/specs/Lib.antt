@@ -1,0 +1,2 @@
+-- what the theorem of the tool reaches: to be believed
+pub mod Process
