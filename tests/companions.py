@@ -4,6 +4,7 @@
 The last line counts what passed and failed. usage: tests/companions.py [PROGRAM]"""
 from __future__ import annotations
 
+import errno
 import importlib.machinery
 import importlib.util
 import io
@@ -16,6 +17,8 @@ import tempfile
 import unittest
 from pathlib import Path
 from types import ModuleType
+from typing import Any
+from unittest import mock
 
 from results import TOP, checker_to_test, run_unit_tests
 
@@ -60,6 +63,11 @@ class CompanionTest(unittest.TestCase):
         """A checker that does what a script says, in the folder."""
         self.write("checktestdata", f"#!/bin/sh\n{script}\n")
         (self.folder / "checktestdata").chmod(0o755)
+
+    def run_shell(self, line: str) -> subprocess.CompletedProcess[bytes]:
+        """A run of a command line of bash in the folder, where Python has its own settings alone."""
+        environment = {name: value for name, value in os.environ.items() if not name.startswith("PYTHON")}
+        return subprocess.run(["bash", "-c", line], cwd=self.folder, env=environment, capture_output=True, timeout=OUT_OF_TIME, check=False)
 
     def run_tool(self, *words: str | bytes, stdin: bytes | int = b"", checker: str | None = None) -> subprocess.CompletedProcess[bytes]:
         """A run in the folder, with another checker than the built one where one is named."""
@@ -280,8 +288,80 @@ class Show(CompanionTest):
 
     def test_files_that_cannot_be_read(self) -> None:
         (self.folder / "folder").mkdir()
-        shown = "none.in: cannot read: No such file or directory\nfolder: cannot read: Is a directory\nright.in: testdata ok!\n"
+        shown = "none.in: cannot read: No such file or directory\nfolder: no files *.in in this folder\nright.in: testdata ok!\n"
         self.assert_run(2, shown + "3 checked, 1 fit, 0 rejected, 2 without verdict\n", "list.ctd", "none.in", "folder", "right.in")
+
+    def test_the_data_below_a_folder(self) -> None:
+        for name in ["secret/2.in", "secret/10.in", "secret/group/sub/1.in", "sample/1.in", "sample/1.ans", "secret/in", "sample/.in"]:
+            (self.folder / "data" / name).parent.mkdir(parents=True, exist_ok=True)
+            self.write(f"data/{name}", "1\n1\n" if name.endswith(".in") else "wrong")
+        (self.folder / "data/folder.in").mkdir()
+        names = ["sample/.in", "sample/1.in", "secret/10.in", "secret/2.in", "secret/group/sub/1.in"]
+        for folder in ["data", "data/"]:
+            shown = "".join(f"data/{name}: testdata ok!\n" for name in names)
+            self.assert_run(0, f"{shown}5 checked, 5 fit, 0 rejected, 0 without verdict\n", "list.ctd", folder)
+        self.write("data/secret/group/sub/2.in", "0\n")
+        self.assert_run(1, "data/secret/group/sub/2.in:1:1: error: value out of range (list.ctd:1:1)\n", "--gcc", "list.ctd", "data")
+
+    def test_a_folder_in_a_folder_that_cannot_be_read(self) -> None:
+        companion = load("ctd-show").sys.modules["ctd_companion"]
+        for name in ["1.in", "z/3.in", "closed/2.in"]:
+            (self.folder / "data" / name).parent.mkdir(parents=True, exist_ok=True)
+            self.write(f"data/{name}", "")
+        open_folder = os.scandir
+
+        def scandir(path: str) -> Any:
+            # (root reads every folder, so that it is made to fail)
+            if path.endswith("closed"):
+                raise PermissionError(errno.EACCES, "Permission denied", path)
+            return open_folder(path)
+
+        with mock.patch("os.scandir", scandir):
+            found = companion.files_below(f"{self.folder}/data")
+        names = [(Path(file.name).relative_to(self.folder).as_posix(), file.fault) for file in found]
+        self.assertEqual(names, [("data/1.in", None), ("data/closed", "cannot read: Permission denied"), ("data/z/3.in", None)])
+
+    def test_a_list_of_files(self) -> None:
+        (self.folder / "data").mkdir()
+        for name in ["data/1.in", "a b.in", "a\nb.in"]:
+            self.write(name, "1\n1\n")
+        for names, shown in [
+            (b"right.in\na b.in\n", ["right.in", "a b.in"]),
+            (b"a b.in\n\nright.in", ["a b.in", "right.in"]),
+            (b"right.in\0a\nb.in\0", ["right.in", r"a\nb.in"]),
+            (b"a\nb.in\0right.in", [r"a\nb.in", "right.in"]),
+            (b"data\n", ["data/1.in"]),
+        ]:
+            with self.subTest(names):
+                self.write("names", names)
+                told = "".join(f"{name}: testdata ok!\n" for name in shown)
+                counts = f"{len(shown)} checked, {len(shown)} fit, 0 rejected, 0 without verdict\n" if len(shown) > 1 else ""
+                self.assert_run(0, told + counts, "--files-from=names", "list.ctd")
+                self.assert_run(0, told + counts, "list.ctd", "--files-from", "-", stdin=names)
+        counts = "2 checked, 2 fit, 0 rejected, 0 without verdict\n"
+        self.assert_run(0, f"right.in: testdata ok!\ndata/1.in: testdata ok!\n{counts}", "--files-from=names", "list.ctd", "right.in")
+
+    def test_lists_that_are_refused(self) -> None:
+        self.write("empty", "\n")
+        for names, told in [("empty", b"the list of files is empty"), ("-", b"standard input is the list of files, and cannot be data too")]:
+            ran = self.run_tool("--files-from", names, "list.ctd", *(["-"] if names == "-" else []), stdin=b"right.in\n")
+            self.assertEqual((ran.stdout, ran.stderr.splitlines()[-1], ran.returncode), (b"", b"ctd-show: error: " + told, 2))
+        ran = self.run_tool("--files-from=none", "list.ctd")
+        self.assertEqual((ran.stdout, ran.stderr, ran.returncode), (b"", b"ctd-show: none: No such file or directory\n", 2))
+
+    def test_a_list_of_many_files(self) -> None:
+        self.write_checker("cat >/dev/null\necho testdata ok!")
+        ran = self.run_tool("-q", "--files-from=-", "list.ctd", stdin=b"right.in\n" * 2000, checker="./checktestdata")
+        self.assertEqual((ran.stdout, ran.returncode), (b"2000 checked, 2000 fit, 0 rejected, 0 without verdict\n", 0))
+
+    def test_no_more_tasks_wait_than_are_needed(self) -> None:
+        companion = load("ctd-show").sys.modules["ctd_companion"]
+        begun: list[int] = []
+        results = companion.results_in_order(begun.append, range(100_000), 2, companion.Progress(100_000, "files"))
+        next(results)
+        self.assertLess(len(begun), 100)
+        results.close()
+        self.assertEqual(list(companion.results_in_order(str, range(100), 2, companion.Progress(100, "files"))), [str(number) for number in range(100)])
 
     def test_quiet(self) -> None:
         self.write("wrong.in", "0\n")
@@ -337,6 +417,22 @@ class Show(CompanionTest):
                 ran = self.run_tool("--", "list.ctd", name)
                 self.assertEqual((ran.stdout, ran.returncode), (name + b": testdata ok!\n", 0))
 
+    def test_control_characters_in_names_are_escaped(self) -> None:
+        for name, shown in [("a\nb.in", r"a\nb.in"), ("\x1b[31m\x7f\t.in", r"\x1b[31m\x7f\t.in"), ("\u202eé\x85.in", r"\u202eé\x85.in"), (r"a\b.in", r"a\\b.in")]:
+            with self.subTest(shown):
+                self.write(os.fsencode(name), "0\n")
+                ran = self.run_tool("list.ctd", os.fsencode(name))
+                self.assertEqual(ran.stdout.decode().splitlines()[0], f"{shown}: line 1 column 1: value out of range (program line 1 column 1)")
+                ran = self.run_tool("--gcc", "list.ctd", os.fsencode(name))
+                self.assertEqual(ran.stdout.decode(), f"{shown}:1:1: error: value out of range (list.ctd:1:1)\n")
+
+    def test_control_characters_in_the_name_of_the_program_are_escaped(self) -> None:
+        self.write("\x1b.ctd", "INT(5,9)")
+        self.write("wrong.in", "1")
+        self.assertEqual(self.run_tool("\x1b.ctd", "wrong.in").stdout.decode().splitlines()[3], r"\x1b.ctd:")
+        self.assertEqual(self.run_tool("--gcc", "\x1b.ctd", "wrong.in").stdout, rb"wrong.in:1:1: error: value out of range (\x1b.ctd:1:1)" + b"\n")
+        self.assert_run(2, "checktestdata: cannot open \\x1b\\n.ctd\n", "\x1b\n.ctd", "right.in")
+
     def test_a_checker_that_breaks_off(self) -> None:
         self.write_checker("kill -9 $$")
         ran = self.run_tool("list.ctd", "right.in", checker="./checktestdata")
@@ -379,8 +475,7 @@ class Show(CompanionTest):
         self.assertEqual(self.run_tool("list.ctd", "right.in", checker="./checktestdata").stderr, b"")
 
     def test_a_reader_that_goes_away(self) -> None:
-        call = f"{TOOLS}/ctd-show --checker {CHECKER} list.ctd {'right.in ' * 200} | head -n 1"
-        ran = subprocess.run(["bash", "-c", call], cwd=self.folder, capture_output=True, timeout=OUT_OF_TIME, check=False)
+        ran = self.run_shell(f"{TOOLS}/ctd-show --checker {CHECKER} list.ctd {'right.in ' * 200} | head -n 1")
         self.assertEqual((ran.stdout, ran.stderr), (b"right.in: testdata ok!\n", b""))
 
     def test_wrong_words(self) -> None:
@@ -530,7 +625,7 @@ class Mutate(CompanionTest):
         self.write("right.in", "5\n")
         ran = self.run_tool("-o", "right.in/made", "anything.ctd", "right.in")
         self.assertEqual((ran.stdout, ran.returncode), (b"", 2))
-        self.assertEqual(ran.stderr, b"ctd-mutate: [Errno 20] Not a directory: 'right.in/made'\n")
+        self.assertEqual(ran.stderr, b"ctd-mutate: right.in/made: Not a directory\n")
 
     def test_the_mark_is_explained_where_it_is_used(self) -> None:
         self.write("anything.ctd", ANYTHING)
@@ -552,10 +647,17 @@ class Mutate(CompanionTest):
         self.assertEqual(lines[-2], f'  right.in:1: "…{"a" * 20}b{"1" * 19}…" → "…{"a" * 20}B{"1" * 19}…"')
 
 
-class Both(unittest.TestCase):
+class Both(CompanionTest):
+    TOOLS = ["ctd-show", "ctd-mutate"]
+
+    def setUp(self) -> None:
+        super().setUp()
+        self.write("number.ctd", "INT(1,10) NEWLINE")
+        self.write("right.in", "5\n")
+
     def test_help_and_version(self) -> None:
         version = self.written_by(CHECKER, "--version").split()[1]
-        for tool in ["ctd-show", "ctd-mutate"]:
+        for tool in self.TOOLS:
             with self.subTest(tool):
                 self.assertTrue(self.written_by(TOOLS / tool, "--help").startswith(f"usage: {tool} [-h]"))
                 self.assertEqual(self.written_by(TOOLS / tool, "--version"), f"{tool} {version}\n")
@@ -563,6 +665,32 @@ class Both(unittest.TestCase):
     @staticmethod
     def written_by(command: Path, word: str) -> str:
         return subprocess.run([command, word], capture_output=True, text=True, check=True).stdout
+
+    def test_streams_that_are_closed_or_full(self) -> None:
+        """One line of error and status 2, and never a traceback."""
+        for tool in self.TOOLS:
+            call = f"{TOOLS}/{tool} --checker {CHECKER}"
+            for rest, status, err in [
+                ("number.ctd right.in >&-", 2, "standard output is closed"),
+                ("--help >&-", 2, "standard output is closed"),
+                ("number.ctd right.in >/dev/full", 2, "No space left on device"),
+                ("--help >/dev/full", 2, "No space left on device"),
+                ("number.ctd right.in >/dev/null 2>&-", 0, None),
+                ("number.ctd none.in >/dev/null 2>&-", 2, None),
+                ("number.ctd right.in >&- 2>&-", 2, None),
+                ("number.ctd right.in >/dev/full 2>/dev/full", 2, None),
+                ("number.ctd right.in <&- >/dev/null", 0, None),
+                ("number.ctd - <&- >/dev/null", 2, None),
+                ("--files-from=- number.ctd <&- >/dev/null", 2, "Bad file descriptor"),
+            ]:
+                with self.subTest(tool=tool, rest=rest):
+                    ran = self.run_shell(f"{call} {rest}")
+                    self.assertEqual((ran.stdout, ran.stderr.decode(), ran.returncode), (b"", f"{tool}: {err}\n" if err else "", status))
+
+    def test_standard_input_that_is_closed_is_not_another_file(self) -> None:
+        for tool in self.TOOLS:
+            ran = self.run_shell(f"{TOOLS}/{tool} --checker {CHECKER} number.ctd right.in - <&- | grep ^-:")
+            self.assertEqual((ran.stdout, ran.stderr), (b"-: cannot read: Bad file descriptor\n", b""))
 
 
 if __name__ == "__main__":
