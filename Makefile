@@ -17,7 +17,7 @@ bashdir ?= $(datadir)/bash-completion/completions
 zshdir ?= $(datadir)/zsh/site-functions
 fishdir ?= $(datadir)/fish/vendor_completions.d
 vimdir ?= $(datadir)/vim/vimfiles
-# What belongs to these programs alone: the companions with the module that they share, and the grammar for editors.
+# What belongs to these programs alone: the companions with their modules, and the grammar for editors.
 ourdir := $(datadir)/checktestdata
 pythondir ?= $(ourdir)/python
 COUNT ?= 100000
@@ -27,7 +27,7 @@ SEED ?= 1
 # completions/ and a man page in man/; further man pages, and texts.
 programs := checktestdata ctd-lint
 companions := ctd-show ctd-mutate
-modules := ctd_companion.py
+modules := ctd_companion.py ctd_changes.py
 commands := $(programs) $(companions)
 manuals := $(commands:=.1) checktestdata.5
 texts := README.md CHANGELOG.md LICENSE-MIT LICENSE-APACHE NOTICE

@@ -507,24 +507,38 @@ class Mutate(CompanionTest):
             ("leading-zero", b"1 -2\n0 a7\n", [b"01 -2\n0 a7\n", b"1 -02\n0 a7\n", b"1 -2\n00 a7\n"]),
             ("minus-zero", b"0 10 -0 0\n", [b"-0 10 -0 0\n", b"0 10 -0 -0\n"]),
             ("plus", b"1 -2 x3 0\n", [b"+1 -2 x3 0\n", b"1 -2 x3 +0\n"]),
+            ("crlf-everywhere", b"1\r\n2\n", [b"1\r\n2\r\n"]),
+            ("crlf-everywhere", b"1\r\n2\r\n", []),
+            ("tab", b"1 2\n a\n", [b"1\t2\n a\n", b"1 2\n\ta\n"]),
             ("doubled-separator", b"1 2,3\t4\n", [b"1  2,3\t4\n", b"1 2,,3\t4\n", b"1 2,3\t\t4\n"]),
             ("blank-line", b"1\n2\n", [b"\n1\n2\n", b"1\n\n2\n", b"1\n2\n\n"]),
             ("byte-order-mark", b"1\n", [b"\xef\xbb\xbf1\n"]),
+            ("huge", b"1 -2\nx3\n", [b"9" * 40 + b" -2\nx3\n", b"1 " + b"9" * 40 + b"\nx3\n"]),
+            ("zero", b"7 0\n-2 x3\n", [b"0 0\n-2 x3\n", b"7 0\n0 x3\n"]),
+            ("minus-one", b"7 -1\n0\n", [b"-1 -1\n0\n", b"7 -1\n-1\n"]),
+            ("as-next", b"5 7\n-2 -2\n", [b"7 7\n-2 -2\n", b"5 -2\n-2 -2\n"]),
+            ("as-previous", b"5 7\n-2 -2\n", [b"5 5\n-2 -2\n", b"5 7\n7 -2\n"]),
+            ("as-first", b"5 7\n1 2 3 4\nx 8 9 7 8\n", [b"5 7\n1 2 1 4\nx 8 9 7 8\n", b"5 7\n1 2 3 1\nx 8 9 7 8\n", b"5 7\n1 2 3 4\nx 8 9 8 8\n"]),
             ("above-next", b"5 7\n-2\n", [b"8 7\n-2\n", b"5 -1\n-2\n"]),
             ("above-previous", b"5 7\n-2\n", [b"5 6\n-2\n", b"5 7\n8\n"]),
             ("below-next", b"5 7\n-2\n", [b"6 7\n-2\n", b"5 -3\n-2\n"]),
             ("below-previous", b"5 7\n-2\n", [b"5 4\n-2\n", b"5 7\n6\n"]),
+            ("dropped-number", b"1 2 3\n4\na 5,6\n", [b"2 3\n4\na 5,6\n", b"1 3\n4\na 5,6\n", b"1 2\n4\na 5,6\n", b"1 2 3\n\na 5,6\n", b"1 2 3\n4\na,6\n", b"1 2 3\n4\na 5\n"]),
+            ("extra-number", b"1,2\n4\n", [b"1,1,2\n4\n", b"1,2,2\n4\n", b"1,2\n4 4\n"]),
             ("dropped-line", b"1\n2\n3", [b"2\n3", b"1\n3", b"1\n2\n"]),
             ("doubled-line", b"1\n2\n3", [b"1\n1\n2\n3", b"1\n2\n2\n3", b"1\n2\n3\n3"]),
             ("exchanged-lines", b"1\n2\n\n3\n", [b"2\n1\n\n3\n", b"1\n\n2\n3\n", b"1\n2\n3\n\n"]),
+            ("exchanged-lines", b"1\n2\n3", [b"2\n1\n3", b"1\n3\n2"]),
             ("letter-case", b"aB1\n", [b"AB1\n", b"ab1\n"]),
+            ("empty-file", b"1\n2\n", [b""]),
+            ("empty-file", b"", []),
         ]:
             with self.subTest(kind=kind, data=data):
                 self.assertEqual(self.made(kind, data), made)
 
     def test_every_kind_is_tried_above(self) -> None:
         listed = [line.split()[0] for line in self.run_tool("--kinds").stdout.decode().splitlines()]
-        self.assertEqual(len(listed), 18)
+        self.assertEqual(len(listed), 28)
 
     def test_changes_are_spread_over_the_file(self) -> None:
         # In 18 bytes: the first line that begins at 0, at 9.7 or later, and at 13.4 or later.
@@ -548,19 +562,26 @@ class Mutate(CompanionTest):
         self.write("right.in", "5\n")
         self.assert_run(
             0,
-            "                                             made  rejected  let through  no verdict\n"
-            "a space at the end of a line                    1         1            0           0\n"
-            "no line feed at the end of the file             1         1            0           0\n"
-            "a carriage return at the end of a line          1         1            0           0\n"
-            "a carriage return at the end of each line       1         1            0           0\n"
-            "a number with a leading zero                    1         1            0           0\n"
-            "a number with a plus                            1         1            0           0\n"
-            "an extra blank line                             2         2            0           0\n"
-            "a byte order mark                               1         1            0           0\n"
-            "a line dropped *                                1         1            0           0\n"
-            "a line twice *                                  1         1            0           0\n"
-            "* may be another file that fits\n"
-            "11 made, 11 rejected, 0 let through, 0 without verdict\n",
+            "should not fit                             made  rejected  let through  no verdict\n"
+            "a space at the end of a line                  1         1            0           0\n"
+            "no line feed at the end of the file           1         1            0           0\n"
+            "a carriage return at the end of a line        1         1            0           0\n"
+            "a carriage return at the end of each line     1         1            0           0\n"
+            "an extra blank line                           2         2            0           0\n"
+            "a byte order mark                             1         1            0           0\n"
+            "a number with a leading zero                  1         1            0           0\n"
+            "a number with a plus                          1         1            0           0\n"
+            "a number of 40 digits                         1         1            0           0\n"
+            "may fit                                    made  rejected  let through  no verdict\n"
+            "0 in place of a number                        1         1            0           0\n"
+            "-1 in place of a number                       1         1            0           0\n"
+            "a number dropped                              1         1            0           0\n"
+            "a number too many                             1         1            0           0\n"
+            "a line dropped                                1         1            0           0\n"
+            "a line twice                                  1         1            0           0\n"
+            "an empty file                                 1         1            0           0\n"
+            "should not fit: 10 made, 10 rejected, 0 let through, 0 without verdict\n"
+            "may fit: 7 made, 7 rejected, 0 let through, 0 without verdict\n",
             "number.ctd",
             "right.in",
         )
@@ -569,22 +590,83 @@ class Mutate(CompanionTest):
         # 8/n stops the check where n is 0, which is one above -1; and a pair in either order fits.
         self.write("divide.ctd", "INT(-9,9,n) SPACE INT(-9,9) NEWLINE ASSERT(8/n<9)")
         self.write("right.in", "5 -1\n")
-        self.assert_run(
-            1,
-            "                                             made  rejected  let through  no verdict\n"
-            "a number one above the next *                   1         0            0           1\n"
-            "a number one above the one before it *          1         0            1           0\n"
-            "* may be another file that fits\n"
-            "no verdict: a number one above the next\n"
+        shown = (
+            "may fit                                    made  rejected  let through  no verdict\n"
+            "a number one more than the one after it       1         0            0           1\n"
+            "a number one more than the one before it      1         0            1           0\n"
+            "no verdict: a number one more than the one after it (may be another file that fits)\n"
             '  right.in:1: "5·-1\\n" → "0·-1\\n": division by zero\n'
-            "let through: a number one above the one before it\n"
+            "let through: a number one more than the one before it (may be another file that fits)\n"
             '  right.in:1: "5·-1\\n" → "5·6\\n"\n'
-            "2 made, 0 rejected, 1 let through, 1 without verdict\n",
-            "--only",
-            "above-next,above-previous",
-            "divide.ctd",
-            "right.in",
+            "may fit: 2 made, 0 rejected, 1 let through, 1 without verdict\n"
         )
+        words = ["--only", "above-next,above-previous", "divide.ctd", "right.in"]
+        self.assert_run(0, shown, *words)
+        self.assert_run(0, shown, "--strict", *words)
+        self.assert_run(1, shown, "--no-strict", *words)
+
+    def test_what_should_not_fit_counts_for_the_status(self) -> None:
+        self.write("loose.ctd", "INT(1,10) IF(MATCH(\" \")) SPACE END NEWLINE IF(ISEOF) ELSE INT(1,9) NEWLINE END")
+        self.write("right.in", "5\n")
+        for words, status in [("", 1), ("--strict", 1), ("--no-strict", 1), ("--ignore trailing-space", 0), ("--ignore trailing-space --no-strict", 1), ("-w", 0)]:
+            with self.subTest(words):
+                self.assertEqual(self.run_tool(*words.split(), "loose.ctd", "right.in").returncode, status)
+
+    def test_without_a_verdict_counts_as_not_rejected(self) -> None:
+        self.write("steps.ctd", "WHILE(!ISEOF) INT(0,99) NEWLINE END")
+        self.write("right.in", "5\n")
+        ran = self.run_tool("--only=blank-line", "--max-steps=6", "steps.ctd", "right.in")
+        self.assertEqual((ran.stdout.decode().splitlines()[-1], ran.returncode), ("should not fit: 2 made, 2 rejected, 0 let through, 0 without verdict", 0))
+        ran = self.run_tool("--only=doubled-line", "--no-strict", "--max-steps=6", "steps.ctd", "right.in")
+        self.assertEqual((ran.stdout.decode().splitlines()[-1], ran.returncode), ("may fit: 1 made, 0 rejected, 0 let through, 1 without verdict", 1))
+
+    def test_correct_programs_end_with_0(self) -> None:
+        for program in ["numbers", "list", "graph", "grids"]:
+            folder = TOP / "examples" / program
+            with self.subTest(program):
+                ran = self.run_tool("-n", "2", str(folder / "program.ctd"), str(folder / "right.in"))
+                self.assertEqual((ran.returncode, ran.stderr), (0, b""), ran.stdout.decode())
+
+    def test_with_w_other_blanks_may_fit(self) -> None:
+        self.write("pair.ctd", "INT(1,9) SPACE INT(1,9) NEWLINE")
+        self.write("right.in", "5 7\n")
+        words = ["--only", "tab,trailing-space,blank-line", "pair.ctd", "right.in"]
+        ran = self.run_tool("-w", *words)
+        self.assertEqual(
+            (ran.stdout.decode().splitlines()[-2:], ran.returncode),
+            (["should not fit: 2 made, 2 rejected, 0 let through, 0 without verdict", "may fit: 2 made, 0 rejected, 2 let through, 0 without verdict"], 0),
+        )
+        ran = self.run_tool(*words)
+        self.assertEqual((ran.stdout.decode().splitlines()[-1], ran.returncode), ("should not fit: 4 made, 4 rejected, 0 let through, 0 without verdict", 0))
+
+    def test_a_file_larger_than_the_memory(self) -> None:
+        # One line of 600 MB, with 400 MB of memory; the checker looks at its first bytes alone.
+        self.write_checker("head -c 1000 >/dev/null\necho testdata ok!")
+        with open(self.folder / "large.in", "wb") as file:
+            file.truncate(600_000_000)
+        kinds = "trailing-space,crlf-everywhere,byte-order-mark,doubled-line,dropped-line,empty-file"
+        ran = self.run_shell(f"ulimit -v 400000; {TOOLS}/ctd-mutate -j 1 --only {kinds} --checker ./checktestdata list.ctd large.in")
+        lines = ran.stdout.decode().splitlines()
+        self.assertEqual((lines[-2:], ran.stderr, ran.returncode), (["should not fit: 2 made, 0 rejected, 2 let through, 0 without verdict", "may fit: 3 made, 0 rejected, 3 let through, 0 without verdict"], b"", 1))
+        line = "\\x00" * 40
+        self.assertIn(f'  large.in:1: "{line}…" → "\\xef\\xbb\\xbf{line[:37 * 4]}…"', lines)
+        self.assertIn(f'  large.in:1: "…{line[:80]}" → "…{line[:80]}·"', lines)
+        self.assertIn(f'  large.in:1: "{line}…" → ""', lines)
+
+    def test_places_in_a_large_file(self) -> None:
+        # Each pattern matches at the same places in windows as in the whole; of a large file, the windows are spread from its start to its end.
+        changes = load("ctd-mutate").sys.modules["ctd_changes"]
+        part = b"1 -2 x3\n\n0, 12 9\na.b 007\r\n" + b"5" * 999 + b" "
+        data = b"7" + part * (2_500_000 // len(part))
+        (self.folder / "large.in").write_bytes(data)
+        with open(self.folder / "large.in", "rb") as file:
+            source = changes.Source(file, 1, len(data) - 1)
+            for kind in changes.KINDS:
+                with self.subTest(kind.name):
+                    self.assertEqual([place.start for place in source.places(kind.place, 0)], [found.start() for found in kind.place.finditer(data[1:])])
+        source = changes.Source(io.BytesIO(), 0, 100_000_000)
+        self.assertEqual((source.windows[0], source.windows[-1]), (0, 100_000_001 - changes.WINDOW))
+        self.assertEqual(len(source.windows), 8)
 
     def test_five_of_a_kind_are_listed_or_all(self) -> None:
         self.write("anything.ctd", ANYTHING)
@@ -592,8 +674,8 @@ class Mutate(CompanionTest):
         lines = self.run_tool("--only", "letter-case", "anything.ctd", "right.in").stdout.decode().splitlines()
         changed = ["Abcdefg", "aBcdefg", "abCdefg", "abcDefg", "abcdEfg"]
         listed = [f'  right.in:1: "abcdefg\\n" → "{line}\\n"' for line in changed]
-        ending = ["  and 2 more", "7 made, 0 rejected, 7 let through, 0 without verdict"]
-        self.assertEqual(lines[3:], ["let through: a letter of the other case", *listed, *ending])
+        ending = ["  and 2 more", "may fit: 7 made, 0 rejected, 7 let through, 0 without verdict"]
+        self.assertEqual(lines[2:], ["let through: a letter of the other case (may be another file that fits)", *listed, *ending])
         self.assertIn('"abcdefG\\n"', self.run_tool("-a", "--only", "letter-case", "anything.ctd", "right.in").stdout.decode())
 
     def test_a_file_that_does_not_fit(self) -> None:
@@ -604,7 +686,7 @@ class Mutate(CompanionTest):
         lines = ran.stdout.decode().splitlines()
         self.assertEqual(lines[0], "wrong.in: line 1 column 1: value out of range (program line 1 column 1)")
         self.assertEqual(lines[1], "none.in: cannot read: No such file or directory")
-        self.assertEqual((ran.returncode, lines[-1]), (2, "1 made, 1 rejected, 0 let through, 0 without verdict"))
+        self.assertEqual((ran.returncode, lines[-1]), (2, "should not fit: 1 made, 1 rejected, 0 let through, 0 without verdict"))
 
     def test_a_program_that_is_refused(self) -> None:
         self.write("open.ctd", "INT(1,10")
@@ -626,13 +708,6 @@ class Mutate(CompanionTest):
         ran = self.run_tool("-o", "right.in/made", "anything.ctd", "right.in")
         self.assertEqual((ran.stdout, ran.returncode), (b"", 2))
         self.assertEqual(ran.stderr, b"ctd-mutate: right.in/made: Not a directory\n")
-
-    def test_the_mark_is_explained_where_it_is_used(self) -> None:
-        self.write("anything.ctd", ANYTHING)
-        self.write("right.in", "5\n")
-        for kind, explained in [("plus", False), ("dropped-line", True)]:
-            out = self.run_tool("--only", kind, "anything.ctd", "right.in").stdout.decode()
-            self.assertEqual("* may be another file that fits" in out, explained)
 
     def test_an_unknown_kind(self) -> None:
         self.write("right.in", "5\n")

@@ -52,6 +52,7 @@ share/bash-completion/completions/ctd-mutate
 share/bash-completion/completions/ctd-show
 share/checktestdata/tools/ctd-mutate
 share/checktestdata/tools/ctd-show
+share/checktestdata/tools/ctd_changes.py
 share/checktestdata/tools/ctd_companion.py
 share/checktestdata/vscode/language-configuration.json
 share/checktestdata/vscode/package.json
@@ -93,7 +94,7 @@ printf '77\n' >"$work/wrong.in"
 beside() { (cd "$work" && "$prefix/bin/$1" number.ctd "${@:2}"); }
 expect 'ctd-lint runs' same '' "$(beside ctd-lint)"
 expect 'ctd-show finds the checker beside it' same 'right.in: testdata ok!' "$(beside ctd-show right.in)"
-expect 'ctd-mutate finds the checker beside it' same '11 made, 11 rejected, 0 let through, 0 without verdict' "$(beside ctd-mutate right.in | tail -n 1)"
+expect 'ctd-mutate finds the checker beside it' same 'may fit: 7 made, 7 rejected, 0 let through, 0 without verdict' "$(beside ctd-mutate right.in | tail -n 1)"
 expect 'the companions leave nothing where they stand' same "$wanted" "$(installed)"
 
 touch "$prefix/bin/other" "$prefix/share/vim/vimfiles/syntax/other.vim"

@@ -13,7 +13,7 @@ import sys
 import tempfile
 import time
 from collections import deque
-from collections.abc import Callable, Iterator, Sequence
+from collections.abc import Callable, Iterable, Iterator, Sequence
 from concurrent.futures import Future, ThreadPoolExecutor, wait
 from dataclasses import dataclass, field
 from pathlib import Path
@@ -32,6 +32,8 @@ BLOCK = 65536
 # How many tasks for each worker are begun or wait, before the first result is taken.
 TASKS_AHEAD = 16
 
+# What the checker writes below its message, where the command line is refused.
+ADVICE = b"Try 'checktestdata --help'.\n"
 DATA_FAULT = re.compile(r"(?:checktestdata: )?line (\d+) column (\d+): (.*) \((program (?:line (\d+) column (\d+)|start|end))\)", re.DOTALL)
 PROGRAM_FAULT = re.compile(r"checktestdata: program line (\d+) column (\d+): (.*)", re.DOTALL)
 
@@ -78,7 +80,8 @@ def printable(text: str) -> str:
 
 def answer_of(status: int, out: bytes, err: bytes) -> Answer:
     """The answer that a status and the bytes of both streams are."""
-    line = printable(os.fsdecode((err if status == NO_VERDICT else out).removesuffix(b"\n")))
+    written = (err if status == NO_VERDICT else out).removesuffix(ADVICE).removesuffix(b"\n")
+    line = printable(os.fsdecode(written))
     if status not in (FITS, REJECTED, NO_VERDICT) or not line:
         ending = f"was ended by signal {-status}" if status < 0 else f"ended with status {status}"
         return Answer(NO_VERDICT, f"{CHECKER}: the checker {ending}", f"the checker {ending}")
@@ -101,35 +104,38 @@ class Checker:
     def words(self) -> list[str]:
         return [self.path, *self.options, "--", self.program]
 
-    def check(self, data: bytes) -> Answer:
-        """Checks data that are held."""
-        ran = subprocess.run(self.words, input=data, stdout=subprocess.PIPE, stderr=subprocess.PIPE, check=False)
-        return answer_of(ran.returncode, ran.stdout, ran.stderr)
-
     def check_file(self, data: IO[bytes]) -> tuple[Answer, IO[bytes]]:
         """Checks the data of a file from where it stands. The second result is a file that can be read again: the same, or where it is a pipe
         a copy of what the checker was given."""
         if data.seekable():
             ran = subprocess.run(self.words, stdin=data, stdout=subprocess.PIPE, stderr=subprocess.PIPE, check=False)
             return answer_of(ran.returncode, ran.stdout, ran.stderr), data
-        return self._check_pipe(data)
-
-    def _check_pipe(self, data: IO[bytes]) -> tuple[Answer, IO[bytes]]:
-        """Checks data that can be read only once. No more is read than the checker takes."""
         copy = tempfile.TemporaryFile()
+        answer = self.check_blocks(copied_blocks(data, copy))
+        copy.flush()
+        return answer, copy
+
+    def check_blocks(self, blocks: Iterable[bytes]) -> Answer:
+        """Checks data that come in blocks. No more are asked for than the checker takes."""
         with subprocess.Popen(self.words, stdin=subprocess.PIPE, stdout=subprocess.PIPE, stderr=subprocess.PIPE) as process:
             assert process.stdin and process.stdout and process.stderr
             try:
                 with process.stdin:
-                    while block := data.read1(BLOCK):  # type: ignore[attr-defined]
-                        copy.write(block)
+                    for block in blocks:
                         process.stdin.write(block)
                         process.stdin.flush()
             except BrokenPipeError:
                 pass
             # The checker writes one line, which the pipes have room for.
             out, err = process.stdout.read(), process.stderr.read()
-        return answer_of(process.returncode, out, err), copy
+        return answer_of(process.returncode, out, err)
+
+
+def copied_blocks(data: IO[bytes], copy: IO[bytes]) -> Iterator[bytes]:
+    """The bytes of a file that can be read only once, in blocks as they come; each is written to a copy."""
+    while block := data.read1(BLOCK):  # type: ignore[attr-defined]
+        copy.write(block)
+        yield block
 
 
 def find_checker(given: str | None) -> str | None:
