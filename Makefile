@@ -30,7 +30,7 @@ companions := ctd-show ctd-cover ctd-mutate ctd-package
 modules := ctd_changes.py ctd_companion.py ctd_coverage.py ctd_problem.py ctd_program.py ctd_questions.py ctd_ranges.py ctd_untried.py ctd_values.py
 commands := $(programs) $(companions)
 manuals := $(commands:=.1) checktestdata.5
-texts := README.md CHANGELOG.md LICENSE-MIT LICENSE-APACHE NOTICE
+texts := README.md CHANGELOG.md SECURITY.md LICENSE-MIT LICENSE-APACHE NOTICE
 
 built = crates/$(subst -,_,$(1))/out/$(subst -,_,$(1))
 all_built := $(foreach program,$(programs),$(call built,$(program)))
@@ -107,6 +107,7 @@ install-built:
 	install -D -m 644 -t '$(DESTDIR)$(docdir)' $(texts)
 	$(call copy_tree,docs,$(docdir)/docs)
 	$(call copy_tree,examples,$(docdir)/examples)
+	scripts/take_out_links.sh '$(DESTDIR)$(docdir)'
 
 lib: build-lib
 	install -D -m 644 embed/out/libchecktestdata.a '$(DESTDIR)$(libdir)/libchecktestdata.a'

@@ -728,7 +728,10 @@ class Both(CompanionTest):
         version = self.written_by(CHECKER, "--version").split()[1]
         for tool in [*self.TOOLS, "ctd-cover", "ctd-package"]:
             with self.subTest(tool):
-                self.assertTrue(self.written_by(TOOLS / tool, "--help").startswith(f"usage: {tool} [-h]"))
+                shown = self.written_by(TOOLS / tool, "--help")
+                self.assertTrue(shown.startswith(f"usage: {tool} [-h]"))
+                for words in ["-h, --help", "-V, --version"]:
+                    self.assertIn(f"\n  {words} ", shown)
                 self.assertEqual(self.written_by(TOOLS / tool, "--version"), f"{tool} {version}\n")
 
     @staticmethod

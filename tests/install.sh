@@ -96,11 +96,14 @@ share/zsh/site-functions/_ctd-show'
 installed() { (cd "$prefix" && find . ! -type d ! -path './share/doc/*' -printf '%P\n' | LC_ALL=C sort); }
 expect 'all is installed, and nothing else' same "$wanted" "$(installed)"
 documents=$prefix/share/doc/checktestdata
-expect 'the documents are installed' diff -r docs "$documents/docs"
-expect 'the examples are installed' diff -r examples "$documents/examples"
-for text in README.md CHANGELOG.md LICENSE-MIT LICENSE-APACHE NOTICE; do
+# without_links FOLDER: the documents and examples of a folder, of links their text alone.
+without_links() { (cd "$1" && find README.md SECURITY.md docs examples -type f | LC_ALL=C sort | while IFS= read -r file; do echo "$file" && tr '\n' ' ' <"$file" | sed 's/\[\([^][]*\)\]([^() ]*)/\1/g'; done); }
+expect 'the documents and examples are installed' same "$(without_links .)" "$(without_links "$documents")"
+for text in CHANGELOG.md LICENSE-MIT LICENSE-APACHE NOTICE; do
     expect "$text is installed" cmp "$text" "$documents/$text"
 done
+expect 'no link of an installed document is dead' tests/links.py "$documents"
+expect 'links to what is installed are left' grep -q '(docs/LANGUAGE.md#answers)' "$documents/README.md"
 expect 'the installed program runs' same "checktestdata $version (whole-number profile)" "$("$prefix/bin/checktestdata" --version)"
 if has readelf 'whether the program is stripped'; then
     expect 'the installed program is stripped' same '' "$(readelf --sections --wide "$prefix/bin/checktestdata" | grep -o '\.symtab')"
@@ -121,6 +124,10 @@ cp "$work/number.ctd" "$work/package/input_validators"
 cp "$work/right.in" "$package/sample"
 cp "$work/wrong.in" "$package/invalid_inputs"
 expect 'ctd-package finds the checker and ctd-lint beside it' same $'ctd-lint: input_validators/number.ctd: 0 findings\n2 checked, 2 as they have to be, 0 not' "$("$prefix/bin/ctd-package" "$work/package" | grep -v ctd-cover)"
+for companion in ctd-show ctd-cover ctd-mutate ctd-package; do
+    without=$(cd "$work" && PATH=$work/none "$prefix/bin/$companion" number.ctd right.in 2>&1 || echo "status $?")
+    expect "$companion without Python" same "$companion: Python is missing (no command python3): install version 3.9 or later"$'\nstatus 2' "$without"
+done
 expect 'the companions leave nothing where they stand' same "$wanted" "$(installed)"
 
 touch "$prefix/bin/other" "$prefix/share/vim/vimfiles/syntax/other.vim"
@@ -189,8 +196,10 @@ if has readelf 'the archive and the package'; then
         expect 'what the companions need' same 'python3:any (>= 3.9)' "$(field Recommends)"
         dpkg-deb --extract "$package" "$work/package"
         expect 'the program in the package' same "checktestdata $version (whole-number profile)" "$("$work/package/usr/bin/checktestdata" --version)"
-        expect 'a companion in the package' python3 "$work/package/usr/bin/ctd-show" "$work/number.ctd" "$work/right.in"
-        expect 'the Python of the package' same '#!/usr/bin/python3' "$(head -n 1 "$work/package/usr/bin/ctd-show")"
+        expect 'a companion in the package' "$work/package/usr/bin/ctd-show" "$work/number.ctd" "$work/right.in"
+        expect 'the Python of the package' same 2 "$(grep -cE '^(exec|command -v) /usr/bin/python3 ' "$work/package/usr/bin/ctd-show")"
+        expect 'a companion of the package without Python in PATH' env PATH="$work/none" "$work/package/usr/bin/ctd-show" "$work/number.ctd" "$work/right.in"
+        expect 'no link of a document in the package is dead' tests/links.py "$work/package/usr/share/doc/checktestdata-nagdimot"
         if has lintian 'lintian'; then
             expect 'lintian' lintian --fail-on error,warning,info "$package"
         fi

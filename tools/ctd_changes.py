@@ -9,7 +9,7 @@ from collections.abc import Callable, Iterable, Iterator
 from dataclasses import dataclass
 from functools import cached_property
 from itertools import islice
-from typing import IO
+from typing import IO, Optional
 
 # How many bytes are read at once; how many where places are looked for, with those before and behind that a pattern may look at; and in how
 # many such windows of a file places are looked for at most.
@@ -149,7 +149,7 @@ class Edit:
         return at == self.end
 
 
-EditAt = Callable[[Place], Edit | None]
+EditAt = Callable[[Place], Optional[Edit]]
 
 
 def edit_of(start: int, end: int, new: bytes) -> Edit:
