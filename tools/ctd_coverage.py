@@ -348,33 +348,40 @@ def add_choice(skeleton: Skeleton, watched: Watched) -> None:
 
 
 def add_loop(skeleton: Skeleton, watched: Watched) -> None:
-    command, turns = watched.command, skeleton.variable()
-    count = range_of(command.arguments[-1], skeleton.known) if command.word.startswith("REP") else None
-    watched.low = watched.high = count
-    none, one, more = Thing(test=turns + b"!=0"), Thing(test=turns + b"!=1"), Thing(test=turns + b"<=1")
+    """A loop: of REP and REPI the count tells the turns before the first; of WHILE and WHILEI a variable of ours counts them."""
+    command, is_counted = watched.command, watched.command.word.startswith("REP")
+    count = range_of(command.arguments[-1], skeleton.known) if is_counted else None
+    turns = b"(%b)" % skeleton.source(command.arguments[-1]) if is_counted else skeleton.variable()
     if count is None or count.least <= 0:
-        watched.things["none"] = none
+        watched.things["none"] = Thing(test=turns + b"!=0")
     if count is None or count.least <= 1 <= count.greatest:
-        watched.things["one"] = one
+        watched.things["one"] = Thing(test=turns + b"!=1")
+    more = Thing(test=turns + b"<=1")
     if count is None or count.greatest > 1:
         watched.things["more"] = more
     watched.things["most"] = Thing(expression=turns, sign=1, bound=count and count.greatest)
-    things = list(watched.things.values())
+    one, things = watched.things.get("one"), list(watched.things.values())
 
     def unless_closed(text: bytes) -> Piece:
         return lambda copy, run: copy.add(text) if any(run.is_open(thing) for thing in things) else None
 
     skeleton.verbatim(command.offset)
-    skeleton.insert(unless_closed(b"SET(%b=0) " % turns))
+    if is_counted:
+        skeleton.put_all(things)
+    else:
+        skeleton.insert(unless_closed(b"SET(%b=0) " % turns))
     if command.separator:
         skeleton.add_separator(command.separator, Block([command.separator], lambda found: more in found, watched.block))
     skeleton.verbatim(command.head_end)
-    skeleton.insert(unless_closed(b" SET(%b=%b+1) " % (turns, turns)))
+    if not is_counted:
+        skeleton.insert(unless_closed(b" SET(%b=%b+1) " % (turns, turns)))
+        skeleton.put_all([more])
     skeleton.add_block(Block(command.body, lambda found: one in found or more in found, watched.block))
 
 
 def end_loop(skeleton: Skeleton, watched: Watched) -> None:
-    skeleton.put_all(list(watched.things.values()))
+    if watched.command.word.startswith("WHILE"):
+        skeleton.put_all([thing for name, thing in watched.things.items() if name != "more"])
 
 
 def add_assertion(skeleton: Skeleton, watched: Watched) -> None:
