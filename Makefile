@@ -38,6 +38,7 @@ sources := HANDLES crates.txt $(shell find crates -name out -prune -o \( -name '
 need_toolchain = $(if $(missing),$(error $(missing)))
 missing = $(shell scripts/missing_toolchain.sh)
 embedded := crates/ctd_embed/out/build/libctd_embed.a
+lint_module := crates/ctd_lint/out/build/ctd_lint.bc
 strip := $(if $(shell command -v strip),--strip)
 
 .PHONY: build build-lib test nightly test-lib test-page fuzz bench install install-built lib page uninstall deb dist clean
@@ -53,10 +54,15 @@ $(all_built) &: $(sources)
 	+@$(make_crates) $(all_built)
 	@touch $(all_built)
 
-# The programs come first, since all are made over the same libraries.
+# The programs come first, since all are made over the same libraries. Both rules keep the LLVM module of the crate, for the page.
 $(embedded): $(sources) | build
 	$(need_toolchain)
-	+@embed/build.sh
+	+@scripts/keep_module.sh ctd_embed $(@F)
+	@touch $@
+
+$(lint_module): $(sources) | build
+	$(need_toolchain)
+	+@scripts/keep_module.sh ctd_lint ctd_lint.o
 	@touch $@
 
 embed/out/libchecktestdata.so.1: $(embedded) embed/link.sh
@@ -64,7 +70,7 @@ embed/out/libchecktestdata.so.1: $(embedded) embed/link.sh
 
 build-lib: embed/out/libchecktestdata.so.1
 
-page: $(embedded)
+page: $(embedded) $(lint_module)
 	@web/build.sh
 
 test:

@@ -1,12 +1,13 @@
 #!/usr/bin/env bash
-# Proves crates/ctd_embed and compiles it as a static library: crates/ctd_embed/out/build/libctd_embed.a. Beside it stays the LLVM module
-# that it was compiled from, ctd_embed.bc, of which web/build.sh makes the page's module.
+# Proves a crate and compiles it as scripts/crates.mk does, and keeps the LLVM module that it was compiled from: CRATE, FILE. FILE is what the crate
+# makes in crates/CRATE/out/build, as libCRATE.a or CRATE.o. The module stays beside it, CRATE.bc; web/build.sh makes a part of the page of it.
 set -eu
 top=$(cd "$(dirname "${BASH_SOURCE[0]}")/.." && pwd)
 kit=$(dirname "$(rt doc)")
+built=crates/$1/out/build
 work=$(mktemp -d)
 trap 'rm -rf "$work"' EXIT
-mkdir -p "$work/bin" "$top/crates/ctd_embed/out/build"
+mkdir -p "$work/bin" "$top/$built"
 
 # The kit's toolchain, but with a clang that keeps a copy of the module that it compiles. The compiler passes no variables on to it.
 ln -s "$kit/toolchain/lib" "$work/lib"
@@ -18,10 +19,12 @@ cat >"$work/bin/clang" <<END
 #!/usr/bin/env bash
 for word in "\$@"; do
     case \$word in
-        *.bc) cp -- "\$word" '$top/crates/ctd_embed/out/build/ctd_embed.bc' ;;
+        *.bc) cp -- "\$word" '$top/$built/$1.bc' ;;
     esac
 done
 exec '$kit/toolchain/bin/clang' "\$@"
 END
 chmod +x "$work/bin/clang"
-TOOLCHAIN=$work make --no-print-directory --silent --directory="$top" -f scripts/crates.mk crates/ctd_embed/out/build/libctd_embed.a
+# A file that is up to date would not be compiled.
+rm -f "$top/$built/$2"
+TOOLCHAIN=$work make --no-print-directory --silent --directory="$top" -f scripts/crates.mk "$built/$2"
