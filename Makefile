@@ -26,8 +26,8 @@ SEED ?= 1
 # What is installed: programs that are built, each in the crate of its name, and companions in tools/, each with completions in
 # completions/ and a man page in man/; further man pages, and texts.
 programs := checktestdata ctd-lint
-companions := ctd-show ctd-mutate
-modules := ctd_companion.py ctd_changes.py
+companions := ctd-show ctd-cover ctd-mutate ctd-package
+modules := ctd_changes.py ctd_companion.py ctd_coverage.py ctd_problem.py ctd_program.py ctd_questions.py ctd_ranges.py ctd_untried.py ctd_values.py
 commands := $(programs) $(companions)
 manuals := $(commands:=.1) checktestdata.5
 texts := README.md CHANGELOG.md SECURITY.md LICENSE-MIT LICENSE-APACHE NOTICE

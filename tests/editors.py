@@ -24,7 +24,7 @@ from results import TOP, checker_to_test, run_unit_tests
 
 CHECKER = checker_to_test()
 LINTER = TOP / "crates/ctd_lint/out/ctd_lint"
-COMMANDS = ["checktestdata", "ctd-lint", "ctd-show", "ctd-mutate"]
+COMMANDS = ["checktestdata", "ctd-lint", "ctd-show", "ctd-cover", "ctd-mutate", "ctd-package"]
 OUT_OF_TIME = 20
 # What is on the help and not offered: it is refused.
 NOT_OFFERED = {"--generate"}
@@ -94,6 +94,7 @@ class Terminal:
         files.mkdir()
         for name in ["program.ctd", "progress.txt", "data.in"]:
             (files / name).touch()
+        (files / "package").mkdir()
         self.ours, theirs = pty.openpty()
         environment = {"PATH": f"{folder}/bin:{os.environ['PATH']}", "TERM": "dumb", "PS1": "READY> ", "HOME": str(folder), "LANG": "C.UTF-8"}
         self.process = subprocess.Popen(call, cwd=files, stdin=theirs, stdout=theirs, stderr=theirs, env=environment, start_new_session=True)
@@ -131,6 +132,8 @@ class Completions(unittest.TestCase):
         ("checktestdata --white\t pro\t da\t", ["--whitespace-ok", "program.ctd", "data.in"]),
         ("ctd-lint --def\tn=5 pro\t", ["--define=n=5", "program.ctd"]),
         ("ctd-show --gc\t pro\t data.in da\t", ["--gcc", "program.ctd", "data.in", "data.in"]),
+        ("ctd-cover --tab\t pro\t data.in da\t", ["--table", "program.ctd", "data.in", "data.in"]),
+        ("ctd-package --js\t --verb\t package", ["--json", "--verbose", "package"]),
         ("ctd-mutate --only trail\t pro\t da\t", ["--only", "trailing-space", "program.ctd", "data.in"]),
         ("ctd-mutate --only plus,trail\t pro\t da\t", ["--only", "plus,trailing-space", "program.ctd", "data.in"]),
         ("ctd-mutate --ignore plus,hu\t pro\t da\t", ["--ignore", "plus,huge", "program.ctd", "data.in"]),
@@ -164,6 +167,7 @@ class Completions(unittest.TestCase):
         with tempfile.TemporaryDirectory() as folder:
             for name in ["program.ctd", "progress.txt", "data.in"]:
                 (Path(folder) / name).touch()
+            (Path(folder) / "package").mkdir()
             for line, first in [
                 ("checktestdata --max", "--max-steps"),
                 ("checktestdata pro", "program.ctd"),
@@ -173,6 +177,10 @@ class Completions(unittest.TestCase):
                 ("ctd-lint pro", "program.ctd"),
                 ("ctd-show --gc", "--gcc"),
                 ("ctd-show program.ctd data.in da", "data.in"),
+                ("ctd-cover --tab", "--table"),
+                ("ctd-cover program.ctd data.in da", "data.in"),
+                ("ctd-package --js", "--json"),
+                ("ctd-package pack", "package/"),
                 ("ctd-mutate --only trail", "trailing-space"),
                 ("ctd-mutate --only plus,trail", "plus,trailing-space"),
                 ("ctd-mutate --ignore=plus,trail", "--ignore=plus,trailing-space"),
