@@ -136,6 +136,13 @@ fn value_of<'a>(matches: &ArgMatches<'a>, name: &str) -> Option<&'a str>
     matches.get_str(name)
 }
 
+/// The values that the words give to an option or an argument, if it is there.
+fn values_of<'m, 'a>(matches: &'m ArgMatches<'a>, name: &str) -> Option<&'m [&'a str]>
+    ensures { option_map (λ vs. map (λ v. v.now) vs.now) result ≡ all_of name.now (rows_of (found_of matches.now)) }
+{
+    matches.get_strs(name)
+}
+
 /// The presets.
 fn presets_of(alloc: Global, text: Option<&str>) -> Result<Presets, LintFault>
     ensures { IfOk result (ArePresetsOf (option_map (λ t. t.now) text.entry)) }
@@ -204,7 +211,7 @@ fn copies_of(alloc: Global, names: &[&str]) -> Result<Vec<Bytes>, LintFault>
 fn programs_of(alloc: Global, matches: &ArgMatches<'_>) -> Result<Vec<Bytes>, LintFault>
     ensures { IfOk result (λ programs. all_of (codes "PROGRAM") (rows_of (found_of matches.now)) ≡ Some programs.items) }
 {
-    match matches.get_strs("PROGRAM") {
+    match values_of(matches, "PROGRAM") {
         Some(names) => copies_of(alloc, names),
         None => Err(LintFault::Words),
     }
