@@ -1,6 +1,7 @@
 use Rattle.std.proofs.Common.{ap, subst, ◌∙◌}
 use Rattle.ctd_program.specs.calls.View.{command_trees}
 use Rattle.ctd_report.specs.Report.{on_err}
+use Rattle.ctd_report.specs.Written.{before_after}
 use Rattle.ctd_report.specs.calls.Written.{Leaves}
 use Rattle.ctd_report.proofs.WrittenLemmas.{Leaves-LeavesOneOf}
 use Rattle.ctd_findings.specs.calls.Findings.{findings_of}
@@ -17,7 +18,7 @@ returns g c =
     record {
       written = Leaves-LeavesOneOf _ _ _ (findings_report c.args.file.now (kept setup.ignored.items found)) c.write_findings.result
           (reports_findings command_trees g.P.Source c.args.file.now setup c.args.program.now _ c.in-Ok.plan found c.in-Ok.ensures.loads is)
-          (subst (λ ignored. Leaves _ _ (findings_report c.args.file.now (kept ignored found)) c.write_findings.result) c.as_slice-2.ensures.value c.write_findings.ensures.written);
+          (subst (λ ignored. Leaves (before_after g.O.Sink c.args.out.now c.write_findings.new.out) (before_after g.E.Sink c.args.err.now c.write_findings.new.err) (findings_report c.args.file.now (kept ignored found)) c.write_findings.result) c.as_slice-2.ensures.value c.write_findings.ensures.written);
     }
 
 pub returns-in_default : goal.returns-in_default
