@@ -3,10 +3,12 @@
 
 A row has a program, further words of the command line, and the findings that it has to tell: the line and the column of a command, the kind, and the
 name of a variable. `{3 ab}` in a program stands for `ababab`, and each `@` in such a text for the number of its turn. A row of the table `refusals`
-has the line on standard error in place of the findings, and one of `calls` has several programs. Programs of a megabyte are timed too.
+has the line on standard error in place of the findings, and one of `calls` has several programs. What lists the kinds lists all of them. Programs of
+a megabyte are timed too.
 The last line counts passed and failed. usage: tests/lint.py [PROGRAM]"""
 from __future__ import annotations
 
+import re
 import resource
 import subprocess
 import sys
@@ -26,6 +28,15 @@ OUT_OF_TIME = 60
 TIME_LIMIT = 0.2
 TRIES = 5
 MEGABYTE = 1_048_576
+
+# Where the kinds of findings are listed, and how a line that has some of them begins.
+LISTS = {
+    "man/ctd-lint.1": ".It Cm ",
+    "docs/TUTORIAL.md": "| `",
+    "completions/bash/ctd-lint": "    local kinds=",
+    "completions/zsh/_ctd-lint": "    _values -s , kind ",
+    "completions/fish/ctd-lint.fish": "set -l kinds ",
+}
 
 # A status, and what stands on standard output and on standard error.
 Left = tuple[int, str, str]
@@ -120,6 +131,13 @@ class Linter:
         return status, min(times)
 
 
+def listed(file: str, beginning: str) -> list[str]:
+    """The kinds that a file lists, in the order of the alphabet."""
+    lines = [line.removeprefix(beginning) for line in (TOP / file).read_text().splitlines() if line.startswith(beginning)]
+    cells = [line.split(" | ")[0] for line in lines]
+    return sorted(kind for cell in cells for kind in re.findall(r"[a-z]+(?:-[a-z]+)*", cell))
+
+
 def outcomes(linter: Linter, table: Table) -> Iterator[tuple[str, object, object]]:
     """A name for each test, with what is wanted and what is found."""
     for name, text, words, wanted in [*rows(table), *documented(table)]:
@@ -127,6 +145,8 @@ def outcomes(linter: Linter, table: Table) -> Iterator[tuple[str, object, object
     for call in table["calls"]:
         wanted = (call["status"], call.get("out", ""), call.get("err", ""))
         yield f"call {call['words']}", wanted, linter.run_on(call["files"], call["words"])
+    for file, beginning in LISTS.items():
+        yield f"the kinds in {file}", sorted(table["kinds"]), listed(file, beginning)
     for name, text, wanted_status in hostile():
         status, seconds = linter.least_time(text)
         in_time = "in time" if seconds < TIME_LIMIT else f"after {seconds:.2f} s"
