@@ -1,7 +1,6 @@
 -- The options and arguments of ctd-lint, as clap defines what it takes.
-use Rattle.std.specs.Prelude.{◌≡◌, ℕ, Bool, List, [], Option, Some, None, true, codes, map, find, nat_eq}
+use Rattle.std.specs.Prelude.{◌≡◌, List, [], Option, Some, None, true, codes, map, nat_eq}
 use Rattle.std.specs.List.{slice_split}
-use Rattle.std.specs.Str.{bytes_eq}
 use Rattle.clap.specs.Words.{App, Rule, Text, all_of, fault_of, first_of, matches_of, new_app, new_rule, with_rule}
 use Rattle.clap.specs.Simple.{on_top}
 use Rattle.clap.specs.declared.builder.ArgAction.TheVariants.{Append, Set}
