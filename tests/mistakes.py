@@ -98,7 +98,7 @@ MISTAKES = [
         ["1\n"],
         "no file runs these 2 commands",
     ),
-    Mistake("a list that may not be empty may be so", "ctd-cover", "WHILE(!ISEOF) INT(1,2) NEWLINE END", ["1\n", "1\n2\n"], "WHILE: never no turn"),
+    Mistake("a list that may not be empty may be so", "ctd-cover", "WHILE(!ISEOF) INT(1,2) NEWLINE END", ["1\n", "1\n2\n"], "WHILE: never without a turn"),
     Mistake(
         "a word may be empty",
         "ctd-cover",
