@@ -34,7 +34,7 @@ class Mistake:
 
 
 MISTAKES = [
-    Mistake("a name is misspelled in a test", "ctd-lint", LIST + " ASSERT(UNIQUE(b))", ["2\n1 2\n"], "nothing gives this name a value: b"),
+    Mistake("a name is misspelled in a test", "ctd-lint", LIST + " ASSERT(UNIQUE(b))", ["2\n1 2\n"], "nothing gives this name a value"),
     Mistake("UNIQUE is missing", "ctd-lint", LIST, ["2\n1 2\n"], "nothing reads this variable: a"),
     Mistake(
         "the sum of all cases is never asserted",
