@@ -272,9 +272,9 @@ class Cover(CompanionTest):
     def test_turns_of_a_loop(self) -> None:
         program = "INT(0,9,n) REP(n) NEWLINE END"
         self.assertEqual(self.told(program, "0", "1\n", "9" + 9 * "\n")[0], 0)
-        self.assertEqual(self.told(program, "0", "9" + 9 * "\n")[1][0], "1:12: note: REP: never one turn")
-        self.assertEqual(self.told(program, "0", "1\n")[1][1], "1:12: note: REP: never more than one turn")
-        self.assertEqual(self.told(program, "1\n", "9" + 9 * "\n")[1][1], "1:12: note: REP: never no turn")
+        self.assertEqual(self.told(program, "0", "9" + 9 * "\n")[1][0], "1:12: note: REP: never with one turn alone")
+        self.assertEqual(self.told(program, "0", "1\n")[1][1], "1:12: note: REP: never with more than one turn")
+        self.assertEqual(self.told(program, "1\n", "9" + 9 * "\n")[1][1], "1:12: note: REP: never without a turn")
 
     def test_turns_that_cannot_be(self) -> None:
         self.assertEqual(self.told("INT(2,3,n) REP(n) NEWLINE END", "2\n\n", "3\n\n\n")[0], 0)
@@ -282,13 +282,13 @@ class Cover(CompanionTest):
 
     def test_the_most_turns(self) -> None:
         status, lines = self.told("REP(2,NEWLINE) WHILE(MATCH(\"a\")) STRING(\"a\") END END", "aa\n" + 700 * "a", words=["-t"])
-        self.assertEqual(lines[2], '1:16   WHILE(MATCH("a"))  more turns; at most 700 (1.in:2:701)  never no turn, never one turn')
+        self.assertEqual(lines[2], '1:16   WHILE(MATCH("a"))  more turns; at most 700 (1.in:2:701)  never without a turn, never with one turn alone')
 
     def test_a_separator(self) -> None:
         program = 'INT(1,3,n) REP(n,IF(n==3) STRING(",") ELSE STRING(";") END) STRING("x") END'
         self.assertEqual(self.told(program, "1x", "2x;x", "3x,x,x")[0], 0)
         status, lines = self.told(program, "1x")
-        self.assertEqual(lines[1:3], ["1:12: note: REP: never more than one turn", "1:18: note: no file runs this command"])
+        self.assertEqual(lines[1:3], ["1:12: note: REP: never with more than one turn", "1:18: note: no file runs this command"])
 
     def test_an_assertion_that_is_never_tight(self) -> None:
         program = "INT(0,9,a) SPACE INT(0,9,b) ASSERT(a+b<=9 && a<b)"

@@ -34,7 +34,7 @@ class Mistake:
 
 
 MISTAKES = [
-    Mistake("a name is misspelled in a test", "ctd-lint", LIST + " ASSERT(UNIQUE(b))", ["2\n1 2\n"], "nothing gives this name a value: b"),
+    Mistake("a name is misspelled in a test", "ctd-lint", LIST + " ASSERT(UNIQUE(b))", ["2\n1 2\n"], "nothing gives this name a value"),
     Mistake("UNIQUE is missing", "ctd-lint", LIST, ["2\n1 2\n"], "nothing reads this variable: a"),
     Mistake(
         "the sum of all cases is never asserted",
@@ -98,7 +98,7 @@ MISTAKES = [
         ["1\n"],
         "no file runs these 2 commands",
     ),
-    Mistake("a list that may not be empty may be so", "ctd-cover", "WHILE(!ISEOF) INT(1,2) NEWLINE END", ["1\n", "1\n2\n"], "WHILE: never no turn"),
+    Mistake("a list that may not be empty may be so", "ctd-cover", "WHILE(!ISEOF) INT(1,2) NEWLINE END", ["1\n", "1\n2\n"], "WHILE: never without a turn"),
     Mistake(
         "a word may be empty",
         "ctd-cover",

@@ -89,7 +89,7 @@ class Checks(PackageTest):
         self.assertEqual(
             ran.stdout.decode().splitlines(),
             [
-                "input_validators/n.ctd: program line 1 column 15: warning: nothing reads this variable: n",
+                "input_validators/n.ctd:1:15: note: nothing reads this variable: n [unread]",
                 "ctd-lint: input_validators/n.ctd: 1 finding",
                 "ctd-cover: input_validators/n.ctd: 1 command watched in 1 file, 1 not fully tried",
                 "1 checked, 1 as they have to be, 0 not",
@@ -104,7 +104,7 @@ class Checks(PackageTest):
         from companions import CHECKER
 
         self.write_checker(f'exec {CHECKER} "$@"')
-        self.write("ctd-lint", "#!/bin/sh\necho 'program line 1 column 15: warning: nothing reads this variable: n'\nexit 1\n")
+        self.write("ctd-lint", '#!/bin/sh\nfor last; do :; done\necho "$last:1:15: note: nothing reads this variable: n [unread]"\n')
         (self.folder / "ctd-lint").chmod(0o755)
 
     def test_a_step_limit(self) -> None:

@@ -227,7 +227,7 @@ def of_choice(skeleton: Skeleton, watched: Watched, found: Findings) -> Seen:
     return Seen(", ".join(seen), f"the test is never {missed[0]}" if missed else "")
 
 
-TURNS = {"none": ("no turn", "never no turn"), "one": ("one turn", "never one turn"), "more": ("more turns", "never more than one turn")}
+TURNS = {"none": ("no turn", "never without a turn"), "one": ("one turn", "never with one turn alone"), "more": ("more turns", "never with more than one turn")}
 
 
 def of_loop(skeleton: Skeleton, watched: Watched, found: Findings) -> Seen:
