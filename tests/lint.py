@@ -35,7 +35,7 @@ LISTS = {
     "docs/TUTORIAL.md": "| `",
     "completions/bash/ctd-lint": "    local kinds=",
     "completions/zsh/_ctd-lint": "    _values -s , kind ",
-    "completions/fish/ctd-lint.fish": "set -l kinds ",
+    "completions/fish/ctd-lint.fish": "set --local kinds ",
 }
 
 # A status, and what stands on standard output and on standard error.

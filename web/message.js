@@ -21,17 +21,12 @@ export function placesIn(message) {
 export function findingsIn(lines) {
   const found = [];
   for (const line of lines.split("\n")) {
-    const [, row, column, rank, text] = /^program(?::(\d+):(\d+))?: (error|warning|note): (.*)$/.exec(line) ?? old(line) ?? [];
+    const [, row, column, rank, text] = /^program(?::(\d+):(\d+))?: (error|warning|note): (.*)$/.exec(line) ?? [];
     const fault = /^ctd-lint: (.*)$/.exec(line);
     if (text) found.push({ place: row ? { line: Number(row), column: Number(column) } : null, rank, text });
     else if (fault) found.push({ place: null, rank: "error", text: fault[1] });
   }
   return found;
-}
-
-function old(line) {
-  const found = /^(?:checktestdata: )?program line (\d+) column (\d+): (?:(warning): )?(.*)$/.exec(line);
-  return found && [found[0], found[1], found[2], found[3] ?? "error", found[4]];
 }
 
 // The index of a column in the text of a line. Columns count bytes from 1, and a text has units of UTF-16.

@@ -82,7 +82,7 @@ export class Tab {
 
   // Waits until an expression is true in the page.
   async wait(expression) {
-    for (let turn = 0; turn < 600; turn++) {
+    for (let turn = 0; turn < 2400; turn++) {
       if (await this.evaluate(`Boolean(${expression})`)) return;
       await new Promise((done) => setTimeout(done, 50));
     }

@@ -3,12 +3,13 @@ import fs from "node:fs";
 import path from "node:path";
 import { expect, out } from "./tests.js";
 
-// Writes a file, chooses it, and takes it away again once the page has it.
-async function choose(page, id, name, bytes) {
+// Writes a file and chooses it, waits until the page has it, in the editor if that can hold it, and gives what takes the file away again.
+async function choose(page, id, name, bytes, isText = false) {
   const file = path.join(out, name);
   fs.writeFileSync(file, bytes);
   await page.tab.choose(`${id}-file`, file);
-  await new Promise((done) => setTimeout(done, 300));
+  const line = `document.querySelector("#${id}-side .file")`;
+  await page.tab.wait(`${line}.textContent.startsWith(${JSON.stringify(name)}) && ${line}.hidden === ${isText}`);
   return () => fs.rmSync(file);
 }
 
@@ -16,7 +17,7 @@ const shown = (page, id) => page.evaluate(`document.querySelector("#${id}-side .
 
 export async function testFiles(page) {
   await page.set("program", "INT(1,9) NEWLINE");
-  let remove = await choose(page, "data", "carriage_return.in", "5\r\n");
+  let remove = await choose(page, "data", "carriage_return.in", "5\r\n", true);
   remove();
   expect("a file of text is in the editor", [await shown(page, "data"), await page.text("data")], ["text", "5\r\n"]);
   await page.tab.wait(`document.querySelector("#data-side .about").textContent.includes("CR LF")`);
@@ -50,7 +51,7 @@ export async function testFiles(page) {
   expect("no link holds it", await page.evaluate("[copied.textContent, location.hash]"), ["a link cannot hold this file", ""]);
   remove();
 
-  remove = await choose(page, "program", "one.ctd", "EOF");
+  remove = await choose(page, "program", "one.ctd", "EOF", true);
   remove();
   expect("a file of a program", await page.text("program"), "EOF");
   expect("its check", await page.check(), "line 1 column 1: expected end of file (program line 1 column 1)\n");
