@@ -44,6 +44,8 @@ sources := HANDLES crates.txt $(shell find crates -name out -prune -o \( -name '
 need_toolchain = $(if $(missing),$(error $(missing)))
 missing = $(shell scripts/missing_toolchain.sh)
 packed := portable/checktestdata.c.xz
+is_current = $(shell portable/is_current.sh 2>/dev/null && echo yes)
+by_c := compiling $(packed), made of these sources: the Rattle toolchain, which proves them, is not here
 embedded := crates/ctd_embed/out/build/libctd_embed.a
 strip := $(if $(shell command -v strip),-s)
 
@@ -62,8 +64,8 @@ $(all_built) &: $(sources)
 	@touch $(all_built)
 else
 $(all_built): $(sources) $(wildcard $(packed))
-	$(if $(shell portable/is_current.sh 2>/dev/null && echo yes),,$(need_toolchain))
-	@echo 'compiling $(packed), made of these sources: the Rattle toolchain, which proves them, is not here, so ctd-lint is left out' >&2
+	$(if $(is_current),,$(need_toolchain))
+	@echo '$(by_c), so ctd-lint is left out' >&2
 	@portable/compile.sh $(packed) $@
 endif
 
@@ -79,8 +81,15 @@ $(embedded): $(sources) | build
 	+@embed/build.sh
 	@touch $@
 
+ifdef has_toolchain
 embed/out/libchecktestdata.so.1: $(embedded) embed/link.sh
 	@embed/link.sh
+else
+embed/out/libchecktestdata.so.1: $(sources) $(wildcard $(packed))
+	$(if $(is_current),,$(need_toolchain))
+	@echo '$(by_c)' >&2
+	@portable/library.sh embed/out
+endif
 
 build-lib: embed/out/libchecktestdata.so.1
 
@@ -136,13 +145,13 @@ install-built:
 	$(call copy_tree,examples,$(docdir)/examples)
 
 lib: build-lib
-	install -D -m 644 embed/out/libchecktestdata.a '$(DESTDIR)$(libdir)/libchecktestdata.a'
-	install -D -m 755 embed/out/libchecktestdata.so.1 '$(DESTDIR)$(libdir)/libchecktestdata.so.1'
+	$(call put,644,embed/out/libchecktestdata.a,$(libdir),libchecktestdata.a)
+	$(call put,755,embed/out/libchecktestdata.so.1,$(libdir),libchecktestdata.so.1)
 	ln -sf libchecktestdata.so.1 '$(DESTDIR)$(libdir)/libchecktestdata.so'
-	install -D -m 644 embed/checktestdata.h '$(DESTDIR)$(includedir)/checktestdata.h'
-	install -d '$(DESTDIR)$(libdir)/pkgconfig'
+	$(call put,644,embed/checktestdata.h,$(includedir),checktestdata.h)
+	mkdir -p '$(DESTDIR)$(libdir)/pkgconfig'
 	sed -e 's|@prefix@|$(PREFIX)|; s|@libdir@|$(libdir)|; s|@includedir@|$(includedir)|; s|@version@|$(version)|' embed/checktestdata.pc.in >'$(DESTDIR)$(libdir)/pkgconfig/checktestdata.pc'
-	install -D -m 644 embed/python/checktestdata.py '$(DESTDIR)$(pythondir)/checktestdata.py'
+	$(call put,644,embed/python/checktestdata.py,$(pythondir),checktestdata.py)
 
 uninstall:
 	rm -f $(foreach command,$(commands),'$(DESTDIR)$(bindir)/$(command)')

@@ -12,18 +12,18 @@ shift
 work=$(mktemp -d)
 trap 'rm -rf "$work"' EXIT
 
-# What each system needs: its compiler, the words for it, how its programs end, and where they run.
+# What each system needs: its compiler, the words for it, and where its programs run.
 declare -A compiler=([x86_64-linux]=cc [aarch64-linux]=aarch64-linux-gnu-gcc [x86_64-windows]=x86_64-w64-mingw32-gcc)
 declare -A words=([x86_64-linux]='-static -s' [aarch64-linux]='-static -s' [x86_64-windows]='-static -s -Wl,--stack,8388608 -lshell32')
-declare -A ending=([x86_64-windows]=.exe)
 declare -A where=([x86_64-linux]='any Linux on x86-64' [aarch64-linux]='any Linux on ARM of 64 bits' [x86_64-windows]='Windows 10 or later on x86-64')
 
-# object PROGRAM: the object file that the toolchain made of a program, in make build or in the gate.
+# object PROGRAM: the object file that the toolchain made of a program, in make build or in the gate, whichever came later.
 object() {
-    local crate=crates/${1//-/_}/out file
-    for file in "$crate/${1//-/_}.o" "$crate/build/${1//-/_}.o"; do
-        if [ -e "$file" ] && ! [ "$file" -ot "$crate/${1//-/_}" ]; then echo "$file"; fi
-    done | head -n 1
+    local crate=${1//-/_} made build
+    made=crates/$crate/out/$crate.o
+    build=crates/$crate/out/build/$crate.o
+    [ ! -e "$build" ] || [ "$made" -nt "$build" ] || made=$build
+    [ ! -e "$made" ] || echo "$made"
 }
 
 # make_program SYSTEM PROGRAM FILE: compiles or links a program; nothing is made of a program that has no C file.
@@ -42,31 +42,54 @@ make_program() {
     fi
 }
 
+# for_windows FOLDER: gives what is installed the form of Windows: programs end with .exe, and a companion is called by a command beside it.
+for_windows() {
+    local file name
+    for file in "$1"/bin/*; do
+        name=${file##*/}
+        if [ -L "$file" ]; then
+            printf '@py -3 "%%~dp0..\\share\\checktestdata\\tools\\%s" %%*\r\n' "$name" >"$file.cmd"
+            rm "$file"
+        else
+            mv "$file" "$file.exe"
+        fi
+    done
+    rm -r "$1"/share/{man,bash-completion,zsh,fish}
+}
+
+# archive SYSTEM FOLDER NAME: packs a folder into out/, and prints the archive.
+archive() {
+    case $1 in
+        *-windows)
+            (cd "$2" && rm -f "$3.zip" && find "$3" ! -type d | LC_ALL=C sort | TZ=UTC zip --quiet -X -@ "$3.zip")
+            mv "$2/$3.zip" "$out/"
+            echo "$3.zip"
+            ;;
+        *)
+            tar --create --directory="$2" --sort=name --owner=0 --group=0 --numeric-owner "$3" | gzip -9n >"$out/$3.tar.gz"
+            echo "$3.tar.gz"
+            ;;
+    esac
+}
+
 # pack SYSTEM: makes the archive of a system.
 pack() {
-    local name=checktestdata-$version-$1 stage=$work/$1 made=() program
+    local name=checktestdata-$version-$1 stage=$work/$1 made=() program names file
     mkdir -p "$stage/programs"
     for program in checktestdata ctd-lint; do
         make_program "$1" "$program" "$stage/programs/$program"
         [ ! -e "$stage/programs/$program" ] || made+=("$program")
     done
     make --silent install-built BUILT="$stage/programs" programs="${made[*]}" strip= DESTDIR="$stage/$name" PREFIX=
-    for program in "${made[@]}"; do
-        [ -z "${ending[$1]:-}" ] || mv "$stage/$name/bin/$program" "$stage/$name/bin/$program${ending[$1]}"
-    done
+    [[ $1 != *-windows ]] || for_windows "$stage/$name"
     cp LICENSE-MIT LICENSE-APACHE NOTICE "$stage/$name"
-    sed -e "s|@VERSION@|$version|g; s|@WHERE@|${where[$1]}|g; s|@PROGRAMS@|$(sed 's/ /` and `/' <<<"${made[*]}")|g" packaging/archive/README.md >"$stage/$name/README.md"
+    names=${made[*]}
+    sed -e "s|@VERSION@|$version|g; s|@WHERE@|${where[$1]}|g; s|@PROGRAMS@|${names// /\` and \`}|g" "packaging/archive/${1#*-}.md" >"$stage/$name/README.md"
     (cd "$stage/$name" && find . -type f -printf '%P\0' | sort --zero-terminated | xargs --null sha256sum >"$stage/sums" && mv "$stage/sums" SHA256SUMS)
     settle "$stage/$name"
-    if [ "$1" = x86_64-windows ]; then
-        name=$name.zip
-        (cd "$stage" && find "${name%.zip}" ! -type d | LC_ALL=C sort | TZ=UTC zip --quiet -X -@ "$name") && mv "$stage/$name" "$out"
-    else
-        tar --create --directory="$stage" --sort=name --owner=0 --group=0 --numeric-owner "$name" | gzip -9n >"$out/$name.tar.gz"
-        name=$name.tar.gz
-    fi
-    (cd "$out" && sha256sum "$name" >"$name.sha256")
-    echo "$out/$name"
+    file=$(archive "$1" "$stage" "$name")
+    (cd "$out" && sha256sum "$file" >"$file.sha256")
+    echo "$out/$file"
 }
 
 for system in "$@"; do

@@ -66,6 +66,9 @@ static size_t give(const struct taken *text, char *to, size_t size) {
     return text->length;
 }
 
+#ifndef _WIN32
+__attribute__((visibility("default")))
+#endif
 uint8_t checktestdata_run(const char *words, size_t words_length, const void *program, size_t program_length, const void *testdata,
                           size_t testdata_length, char *out, size_t out_size, char *err, size_t err_size,
                           struct checktestdata_lengths *lengths) {

@@ -3,6 +3,7 @@
 set -eu
 cd "$(dirname "${BASH_SOURCE[0]}")/.."
 # The sums are taken first, so that a source that changes meanwhile is seen.
+mkdir -p out
 portable/sums.sh >out/checktestdata.c.sums
 portable/build.sh checktestdata out/checktestdata.c
 mv out/checktestdata.c.sums portable/checktestdata.c.sums

@@ -2,7 +2,6 @@
 # Prints the SHA-256 sums of all that decides what stands in the C file: the code of the crates that the program is made of, and the scripts
 # that make C of it. Definitions (specs/) and proofs are not among them: they decide whether the program is built, and not what it is.
 cd "$(dirname "$0")/.." || exit
-if command -v sha256sum >/dev/null; then sum=sha256sum; else sum='shasum -a 256'; fi
 {
     for crate in $(portable/crates.sh checktestdata); do
         find "crates/$crate/src" -name '*.rt'
@@ -11,4 +10,4 @@ if command -v sha256sum >/dev/null; then sum=sha256sum; else sum='shasum -a 256'
         echo "portable/$name"
     done
     echo embed/checktestdata.h
-} | LC_ALL=C sort | xargs $sum
+} | LC_ALL=C sort | if command -v sha256sum >/dev/null; then xargs sha256sum; else xargs shasum -a 256; fi

@@ -18,7 +18,7 @@ PORTABLE = TOP / "portable"
 PACKED = PORTABLE / "checktestdata.c.xz"
 sys.path.insert(0, str(TOP / "tests"))
 from results import print_counts
-from tables import all_results
+from tables import TABLES, all_results
 
 AARCH64 = "aarch64-unknown-linux-gnu"
 WINDOWS = ["-static", "-Wl,--stack,8388608", "-lshell32"]
@@ -78,7 +78,7 @@ def command(folder: Path, runner: str, program: Path) -> Path:
 def rows_of_tables(way: Way, program: Path, counts: Counts) -> None:
     """Runs the rows of the tables. Each of those that a system cannot have has to fail."""
     failed = set()
-    for row, faults in all_results(program):
+    for row, faults in all_results(program, TABLES):
         if row in way.without:
             failed.update([row] if faults else [])
         else:

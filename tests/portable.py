@@ -13,7 +13,7 @@ from concurrent.futures import ThreadPoolExecutor
 from pathlib import Path
 
 from results import TOP, print_results
-from tables import all_results
+from tables import TABLES, all_results
 
 PORTABLE = TOP / "portable"
 PACKED = PORTABLE / "checktestdata.c.xz"
@@ -54,7 +54,7 @@ def results(folder: Path) -> Iterator[tuple[str, Sequence[str]]]:
         ran = subprocess.run([PORTABLE / "compile.sh", PACKED, program, "-Werror"], check=False)
         yield "the compiler", [f"it ended with status {ran.returncode}"] if ran.returncode else []
         if ran.returncode == 0:
-            yield from all_results(program)
+            yield from all_results(program, TABLES)
         yield "the packed file, made again", again.result()
 
 
