@@ -74,7 +74,7 @@ archive() {
 
 # pack SYSTEM: makes the archive of a system.
 pack() {
-    local name=checktestdata-$version-$1 stage=$work/$1 made=() program names file
+    local name=checktestdata-$version-$1 stage=$work/$1 made=() program names file how
     mkdir -p "$stage/programs"
     for program in checktestdata ctd-lint; do
         make_program "$1" "$program" "$stage/programs/$program"
@@ -84,7 +84,9 @@ pack() {
     [[ $1 != *-windows ]] || for_windows "$stage/$name"
     cp LICENSE-MIT LICENSE-APACHE NOTICE "$stage/$name"
     names=${made[*]}
-    sed -e "s|@VERSION@|$version|g; s|@WHERE@|${where[$1]}|g; s|@PROGRAMS@|${names// /\` and \`}|g" "packaging/archive/${1#*-}.md" >"$stage/$name/README.md"
+    how='They were compiled by the toolchain that proved them.'
+    [ -n "$([ "$1" != x86_64-linux ] || object checktestdata)" ] || how='They were compiled from the proved programs as C; TRUST.md in share/doc says what that adds to what is trusted.'
+    sed -e "s|@VERSION@|$version|g; s|@HOW@|$how|; s|@WHERE@|${where[$1]}|g; s|@PROGRAMS@|${names// /\` and \`}|g" "packaging/archive/${1#*-}.md" >"$stage/$name/README.md"
     (cd "$stage/$name" && find . -type f -printf '%P\0' | sort --zero-terminated | xargs --null sha256sum >"$stage/sums" && mv "$stage/sums" SHA256SUMS)
     settle "$stage/$name"
     file=$(archive "$1" "$stage" "$name")

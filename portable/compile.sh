@@ -21,6 +21,6 @@ done
 for part in $parts; do
     wait "$part"
 done
-${CC:-cc} -O2 "$work"/[0-3].o "$@" -o "$work/program"
+${CC:-cc} -O2 "$work"/[0-3].o "$@" -o "$work/program.out"
 mkdir -p "$(dirname "$program")"
-mv "$work/program" "$program"
+mv "$work/program.out" "$program"

@@ -4,6 +4,7 @@ line counts what passed and failed, and what is missing is said before. usage: p
 from __future__ import annotations
 
 import argparse
+import importlib.util
 import os
 import shutil
 import subprocess
@@ -21,7 +22,7 @@ from results import print_counts
 from tables import TABLES, all_results
 
 AARCH64 = "aarch64-unknown-linux-gnu"
-WINDOWS = ["-static", "-Wl,--stack,8388608", "-lshell32"]
+WINDOWS = ("-static", "-Wl,--stack,8388608", "-lshell32")
 # The headers of macOS that the C file includes.
 HEADERS = ["errno.h", "fcntl.h", "signal.h", "stdlib.h", "string.h", "sys/stat.h", "unistd.h"]
 # What Windows has not: words that are not UTF-8, names with a line feed or a blank at the end, longer command lines.
@@ -34,7 +35,7 @@ class Way:
 
     name: str
     compiler: str
-    words: Sequence[str] = ()
+    words: tuple[str, ...] = ()
     runner: str = ""
     without: frozenset[str] = frozenset()
 
@@ -45,10 +46,10 @@ class Way:
 WAYS = [
     Way("x86-64, GCC", "gcc"),
     Way("x86-64, clang", "clang"),
-    Way("x86-64, musl, static", "musl-gcc", ["-static"]),
-    Way("x86-64, GCC with sanitizers", "gcc", ["-O1", "-fsanitize=undefined,address", "-fno-sanitize-recover"]),
-    Way("aarch64, static", "aarch64-linux-gnu-gcc", ["-static"], "qemu-aarch64-static"),
-    Way("riscv64, static", "riscv64-linux-gnu-gcc", ["-static"], "qemu-riscv64-static"),
+    Way("x86-64, musl, static", "musl-gcc", ("-static",)),
+    Way("x86-64, GCC with sanitizers", "gcc", ("-O1", "-fsanitize=undefined,address", "-fno-sanitize-recover")),
+    Way("aarch64, static", "aarch64-linux-gnu-gcc", ("-static",), "qemu-aarch64-static"),
+    Way("riscv64, static", "riscv64-linux-gnu-gcc", ("-static",), "qemu-riscv64-static"),
     Way("Windows", "x86_64-w64-mingw32-gcc", WINDOWS, "wine", NOT_ON_WINDOWS),
 ]
 OFFICIAL = Way("aarch64, the toolchain's own target, static", "aarch64-linux-gnu-gcc", (), "qemu-aarch64-static")
@@ -134,13 +135,40 @@ def macos(folder: Path) -> Iterator[tuple[str, str]]:
         yield f"clang for {target}", ran.stderr[:2000] if ran.returncode else ""
 
 
-def compile_only(counts: Counts) -> None:
+def libraries(folder: Path) -> Iterator[tuple[str, str]]:
+    """The library that the C file is too, for C and by pip for Python."""
+    subprocess.run([PORTABLE / "library.sh", folder / "built"], check=True)
+    ran = subprocess.run([TOP / "embed/test.py"], env={**os.environ, "LIBRARIES": str(folder / "built")}, check=False)
+    yield "embed/test.py", f"status {ran.returncode}" if ran.returncode else ""
+    if not importlib.util.find_spec("setuptools"):
+        print("portable: left out pip install ./embed/python: setuptools is not there")
+        return
+    words = ["pip", "install", "--quiet", "--no-build-isolation", "--no-index", "--target", folder / "python", TOP / "embed/python"]
+    subprocess.run([sys.executable, "-m", *words], check=True)
+    check = "import checktestdata; print(checktestdata.check('INT(1,10) NEWLINE', b'7').message)"
+    ran_there = subprocess.run([sys.executable, "-c", check], cwd=folder / "python", capture_output=True, text=True, check=False)
+    wanted = "line 1 column 2: expected a newline (program line 1 column 11)\n"
+    yield "pip install ./embed/python", "" if ran_there.stdout == wanted else f"{ran_there.stdout!r} {ran_there.stderr}"
+
+
+def compiled_only(folder: Path) -> Iterator[tuple[str, str]]:
+    with open(folder / "checktestdata.c", "wb") as file:
+        subprocess.run([PORTABLE / "unpack.sh"], stdout=file, check=True)
+    yield from refusals(folder)
+    yield from macos(folder)
+
+
+# What is tried otherwise than by the rows of the tables.
+OTHERS = {Way("compiled only", "clang"): compiled_only, Way("libraries", "gcc"): libraries}
+
+
+def try_other(way: Way, counts: Counts) -> None:
     with tempfile.TemporaryDirectory() as scratch:
-        folder = Path(scratch)
-        with open(folder / "checktestdata.c", "wb") as file:
-            subprocess.run([PORTABLE / "unpack.sh"], stdout=file, check=True)
-        for name, fault in (*refusals(folder), *macos(folder)):
-            counts.add(name, fault)
+        try:
+            for name, fault in OTHERS[way](Path(scratch)):
+                counts.add(name, fault)
+        except subprocess.CalledProcessError as failure:
+            counts.add(way.name, str(failure))
 
 
 def main() -> int:
@@ -148,14 +176,14 @@ def main() -> int:
     parser.add_argument("ways", nargs="*", metavar="WAY", help="a part of the name of a way; all, if there is none")
     wanted = parser.parse_args().ways
     counts = Counts()
-    for way in [*WAYS, OFFICIAL, Way("compiled only", "clang")]:
+    for way in [*WAYS, OFFICIAL, *OTHERS]:
         if wanted and not any(part in way.name for part in wanted):
             continue
         missing = way.missing() + (["rt"] if way is OFFICIAL and not shutil.which("rt") else [])
         if missing:
             print(f"portable: left out {way.name}: {', '.join(missing)} is not there", flush=True)
-        elif way.name == "compiled only":
-            compile_only(counts)
+        elif way in OTHERS:
+            try_other(way, counts)
         else:
             try_way(way, counts)
             print(f"portable: {way.name}: {counts.passed} passed, {counts.failed} failed so far", flush=True)

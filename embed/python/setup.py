@@ -15,7 +15,8 @@ class BuildWithLibrary(build_py):
         if subprocess.run([PORTABLE / "is_current.sh"], check=False).returncode:
             sys.exit("portable/checktestdata.c.xz was made of other sources than those that stand here: make portable renews it")
         subprocess.run([PORTABLE / "library.sh", self.build_lib], check=True)
-        (Path(self.build_lib) / "libchecktestdata.a").unlink()
+        for name in "libchecktestdata.a", "libchecktestdata.so":
+            (Path(self.build_lib) / name).unlink()
 
 
 class WithLibrary(Distribution):
