@@ -168,4 +168,4 @@ dist: build
 	@packaging/dist.sh $(version) x86_64-linux aarch64-linux x86_64-windows
 
 clean:
-	rm -rf out crates/*/out embed/out web/out
+	rm -rf out crates/*/out embed/out embed/python/build embed/python/*.egg-info web/out

@@ -4,7 +4,6 @@ line counts what passed and failed, and what is missing is said before. usage: p
 from __future__ import annotations
 
 import argparse
-import importlib.util
 import os
 import shutil
 import subprocess
@@ -130,9 +129,14 @@ def macos(folder: Path) -> Iterator[tuple[str, str]]:
         (folder / header).parent.mkdir(exist_ok=True)
         shutil.copy(PORTABLE / "macos/stand_in.h", folder / header)
     for target in "arm64-apple-macos11", "x86_64-apple-macos11":
-        words = ["clang", f"--target={target}", "-O2", "-Werror", "-isystem", folder, "-c", folder / "checktestdata.c", "-o", folder / "made.o"]
+        words = ["clang", f"--target={target}", "-O2", "-ffreestanding", "-Werror", "-isystem", folder, "-c", folder / "checktestdata.c", "-o", folder / "made.o"]
         ran = subprocess.run(words, capture_output=True, text=True, check=False)
         yield f"clang for {target}", ran.stderr[:2000] if ran.returncode else ""
+
+
+def can_build(python: str) -> bool:
+    """Whether a Python has what builds packages."""
+    return not subprocess.run([python, "-c", "import pip, setuptools, wheel"], capture_output=True, check=False).returncode
 
 
 def libraries(folder: Path) -> Iterator[tuple[str, str]]:
@@ -140,13 +144,14 @@ def libraries(folder: Path) -> Iterator[tuple[str, str]]:
     subprocess.run([PORTABLE / "library.sh", folder / "built"], check=True)
     ran = subprocess.run([TOP / "embed/test.py"], env={**os.environ, "LIBRARIES": str(folder / "built")}, check=False)
     yield "embed/test.py", f"status {ran.returncode}" if ran.returncode else ""
-    if not importlib.util.find_spec("setuptools"):
-        print("portable: left out pip install ./embed/python: setuptools is not there")
+    pythons = [python for python in (sys.executable, "/usr/bin/python3") if can_build(python)]
+    if not pythons:
+        print("portable: left out pip install ./embed/python: pip, setuptools and wheel are not there")
         return
     words = ["pip", "install", "--quiet", "--no-build-isolation", "--no-index", "--target", folder / "python", TOP / "embed/python"]
-    subprocess.run([sys.executable, "-m", *words], check=True)
+    subprocess.run([pythons[0], "-m", *words], check=True)
     check = "import checktestdata; print(checktestdata.check('INT(1,10) NEWLINE', b'7').message)"
-    ran_there = subprocess.run([sys.executable, "-c", check], cwd=folder / "python", capture_output=True, text=True, check=False)
+    ran_there = subprocess.run([pythons[0], "-c", check], cwd=folder / "python", capture_output=True, text=True, check=False)
     wanted = "line 1 column 2: expected a newline (program line 1 column 11)\n"
     yield "pip install ./embed/python", "" if ran_there.stdout == wanted else f"{ran_there.stdout!r} {ran_there.stderr}"
 
