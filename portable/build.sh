@@ -10,13 +10,33 @@ work=$(mktemp -d)
 trap 'rm -rf "$work"' EXIT
 cd "$top"
 
-# The program is proved and compiled over the libraries of the last rt ci, where these are all there and up to date; else over those of make.
+# The program is proved and compiled over libraries that are there already, if they can be used: those that rt ci made of these sources, or those
+# that other commands of rt made, which have a stamp each; else over those of make.
 make=(env --unset=MAKEFLAGS --unset=MAKELEVEL make --no-print-directory --silent -f scripts/crates.mk)
 object=crates/$crate/out/build/$crate.o
 module=${object%.o}.bc
-mapfile -t libraries < <(portable/crates.sh "$crate" | grep -vx "$crate" | sed 's|.*|crates/&/out/rlib/&.rlib|')
+libraries=() stamps=()
+for library in $(portable/crates.sh "$crate" | grep -vx "$crate"); do
+    libraries+=("crates/$library/out/rlib/$library.rlib")
+    stamps+=("crates/$library/out/rlib/stamp")
+done
+# Whether each library has a stamp, and rt says that it is of these sources. Their times say nothing, so the object file goes by the stamps.
+have_stamps() {
+    local direct library
+    cat "${stamps[@]}" >"$work/stamps" 2>/dev/null || return
+    read -r -a direct < <(sed -n "s/^$crate://p" crates.txt)
+    for library in "${direct[@]}"; do
+        [ ! -d "crates/$library" ] || (cd "crates/$library" && rt lib) || return
+    done
+    cat "${stamps[@]}" >"$work/stamps"
+    cmp --silent "$work/stamps" "$object.stamps" || rm -f "$object"
+    cp "$work/stamps" "$object.stamps"
+}
+mkdir -p "$(dirname "$object")"
 if "${make[@]}" --question LIBRARY_FOLDER=rlib "${libraries[@]}" 2>/dev/null; then
     make+=(LIBRARY_FOLDER=rlib)
+elif have_stamps; then
+    make+=(LIBRARY_FOLDER=rlib "${libraries[@]/#/--assume-old=}")
 else
     make+=("-j$(nproc)")
 fi
