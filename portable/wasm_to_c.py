@@ -309,7 +309,7 @@ class Function:
         imported = len(self.module.imports)
         signature = self.module.signature(function)
         arguments = ", ".join(plain(value.text) for value in self.pop_many(len(signature.takes)))
-        name = f"host_{self.module.imports[function][0]}" if function < imported else f"f{function - imported}"
+        name = f"host_{self.module.imports[function][0]}" if function < imported else f"fn{function - imported}"
         self.before_change()
         if not signature.gives:
             self.put(f"{name}({arguments});")
@@ -445,7 +445,7 @@ def head(signature: Signature, number: int) -> str:
     """The head of a function in C."""
     result = TYPES[signature.gives[0]] if signature.gives else "void"
     parameters = ", ".join(f"{TYPES[type_]} l{place}" for place, type_ in enumerate(signature.takes)) or "void"
-    return f"SHARED {result} f{number}({parameters})"
+    return f"SHARED {result} fn{number}({parameters})"
 
 
 def write_memory(module: Module, out: TextIO) -> None:
@@ -486,7 +486,7 @@ def write_module(module: Module, out: TextIO) -> None:
     for number, signature in enumerate(module.functions):
         out.write(f"{head(signature, number)};\n")
     for name, index in module.exports.items():
-        out.write(f"#define export_{name} f{index - imported}\n")
+        out.write(f"#define export_{name} fn{index - imported}\n")
     write_functions(functions, out)
 
 

@@ -46,6 +46,9 @@ def faults_of_bytes(packed: bytes, folder: Path) -> list[str]:
 
 
 def results(folder: Path) -> Iterator[tuple[str, Sequence[str]]]:
+    if not PACKED.exists():
+        yield "the packed file", [f"it is not there: {MEND}"]
+        return
     packed = lzma.decompress(PACKED.read_bytes())
     yield "the sources of the packed file", faults_of_sums()
     with ThreadPoolExecutor() as pool:
