@@ -322,7 +322,9 @@ class Function:
     def select(self, _: Any) -> None:
         first, second, which = self.pop_many(3)
         reads = first.reads | second.reads | which.reads
-        text = f"({truth(which.text)} ? {first.text} : {second.text})"
+        # (without its parentheses another choice would take this one into its second half)
+        condition = which.text[2:] if which.text.startswith("is(") else which.text
+        text = f"({condition} ? {first.text} : {second.text})"
         self.push(Value(text, first.type, reads, any(value.reads_memory for value in (first, second, which))))
 
     # Variables.
