@@ -70,7 +70,7 @@ def command(folder: Path, runner: str, program: Path) -> Path:
     if not runner:
         return program
     script = folder / "checktestdata"
-    script.write_text(f'#!/bin/sh\nexec {shutil.which(runner)} "{program}" "$@"\n')
+    script.write_text(f'#!/bin/sh\nWINEDEBUG=-all exec {shutil.which(runner)} "{program}" "$@"\n')
     script.chmod(0o755)
     return script
 
