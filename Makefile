@@ -20,7 +20,7 @@ bashdir ?= $(datadir)/bash-completion/completions
 zshdir ?= $(datadir)/zsh/site-functions
 fishdir ?= $(datadir)/fish/vendor_completions.d
 vimdir ?= $(datadir)/vim/vimfiles
-# What belongs to these programs alone: the companions with the module that they share, and the grammar for editors.
+# What belongs to these programs alone: the companions with their modules, and the grammar for editors.
 ourdir := $(datadir)/checktestdata
 pythondir ?= $(ourdir)/python
 COUNT ?= 100000
@@ -31,10 +31,10 @@ SEED ?= 1
 has_toolchain := $(shell command -v rt)
 programs := checktestdata $(if $(has_toolchain),ctd-lint)
 companions := ctd-show ctd-mutate
-modules := ctd_companion.py
+modules := ctd_companion.py ctd_changes.py
 commands := $(programs) $(companions)
 manuals := $(commands:=.1) checktestdata.5
-texts := README.md CHANGELOG.md LICENSE-MIT LICENSE-APACHE NOTICE
+texts := README.md CHANGELOG.md SECURITY.md LICENSE-MIT LICENSE-APACHE NOTICE
 
 # Where a program is built, or in BUILT, if that is given.
 BUILT := $(if $(has_toolchain),,out)
@@ -47,6 +47,7 @@ packed := portable/checktestdata.c.xz
 is_current = $(shell portable/is_current.sh 2>/dev/null && echo yes)
 by_c := compiling $(packed), made of these sources: the Rattle toolchain, which proves them, is not here
 embedded := crates/ctd_embed/out/build/libctd_embed.a
+lint_module := crates/ctd_lint/out/build/ctd_lint.bc
 strip := $(if $(shell command -v strip),-s)
 
 .PHONY: build build-lib test nightly test-lib test-page test-portable fuzz bench install install-built lib page portable uninstall deb dist clean
@@ -75,10 +76,15 @@ portable:
 	@portable/pack.sh
 	@portable/build.sh ctd_lint out/ctd-lint.c
 
-# The programs come first, since all are made over the same libraries.
+# The programs come first, since all are made over the same libraries. Both rules keep the LLVM module of the crate, for the page.
 $(embedded): $(sources) | build
 	$(need_toolchain)
-	+@embed/build.sh
+	+@scripts/keep_module.sh ctd_embed $(@F)
+	@touch $@
+
+$(lint_module): $(sources) | build
+	$(need_toolchain)
+	+@scripts/keep_module.sh ctd_lint ctd_lint.o
 	@touch $@
 
 ifdef has_toolchain
@@ -93,7 +99,7 @@ endif
 
 build-lib: embed/out/libchecktestdata.so.1
 
-page: $(embedded)
+page: $(embedded) $(lint_module)
 	@web/build.sh
 
 test:
@@ -143,6 +149,7 @@ install-built:
 	$(foreach text,$(texts),$(call put,644,$(text),$(docdir),$(text)) &&) true
 	$(call copy_tree,docs,$(docdir)/docs)
 	$(call copy_tree,examples,$(docdir)/examples)
+	scripts/take_out_links.sh '$(DESTDIR)$(docdir)'
 
 lib: build-lib
 	$(call put,644,embed/out/libchecktestdata.a,$(libdir),libchecktestdata.a)

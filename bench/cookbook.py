@@ -96,6 +96,27 @@ def bipartite(size: int) -> bytes:
     return with_pairs(line(nodes, size), edges)
 
 
+def rooted_tree(size: int) -> bytes:
+    """The parents of the nodes of a random tree, whose names are shuffled, with weights; 0 for the root."""
+    source, order = seeded(size), list(range(1, size + 1))
+    source.shuffle(order)
+    lines = {order[0]: "0\n"}
+    for place in range(1, size):
+        lines[order[place]] = line(order[source.randrange(place)], source.randint(1, 10**9))
+    return (line(size) + "".join(lines[node] for node in range(1, size + 1))).encode()
+
+
+def bipartite_simple(size: int) -> bytes:
+    """As many edges as are asked for, between two halves of the nodes, all different, each either way round."""
+    source, nodes = seeded(size), size + 2
+    half, edges = nodes // 2, set[tuple[int, int]]()
+    while len(edges) < size:
+        edges.add((source.randint(1, half), source.randint(half + 1, nodes)))
+    order = [(v, u) if source.random() < 0.5 else (u, v) for u, v in sorted(edges)]
+    source.shuffle(order)
+    return with_pairs(line(nodes, size), order)
+
+
 def acyclic(size: int) -> bytes:
     source, nodes = seeded(size), size + 1
     order = list(range(1, nodes + 1))
@@ -113,6 +134,21 @@ def grid(size: int) -> bytes:
     side = side_of(size)
     cells = "S" + letters(side * side - 1, ".#")
     return (line(side, side) + "".join(cells[side * row : side * (row + 1)] + "\n" for row in range(side))).encode()
+
+
+def reachable(size: int) -> bytes:
+    """A grid with walls, but none in the first column and the last row, in which the start and the goal are at the ends."""
+    side = side_of(size)
+    walls = letters(side * side, "...#")
+    rows = ["." + walls[side * row + 1 : side * (row + 1)] for row in range(side - 1)]
+    rows[0] = "S" + rows[0][1:]
+    return (line(side, side) + "\n".join([*rows, "." * (side - 1) + "G"]) + "\n").encode()
+
+
+def polygon(size: int) -> bytes:
+    """Points with different x, and y at random."""
+    source, count = seeded(size), max(size, 3)
+    return with_pairs(line(count), [(x, source.randint(-(10**9), 10**9)) for x in range(count)])
 
 
 def matrix(size: int) -> bytes:
@@ -142,6 +178,24 @@ def sentinel(size: int) -> bytes:
 def optional(size: int) -> bytes:
     source = seeded(size)
     return (line(size) + "".join(source.choice(["add ann 42\n", "remove bob\n", "list\n"]) for _ in range(size))).encode()
+
+
+def times(size: int) -> bytes:
+    source, text = seeded(size), line(size)
+    for _ in range(size):
+        start, end = sorted(source.sample(range(24 * 60), 2))
+        text += f"{start // 60:02}:{start % 60:02} {end // 60:02}:{end % 60:02}\n"
+    return text.encode()
+
+
+def alphabet(size: int) -> bytes:
+    """Words of ten letters or fewer."""
+    source = seeded(size)
+    return ("acgt\n" + line(size) + "".join(letters_of(source, source.randint(1, 10)) for _ in range(size))).encode()
+
+
+def letters_of(source: random.Random, length: int) -> str:
+    return "".join(source.choices("acgt", k=length)) + "\n"
 
 
 def brackets(size: int) -> bytes:
@@ -181,16 +235,22 @@ IDIOMS: dict[str, Callable[[int], bytes]] = {
     "sorted_words.ctd": sorted_words,
     "parents.ctd": parents,
     "tree.ctd": tree,
+    "rooted_tree.ctd": rooted_tree,
     "connected.ctd": connected,
     "edges_unique.ctd": different_edges,
     "edges.ctd": different_edges,
     "bipartite.ctd": bipartite,
+    "bipartite_simple.ctd": bipartite_simple,
     "acyclic.ctd": acyclic,
     "grid.ctd": grid,
+    "reachable.ctd": reachable,
     "matrix.ctd": matrix,
+    "polygon.ctd": polygon,
     "total.ctd": total,
     "sentinel.ctd": sentinel,
     "optional.ctd": optional,
+    "times.ctd": times,
+    "alphabet.ctd": alphabet,
     "brackets.ctd": brackets,
     "palindrome.ctd": palindrome,
     "decimals.ctd": decimals,

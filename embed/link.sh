@@ -1,5 +1,5 @@
 #!/usr/bin/env bash
-# Makes the libraries for C in embed/out: libchecktestdata.a and libchecktestdata.so, of what embed/build.sh compiled and the heap of the
+# Makes the libraries for C in embed/out: libchecktestdata.a and libchecktestdata.so, of what scripts/keep_module.sh compiled and the heap of the
 # toolchain.
 set -eu
 top=$(cd "$(dirname "${BASH_SOURCE[0]}")/.." && pwd)

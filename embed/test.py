@@ -74,6 +74,33 @@ class CLibrary(unittest.TestCase):
         self.assertEqual([line.split()[-1] for line in named.stdout.splitlines()], ["checktestdata_run"])
 
 
+class Prefix(unittest.TestCase):
+    """What is installed in a prefix that is no folder of the system is found by the variables that the guide names."""
+
+    @classmethod
+    def setUpClass(cls) -> None:
+        cls.prefix = Path(cls.enterClassContext(tempfile.TemporaryDirectory())) / "own"
+        outside = {name: value for name, value in os.environ.items() if name not in ["MAKEFLAGS", "MAKELEVEL", "MFLAGS", "CHECKTESTDATA_LIBRARY"]}
+        cls.environment = {**outside, "PREFIX": str(cls.prefix), "PYTHONDONTWRITEBYTECODE": "1"}
+        subprocess.run(["make", "--silent", "lib", f"PREFIX={cls.prefix}"], cwd=TOP, env=cls.environment, check=True)
+
+    def test_python(self) -> None:
+        call = [sys.executable, "-c", "import checktestdata; print(checktestdata.__file__, checktestdata.check('', b'').message)"]
+        environment = {**self.environment, "PYTHONPATH": f"{self.prefix}/share/checktestdata/python"}
+        ran = subprocess.run(call, env=environment, cwd="/", capture_output=True, text=True)
+        self.assertEqual((ran.stdout, ran.stderr), (f"{self.prefix}/share/checktestdata/python/checktestdata.py testdata ok!\n", ""))
+
+    @unittest.skipUnless(shutil.which("pkg-config"), "pkg-config is not there")
+    def test_c(self) -> None:
+        text, wanted = (re.search(rf"```{start}.*?```", GUIDE, re.DOTALL)[0].strip("`") for start in ("c\n", "\nstatus"))
+        command = re.search(r"`(cc main\.c [^`]*)`", GUIDE)[1]
+        settings = re.search(r"```sh\n(export PKG_CONFIG_PATH.*?)```", GUIDE, re.DOTALL)[1]
+        with tempfile.TemporaryDirectory() as folder:
+            (Path(folder) / "main.c").write_text(text.removeprefix("c\n"))
+            ran = subprocess.run(["bash", "-c", f"{settings}{command} && ./main"], cwd=folder, env=self.environment, capture_output=True, text=True)
+        self.assertEqual((ran.stdout, ran.stderr), (wanted.removeprefix("\n"), ""))
+
+
 class PythonModule(unittest.TestCase):
     def test_the_examples_of_the_guide(self) -> None:
         for text in re.findall(r"```python\n(.*?)```", GUIDE, re.DOTALL):
@@ -102,6 +129,14 @@ class PythonModule(unittest.TestCase):
         self.assertEqual(checktestdata.check("", b"", presets="n=").message, "checktestdata: bad preset")
         with self.assertRaises(ValueError):
             checktestdata.check("", b"", presets="n=\0")
+
+    def test_data_that_are_no_bytes(self) -> None:
+        with self.assertRaisesRegex(TypeError, r'^the data must be bytes, and not str: write b"\.\.", or encode the text by \.encode\(\)$'):
+            checktestdata.check("INT(1,10) NEWLINE", "5\n")
+        with self.assertRaisesRegex(TypeError, "^the data must be bytes, and not NoneType$"):
+            checktestdata.check("INT(1,10) NEWLINE", None)
+        with self.assertRaisesRegex(TypeError, "^the program must be its text, as str or bytes, and not PosixPath$"):
+            checktestdata.check(Path("program.ctd"), b"5\n")
 
     def test_options(self) -> None:
         self.assertTrue(checktestdata.check("INT(0,9) SPACE INT(0,9) NEWLINE", b"  1 \t 2 \r\n  ", whitespace_ok=True).accepted)

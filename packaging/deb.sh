@@ -18,7 +18,8 @@ make --silent install-built DESTDIR="$stage" PREFIX=/usr docdir=/usr/share/doc/$
 for program in checktestdata ctd-lint; do
     [ ! -e "$stage/usr/bin/$program" ] || strip --remove-section=.comment --remove-section=.note "$stage/usr/bin/$program"
 done
-sed -i '1s|.*|#!/usr/bin/python3|' "$stage"/usr/share/checktestdata/tools/ctd-*
+# (the Python of the system, at which the shell's lines of a companion look)
+sed -i '1,6s,\(-v\|exec\) python3,\1 /usr/bin/python3,' "$stage"/usr/share/checktestdata/tools/ctd-*
 gzip -9n "$stage"/usr/share/man/man?/*
 
 # Debian has the licences in one file, and the changes of a package beside those of its sources.
@@ -26,6 +27,7 @@ cat packaging/debian/copyright LICENSE-MIT <(printf '\n\n') NOTICE >"$documents/
 rm "$documents"/{LICENSE-MIT,LICENSE-APACHE,NOTICE}
 gzip -9nc CHANGELOG.md >"$documents/changelog.gz"
 rm "$documents/CHANGELOG.md"
+scripts/take_out_links.sh "$documents"
 printf '%s (%s) unstable; urgency=medium\n\n  * Version %s.\n\n -- %s  %s\n' "$name" "$version" "$1" "$maintainer" "$(LC_ALL=C date --utc --rfc-email --date="@$SOURCE_DATE_EPOCH")" |
     gzip -9n >"$documents/changelog.Debian.gz"
 install -D -m 644 packaging/debian/lintian-overrides "$stage/usr/share/lintian/overrides/$name"

@@ -4,6 +4,7 @@
 The last line counts what passed and failed. usage: tests/companions.py [PROGRAM]"""
 from __future__ import annotations
 
+import errno
 import importlib.machinery
 import importlib.util
 import io
@@ -16,6 +17,8 @@ import tempfile
 import unittest
 from pathlib import Path
 from types import ModuleType
+from typing import Any
+from unittest import mock
 
 from results import TOP, checker_to_test, run_unit_tests
 
@@ -60,6 +63,11 @@ class CompanionTest(unittest.TestCase):
         """A checker that does what a script says, in the folder."""
         self.write("checktestdata", f"#!/bin/sh\n{script}\n")
         (self.folder / "checktestdata").chmod(0o755)
+
+    def run_shell(self, line: str) -> subprocess.CompletedProcess[bytes]:
+        """A run of a command line of bash in the folder, where Python has its own settings alone."""
+        environment = {name: value for name, value in os.environ.items() if not name.startswith("PYTHON")}
+        return subprocess.run(["bash", "-c", line], cwd=self.folder, env=environment, capture_output=True, timeout=OUT_OF_TIME, check=False)
 
     def run_tool(self, *words: str | bytes, stdin: bytes | int = b"", checker: str | None = None) -> subprocess.CompletedProcess[bytes]:
         """A run in the folder, with another checker than the built one where one is named."""
@@ -280,8 +288,80 @@ class Show(CompanionTest):
 
     def test_files_that_cannot_be_read(self) -> None:
         (self.folder / "folder").mkdir()
-        shown = "none.in: cannot read: No such file or directory\nfolder: cannot read: Is a directory\nright.in: testdata ok!\n"
+        shown = "none.in: cannot read: No such file or directory\nfolder: no files *.in in this folder\nright.in: testdata ok!\n"
         self.assert_run(2, shown + "3 checked, 1 fit, 0 rejected, 2 without verdict\n", "list.ctd", "none.in", "folder", "right.in")
+
+    def test_the_data_below_a_folder(self) -> None:
+        for name in ["secret/2.in", "secret/10.in", "secret/group/sub/1.in", "sample/1.in", "sample/1.ans", "secret/in", "sample/.in"]:
+            (self.folder / "data" / name).parent.mkdir(parents=True, exist_ok=True)
+            self.write(f"data/{name}", "1\n1\n" if name.endswith(".in") else "wrong")
+        (self.folder / "data/folder.in").mkdir()
+        names = ["sample/.in", "sample/1.in", "secret/10.in", "secret/2.in", "secret/group/sub/1.in"]
+        for folder in ["data", "data/"]:
+            shown = "".join(f"data/{name}: testdata ok!\n" for name in names)
+            self.assert_run(0, f"{shown}5 checked, 5 fit, 0 rejected, 0 without verdict\n", "list.ctd", folder)
+        self.write("data/secret/group/sub/2.in", "0\n")
+        self.assert_run(1, "data/secret/group/sub/2.in:1:1: error: value out of range (list.ctd:1:1)\n", "--gcc", "list.ctd", "data")
+
+    def test_a_folder_in_a_folder_that_cannot_be_read(self) -> None:
+        companion = load("ctd-show").sys.modules["ctd_companion"]
+        for name in ["1.in", "z/3.in", "closed/2.in"]:
+            (self.folder / "data" / name).parent.mkdir(parents=True, exist_ok=True)
+            self.write(f"data/{name}", "")
+        open_folder = os.scandir
+
+        def scandir(path: str) -> Any:
+            # (root reads every folder, so that it is made to fail)
+            if path.endswith("closed"):
+                raise PermissionError(errno.EACCES, "Permission denied", path)
+            return open_folder(path)
+
+        with mock.patch("os.scandir", scandir):
+            found = companion.files_below(f"{self.folder}/data")
+        names = [(Path(file.name).relative_to(self.folder).as_posix(), file.fault) for file in found]
+        self.assertEqual(names, [("data/1.in", None), ("data/closed", "cannot read: Permission denied"), ("data/z/3.in", None)])
+
+    def test_a_list_of_files(self) -> None:
+        (self.folder / "data").mkdir()
+        for name in ["data/1.in", "a b.in", "a\nb.in"]:
+            self.write(name, "1\n1\n")
+        for names, shown in [
+            (b"right.in\na b.in\n", ["right.in", "a b.in"]),
+            (b"a b.in\n\nright.in", ["a b.in", "right.in"]),
+            (b"right.in\0a\nb.in\0", ["right.in", r"a\nb.in"]),
+            (b"a\nb.in\0right.in", [r"a\nb.in", "right.in"]),
+            (b"data\n", ["data/1.in"]),
+        ]:
+            with self.subTest(names):
+                self.write("names", names)
+                told = "".join(f"{name}: testdata ok!\n" for name in shown)
+                counts = f"{len(shown)} checked, {len(shown)} fit, 0 rejected, 0 without verdict\n" if len(shown) > 1 else ""
+                self.assert_run(0, told + counts, "--files-from=names", "list.ctd")
+                self.assert_run(0, told + counts, "list.ctd", "--files-from", "-", stdin=names)
+        counts = "2 checked, 2 fit, 0 rejected, 0 without verdict\n"
+        self.assert_run(0, f"right.in: testdata ok!\ndata/1.in: testdata ok!\n{counts}", "--files-from=names", "list.ctd", "right.in")
+
+    def test_lists_that_are_refused(self) -> None:
+        self.write("empty", "\n")
+        for names, told in [("empty", b"the list of files is empty"), ("-", b"standard input is the list of files, and cannot be data too")]:
+            ran = self.run_tool("--files-from", names, "list.ctd", *(["-"] if names == "-" else []), stdin=b"right.in\n")
+            self.assertEqual((ran.stdout, ran.stderr.splitlines()[-1], ran.returncode), (b"", b"ctd-show: error: " + told, 2))
+        ran = self.run_tool("--files-from=none", "list.ctd")
+        self.assertEqual((ran.stdout, ran.stderr, ran.returncode), (b"", b"ctd-show: none: No such file or directory\n", 2))
+
+    def test_a_list_of_many_files(self) -> None:
+        self.write_checker("cat >/dev/null\necho testdata ok!")
+        ran = self.run_tool("-q", "--files-from=-", "list.ctd", stdin=b"right.in\n" * 2000, checker="./checktestdata")
+        self.assertEqual((ran.stdout, ran.returncode), (b"2000 checked, 2000 fit, 0 rejected, 0 without verdict\n", 0))
+
+    def test_no_more_tasks_wait_than_are_needed(self) -> None:
+        companion = load("ctd-show").sys.modules["ctd_companion"]
+        begun: list[int] = []
+        results = companion.results_in_order(begun.append, range(100_000), 2, companion.Progress(100_000, "files"))
+        next(results)
+        self.assertLess(len(begun), 100)
+        results.close()
+        self.assertEqual(list(companion.results_in_order(str, range(100), 2, companion.Progress(100, "files"))), [str(number) for number in range(100)])
 
     def test_quiet(self) -> None:
         self.write("wrong.in", "0\n")
@@ -337,6 +417,22 @@ class Show(CompanionTest):
                 ran = self.run_tool("--", "list.ctd", name)
                 self.assertEqual((ran.stdout, ran.returncode), (name + b": testdata ok!\n", 0))
 
+    def test_control_characters_in_names_are_escaped(self) -> None:
+        for name, shown in [("a\nb.in", r"a\nb.in"), ("\x1b[31m\x7f\t.in", r"\x1b[31m\x7f\t.in"), ("\u202eé\x85.in", r"\u202eé\x85.in"), (r"a\b.in", r"a\\b.in")]:
+            with self.subTest(shown):
+                self.write(os.fsencode(name), "0\n")
+                ran = self.run_tool("list.ctd", os.fsencode(name))
+                self.assertEqual(ran.stdout.decode().splitlines()[0], f"{shown}: line 1 column 1: value out of range (program line 1 column 1)")
+                ran = self.run_tool("--gcc", "list.ctd", os.fsencode(name))
+                self.assertEqual(ran.stdout.decode(), f"{shown}:1:1: error: value out of range (list.ctd:1:1)\n")
+
+    def test_control_characters_in_the_name_of_the_program_are_escaped(self) -> None:
+        self.write("\x1b.ctd", "INT(5,9)")
+        self.write("wrong.in", "1")
+        self.assertEqual(self.run_tool("\x1b.ctd", "wrong.in").stdout.decode().splitlines()[3], r"\x1b.ctd:")
+        self.assertEqual(self.run_tool("--gcc", "\x1b.ctd", "wrong.in").stdout, rb"wrong.in:1:1: error: value out of range (\x1b.ctd:1:1)" + b"\n")
+        self.assert_run(2, "checktestdata: cannot open \\x1b\\n.ctd\n", "\x1b\n.ctd", "right.in")
+
     def test_a_checker_that_breaks_off(self) -> None:
         self.write_checker("kill -9 $$")
         ran = self.run_tool("list.ctd", "right.in", checker="./checktestdata")
@@ -379,8 +475,7 @@ class Show(CompanionTest):
         self.assertEqual(self.run_tool("list.ctd", "right.in", checker="./checktestdata").stderr, b"")
 
     def test_a_reader_that_goes_away(self) -> None:
-        call = f"{TOOLS}/ctd-show --checker {CHECKER} list.ctd {'right.in ' * 200} | head -n 1"
-        ran = subprocess.run(["bash", "-c", call], cwd=self.folder, capture_output=True, timeout=OUT_OF_TIME, check=False)
+        ran = self.run_shell(f"{TOOLS}/ctd-show --checker {CHECKER} list.ctd {'right.in ' * 200} | head -n 1")
         self.assertEqual((ran.stdout, ran.stderr), (b"right.in: testdata ok!\n", b""))
 
     def test_wrong_words(self) -> None:
@@ -412,24 +507,38 @@ class Mutate(CompanionTest):
             ("leading-zero", b"1 -2\n0 a7\n", [b"01 -2\n0 a7\n", b"1 -02\n0 a7\n", b"1 -2\n00 a7\n"]),
             ("minus-zero", b"0 10 -0 0\n", [b"-0 10 -0 0\n", b"0 10 -0 -0\n"]),
             ("plus", b"1 -2 x3 0\n", [b"+1 -2 x3 0\n", b"1 -2 x3 +0\n"]),
+            ("crlf-everywhere", b"1\r\n2\n", [b"1\r\n2\r\n"]),
+            ("crlf-everywhere", b"1\r\n2\r\n", []),
+            ("tab", b"1 2\n a\n", [b"1\t2\n a\n", b"1 2\n\ta\n"]),
             ("doubled-separator", b"1 2,3\t4\n", [b"1  2,3\t4\n", b"1 2,,3\t4\n", b"1 2,3\t\t4\n"]),
             ("blank-line", b"1\n2\n", [b"\n1\n2\n", b"1\n\n2\n", b"1\n2\n\n"]),
             ("byte-order-mark", b"1\n", [b"\xef\xbb\xbf1\n"]),
+            ("huge", b"1 -2\nx3\n", [b"9" * 40 + b" -2\nx3\n", b"1 " + b"9" * 40 + b"\nx3\n"]),
+            ("zero", b"7 0\n-2 x3\n", [b"0 0\n-2 x3\n", b"7 0\n0 x3\n"]),
+            ("minus-one", b"7 -1\n0\n", [b"-1 -1\n0\n", b"7 -1\n-1\n"]),
+            ("as-next", b"5 7\n-2 -2\n", [b"7 7\n-2 -2\n", b"5 -2\n-2 -2\n"]),
+            ("as-previous", b"5 7\n-2 -2\n", [b"5 5\n-2 -2\n", b"5 7\n7 -2\n"]),
+            ("as-first", b"5 7\n1 2 3 4\nx 8 9 7 8\n", [b"5 7\n1 2 1 4\nx 8 9 7 8\n", b"5 7\n1 2 3 1\nx 8 9 7 8\n", b"5 7\n1 2 3 4\nx 8 9 8 8\n"]),
             ("above-next", b"5 7\n-2\n", [b"8 7\n-2\n", b"5 -1\n-2\n"]),
             ("above-previous", b"5 7\n-2\n", [b"5 6\n-2\n", b"5 7\n8\n"]),
             ("below-next", b"5 7\n-2\n", [b"6 7\n-2\n", b"5 -3\n-2\n"]),
             ("below-previous", b"5 7\n-2\n", [b"5 4\n-2\n", b"5 7\n6\n"]),
+            ("dropped-number", b"1 2 3\n4\na 5,6\n", [b"2 3\n4\na 5,6\n", b"1 3\n4\na 5,6\n", b"1 2\n4\na 5,6\n", b"1 2 3\n\na 5,6\n", b"1 2 3\n4\na,6\n", b"1 2 3\n4\na 5\n"]),
+            ("extra-number", b"1,2\n4\n", [b"1,1,2\n4\n", b"1,2,2\n4\n", b"1,2\n4 4\n"]),
             ("dropped-line", b"1\n2\n3", [b"2\n3", b"1\n3", b"1\n2\n"]),
             ("doubled-line", b"1\n2\n3", [b"1\n1\n2\n3", b"1\n2\n2\n3", b"1\n2\n3\n3"]),
             ("exchanged-lines", b"1\n2\n\n3\n", [b"2\n1\n\n3\n", b"1\n\n2\n3\n", b"1\n2\n3\n\n"]),
+            ("exchanged-lines", b"1\n2\n3", [b"2\n1\n3", b"1\n3\n2"]),
             ("letter-case", b"aB1\n", [b"AB1\n", b"ab1\n"]),
+            ("empty-file", b"1\n2\n", [b""]),
+            ("empty-file", b"", []),
         ]:
             with self.subTest(kind=kind, data=data):
                 self.assertEqual(self.made(kind, data), made)
 
     def test_every_kind_is_tried_above(self) -> None:
         listed = [line.split()[0] for line in self.run_tool("--kinds").stdout.decode().splitlines()]
-        self.assertEqual(len(listed), 18)
+        self.assertEqual(len(listed), 28)
 
     def test_changes_are_spread_over_the_file(self) -> None:
         # In 18 bytes: the first line that begins at 0, at 9.7 or later, and at 13.4 or later.
@@ -453,19 +562,26 @@ class Mutate(CompanionTest):
         self.write("right.in", "5\n")
         self.assert_run(
             0,
-            "                                             made  rejected  let through  no verdict\n"
-            "a space at the end of a line                    1         1            0           0\n"
-            "no line feed at the end of the file             1         1            0           0\n"
-            "a carriage return at the end of a line          1         1            0           0\n"
-            "a carriage return at the end of each line       1         1            0           0\n"
-            "a number with a leading zero                    1         1            0           0\n"
-            "a number with a plus                            1         1            0           0\n"
-            "an extra blank line                             2         2            0           0\n"
-            "a byte order mark                               1         1            0           0\n"
-            "a line dropped *                                1         1            0           0\n"
-            "a line twice *                                  1         1            0           0\n"
-            "* may be another file that fits\n"
-            "11 made, 11 rejected, 0 let through, 0 without verdict\n",
+            "should not fit                             made  rejected  let through  no verdict\n"
+            "a space at the end of a line                  1         1            0           0\n"
+            "no line feed at the end of the file           1         1            0           0\n"
+            "a carriage return at the end of a line        1         1            0           0\n"
+            "a carriage return at the end of each line     1         1            0           0\n"
+            "an extra blank line                           2         2            0           0\n"
+            "a byte order mark                             1         1            0           0\n"
+            "a number with a leading zero                  1         1            0           0\n"
+            "a number with a plus                          1         1            0           0\n"
+            "a number of 40 digits                         1         1            0           0\n"
+            "may fit                                    made  rejected  let through  no verdict\n"
+            "0 in place of a number                        1         1            0           0\n"
+            "-1 in place of a number                       1         1            0           0\n"
+            "a number dropped                              1         1            0           0\n"
+            "a number too many                             1         1            0           0\n"
+            "a line dropped                                1         1            0           0\n"
+            "a line twice                                  1         1            0           0\n"
+            "an empty file                                 1         1            0           0\n"
+            "should not fit: 10 made, 10 rejected, 0 let through, 0 without verdict\n"
+            "may fit: 7 made, 7 rejected, 0 let through, 0 without verdict\n",
             "number.ctd",
             "right.in",
         )
@@ -474,22 +590,83 @@ class Mutate(CompanionTest):
         # 8/n stops the check where n is 0, which is one above -1; and a pair in either order fits.
         self.write("divide.ctd", "INT(-9,9,n) SPACE INT(-9,9) NEWLINE ASSERT(8/n<9)")
         self.write("right.in", "5 -1\n")
-        self.assert_run(
-            1,
-            "                                             made  rejected  let through  no verdict\n"
-            "a number one above the next *                   1         0            0           1\n"
-            "a number one above the one before it *          1         0            1           0\n"
-            "* may be another file that fits\n"
-            "no verdict: a number one above the next\n"
+        shown = (
+            "may fit                                    made  rejected  let through  no verdict\n"
+            "a number one more than the one after it       1         0            0           1\n"
+            "a number one more than the one before it      1         0            1           0\n"
+            "no verdict: a number one more than the one after it (may be another file that fits)\n"
             '  right.in:1: "5·-1\\n" → "0·-1\\n": division by zero\n'
-            "let through: a number one above the one before it\n"
+            "let through: a number one more than the one before it (may be another file that fits)\n"
             '  right.in:1: "5·-1\\n" → "5·6\\n"\n'
-            "2 made, 0 rejected, 1 let through, 1 without verdict\n",
-            "--only",
-            "above-next,above-previous",
-            "divide.ctd",
-            "right.in",
+            "may fit: 2 made, 0 rejected, 1 let through, 1 without verdict\n"
         )
+        words = ["--only", "above-next,above-previous", "divide.ctd", "right.in"]
+        self.assert_run(0, shown, *words)
+        self.assert_run(0, shown, "--strict", *words)
+        self.assert_run(1, shown, "--no-strict", *words)
+
+    def test_what_should_not_fit_counts_for_the_status(self) -> None:
+        self.write("loose.ctd", "INT(1,10) IF(MATCH(\" \")) SPACE END NEWLINE IF(ISEOF) ELSE INT(1,9) NEWLINE END")
+        self.write("right.in", "5\n")
+        for words, status in [("", 1), ("--strict", 1), ("--no-strict", 1), ("--ignore trailing-space", 0), ("--ignore trailing-space --no-strict", 1), ("-w", 0)]:
+            with self.subTest(words):
+                self.assertEqual(self.run_tool(*words.split(), "loose.ctd", "right.in").returncode, status)
+
+    def test_without_a_verdict_counts_as_not_rejected(self) -> None:
+        self.write("steps.ctd", "WHILE(!ISEOF) INT(0,99) NEWLINE END")
+        self.write("right.in", "5\n")
+        ran = self.run_tool("--only=blank-line", "--max-steps=6", "steps.ctd", "right.in")
+        self.assertEqual((ran.stdout.decode().splitlines()[-1], ran.returncode), ("should not fit: 2 made, 2 rejected, 0 let through, 0 without verdict", 0))
+        ran = self.run_tool("--only=doubled-line", "--no-strict", "--max-steps=6", "steps.ctd", "right.in")
+        self.assertEqual((ran.stdout.decode().splitlines()[-1], ran.returncode), ("may fit: 1 made, 0 rejected, 0 let through, 1 without verdict", 1))
+
+    def test_correct_programs_end_with_0(self) -> None:
+        for program in ["numbers", "list", "graph", "grids"]:
+            folder = TOP / "examples" / program
+            with self.subTest(program):
+                ran = self.run_tool("-n", "2", str(folder / "program.ctd"), str(folder / "right.in"))
+                self.assertEqual((ran.returncode, ran.stderr), (0, b""), ran.stdout.decode())
+
+    def test_with_w_other_blanks_may_fit(self) -> None:
+        self.write("pair.ctd", "INT(1,9) SPACE INT(1,9) NEWLINE")
+        self.write("right.in", "5 7\n")
+        words = ["--only", "tab,trailing-space,blank-line", "pair.ctd", "right.in"]
+        ran = self.run_tool("-w", *words)
+        self.assertEqual(
+            (ran.stdout.decode().splitlines()[-2:], ran.returncode),
+            (["should not fit: 2 made, 2 rejected, 0 let through, 0 without verdict", "may fit: 2 made, 0 rejected, 2 let through, 0 without verdict"], 0),
+        )
+        ran = self.run_tool(*words)
+        self.assertEqual((ran.stdout.decode().splitlines()[-1], ran.returncode), ("should not fit: 4 made, 4 rejected, 0 let through, 0 without verdict", 0))
+
+    def test_a_file_larger_than_the_memory(self) -> None:
+        # One line of 600 MB, with 400 MB of memory; the checker looks at its first bytes alone.
+        self.write_checker("head -c 1000 >/dev/null\necho testdata ok!")
+        with open(self.folder / "large.in", "wb") as file:
+            file.truncate(600_000_000)
+        kinds = "trailing-space,crlf-everywhere,byte-order-mark,doubled-line,dropped-line,empty-file"
+        ran = self.run_shell(f"ulimit -v 400000; {TOOLS}/ctd-mutate -j 1 --only {kinds} --checker ./checktestdata list.ctd large.in")
+        lines = ran.stdout.decode().splitlines()
+        self.assertEqual((lines[-2:], ran.stderr, ran.returncode), (["should not fit: 2 made, 0 rejected, 2 let through, 0 without verdict", "may fit: 3 made, 0 rejected, 3 let through, 0 without verdict"], b"", 1))
+        line = "\\x00" * 40
+        self.assertIn(f'  large.in:1: "{line}…" → "\\xef\\xbb\\xbf{line[:37 * 4]}…"', lines)
+        self.assertIn(f'  large.in:1: "…{line[:80]}" → "…{line[:80]}·"', lines)
+        self.assertIn(f'  large.in:1: "{line}…" → ""', lines)
+
+    def test_places_in_a_large_file(self) -> None:
+        # Each pattern matches at the same places in windows as in the whole; of a large file, the windows are spread from its start to its end.
+        changes = load("ctd-mutate").sys.modules["ctd_changes"]
+        part = b"1 -2 x3\n\n0, 12 9\na.b 007\r\n" + b"5" * 999 + b" "
+        data = b"7" + part * (2_500_000 // len(part))
+        (self.folder / "large.in").write_bytes(data)
+        with open(self.folder / "large.in", "rb") as file:
+            source = changes.Source(file, 1, len(data) - 1)
+            for kind in changes.KINDS:
+                with self.subTest(kind.name):
+                    self.assertEqual([place.start for place in source.places(kind.place, 0)], [found.start() for found in kind.place.finditer(data[1:])])
+        source = changes.Source(io.BytesIO(), 0, 100_000_000)
+        self.assertEqual((source.windows[0], source.windows[-1]), (0, 100_000_001 - changes.WINDOW))
+        self.assertEqual(len(source.windows), 8)
 
     def test_five_of_a_kind_are_listed_or_all(self) -> None:
         self.write("anything.ctd", ANYTHING)
@@ -497,8 +674,8 @@ class Mutate(CompanionTest):
         lines = self.run_tool("--only", "letter-case", "anything.ctd", "right.in").stdout.decode().splitlines()
         changed = ["Abcdefg", "aBcdefg", "abCdefg", "abcDefg", "abcdEfg"]
         listed = [f'  right.in:1: "abcdefg\\n" → "{line}\\n"' for line in changed]
-        ending = ["  and 2 more", "7 made, 0 rejected, 7 let through, 0 without verdict"]
-        self.assertEqual(lines[3:], ["let through: a letter of the other case", *listed, *ending])
+        ending = ["  and 2 more", "may fit: 7 made, 0 rejected, 7 let through, 0 without verdict"]
+        self.assertEqual(lines[2:], ["let through: a letter of the other case (may be another file that fits)", *listed, *ending])
         self.assertIn('"abcdefG\\n"', self.run_tool("-a", "--only", "letter-case", "anything.ctd", "right.in").stdout.decode())
 
     def test_a_file_that_does_not_fit(self) -> None:
@@ -509,7 +686,7 @@ class Mutate(CompanionTest):
         lines = ran.stdout.decode().splitlines()
         self.assertEqual(lines[0], "wrong.in: line 1 column 1: value out of range (program line 1 column 1)")
         self.assertEqual(lines[1], "none.in: cannot read: No such file or directory")
-        self.assertEqual((ran.returncode, lines[-1]), (2, "1 made, 1 rejected, 0 let through, 0 without verdict"))
+        self.assertEqual((ran.returncode, lines[-1]), (2, "should not fit: 1 made, 1 rejected, 0 let through, 0 without verdict"))
 
     def test_a_program_that_is_refused(self) -> None:
         self.write("open.ctd", "INT(1,10")
@@ -530,14 +707,7 @@ class Mutate(CompanionTest):
         self.write("right.in", "5\n")
         ran = self.run_tool("-o", "right.in/made", "anything.ctd", "right.in")
         self.assertEqual((ran.stdout, ran.returncode), (b"", 2))
-        self.assertEqual(ran.stderr, b"ctd-mutate: [Errno 20] Not a directory: 'right.in/made'\n")
-
-    def test_the_mark_is_explained_where_it_is_used(self) -> None:
-        self.write("anything.ctd", ANYTHING)
-        self.write("right.in", "5\n")
-        for kind, explained in [("plus", False), ("dropped-line", True)]:
-            out = self.run_tool("--only", kind, "anything.ctd", "right.in").stdout.decode()
-            self.assertEqual("* may be another file that fits" in out, explained)
+        self.assertEqual(ran.stderr, b"ctd-mutate: right.in/made: Not a directory\n")
 
     def test_an_unknown_kind(self) -> None:
         self.write("right.in", "5\n")
@@ -552,17 +722,53 @@ class Mutate(CompanionTest):
         self.assertEqual(lines[-2], f'  right.in:1: "…{"a" * 20}b{"1" * 19}…" → "…{"a" * 20}B{"1" * 19}…"')
 
 
-class Both(unittest.TestCase):
+class Both(CompanionTest):
+    TOOLS = ["ctd-show", "ctd-mutate"]
+
+    def setUp(self) -> None:
+        super().setUp()
+        self.write("number.ctd", "INT(1,10) NEWLINE")
+        self.write("right.in", "5\n")
+
     def test_help_and_version(self) -> None:
         version = self.written_by(CHECKER, "--version").split()[1]
-        for tool in ["ctd-show", "ctd-mutate"]:
+        for tool in self.TOOLS:
             with self.subTest(tool):
-                self.assertTrue(self.written_by(TOOLS / tool, "--help").startswith(f"usage: {tool} [-h]"))
+                shown = self.written_by(TOOLS / tool, "--help")
+                self.assertTrue(shown.startswith(f"usage: {tool} [-h]"))
+                for words in ["-h, --help", "-V, --version"]:
+                    self.assertIn(f"\n  {words} ", shown)
                 self.assertEqual(self.written_by(TOOLS / tool, "--version"), f"{tool} {version}\n")
 
     @staticmethod
     def written_by(command: Path, word: str) -> str:
         return subprocess.run([command, word], capture_output=True, text=True, check=True).stdout
+
+    def test_streams_that_are_closed_or_full(self) -> None:
+        """One line of error and status 2, and never a traceback."""
+        for tool in self.TOOLS:
+            call = f"{TOOLS}/{tool} --checker {CHECKER}"
+            for rest, status, err in [
+                ("number.ctd right.in >&-", 2, "standard output is closed"),
+                ("--help >&-", 2, "standard output is closed"),
+                ("number.ctd right.in >/dev/full", 2, "No space left on device"),
+                ("--help >/dev/full", 2, "No space left on device"),
+                ("number.ctd right.in >/dev/null 2>&-", 0, None),
+                ("number.ctd none.in >/dev/null 2>&-", 2, None),
+                ("number.ctd right.in >&- 2>&-", 2, None),
+                ("number.ctd right.in >/dev/full 2>/dev/full", 2, None),
+                ("number.ctd right.in <&- >/dev/null", 0, None),
+                ("number.ctd - <&- >/dev/null", 2, None),
+                ("--files-from=- number.ctd <&- >/dev/null", 2, "Bad file descriptor"),
+            ]:
+                with self.subTest(tool=tool, rest=rest):
+                    ran = self.run_shell(f"{call} {rest}")
+                    self.assertEqual((ran.stdout, ran.stderr.decode(), ran.returncode), (b"", f"{tool}: {err}\n" if err else "", status))
+
+    def test_standard_input_that_is_closed_is_not_another_file(self) -> None:
+        for tool in self.TOOLS:
+            ran = self.run_shell(f"{TOOLS}/{tool} --checker {CHECKER} number.ctd right.in - <&- | grep ^-:")
+            self.assertEqual((ran.stdout, ran.stderr), (b"-: cannot read: Bad file descriptor\n", b""))
 
 
 if __name__ == "__main__":

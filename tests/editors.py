@@ -132,6 +132,9 @@ class Completions(unittest.TestCase):
         ("ctd-lint --def\tn=5 pro\t", ["--define=n=5", "program.ctd"]),
         ("ctd-show --gc\t pro\t data.in da\t", ["--gcc", "program.ctd", "data.in", "data.in"]),
         ("ctd-mutate --only trail\t pro\t da\t", ["--only", "trailing-space", "program.ctd", "data.in"]),
+        ("ctd-mutate --only plus,trail\t pro\t da\t", ["--only", "plus,trailing-space", "program.ctd", "data.in"]),
+        ("ctd-mutate --ignore plus,hu\t pro\t da\t", ["--ignore", "plus,huge", "program.ctd", "data.in"]),
+        ("ctd-mutate --only=plus,trail\t pro\t da\t", ["--only=plus,trailing-space", "program.ctd", "data.in"]),
     ]
 
     def try_shell(self, call: list[str], first: str) -> None:
@@ -171,6 +174,8 @@ class Completions(unittest.TestCase):
                 ("ctd-show --gc", "--gcc"),
                 ("ctd-show program.ctd data.in da", "data.in"),
                 ("ctd-mutate --only trail", "trailing-space"),
+                ("ctd-mutate --only plus,trail", "plus,trailing-space"),
+                ("ctd-mutate --ignore=plus,trail", "--ignore=plus,trailing-space"),
             ]:
                 with self.subTest(line):
                     command = line.split()[0]

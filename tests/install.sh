@@ -52,6 +52,7 @@ share/bash-completion/completions/ctd-mutate
 share/bash-completion/completions/ctd-show
 share/checktestdata/tools/ctd-mutate
 share/checktestdata/tools/ctd-show
+share/checktestdata/tools/ctd_changes.py
 share/checktestdata/tools/ctd_companion.py
 share/checktestdata/vscode/language-configuration.json
 share/checktestdata/vscode/package.json
@@ -76,11 +77,14 @@ share/zsh/site-functions/_ctd-show'
 installed() { (cd "$prefix" && find . ! -type d ! -path './share/doc/*' -printf '%P\n' | LC_ALL=C sort); }
 expect 'all is installed, and nothing else' same "$wanted" "$(installed)"
 documents=$prefix/share/doc/checktestdata
-expect 'the documents are installed' diff -r docs "$documents/docs"
-expect 'the examples are installed' diff -r examples "$documents/examples"
-for text in README.md CHANGELOG.md LICENSE-MIT LICENSE-APACHE NOTICE; do
+# without_links FOLDER: the documents and examples of a folder, of links their text alone.
+without_links() { (cd "$1" && find README.md SECURITY.md docs examples -type f | LC_ALL=C sort | while IFS= read -r file; do echo "$file" && tr '\n' ' ' <"$file" | sed 's/\[\([^][]*\)\]([^() ]*)/\1/g'; done); }
+expect 'the documents and examples are installed' same "$(without_links .)" "$(without_links "$documents")"
+for text in CHANGELOG.md LICENSE-MIT LICENSE-APACHE NOTICE; do
     expect "$text is installed" cmp "$text" "$documents/$text"
 done
+expect 'no link of an installed document is dead' tests/links.py "$documents"
+expect 'links to what is installed are left' grep -q '(docs/LANGUAGE.md#answers)' "$documents/README.md"
 expect 'the installed program runs' same "checktestdata $version (whole-number profile)" "$("$prefix/bin/checktestdata" --version)"
 if has readelf 'whether the program is stripped'; then
     expect 'the installed program is stripped' same '' "$(readelf --sections --wide "$prefix/bin/checktestdata" | grep -o '\.symtab')"
@@ -93,7 +97,11 @@ printf '77\n' >"$work/wrong.in"
 beside() { (cd "$work" && "$prefix/bin/$1" number.ctd "${@:2}"); }
 expect 'ctd-lint runs' same '' "$(beside ctd-lint)"
 expect 'ctd-show finds the checker beside it' same 'right.in: testdata ok!' "$(beside ctd-show right.in)"
-expect 'ctd-mutate finds the checker beside it' same '11 made, 11 rejected, 0 let through, 0 without verdict' "$(beside ctd-mutate right.in | tail -n 1)"
+expect 'ctd-mutate finds the checker beside it' same 'may fit: 7 made, 7 rejected, 0 let through, 0 without verdict' "$(beside ctd-mutate right.in | tail -n 1)"
+for companion in ctd-show ctd-mutate; do
+    without=$(cd "$work" && PATH=$work/none "$prefix/bin/$companion" number.ctd right.in 2>&1 || echo "status $?")
+    expect "$companion without Python" same "$companion: Python is missing (no command python3): install version 3.9 or later"$'\nstatus 2' "$without"
+done
 expect 'the companions leave nothing where they stand' same "$wanted" "$(installed)"
 
 touch "$prefix/bin/other" "$prefix/share/vim/vimfiles/syntax/other.vim"
@@ -197,8 +205,10 @@ if has readelf 'the archive and the package'; then
         expect 'what the companions need' same 'python3:any (>= 3.9)' "$(field Recommends)"
         dpkg-deb --extract "$package" "$work/package"
         expect 'the program in the package' same "checktestdata $version (whole-number profile)" "$("$work/package/usr/bin/checktestdata" --version)"
-        expect 'a companion in the package' python3 "$work/package/usr/bin/ctd-show" "$work/number.ctd" "$work/right.in"
-        expect 'the Python of the package' same '#!/usr/bin/python3' "$(head -n 1 "$work/package/usr/bin/ctd-show")"
+        expect 'a companion in the package' "$work/package/usr/bin/ctd-show" "$work/number.ctd" "$work/right.in"
+        expect 'the Python of the package' same 2 "$(grep -cE '^(exec|command -v) /usr/bin/python3 ' "$work/package/usr/bin/ctd-show")"
+        expect 'a companion of the package without Python in PATH' env PATH="$work/none" "$work/package/usr/bin/ctd-show" "$work/number.ctd" "$work/right.in"
+        expect 'no link of a document in the package is dead' tests/links.py "$work/package/usr/share/doc/checktestdata-nagdimot"
         if has lintian 'lintian'; then
             expect 'lintian' lintian --fail-on error,warning,info "$package"
         fi

@@ -4,7 +4,8 @@
 A link leads to a file or a folder, and with a `#` to a heading of it or to an `<a id="..">`. In docs/DESIGN.md, names that stand before "in" and a
 link are words of the file that the link leads to. docs/LANGUAGE.md has a link to each row of the table with an `<a id="..">`.
 
-The last line counts the links and names that are right, as passed, and the others. usage: tests/links.py"""
+The last line counts the links and names that are right, as passed, and the others. usage: tests/links.py [FOLDER]
+With FOLDER only the links of the documents below it are followed, such as those that are installed."""
 import re
 import subprocess
 import sys
@@ -20,8 +21,10 @@ MARK = re.compile(r'<a id="([^"]+)"></a>')
 NAMED = re.compile(r"((?:`\w+`(?:, |,? and )?)+)\sin\s\[`[^\]]*`\]\(([^)]+)\)")
 
 
-def documents() -> list[Path]:
-    """The documents that the repository keeps."""
+def documents(folder: Path | None) -> list[Path]:
+    """The documents below a folder, or those that the repository keeps."""
+    if folder is not None:
+        return sorted(folder.rglob("*.md"))
     listed = subprocess.run(["git", "ls-files", "*.md"], cwd=TOP, capture_output=True, text=True, check=False)
     if listed.returncode == 0 and listed.stdout:
         return [TOP / name for name in listed.stdout.splitlines()]
@@ -56,10 +59,13 @@ def faults_of_names(text: str) -> Iterator[tuple[int, str | None]]:
             yield text[: found.start()].count("\n") + 1, None if name in words else f"there is no {name} in {found[2]}"
 
 
-def results() -> Iterator[tuple[Path, int, str | None]]:
-    for document in documents():
+def results(folder: Path | None) -> Iterator[tuple[Path, int, str | None]]:
+    """For each link, row and name of the documents the number of its line, and what is wrong with it."""
+    for document in documents(folder):
         for number, link in links(document):
             yield document, number, fault_of_link(document, link)
+    if folder is not None:
+        return
     for number, line in lines_of_text(DESIGN):
         if MARK.search(line):
             yield DESIGN, number, fault_of_row(line)
@@ -68,11 +74,12 @@ def results() -> Iterator[tuple[Path, int, str | None]]:
 
 
 def main() -> int:
+    folder = Path(sys.argv[1]).resolve() if len(sys.argv) > 1 else None
     passed = failed = 0
-    for document, number, fault in results():
+    for document, number, fault in results(folder):
         passed, failed = passed + (fault is None), failed + (fault is not None)
         if fault is not None:
-            print(f"links: {document.relative_to(TOP)}, line {number}: {fault}")
+            print(f"links: {document.relative_to(folder or TOP)}, line {number}: {fault}")
     print(f"{passed} passed, {failed} failed")
     return int(failed > 0)
 

@@ -2,6 +2,8 @@
 from __future__ import annotations
 
 import argparse
+import contextlib
+import errno
 import io
 import os
 import re
@@ -10,19 +12,28 @@ import subprocess
 import sys
 import tempfile
 import time
-from collections.abc import Callable, Iterator, Sequence
-from concurrent.futures import ThreadPoolExecutor, wait
+from collections import deque
+from collections.abc import Callable, Iterable, Iterator, Sequence
+from concurrent.futures import Future, ThreadPoolExecutor, wait
 from dataclasses import dataclass, field
 from pathlib import Path
-from typing import IO, TypeVar
+from typing import IO, TextIO, TypeVar
 
 VERSION = "1.0"
 CHECKER = "checktestdata"
 FITS, REJECTED, NO_VERDICT = 0, 1, 2
 INTERRUPTED = 130
+# The name that stands for standard input.
+STANDARD_INPUT = "-"
+# How the names of the files end that are looked for in a folder.
+DATA_SUFFIX = ".in"
 # Bytes that are handed on at once, where data can be read only once.
 BLOCK = 65536
+# How many tasks for each worker are begun or wait, before the first result is taken.
+TASKS_AHEAD = 16
 
+# What the checker writes below its message, where the command line is refused.
+ADVICE = b"Try 'checktestdata --help'.\n"
 DATA_FAULT = re.compile(r"(?:checktestdata: )?line (\d+) column (\d+): (.*) \((program (?:line (\d+) column (\d+)|start|end))\)", re.DOTALL)
 PROGRAM_FAULT = re.compile(r"checktestdata: program line (\d+) column (\d+): (.*)", re.DOTALL)
 
@@ -62,9 +73,15 @@ def place_of(line: str | None, column: str | None) -> Place | None:
     return None if line is None or column is None else Place(int(line), int(column))
 
 
+def printable(text: str) -> str:
+    """A text on one line of a terminal: control characters and a backslash are shown by escapes. Bytes outside of UTF-8 are left."""
+    return "".join(one if (one.isprintable() and one != "\\") or "\udc80" <= one <= "\udcff" else repr(one)[1:-1] for one in text)
+
+
 def answer_of(status: int, out: bytes, err: bytes) -> Answer:
     """The answer that a status and the bytes of both streams are."""
-    line = os.fsdecode((err if status == NO_VERDICT else out).partition(b"\n")[0])
+    written = (err if status == NO_VERDICT else out).removesuffix(ADVICE).removesuffix(b"\n")
+    line = printable(os.fsdecode(written))
     if status not in (FITS, REJECTED, NO_VERDICT) or not line:
         ending = f"was ended by signal {-status}" if status < 0 else f"ended with status {status}"
         return Answer(NO_VERDICT, f"{CHECKER}: the checker {ending}", f"the checker {ending}")
@@ -87,35 +104,38 @@ class Checker:
     def words(self) -> list[str]:
         return [self.path, *self.options, "--", self.program]
 
-    def check(self, data: bytes) -> Answer:
-        """Checks data that are held."""
-        ran = subprocess.run(self.words, input=data, stdout=subprocess.PIPE, stderr=subprocess.PIPE, check=False)
-        return answer_of(ran.returncode, ran.stdout, ran.stderr)
-
     def check_file(self, data: IO[bytes]) -> tuple[Answer, IO[bytes]]:
         """Checks the data of a file from where it stands. The second result is a file that can be read again: the same, or where it is a pipe
         a copy of what the checker was given."""
         if data.seekable():
             ran = subprocess.run(self.words, stdin=data, stdout=subprocess.PIPE, stderr=subprocess.PIPE, check=False)
             return answer_of(ran.returncode, ran.stdout, ran.stderr), data
-        return self._check_pipe(data)
-
-    def _check_pipe(self, data: IO[bytes]) -> tuple[Answer, IO[bytes]]:
-        """Checks data that can be read only once. No more is read than the checker takes."""
         copy = tempfile.TemporaryFile()
+        answer = self.check_blocks(copied_blocks(data, copy))
+        copy.flush()
+        return answer, copy
+
+    def check_blocks(self, blocks: Iterable[bytes]) -> Answer:
+        """Checks data that come in blocks. No more are asked for than the checker takes."""
         with subprocess.Popen(self.words, stdin=subprocess.PIPE, stdout=subprocess.PIPE, stderr=subprocess.PIPE) as process:
             assert process.stdin and process.stdout and process.stderr
             try:
                 with process.stdin:
-                    while block := data.read1(BLOCK):  # type: ignore[attr-defined]
-                        copy.write(block)
+                    for block in blocks:
                         process.stdin.write(block)
                         process.stdin.flush()
             except BrokenPipeError:
                 pass
             # The checker writes one line, which the pipes have room for.
             out, err = process.stdout.read(), process.stderr.read()
-        return answer_of(process.returncode, out, err), copy
+        return answer_of(process.returncode, out, err)
+
+
+def copied_blocks(data: IO[bytes], copy: IO[bytes]) -> Iterator[bytes]:
+    """The bytes of a file that can be read only once, in blocks as they come; each is written to a copy."""
+    while block := data.read1(BLOCK):  # type: ignore[attr-defined]
+        copy.write(block)
+        yield block
 
 
 def find_checker(given: str | None) -> str | None:
@@ -135,6 +155,66 @@ NAMED_BYTES = {0x20: "·", 0x09: r"\t", 0x0A: r"\n", 0x0D: r"\r", 0x5C: r"\\"}
 def visible(data: bytes) -> str:
     """Bytes as text in which each can be told from any other: blanks, control characters and bytes outside ASCII are shown."""
     return "".join(NAMED_BYTES.get(byte) or (chr(byte) if 0x20 < byte < 0x7F else f"\\x{byte:02x}") for byte in data)
+
+
+def fault_text(error: OSError) -> str:
+    """A fault of the system in words, with the name of the file where it is of one."""
+    told = error.strerror or str(error)
+    return told if error.filename is None else f"{printable(os.fsdecode(error.filename))}: {told}"
+
+
+@dataclass(frozen=True)
+class DataFile:
+    """A file of test data by its name; or the name of what has none, and why."""
+
+    name: str
+    fault: str | None = None
+
+    @property
+    def shown(self) -> str:
+        """The name as it is written."""
+        return printable(self.name)
+
+
+def open_data(name: str) -> IO[bytes]:
+    """Opens a file, or standard input, to read bytes."""
+    if name == STANDARD_INPUT and sys.stdin is None:
+        raise OSError(errno.EBADF, os.strerror(errno.EBADF))
+    return open(0, "rb", closefd=False) if name == STANDARD_INPUT else open(name, "rb")
+
+
+def files_below(folder: str) -> list[DataFile]:
+    """The data below a folder, by name; and the folders in it that cannot be read."""
+    unread: list[DataFile] = []
+
+    def note(error: OSError) -> None:
+        unread.append(DataFile(os.fsdecode(error.filename), f"cannot read: {error.strerror}"))
+
+    found = [os.path.join(path, name) for path, _, names in os.walk(folder, onerror=note) for name in names if name.endswith(DATA_SUFFIX)]
+    if not found and not unread:
+        return [DataFile(folder, f"no files *{DATA_SUFFIX} in this folder")]
+    return sorted([*map(DataFile, found), *unread], key=lambda file: os.fsencode(file.name))
+
+
+def listed_names(path: str) -> list[str]:
+    """The names that a file lists, or standard input: each ended by a byte 0 where there is one, and else by a line feed."""
+    with open_data(path) as file:
+        text = file.read()
+    return [os.fsdecode(name) for name in text.split(b"\0" if b"\0" in text else b"\n") if name]
+
+
+def data_files(words: argparse.ArgumentParser, given: argparse.Namespace) -> list[DataFile]:
+    """The files that the command line asks for: those that it names, then those of the list, with the data below a folder in its place."""
+    names = list(given.data)
+    if given.files_from is not None:
+        names += listed_names(given.files_from)
+        if given.files_from == STANDARD_INPUT and STANDARD_INPUT in names:
+            words.error("standard input is the list of files, and cannot be data too")
+    elif not names:
+        words.error("the following arguments are required: DATA, or --files-from")
+    if not names:
+        words.error("the list of files is empty")
+    return [file for name in names for file in (files_below(name) if os.path.isdir(name) else [DataFile(name)])]
 
 
 @dataclass
@@ -165,8 +245,12 @@ def results_in_order(work: Callable[[Task], Result], tasks: Sequence[Task], jobs
     """The result of the work on each task, in the order of the tasks, with several at work at once. Tasks that were not begun are
     dropped where the caller wants no more."""
     pool = ThreadPoolExecutor(jobs)
+    begun: deque[Future[Result]] = deque()
     try:
-        for number, future in enumerate([pool.submit(work, task) for task in tasks]):
+        for number in range(len(tasks)):
+            last = min(len(tasks), number + jobs * TASKS_AHEAD)
+            begun.extend(pool.submit(work, task) for task in tasks[number + len(begun) : last])
+            future = begun.popleft()
             while not wait([future], timeout=0.2).done:
                 progress.show(number)
             progress.show(number + 1)
@@ -194,8 +278,9 @@ def parser(name: str, description: str, epilog: str) -> argparse.ArgumentParser:
     words.add_argument("-D", "--define", metavar="NAME=VALUE,..", action="append", default=[], help="given to the checker: values of variables")
     words.add_argument("-w", "--whitespace-ok", action="store_true", help="given to the checker: blanks may differ")
     words.add_argument("--max-steps", metavar="N", action="append", default=[], help="given to the checker: stop a check after N steps")
+    words.add_argument("--files-from", metavar="FILE", help="read the names of further files from a file, one a line or ended by a byte 0; - is standard input")
     words.add_argument("program", metavar="PROGRAM", help="the program of checktestdata")
-    words.add_argument("data", metavar="DATA", nargs="+", help="a file of test data; - is standard input")
+    words.add_argument("data", metavar="DATA", nargs="*", help=f"a file of test data, or a folder for all *{DATA_SUFFIX} below it; - is standard input")
     return words
 
 
@@ -216,21 +301,51 @@ def checker_of(words: argparse.ArgumentParser, given: argparse.Namespace) -> Che
     return Checker(path, given.program, options)
 
 
-def run(main: Callable[[], int]) -> int:
-    """Runs a companion: what it writes is UTF-8, with names of files as the bytes that they are; a reader that goes away, an interrupt
-    and a fault of the system end it without a traceback."""
+def prepare_output() -> bool:
+    """Has standard output and error write UTF-8, with names of files as the bytes that they are. One that is closed goes nowhere. Gives
+    whether standard output is open."""
+    is_open = sys.stdout is not None
+    sys.stdout = sys.stdout or open(os.devnull, "w")
+    sys.stderr = sys.stderr or open(os.devnull, "w")
     for stream in (sys.stdout, sys.stderr):
         if isinstance(stream, io.TextIOWrapper):
             stream.reconfigure(encoding="utf-8", errors="surrogateescape")
+    return is_open
+
+
+def finish(stream: TextIO) -> None:
+    """Writes what a stream still holds. Where that fails it goes nowhere, so that Python does not try again at its end."""
     try:
-        status = main()
+        stream.flush()
+    except OSError:
+        os.dup2(os.open(os.devnull, os.O_WRONLY), stream.fileno())
+
+
+def fails(told: str) -> int:
+    """Ends the output with a line on standard error, behind the name of this program. Gives the status."""
+    finish(sys.stdout)
+    with contextlib.suppress(OSError):
+        print(f"{Path(sys.argv[0]).name}: {told}", file=sys.stderr)
+    finish(sys.stderr)
+    return NO_VERDICT
+
+
+def run(main: Callable[[], int]) -> int:
+    """Runs a companion and gives its status. Standard output that is closed or full, a reader that goes away, an interrupt and a fault
+    of the system end it without a traceback."""
+    if not prepare_output():
+        return fails("standard output is closed")
+    try:
+        try:
+            status = main()
+        except SystemExit as end:
+            status = int(end.code or 0)
         sys.stdout.flush()
         return status
     except BrokenPipeError:
-        os.dup2(os.open(os.devnull, os.O_WRONLY), sys.stdout.fileno())
+        finish(sys.stdout)
         return NO_VERDICT
     except OSError as error:
-        print(f"{Path(sys.argv[0]).name}: {error}", file=sys.stderr)
-        return NO_VERDICT
+        return fails(fault_text(error))
     except KeyboardInterrupt:
         return INTERRUPTED

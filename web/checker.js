@@ -1,13 +1,15 @@
-// The checker as a WebAssembly module, for a page, a worker and Node.
+// The checker and ctd-lint as WebAssembly modules, for a page, a worker and Node.
+import { findingsIn } from "./message.js";
 
-// Room for each of the two texts of an answer, in bytes. A message has a few hundred, the help some two thousand.
-const TEXT_SIZE = 4096;
+// Room for each of the two texts of an answer, in bytes. A message of the checker has a few hundred, the help some two thousand; of the findings of
+// ctd-lint the first count.
+const TEXT_SIZE = 1 << 16;
 
-// One instance of the module. Its memory only grows, so each check takes a new one.
-export class Checker {
+// One instance of a module. Its memory only grows, so each run takes a new one.
+class Instance {
   static async start(module) {
     const { exports } = await WebAssembly.instantiate(module, {});
-    return new Checker(exports);
+    return new this(exports);
   }
 
   constructor(exports) {
@@ -33,21 +35,35 @@ export class Checker {
     return place;
   }
 
-  // Checks data that lie in the memory against a program. `options` are words of the command line, such as ["-w", "-D", "n=5"].
-  run(options, program, testdata) {
-    const words = ["checktestdata", ...options, "--", "program", "testdata"].join("\0");
-    const inputs = [this.copy(new TextEncoder().encode(words)), this.copy(program), testdata];
-    const [out, err, lengths] = [TEXT_SIZE, TEXT_SIZE, 16].map((size) => this.reserve(size));
-    const slices = [...inputs, out, err].flatMap(({ start, size }) => [start, BigInt(size)]);
-    const began = performance.now();
-    const status = this.exports.checktestdata_run(...slices, lengths.start);
-    const milliseconds = performance.now() - began;
-    const [outLength, errLength] = new BigUint64Array(this.bytesAt(lengths.start, 16).slice().buffer);
-    return { status, out: this.#text(out, outLength), err: this.#text(err, errLength), milliseconds };
+  // Runs an exported function on the words of a command line and on bytes in the memory: the status and both texts.
+  call(name, words, ...inputs) {
+    const texts = [TEXT_SIZE, TEXT_SIZE].map((size) => this.reserve(size));
+    const lengths = this.reserve(16);
+    const places = [this.copy(new TextEncoder().encode(words.join("\0"))), ...inputs, ...texts];
+    const status = this.exports[name](...places.flatMap(({ start, size }) => [start, BigInt(size)]), lengths.start);
+    const sizes = new BigUint64Array(this.bytesAt(lengths.start, 16).slice().buffer);
+    const [out, err] = texts.map(({ start, size }, i) => this.#text(start, Math.min(Number(sizes[i]), size)));
+    return { status, out, err };
   }
 
-  #text({ start, size }, length) {
-    if (length > size) throw new Error(`the checker wrote a text of ${length} bytes`);
-    return new TextDecoder().decode(this.bytesAt(start, length).slice());
+  #text(start, size) {
+    return new TextDecoder().decode(this.bytesAt(start, size).slice());
+  }
+}
+
+export class Checker extends Instance {
+  // Checks data against a program, both in the memory. `options` are words of the command line, such as ["-w", "-D", "n=5"].
+  run(options, program, testdata) {
+    const began = performance.now();
+    const answer = this.call("checktestdata_run", ["checktestdata", ...options, "--", "program", "testdata"], program, testdata);
+    return { ...answer, milliseconds: performance.now() - began };
+  }
+}
+
+export class Linter extends Instance {
+  // What ctd-lint says of a program in the memory.
+  findings(options, program) {
+    const { out, err } = this.call("ctd_run", ["ctd-lint", ...options, "--", "program"], program);
+    return findingsIn(err + out);
   }
 }

@@ -3,6 +3,11 @@
 // How many bytes are shown on each side of a mark.
 const AROUND = 40;
 
+// How a carriage return, a line feed and the end of a text are shown.
+const CARRIAGE_RETURN = "\\r";
+export const LINE_FEED = "↵";
+export const END = "end";
+
 // The spot in the data and the place in the program that a message names; null where it names none.
 export function placesIn(message) {
   const spot = /^(?:checktestdata: )?line (\d+) column (\d+): /.exec(message);
@@ -11,7 +16,31 @@ export function placesIn(message) {
   return { spot: numbers(spot), place: numbers(place) };
 }
 
-// The bytes around a line and column, one character for each byte: what stands before the mark, at it and behind it.
+// The findings in the lines of ctd-lint, `FILE:LINE:COLUMN: RANK: TEXT` or `ctd-lint: TEXT`: each with its rank (error, warning or note), its text,
+// and its place, or null where it has none.
+export function findingsIn(lines) {
+  const found = [];
+  for (const line of lines.split("\n")) {
+    const [, row, column, rank, text] = /^program(?::(\d+):(\d+))?: (error|warning|note): (.*)$/.exec(line) ?? old(line) ?? [];
+    const fault = /^ctd-lint: (.*)$/.exec(line);
+    if (text) found.push({ place: row ? { line: Number(row), column: Number(column) } : null, rank, text });
+    else if (fault) found.push({ place: null, rank: "error", text: fault[1] });
+  }
+  return found;
+}
+
+function old(line) {
+  const found = /^(?:checktestdata: )?program line (\d+) column (\d+): (?:(warning): )?(.*)$/.exec(line);
+  return found && [found[0], found[1], found[2], found[3] ?? "error", found[4]];
+}
+
+// The index of a column in the text of a line. Columns count bytes from 1, and a text has units of UTF-16.
+export function columnIn(text, column) {
+  const before = new TextEncoder().encode(text).subarray(0, column - 1);
+  return new TextDecoder("utf-8", { ignoreBOM: true }).decode(before).length;
+}
+
+// The bytes around a line and column as text: what stands before the mark, at it and behind it.
 export function excerpt(bytes, { line, column }) {
   let start = 0;
   for (let current = 1; current < line; current++) {
@@ -25,16 +54,16 @@ export function excerpt(bytes, { line, column }) {
   const [first, last] = [Math.max(start, mark - AROUND), Math.min(end, mark + 1 + AROUND)];
   return {
     before: (first > start ? "…" : "") + visible(bytes.subarray(first, mark)),
-    mark: mark < end ? visible(bytes.subarray(mark, mark + 1)) : lineFeed < 0 ? "␄" : "↵",
+    mark: mark < end ? visible(bytes.subarray(mark, mark + 1)) : lineFeed < 0 ? END : LINE_FEED,
     after: visible(bytes.subarray(Math.min(mark + 1, last), last)) + (last < end ? "…" : ""),
   };
 }
 
-// Bytes as text in which each byte is one character that can be seen.
+// Bytes as text in which each byte can be seen.
 function visible(bytes) {
   return Array.from(bytes, (byte) => {
     if (byte === 9) return "→";
-    if (byte === 13) return "␍";
+    if (byte === 13) return CARRIAGE_RETURN;
     return byte >= 32 && byte < 127 ? String.fromCharCode(byte) : "·";
   }).join("");
 }

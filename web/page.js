@@ -1,176 +1,173 @@
-// The page: its fields, the worker that checks, and the answer.
-import { excerpt, placesIn } from "./message.js";
+// The page: its fields, the worker that checks, and the examples.
+import { Answer } from "./answer.js";
+import { Field } from "./field.js";
+import { Findings } from "./findings.js";
+import { defineMode } from "./mode.js";
 
-const field = (id) => document.getElementById(id);
-const VERDICTS = ["accepted", "rejected", "no-verdict"];
+const part = (id) => document.getElementById(id);
+const WORKER = new URL("worker.js", import.meta.url);
 
-// The bytes of the program file that was chosen; null once the text is edited, since then the text counts.
-let programFile = null;
-// The bytes of the example that was chosen, which a text area may change (it has one kind of line end); null once the text is edited.
-let exampleData = null;
-let worker = null;
+async function compile(name) {
+  const response = await fetch(new URL(name, import.meta.url));
+  return WebAssembly.compile(await response.arrayBuffer());
+}
 
-const compiled = fetch(new URL("checktestdata.wasm", import.meta.url))
-  .then((response) => response.arrayBuffer())
-  .then((bytes) => WebAssembly.compile(bytes));
+const [checker, linter] = ["checktestdata.wasm", "ctd-lint.wasm"].map(compile);
 
-function programBytes() {
-  return programFile ?? new TextEncoder().encode(field("program").value);
+// The check that runs: its worker, and whether a text or an option changed since it began. Null where none runs.
+let running = null;
+
+const program = new Field(
+  "program",
+  { options: { screenReaderLabel: "Program", lineWrapping: true, matchBrackets: true, indentUnit: 4 } },
+  () => {
+    changed();
+    findings.later();
+  },
+);
+const data = new Field(
+  "data",
+  {
+    options: { screenReaderLabel: "Data", showTrailingSpace: true },
+    // A line of data begins with no blanks of the line before.
+    keys: { Enter: (editor) => editor.replaceSelection("\n") },
+  },
+  changed,
+);
+const answer = new Answer({ data, program });
+const findings = new Findings(program, part("findings"), async () => ({
+  module: await linter,
+  options: presetOption(),
+  program: program.blob(),
+}));
+
+function changed() {
+  part("examples").value = "";
+  if (running) running.isStale = true;
+  else answer.outdate();
+}
+
+function presetOption() {
+  return part("presets").value ? [`--define=${part("presets").value}`] : [];
 }
 
 // The words of the command line for the options that are set.
 function options() {
-  const words = field("whitespace").checked ? ["-w"] : [];
-  if (field("presets").value) words.push(`--define=${field("presets").value}`);
-  if (field("steps").value) words.push(`--max-steps=${field("steps").value}`);
+  const words = [...(part("whitespace").checked ? ["-w"] : []), ...presetOption()];
+  if (part("steps").value) words.push(`--max-steps=${part("steps").value}`);
   return words;
 }
 
-function stop() {
-  worker?.terminate();
-  worker = null;
-  field("check").disabled = false;
-  field("stop").disabled = true;
+function end() {
+  running?.worker.terminate();
+  running = null;
+  part("stop").ariaDisabled = "true";
 }
 
+// Begins a check, in place of one that runs.
 async function check() {
-  stop();
-  field("check").disabled = true;
-  field("stop").disabled = false;
-  field("state").textContent = "checking";
-  const program = programBytes();
-  worker = new Worker(new URL("worker.js", import.meta.url), { type: "module" });
-  const finish = (answer) => {
-    stop();
-    show(answer, program);
+  end();
+  part("stop").ariaDisabled = "false";
+  answer.checking();
+  const run = { worker: new Worker(WORKER, { type: "module" }), isStale: false };
+  running = run;
+  const finish = ({ error, ...shown }) => {
+    end();
+    if (error) answer.brokeOff(error);
+    else answer.show(shown, run.isStale);
   };
-  worker.onmessage = ({ data }) => finish(data);
-  worker.onerror = (event) => finish({ error: event.message });
-  const data = field("data-file").files[0] ?? new Blob([exampleData ?? field("data").value]);
-  worker.postMessage({ module: await compiled, options: options(), program, data });
-}
-
-function show(answer, program) {
-  const message = answer.error ? `the checker broke off: ${answer.error}` : answer.out + answer.err;
-  field("answer").textContent = message;
-  field("answer").className = answer.error ? "no-verdict" : VERDICTS[answer.status];
-  field("state").textContent = answer.error
-    ? ""
-    : `status ${answer.status}, ${answer.milliseconds.toFixed(1)} ms, ${Math.round(answer.memory / 2 ** 20)} MiB of memory`;
-  const { spot, place } = placesIn(message);
-  showAround("data-around", spot, answer.around);
-  showAround("program-around", place, place && excerpt(program, place));
-  if (place && !programFile) select(place);
-  document.body.dataset.answer = JSON.stringify(answer);
-}
-
-// Shows the bytes around a line and column, with a mark.
-function showAround(id, at, around) {
-  field(id).hidden = !around;
-  if (!around) return;
-  const mark = document.createElement("mark");
-  mark.textContent = around.mark;
-  field(id).querySelector("span").textContent = `${at.line} column ${at.column}`;
-  field(id).querySelector("code").replaceChildren(around.before, mark, around.after);
-}
-
-// Selects a command in the text of the program. Columns count bytes, and a text area counts units of UTF-16.
-function select({ line, column }) {
-  const lines = field("program").value.split("\n");
-  const before = new TextEncoder().encode(lines[line - 1] ?? "").subarray(0, column - 1);
-  const start = lines.slice(0, line - 1).reduce((sum, text) => sum + text.length + 1, 0) + new TextDecoder().decode(before).length;
-  field("program").setSelectionRange(start, start + 1);
-}
-
-function setProgram(text) {
-  field("program").value = text;
-  field("program-file").value = "";
-  programFile = null;
-}
-
-// Sets the data to bytes, of which each is one character here.
-function setData(text) {
-  exampleData = Uint8Array.from(text, (byte) => byte.charCodeAt(0));
-  field("data").value = text;
-  dropFile();
-}
-
-function dropFile() {
-  field("data-file").value = "";
-  field("drop-file").hidden = true;
-  field("data").disabled = false;
+  run.worker.onmessage = (event) => finish(event.data);
+  run.worker.onerror = (event) => finish({ error: event.message });
+  const job = { job: "check", options: options(), program: program.blob(), data: data.blob() };
+  run.worker.postMessage({ ...job, module: await checker });
 }
 
 // A link holds the program and the options behind its #, which a browser does not send anywhere.
 function link() {
-  const parts = new URLSearchParams({ program: field("program").value });
-  for (const id of ["presets", "steps"]) if (field(id).value) parts.set(id, field(id).value);
-  if (field("whitespace").checked) parts.set("whitespace", "1");
+  const parts = new URLSearchParams({ program: program.text });
+  for (const id of ["presets", "steps"]) if (part(id).value) parts.set(id, part(id).value);
+  if (part("whitespace").checked) parts.set("whitespace", "1");
   return new URL(`#${parts}`, location.href).href;
 }
 
 function openLink() {
   const parts = new URLSearchParams(location.hash.slice(1));
   if (!parts.has("program")) return;
-  setProgram(parts.get("program"));
-  for (const id of ["presets", "steps"]) field(id).value = parts.get(id) ?? "";
-  field("whitespace").checked = parts.has("whitespace");
+  program.set(parts.get("program"));
+  for (const id of ["presets", "steps"]) part(id).value = parts.get(id) ?? "";
+  part("whitespace").checked = parts.has("whitespace");
+  changed();
 }
 
 async function copyLink() {
+  if (program.file) {
+    part("copied").textContent = "a link cannot hold this file";
+    return;
+  }
   history.replaceState(null, "", link());
   const copied = await navigator.clipboard?.writeText(location.href).then(() => true, () => false);
-  field("state").textContent = copied ? "the link is copied" : "the link stands in the address line";
+  part("copied").textContent = copied ? "copied" : "the link stands in the address line";
 }
 
+// Lists the examples: a group for each program, with its data.
 async function listExamples() {
-  const examples = await fetch(new URL("examples.json", import.meta.url)).then((response) => response.json());
-  for (const { name } of examples) field("examples").add(new Option(name, name));
-  field("examples").onchange = () => {
-    const example = examples.find(({ name }) => name === field("examples").value);
+  const groups = await fetch(new URL("examples.json", import.meta.url)).then((response) => response.json());
+  const all = new Map();
+  for (const { title, program, data } of groups) {
+    const group = document.createElement("optgroup");
+    group.label = title;
+    for (const { name, text } of data) {
+      group.append(new Option(name, name));
+      all.set(name, { name, program, data: text });
+    }
+    part("examples").append(group);
+  }
+  part("examples").onchange = () => {
+    const example = all.get(part("examples").value);
     if (!example) return;
-    setProgram(example.program);
-    setData(example.data);
+    program.set(example.program);
+    data.set(example.data);
+    part("examples").value = example.name;
   };
 }
 
-field("check").onclick = check;
-field("stop").onclick = () => {
-  stop();
-  field("state").textContent = "stopped";
-};
-field("link").onclick = copyLink;
-field("program").oninput = () => {
-  programFile = null;
-  field("program-file").value = "";
-};
-field("data").oninput = () => {
-  exampleData = null;
-};
-field("program-file").onchange = async () => {
-  const file = field("program-file").files[0];
-  if (!file) return;
-  programFile = new Uint8Array(await file.arrayBuffer());
-  field("program").value = new TextDecoder().decode(programFile);
-};
-field("data-file").onchange = () => {
-  field("drop-file").hidden = !field("data-file").files.length;
-  field("data").disabled = field("data-file").files.length > 0;
-};
-field("drop-file").onclick = dropFile;
-document.onkeydown = (event) => {
-  if (event.key === "Enter" && (event.ctrlKey || event.metaKey) && !field("check").disabled) check();
-};
-window.onhashchange = openLink;
+// A file that is dropped beside the editors does not leave the page.
+function keepPage(event) {
+  if (event.dataTransfer?.types.includes("Files")) event.preventDefault();
+}
 
-openLink();
-listExamples();
-compiled.then(
-  () => {
-    field("check").disabled = false;
-    field("state").textContent = "";
-  },
-  (error) => {
-    field("state").textContent = `This browser cannot run the checker: ${error.message}`;
-  },
-);
+function listen() {
+  part("check").onclick = check;
+  part("stop").onclick = () => {
+    if (!running) return;
+    end();
+    answer.stopped();
+  };
+  part("link").onclick = copyLink;
+  for (const id of ["whitespace", "presets", "steps"]) part(id).oninput = changed;
+  part("presets").addEventListener("input", () => findings.later());
+  document.addEventListener("keydown", (event) => {
+    if (event.key === "Enter" && (event.ctrlKey || event.metaKey) && !part("check").disabled) check();
+  });
+  for (const kind of ["dragover", "drop"]) document.addEventListener(kind, keepPage);
+  window.onhashchange = openLink;
+}
+
+async function start() {
+  data.editor.getInputField().setAttribute("aria-describedby", "data-hint");
+  listen();
+  openLink();
+  listExamples();
+  defineMode().then(() => program.editor.setOption("mode", "checktestdata"));
+  try {
+    await Promise.all([checker, linter]);
+  } catch (error) {
+    answer.cannotRun(error.message);
+    return;
+  }
+  part("check").disabled = false;
+  answer.ready();
+  findings.later();
+}
+
+start();

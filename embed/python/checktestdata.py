@@ -9,13 +9,13 @@
     ('REJECTED', Spot(line=1, column=1))
 
 The work is done by the shared library libchecktestdata.so, which is looked for where the variable CHECKTESTDATA_LIBRARY says,
-beside this file, and where the system keeps its libraries. It keeps no state, and Python runs other threads during a check.
+beside this file, in the folder lib of the prefix in which this file is installed, and where the system keeps its libraries. It keeps no
+state, and Python runs other threads during a check.
 """
 
 from __future__ import annotations
 
 import ctypes
-import ctypes.util
 import os
 import re
 from collections.abc import Mapping
@@ -110,8 +110,13 @@ def check(
     `max_steps` stops the check after that many steps; None stands for the checker's own limit of 10,000,000,000.
 
     Whatever is wrong with the program, the presets or the data is told in the result. A ValueError is raised only for a
-    byte 0 in the presets, which no command line can hold.
+    byte 0 in the presets, which no command line can hold, and a TypeError for data that are no bytes or a program that is no text.
     """
+    if not isinstance(program, (str, bytes)):
+        raise TypeError(f"the program must be its text, as str or bytes, and not {type(program).__name__}")
+    if not isinstance(data, bytes):
+        hint = ": write b\"..\", or encode the text by .encode()" if isinstance(data, str) else ""
+        raise TypeError(f"the data must be bytes, and not {type(data).__name__}{hint}")
     words = ["checktestdata"]
     if whitespace_ok:
         words.append("-w")
@@ -162,12 +167,22 @@ def _place(message: str) -> Place | Edge | None:
     return Edge(found[3]) if found[3] else Place(int(found[1]), int(found[2]))
 
 
+def _library_path() -> str:
+    """Where the shared library is; its name alone where the system looks for it."""
+    if named := os.environ.get("CHECKTESTDATA_LIBRARY"):
+        return named
+    here = Path(__file__).resolve()
+    # (installed, this file stands in share/checktestdata/python of a prefix)
+    for path in (here.with_name(_LIBRARY), *(prefix / "lib" / _LIBRARY for prefix in here.parents[3:4])):
+        if path.exists():
+            return str(path)
+    return _LIBRARY
+
+
 @cache
 def _library() -> ctypes.CDLL:
     """The shared library, loaded once."""
-    beside = Path(__file__).with_name(_LIBRARY)
-    named = os.environ.get("CHECKTESTDATA_LIBRARY")
-    library = ctypes.CDLL(named or (str(beside) if beside.exists() else _LIBRARY))
+    library = ctypes.CDLL(_library_path())
     text = [ctypes.c_char_p, ctypes.c_size_t]
     library.checktestdata_run.argtypes = text * 5 + [ctypes.POINTER(_Lengths)]
     library.checktestdata_run.restype = ctypes.c_uint8

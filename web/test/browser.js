@@ -10,7 +10,8 @@ const TYPES = { ".html": "text/html", ".css": "text/css", ".js": "text/javascrip
 // Serves the files of a folder to this machine, and gives the address.
 export function serve(folder) {
   const server = http.createServer((request, response) => {
-    const file = path.join(folder, path.basename(new URL(request.url, "http://localhost").pathname) || "index.html");
+    const name = path.normalize(new URL(request.url, "http://localhost").pathname);
+    const file = path.join(folder, name === "/" ? "index.html" : name);
     if (!fs.existsSync(file)) return response.writeHead(404).end();
     response.writeHead(200, { "content-type": TYPES[path.extname(file)] ?? "text/plain" }).end(fs.readFileSync(file));
   });
@@ -25,7 +26,7 @@ export class Tab {
     const tab = new Tab();
     const { targetId } = await tab.#send("Target.createTarget", { url: "about:blank" });
     tab.session = (await tab.#send("Target.attachToTarget", { targetId, flatten: true })).sessionId;
-    await tab.ask("Page.enable");
+    for (const domain of ["Page", "Runtime", "Log"]) await tab.ask(`${domain}.enable`);
     await tab.ask("Page.navigate", { url });
     return tab;
   }
@@ -34,6 +35,8 @@ export class Tab {
     this.home = fs.mkdtempSync(path.join(os.tmpdir(), "chromium-"));
     this.waiting = new Map();
     this.count = 0;
+    // What the page reported as wrong.
+    this.errors = [];
     const words = ["--headless=new", "--no-sandbox", "--disable-gpu", "--remote-debugging-pipe", `--user-data-dir=${this.home}`];
     this.child = spawn(process.env.CHROMIUM ?? "chromium", words, { stdio: ["ignore", "ignore", "ignore", "pipe", "pipe"] });
     this.child.on("error", (error) => {
@@ -49,6 +52,8 @@ export class Tab {
   }
 
   #receive(message) {
+    if (message.method === "Runtime.exceptionThrown") this.errors.push(message.params.exceptionDetails.exception?.description);
+    if (message.method === "Log.entryAdded" && message.params.entry.level === "error") this.errors.push(message.params.entry.text);
     const { done, failed } = this.waiting.get(message.id) ?? {};
     this.waiting.delete(message.id);
     if (message.error) failed?.(new Error(message.error.message));
@@ -82,6 +87,27 @@ export class Tab {
       await new Promise((done) => setTimeout(done, 50));
     }
     throw new Error(`waited too long for ${expression}`);
+  }
+
+  // Types a key, with Shift (8), Ctrl (2) or none held.
+  async press(key, modifiers = 0) {
+    const codes = { Tab: 9, Enter: 13 };
+    const text = key === "Enter" && !modifiers ? { text: "\r" } : {};
+    const event = { key, code: key, modifiers, windowsVirtualKeyCode: codes[key], ...text };
+    await this.ask("Input.dispatchKeyEvent", { type: text.text ? "keyDown" : "rawKeyDown", ...event });
+    await this.ask("Input.dispatchKeyEvent", { type: "keyUp", ...event });
+  }
+
+  // Types a text.
+  type(text) {
+    return this.ask("Input.insertText", { text });
+  }
+
+  // Chooses a file for the field with an id.
+  async choose(id, file) {
+    const { root } = await this.ask("DOM.getDocument");
+    const { nodeId } = await this.ask("DOM.querySelector", { nodeId: root.nodeId, selector: `#${id}` });
+    await this.ask("DOM.setFileInputFiles", { files: [file], nodeId });
   }
 
   async screenshot(file) {

@@ -24,7 +24,7 @@ pub struct Lengths {
 /// opened: `program` and `testdata` stand for the files that the words name, whatever their names are.
 ///
 /// The text for standard output is copied to the front of `out`, that for standard error to the front of `err`, and `lengths` gets
-/// their lengths. A text that is longer than its buffer is not copied.
+/// their lengths. A text that is longer than its buffer is not copied. All other bytes of the buffers stay as they are.
 pub fn answer_in_buffers(
     alloc: Global,
     words: &[u8],
@@ -35,7 +35,8 @@ pub fn answer_in_buffers(
     lengths: &mut Lengths,
 ) -> u8
     ensures answers { FillsBuffers (IsAnswerTo (slice_split (λ b. b == 0) words.now) program.now testdata.now)
-        (record { length_given = lengths.new.out; bytes = out.new }) (record { length_given = lengths.new.err; bytes = err.new }) result }
+        (record { length_given = lengths.new.out; before = out.old; after = out.new })
+        (record { length_given = lengths.new.err; before = err.old; after = err.new }) result }
 {
     let answer = run_in_memory(alloc, words, program, testdata);
     lengths.out = copy_text(answer.out.bytes.as_slice(), out);
@@ -45,7 +46,7 @@ pub fn answer_in_buffers(
 
 /// Copies a text to the front of a buffer, if it fits, and returns its length in bytes.
 fn copy_text(text: &[u8], buffer: &mut [u8]) -> usize
-    ensures receives { ReceivesText text.now (record { length_given = result; bytes = buffer.new }) }
+    ensures receives { ReceivesText text.now (record { length_given = result; before = buffer.old; after = buffer.new }) }
 {
     let length = text.len();
     if length <= buffer.len() {

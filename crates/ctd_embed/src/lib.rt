@@ -15,7 +15,7 @@ use std::alloc::Global;
 /// opened: `program` and `testdata` stand for the files that the words name, whatever their names are.
 ///
 /// The text for standard output is copied to the front of `out`, that for standard error to the front of `err`, and `lengths` gets
-/// their lengths. A text that is longer than its buffer is not copied.
+/// their lengths. A text that is longer than its buffer is not copied. All other bytes of the buffers stay as they are.
 #[unsafe(no_mangle)]
 pub extern "C" fn checktestdata_run(
     alloc: Global,
@@ -27,7 +27,8 @@ pub extern "C" fn checktestdata_run(
     lengths: &mut Lengths,
 ) -> u8
     ensures answers { FillsBuffers (IsAnswerTo (slice_split (λ b. b == 0) words.now) program.now testdata.now)
-        (record { length_given = lengths.new.out; bytes = out.new }) (record { length_given = lengths.new.err; bytes = err.new }) result }
+        (record { length_given = lengths.new.out; before = out.old; after = out.new })
+        (record { length_given = lengths.new.err; before = err.old; after = err.new }) result }
 {
     answer_in_buffers(alloc, words, program, testdata, out, err, lengths)
 }

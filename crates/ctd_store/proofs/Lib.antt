@@ -11,4 +11,5 @@ pub mod Rows
 pub mod StoreLaws
 pub mod Gridded
 pub mod AnyVisible
+pub mod Hashed
 pub mod Apart

@@ -6,3 +6,4 @@ pub mod Grid
 pub mod Index
 pub mod Slot
 pub mod Showing
+pub mod Hashing

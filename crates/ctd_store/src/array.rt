@@ -134,6 +134,15 @@ impl Array {
         }
     }
 
+    /// Lets a row with no values begin behind an index that is a number.
+    pub(crate) fn begin_behind(&mut self, index: Index<'_>)
+        ensures same { self.new ≡ self.old }
+    {
+        if let Index::One(number) = index {
+            self.indexed.begin_behind(number);
+        }
+    }
+
     /// Removes all values.
     pub(crate) fn clear(&mut self)
         ensures empty { self.new ≡ [] }

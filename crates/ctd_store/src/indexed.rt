@@ -243,6 +243,15 @@ impl Indexed {
         }
     }
 
+    /// Lets a row with no values begin behind a number.
+    pub(crate) fn begin_behind(&mut self, number: usize)
+        ensures same { self.new ≡ self.old }
+    {
+        if let ArrayRepr::RowAndMap(plain) = &mut self.form {
+            plain.begin_behind(number);
+        }
+    }
+
     /// Removes all values; a short row keeps its room for the next ones.
     pub(crate) fn clear(&mut self)
         ensures empty { self.new ≡ [] }

@@ -6,6 +6,7 @@ mod grid;
 mod index;
 mod indexed;
 mod laws;
+mod list_map;
 mod order;
 mod positions;
 mod row_and_map;

@@ -1,4 +1,4 @@
-//! Index lists with their values: a row of values for the numbers from 0 or 1 on, and an ordered map for all others.
+//! Index lists with their values: a row of values for the numbers from 0, from 1 or from behind a pin on, and a map for all others.
 
 ghost use Rattle.std.specs.Prelude.{◌≡◌, ◌≢◌, ◌↔◌, ℕ, pos, ◌+◌, ◌<◌, ◌≤◌, length, take, drop, [], ◌∷◌, ◌++◌, map, true, false, Some, IfOk, T, IsTrue, OnOk, OnErr};
 ghost use Rattle.std.specs.List.{list_any};
@@ -16,13 +16,13 @@ ghost use Rattle.ctd_store.specs.inner.Store.{order_of_slot};
 
 use crate::array::add_entry;
 use crate::index::{Index, Indices};
+use crate::list_map::ListMap;
 use crate::store::EntryRef;
 use crate::value::Value;
 use crate::value_list::{clear_list, write};
 use crate::value_ref::ValueRef;
 use std::alloc::{AllocError, Global};
 use std::cmp::Ordering;
-use std::collections::BTreeMap;
 use std::marker::Model;
 
 /// Index lists with their values, each index list once, which contracts see as the list of them in order.
@@ -32,7 +32,7 @@ pub(crate) struct RowAndMap {
     base: usize,
     // The values of the numbers from there on; what stands here hides what `rest` has there.
     dense: Vec<Value>,
-    rest: BTreeMap<Vec<Value>, Value>,
+    rest: ListMap,
 }
 
 /// Values at the numbers from a base on.
@@ -45,7 +45,7 @@ pub struct Row<'s> {
 }
 
 impl Model for RowAndMap {
-    ghost use Rattle.std.specs.Prelude.{T, map};
+    ghost use Rattle.std.specs.Prelude.{T};
     ghost use Rattle.std.specs.FinMap.{is_sorted};
     ghost use Rattle.ctd_store.specs.Order.{values_cmp};
     ghost use Rattle.ctd_store.specs.Store.{Array};
@@ -53,9 +53,9 @@ impl Model for RowAndMap {
 
     ghost Value = { Array };
 
-    ghost view = { λ a. overlay_row a.base a.dense.items (map (λ e. (e.0.items, e.1)) a.rest.entries) };
+    ghost view = { λ a. overlay_row a.base a.dense.items a.rest };
 
-    ghost invariant = { λ a. T (is_sorted values_cmp (map (λ e. (e.0.items, e.1)) a.rest.entries)) };
+    ghost invariant = { λ a. T (is_sorted values_cmp a.rest) };
 }
 
 impl RowAndMap {
@@ -66,7 +66,7 @@ impl RowAndMap {
         RowAndMap {
             base: 0,
             dense: Vec::new(alloc),
-            rest: BTreeMap::new(alloc),
+            rest: ListMap::new(alloc),
         }
     }
 
@@ -168,7 +168,16 @@ impl RowAndMap {
         self.base = base_for(self.base, self.dense.len(), index);
         match place_in_row(self.base, self.dense.len() + 1, index) {
             Some(at) => write(alloc, &mut self.dense, at, value),
-            None => insert_in_map(alloc, &mut self.rest, index, value),
+            None => self.rest.insert(alloc, index, value),
+        }
+    }
+
+    /// Lets a row with no values begin behind a number.
+    pub(crate) fn begin_behind(&mut self, number: usize)
+        ensures same { self.new ≡ self.old }
+    {
+        if self.dense.is_empty() {
+            self.base = number.saturating_add(1);
         }
     }
 
@@ -176,8 +185,8 @@ impl RowAndMap {
     pub(crate) fn clear(&mut self)
         ensures empty { self.new ≡ [] }
     {
+        self.rest.clear(*self.dense.allocator());
         clear_list(&mut self.dense);
-        self.rest.clear();
     }
 
     /// Adds the entries to others.
@@ -191,9 +200,10 @@ impl RowAndMap {
             base: self.base,
             values: &self.dense,
         };
+        let rest = self.rest.in_order(*entries.allocator())?;
         let mut next = 0;
-        for (indices, value) in &self.rest {
-            next = add_through(row, next, indices, value, entries)?;
+        for (indices, value) in &rest {
+            next = add_through(row, next, *indices, *value, entries)?;
         }
         add_slots(row, next, row.values.len(), entries)
     }
@@ -202,16 +212,11 @@ impl RowAndMap {
     pub(crate) fn has_value(&self, value: ValueRef<'_>) -> bool
         ensures value { result ≡ list_any (λ e. same_value (value_of_ref value.entry) e.1) self.now }
     {
-        if value.is_among(&self.dense) {
-            return true;
-        }
-        for (indices, stored) in &self.rest {
-            let indices = indices.as_slice();
-            if value.is_same(stored) && slot_below(self.base, self.dense.len(), indices).is_none() {
-                return true;
-            }
-        }
-        false
+        let row = Row {
+            base: self.base,
+            values: &self.dense,
+        };
+        value.is_among(row.values) || self.rest.has_value_beside(row, value)
     }
 }
 
@@ -271,40 +276,17 @@ fn first_not_before(base: usize, from: usize, count: usize, indices: &[Value]) -
     at
 }
 
-/// Gives an index list a value in a map; after an error all is as it was.
-#[cold]
-#[inline(never)]
-fn insert_in_map(
-    alloc: Global,
-    rest: &mut BTreeMap<Vec<Value>, Value>,
-    index: Index<'_>,
-    value: ValueRef<'_>,
-) -> Result<(), AllocError>
-    ensures ok { OnOk result (map (λ e. (e.0.items, e.1)) rest.new.entries ≡ put values_cmp (indices_at index.entry) (value_of_ref value.entry) (map (λ e. (e.0.items, e.1)) rest.old.entries)) }
-    ensures was_sorted { OnOk result (T (is_sorted values_cmp (map (λ e. (e.0.items, e.1)) rest.old.entries))) }
-    ensures sorted { T (is_sorted values_cmp (map (λ e. (e.0.items, e.1)) rest.old.entries)) → T (is_sorted values_cmp (map (λ e. (e.0.items, e.1)) rest.new.entries)) }
-    ensures err { OnErr result (rest.new.entries ≡ rest.old.entries) }
-{
-    let indices = index.to_list(alloc)?;
-    let value = value.to_value(alloc)?;
-    rest.insert(indices, value)?;
-    Ok(())
-}
-
-/// Where a row begins once an index list gets a value. A row with no values begins at 1 if that is the index list, and
-/// else at 0.
+/// Where a row begins once an index list gets a value. A row with no values begins at 0 or 1 if that is the index list, and else where it
+/// would have begun.
 #[inline(always)]
 fn base_for(base: usize, count: usize, index: Index<'_>) -> usize
     ensures kept { 0 < count → result ≡ base }
-    ensures from_one { count ≡ 0 → index.entry ≡ indexes.One 1 → result ≡ 1 }
-    ensures from_zero { count ≡ 0 → index.entry ≢ indexes.One 1 → result ≡ 0 }
+    ensures begun { count ≡ 0 → (n : ℕ) → n < 2 → index.entry ≡ indexes.One n → result ≡ n }
+    ensures elsewhere { count ≡ 0 → ((n : ℕ) → n < 2 → index.entry ≢ indexes.One n) → result ≡ base }
 {
-    if count > 0 {
-        return base;
-    }
     match index {
-        Index::One(1) => 1,
-        _ => 0,
+        Index::One(n) if count == 0 && n < 2 => n,
+        _ => base,
     }
 }
 
@@ -335,7 +317,7 @@ pub(crate) fn number_below(base: usize, bound: usize, number: usize) -> Option<u
 }
 
 /// Where an index list stands from a base on, where it is a number below a bound there.
-fn slot_below(base: usize, bound: usize, indices: &[Value]) -> Option<usize>
+pub(crate) fn slot_below(base: usize, bound: usize, indices: &[Value]) -> Option<usize>
     ensures found { IfSome result (λ n. (n < bound) × (indices.now ≡ slot (base + n))) }
     ensures none { IfNone result ((n : ℕ) → n < bound → indices.now ≢ slot (base + n)) }
 {

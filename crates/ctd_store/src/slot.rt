@@ -155,7 +155,8 @@ impl Slot {
         self.values.insert(alloc, index, value)
     }
 
-    /// Pins an index list to a value, and removes what was assigned; after an error the pins are as they were.
+    /// Pins an index list to a value, and removes what was assigned; after an error the pins are as they were. Where the index is a number,
+    /// a row of assigned values may begin behind it.
     pub(crate) fn pin(
         &mut self,
         alloc: Global,
@@ -168,6 +169,7 @@ impl Slot {
         ensures err { OnErr result (pins_in self.new ≡ pins_in self.old) }
     {
         self.unset();
+        self.values.begin_behind(index);
         match &mut self.pins {
             Some(pins) => pins.insert(alloc, index, value),
             None => {

@@ -74,7 +74,7 @@ impl Store {
     {
         let indices = literal_values(alloc, preset.indices.as_slice())?;
         let value = literal_ref(&preset.value);
-        self.pin_at(alloc, &preset.name, Index::List(indices.as_slice()), value)
+        self.pin_at(alloc, &preset.name, Index::of(indices.as_slice()), value)
     }
 
     /// Pins a name at an index to a value, and unsets the name. Presets are pinned before anything is assigned, so nothing is lost.

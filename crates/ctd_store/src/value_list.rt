@@ -10,7 +10,7 @@ use std::alloc::{AllocError, Global};
 use std::mem::replace;
 
 /// How many elements the room is for that a list may keep while it has none. To fill a longer list costs far more than to make room for it again.
-const ROOM_KEPT: usize = 64;
+pub(crate) const ROOM_KEPT: usize = 64;
 
 /// Gives a slot of a list a value, where one past its end is a slot too; after an error all is as it was.
 #[inline(always)]

@@ -26,6 +26,11 @@ abbrev pub overlay_row : ℕ → List Value → Array → Array
 overlay_row n [] array = array
 overlay_row n (x ∷ xs) array = put values_cmp (slot n) x (overlay_row (suc n) xs array)
 
+-- index lists with values, put in the order of the index lists; where one comes twice, its first value counts
+abbrev pub by_indices : Array → Array
+by_indices [] = []
+by_indices (e ∷ es) = put values_cmp e.0 e.1 (by_indices es)
+
 -- an array, with the value without indices laid over it, if there is one
 abbrev pub with_scalar : Option Value → Array → Array
 with_scalar None array = array

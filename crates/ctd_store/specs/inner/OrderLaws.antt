@@ -1,6 +1,6 @@
 -- The orders of values, of their lists and of keys are total, and what compares alike is one.
 use Rattle.ctd_store.specs.declared.value.Value.TheVariants as values
-use Rattle.std.proofs.Common.{◌≡◌, ℕ, ℤ, pos, List, [], refl, ap, subst}
+use Rattle.std.proofs.Common.{◌≡◌, true, ℕ, ℤ, pos, List, [], refl, ap, subst}
 use Rattle.std.specs.declared.cmp.Ordering.{Ordering}
 use Rattle.std.specs.declared.cmp.Ordering.TheVariants.{Less, Equal, Greater}
 use Rattle.std.specs.Ordering.{nat_cmp, int_cmp, ordering_then, eq_by_cmp}
@@ -9,7 +9,9 @@ use Rattle.std.specs.Cmp.Lexicographic.{lists_total, nat_list_cmp_total}
 use Rattle.std.specs.FinMap.{slice_cmp-IsAntisymmetric}
 use Rattle.std.proofs.lemmas.Map.Lookups.{CmpEqualImpliesEq, exact_signed, exact_bytes, exact_pairs}
 use Rattle.ctd_store.specs.declared.value.Value.{Value}
-use Rattle.ctd_store.specs.Order.{bytes_cmp, value_cmp, values_cmp}
+use Rattle.std.proofs.lemmas.Map.Views.{tells_apart}
+use Rattle.ctd_store.specs.Order.{bytes_cmp, same_value, value_cmp, values_cmp}
+use Rattle.ctd_store.specs.calls.Hashing.{hash_writes}
 use Rattle.ctd_store.specs.calls.Store.{key_cmp}
 
 -- integers before strings
@@ -64,6 +66,10 @@ exact_values (values.Int a) (values.Int b) h = ap values.Int (exact_signed a b h
 exact_values (values.Int a) (values.Text b) h = cc
 exact_values (values.Text a) (values.Int b) h = cc
 exact_values (values.Text a) (values.Text b) h = ap values.Text (exact_bytes a b h)
+
+-- and feed a hasher the same
+pub same_writes : (v w : Value) → same_value v w ≡ true → hash_writes v ≡ hash_writes w
+same_writes v w h = ap hash_writes (tells_apart exact_values v w h)
 
 -- lists of values that compare alike are one
 pub exact_lists : CmpEqualImpliesEq values_cmp

@@ -6,6 +6,7 @@ use ctd_check::{Checked, FromRead, Limits, Mode, Outcome, Plan, Presets, Seen, S
 use std::alloc::{AllocError, Global};
 use std::fmt::Display;
 use std::process::Abort;
+use std::str::from_utf8;
 use std::test::Fail;
 
 /// The mode and the limits of a check, and how its data are held.
@@ -293,7 +294,7 @@ const LEFT_OVER: &str = "line 1 column 2: expected end of file (program end)";
 /// Judges a check of data that go on behind what it reads, however reads are cut.
 fn judge_reach(rt: &impl Abort, alloc: Global, data: &[u8], reach: Reach) -> Result<(), Fail> {
     let (program, answer, consumed, most_taken) = reach;
-    for most in [1, 2, 3, 7, 65_535, 65_536, 100_000, 1_048_575, 1_048_576] {
+    for most in CUTS {
         let terms = Terms { most, ..PLAIN };
         let found = checked(alloc, &terms, program, data)?;
         let read = (found.consumed, found.taken <= most_taken, found.seen);
@@ -335,6 +336,106 @@ fn data_are_read_no_further_than_a_window(rt: HostRuntime) -> Result<(), Fail> {
         judge_reach(&rt, rt.alloc(), data.as_slice(), reach)?;
     }
     Ok(())
+}
+
+/// So many bytes of one value, and then these.
+fn repeated(alloc: Global, byte: u8, count: usize, back: &[u8]) -> Result<Vec<u8>, AllocError> {
+    let mut data = vec![in alloc; byte; count]?;
+    data.extend_from_slice(back)?;
+    Ok(data)
+}
+
+/// A program, how often a byte stands at the front of the data, what stands behind it, the answer and the bytes consumed.
+type Consumed = (&'static str, (u8, usize), &'static [u8], &'static str, u64);
+
+const CONSUMED: [Consumed; 6] = [
+    ("INT(0,9)", (b'1', 70_000), b"", OUT_OF_RANGE, 70_000),
+    ("REGEX(\"a*b|a\")", (b'a', 70_000), b"b", "ok", 70_001),
+    ("SPACE", (b' ', 70_000), b"", LEFT_OVER, 1),
+    (
+        "INT(0,9,a[x])",
+        (b'5', 1),
+        b"",
+        "line 1 column 1: variable has no value (program line 1 column 1)",
+        1,
+    ),
+    ("INT(0,9,a[x])", (b'1', 1), b"2", OUT_OF_RANGE, 2),
+    (
+        "STRING(1)",
+        (b'1', 1),
+        b"",
+        "line 1 column 1: wrong type (program line 1 column 1)",
+        0,
+    ),
+];
+
+/// The most that a read gives.
+const CUTS: [usize; 9] = [1, 2, 3, 7, 65_535, 65_536, 100_000, 1_048_575, 1_048_576];
+
+/// Judges the answer and the bytes consumed of a check, with reads of each of these sizes.
+fn judge_consumed(
+    rt: &impl Abort,
+    alloc: Global,
+    cuts: &[usize],
+    program: &str,
+    data: &[u8],
+    wanted: (&str, u64),
+) -> Result<(), Fail> {
+    for most in cuts {
+        let terms = Terms {
+            most: *most,
+            ..PLAIN
+        };
+        let found = checked(alloc, &terms, program, data)?;
+        let told = told(alloc, found.outcome)?;
+        same(rt, &(told.as_str(), found.consumed), &wanted, most);
+    }
+    Ok(())
+}
+
+#[test]
+fn a_command_consumes_what_it_passed(rt: HostRuntime) -> Result<(), Fail> {
+    for (program, (byte, count), back, answer, consumed) in &CONSUMED {
+        let data = repeated(rt.alloc(), *byte, *count, back)?;
+        let wanted = (*answer, *consumed);
+        judge_consumed(&rt, rt.alloc(), &CUTS, program, data.as_slice(), wanted)?;
+    }
+    Ok(())
+}
+
+/// A STRING of 100,000 bytes, of which the last is another in the data.
+#[test]
+fn a_string_consumes_the_bytes_that_agree(rt: HostRuntime) -> Result<(), Fail> {
+    let data = repeated(rt.alloc(), b'a', 99_999, b"b")?;
+    let text = repeated(rt.alloc(), b'a', 100_000, b"\")")?;
+    let mut program = String::from_str(rt.alloc(), "STRING(\"")?;
+    program.push_str(from_utf8(text.as_slice())?)?;
+    let answer = "line 1 column 1: string does not match (program line 1 column 1)";
+    let wanted = (answer, 99_999);
+    judge_consumed(
+        &rt,
+        rt.alloc(),
+        &CUTS,
+        program.as_str(),
+        data.as_slice(),
+        wanted,
+    )
+}
+
+/// The longest match that is accepted. Reads of a few bytes would take long.
+#[test]
+fn a_regex_consumes_its_match(rt: HostRuntime) -> Result<(), Fail> {
+    let data = repeated(rt.alloc(), b'a', 1_048_575, b"")?;
+    let wanted = ("ok", 1_048_575);
+    let program = "REGEX(\"a+\")";
+    judge_consumed(
+        &rt,
+        rt.alloc(),
+        &CUTS[5..],
+        program,
+        data.as_slice(),
+        wanted,
+    )
 }
 
 /// Judges the checks by a plan of one number with its line, of which one may run out of memory.

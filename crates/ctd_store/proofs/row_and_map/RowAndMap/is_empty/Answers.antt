@@ -1,6 +1,5 @@
 use Rattle.std.proofs.Common.{◌<◌, length, ◌∙◌, arith}
 use Rattle.std.proofs.lemmas.Grind.{common_steps}
-use Rattle.ctd_store.proofs.Maps.{seen}
 use Rattle.ctd_store.proofs.Named.{opposite, row_filled}
 use Rattle.ctd_store.proofs.row_and_map.RowAndMap.is_empty.Goals as goal
 
@@ -10,6 +9,6 @@ returns-else-is_empty c =
     record {
       value = (
         λ given. absurd (opposite c.is_empty.result c.if-is_empty.false given),
-        λ is. absurd (row_filled c.self.inside.base c.self.inside.dense.items (seen (λ k. k.items) c.self.inside.rest.entries) some (c.self.view_is ∙ is)),
+        λ is. absurd (row_filled c.self.inside.base c.self.inside.dense.items c.self.inside.rest some (c.self.view_is ∙ is)),
       );
     }

@@ -1,0 +1,123 @@
+// The editors: marks, highlighting, findings, and the keyboard.
+import { expect } from "./tests.js";
+
+export async function testMarks(page) {
+  await page.set("program", "INT(1,5) NEWLINE\n  INT(1,5) NEWLINE");
+  await page.set("data", "3\n7 8\n");
+  expect("a rejected line", await page.check(), "line 2 column 1: value out of range (program line 2 column 3)\n");
+  expect("the words at the fault", await page.faults(), [[["2", "INT"]], [["2", "7"]]]);
+  const around = (id) => page.evaluate(`[document.getElementById("${id}-around").hidden, document.querySelector("#${id}-around").textContent.trim()]`);
+  expect("the line of the data", await around("data"), [false, "Data, line 2 column 1 7 8"]);
+  expect("the line of the program", await around("program"), [false, "Program, line 2 column 3 INT(1,5) NEWLINE"]);
+  await page.evaluate(`document.querySelector("#data-around button").click()`);
+  const cursor = await page.evaluate(`(({ line, ch }) => [line, ch, ${page.editor("data")}.hasFocus()])(${page.editor("data")}.getCursor())`);
+  expect("a press on the line of the data goes there", cursor, [1, 0, true]);
+
+  // Columns count bytes: the ü has two.
+  await page.set("program", 'STRING("ü") INT(1,5) NEWLINE');
+  await page.set("data", "ü9\n");
+  expect("behind a letter of two bytes", await page.check(), "line 1 column 3: value out of range (program line 1 column 14)\n");
+  expect("the words there", await page.faults(), [[["1", "INT"]], [["1", "9"]]]);
+
+  await page.set("program", "INT(1,5) SPACE INT(1,5) NEWLINE");
+  await page.set("data", "3\n");
+  expect("a fault at the end of a line", await page.check(), "line 1 column 2: expected a space (program line 1 column 10)\n");
+  expect("its marks", await page.faults(), [[["1", "SPACE"]], [["1", "↵"]]]);
+  await page.set("data", "3 4\n");
+  await page.set("program", "INT(1,5) SPACE INT(1,5) NEWLINE INT(1,5)");
+  expect("a fault at the end of the data", await page.check(), "line 2 column 1: expected an integer (program line 1 column 33)\n");
+  expect("its marks too", await page.faults(), [[["1", "INT"]], [["2", "end"]]]);
+}
+
+// Each text with the class that the page gives it; null for none.
+const TOKENS = [
+  ["REPI", "keyword"],
+  ["INT", "builtin"],
+  ["UNIQUE", "atom"],
+  ["word", "variable"],
+  ["120", "number"],
+  ["007", "error"],
+  ["FLOAT", "error"],
+  ["REPX", "error"],
+  ["<=", "operator"],
+  ["\"text\"", "string"],
+  ["# INT", "comment"],
+  [",", null],
+];
+
+export async function testHighlighting(page) {
+  await page.set("program", "INT(1,5)\nNEWLINE");
+  const numbers = await page.evaluate(`[...document.querySelectorAll("#program-side .CodeMirror-gutter-wrapper")].map((it) => it.textContent)`);
+  expect("lines have numbers", numbers, ["1", "2"]);
+  for (const [text, wanted] of TOKENS) {
+    await page.set("program", text);
+    expect(`the class of ${text}`, await page.evaluate(`${page.editor("program")}.getTokenTypeAt({ line: 0, ch: 1 })`), wanted);
+  }
+  await page.set("program", '"a\\n\nINT" INT');
+  const classes = await page.evaluate(`[[0, 3], [1, 1], [1, 7]].map(([line, ch]) => ${page.editor("program")}.getTokenTypeAt({ line, ch }))`);
+  expect("an escape, a string of two lines, and what follows", classes, ["string-2", "string", "builtin"]);
+}
+
+const findings = (page) => page.evaluate(`[...document.querySelectorAll("#findings li")].map((it) => it.textContent)`);
+
+export async function testFindings(page) {
+  await page.set("program", "INT(1,5) NEWLINE\nSPACE(");
+  await page.tab.wait(`document.querySelector("#findings li")`);
+  expect("a program that is refused, before any check", await findings(page), ["error line 2 column 6 syntax error"]);
+  expect("it is marked", await page.evaluate(`document.querySelector("#program-side .error").textContent`), "(");
+  await page.evaluate(`document.querySelector("#findings button").click()`);
+  expect("a press goes there", await page.evaluate(`(({ line, ch }) => [line, ch])(${page.editor("program")}.getCursor())`), [1, 5]);
+  await page.tab.type(" ");
+  await page.set("program", "INT(1,5) NEWLINE");
+  await page.tab.wait(`!document.querySelector("#findings li")`);
+  await page.set("program", "INT(1,5)\nSPACE INT(1,m)\nNEWLINE");
+  await page.tab.wait(`document.querySelector("#findings li")`);
+  const [finding] = await findings(page);
+  expect("a name without a value", finding.startsWith("warning line 2 column 7 nothing gives this name a value"), true);
+  expect("its command is marked", await page.evaluate(`document.querySelector("#program-side .warning").textContent`), "INT");
+  await page.set("presets", "m=5");
+  await page.tab.wait(`!document.querySelector("#findings li")`);
+  await page.set("presets", "m=");
+  await page.tab.wait(`document.querySelector("#findings li")`);
+  expect("a preset that cannot be read", await findings(page), ["error bad preset"]);
+  await page.set("presets", "");
+  await page.set("program", "INT(1,5) NEWLINE");
+  await page.tab.wait(`!document.querySelector("#findings li")`);
+  expect("nothing is marked in a right program", await page.evaluate(`document.querySelectorAll("#program-side .CodeMirror :is(.error, .warning, .note)").length`), 0);
+}
+
+export async function testKeyboard(page) {
+  const { tab } = page;
+  const focused = () => tab.evaluate(`document.activeElement.closest(".CodeMirror")?.closest("section").id ?? document.activeElement.id`);
+  await page.evaluate(`${page.editor("program")}.focus()`);
+  await tab.type("INT(1,5)");
+  await tab.press("Enter");
+  await tab.type("NEWLINE");
+  await tab.press("Tab");
+  expect("Tab leaves the program", await focused(), "data-file");
+  await tab.press("Tab");
+  expect("and comes to the data", await focused(), "data-side");
+  await tab.type(" 5");
+  await tab.press("Enter");
+  await tab.press("Tab", 8);
+  expect("Shift and Tab leave the data", await focused(), "data-file");
+  await tab.press("Tab");
+  await tab.press("Enter", 2);
+  await page.waitForEnd();
+  expect("what was typed", [await page.text("program"), await page.text("data")], ["INT(1,5)\nNEWLINE", " 5\n"]);
+  expect("Ctrl and Enter check", await page.message(), "line 1 column 1: expected an integer (program line 1 column 1)\n");
+  await page.evaluate("check.focus()");
+  await tab.press("Enter");
+  await page.waitForEnd();
+  expect("the focus stays at Check", await focused(), "check");
+  const reached = new Set();
+  await page.evaluate("document.activeElement.blur(); document.querySelector('nav a').focus()");
+  for (let turn = 0; turn < 30; turn++) {
+    await tab.press("Tab");
+    reached.add(await focused());
+  }
+  const wanted = ["examples", "link", "program-file", "program-side", "data-file", "data-side", "whitespace", "presets", "steps", "check", "stop"];
+  expect("what Tab does not reach", wanted.filter((id) => !reached.has(id)), []);
+  const unlabelled = `[...document.querySelectorAll("input, select, textarea, [contenteditable=true]")].filter((it) => it.offsetParent && !it.labels?.length && !it.ariaLabel).map((it) => it.id || it.outerHTML)`;
+  expect("fields without a label", await tab.evaluate(unlabelled), []);
+}
