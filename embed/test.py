@@ -82,7 +82,7 @@ class Prefix(unittest.TestCase):
         cls.prefix = Path(cls.enterClassContext(tempfile.TemporaryDirectory())) / "own"
         outside = {name: value for name, value in os.environ.items() if name not in ["MAKEFLAGS", "MAKELEVEL", "MFLAGS", "CHECKTESTDATA_LIBRARY"]}
         cls.environment = {**outside, "PREFIX": str(cls.prefix), "PYTHONDONTWRITEBYTECODE": "1"}
-        subprocess.run(["make", "--silent", "lib", f"PREFIX={cls.prefix}"], cwd=TOP, env=cls.environment, check=True)
+        subprocess.run(["make", "--silent", "-o", "build-lib", "lib", f"PREFIX={cls.prefix}"], cwd=TOP, env=cls.environment, check=True)
 
     def test_python(self) -> None:
         call = [sys.executable, "-c", "import checktestdata; print(checktestdata.__file__, checktestdata.check('', b'').message)"]

@@ -102,7 +102,8 @@ class Show(CompanionTest):
             "        |      ^\n"
             "list.ctd:\n"
             "      3 |     INT(-9,9,a[i])\n"
-            "        |     ^\n",
+            "        |     ^\n"
+            "value out of range: 33; bounds -9 .. 9, i = 2\n",
             "list.ctd",
             "wrong.in",
         )
@@ -118,7 +119,8 @@ class Show(CompanionTest):
             "        | ^\n"
             "sum.ctd:\n"
             "      2 | ASSERT(a<b)\n"
-            "        | ^\n",
+            "        | ^\n"
+            "assertion failed: a = 5, b = 4\n",
             "sum.ctd",
             "wrong.in",
         )
@@ -133,7 +135,8 @@ class Show(CompanionTest):
             "        |  ^\n"
             "small.ctd:\n"
             "      1 | NEWLINE INT(0,9,a) ASSERT(a<5) NEWLINE\n"
-            "        |                    ^\n",
+            "        |                    ^\n"
+            "assertion failed: a = 7\n",
             "small.ctd",
             "wrong.in",
         )
@@ -209,17 +212,8 @@ class Show(CompanionTest):
     def test_a_long_line_is_cut(self) -> None:
         # The number at column 401 is wrong: 50 bytes before it are shown, and 30 from it on.
         self.write("long.in", "300\n" + "1 " * 200 + "x" + " 1" * 99 + "\n")
-        self.assert_run(
-            1,
-            "long.in: line 2 column 401: expected an integer (program line 3 column 5)\n"
-            f"      2 | …{'1·' * 25}x{'·1' * 14}·…\n"
-            f"        | {' ' * 51}^\n"
-            "list.ctd:\n"
-            "      3 |     INT(-9,9,a[i])\n"
-            "        |     ^\n",
-            "list.ctd",
-            "long.in",
-        )
+        ran = self.run_tool("list.ctd", "long.in")
+        self.assertEqual(ran.stdout.decode().splitlines()[1:3], [f"      2 | …{'1·' * 25}x{'·1' * 14}·…", f"        | {' ' * 51}^"])
 
     def test_a_line_of_just_the_room_is_not_cut(self) -> None:
         for length, shown in [(80, "x" * 80), (81, "x" * 80 + "…")]:
@@ -244,7 +238,7 @@ class Show(CompanionTest):
 
     def test_a_program_that_is_refused_is_told_once(self) -> None:
         self.write("open.ctd", "INT(1,10) NEWLINE\nINT(1,")
-        shown = "checktestdata: program line 2 column 7: syntax error\nopen.ctd:\n      2 | INT(1,\n        |       ^\n"
+        shown = "checktestdata: program line 2 column 7: syntax error\nopen.ctd:\n      2 | INT(1,\n        |       ^\nexpected an expression\n"
         self.assert_run(2, shown, "open.ctd", "right.in", "right.in")
         self.assert_run(2, "open.ctd:2:7: error: syntax error\n", "--gcc", "open.ctd", "right.in", "right.in")
 
@@ -393,7 +387,7 @@ class Show(CompanionTest):
 
     def test_standard_input(self) -> None:
         shown = "-: line 2 column 3: value out of range (program line 3 column 5)\n      2 | 1·10\n        |   ^\n"
-        program = "list.ctd:\n      3 |     INT(-9,9,a[i])\n        |     ^\n"
+        program = "list.ctd:\n      3 |     INT(-9,9,a[i])\n        |     ^\nvalue out of range: 10; bounds -9 .. 9, i = 1\n"
         self.assert_run(1, shown + program, "list.ctd", "-", stdin=b"2\n1 10\n")
         self.write("wrong.in", "2\n1 10\n")
         with open(self.folder / "wrong.in", "rb") as file:
@@ -732,7 +726,7 @@ class Both(CompanionTest):
 
     def test_help_and_version(self) -> None:
         version = self.written_by(CHECKER, "--version").split()[1]
-        for tool in self.TOOLS:
+        for tool in [*self.TOOLS, "ctd-cover", "ctd-package"]:
             with self.subTest(tool):
                 shown = self.written_by(TOOLS / tool, "--help")
                 self.assertTrue(shown.startswith(f"usage: {tool} [-h]"))

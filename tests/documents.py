@@ -19,7 +19,7 @@ from pathlib import Path
 from markdown_blocks import INDENTED, Block, Command, anchors, blocks, commands, links
 from results import TOP, checker_to_test, print_results
 
-GUIDES = ["TUTORIAL", "COOKBOOK", "MIGRATION", "INTEGRATION", "FAQ"]
+GUIDES = ["TUTORIAL", "COOKBOOK", "MIGRATION", "INTEGRATION", "FAQ", "MISTAKES"]
 DOCUMENTS = ["README.md", "SECURITY.md", "examples/README.md", *(f"docs/{name}.md" for name in GUIDES)]
 SESSIONS = ["console", INDENTED]
 OUT_OF_TIME = 60
@@ -35,7 +35,8 @@ class Reader:
         self.status = 0
         (folder / "checktestdata").symlink_to(checker)
         (folder / "ctd-lint").symlink_to(TOP / "crates/ctd_lint/out/ctd_lint")
-        (folder / "ctd-show").symlink_to(TOP / "tools/ctd-show")
+        for companion in ["ctd-show", "ctd-mutate", "ctd-cover", "ctd-package"]:
+            (folder / companion).symlink_to(TOP / "tools" / companion)
         (folder / "examples").symlink_to(TOP / "examples")
         # a make in a document is not one of the make that runs the tests
         outside = {name: value for name, value in os.environ.items() if name not in ["MAKEFLAGS", "MAKELEVEL", "MFLAGS"]}

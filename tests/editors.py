@@ -24,7 +24,7 @@ from results import TOP, checker_to_test, run_unit_tests
 
 CHECKER = checker_to_test()
 LINTER = TOP / "crates/ctd_lint/out/ctd_lint"
-COMMANDS = ["checktestdata", "ctd-lint", "ctd-show", "ctd-mutate"]
+COMMANDS = ["checktestdata", "ctd-lint", "ctd-show", "ctd-cover", "ctd-mutate", "ctd-package"]
 OUT_OF_TIME = 20
 # What is on the help and not offered: it is refused.
 NOT_OFFERED = {"--generate"}
@@ -94,6 +94,7 @@ class Terminal:
         files.mkdir()
         for name in ["program.ctd", "progress.txt", "data.in"]:
             (files / name).touch()
+        (files / "package").mkdir()
         self.ours, theirs = pty.openpty()
         environment = {"PATH": f"{folder}/bin:{os.environ['PATH']}", "TERM": "dumb", "PS1": "READY> ", "HOME": str(folder), "LANG": "C.UTF-8"}
         self.process = subprocess.Popen(call, cwd=files, stdin=theirs, stdout=theirs, stderr=theirs, env=environment, start_new_session=True)
@@ -129,8 +130,12 @@ class Completions(unittest.TestCase):
     KEYS = [
         ("checktestdata --max\t5 pro\t da\t", ["--max-steps=5", "program.ctd", "data.in"]),
         ("checktestdata --white\t pro\t da\t", ["--whitespace-ok", "program.ctd", "data.in"]),
-        ("ctd-lint --def\tn=5 pro\t", ["--define=n=5", "program.ctd"]),
+        ("ctd-lint --def\tn=5 pro\t pro\t", ["--define=n=5", "program.ctd", "program.ctd"]),
+        ("ctd-lint --ig\tno-b\t pro\t", ["--ignore=no-bound", "program.ctd"]),
+        ("ctd-lint --ignore unread,no-b\t pro\t", ["--ignore", "unread,no-bound", "program.ctd"]),
         ("ctd-show --gc\t pro\t data.in da\t", ["--gcc", "program.ctd", "data.in", "data.in"]),
+        ("ctd-cover --tab\t pro\t data.in da\t", ["--table", "program.ctd", "data.in", "data.in"]),
+        ("ctd-package --js\t --verb\t package", ["--json", "--verbose", "package"]),
         ("ctd-mutate --only trail\t pro\t da\t", ["--only", "trailing-space", "program.ctd", "data.in"]),
         ("ctd-mutate --only plus,trail\t pro\t da\t", ["--only", "plus,trailing-space", "program.ctd", "data.in"]),
         ("ctd-mutate --ignore plus,hu\t pro\t da\t", ["--ignore", "plus,huge", "program.ctd", "data.in"]),
@@ -164,6 +169,7 @@ class Completions(unittest.TestCase):
         with tempfile.TemporaryDirectory() as folder:
             for name in ["program.ctd", "progress.txt", "data.in"]:
                 (Path(folder) / name).touch()
+            (Path(folder) / "package").mkdir()
             for line, first in [
                 ("checktestdata --max", "--max-steps"),
                 ("checktestdata pro", "program.ctd"),
@@ -171,8 +177,14 @@ class Completions(unittest.TestCase):
                 ("checktestdata -w pro", "program.ctd"),
                 ("ctd-lint --def", "--define"),
                 ("ctd-lint pro", "program.ctd"),
+                ("ctd-lint program.ctd pro", "program.ctd"),
+                ("ctd-lint --ignore unread,no-b", "unread,no-bound"),
                 ("ctd-show --gc", "--gcc"),
                 ("ctd-show program.ctd data.in da", "data.in"),
+                ("ctd-cover --tab", "--table"),
+                ("ctd-cover program.ctd data.in da", "data.in"),
+                ("ctd-package --js", "--json"),
+                ("ctd-package pack", "package/"),
                 ("ctd-mutate --only trail", "trailing-space"),
                 ("ctd-mutate --only plus,trail", "plus,trailing-space"),
                 ("ctd-mutate --ignore=plus,trail", "--ignore=plus,trailing-space"),
@@ -281,6 +293,16 @@ class Vim(unittest.TestCase):
         self.assertEqual(self.run_vim("edit open.ctd\nsilent make! right.in", value), ["checktestdata", [wanted]])
 
 
+    def test_make_goes_to_the_findings(self) -> None:
+        (self.folder / "a program.ctd").write_text('INT(1,9,n) NEWLINE\nREP(m) SPACE END\n')
+        script = "edit a\\ program.ctd\nunlet b:current_compiler\ncompiler ctd-lint\nsilent make!\nsilent cc 2"
+        value = "[map(getqflist(), {_, one -> [bufname(one.bufnr), one.lnum, one.col, one.type, one.text]}), line('.')]"
+        found, line = self.run_vim(script, value)
+        self.assertEqual([one[:4] for one in found], [["a program.ctd", 1, 1, "n"], ["a program.ctd", 2, 1, "w"]])
+        self.assertEqual([one[4].split()[-1] for one in found], ["[unread]", "[no-value]"])
+        self.assertEqual(line, 2)
+
+
 class TextMate(unittest.TestCase):
     """The grammar is read by a small reader of such grammars; its patterns are within what all regular expressions share."""
 
@@ -334,6 +356,19 @@ class TextMate(unittest.TestCase):
         ]:
             with self.subTest(part):
                 self.assertIn(part, found)
+
+    def test_the_matcher_finds_the_parts_of_a_finding(self) -> None:
+        matchers = {matcher["name"]: matcher["pattern"] for matcher in self.extension["contributes"]["problemMatchers"]}
+        pattern = matchers["ctd-lint"]
+        for line, parts in [
+            ("a b.ctd:2:13: warning: the string is empty [empty-string]", ("a b.ctd", "2", "13", "warning", "the string is empty", "empty-string")),
+            ("a.ctd:1:1: note: nothing reads this variable: n [unread]", ("a.ctd", "1", "1", "note", "nothing reads this variable: n", "unread")),
+            ("a.ctd:1:6: error: syntax error", ("a.ctd", "1", "6", "error", "syntax error", None)),
+        ]:
+            with self.subTest(line):
+                match = re.match(pattern["regexp"], line)
+                assert match is not None
+                self.assertEqual(tuple(match[pattern[part]] for part in ["file", "line", "column", "severity", "message", "code"]), parts)
 
     def test_no_example_has_a_fault(self) -> None:
         for program in programs():

@@ -26,6 +26,10 @@ if [ "$failed" -eq 0 ]; then
     count tests/reads.py
     count tests/allocations.py
     count tests/companions.py
+    count tests/values.py
+    count tests/cover.py
+    count tests/package.py
+    count tests/mistakes.py
     count tests/editors.py
     count tests/build.py
     count tests/install.sh

@@ -43,36 +43,56 @@ quiet_make() { make --silent --no-print-directory "$@"; }
 
 expect 'make install' quiet_make install-built DESTDIR="$stage"
 wanted='bin/checktestdata
+bin/ctd-cover
 bin/ctd-lint
 bin/ctd-mutate
+bin/ctd-package
 bin/ctd-show
 share/bash-completion/completions/checktestdata
+share/bash-completion/completions/ctd-cover
 share/bash-completion/completions/ctd-lint
 share/bash-completion/completions/ctd-mutate
+share/bash-completion/completions/ctd-package
 share/bash-completion/completions/ctd-show
+share/checktestdata/tools/ctd-cover
 share/checktestdata/tools/ctd-mutate
+share/checktestdata/tools/ctd-package
 share/checktestdata/tools/ctd-show
 share/checktestdata/tools/ctd_changes.py
 share/checktestdata/tools/ctd_companion.py
+share/checktestdata/tools/ctd_coverage.py
+share/checktestdata/tools/ctd_problem.py
+share/checktestdata/tools/ctd_program.py
+share/checktestdata/tools/ctd_questions.py
+share/checktestdata/tools/ctd_ranges.py
+share/checktestdata/tools/ctd_untried.py
+share/checktestdata/tools/ctd_values.py
 share/checktestdata/vscode/language-configuration.json
 share/checktestdata/vscode/package.json
 share/checktestdata/vscode/syntaxes/checktestdata.tmLanguage.json
 share/fish/vendor_completions.d/checktestdata.fish
+share/fish/vendor_completions.d/ctd-cover.fish
 share/fish/vendor_completions.d/ctd-lint.fish
 share/fish/vendor_completions.d/ctd-mutate.fish
+share/fish/vendor_completions.d/ctd-package.fish
 share/fish/vendor_completions.d/ctd-show.fish
 share/man/man1/checktestdata.1
+share/man/man1/ctd-cover.1
 share/man/man1/ctd-lint.1
 share/man/man1/ctd-mutate.1
+share/man/man1/ctd-package.1
 share/man/man1/ctd-show.1
 share/man/man5/checktestdata.5
 share/vim/vimfiles/compiler/checktestdata.vim
+share/vim/vimfiles/compiler/ctd-lint.vim
 share/vim/vimfiles/ftdetect/checktestdata.vim
 share/vim/vimfiles/ftplugin/checktestdata.vim
 share/vim/vimfiles/syntax/checktestdata.vim
 share/zsh/site-functions/_checktestdata
+share/zsh/site-functions/_ctd-cover
 share/zsh/site-functions/_ctd-lint
 share/zsh/site-functions/_ctd-mutate
+share/zsh/site-functions/_ctd-package
 share/zsh/site-functions/_ctd-show'
 installed() { (cd "$prefix" && find . ! -type d ! -path './share/doc/*' -printf '%P\n' | LC_ALL=C sort); }
 expect 'all is installed, and nothing else' same "$wanted" "$(installed)"
@@ -98,7 +118,14 @@ beside() { (cd "$work" && "$prefix/bin/$1" number.ctd "${@:2}"); }
 expect 'ctd-lint runs' same '' "$(beside ctd-lint)"
 expect 'ctd-show finds the checker beside it' same 'right.in: testdata ok!' "$(beside ctd-show right.in)"
 expect 'ctd-mutate finds the checker beside it' same 'may fit: 7 made, 7 rejected, 0 let through, 0 without verdict' "$(beside ctd-mutate right.in | tail -n 1)"
-for companion in ctd-show ctd-mutate; do
+expect 'ctd-cover finds the checker beside it' same 'number.ctd:1:1: note: INT: took 7..7 of 1..10: neither bound is ever taken (right.in:1:1, right.in:1:1)' "$(beside ctd-cover right.in | head -n 1)"
+package=$work/package/data
+mkdir -p "$package/sample" "$package/invalid_inputs" "$work/package/input_validators"
+cp "$work/number.ctd" "$work/package/input_validators"
+cp "$work/right.in" "$package/sample"
+cp "$work/wrong.in" "$package/invalid_inputs"
+expect 'ctd-package finds the checker and ctd-lint beside it' same $'ctd-lint: input_validators/number.ctd: 0 findings\n2 checked, 2 as they have to be, 0 not' "$("$prefix/bin/ctd-package" "$work/package" | grep -v ctd-cover)"
+for companion in ctd-show ctd-cover ctd-mutate ctd-package; do
     without=$(cd "$work" && PATH=$work/none "$prefix/bin/$companion" number.ctd right.in 2>&1 || echo "status $?")
     expect "$companion without Python" same "$companion: Python is missing (no command python3): install version 3.9 or later"$'\nstatus 2' "$without"
 done
@@ -158,7 +185,7 @@ compiled a b" "$(here ./checktestdata a b)"
     rm -r "$copy/out"
     expect 'make compiles the packed file' same "$compiling: the Rattle toolchain, which proves them, is not here, so ctd-lint is left out" "$(here make)"
     expect 'make install without the toolchain' here make install strip= DESTDIR="$copy/stage"
-    expect 'what it installs' same 'checktestdata ctd-mutate ctd-show' "$(cd "$copy/stage/usr/local/bin" && echo *)"
+    expect 'what it installs' same 'checktestdata ctd-cover ctd-mutate ctd-package ctd-show' "$(cd "$copy/stage/usr/local/bin" && echo *)"
     rm -r "$copy/out"
     echo '// another source' >>"$copy/crates/ctd_tool/src/lib.rt"
     expect 'a packed file of other sources is not used' same "checktestdata: $line" "$(here ./checktestdata a b)"

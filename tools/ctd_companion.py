@@ -104,11 +104,11 @@ class Checker:
     def words(self) -> list[str]:
         return [self.path, *self.options, "--", self.program]
 
-    def check_file(self, data: IO[bytes]) -> tuple[Answer, IO[bytes]]:
+    def check_file(self, data: IO[bytes], seconds: float | None = None) -> tuple[Answer, IO[bytes]]:
         """Checks the data of a file from where it stands. The second result is a file that can be read again: the same, or where it is a pipe
-        a copy of what the checker was given."""
+        a copy of what the checker was given. Raises subprocess.TimeoutExpired where a file takes longer than so many seconds."""
         if data.seekable():
-            ran = subprocess.run(self.words, stdin=data, stdout=subprocess.PIPE, stderr=subprocess.PIPE, check=False)
+            ran = subprocess.run(self.words, stdin=data, stdout=subprocess.PIPE, stderr=subprocess.PIPE, timeout=seconds, check=False)
             return answer_of(ran.returncode, ran.stdout, ran.stderr), data
         copy = tempfile.TemporaryFile()
         answer = self.check_blocks(copied_blocks(data, copy))
@@ -225,11 +225,18 @@ class Progress:
     unit: str
     due: float = field(default_factory=lambda: time.monotonic() + 1)
     shown: bool = False
+    # how many were done before those that are counted
+    before: int = 0
+
+    def behind(self, before: int) -> Progress:
+        """The same line, where so many are done already."""
+        self.before = before
+        return self
 
     def show(self, done: int) -> None:
         """Says how many of all are done, at most ten times a second."""
         if time.monotonic() >= self.due and sys.stderr.isatty():
-            sys.stderr.write(f"\r\x1b[K{done} of {self.total} {self.unit}")
+            sys.stderr.write(f"\r\x1b[K{self.before + done} of {self.total} {self.unit}")
             sys.stderr.flush()
             self.due, self.shown = time.monotonic() + 0.1, True
 
@@ -268,16 +275,22 @@ def positive(text: str) -> int:
     return number
 
 
-def parser(name: str, description: str, epilog: str) -> argparse.ArgumentParser:
-    """A command line with the options that all companions have."""
+def parser_of_checks(name: str, description: str, epilog: str) -> argparse.ArgumentParser:
+    """A command line with the options that all companions have, and no files."""
     words = argparse.ArgumentParser(prog=name, description=description, epilog=epilog, allow_abbrev=False)
     words.add_argument("-V", "--version", action="version", version=f"{name} {VERSION}")
     jobs = min(os.cpu_count() or 1, 8)
     words.add_argument("-j", "--jobs", metavar="N", type=positive, default=jobs, help="run N checks at once (default: one for each processor, at most 8)")
     words.add_argument("--checker", metavar="PATH", help="the checker (default: beside this program, or on PATH)")
+    words.add_argument("--max-steps", metavar="N", action="append", default=[], help="given to the checker: stop a check after N steps")
+    return words
+
+
+def parser(name: str, description: str, epilog: str) -> argparse.ArgumentParser:
+    """A command line with a program, its options, and data."""
+    words = parser_of_checks(name, description, epilog)
     words.add_argument("-D", "--define", metavar="NAME=VALUE,..", action="append", default=[], help="given to the checker: values of variables")
     words.add_argument("-w", "--whitespace-ok", action="store_true", help="given to the checker: blanks may differ")
-    words.add_argument("--max-steps", metavar="N", action="append", default=[], help="given to the checker: stop a check after N steps")
     words.add_argument("--files-from", metavar="FILE", help="read the names of further files from a file, one a line or ended by a byte 0; - is standard input")
     words.add_argument("program", metavar="PROGRAM", help="the program of checktestdata")
     words.add_argument("data", metavar="DATA", nargs="*", help=f"a file of test data, or a folder for all *{DATA_SUFFIX} below it; - is standard input")
@@ -289,11 +302,17 @@ def given_words(words: argparse.ArgumentParser) -> argparse.Namespace:
     return words.parse_args() if "--" in sys.argv else words.parse_intermixed_args()
 
 
-def checker_of(words: argparse.ArgumentParser, given: argparse.Namespace) -> Checker:
-    """The checker with the program and the options that were given; where it is not found, that is said and the run ends."""
+def checker_path(words: argparse.ArgumentParser, given: argparse.Namespace) -> str:
+    """The path of the checker; where it is not found, that is said and the run ends."""
     path = find_checker(given.checker)
     if path is None:
         words.error("the checker is not found; say where it is by --checker")
+    return path
+
+
+def checker_of(words: argparse.ArgumentParser, given: argparse.Namespace) -> Checker:
+    """The checker with the program and the options that were given."""
+    path = checker_path(words, given)
     # (an option that is given twice is refused by the checker)
     options = ["-w"] if given.whitespace_ok else []
     options += [f"--define={value}" for value in given.define]

@@ -3,7 +3,7 @@
 from random import Random
 
 from reference import limits
-from reference.faults import Fault
+from reference.faults import Fault, Refused
 from reference.presets import Presets, read_presets
 from reference.words import Settings
 
@@ -72,7 +72,7 @@ def presets_of(define: str | None) -> Presets:
     """The presets of a text, if it spells some."""
     try:
         return {} if define is None else read_presets(define.encode("utf-8"))
-    except Fault:
+    except (Fault, Refused):
         return {}
 
 

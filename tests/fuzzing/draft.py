@@ -4,7 +4,7 @@ from random import Random
 
 from reference.characters import CharacterSet
 from reference.data import BLANKS, Data
-from reference.faults import Fault, LeftOut, Rejected
+from reference.faults import Fault, LeftOut, Refused, Rejected
 from reference.matching import Alternatives, OneOf, Pattern, Repetition, Sequence
 from reference.run import Run
 from reference.store import Store
@@ -141,7 +141,7 @@ def fitting_data(random: Random, program: bytes, settings: Settings) -> tuple[by
     run = Run(Store(settings.presets), draft, MOST_STEPS)
     try:
         run.whole(commands_of(File(program)))
-    except (Fault, LeftOut):
+    except (Fault, LeftOut, Refused):
         pass
     return bytes(draft.written), MOST_STEPS - run.steps_left
 

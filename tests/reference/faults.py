@@ -1,4 +1,8 @@
-"""How a check ends early: each fault has the text of its message."""
+"""How a check ends early: each fault has the text of its message. A program that is none is Refused: status 2."""
+
+from ctd_program import Refused
+
+__all__ = ["Fault", "LeftOut", "Misused", "Refused", "Rejected", "Stopped"]
 
 
 class Fault(Exception):
@@ -15,14 +19,6 @@ class Rejected(Fault):
 
 class Stopped(Fault):
     """A run stops without a verdict: status 2."""
-
-
-class Refused(Fault):
-    """A program that is none: status 2. The offset is that of the byte in its text to which the message points, if it points at all."""
-
-    def __init__(self, message: str, offset: int | None = None) -> None:
-        super().__init__(message)
-        self.offset = offset
 
 
 class Misused(Fault):

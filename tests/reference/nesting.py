@@ -2,9 +2,10 @@
 
 from collections.abc import Iterable
 
+from ctd_program import Token
+
 from . import limits
 from .faults import Refused
-from .tokens import Token
 
 OPENS = frozenset({"(", "[", "REP", "REPI", "WHILE", "WHILEI", "IF"})
 CLOSES = frozenset({")", "]", "END"})

@@ -2,7 +2,8 @@
 
 import re
 
-from . import tokens
+import ctd_program
+
 from .faults import Misused, Refused
 from .store import Indices
 from .values import Value
@@ -67,8 +68,8 @@ class Reader:
                 raise BadPreset
             self.index = found.end()
             if found["literal"]:
-                return tokens.literal(found["literal"], found.start())
-            number = tokens.numeral(self.text, *found.span("digits"))
+                return ctd_program.literal(found["literal"], found.start())
+            number = ctd_program.numeral(self.text, *found.span("digits"))
             return -number if found[0].startswith(b"-") else number
         except Refused as fault:
             raise BadPreset from fault

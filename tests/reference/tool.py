@@ -5,7 +5,9 @@ from collections.abc import Callable, Sequence
 from dataclasses import dataclass
 from functools import lru_cache
 
-from . import limits, nesting, syntax, tokens, tree
+from ctd_program import cut
+
+from . import limits, nesting, syntax, tree
 from .commands import Command
 from .data import BlanksMayDiffer, Data
 from .faults import LeftOut, Misused, Refused, Rejected, Stopped
@@ -90,9 +92,9 @@ def commands_of(program: File) -> list[Command]:
         raise Refused("program too long")
     if program.fails:
         raise Refused("cannot read program")
-    cut = tokens.cut(program.content)
-    nesting.weigh(cut)
-    return tree.commands(syntax.parse(cut))
+    tokens = cut(program.content)
+    nesting.weigh(tokens)
+    return tree.commands(syntax.parse(tokens))
 
 
 def verdict(asked: Settings, commands: Sequence[Command], data: File, text: bytes) -> Answer:

@@ -2,6 +2,8 @@
 
 from collections.abc import Callable, Sequence
 
+from ctd_program import NAME, Token
+
 from .commands import Assert, Command, Eof, If, Int, Newline, Regex, Set, Space, String, Unset
 from .conditions import And, Comparison, Condition, InArray, IsEof, Match, Not, Or, Unique
 from .expressions import Expression, Length, Literal, Negation, Operation, Variable
@@ -9,7 +11,6 @@ from .faults import Refused
 from .loops import Rep, While
 from .patterns import BadPattern, read_pattern
 from .syntax import Tree
-from .tokens import NAME, Token
 
 
 def commands(trees: Sequence[Tree]) -> list[Command]:

@@ -5,6 +5,8 @@ from contextlib import contextmanager
 from dataclasses import dataclass
 from unittest.mock import patch
 
+from ctd_program import Token
+
 from . import limits, syntax, tool, values
 from .conditions import Unique
 from .data import BlanksMayDiffer, Data
@@ -13,7 +15,6 @@ from .loops import Loop
 from .run import Run
 from .store import Store
 from .syntax import Tree
-from .tokens import Token
 
 right_repeat = Loop.repeat
 right_takes_turn = Loop.takes_turn

@@ -1,0 +1,274 @@
+"""What files of test data do not try of a program: how all files are asked, and what is said of each command."""
+from __future__ import annotations
+
+import re
+import shutil
+import sys
+import tempfile
+import threading
+from collections.abc import Iterator, Sequence
+from dataclasses import dataclass, field
+from pathlib import Path
+
+from ctd_companion import FITS, STANDARD_INPUT, Checker, DataFile, Progress, open_data, results_in_order
+from ctd_coverage import LOOPS, FileRun, Findings, Skeleton, Watched, merged
+from ctd_program import Command, commands_of
+from ctd_questions import Asker, CannotAsk, fresh_name, place_at
+from ctd_ranges import Range
+
+# How many files begin with what was found in those before them: not the number of jobs, so that no result depends on that.
+TOGETHER = 8
+# How much of a command is shown.
+ROOM = 40
+
+
+class Refused(Exception):
+    """The program, or an option for the checker, is refused."""
+
+
+@dataclass(frozen=True)
+class HeldFile:
+    """A file of data: the name that is shown, and where it can be read more than once."""
+
+    name: str
+    path: Path
+
+    @property
+    def size(self) -> int:
+        return self.path.stat().st_size
+
+
+@dataclass
+class Coverage:
+    """What files try of a program; and the files that do not fit, each with its line."""
+
+    skeleton: Skeleton
+    found: Findings = field(default_factory=dict)
+    misfits: list[str] = field(default_factory=list)
+    files: int = 0
+    runs: int = 0
+
+
+@dataclass
+class Workshop:
+    """A folder for copies of the program, and of data that can be read only once."""
+
+    folder: Path
+
+    def hold(self, file: DataFile) -> HeldFile:
+        """A file that can be read more than once. Raises OSError where it cannot be read."""
+        with open_data(file.name) as data:
+            if file.name != STANDARD_INPUT and data.seekable():
+                data.read(1)
+                return HeldFile(file.shown, Path(file.name))
+            descriptor, copy = tempfile.mkstemp(dir=self.folder)
+            with open(descriptor, "wb") as written:
+                shutil.copyfileobj(data, written)
+        return HeldFile(file.shown, Path(copy))
+
+    def copy_file(self) -> Path:
+        """Where a worker writes its copies of the program."""
+        return self.folder / f"{threading.get_ident()}.ctd"
+
+
+def skeleton_of(checker: Checker) -> Skeleton:
+    """The program of a checker, which it has accepted, with places for questions."""
+    # A program nests at most 200 deep, and each level takes some calls.
+    sys.setrecursionlimit(max(sys.getrecursionlimit(), 10_000))
+    if not Path(checker.program).is_file():
+        raise CannotAsk("the program is no file, and cannot be read again")
+    text = Path(checker.program).read_bytes()
+    presets = [name.encode() for option in checker.options if option.startswith("--define=") for name in re.findall("[a-z][a-z0-9]*", option[9:])]
+    return Skeleton(text, commands_of(text), fresh_name(text, checker.options), presets)
+
+
+def fitting(checker: Checker, files: Sequence[DataFile], shop: Workshop, jobs: int) -> Iterator[HeldFile | str]:
+    """Each file that fits, or a line for one that does not. Raises Refused where the program is."""
+
+    def one(file: DataFile) -> tuple[HeldFile | str, bool]:
+        if file.fault is not None:
+            return f"{file.shown}: {file.fault}", False
+        try:
+            held = shop.hold(file)
+            with held.path.open("rb") as data:
+                answer, _ = checker.check_file(data)
+        except OSError as error:
+            return f"{file.shown}: cannot read: {error.strerror}", False
+        if answer.status == FITS:
+            return held, False
+        return answer.line if answer.is_of_the_call else f"{file.shown}: {answer.line}", answer.is_of_the_call
+
+    for found, is_of_the_call in results_in_order(one, files, jobs, Progress(len(files), "files checked")):
+        if is_of_the_call:
+            raise Refused(found)
+        yield found
+
+
+def cover(checker: Checker, given: Sequence[DataFile], jobs: int) -> Coverage:
+    """What files try of a program. Raises Refused where the program is, and CannotAsk where questions cannot be put into it."""
+    with tempfile.TemporaryDirectory() as folder:
+        shop = Workshop(Path(folder))
+        checked = list(fitting(checker, given, shop, jobs))
+        files = sorted((file for file in checked if isinstance(file, HeldFile)), key=lambda file: file.size)
+        # (a program is accepted where a file fits it)
+        skeleton = skeleton_of(checker) if files else Skeleton(b"", [], b"", [])
+        coverage = Coverage(skeleton, misfits=[line for line in checked if isinstance(line, str)], files=len(files), runs=len(checked))
+
+        def one(task: tuple[HeldFile, Findings]) -> tuple[Findings, int]:
+            file, before = task
+            with file.path.open("rb", buffering=0) as data:
+                asker = Asker(checker, data, shop.copy_file())
+                return FileRun(coverage.skeleton, asker, file.name, before).whole(), asker.runs
+
+        progress = Progress(len(files), "files asked")
+        # small files first: most is answered by them
+        for start in range(0, len(files), TOGETHER):
+            tasks = [(file, coverage.found) for file in files[start : start + TOGETHER]]
+            for found, runs in results_in_order(one, tasks, jobs, progress.behind(start)):
+                coverage.found = merged(coverage.found, found)
+                coverage.runs += runs
+        return coverage
+
+
+@dataclass(frozen=True)
+class Seen:
+    """What was seen of a command; what was not, if anything; and what a note of that has besides."""
+
+    seen: str
+    untried: str = ""
+    before: str = ""
+    behind: str = ""
+
+
+@dataclass(frozen=True)
+class Row:
+    """What is said of a command: where it stands, its text, and what was seen of it."""
+
+    line: int
+    column: int
+    command: str
+    what: Seen
+
+
+def shown(text: bytes, room: int = ROOM) -> str:
+    """A part of a program on one line, cut where it is long."""
+    line = " ".join(text.decode("utf-8", "backslashreplace").split())
+    line = "".join(one if one.isprintable() else repr(one)[1:-1] for one in line)
+    return line if len(line) <= room else line[: room - 1] + "…"
+
+
+def rows(coverage: Coverage) -> list[Row]:
+    """What is said of each command of which something is watched, and of the commands that no file runs, in the order of the program."""
+    skeleton, found = coverage.skeleton, coverage.found
+    if not coverage.files:
+        return []
+    said = {command.offset: row_of(skeleton, command, what) for command, what in never_run(skeleton, found)}
+    for watched in skeleton.watched:
+        if watched.block.is_run(found) and watched.things:
+            said[watched.command.offset] = row_of(skeleton, watched.command, SAYERS[watched.command.word](skeleton, watched, found))
+    return [said[offset] for offset in sorted(said)]
+
+
+def never_run(skeleton: Skeleton, found: Findings) -> Iterator[tuple[Command, Seen]]:
+    """The first command of each list of commands that no file runs, where what stands around the list is run."""
+    for block in skeleton.blocks:
+        if block.commands and not block.is_entered(found) and (block.parent is None or block.parent.is_run(found)):
+            count = len(block.commands)
+            yield block.commands[0], Seen("never run", "no file runs this command" if count == 1 else f"no file runs these {count} commands")
+
+
+def row_of(skeleton: Skeleton, command: Command, what: Seen) -> Row:
+    place = place_at(skeleton.text, command.offset)
+    is_block = command.word in (*LOOPS, "IF")
+    head = skeleton.text[command.offset : command.arguments[-1].end] + b")" if is_block else skeleton.text[command.offset : command.end]
+    return Row(place.line, place.column, shown(head), what)
+
+
+def bound_text(skeleton: Skeleton, watched: Watched, index: int, known: Range | None) -> str:
+    """A bound of an INT: its number, or what the program says."""
+    return str(known.only) if known and known.only is not None else shown(skeleton.source(watched.command.arguments[index]), 20)
+
+
+def seen_range(watched: Watched, found: Findings) -> str:
+    least, greatest = found[watched.things["least"]], found[watched.things["greatest"]]
+    return f"{least.value} ({least.spot}) .. {greatest.value} ({greatest.spot})"
+
+
+def missing_bounds(missed: Sequence[str]) -> str:
+    return "neither bound is ever taken" if len(missed) == 2 else f"the {missed[0]} is never taken" if missed else ""
+
+
+def of_integer(skeleton: Skeleton, watched: Watched, found: Findings) -> Seen:
+    things = watched.things
+    least, greatest = found[things["least"]], found[things["greatest"]]
+    missed = []
+    for bound, name, end, known in (("low", "least", least, watched.low), ("high", "greatest", greatest, watched.high)):
+        if not (things[bound] in found if bound in things else known is not None and end.value == known.only):
+            missed.append(name)
+    low, high = bound_text(skeleton, watched, 0, watched.low), bound_text(skeleton, watched, 1, watched.high)
+    spots = [str(end.spot) for name, end in (("least", least), ("greatest", greatest)) if name in missed]
+    before = f"took {least.value}..{greatest.value} of {low}..{high}: "
+    return Seen(f"{seen_range(watched, found)} of {low}..{high}", missing_bounds(missed), before, f" ({', '.join(spots)})")
+
+
+def of_regex(skeleton: Skeleton, watched: Watched, found: Findings) -> Seen:
+    least, greatest = found[watched.things["least"]], found[watched.things["greatest"]]
+    seen = f"{seen_range(watched, found)} bytes"
+    if not (watched.low and watched.high):
+        return Seen(seen)
+    low, high = watched.low.least, watched.high.greatest
+    missed = [name for name, end, bound in (("least", least, low), ("greatest", greatest, high)) if end.value != bound]
+    return Seen(f"{seen} of {low}..{high}", missing_bounds(missed), f"took {least.value}..{greatest.value} of {low}..{high} bytes: ")
+
+
+def of_choice(skeleton: Skeleton, watched: Watched, found: Findings) -> Seen:
+    seen = [name for name in ("true", "false") if watched.things[name] in found]
+    missed = [name for name in ("true", "false") if name not in seen]
+    return Seen(", ".join(seen), f"the test is never {missed[0]}" if missed else "")
+
+
+TURNS = {"none": ("no turn", "never no turn"), "one": ("one turn", "never one turn"), "more": ("more turns", "never more than one turn")}
+
+
+def of_loop(skeleton: Skeleton, watched: Watched, found: Findings) -> Seen:
+    names = [name for name in TURNS if name in watched.things]
+    seen = [TURNS[name][0] for name in names if watched.things[name] in found]
+    missed = [TURNS[name][1] for name in names if watched.things[name] not in found]
+    most = found[watched.things["most"]]
+    return Seen(f"{', '.join(seen) or 'turns'}; at most {most.value} ({most.spot})", ", ".join(missed))
+
+
+def of_assertion(skeleton: Skeleton, watched: Watched, found: Findings) -> Seen:
+    seen = [f"{shown(name.encode())} ({found[thing].spot})" for name, thing in watched.things.items() if thing in found]
+    missed = [shown(name.encode()) for name, thing in watched.things.items() if thing not in found]
+    return Seen(f"tight: {', '.join(seen)}" if seen else "", f"never tight: {', '.join(missed)}" if missed else "")
+
+
+SAYERS = {"INT": of_integer, "REGEX": of_regex, "IF": of_choice, "ASSERT": of_assertion, **{word: of_loop for word in LOOPS}}
+
+
+def notes(program: str, said: Sequence[Row]) -> Iterator[str]:
+    """What was not tried, in the form of compilers."""
+    for row in said:
+        if what := row.what.untried:
+            word = "" if what.startswith("no file") else f"{row.command.partition('(')[0]}: "
+            yield f"{program}:{row.line}:{row.column}: note: {word}{row.what.before}{what}{row.what.behind}"
+
+
+def table(said: Sequence[Row]) -> Iterator[str]:
+    """All that was seen, in columns."""
+    cells = [("place", "command", "seen", "not tried"), *((f"{row.line}:{row.column}", row.command, row.what.seen, row.what.untried) for row in said)]
+    widths = [max(len(row[column]) for row in cells) for column in range(3)]
+    for row in cells:
+        yield "  ".join([f"{cell:{width}}" for cell, width in zip(row, widths)] + [row[3]]).rstrip()
+
+
+def summary(coverage: Coverage, said: Sequence[Row]) -> str:
+    """How many commands were watched, and how many have something that was not tried."""
+    if not coverage.files:
+        return "no file fits"
+    untried = sum(1 for row in said if row.what.untried)
+    files = "1 file" if coverage.files == 1 else f"{coverage.files} files"
+    commands = "1 command" if len(said) == 1 else f"{len(said)} commands"
+    return f"{commands} watched in {files}, {untried} not fully tried"
+
