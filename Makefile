@@ -2,7 +2,10 @@
 # built program; install, uninstall: PREFIX and DESTDIR as usual; deb, dist: a Debian package and an archive of the built program, in out/.
 # lib: builds the libraries for C and Python, and installs them as install does; page: makes the page for the browser in web/out; test-lib and
 # test-page test these (docs/EMBEDDING.md). fuzz: compares the checker with a reference in Python on COUNT generated cases of a SEED. nightly:
-# tests that take too long for test. bench: times the checker beside C written by hand (bench/README.md).
+# tests that take too long for test. bench: times the checker beside C written by hand (bench/README.md). portable: makes the programs as one C
+# file each, in out/, and packs that of the checker into portable/; test-portable: tests it for other systems (portable/README.md).
+#
+# Without the toolchain the checker is compiled from the packed C file, if that was made of these sources, and ctd-lint is left out.
 version := 1.0
 
 PREFIX ?= /usr/local
@@ -25,34 +28,53 @@ SEED ?= 1
 
 # What is installed: programs that are built, each in the crate of its name, and companions in tools/, each with completions in
 # completions/ and a man page in man/; further man pages, and texts.
-programs := checktestdata ctd-lint
+has_toolchain := $(shell command -v rt)
+programs := checktestdata $(if $(has_toolchain),ctd-lint)
 companions := ctd-show ctd-cover ctd-mutate ctd-package
 modules := ctd_changes.py ctd_companion.py ctd_coverage.py ctd_problem.py ctd_program.py ctd_questions.py ctd_ranges.py ctd_untried.py ctd_values.py
 commands := $(programs) $(companions)
 manuals := $(commands:=.1) checktestdata.5
 texts := README.md CHANGELOG.md SECURITY.md LICENSE-MIT LICENSE-APACHE NOTICE
 
-built = crates/$(subst -,_,$(1))/out/$(subst -,_,$(1))
+# Where a program is built, or in BUILT, if that is given.
+BUILT := $(if $(has_toolchain),,out)
+built = $(if $(BUILT),$(BUILT)/$(1),crates/$(subst -,_,$(1))/out/$(subst -,_,$(1)))
 all_built := $(foreach program,$(programs),$(call built,$(program)))
 sources := HANDLES crates.txt $(shell find crates -name out -prune -o \( -name '*.rt' -o -name '*.antt' \) -print)
 need_toolchain = $(if $(missing),$(error $(missing)))
 missing = $(shell scripts/missing_toolchain.sh)
+packed := portable/checktestdata.c.xz
+is_current = $(shell portable/is_current.sh 2>/dev/null && echo yes)
+by_c := compiling $(packed), made of these sources: the Rattle toolchain, which proves them, is not here
 embedded := crates/ctd_embed/out/build/libctd_embed.a
 lint_module := crates/ctd_lint/out/build/ctd_lint.bc
-strip := $(if $(shell command -v strip),--strip)
+strip := $(if $(shell command -v strip),-s)
 
-.PHONY: build build-lib test nightly test-lib test-page fuzz bench install install-built lib page uninstall deb dist clean
+.PHONY: build build-lib test nightly test-lib test-page test-portable fuzz bench install install-built lib page portable uninstall deb dist clean
 
 build: $(all_built)
 
 # The crates have a makefile of their own. It uses all processors, unless this make was given a number of jobs (-j).
 make_crates = $(MAKE) --no-print-directory --silent $(if $(filter -j% --jobserver%,$(MAKEFLAGS)),,-j$(shell nproc)) -f scripts/crates.mk
 
+ifdef has_toolchain
 # A program that is up to date may be older than a source that it is not made of, such as a test: so touch.
 $(all_built) &: $(sources)
 	$(need_toolchain)
 	+@$(make_crates) $(all_built)
 	@touch $(all_built)
+else
+$(all_built): $(sources) $(wildcard $(packed))
+	$(if $(is_current),,$(need_toolchain))
+	@echo '$(by_c), so ctd-lint is left out' >&2
+	@portable/compile.sh $(packed) $@
+endif
+
+# The checker first, since both are made over the same libraries.
+portable:
+	$(need_toolchain)
+	@portable/pack.sh
+	@portable/build.sh ctd_lint out/ctd-lint.c
 
 # The programs come first, since all are made over the same libraries. Both rules keep the LLVM module of the crate, for the page.
 $(embedded): $(sources) | build
@@ -65,8 +87,15 @@ $(lint_module): $(sources) | build
 	+@scripts/keep_module.sh ctd_lint ctd_lint.o
 	@touch $@
 
+ifdef has_toolchain
 embed/out/libchecktestdata.so.1: $(embedded) embed/link.sh
 	@embed/link.sh
+else
+embed/out/libchecktestdata.so.1: $(sources) $(wildcard $(packed))
+	$(if $(is_current),,$(need_toolchain))
+	@echo '$(by_c)' >&2
+	@portable/library.sh embed/out
+endif
 
 build-lib: embed/out/libchecktestdata.so.1
 
@@ -86,43 +115,50 @@ test-lib: build-lib
 test-page: page
 	@node web/test/page.js
 
+test-portable:
+	@portable/test.py
+
 fuzz: build
 	@tests/fuzz.py --count $(COUNT) --seed $(SEED)
 
 bench: build
 	@bench/whole_runs.py
 
+# Installs one file: MODE, FROM, FOLDER, NAME. BSD and macOS have no install -D.
+put = mkdir -p '$(DESTDIR)$(3)' && install -m $(1) $(2) '$(DESTDIR)$(3)/$(4)'
 # Copies all files below a folder, from where they stand in it: FOLDER, TO.
-copy_tree = cd $(1) && find . -type f -print0 | xargs -0 -I '{}' install -D -m 644 '{}' '$(DESTDIR)$(2)/{}'
+copy_tree = cd $(1) && find . -type d -exec mkdir -p '$(DESTDIR)$(2)/{}' ';' && find . -type f -exec install -m 644 '{}' '$(DESTDIR)$(2)/{}' ';'
+# Links a companion from where commands stand, by a relative path where ln can. COMPANION.
+link = mkdir -p '$(DESTDIR)$(bindir)' && { ln -sfr '$(DESTDIR)$(ourdir)/tools/$(1)' '$(DESTDIR)$(bindir)/$(1)' 2>/dev/null || ln -sf '$(ourdir)/tools/$(1)' '$(DESTDIR)$(bindir)/$(1)'; }
 
 install: build
 	@$(MAKE) --no-print-directory install-built
 
 # The files of install, with the program as it stands.
 install-built:
-	$(foreach program,$(programs),install -D -m 755 $(strip) $(call built,$(program)) '$(DESTDIR)$(bindir)/$(program)' &&) true
-	$(foreach script,$(companions),install -D -m 755 tools/$(script) '$(DESTDIR)$(ourdir)/tools/$(script)' &&) true
-	$(foreach module,$(modules),install -D -m 644 tools/$(module) '$(DESTDIR)$(ourdir)/tools/$(module)' &&) true
-	$(foreach script,$(companions),ln -sfr '$(DESTDIR)$(ourdir)/tools/$(script)' '$(DESTDIR)$(bindir)/$(script)' &&) true
-	$(foreach page,$(manuals),install -D -m 644 man/$(page) '$(DESTDIR)$(mandir)/man$(subst .,,$(suffix $(page)))/$(page)' &&) true
-	$(foreach command,$(commands),install -D -m 644 completions/bash/$(command) '$(DESTDIR)$(bashdir)/$(command)' &&) true
-	$(foreach command,$(commands),install -D -m 644 completions/zsh/_$(command) '$(DESTDIR)$(zshdir)/_$(command)' &&) true
-	$(foreach command,$(commands),install -D -m 644 completions/fish/$(command).fish '$(DESTDIR)$(fishdir)/$(command).fish' &&) true
+	$(foreach program,$(programs),$(call put,755 $(strip),$(call built,$(program)),$(bindir),$(program)) &&) true
+	$(foreach script,$(companions),$(call put,755,tools/$(script),$(ourdir)/tools,$(script)) &&) true
+	$(foreach module,$(modules),$(call put,644,tools/$(module),$(ourdir)/tools,$(module)) &&) true
+	$(foreach script,$(companions),$(call link,$(script)) &&) true
+	$(foreach page,$(manuals),$(call put,644,man/$(page),$(mandir)/man$(subst .,,$(suffix $(page))),$(page)) &&) true
+	$(foreach command,$(commands),$(call put,644,completions/bash/$(command),$(bashdir),$(command)) &&) true
+	$(foreach command,$(commands),$(call put,644,completions/zsh/_$(command),$(zshdir),_$(command)) &&) true
+	$(foreach command,$(commands),$(call put,644,completions/fish/$(command).fish,$(fishdir),$(command).fish) &&) true
 	$(call copy_tree,editors/vim,$(vimdir))
 	$(call copy_tree,editors/vscode,$(ourdir)/vscode)
-	install -D -m 644 -t '$(DESTDIR)$(docdir)' $(texts)
+	$(foreach text,$(texts),$(call put,644,$(text),$(docdir),$(text)) &&) true
 	$(call copy_tree,docs,$(docdir)/docs)
 	$(call copy_tree,examples,$(docdir)/examples)
 	scripts/take_out_links.sh '$(DESTDIR)$(docdir)'
 
 lib: build-lib
-	install -D -m 644 embed/out/libchecktestdata.a '$(DESTDIR)$(libdir)/libchecktestdata.a'
-	install -D -m 755 embed/out/libchecktestdata.so.1 '$(DESTDIR)$(libdir)/libchecktestdata.so.1'
+	$(call put,644,embed/out/libchecktestdata.a,$(libdir),libchecktestdata.a)
+	$(call put,755,embed/out/libchecktestdata.so.1,$(libdir),libchecktestdata.so.1)
 	ln -sf libchecktestdata.so.1 '$(DESTDIR)$(libdir)/libchecktestdata.so'
-	install -D -m 644 embed/checktestdata.h '$(DESTDIR)$(includedir)/checktestdata.h'
-	install -d '$(DESTDIR)$(libdir)/pkgconfig'
+	$(call put,644,embed/checktestdata.h,$(includedir),checktestdata.h)
+	mkdir -p '$(DESTDIR)$(libdir)/pkgconfig'
 	sed -e 's|@prefix@|$(PREFIX)|; s|@libdir@|$(libdir)|; s|@includedir@|$(includedir)|; s|@version@|$(version)|' embed/checktestdata.pc.in >'$(DESTDIR)$(libdir)/pkgconfig/checktestdata.pc'
-	install -D -m 644 embed/python/checktestdata.py '$(DESTDIR)$(pythondir)/checktestdata.py'
+	$(call put,644,embed/python/checktestdata.py,$(pythondir),checktestdata.py)
 
 uninstall:
 	rm -f $(foreach command,$(commands),'$(DESTDIR)$(bindir)/$(command)')
@@ -136,7 +172,7 @@ deb: build
 	@packaging/deb.sh $(version)
 
 dist: build
-	@packaging/dist.sh $(version)
+	@packaging/dist.sh $(version) x86_64-linux aarch64-linux x86_64-windows
 
 clean:
-	rm -rf out crates/*/out embed/out web/out
+	rm -rf out crates/*/out embed/out embed/python/build embed/python/*.egg-info web/out

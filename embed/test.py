@@ -1,6 +1,7 @@
 #!/usr/bin/env python3
-"""Tests the libraries in embed/out: the C example and the examples of docs/EMBEDDING.md, buffers of every size, valgrind where it is there,
-and the Python module on the rows of tests/tables/, many files and many threads. The last line counts what passed and failed."""
+"""Tests the libraries in embed/out, or in the folder that LIBRARIES names: the C example and the examples of docs/EMBEDDING.md, buffers of every
+size, valgrind where it is there, and the Python module on the rows of tests/tables/, many files and many threads. The last line counts what passed
+and failed."""
 import doctest
 import os
 import re
@@ -13,7 +14,7 @@ from concurrent.futures import ThreadPoolExecutor
 from pathlib import Path
 
 TOP = Path(__file__).resolve().parent.parent
-OUT = TOP / "embed" / "out"
+OUT = Path(os.environ.get("LIBRARIES", TOP / "embed" / "out"))
 os.environ.setdefault("CHECKTESTDATA_LIBRARY", str(OUT / "libchecktestdata.so"))
 sys.path[:0] = [str(TOP / "tests"), str(TOP / "embed" / "python")]
 import checktestdata

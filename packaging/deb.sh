@@ -8,13 +8,16 @@ cd "$(dirname "${BASH_SOURCE[0]}")/.."
 version=$1-1
 name=checktestdata-nagdimot
 maintainer="${DEBFULLNAME:-The Nagdimot developers} <${DEBEMAIL:-maintainers@users.noreply.nagdimot.example}>"
-package=$out/${name}_${version}_amd64.deb
+architecture=$(dpkg --print-architecture)
+package=$out/${name}_${version}_$architecture.deb
 stage=$(mktemp -d)
 trap 'rm -rf "$stage"' EXIT
 documents=$stage/usr/share/doc/$name
 
 make --silent install-built DESTDIR="$stage" PREFIX=/usr docdir=/usr/share/doc/$name zshdir=/usr/share/zsh/vendor-completions
-strip --remove-section=.comment --remove-section=.note "$stage"/usr/bin/{checktestdata,ctd-lint}
+for program in checktestdata ctd-lint; do
+    [ ! -e "$stage/usr/bin/$program" ] || strip --remove-section=.comment --remove-section=.note "$stage/usr/bin/$program"
+done
 # (the Python of the system, at which the shell's lines of a companion look)
 sed -i '1,6s,\(-v\|exec\) python3,\1 /usr/bin/python3,' "$stage"/usr/share/checktestdata/tools/ctd-*
 gzip -9n "$stage"/usr/share/man/man?/*
@@ -31,7 +34,7 @@ install -D -m 644 packaging/debian/lintian-overrides "$stage/usr/share/lintian/o
 
 size=$(du --summarize --apparent-size --block-size=1024 "$stage" | cut -f 1)
 mkdir "$stage/DEBIAN"
-sed -e "s|@VERSION@|$version|; s|@MAINTAINER@|$maintainer|; s|@SIZE@|$size|; s|@LIBC@|$(needed_libc "$stage/usr/bin/checktestdata")|" packaging/debian/control >"$stage/DEBIAN/control"
+sed -e "s|@VERSION@|$version|; s|@MAINTAINER@|$maintainer|; s|@SIZE@|$size|; s|@ARCHITECTURE@|$architecture|; s|@LIBC@|$(needed_libc "$stage/usr/bin/checktestdata")|" packaging/debian/control >"$stage/DEBIAN/control"
 (cd "$stage" && find usr -type f -print0 | sort --zero-terminated | xargs --null md5sum >DEBIAN/md5sums)
 settle "$stage"
 dpkg-deb --build --root-owner-group -Zxz "$stage" "$package" >/dev/null

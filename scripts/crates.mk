@@ -8,13 +8,17 @@
 #     crates/NAME/out/build/libNAME.a       a static library, where it is marked `staticlib`
 #     crates/NAME/out/build/NAME.rlib       a library for other crates, else
 #
-# TOOLCHAIN is the folder of the compiler and the linker, if not the toolchain's own.
+# Beside a program and a static library stays the LLVM module that it was compiled from, NAME.bc (scripts/toolchain.sh), unless TOOLCHAIN names
+# the folder of another compiler and linker. With LIBRARY_FOLDER=rlib libraries stand in crates/NAME/out/rlib, where rt puts them. With
+# TARGET=aarch64-unknown-linux-gnu the object file of a program is NAME.aarch64-unknown-linux-gnu.o, for that system.
 #
 # The rules call the toolchain's rattle and not rt: the libraries of `rt lib` hold their proofs too, which every crate above reads again.
 # With --statements they hold only what was proved, as they do in the gate.
 kit := $(shell dirname "$$(rt doc)")
 rattle := $(kit)/bin/rattle
-TOOLCHAIN ?= $(kit)/toolchain
+TOOLCHAIN ?=
+LIBRARY_FOLDER := build
+TARGET :=
 processors := $(shell nproc)
 statements := $(findstring --statements,$(shell $(rattle) build --help))
 
@@ -29,17 +33,18 @@ programs := $(patsubst crates/%/src/main.rt,%,$(wildcard crates/*/src/main.rt))
 by_kind = $(if $(filter $(1),$(programs)),$(2),$(if $(filter $(1),$(static_libraries)),$(3),$(4)))
 
 # The file that rattle makes of a crate, an object file if it is a program; those of several crates, of which the toolchain's have none.
-built = crates/$(1)/out/build/$(call by_kind,$(1),$(1).o,lib$(1).a,$(1).rlib)
+built = crates/$(1)/out/$(call by_kind,$(1),build/$(1)$(TARGET:%=.%).o,build/lib$(1).a,$(LIBRARY_FOLDER)/$(1).rlib)
 built_of = $(foreach crate,$(filter $(crates),$(1)),$(call built,$(crate)))
 sources_of = $(shell find crates/$(1)/src crates/$(1)/specs crates/$(1)/proofs 2>/dev/null)
 
 # The words for rattle, which runs in the folder of a crate.
 extern = --extern $(1)=$(if $(filter $(crates),$(1)),../../$(call built,$(1)),'$(kit)/rlibs/$(1).rlib')
-search := -L 'dependency=$(kit)/rlibs' $(foreach crate,$(crates),-L dependency=../$(crate)/out/build)
+search := -L 'dependency=$(kit)/rlibs' $(foreach crate,$(crates),-L dependency=../$(crate)/out/$(LIBRARY_FOLDER))
 logic := --antt-project '$(kit)/rattle/logic/antt-project.json' --logic-built '$(kit)/logic_built'
-compiler := --toolchain '$(TOOLCHAIN)'
+own_toolchain := $(or $(TOOLCHAIN),$(kit)/toolchain)
+compiler = --toolchain $(if $(or $(TOOLCHAIN),$(TARGET)),'$(own_toolchain)',"$$$$(scripts/toolchain.sh $(1))")
 root_of = $(call by_kind,$(1),src/main.rt,src/lib.rt,src/lib.rt)
-kind_of = $(call by_kind,$(1),$(compiler),--crate-type staticlib $(compiler),$(statements))
+kind_of = $(call by_kind,$(1),$(TARGET:%=--target %) $(call compiler,$(1)),--crate-type staticlib $(call compiler,$(1)),$(statements))
 
 # The rule of a crate: CRATE, its libraries.
 define rule
@@ -52,7 +57,7 @@ $(foreach crate,$(crates),$(eval $(call rule,$(crate),$(call libraries_of,$(crat
 # The rule of a program, which is linked with the toolchain's C code. What the linker prints is shown only where it fails.
 define link
 crates/$(1)/out/$(1): $(call built,$(1))
-	@printed=$$$$('$(kit)/bin/rattle-link' --target x86_64-unknown-linux-gnu $(compiler) -o $$@ $$< \
+	@printed=$$$$('$(kit)/bin/rattle-link' --target x86_64-unknown-linux-gnu --toolchain '$(own_toolchain)' -o $$@ $$< \
 		'$(kit)/c/libos_c.a' '$(kit)/c/liblibc_c.a' 2>&1) || { echo "$$$$printed" >&2; exit 1; }
 endef
 $(foreach program,$(programs),$(eval $(call link,$(program))))

@@ -135,6 +135,33 @@ class Build(unittest.TestCase):
         self.assertTrue(all("--statements" in line for line in words[:-1]), words)
         self.assertTrue((self.top / LIBRARY).exists())
 
+    def test_another_system_has_an_object_file_of_its_own(self) -> None:
+        made = "crates/checktestdata/out/build/checktestdata.aarch64-unknown-linux-gnu.o"
+        ran = self.run_in_copy("make", "-f", "scripts/crates.mk", "TARGET=aarch64-unknown-linux-gnu", made)
+        self.assertEqual(ran.returncode, 0, ran)
+        words = self.log.read_text().splitlines()
+        self.assertIn(" --target aarch64-unknown-linux-gnu ", words[-1])
+        self.assertTrue(all("--target" not in line for line in words[:-1]), words)
+        self.assertTrue((self.top / made).exists())
+
+    def test_a_program_over_the_libraries_of_rt(self) -> None:
+        made = "crates/checktestdata/out/build/checktestdata.o"
+        ran = self.run_in_copy("make", "-f", "scripts/crates.mk", "LIBRARY_FOLDER=rlib", made)
+        self.assertEqual(ran.returncode, 0, ran)
+        self.assertIn(" ctd_tool=../../crates/ctd_tool/out/rlib/ctd_tool.rlib ", self.log.read_text().splitlines()[-1])
+        self.assertFalse((self.top / "crates/ctd_tool/out/build/ctd_tool.rlib").exists())
+
+    def test_the_module_of_a_program_stays(self) -> None:
+        compiler = self.kit / "toolchain/bin/clang"
+        compiler.parent.mkdir(parents=True)
+        compiler.write_text("#!/bin/sh\necho compiled\n")
+        compiler.chmod(0o755)
+        (self.scratch / "module.bc").write_text("a module")
+        folder = self.run_in_copy("scripts/toolchain.sh", "checktestdata").stdout.rstrip("\n")
+        ran = self.run_in_copy(f"{folder}/bin/clang", "-c", str(self.scratch / "module.bc"))
+        self.assertEqual((ran.returncode, ran.stdout), (0, "compiled\n"), ran)
+        self.assertEqual((self.top / "crates/checktestdata/out/build/checktestdata.bc").read_text(), "a module")
+
     def test_an_interrupt_ends_all(self) -> None:
         environment = {**self.environment, "STUB_SECONDS": "61"}
         with subprocess.Popen(

@@ -1,7 +1,8 @@
 #!/usr/bin/env bash
 # Sees that the definitions stand where docs/TRUST.md says, and rebuilds every proof and test from scratch (rt ci). Then it runs the program that
 # this built: on the rows of tables, with streams that are closed or full, with reads, writes and allocations failing, on the examples, as the
-# documents say, beside its companions, installed and packed, and at last on generated cases, of which a reference in Python knows the answers.
+# documents say, beside its companions, installed and packed, and at last on generated cases, of which a reference in Python knows the answers. The C
+# file of the program is made again, and what is compiled from it runs the tables too.
 # The rules of the build are tried with a stub for the prover.
 # The last line counts what passed and failed in all.
 set -u
@@ -18,6 +19,7 @@ count tests/memory_faults.py
 count rt ci
 if [ "$failed" -eq 0 ]; then
     count tests/tables.py
+    count tests/portable.py
     count tests/process.sh
     count tests/lint.py
     count tests/failing_calls.py

@@ -146,16 +146,50 @@ expect 'another prefix' test -x "$stage/opt/tools/bin/ctd-show"
 
 # Without the toolchain one line is written, whatever is asked for.
 mkdir -p "$work/bare/crates"
-cp -r Makefile HANDLES crates.txt checktestdata scripts tests embed web "$work/bare"
+cp -r Makefile HANDLES crates.txt checktestdata scripts tests embed web portable "$work/bare"
+rm -f "$work/bare/portable/checktestdata.c.xz"
 if PATH=/usr/bin:/bin command -v rt >/dev/null; then
     echo 'install: left out what is said without the toolchain: rt is in /usr/bin'
 else
-    line='the Rattle toolchain is missing (no command rt): install rattle-kit-13f to build, or take the built program from the package checktestdata-nagdimot or the archive checktestdata-VERSION-x86_64-linux-gnu.tar.gz'
+    line='the Rattle toolchain is missing (no command rt): install rattle-kit-13f to build, or take the built program from the package checktestdata-nagdimot or the archive checktestdata-VERSION-x86_64-linux.tar.gz'
     without() { (cd "$work/bare" && env PATH=/usr/bin:/bin "$@" 2>&1); }
     expect './checktestdata without the toolchain' same "checktestdata: $line" "$(without ./checktestdata p.ctd d.in)"
     for goal in build install deb dist test bench fuzz lib page test-lib test-page; do
         expect "make $goal without the toolchain" same "Makefile: *** $line.  Stop." "$(without make "$goal" | sed 's/^Makefile:[0-9]*/Makefile/')"
     done
+fi
+
+# Without the toolchain, but with a packed C file that is of these sources: the checker is compiled from it. A stub stands for the compiler.
+compiling='compiling portable/checktestdata.c.xz, made of these sources'
+copy=$work/copy
+cat >"$work/cc" <<'END'
+#!/bin/sh
+while [ $# -gt 0 ]; do
+    [ "$1" != -o ] || made=$2
+    shift
+done
+printf '#!/bin/sh\necho "compiled $*"\n' >"$made"
+chmod +x "$made"
+END
+chmod +x "$work/cc"
+here() { (cd "$copy" && env CC="$work/cc" PATH=/usr/bin:/bin "$@" 2>&1); }
+if ! PATH=/usr/bin:/bin command -v rt >/dev/null; then
+    mkdir "$copy"
+    tar --create --exclude=out --exclude=.git . | tar --extract --directory="$copy"
+    : | xz >"$copy/portable/checktestdata.c.xz"
+    here portable/sums.sh >"$copy/portable/checktestdata.c.sums"
+    expect 'the first use compiles the packed file' same "checktestdata: $compiling, in about a minute; \`make\` proves and compiles them here
+compiled a b" "$(here ./checktestdata a b)"
+    expect 'the second use does not' same 'compiled c' "$(here ./checktestdata c)"
+    expect 'make does not compile what is there' same '' "$(here make --silent)"
+    rm -r "$copy/out"
+    expect 'make compiles the packed file' same "$compiling: the Rattle toolchain, which proves them, is not here, so ctd-lint is left out" "$(here make)"
+    expect 'make install without the toolchain' here make install strip= DESTDIR="$copy/stage"
+    expect 'what it installs' same 'checktestdata ctd-cover ctd-mutate ctd-package ctd-show' "$(cd "$copy/stage/usr/local/bin" && echo *)"
+    rm -r "$copy/out"
+    echo '// another source' >>"$copy/crates/ctd_tool/src/lib.rt"
+    expect 'a packed file of other sources is not used' same "checktestdata: $line" "$(here ./checktestdata a b)"
+    expect 'make does not use it either' same "Makefile: *** $line.  Stop." "$(here make | sed 's/^Makefile:[0-9]*/Makefile/')"
 fi
 
 # Each crate of the toolchain that crates.txt names is in NOTICE.
@@ -166,27 +200,28 @@ done
 expect 'the version of the grammar for VS Code' grep -q "\"version\": \"$version.0\"" editors/vscode/package.json
 
 if has shellcheck 'the form of the scripts'; then
-    expect 'shellcheck' shellcheck -x checktestdata .ci/run scripts/*.sh packaging/*.sh tests/*.sh embed/*.sh web/*.sh
+    expect 'shellcheck' shellcheck -x checktestdata .ci/run scripts/*.sh packaging/*.sh tests/*.sh embed/*.sh web/*.sh portable/*.sh
     expect 'shellcheck of the completions' shellcheck --shell=bash completions/bash/*
 fi
 
 export OUT=$work/out
-archive=checktestdata-$version-x86_64-linux-gnu
+archive=checktestdata-$version-x86_64-linux
 if has readelf 'the archive and the package'; then
     libc=$(. packaging/common.sh && needed_libc crates/checktestdata/out/checktestdata)
-    expect 'the archive' packaging/dist.sh "$version"
+    expect 'the archive' packaging/dist.sh "$version" x86_64-linux
     cp "$OUT/$archive.tar.gz" "$work/first.tar.gz"
-    expect 'the archive again' packaging/dist.sh "$version"
+    expect 'the archive again' packaging/dist.sh "$version" x86_64-linux
     expect 'both archives are the same' cmp "$OUT/$archive.tar.gz" "$work/first.tar.gz"
     expect 'the sum of the archive' env --chdir="$OUT" sha256sum --check "$archive.tar.gz.sha256"
     tar -xzf "$OUT/$archive.tar.gz" -C "$work"
     expect 'the sums in the archive' env --chdir="$work/$archive" sha256sum --check --strict SHA256SUMS
     expect 'the program in the archive' same "checktestdata $version (whole-number profile)" "$("$work/$archive/bin/checktestdata" --version)"
     expect 'a companion in the archive' "$work/$archive/bin/ctd-show" "$work/number.ctd" "$work/right.in"
-    expect 'the archive says what it runs on' grep -q "x86-64 with the GNU C library $libc or later" "$work/$archive/README.md"
+    expect 'the program in the archive needs no library' same '' "$(readelf --dynamic --wide "$work/$archive/bin/checktestdata" | grep NEEDED)"
+    expect 'the archive says what it runs on' grep -q ': any Linux on x86-64' "$work/$archive/README.md"
     expect 'the archive has no mark that is not filled in' same '' "$(grep -o '@[A-Z]*@' "$work/$archive/README.md")"
     if has dpkg-deb 'the package'; then
-        package=$OUT/checktestdata-nagdimot_$version-1_amd64.deb
+        package=$OUT/checktestdata-nagdimot_$version-1_$(dpkg --print-architecture).deb
         field() { dpkg-deb --field "$package" "$1"; }
         expect 'the package' packaging/deb.sh "$version"
         expect 'the name of the package' same checktestdata-nagdimot "$(field Package)"

@@ -1,0 +1,13 @@
+#!/bin/sh
+# Prints the SHA-256 sums of all that decides what stands in the C file: the code of the crates that the program is made of, and the scripts
+# that make C of it. Definitions (specs/) and proofs are not among them: they decide whether the program is built, and not what it is.
+cd "$(dirname "$0")/.." || exit
+{
+    for crate in $(portable/crates.sh checktestdata); do
+        find "crates/$crate/src" -name '*.rt'
+    done
+    for name in build.sh retarget.py wasm_module.py wasm_code.py wasm_to_c.py host.h runtime.h run.c host.c library.c; do
+        echo "portable/$name"
+    done
+    echo embed/checktestdata.h
+} | LC_ALL=C sort | if command -v sha256sum >/dev/null; then xargs sha256sum; else xargs shasum -a 256; fi

@@ -1,0 +1,199 @@
+#!/usr/bin/env python3
+"""Tries the packed C file on the systems that this machine has compilers and emulators for: each program runs the rows of tests/tables/. The last
+line counts what passed and failed, and what is missing is said before. usage: portable/test.py [WAY..] (make test-portable)"""
+from __future__ import annotations
+
+import argparse
+import os
+import shutil
+import subprocess
+import sys
+import tempfile
+from collections.abc import Iterator, Sequence
+from dataclasses import dataclass
+from pathlib import Path
+
+TOP = Path(__file__).resolve().parent.parent
+PORTABLE = TOP / "portable"
+PACKED = PORTABLE / "checktestdata.c.xz"
+sys.path.insert(0, str(TOP / "tests"))
+from results import print_counts
+from tables import TABLES, all_results
+
+AARCH64 = "aarch64-unknown-linux-gnu"
+WINDOWS = ("-static", "-Wl,--stack,8388608", "-lshell32")
+# The headers of macOS that the C file includes.
+HEADERS = ["errno.h", "fcntl.h", "signal.h", "stdlib.h", "string.h", "sys/stat.h", "unistd.h"]
+# What Windows has not: words that are not UTF-8, names with a line feed or a blank at the end, longer command lines.
+NOT_ON_WINDOWS = frozenset[str]()
+
+
+@dataclass(frozen=True)
+class Way:
+    """A way to a program: its compiler with words for it, what runs the program, and which rows it cannot have."""
+
+    name: str
+    compiler: str
+    words: tuple[str, ...] = ()
+    runner: str = ""
+    without: frozenset[str] = frozenset()
+
+    def missing(self) -> list[str]:
+        return [tool for tool in (self.compiler, self.runner) if tool and not shutil.which(tool)]
+
+
+WAYS = [
+    Way("x86-64, GCC", "gcc"),
+    Way("x86-64, clang", "clang"),
+    Way("x86-64, musl, static", "musl-gcc", ("-static",)),
+    Way("x86-64, GCC with sanitizers", "gcc", ("-O1", "-fsanitize=undefined,address", "-fno-sanitize-recover")),
+    Way("aarch64, static", "aarch64-linux-gnu-gcc", ("-static",), "qemu-aarch64-static"),
+    Way("riscv64, static", "riscv64-linux-gnu-gcc", ("-static",), "qemu-riscv64-static"),
+    Way("Windows", "x86_64-w64-mingw32-gcc", WINDOWS, "wine", NOT_ON_WINDOWS),
+]
+OFFICIAL = Way("aarch64, the toolchain's own target, static", "aarch64-linux-gnu-gcc", (), "qemu-aarch64-static")
+
+
+@dataclass
+class Counts:
+    passed: int = 0
+    failed: int = 0
+
+    def add(self, name: str, fault: str) -> None:
+        self.passed, self.failed = self.passed + (not fault), self.failed + bool(fault)
+        if fault:
+            print(f"portable: {name}: {fault}", flush=True)
+
+
+def command(folder: Path, runner: str, program: Path) -> Path:
+    """A command that runs a program, by an emulator if it needs one."""
+    if not runner:
+        return program
+    script = folder / "checktestdata"
+    script.write_text(f'#!/bin/sh\nWINEDEBUG=-all exec {shutil.which(runner)} "{program}" "$@"\n')
+    script.chmod(0o755)
+    return script
+
+
+def rows_of_tables(way: Way, program: Path, counts: Counts) -> None:
+    """Runs the rows of the tables. Each of those that a system cannot have has to fail."""
+    failed = set()
+    for row, faults in all_results(program, TABLES):
+        if row in way.without:
+            failed.update([row] if faults else [])
+        else:
+            counts.add(f"{way.name}: {row}", "; ".join(faults))
+    for row in sorted(way.without - failed):
+        counts.add(f"{way.name}: {row}", "it is among those that this system cannot have, and passed")
+
+
+def compiled(way: Way, folder: Path) -> Path:
+    program = folder / f"checktestdata{'.exe' if way.runner == 'wine' else ''}.program"
+    program = program.with_suffix("") if way.runner == "wine" else program
+    subprocess.run([PORTABLE / "compile.sh", PACKED, program, *way.words], env={**os.environ, "CC": way.compiler}, check=True)
+    return program
+
+
+def official(folder: Path) -> Path:
+    """The program that the toolchain compiles for aarch64 itself, which proves it once more."""
+    built = f"crates/checktestdata/out/build/checktestdata.{AARCH64}.o"
+    subprocess.run(["make", "--silent", "-f", "scripts/crates.mk", f"TARGET={AARCH64}", built], cwd=TOP, check=True)
+    program = folder / "checktestdata.program"
+    subprocess.run([OFFICIAL.compiler, "-O2", "-static", "-Wl,--gc-sections", "-s", TOP / built, PORTABLE / "aarch64.c", "-o", program], check=True)
+    return program
+
+
+def try_way(way: Way, counts: Counts) -> None:
+    with tempfile.TemporaryDirectory() as scratch:
+        folder = Path(scratch)
+        try:
+            program = official(folder) if way is OFFICIAL else compiled(way, folder)
+        except subprocess.CalledProcessError as failure:
+            counts.add(way.name, str(failure))
+            return
+        rows_of_tables(way, command(folder, way.runner, program), counts)
+
+
+def refusals(folder: Path) -> Iterator[tuple[str, str]]:
+    """What is refused as it is compiled."""
+    for target, line in ("i686-linux-gnu", "a system of 64 bits"), ("s390x-linux-gnu", "a little-endian processor"):
+        words = ["clang", f"--target={target}", "-ffreestanding", "-fsyntax-only", folder / "checktestdata.c"]
+        ran = subprocess.run(words, capture_output=True, text=True, check=False)
+        wanted = f'#error "checktestdata needs {line}"'
+        yield f"clang for {target}", "" if ran.returncode and wanted in ran.stderr else f"no {wanted}"
+
+
+def macos(folder: Path) -> Iterator[tuple[str, str]]:
+    """The compiler's part for macOS, with stand-ins for its headers."""
+    for header in HEADERS:
+        (folder / header).parent.mkdir(exist_ok=True)
+        shutil.copy(PORTABLE / "macos/stand_in.h", folder / header)
+    for target in "arm64-apple-macos11", "x86_64-apple-macos11":
+        words = ["clang", f"--target={target}", "-O2", "-ffreestanding", "-Werror", "-isystem", folder, "-c", folder / "checktestdata.c", "-o", folder / "made.o"]
+        ran = subprocess.run(words, capture_output=True, text=True, check=False)
+        yield f"clang for {target}", ran.stderr[:2000] if ran.returncode else ""
+
+
+def can_build(python: str) -> bool:
+    """Whether a Python has what builds packages."""
+    return not subprocess.run([python, "-c", "import pip, setuptools, wheel"], capture_output=True, check=False).returncode
+
+
+def libraries(folder: Path) -> Iterator[tuple[str, str]]:
+    """The library that the C file is too, for C and by pip for Python."""
+    subprocess.run([PORTABLE / "library.sh", folder / "built"], check=True)
+    ran = subprocess.run([TOP / "embed/test.py"], env={**os.environ, "LIBRARIES": str(folder / "built")}, check=False)
+    yield "embed/test.py", f"status {ran.returncode}" if ran.returncode else ""
+    pythons = [python for python in (sys.executable, "/usr/bin/python3") if can_build(python)]
+    if not pythons:
+        print("portable: left out pip install ./embed/python: pip, setuptools and wheel are not there")
+        return
+    words = ["pip", "install", "--quiet", "--no-build-isolation", "--no-index", "--target", folder / "python", TOP / "embed/python"]
+    subprocess.run([pythons[0], "-m", *words], check=True)
+    check = "import checktestdata; print(checktestdata.check('INT(1,10) NEWLINE', b'7').message)"
+    ran_there = subprocess.run([pythons[0], "-c", check], cwd=folder / "python", capture_output=True, text=True, check=False)
+    wanted = "line 1 column 2: expected a newline (program line 1 column 11)\n"
+    yield "pip install ./embed/python", "" if ran_there.stdout == wanted else f"{ran_there.stdout!r} {ran_there.stderr}"
+
+
+def compiled_only(folder: Path) -> Iterator[tuple[str, str]]:
+    with open(folder / "checktestdata.c", "wb") as file:
+        subprocess.run([PORTABLE / "unpack.sh"], stdout=file, check=True)
+    yield from refusals(folder)
+    yield from macos(folder)
+
+
+# What is tried otherwise than by the rows of the tables.
+OTHERS = {Way("compiled only", "clang"): compiled_only, Way("libraries", "gcc"): libraries}
+
+
+def try_other(way: Way, counts: Counts) -> None:
+    with tempfile.TemporaryDirectory() as scratch:
+        try:
+            for name, fault in OTHERS[way](Path(scratch)):
+                counts.add(name, fault)
+        except subprocess.CalledProcessError as failure:
+            counts.add(way.name, str(failure))
+
+
+def main() -> int:
+    parser = argparse.ArgumentParser(description="Tries the packed C file of the checker on other systems.")
+    parser.add_argument("ways", nargs="*", metavar="WAY", help="a part of the name of a way; all, if there is none")
+    wanted = parser.parse_args().ways
+    counts = Counts()
+    for way in [*WAYS, OFFICIAL, *OTHERS]:
+        if wanted and not any(part in way.name for part in wanted):
+            continue
+        missing = way.missing() + (["rt"] if way is OFFICIAL and not shutil.which("rt") else [])
+        if missing:
+            print(f"portable: left out {way.name}: {', '.join(missing)} is not there", flush=True)
+        elif way in OTHERS:
+            try_other(way, counts)
+        else:
+            try_way(way, counts)
+            print(f"portable: {way.name}: {counts.passed} passed, {counts.failed} failed so far", flush=True)
+    return print_counts(counts.passed, counts.failed)
+
+
+if __name__ == "__main__":
+    sys.exit(main())

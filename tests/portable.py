@@ -1,0 +1,66 @@
+#!/usr/bin/env python3
+"""Sees that the packed C file of the checker is what these sources give: its sums are theirs, and made again it is the same, byte for byte. And
+compiles it, and runs the program on the rows of tests/tables/. The last line counts what passed and failed."""
+from __future__ import annotations
+
+import difflib
+import lzma
+import subprocess
+import sys
+import tempfile
+from collections.abc import Iterator, Sequence
+from concurrent.futures import ThreadPoolExecutor
+from pathlib import Path
+
+from results import TOP, print_results
+from tables import TABLES, all_results
+
+PORTABLE = TOP / "portable"
+PACKED = PORTABLE / "checktestdata.c.xz"
+SUMS = PORTABLE / "checktestdata.c.sums"
+MEND = "make portable renews the packed file"
+
+
+def output_of(*words: str | Path) -> str:
+    return subprocess.run(words, cwd=TOP, stdout=subprocess.PIPE, text=True, check=True).stdout
+
+
+def faults_of_sums() -> list[str]:
+    """The sources of which the packed file was not made."""
+    changes = difflib.ndiff(SUMS.read_text().splitlines(), output_of(PORTABLE / "sums.sh").splitlines())
+    names = {line.split()[-1] for line in changes if line[0] in "+-"}
+    return [f"{name} is not what the packed file was made of: {MEND}" for name in sorted(names)]
+
+
+def faults_of_bytes(packed: bytes, folder: Path) -> list[str]:
+    """Whether the C file is the same when it is made again. Another version of the toolchain may compile the program otherwise."""
+    kit = output_of("rt", "version").strip()
+    if kit.encode() not in packed.partition(b"\n")[0]:
+        print(f"portable: left out whether the file is the same when it is made again: it was made with another toolchain than {kit}")
+        return []
+    made = folder / "again.c"
+    ran = subprocess.run([PORTABLE / "build.sh", "checktestdata", made], cwd=TOP, check=False)
+    if ran.returncode:
+        return [f"build.sh ended with status {ran.returncode}"]
+    return [] if made.read_bytes() == packed else [f"it is another file: {MEND}"]
+
+
+def results(folder: Path) -> Iterator[tuple[str, Sequence[str]]]:
+    if not PACKED.exists():
+        yield "the packed file", [f"it is not there: {MEND}"]
+        return
+    packed = lzma.decompress(PACKED.read_bytes())
+    yield "the sources of the packed file", faults_of_sums()
+    with ThreadPoolExecutor() as pool:
+        again = pool.submit(faults_of_bytes, packed, folder)
+        program = folder / "checktestdata"
+        ran = subprocess.run([PORTABLE / "compile.sh", PACKED, program, "-Werror"], check=False)
+        yield "the compiler", [f"it ended with status {ran.returncode}"] if ran.returncode else []
+        if ran.returncode == 0:
+            yield from all_results(program, TABLES)
+        yield "the packed file, made again", again.result()
+
+
+if __name__ == "__main__":
+    with tempfile.TemporaryDirectory() as scratch:
+        sys.exit(print_results("portable", results(Path(scratch))))
