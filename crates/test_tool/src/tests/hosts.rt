@@ -34,14 +34,14 @@ impl Write for Stream<'_> {
 
 /// A host that gives its words once, and keeps a list of what it was asked for.
 #[derive(Drop)]
-struct MemoryHost<'m> {
+struct MemoryHost<'m, 'o, 'e> {
     files: MemoryFiles<'m>,
-    out: Option<&'m mut Vec<u8>>,
-    err: Option<&'m mut Vec<u8>>,
+    out: Option<&'o mut Vec<u8>>,
+    err: Option<&'e mut Vec<u8>>,
     args: Option<Result<Args, ErrorKind>>,
 }
 
-impl<'m> Files for MemoryHost<'m> {
+impl<'m> Files for MemoryHost<'m, '_, '_> {
     type File = MemoryFile<'m>;
 
     ghost opens = { λ _ _ _ _. ⊤ };
@@ -57,10 +57,10 @@ impl<'m> Files for MemoryHost<'m> {
     }
 }
 
-impl<'m> Host for MemoryHost<'m> {
-    type Out = Stream<'m>;
+impl<'o, 'e> Host for MemoryHost<'_, 'o, 'e> {
+    type Out = Stream<'o>;
 
-    type Err = Stream<'m>;
+    type Err = Stream<'e>;
 
     ghost gives_out = { λ _ _ _. ⊤ };
 
@@ -68,14 +68,14 @@ impl<'m> Host for MemoryHost<'m> {
 
     ghost gives_args = { λ _ _ _. ⊤ };
 
-    fn out(&mut self) -> Stream<'m> {
+    fn out(&mut self) -> Stream<'o> {
         self.files.note(b"<out>");
         Stream {
             text: self.out.take(),
         }
     }
 
-    fn err(&mut self) -> Stream<'m> {
+    fn err(&mut self) -> Stream<'e> {
         self.files.note(b"<err>");
         Stream {
             text: self.err.take(),
