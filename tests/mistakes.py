@@ -51,7 +51,7 @@ MISTAKES = [
         "nothing reads this variable: lsat",
     ),
     Mistake("the bounds are exchanged", "ctd-lint", "INT(9,1) NEWLINE", ["5\n"], "the least integer is above the greatest"),
-    Mistake("a test says nothing of the data", "ctd-lint", "INT(1,9,n) NEWLINE ASSERT(1<=9) REP(n) EOF END", ["5\n"], "the test is true"),
+    Mistake("a test does not depend on the data", "ctd-lint", "INT(1,9,n) NEWLINE ASSERT(1<=9) REP(n) EOF END", ["5\n"], "the test is true"),
     Mistake("`$` is meant as the end of a line", "ctd-lint", 'REP(2) REGEX("[a-z]+$") NEWLINE END', ["a\nb\n"], "$ is the end of the window"),
     Mistake(
         "a limit has one zero too many",
