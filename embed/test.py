@@ -74,6 +74,7 @@ class CLibrary(unittest.TestCase):
         self.assertEqual([line.split()[-1] for line in named.stdout.splitlines()], ["checktestdata_run"])
 
 
+@unittest.skipIf("LIBRARIES" in os.environ, "the libraries are not in embed/out")
 class Prefix(unittest.TestCase):
     """What is installed in a prefix that is no folder of the system is found by the variables that the guide names."""
 

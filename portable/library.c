@@ -1,6 +1,8 @@
-/* The system for the proved program as a library: its two files and its streams are in memory. No proof covers this file. The program opens
- * the file of the program first, and then that of the data, or it reads the data from standard input. */
-#define PROGRAM_FILE 3
+/* The system for the proved program as a library: its two files and its streams are in memory. No proof covers this file. At its start the
+ * program opens a folder once, by whose number it sees that no stream is closed. Then it opens the file of the program, and then that of the
+ * data, or it reads the data from standard input. */
+#define FIRST_FILE 3
+#define PROGRAM_FILE 4
 
 /* Bytes that are read, and how many of them were. */
 struct given {
@@ -76,7 +78,7 @@ uint8_t checktestdata_run(const char *words, size_t words_length, const void *pr
     struct call this = {.words = {words, words_length, 0},
                         .program = {program, program_length, 0},
                         .data = {testdata, testdata_length, 0},
-                        .next_file = PROGRAM_FILE};
+                        .next_file = FIRST_FILE};
     char *stack = malloc(PROGRAM_STACK);
     int32_t status = CHECKTESTDATA_NO_VERDICT;
     call = &this;

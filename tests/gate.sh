@@ -20,6 +20,7 @@ count rt ci
 if [ "$failed" -eq 0 ]; then
     count tests/tables.py
     count tests/portable.py
+    count tests/library.sh
     count tests/process.sh
     count tests/lint.py
     count tests/failing_calls.py
