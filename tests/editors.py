@@ -129,7 +129,9 @@ class Completions(unittest.TestCase):
     KEYS = [
         ("checktestdata --max\t5 pro\t da\t", ["--max-steps=5", "program.ctd", "data.in"]),
         ("checktestdata --white\t pro\t da\t", ["--whitespace-ok", "program.ctd", "data.in"]),
-        ("ctd-lint --def\tn=5 pro\t", ["--define=n=5", "program.ctd"]),
+        ("ctd-lint --def\tn=5 pro\t pro\t", ["--define=n=5", "program.ctd", "program.ctd"]),
+        ("ctd-lint --ig\tno-b\t pro\t", ["--ignore=no-bound", "program.ctd"]),
+        ("ctd-lint --ignore unread,no-b\t pro\t", ["--ignore", "unread,no-bound", "program.ctd"]),
         ("ctd-show --gc\t pro\t data.in da\t", ["--gcc", "program.ctd", "data.in", "data.in"]),
         ("ctd-mutate --only trail\t pro\t da\t", ["--only", "trailing-space", "program.ctd", "data.in"]),
         ("ctd-mutate --only plus,trail\t pro\t da\t", ["--only", "plus,trailing-space", "program.ctd", "data.in"]),
@@ -171,6 +173,8 @@ class Completions(unittest.TestCase):
                 ("checktestdata -w pro", "program.ctd"),
                 ("ctd-lint --def", "--define"),
                 ("ctd-lint pro", "program.ctd"),
+                ("ctd-lint program.ctd pro", "program.ctd"),
+                ("ctd-lint --ignore unread,no-b", "unread,no-bound"),
                 ("ctd-show --gc", "--gcc"),
                 ("ctd-show program.ctd data.in da", "data.in"),
                 ("ctd-mutate --only trail", "trailing-space"),
@@ -281,6 +285,16 @@ class Vim(unittest.TestCase):
         self.assertEqual(self.run_vim("edit open.ctd\nsilent make! right.in", value), ["checktestdata", [wanted]])
 
 
+    def test_make_goes_to_the_findings(self) -> None:
+        (self.folder / "a program.ctd").write_text('INT(1,9,n) NEWLINE\nREP(m) SPACE END\n')
+        script = "edit a\\ program.ctd\nunlet b:current_compiler\ncompiler ctd-lint\nsilent make!\nsilent cc 2"
+        value = "[map(getqflist(), {_, one -> [bufname(one.bufnr), one.lnum, one.col, one.type, one.text]}), line('.')]"
+        found, line = self.run_vim(script, value)
+        self.assertEqual([one[:4] for one in found], [["a program.ctd", 1, 1, "n"], ["a program.ctd", 2, 1, "w"]])
+        self.assertEqual([one[4].split()[-1] for one in found], ["[unread]", "[no-value]"])
+        self.assertEqual(line, 2)
+
+
 class TextMate(unittest.TestCase):
     """The grammar is read by a small reader of such grammars; its patterns are within what all regular expressions share."""
 
@@ -334,6 +348,19 @@ class TextMate(unittest.TestCase):
         ]:
             with self.subTest(part):
                 self.assertIn(part, found)
+
+    def test_the_matcher_finds_the_parts_of_a_finding(self) -> None:
+        matchers = {matcher["name"]: matcher["pattern"] for matcher in self.extension["contributes"]["problemMatchers"]}
+        pattern = matchers["ctd-lint"]
+        for line, parts in [
+            ("a b.ctd:2:13: warning: the string is empty [empty-string]", ("a b.ctd", "2", "13", "warning", "the string is empty", "empty-string")),
+            ("a.ctd:1:1: note: nothing reads this variable: n [unread]", ("a.ctd", "1", "1", "note", "nothing reads this variable: n", "unread")),
+            ("a.ctd:1:6: error: syntax error", ("a.ctd", "1", "6", "error", "syntax error", None)),
+        ]:
+            with self.subTest(line):
+                match = re.match(pattern["regexp"], line)
+                assert match is not None
+                self.assertEqual(tuple(match[pattern[part]] for part in ["file", "line", "column", "severity", "message", "code"]), parts)
 
     def test_no_example_has_a_fault(self) -> None:
         for program in programs():

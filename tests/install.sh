@@ -67,6 +67,7 @@ share/man/man1/ctd-mutate.1
 share/man/man1/ctd-show.1
 share/man/man5/checktestdata.5
 share/vim/vimfiles/compiler/checktestdata.vim
+share/vim/vimfiles/compiler/ctd-lint.vim
 share/vim/vimfiles/ftdetect/checktestdata.vim
 share/vim/vimfiles/ftplugin/checktestdata.vim
 share/vim/vimfiles/syntax/checktestdata.vim

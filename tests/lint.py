@@ -1,12 +1,14 @@
 #!/usr/bin/env python3
-"""Runs the built ctd-lint on the rows of tests/lint.toml, on all examples, and on the programs of the cookbook.
+"""Runs the built ctd-lint on the rows of tests/lint.toml, on all examples, and on the programs of the documents.
 
-A row has a program, further words of the command line, and the findings that it has to tell: the line and the column of a command, and the text of
-the warning. `{3 ab}` in a program stands for `ababab`, and each `@` in such a text for the number of its turn. A row of the table `refusals` has
-the line on standard error in place of the findings. Programs of a megabyte are timed too.
+A row has a program, further words of the command line, and the findings that it has to tell: the line and the column of a command, the kind, and the
+name of a variable. `{3 ab}` in a program stands for `ababab`, and each `@` in such a text for the number of its turn. A row of the table `refusals`
+has the line on standard error in place of the findings, and one of `calls` has several programs. What lists the kinds lists all of them. Programs of
+a megabyte are timed too.
 The last line counts passed and failed. usage: tests/lint.py [PROGRAM]"""
 from __future__ import annotations
 
+import re
 import resource
 import subprocess
 import sys
@@ -14,14 +16,12 @@ import tempfile
 import tomllib
 from collections.abc import Iterator
 from pathlib import Path
+from typing import Any
 
+from markdown_blocks import blocks
 from tables import unfolded
 
 TOP = Path(__file__).resolve().parent.parent
-sys.path.insert(0, str(TOP / "bench"))
-
-from cookbook import IDIOMS, programs  # noqa: E402
-
 LINTER = TOP / "crates/ctd_lint/out/ctd_lint"
 OUT_OF_TIME = 60
 # What a program of a megabyte may take, in processor seconds, and how often it is tried: the least counts.
@@ -29,36 +29,59 @@ TIME_LIMIT = 0.2
 TRIES = 5
 MEGABYTE = 1_048_576
 
+# Where the kinds of findings are listed, and how a line that has some of them begins.
+LISTS = {
+    "man/ctd-lint.1": ".It Cm ",
+    "docs/TUTORIAL.md": "| `",
+    "completions/bash/ctd-lint": "    local kinds=",
+    "completions/zsh/_ctd-lint": "    _values -s , kind ",
+    "completions/fish/ctd-lint.fish": "set -l kinds ",
+}
+
 # A status, and what stands on standard output and on standard error.
 Left = tuple[int, str, str]
-# A name for the report, the program, further words, and what has to be left.
+# A name for the report, the program, further words, and what has to be left. F stands for the name of the file.
 Case = tuple[str, str, list[str], Left]
 # A name for the report, a program, and the status that has to be left.
 Hostile = tuple[str, str, int]
+# What tests/lint.toml has.
+Table = dict[str, Any]
 
 
-def told(findings: list[list[object]]) -> Left:
+def told(table: Table, findings: list[list[Any]]) -> Left:
     """What a program with these findings leaves."""
-    lines = [f"program line {line} column {column}: warning: {unfolded(text)}\n" for line, column, text in findings]
-    return int(bool(lines)), "".join(lines), ""
+    lines, status = "", 0
+    for line, column, kind, *names in findings:
+        rank, text = table["kinds"][kind]
+        about = "".join(f": {unfolded(name)}" for name in names)
+        lines += f"F:{line}:{column}: {rank}: {text}{about} [{kind}]\n"
+        status = max(status, int(rank == "warning"))
+    return status, lines, ""
 
 
-def rows(table: dict[str, list[dict[str, object]]]) -> Iterator[Case]:
+def rows(table: Table) -> Iterator[Case]:
     """The rows of the table."""
     for row in table["findings"]:
-        yield f"row {row['program']}", unfolded(row["program"]), row.get("words", []), told(row["findings"])
+        yield f"row {row['program']}", unfolded(row["program"]), row.get("words", []), told(table, row["findings"])
     for row in table["refusals"]:
         yield f"row {row['program']}", unfolded(row["program"]), row.get("words", []), (2, "", row["line"] + "\n")
 
 
-def documented(table: dict[str, list[dict[str, object]]]) -> Iterator[Case]:
-    """All examples, and the programs of the cookbook: without findings but for those that the table explains."""
+def programs_of(document: Path) -> Iterator[tuple[str, str]]:
+    """The programs of a document, each by the document and the name of its file, or its line."""
+    for block in blocks(document):
+        if block.kind == "ctd":
+            yield f"{document.name} {block.file or block.number}", block.text()
+
+
+def documented(table: Table) -> Iterator[Case]:
+    """All examples, and the programs of the documents: without findings but for those that the table explains."""
     explained = {row["name"]: row["findings"] for row in table["explained"]}
     texts = {str(file.relative_to(TOP)): file.read_text() for file in sorted((TOP / "examples").rglob("*.ctd"))}
-    cookbook = programs()
-    texts.update({f"cookbook {name}": cookbook[name] for name in IDIOMS})
+    for document in sorted((TOP / "docs").glob("*.md")):
+        texts.update(programs_of(document))
     for name, text in texts.items():
-        yield name, text, [], told(explained.pop(name, []))
+        yield name, text, [], told(table, explained.pop(name, []))
     for name in explained:
         yield f"{name}, which is explained and not there", "", [], (-1, "", "")
 
@@ -66,25 +89,36 @@ def documented(table: dict[str, list[dict[str, object]]]) -> Iterator[Case]:
 def hostile() -> Iterator[Hostile]:
     """Programs of nearly a megabyte, some of which are refused."""
     yield "one command many times", "SPACE " * (MEGABYTE // 6), 0
-    yield "many names", "SET(" + ",".join(f"v{i}=0" for i in range(100_000)) + ")", 1
+    yield "many names", "SET(" + ",".join(f"v{i}=0" for i in range(100_000)) + ")", 0
     yield "many names that are read", "".join(f"ASSERT(v{i}==0)" for i in range(60_000)), 1
     yield "one long expression", "ASSERT(" + "1+" * (MEGABYTE // 2 - 8) + "1==0)", 2
     yield "one long pattern", 'REGEX("' + "[" * (MEGABYTE - 16) + '")', 2
-    yield "counts in a pattern", 'STRING("x") ' + 'REGEX("a{1,}")' * 1000, 1
+    yield "counts in a pattern", 'STRING("x") ' + 'REGEX("a{1,}")' * 1000, 0
     yield "one name many times", "SET(n=1) ASSERT(n==1) UNSET(" + ",".join("n" for _ in range(MEGABYTE // 2 - 20)) + ")", 0
 
 
 class Linter:
-    """The built program, on programs that are written to a file."""
+    """The built program, on programs that are written to files."""
 
     def __init__(self, program: Path, folder: Path) -> None:
         self.program = program
-        self.file = folder / "program.ctd"
+        self.folder = folder
+
+    def call(self, words: list[str]) -> Left:
+        done = subprocess.run([self.program, *words], cwd=self.folder, capture_output=True, text=True, timeout=OUT_OF_TIME, check=False)
+        return done.returncode, done.stdout, done.stderr
 
     def run(self, text: str, words: list[str]) -> Left:
-        self.file.write_bytes(text.encode("latin-1"))
-        done = subprocess.run([self.program, *words, self.file], capture_output=True, text=True, timeout=OUT_OF_TIME, check=False)
-        return done.returncode, done.stdout, done.stderr
+        (self.folder / "F").write_bytes(text.encode("latin-1"))
+        return self.call([*words, "F"])
+
+    def run_on(self, files: dict[str, str], words: list[str]) -> Left:
+        """What a call leaves that has these programs beside it."""
+        for file in self.folder.iterdir():
+            file.unlink()
+        for name, text in files.items():
+            (self.folder / name).write_text(text)
+        return self.call(words)
 
     def least_time(self, text: str) -> tuple[int, float]:
         """The status for a text, and the least processor time that the program took for it, in seconds."""
@@ -97,25 +131,38 @@ class Linter:
         return status, min(times)
 
 
+def listed(file: str, beginning: str) -> list[str]:
+    """The kinds that a file lists, in the order of the alphabet."""
+    lines = [line.removeprefix(beginning) for line in (TOP / file).read_text().splitlines() if line.startswith(beginning)]
+    cells = [line.split(" | ")[0] for line in lines]
+    return sorted(kind for cell in cells for kind in re.findall(r"[a-z]+(?:-[a-z]+)*", cell))
+
+
+def outcomes(linter: Linter, table: Table) -> Iterator[tuple[str, object, object]]:
+    """A name for each test, with what is wanted and what is found."""
+    for name, text, words, wanted in [*rows(table), *documented(table)]:
+        yield name, wanted, linter.run(text, words)
+    for call in table["calls"]:
+        wanted = (call["status"], call.get("out", ""), call.get("err", ""))
+        yield f"call {call['words']}", wanted, linter.run_on(call["files"], call["words"])
+    for file, beginning in LISTS.items():
+        yield f"the kinds in {file}", sorted(table["kinds"]), listed(file, beginning)
+    for name, text, wanted_status in hostile():
+        status, seconds = linter.least_time(text)
+        in_time = "in time" if seconds < TIME_LIMIT else f"after {seconds:.2f} s"
+        yield name, (wanted_status, "in time"), (status, in_time)
+
+
 def main() -> int:
     program = Path(sys.argv[1]).resolve() if len(sys.argv) > 1 else LINTER
     table = tomllib.loads((TOP / "tests/lint.toml").read_text())
     passed = failed = 0
     with tempfile.TemporaryDirectory() as folder:
-        linter = Linter(program, Path(folder))
-        for name, text, words, wanted in [*rows(table), *documented(table)]:
-            found = linter.run(text, words)
+        for name, wanted, found in outcomes(Linter(program, Path(folder)), table):
             passed += found == wanted
             failed += found != wanted
             if found != wanted:
                 print(f"lint: {name}\n    wanted {wanted}\n    found  {found}")
-        for name, text, wanted_status in hostile():
-            status, seconds = linter.least_time(text)
-            is_right = status == wanted_status and seconds < TIME_LIMIT
-            passed += is_right
-            failed += not is_right
-            if not is_right:
-                print(f"lint: {name}: status {status} after {seconds:.2f} s")
     print(f"{passed} passed, {failed} failed")
     return int(failed > 0)
 

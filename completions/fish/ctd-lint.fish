@@ -1,6 +1,8 @@
 # Completions of fish for ctd-lint.
 
+set -l kinds always-false always-true caret dollar empty-range empty-string no-bound no-value unknown-preset unreachable unread
 complete -c ctd-lint -s D -l define -x -d 'Name variables that a check is given'
+complete -c ctd-lint -l ignore -x -a "(__fish_append , $kinds)" -d 'Leave out findings of these kinds'
 complete -c ctd-lint -s h -l help -d 'Show the help'
 complete -c ctd-lint -s V -l version -d 'Show the version'
-complete -c ctd-lint -n 'not string match -q "*.ctd" -- (commandline -poc)' -k -xa '(__fish_complete_suffix .ctd)'
+complete -c ctd-lint -k -xa '(__fish_complete_suffix .ctd)'

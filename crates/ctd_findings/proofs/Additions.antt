@@ -1,5 +1,5 @@
 -- What is found piece by piece.
-use Rattle.std.proofs.Common.{◌≡◌, ◌++◌, List, Option, Some, None, ap, sym, ◌∙◌, append_assoc}
+use Rattle.std.proofs.Common.{◌≡◌, ◌++◌, List, [], Option, Some, None, ap, sym, ◌∙◌, append_assoc}
 use Rattle.ctd_findings.specs.inner.Found.{Adds}
 
 -- one part is added, and then another
@@ -14,3 +14,13 @@ abbrev pub Leads : {U : Type 0} → Option (List U) → List U → Option (List 
 Leads before all None rest = Unit {0}
 Leads None all (Some now) rest = ⊥
 Leads (Some before) all (Some now) rest = now ++ rest ≡ before ++ all
+
+-- what is found where nothing was found before
+pub found_first : {U : Type 0} (empty : Option (List U)) (part : List U) (after : Option (List U)) → empty ≡ Some [] → Adds empty part after
+    → (items : List U) → after ≡ Some items → items ≡ part
+found_first empty part None is adds items e = absurd (cc)
+found_first None part (Some after) is adds items e = absurd (cc)
+found_first (Some before) part (Some after) is adds items e =
+    let all : after ≡ items = cc in
+    let none : before ≡ [] = cc in
+    sym all ∙ adds ∙ ap (λ l. l ++ part) none

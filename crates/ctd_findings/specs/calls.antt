@@ -2,4 +2,5 @@
 pub mod Block
 pub mod Names
 pub mod Literal
+pub mod Kinds
 pub mod Findings

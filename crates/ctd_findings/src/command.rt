@@ -1,18 +1,20 @@
-//! The warnings of a command.
+//! The remarks on a command.
 
-ghost use Rattle.std.specs.Prelude.{◌≡◌, ◌++◌, OnOk, IfOk};
+ghost use Rattle.std.specs.Prelude.{◌≡◌, ◌++◌, ◌∷◌, [], OnOk, IfOk};
 ghost use Rattle.ctd_program.specs.calls.View.{command_tree, expr_tree, guard_tree, test_tree};
-ghost use Rattle.ctd_findings.specs.calls.Findings.{command_warnings, follows_endless, guard_test, is_above, is_empty_text, is_endless, is_known_true, loop_test, outline_warnings, own_warnings, truth_warning, warn_if, warn_unknown};
+ghost use Rattle.ctd_findings.specs.calls.Findings.{about, command_remarks, follows_endless, guard_test, is_above, is_empty_text, is_endless, is_known_true, is_set_aside, loop_test, outline_remarks, own_remarks, remark_if, remark_unknown, remark_unread, truth_remarks};
 ghost use Rattle.ctd_findings.specs.inner.Found.{Adds, items_in};
-ghost use Rattle.ctd_findings.specs.inner.Listed.{command_at, has_name, in_block, lack_warning, names_at, test_at};
+ghost use Rattle.ctd_findings.specs.inner.Listed.{command_at, facts_known, has_name, in_block, names_at, test_at};
 ghost use Rattle.ctd_findings.specs.calls.Names.{reads, sets, unsets};
 ghost use Rattle.ctd_findings.specs.calls.Literal.{literal_number, literal_truth, no_variables};
-ghost use Rattle.ctd_outline.specs.calls.Outline.{outline};
+ghost use Rattle.ctd_outline.specs.calls.Outline.{telling_outline};
 ghost use Rattle.std.specs.Option.{option_and_then};
 
 use crate::block::CommandInBlock;
-use crate::finding::Warning;
+use crate::finding::Remark;
 use crate::found::Found;
+use crate::kind::Kind;
+use crate::known::Known;
 use crate::literal::{literal_number, literal_truth};
 use crate::name_set::NameSet;
 use crate::names::{list_reads, list_sets, list_unsets};
@@ -22,56 +24,67 @@ use ctd_token::{Bytes, Name};
 use ctd_value::Store;
 use std::alloc::{AllocError, Global};
 
-/// What is known of a program: the names to which it, or a preset, gives values, those that it reads, and a store that has no variables.
-#[derive(Drop)]
-pub(crate) struct Known<'p> {
-    pub(crate) given: NameSet<'p>,
-    pub(crate) read: NameSet<'p>,
-    pub(crate) nothing: Store,
-}
-
-/// Adds a warning where this is so.
-fn warn_if(is_so: bool, warning: Warning, found: &mut Found<Warning>)
-    ensures adds { Adds (items_in found.old) (warn_if is_so warning) (items_in found.new) }
+/// Adds a remark where this is so.
+fn remark_if(is_so: bool, kind: Kind, found: &mut Found<Remark>)
+    ensures adds { Adds (items_in found.old) (remark_if is_so kind) (items_in found.new) }
 {
     if is_so {
-        found.add(warning);
+        found.add(Remark { kind, name: None });
     }
 }
 
-/// What nothing in a program does with a name.
-#[derive(Clone, Copy)]
-enum Lack {
-    /// Nothing gives it a value.
-    Value,
-    /// Nothing reads it.
-    Reader,
-}
-
-/// The warning for a name of which nothing does this.
-fn lack_warning(lack: Lack, name: Bytes) -> Warning
-    ensures { result ≡ lack_warning lack name }
-{
-    match lack {
-        Lack::Value => Warning::NoValue(name),
-        Lack::Reader => Warning::NeverRead(name),
-    }
-}
-
-/// Adds a warning for each name that is not known.
-fn list_unknown<'p>(
+/// Adds a remark about a name.
+fn remark_about(
     alloc: Global,
+    kind: Kind,
+    name: &Name,
+    found: &mut Found<Remark>,
+) -> Result<(), AllocError>
+    ensures adds { OnOk result (Adds (items_in found.old) (about kind name.now ∷ []) (items_in found.new)) }
+{
+    let name = Some(Bytes::copy(alloc, name.as_slice())?);
+    found.add(Remark { kind, name });
+    Ok(())
+}
+
+/// Adds a remark for each name that is not known.
+pub(crate) fn list_unknown<'p>(
+    alloc: Global,
+    kind: Kind,
     names: &[&'p Name],
     known: &NameSet<'p>,
-    lack: Lack,
-    found: &mut Found<Warning>,
+    found: &mut Found<Remark>,
 ) -> Result<(), AllocError>
-    ensures adds { OnOk result (Adds (items_in found.old) (warn_unknown (lack_warning lack) (λ name. has_name name known.now) (names_at names.now)) (items_in found.new)) }
+    ensures adds { OnOk result (Adds (items_in found.old) (remark_unknown kind (λ name. has_name name known.now) (names_at names.now)) (items_in found.new)) }
 {
     for name in names {
         if !known.contains(name) {
-            let name = Bytes::copy(alloc, name.as_slice())?;
-            found.add(lack_warning(lack, name));
+            remark_about(alloc, kind, name, found)?;
+        }
+    }
+    Ok(())
+}
+
+/// Whether a name says that nothing reads it.
+fn is_set_aside(name: &Name) -> bool
+    ensures { result ≡ is_set_aside name.now }
+{
+    let bytes = name.as_slice();
+    bytes.starts_with(b"skip") || bytes.starts_with(b"unused")
+}
+
+/// Adds a remark for each name that nothing reads, but for those that say so.
+fn list_unread_among<'p>(
+    alloc: Global,
+    names: &[&'p Name],
+    read: &NameSet<'p>,
+    found: &mut Found<Remark>,
+) -> Result<(), AllocError>
+    ensures adds { OnOk result (Adds (items_in found.old) (remark_unread (λ name. has_name name read.now) (names_at names.now)) (items_in found.new)) }
+{
+    for name in names {
+        if !(read.contains(name) || is_set_aside(name)) {
+            remark_about(alloc, Kind::Unread, name, found)?;
         }
     }
     Ok(())
@@ -125,19 +138,19 @@ fn follows_endless(
     }
 }
 
-/// Adds a warning where the truth of a test follows from its literals.
+/// Adds a remark where the truth of a test follows from its literals.
 fn list_truth(
     alloc: Global,
     t: Option<&Test>,
     nothing: &Store,
-    found: &mut Found<Warning>,
+    found: &mut Found<Remark>,
 ) -> Result<(), AllocError>
     requires { nothing.now ≡ no_variables }
-    ensures adds { OnOk result (Adds (items_in found.old) (truth_warning (option_and_then literal_truth (test_at t.entry))) (items_in found.new)) }
+    ensures adds { OnOk result (Adds (items_in found.old) (truth_remarks (option_and_then literal_truth (test_at t.entry))) (items_in found.new)) }
 {
     match truth_of(alloc, t, nothing)? {
-        Some(true) => found.add(Warning::AlwaysTrue),
-        Some(false) => found.add(Warning::AlwaysFalse),
+        Some(true) => remark_if(true, Kind::AlwaysTrue, found),
+        Some(false) => remark_if(true, Kind::AlwaysFalse, found),
         None => (),
     }
     Ok(())
@@ -168,37 +181,37 @@ fn is_empty_text(e: &Expr) -> bool
     }
 }
 
-/// Adds the warnings of a pattern, by what its outline shows.
-fn list_pattern(alloc: Global, pattern: &[u8], found: &mut Found<Warning>) -> Result<(), AllocError>
-    ensures adds { OnOk result (Adds (items_in found.old) (outline_warnings (outline pattern.now)) (items_in found.new)) }
+/// Adds the remarks of a pattern, by what its outline shows.
+fn list_pattern(alloc: Global, pattern: &[u8], found: &mut Found<Remark>) -> Result<(), AllocError>
+    ensures adds { OnOk result (Adds (items_in found.old) (outline_remarks (telling_outline pattern.now)) (items_in found.new)) }
 {
     let form = form_of(alloc, pattern)?;
-    warn_if(form.starts_with_caret, Warning::StartsWithCaret, found);
-    warn_if(form.ends_with_dollar, Warning::EndsWithDollar, found);
-    warn_if(form.is_unbounded, Warning::Unbounded, found);
+    remark_if(form.starts_with_caret, Kind::Caret, found);
+    remark_if(form.ends_with_dollar, Kind::Dollar, found);
+    remark_if(form.is_unbounded, Kind::NoBound, found);
     Ok(())
 }
 
-/// Adds the warnings that follow from a command alone.
+/// Adds the remarks that follow from a command alone.
 fn list_own(
     alloc: Global,
     command: &Command,
     nothing: &Store,
-    found: &mut Found<Warning>,
+    found: &mut Found<Remark>,
 ) -> Result<(), AllocError>
     requires { nothing.now ≡ no_variables }
-    ensures adds { OnOk result (Adds (items_in found.old) (own_warnings (command_tree command.now)) (items_in found.new)) }
+    ensures adds { OnOk result (Adds (items_in found.old) (own_remarks (command_tree command.now)) (items_in found.new)) }
 {
     match &command.action {
         Action::Space | Action::Newline | Action::Eof => Ok(()),
         Action::Set(_) | Action::Unset(_) => Ok(()),
         Action::Int(int) => {
             let is_empty = is_above(alloc, &int.low, &int.high, nothing)?;
-            warn_if(is_empty, Warning::EmptyRange, found);
+            remark_if(is_empty, Kind::EmptyRange, found);
             Ok(())
         }
         Action::String(e) => {
-            warn_if(is_empty_text(e), Warning::EmptyString, found);
+            remark_if(is_empty_text(e), Kind::EmptyString, found);
             Ok(())
         }
         Action::Regex(regex) => list_pattern(alloc, regex.literal.bytes.as_slice(), found),
@@ -208,49 +221,49 @@ fn list_own(
     }
 }
 
-/// Adds a warning for each name that a command reads or unsets and nothing gives a value.
+/// Adds a remark for each name that a command reads or unsets and nothing gives a value.
 fn list_without_value<'p>(
     alloc: Global,
     command: &'p Command,
     given: &NameSet<'p>,
-    found: &mut Found<Warning>,
+    found: &mut Found<Remark>,
 ) -> Result<(), AllocError>
-    ensures adds { OnOk result (Adds (items_in found.old) (warn_unknown Warning.NoValue (λ name. has_name name given.now) (reads (command_tree command.now) ++ unsets (command_tree command.now))) (items_in found.new)) }
+    ensures adds { OnOk result (Adds (items_in found.old) (remark_unknown Kind.NoValue (λ name. has_name name given.now) (reads (command_tree command.now) ++ unsets (command_tree command.now))) (items_in found.new)) }
 {
     let mut names = Found::new(alloc);
     list_reads(command, &mut names);
     list_unsets(command, &mut names);
     let names = names.finish()?;
-    list_unknown(alloc, names.as_slice(), given, Lack::Value, found)
+    list_unknown(alloc, Kind::NoValue, names.as_slice(), given, found)
 }
 
-/// Adds a warning for each name to which a command gives a value and that nothing reads.
+/// Adds a remark for each name to which a command gives a value and that nothing reads.
 fn list_unread<'p>(
     alloc: Global,
     command: &'p Command,
     read: &NameSet<'p>,
-    found: &mut Found<Warning>,
+    found: &mut Found<Remark>,
 ) -> Result<(), AllocError>
-    ensures adds { OnOk result (Adds (items_in found.old) (warn_unknown Warning.NeverRead (λ name. has_name name read.now) (sets (command_tree command.now))) (items_in found.new)) }
+    ensures adds { OnOk result (Adds (items_in found.old) (remark_unread (λ name. has_name name read.now) (sets (command_tree command.now))) (items_in found.new)) }
 {
     let mut names = Found::new(alloc);
     list_sets(command, &mut names);
     let names = names.finish()?;
-    list_unknown(alloc, names.as_slice(), read, Lack::Reader, found)
+    list_unread_among(alloc, names.as_slice(), read, found)
 }
 
-/// The warnings of a command.
-pub(crate) fn command_warnings<'p>(
+/// The remarks on a command.
+pub(crate) fn command_remarks<'p>(
     alloc: Global,
     entry: &CommandInBlock<'p>,
     known: &Known<'p>,
-) -> Result<Vec<Warning>, AllocError>
+) -> Result<Vec<Remark>, AllocError>
     requires { known.now.nothing ≡ no_variables }
-    ensures { IfOk result (λ found. found.items ≡ command_warnings (λ name. has_name name known.now.given) (λ name. has_name name known.now.read) (in_block entry.now)) }
+    ensures { IfOk result (λ found. found.items ≡ command_remarks (facts_known known.now) (in_block entry.now)) }
 {
     let mut found = Found::new(alloc);
     let is_unreachable = follows_endless(alloc, entry.previous, &known.nothing)?;
-    warn_if(is_unreachable, Warning::Unreachable, &mut found);
+    remark_if(is_unreachable, Kind::Unreachable, &mut found);
     list_without_value(alloc, entry.command, &known.given, &mut found)?;
     list_unread(alloc, entry.command, &known.read, &mut found)?;
     list_own(alloc, entry.command, &known.nothing, &mut found)?;

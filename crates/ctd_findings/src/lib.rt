@@ -5,12 +5,15 @@ mod block;
 mod command;
 mod finding;
 mod found;
+mod kind;
+mod known;
 mod laws;
 mod literal;
 mod name_set;
 mod names;
 mod program;
 
-pub use finding::{Finding, Warning};
+pub use finding::{Finding, Remark};
+pub use kind::{Kind, Rank};
 pub use laws::{literal_number_is_the_number, literal_truth_is_the_truth};
 pub use program::findings;

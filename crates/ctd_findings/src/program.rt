@@ -1,135 +1,101 @@
 //! The findings of a program.
 
-ghost use Rattle.std.specs.Prelude.{◌≡◌, ◌++◌, ℕ, List, OnOk, IfOk};
+ghost use Rattle.std.specs.Prelude.{◌≡◌, ◌++◌, OnOk, IfOk};
 ghost use Rattle.ctd_program.specs.calls.View.{command_trees};
-ghost use Rattle.ctd_token.specs.declared.text.Place.{Place};
-ghost use Rattle.ctd_findings.specs.calls.Findings.{findings_among, findings_at, findings_of};
-ghost use Rattle.ctd_findings.specs.inner.Found.{Adds, names_in};
-ghost use Rattle.ctd_findings.specs.inner.Listed.{has_name, in_blocks};
+ghost use Rattle.ctd_findings.specs.calls.Findings.{findings_among, findings_at, findings_in, findings_of, remark_unknown};
+ghost use Rattle.ctd_findings.specs.inner.Listed.{facts_known, has_name, in_blocks, names_at};
 ghost use Rattle.ctd_findings.specs.calls.Literal.{no_variables};
-ghost use Rattle.ctd_findings.specs.calls.Names.{all_given, all_reads, is_among, preset_names};
+ghost use Rattle.ctd_findings.specs.calls.Names.{preset_names};
+ghost use Rattle.ctd_findings.specs.declared.kind.Kind.TheVariants.{UnknownPreset};
 
 use crate::block::{CommandInBlock, all_commands};
-use crate::command::{Known, command_warnings};
-use crate::finding::{Finding, Warning};
+use crate::command::{command_remarks, list_unknown};
+use crate::finding::{Finding, Remark};
 use crate::found::Found;
+use crate::kind::Kind;
+use crate::known::{Known, known_of, list_presets, mentioned_names};
 use crate::name_set::NameSet;
-use crate::names::{list_counts, list_name, list_reads, list_sets};
 use ctd_program::{Command, Presets};
 use ctd_token::{Name, Place};
-use ctd_value::Store;
 use std::alloc::{AllocError, Global};
 
-/// Adds the names that some commands read.
-fn list_all_reads<'p>(commands: &[CommandInBlock<'p>], names: &mut Found<&'p Name>)
-    ensures adds { Adds (names_in names.old) (all_reads (in_blocks commands.now)) (names_in names.new) }
-{
-    for entry in commands {
-        list_reads(entry.command, names);
-    }
-}
+/// Where a program starts.
+const START: Place = Place { line: 1, column: 1 };
 
-/// The names that some commands read.
-fn read_names<'p>(alloc: Global, commands: &[CommandInBlock<'p>]) -> Result<NameSet<'p>, AllocError>
-    ensures members { IfOk result (λ set. (name : List ℕ) → has_name name set ≡ is_among name (all_reads (in_blocks commands.now))) }
+/// Appends remarks at a place.
+fn place_all(place: Place, remarks: Vec<Remark>, found: &mut Vec<Finding>) -> Result<(), AllocError>
+    ensures lists { OnOk result (found.new.items ≡ found.old.items ++ findings_at place remarks.items) }
 {
-    let mut names = Found::new(alloc);
-    list_all_reads(commands, &mut names);
-    NameSet::of(alloc, names.finish()?.as_slice())
-}
-
-/// Adds the names to which some commands give a value.
-fn list_given<'p>(commands: &[CommandInBlock<'p>], names: &mut Found<&'p Name>)
-    ensures adds { Adds (names_in names.old) (all_given (in_blocks commands.now)) (names_in names.new) }
-{
-    for entry in commands {
-        list_sets(entry.command, names);
-        list_counts(entry.command, names);
-    }
-}
-
-/// Adds the names of presets.
-fn list_presets<'p>(presets: &'p Presets, names: &mut Found<&'p Name>)
-    ensures adds { Adds (names_in names.old) (preset_names presets.now) (names_in names.new) }
-{
-    for preset in presets.pins() {
-        list_name(&preset.name, names);
-    }
-}
-
-/// The names to which some commands, or presets, give a value.
-fn given_names<'p>(
-    alloc: Global,
-    commands: &[CommandInBlock<'p>],
-    presets: &'p Presets,
-) -> Result<NameSet<'p>, AllocError>
-    ensures members { IfOk result (λ set. (name : List ℕ) → has_name name set ≡ is_among name (all_given (in_blocks commands.now) ++ preset_names presets.now)) }
-{
-    let mut names = Found::new(alloc);
-    list_given(commands, &mut names);
-    list_presets(presets, &mut names);
-    NameSet::of(alloc, names.finish()?.as_slice())
-}
-
-/// A store that has no variables.
-fn empty_store(alloc: Global) -> Result<Store, AllocError>
-    ensures { IfOk result (λ store. store ≡ no_variables) }
-{
-    Store::new(alloc, &Presets::none(alloc))
-}
-
-/// What is known of some commands, where these presets are given.
-fn known_of<'p>(
-    alloc: Global,
-    commands: &[CommandInBlock<'p>],
-    presets: &'p Presets,
-) -> Result<Known<'p>, AllocError>
-    ensures given { IfOk result (λ known. (name : List ℕ) → has_name name known.given ≡ is_among name (all_given (in_blocks commands.now) ++ preset_names presets.now)) }
-    ensures read { IfOk result (λ known. (name : List ℕ) → has_name name known.read ≡ is_among name (all_reads (in_blocks commands.now))) }
-    ensures nothing { IfOk result (λ known. known.nothing ≡ no_variables) }
-{
-    let nothing = empty_store(alloc)?;
-    let given = given_names(alloc, commands, presets)?;
-    let read = read_names(alloc, commands)?;
-    Ok(Known {
-        given,
-        read,
-        nothing,
-    })
-}
-
-/// Appends warnings at a place.
-fn place_all(
-    place: Place,
-    warnings: Vec<Warning>,
-    found: &mut Vec<Finding>,
-) -> Result<(), AllocError>
-    ensures lists { OnOk result (found.new.items ≡ found.old.items ++ findings_at place warnings.items) }
-{
-    for warning in warnings {
-        found.push(Finding { place, warning })?;
+    for remark in remarks {
+        found.push(Finding { place, remark })?;
     }
     Ok(())
 }
 
-/// The findings of some commands.
-fn findings_among<'p>(
+/// The names of presets.
+fn names_of<'p>(alloc: Global, presets: &'p Presets) -> Result<Vec<&'p Name>, AllocError>
+    ensures { IfOk result (λ names. names_at names.items ≡ preset_names presets.now) }
+{
+    let mut names = Found::new(alloc);
+    list_presets(presets, &mut names);
+    names.finish()
+}
+
+/// The remarks on presets with names that the program nowhere mentions.
+fn preset_remarks<'p>(
+    alloc: Global,
+    presets: &'p Presets,
+    mentioned: &NameSet<'p>,
+) -> Result<Vec<Remark>, AllocError>
+    ensures { IfOk result (λ found. found.items ≡ remark_unknown UnknownPreset (λ name. has_name name mentioned.now) (preset_names presets.now)) }
+{
+    let names = names_of(alloc, presets)?;
+    let mut found = Found::new(alloc);
+    list_unknown(
+        alloc,
+        Kind::UnknownPreset,
+        names.as_slice(),
+        mentioned,
+        &mut found,
+    )?;
+    found.finish()
+}
+
+/// Appends the findings of some commands.
+fn list_among<'p>(
     alloc: Global,
     commands: &[CommandInBlock<'p>],
     known: &Known<'p>,
-) -> Result<Vec<Finding>, AllocError>
+    found: &mut Vec<Finding>,
+) -> Result<(), AllocError>
     requires { known.now.nothing ≡ no_variables }
-    ensures { IfOk result (λ found. found.items ≡ findings_among (λ name. has_name name known.now.given) (λ name. has_name name known.now.read) (in_blocks commands.now)) }
+    ensures lists { OnOk result (found.new.items ≡ found.old.items ++ findings_among (facts_known known.now) (in_blocks commands.now)) }
 {
-    let mut found = Vec::new(alloc);
     for entry in commands {
-        let warnings = command_warnings(alloc, entry, known)?;
-        place_all(entry.command.place, warnings, &mut found)?;
+        let remarks = command_remarks(alloc, entry, known)?;
+        place_all(entry.command.place, remarks, found)?;
     }
+    Ok(())
+}
+
+/// The findings of commands, where these presets are given.
+fn findings_in<'p>(
+    alloc: Global,
+    commands: &[CommandInBlock<'p>],
+    presets: &'p Presets,
+) -> Result<Vec<Finding>, AllocError>
+    ensures { IfOk result (λ found. found.items ≡ findings_in (in_blocks commands.now) presets.now) }
+{
+    let mentioned = mentioned_names(alloc, commands)?;
+    let remarks = preset_remarks(alloc, presets, &mentioned)?;
+    let mut found = Vec::new(alloc);
+    place_all(START, remarks, &mut found)?;
+    let known = known_of(alloc, commands, presets)?;
+    list_among(alloc, commands, &known, &mut found)?;
     Ok(found)
 }
 
-/// The findings of a program, where these presets are given, in the order of the text.
+/// The findings of a program, where these presets are given: those of the presets, and then those of the commands in the order of the text.
 pub fn findings<'p>(
     alloc: Global,
     commands: &'p [Command],
@@ -138,6 +104,5 @@ pub fn findings<'p>(
     ensures { IfOk result (λ found. found.items ≡ findings_of (command_trees commands.now) presets.now) }
 {
     let entries = all_commands(alloc, commands)?;
-    let known = known_of(alloc, entries.as_slice(), presets)?;
-    findings_among(alloc, entries.as_slice(), &known)
+    findings_in(alloc, entries.as_slice(), presets)
 }

@@ -1,4 +1,5 @@
 -- What only the proofs of this crate use.
 pub mod CommandLine
+pub mod Text
 pub mod Report
 pub mod FileReport

@@ -1,14 +1,16 @@
 //! The words of the command line.
 
 ghost use Rattle.std.specs.Prelude.{◌≡◌, IfOk, Some, codes, map, option_map};
-ghost use Rattle.clap.specs.Words.{FailsBy, app_of, fault_of, first_of, found_of, matches_of, rows_of, rule_of};
-ghost use Rattle.ctd_arguments.specs.CommandLine.{define_rule, program_rule};
+ghost use Rattle.clap.specs.Words.{FailsBy, all_of, app_of, fault_of, first_of, found_of, matches_of, rows_of, rule_of};
+ghost use Rattle.ctd_arguments.specs.CommandLine.{define_rule};
 ghost use Rattle.ctd_arguments.specs.inner.RequiredProgram.{IsLocal};
 ghost use Rattle.ctd_arguments.specs.Settings.{ArePresetsOf};
-ghost use Rattle.ctd_lint.specs.inner.CommandLine.{IsLintSetup, linter};
+ghost use Rattle.ctd_findings.specs.calls.Kinds.{kind_named};
+ghost use Rattle.ctd_lint.specs.inner.CommandLine.{AreKindsOf, IsLintSetup, ignore_rule, linter, parts, programs_rule};
 
 use clap::error::ErrorKind;
 use clap::{Arg, ArgAction, ArgMatches, Command, Error};
+use ctd_findings::Kind;
 use ctd_program::{PresetFault, Presets};
 use ctd_token::Bytes;
 use std::alloc::{AllocError, Global};
@@ -17,19 +19,23 @@ use std::str::from_utf8;
 /// What the command line asks for.
 #[derive(Drop)]
 pub(crate) struct LintSetup {
-    /// The name of the program's file.
-    pub(crate) program: Bytes,
+    /// The names of the programs' files.
+    pub(crate) programs: Vec<Bytes>,
     /// The names that presets give values.
     pub(crate) presets: Presets,
+    /// The kinds of findings that are left out.
+    pub(crate) ignored: Vec<Kind>,
 }
 
 /// Why the words ask for no program.
-#[derive(Clone, Copy, PartialEq, Eq, Debug)]
+#[derive(Drop)]
 pub(crate) enum LintFault {
     /// The words are not those of a command line of this program.
     Words,
     /// The text of the presets spells none.
     BadPreset,
+    /// There is no kind of findings of this name.
+    UnknownKind(Bytes),
     /// The help is asked for.
     Help,
     /// The version is asked for.
@@ -55,21 +61,35 @@ fn define_option<'a>(alloc: Global) -> Arg<'a>
         .short('D')
 }
 
-/// The name of the program's file, which has to be there.
-fn program_name<'a>(alloc: Global) -> Arg<'a>
-    ensures rule { rule_of result ≡ program_rule }
+/// The option of the kinds that are left out.
+fn ignore_option<'a>(alloc: Global) -> Arg<'a>
+    ensures rule { rule_of result ≡ ignore_rule }
+    ensures local { IsLocal result }
+{
+    Arg::new(alloc, "ignore")
+        .long("ignore")
+        .action(ArgAction::Set)
+}
+
+/// The names of the programs' files, of which one has to be there.
+fn program_names<'a>(alloc: Global) -> Arg<'a>
+    ensures rule { rule_of result ≡ programs_rule }
     ensures local { IsLocal result }
 {
     Arg::new(alloc, "PROGRAM")
         .required(true)
-        .action(ArgAction::Set)
+        .action(ArgAction::Append)
 }
 
 /// The command line of ctd-lint.
 fn command<'a>(alloc: Global) -> Result<Command<'a>, AllocError>
     ensures linter { IfOk result (λ c. app_of c ≡ linter) }
 {
-    let arguments = vec![in alloc; define_option(alloc), program_name(alloc)]?;
+    let arguments = vec![in alloc;
+        define_option(alloc),
+        ignore_option(alloc),
+        program_names(alloc),
+    ]?;
     Command::new(alloc, "ctd-lint")
         .version("1.0")
         .args(arguments)
@@ -116,6 +136,13 @@ fn value_of<'a>(matches: &ArgMatches<'a>, name: &str) -> Option<&'a str>
     matches.get_str(name)
 }
 
+/// The values that the words give to an option or an argument, if it is there.
+fn values_of<'m, 'a>(matches: &'m ArgMatches<'a>, name: &str) -> Option<&'m [&'a str]>
+    ensures { option_map (λ vs. map (λ v. v.now) vs.now) result ≡ all_of name.now (rows_of (found_of matches.now)) }
+{
+    matches.get_strs(name)
+}
+
 /// The presets.
 fn presets_of(alloc: Global, text: Option<&str>) -> Result<Presets, LintFault>
     ensures { IfOk result (ArePresetsOf (option_map (λ t. t.now) text.entry)) }
@@ -130,20 +157,83 @@ fn presets_of(alloc: Global, text: Option<&str>) -> Result<Presets, LintFault>
     }
 }
 
-/// What is asked for by the values that clap found.
-fn setup_of(alloc: Global, matches: &ArgMatches<'_>) -> Result<LintSetup, LintFault>
-    ensures program { IfOk result (λ s. first_of (codes "PROGRAM") (rows_of (found_of matches.now)) ≡ Some s.program) }
-    ensures presets { IfOk result (λ s. ArePresetsOf (first_of (codes "define") (rows_of (found_of matches.now))) s.presets) }
+/// The parts of a text between commas.
+fn parts_of<'t>(alloc: Global, text: &'t str) -> Result<Vec<&'t str>, AllocError>
+    ensures { IfOk result (λ found. map (λ part. part.now) found.items ≡ parts text.now) }
 {
-    let Some(program) = value_of(matches, "PROGRAM") else {
-        return Err(LintFault::Words);
-    };
-    let program = Bytes::copy(alloc, program.as_bytes())?;
-    let presets = presets_of(alloc, value_of(matches, "define"))?;
-    Ok(LintSetup { program, presets })
+    text.split(',').collect(alloc)
 }
 
-/// What the words ask for: after the program's own name the option of the presets, and PROGRAM.
+/// The kinds of some names.
+fn kinds_named(alloc: Global, names: &[&str]) -> Result<Vec<Kind>, LintFault>
+    ensures { IfOk result (λ kinds. map Some kinds.items ≡ map kind_named (map (λ name. name.now) names.now)) }
+{
+    let mut kinds = Vec::new(alloc);
+    for name in names {
+        let Some(kind) = Kind::named(name) else {
+            return Err(LintFault::UnknownKind(Bytes::copy(alloc, name.as_bytes())?));
+        };
+        let Ok(()) = kinds.push(kind) else {
+            return Err(LintFault::Memory);
+        };
+    }
+    Ok(kinds)
+}
+
+/// The kinds that are left out.
+fn kinds_of(alloc: Global, text: Option<&str>) -> Result<Vec<Kind>, LintFault>
+    ensures { IfOk result (λ kinds. AreKindsOf (option_map (λ t. t.now) text.entry) kinds.items) }
+{
+    match text {
+        None => Ok(Vec::new(alloc)),
+        Some(text) => {
+            let parts = parts_of(alloc, text)?;
+            kinds_named(alloc, parts.as_slice())
+        }
+    }
+}
+
+/// Copies of some names.
+fn copies_of(alloc: Global, names: &[&str]) -> Result<Vec<Bytes>, LintFault>
+    ensures { IfOk result (λ copies. copies.items ≡ map (λ name. name.now) names.now) }
+{
+    let mut copies = Vec::new(alloc);
+    for name in names {
+        let copy = Bytes::copy(alloc, name.as_bytes())?;
+        let Ok(()) = copies.push(copy) else {
+            return Err(LintFault::Memory);
+        };
+    }
+    Ok(copies)
+}
+
+/// The names of the programs' files.
+fn programs_of(alloc: Global, matches: &ArgMatches<'_>) -> Result<Vec<Bytes>, LintFault>
+    ensures { IfOk result (λ programs. all_of (codes "PROGRAM") (rows_of (found_of matches.now)) ≡ Some programs.items) }
+{
+    match values_of(matches, "PROGRAM") {
+        Some(names) => copies_of(alloc, names),
+        None => Err(LintFault::Words),
+    }
+}
+
+/// What is asked for by the values that clap found.
+fn setup_of(alloc: Global, matches: &ArgMatches<'_>) -> Result<LintSetup, LintFault>
+    ensures programs { IfOk result (λ s. all_of (codes "PROGRAM") (rows_of (found_of matches.now)) ≡ Some s.programs.items) }
+    ensures presets { IfOk result (λ s. ArePresetsOf (first_of (codes "define") (rows_of (found_of matches.now))) s.presets) }
+    ensures ignored { IfOk result (λ s. AreKindsOf (first_of (codes "ignore") (rows_of (found_of matches.now))) s.ignored.items) }
+{
+    let programs = programs_of(alloc, matches)?;
+    let presets = presets_of(alloc, value_of(matches, "define"))?;
+    let ignored = kinds_of(alloc, value_of(matches, "ignore"))?;
+    Ok(LintSetup {
+        programs,
+        presets,
+        ignored,
+    })
+}
+
+/// What the words ask for: after the program's own name the two options, and PROGRAM once or more.
 pub(crate) fn settings(alloc: Global, words: &[Bytes]) -> Result<LintSetup, LintFault>
     ensures setup { IfOk result (IsLintSetup words.now) }
 {

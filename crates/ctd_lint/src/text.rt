@@ -1,44 +1,64 @@
-//! How findings are written.
+//! How findings and faults are written: as compilers do, so that editors find their places.
 
 ghost use Rattle.std.specs.Prelude.{◌≡◌, ◌++◌, decimal, OnOk, IfOk};
-ghost use Rattle.ctd_token.specs.FaultText.{place_text};
-ghost use Rattle.ctd_lint.specs.inner.Report.{finding_line, findings_lines, fixed_text, warning_text};
+ghost use Rattle.ctd_lint.specs.inner.Text.{error_line, fault_place_text, finding_line, findings_lines, is_ignored, kept, kind_text, name_text, open_line, place_text, rank_text, remark_text};
 
-use ctd_findings::{Finding, Warning};
-use ctd_token::Place;
+use ctd_findings::{Finding, Kind, Rank, Remark};
+use ctd_token::{Bytes, LoadFault, Place};
 use itoa::Buffer;
 use std::alloc::{AllocError, Global};
 
-/// The text of a warning that names no variable.
-fn fixed_text(warning: &Warning) -> &'static str
-    ensures { result.now ≡ fixed_text warning.now }
+/// What a kind of findings says, without the name of a variable.
+fn kind_text(kind: Kind) -> &'static str
+    ensures { result.now ≡ kind_text kind }
 {
-    match warning {
-        Warning::NoValue(_) => "nothing gives this name a value: ",
-        Warning::NeverRead(_) => "nothing reads this variable: ",
-        Warning::AlwaysTrue => "the test is true whatever the data are",
-        Warning::AlwaysFalse => "the test is false whatever the data are",
-        Warning::EmptyRange => "the least integer is above the greatest",
-        Warning::EmptyString => "the string is empty",
-        Warning::StartsWithCaret => "a match always begins here, so ^ has no effect",
-        Warning::EndsWithDollar => "$ is the end of the window, not of a line",
-        Warning::Unbounded => "the pattern has no bound on its length",
-        Warning::Unreachable => "never reached: the loop before does not end",
+    match kind {
+        Kind::UnknownPreset => "the program does not mention this name",
+        Kind::Unreachable => "never reached: the loop before does not end",
+        Kind::NoValue => "nothing gives this name a value (give it a default by SET, or one by -D)",
+        Kind::Unread => "nothing reads this variable",
+        Kind::AlwaysTrue => "the test is true whatever the data are",
+        Kind::AlwaysFalse => "the test is false whatever the data are",
+        Kind::EmptyRange => "the least integer is above the greatest",
+        Kind::EmptyString => "the string is empty",
+        Kind::Caret => "a match always begins here, so ^ has no effect",
+        Kind::Dollar => "$ is the end of the window, not of a line",
+        Kind::NoBound => "the pattern has no bound on its length",
     }
 }
 
-/// Appends the text of a warning.
-fn write_warning(warning: &Warning, text: &mut Vec<u8>) -> Result<(), AllocError>
-    ensures { OnOk result (text.new.items ≡ text.old.items ++ warning_text warning.now) }
+/// The word of a rank.
+fn rank_text(rank: Rank) -> &'static str
+    ensures { result.now ≡ rank_text rank }
 {
-    text.extend_from_slice(fixed_text(warning).as_bytes())?;
-    match warning {
-        Warning::NoValue(name) => text.extend_from_slice(name.as_slice()),
-        Warning::NeverRead(name) => text.extend_from_slice(name.as_slice()),
-        Warning::AlwaysTrue | Warning::AlwaysFalse | Warning::EmptyRange => Ok(()),
-        Warning::EmptyString | Warning::StartsWithCaret | Warning::EndsWithDollar => Ok(()),
-        Warning::Unbounded | Warning::Unreachable => Ok(()),
+    match rank {
+        Rank::Note => "note",
+        Rank::Warning => "warning",
     }
+}
+
+/// Appends the name that a remark is about, if there is one.
+fn write_name(name: &Option<Bytes>, text: &mut Vec<u8>) -> Result<(), AllocError>
+    ensures { OnOk result (text.new.items ≡ text.old.items ++ name_text name.now) }
+{
+    let Some(name) = name else {
+        return Ok(());
+    };
+    text.extend_from_slice(b": ")?;
+    text.extend_from_slice(name.as_slice())
+}
+
+/// Appends what a remark says, with the name of its kind.
+fn write_remark(remark: &Remark, text: &mut Vec<u8>) -> Result<(), AllocError>
+    ensures { OnOk result (text.new.items ≡ text.old.items ++ remark_text remark.now) }
+{
+    text.extend_from_slice(rank_text(remark.kind.rank()).as_bytes())?;
+    text.extend_from_slice(b": ")?;
+    text.extend_from_slice(kind_text(remark.kind).as_bytes())?;
+    write_name(&remark.name, text)?;
+    text.extend_from_slice(b" [")?;
+    text.extend_from_slice(remark.kind.name().as_bytes())?;
+    text.extend_from_slice(b"]\n")
 }
 
 /// Appends a number.
@@ -48,35 +68,88 @@ fn write_number(number: u32, text: &mut Vec<u8>) -> Result<(), AllocError>
     text.extend_from_slice(Buffer::new().format(number).as_bytes())
 }
 
-/// Appends a place.
+/// Appends a place behind the name of a file.
 fn write_place(place: Place, text: &mut Vec<u8>) -> Result<(), AllocError>
     ensures { OnOk result (text.new.items ≡ text.old.items ++ place_text place) }
 {
-    text.extend_from_slice(b"program line ")?;
+    text.push(b':')?;
     write_number(place.line, text)?;
-    text.extend_from_slice(b" column ")?;
+    text.push(b':')?;
     write_number(place.column, text)?;
     Ok(())
 }
 
-/// Appends the line of a finding.
-fn write_finding(finding: &Finding, text: &mut Vec<u8>) -> Result<(), AllocError>
-    ensures { OnOk result (text.new.items ≡ text.old.items ++ finding_line finding.now) }
+/// Appends the line of a finding in a file.
+fn write_finding(file: &[u8], finding: &Finding, text: &mut Vec<u8>) -> Result<(), AllocError>
+    ensures { OnOk result (text.new.items ≡ text.old.items ++ finding_line file.now finding.now) }
 {
+    text.extend_from_slice(file)?;
     write_place(finding.place, text)?;
-    text.extend_from_slice(b": warning: ")?;
-    write_warning(&finding.warning, text)?;
-    text.push(b'\n')?;
-    Ok(())
+    text.extend_from_slice(b": ")?;
+    write_remark(&finding.remark, text)
 }
 
-/// The lines of findings.
-pub(crate) fn findings_text(alloc: Global, found: &[Finding]) -> Result<Vec<u8>, AllocError>
-    ensures { IfOk result (λ text. text.items ≡ findings_lines found.now) }
+/// Whether findings of a kind are left out.
+pub(crate) fn is_ignored(kind: Kind, ignored: &[Kind]) -> bool
+    ensures { result ≡ is_ignored ignored.now kind }
+{
+    for left_out in ignored {
+        if left_out.name() == kind.name() {
+            return true;
+        }
+    }
+    false
+}
+
+/// The lines of the findings in a file, but for those of kinds that are left out.
+pub(crate) fn findings_text(
+    alloc: Global,
+    file: &[u8],
+    found: &[Finding],
+    ignored: &[Kind],
+) -> Result<Vec<u8>, AllocError>
+    ensures { IfOk result (λ text. text.items ≡ findings_lines file.now (kept ignored.now found.now)) }
 {
     let mut text = Vec::new(alloc);
     for finding in found {
-        write_finding(finding, &mut text)?;
+        if !is_ignored(finding.remark.kind, ignored) {
+            write_finding(file, finding, &mut text)?;
+        }
     }
+    Ok(text)
+}
+
+/// Appends the place of a fault, where it has one.
+fn write_fault_place(place: Option<Place>, text: &mut Vec<u8>) -> Result<(), AllocError>
+    ensures { OnOk result (text.new.items ≡ text.old.items ++ fault_place_text place) }
+{
+    match place {
+        Some(place) => write_place(place, text),
+        None => Ok(()),
+    }
+}
+
+/// The line of a program that is refused.
+pub(crate) fn error_text(
+    alloc: Global,
+    file: &[u8],
+    fault: &LoadFault,
+) -> Result<Vec<u8>, AllocError>
+    ensures { IfOk result (λ text. text.items ≡ error_line file.now fault.now) }
+{
+    let mut text = file.to_vec(alloc)?;
+    write_fault_place(fault.place, &mut text)?;
+    text.extend_from_slice(b": error: ")?;
+    text.extend_from_slice(fault.kind.text().as_bytes())?;
+    text.push(b'\n')?;
+    Ok(text)
+}
+
+/// The line of a program that cannot be opened.
+pub(crate) fn open_text(alloc: Global, file: &[u8]) -> Result<Vec<u8>, AllocError>
+    ensures { IfOk result (λ text. text.items ≡ open_line file.now) }
+{
+    let mut text = file.to_vec(alloc)?;
+    text.extend_from_slice(b": error: cannot open\n")?;
     Ok(text)
 }

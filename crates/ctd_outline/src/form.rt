@@ -1,7 +1,7 @@
 //! The form of a pattern, by the bytes of its literal.
 
 ghost use Rattle.std.specs.Prelude.{◌≡◌, IfOk};
-ghost use Rattle.ctd_outline.specs.calls.Outline.{ends_with, is_open_count, next_part, opens, outline, repeats_unbounded, starts_with};
+ghost use Rattle.ctd_outline.specs.calls.Outline.{ends_with, has_special_group, is_in_count, is_open_count, is_outside, is_special_group, is_unclear, next_part, opens, outline, part_along, part_behind, part_inside, repeats_unbounded, starts_with, telling_outline};
 
 use std::alloc::{AllocError, Global};
 
@@ -16,42 +16,122 @@ pub struct Form {
     pub is_unbounded: bool,
 }
 
-/// Where a byte of a pattern stands.
+/// How a byte of a pattern stands to the bytes in front of it.
 #[derive(Clone, Copy)]
-pub(crate) enum Part {
-    /// Outside of escapes and classes.
-    Outside,
+pub(crate) enum Position {
+    /// Like most bytes.
+    Plain,
     /// Behind a backslash.
     Escaped,
     /// First in a class.
-    ClassStart,
+    First,
     /// First in a class, behind `^`.
-    ClassNegated,
-    /// Further on in a class.
-    Class,
-    /// Behind a backslash in a class.
-    ClassEscaped,
+    Negated,
+    /// Behind a hyphen in a class.
+    Dashed,
+    /// Behind what leaves open where a class ends.
+    Unclear,
+}
+
+/// Where a byte of a pattern stands.
+#[derive(Clone, Copy)]
+pub(crate) struct Part {
+    /// In how many classes it stands.
+    pub(crate) depth: u8,
+    /// How it stands to the bytes in front of it.
+    pub(crate) position: Position,
+}
+
+/// How many classes may stand inside one another. The patterns of programs nest no deeper.
+const DEEPEST: u8 = 250;
+
+/// Where a pattern begins.
+const START: Part = Part {
+    depth: 0,
+    position: Position::Plain,
+};
+
+/// Where the byte behind an opening bracket stands.
+fn part_inside(depth: u8) -> Part
+    ensures { result ≡ part_inside depth }
+{
+    if depth < DEEPEST {
+        Part {
+            depth: depth + 1,
+            position: Position::First,
+        }
+    } else {
+        Part {
+            depth,
+            position: Position::Unclear,
+        }
+    }
+}
+
+/// Where the byte behind a byte stands that opens and closes nothing.
+fn part_along(depth: u8, byte: u8) -> Part
+    ensures { result ≡ part_along depth byte }
+{
+    let position = if depth > 0 && byte == b'-' {
+        Position::Dashed
+    } else {
+        Position::Plain
+    };
+    Part { depth, position }
+}
+
+/// Where the byte behind a byte stands, whatever a closing bracket does there.
+fn part_behind(depth: u8, byte: u8) -> Part
+    ensures { result ≡ part_behind depth byte }
+{
+    match byte {
+        b'\\' => Part {
+            depth,
+            position: Position::Escaped,
+        },
+        b'[' => part_inside(depth),
+        _ => part_along(depth, byte),
+    }
 }
 
 /// Where the byte behind this one stands.
 fn next_part(part: Part, byte: u8) -> Part
     ensures { result ≡ next_part part byte }
 {
-    match part {
-        Part::Outside if byte == b'\\' => Part::Escaped,
-        Part::Outside if byte == b'[' => Part::ClassStart,
-        Part::Outside => Part::Outside,
-        Part::Escaped => Part::Outside,
-        Part::ClassStart if byte == b'\\' => Part::ClassEscaped,
-        Part::ClassStart if byte == b'^' => Part::ClassNegated,
-        Part::ClassStart => Part::Class,
-        Part::ClassNegated if byte == b'\\' => Part::ClassEscaped,
-        Part::ClassNegated => Part::Class,
-        Part::Class if byte == b'\\' => Part::ClassEscaped,
-        Part::Class if byte == b']' => Part::Outside,
-        Part::Class => Part::Class,
-        Part::ClassEscaped => Part::Class,
+    let depth = part.depth;
+    match part.position {
+        Position::Plain | Position::Dashed if byte == b']' => Part {
+            depth: depth.saturating_sub(1),
+            position: Position::Plain,
+        },
+        Position::First if byte == b'^' => Part {
+            depth,
+            position: Position::Negated,
+        },
+        Position::Dashed if byte == b'[' => Part {
+            depth,
+            position: Position::Unclear,
+        },
+        Position::Plain | Position::First | Position::Negated | Position::Dashed => {
+            part_behind(depth, byte)
+        }
+        Position::Escaped => Part {
+            depth,
+            position: Position::Plain,
+        },
+        Position::Unclear => part,
     }
+}
+
+/// Whether it stays open where a class ends.
+fn is_unclear(pattern: &[u8]) -> bool
+    ensures { result ≡ is_unclear pattern.now }
+{
+    let mut part = START;
+    for byte in pattern {
+        part = next_part(part, *byte);
+    }
+    matches!(part.position, Position::Unclear)
 }
 
 /// Whether a byte that stands outside opens an escape or a class.
@@ -61,14 +141,21 @@ fn opens(byte: u8) -> bool
     byte == b'\\' || byte == b'['
 }
 
+/// Whether a byte that stands so is in no escape and in no class.
+fn is_outside(part: Part) -> bool
+    ensures { result ≡ is_outside part }
+{
+    part.depth == 0 && matches!(part.position, Position::Plain)
+}
+
 /// The outline of a pattern: a point in place of each escape and of each class.
 fn outline(alloc: Global, pattern: &[u8]) -> Result<Vec<u8>, AllocError>
     ensures { IfOk result (λ o. o.items ≡ outline pattern.now) }
 {
     let mut outlined = Vec::new(alloc);
-    let mut part = Part::Outside;
+    let mut part = START;
     for byte in pattern {
-        if let Part::Outside = part {
+        if is_outside(part) {
             outlined.push(if opens(*byte) { b'.' } else { *byte })?;
         }
         part = next_part(part, *byte);
@@ -96,12 +183,19 @@ fn ends_with(byte: u8, outline: &[u8]) -> bool
     }
 }
 
-/// Whether digits come, and then `,}`.
+/// Whether a byte may stand in a count before its comma: a digit or a blank.
+fn is_in_count(byte: u8) -> bool
+    ensures { result ≡ is_in_count byte }
+{
+    byte.is_ascii_digit() || byte == b' ' || (9 <= byte && byte <= 13)
+}
+
+/// Whether digits come, perhaps among blanks, and then `,}`.
 fn is_open_count(outline: &[u8]) -> bool
     ensures { result ≡ is_open_count outline.now }
 {
     for (i, byte) in outline.iter().enumerate() {
-        if !byte.is_ascii_digit() {
+        if !is_in_count(*byte) {
             return *byte == b',' && starts_with(b'}', &outline[i + 1..]);
         }
     }
@@ -123,13 +217,47 @@ fn repeats_unbounded(outline: &[u8]) -> bool
     false
 }
 
-/// What the outline of a pattern shows. The outline is the bytes of the pattern, with a point in place of each escape and of each class.
-pub fn form_of(alloc: Global, pattern: &[u8]) -> Result<Form, AllocError>
-    ensures caret { IfOk result (λ form. form.starts_with_caret ≡ starts_with 94 (outline pattern.now)) }
-    ensures dollar { IfOk result (λ form. form.ends_with_dollar ≡ ends_with 36 (outline pattern.now)) }
-    ensures unbounded { IfOk result (λ form. form.is_unbounded ≡ repeats_unbounded (outline pattern.now)) }
+/// Whether `?` comes, and then no `:`.
+fn is_special_group(outline: &[u8]) -> bool
+    ensures { result ≡ is_special_group outline.now }
+{
+    match outline {
+        [b'?', rest @ ..] => !starts_with(b':', rest),
+        _ => false,
+    }
+}
+
+/// Whether a group with flags or a name stands somewhere: `(?`, and then no `:`.
+fn has_special_group(outline: &[u8]) -> bool
+    ensures { result ≡ has_special_group outline.now }
+{
+    for (i, byte) in outline.iter().enumerate() {
+        if *byte == b'(' && is_special_group(&outline[i + 1..]) {
+            return true;
+        }
+    }
+    false
+}
+
+/// The outline of a pattern where it tells the form, and else nothing.
+fn telling_outline(alloc: Global, pattern: &[u8]) -> Result<Vec<u8>, AllocError>
+    ensures { IfOk result (λ o. o.items ≡ telling_outline pattern.now) }
 {
     let outline = outline(alloc, pattern)?;
+    if is_unclear(pattern) || has_special_group(outline.as_slice()) {
+        return Ok(Vec::new(alloc));
+    }
+    Ok(outline)
+}
+
+/// What the outline of a pattern shows. The outline is the bytes of the pattern, with a point in place of each escape and of each class. It shows
+/// nothing where a group has flags or a name, or where `-[` stands in a class.
+pub fn form_of(alloc: Global, pattern: &[u8]) -> Result<Form, AllocError>
+    ensures caret { IfOk result (λ form. form.starts_with_caret ≡ starts_with 94 (telling_outline pattern.now)) }
+    ensures dollar { IfOk result (λ form. form.ends_with_dollar ≡ ends_with 36 (telling_outline pattern.now)) }
+    ensures unbounded { IfOk result (λ form. form.is_unbounded ≡ repeats_unbounded (telling_outline pattern.now)) }
+{
+    let outline = telling_outline(alloc, pattern)?;
     let bytes = outline.as_slice();
     Ok(Form {
         starts_with_caret: starts_with(b'^', bytes),

@@ -1,23 +1,39 @@
 -- The findings of a program.
 use Rattle.ctd_program.specs.Tree
-use Rattle.ctd_findings.specs.declared.finding.Warning.TheVariants as warnings
-use Rattle.std.specs.Prelude.{ℕ, ℤ, Bool, true, false, List, [], ◌∷◌, ◌++◌, map, Option, Some, None, if◌then◌else◌}
+use Rattle.ctd_findings.specs.declared.kind.Kind.TheVariants as kinds
+use Rattle.std.specs.Prelude.{ℕ, ℤ, Bool, true, false, ◌||◌, codes, List, [], ◌∷◌, ◌++◌, map, Option, Some, None, if◌then◌else◌}
 use Rattle.std.specs.Option.{option_and_then}
 use Rattle.std.specs.Ordering.{int_cmp, is_gt}
 use Rattle.ctd_token.specs.declared.text.Place.{Place}
 use Rattle.ctd_program.specs.declared.preset.Preset.{Preset}
 use Rattle.ctd_program.specs.Tree.{ExprTree, TestTree, GuardTree, CommandTree, CommandList, place_of}
 use Rattle.ctd_findings.specs.declared.finding.Finding.{Finding}
-use Rattle.ctd_findings.specs.declared.finding.Warning.{Warning}
+use Rattle.ctd_findings.specs.declared.finding.Remark.{Remark}
+use Rattle.ctd_findings.specs.declared.kind.Kind.{Kind}
 use Rattle.ctd_findings.specs.calls.Block.{InBlock, all_commands}
-use Rattle.ctd_findings.specs.calls.Names.{NameList, is_among, reads, unsets, sets, all_reads, all_given, preset_names}
+use Rattle.ctd_findings.specs.calls.Names.{NameList, is_among, begins_with, reads, unsets, sets, all_reads, all_given, all_mentioned, preset_names}
 use Rattle.ctd_findings.specs.calls.Literal.{literal_truth, literal_number}
-use Rattle.ctd_outline.specs.calls.Outline.{outline, starts_with, ends_with, repeats_unbounded}
+use Rattle.ctd_outline.specs.calls.Outline.{telling_outline, starts_with, ends_with, repeats_unbounded}
 
--- a warning for each of the names that is not known
-abbrev pub warn_unknown : (List ℕ → Warning) → (List ℕ → Bool) → NameList → List Warning
-warn_unknown warning is_known [] = []
-warn_unknown warning is_known (name ∷ rest) = if is_known name then warn_unknown warning is_known rest else warning name ∷ warn_unknown warning is_known rest
+-- what is asked of the names of a program
+pub record Facts : Type 0 where
+  -- something gives it a value
+  pub is_given : List ℕ → Bool
+  -- something reads it
+  pub is_read : List ℕ → Bool
+
+-- a remark about no variable
+abbrev pub plain : Kind → Remark
+plain kind = record { kind = kind; name = None }
+
+-- a remark about a variable
+abbrev pub about : Kind → List ℕ → Remark
+about kind name = record { kind = kind; name = Some name }
+
+-- a remark for each of the names that is not known
+abbrev pub remark_unknown : Kind → (List ℕ → Bool) → NameList → List Remark
+remark_unknown kind is_known [] = []
+remark_unknown kind is_known (name ∷ rest) = if is_known name then remark_unknown kind is_known rest else about kind name ∷ remark_unknown kind is_known rest
 
 -- the test of a loop
 abbrev pub guard_test : GuardTree → Option TestTree
@@ -38,14 +54,14 @@ loop_test (Tree.unset place names) = None
 loop_test (Tree.loop place guard counter separator body) = guard_test guard
 loop_test (Tree.choice place t then_do else_do) = None
 
--- a warning where this is so
-abbrev pub warn_if : Bool → Warning → List Warning
-warn_if is_so warning = if is_so then warning ∷ [] else []
+-- a remark where this is so
+abbrev pub remark_if : Bool → Kind → List Remark
+remark_if is_so kind = if is_so then plain kind ∷ [] else []
 
--- a warning where the truth of a test is known
-abbrev pub truth_warning : Option Bool → List Warning
-truth_warning None = []
-truth_warning (Some truth) = (if truth then warnings.AlwaysTrue else warnings.AlwaysFalse) ∷ []
+-- a remark where the truth of a test is known
+abbrev pub truth_remarks : Option Bool → List Remark
+truth_remarks None = []
+truth_remarks (Some truth) = plain (if truth then kinds.AlwaysTrue else kinds.AlwaysFalse) ∷ []
 
 -- whether two numbers are known and the first is above the second
 abbrev pub is_above : Option ℤ → Option ℤ → Bool
@@ -68,25 +84,25 @@ is_empty_text (Tree.quotient a b) = false
 is_empty_text (Tree.remainder a b) = false
 is_empty_text (Tree.power a b) = false
 
--- the warnings of a pattern, by its outline
-abbrev pub outline_warnings : List ℕ → List Warning
-outline_warnings o = warn_if (starts_with 94 o) warnings.StartsWithCaret
-    ++ warn_if (ends_with 36 o) warnings.EndsWithDollar
-    ++ warn_if (repeats_unbounded o) warnings.Unbounded
+-- the remarks on a pattern, by the outline that tells its form
+abbrev pub outline_remarks : List ℕ → List Remark
+outline_remarks o = remark_if (starts_with 94 o) kinds.Caret
+    ++ remark_if (ends_with 36 o) kinds.Dollar
+    ++ remark_if (repeats_unbounded o) kinds.NoBound
 
--- the warnings that follow from a command alone
-abbrev pub own_warnings : CommandTree → List Warning
-own_warnings (Tree.space place) = []
-own_warnings (Tree.newline place) = []
-own_warnings (Tree.eof place) = []
-own_warnings (Tree.int place low high target) = warn_if (is_above (literal_number low) (literal_number high)) warnings.EmptyRange
-own_warnings (Tree.string place e) = warn_if (is_empty_text e) warnings.EmptyString
-own_warnings (Tree.regex place literal target) = outline_warnings (outline literal.bytes)
-own_warnings (Tree.assert place t) = truth_warning (literal_truth t)
-own_warnings (Tree.set place assignments) = []
-own_warnings (Tree.unset place names) = []
-own_warnings (Tree.loop place guard counter separator body) = truth_warning (option_and_then literal_truth (guard_test guard))
-own_warnings (Tree.choice place t then_do else_do) = truth_warning (literal_truth t)
+-- the remarks that follow from a command alone
+abbrev pub own_remarks : CommandTree → List Remark
+own_remarks (Tree.space place) = []
+own_remarks (Tree.newline place) = []
+own_remarks (Tree.eof place) = []
+own_remarks (Tree.int place low high target) = remark_if (is_above (literal_number low) (literal_number high)) kinds.EmptyRange
+own_remarks (Tree.string place e) = remark_if (is_empty_text e) kinds.EmptyString
+own_remarks (Tree.regex place literal target) = outline_remarks (telling_outline literal.bytes)
+own_remarks (Tree.assert place t) = truth_remarks (literal_truth t)
+own_remarks (Tree.set place assignments) = []
+own_remarks (Tree.unset place names) = []
+own_remarks (Tree.loop place guard counter separator body) = truth_remarks (option_and_then literal_truth (guard_test guard))
+own_remarks (Tree.choice place t then_do else_do) = truth_remarks (literal_truth t)
 
 -- whether a truth is known and is true
 abbrev pub is_known_true : Option Bool → Bool
@@ -102,30 +118,60 @@ abbrev pub follows_endless : Option CommandTree → Bool
 follows_endless None = false
 follows_endless (Some c) = is_endless c
 
--- The warnings of a command. Two tests say of a name whether it is given a value anywhere, and whether it is read anywhere.
-abbrev pub command_warnings : (List ℕ → Bool) → (List ℕ → Bool) → InBlock → List Warning
-command_warnings is_given is_read x = warn_if (follows_endless x.previous) warnings.Unreachable
-    ++ warn_unknown warnings.NoValue is_given (reads x.command ++ unsets x.command)
-    ++ warn_unknown warnings.NeverRead is_read (sets x.command)
-    ++ own_warnings x.command
+-- whether a name says that nothing reads it: it begins with `skip` or `unused`
+abbrev pub is_set_aside : List ℕ → Bool
+is_set_aside name = begins_with (codes "skip") name || begins_with (codes "unused") name
 
--- warnings at the place of a command
-abbrev pub findings_at : Place → List Warning → List Finding
-findings_at place ws = map (λ w. record { place = place; warning = w }) ws
+-- a remark for each of the names that nothing reads, but for those that say so
+abbrev pub remark_unread : (List ℕ → Bool) → NameList → List Remark
+remark_unread is_read [] = []
+remark_unread is_read (name ∷ rest) =
+    if is_read name || is_set_aside name then remark_unread is_read rest else about kinds.Unread name ∷ remark_unread is_read rest
+
+-- the remarks on a command
+abbrev pub command_remarks : Facts → InBlock → List Remark
+command_remarks facts x = remark_if (follows_endless x.previous) kinds.Unreachable
+    ++ remark_unknown kinds.NoValue facts.is_given (reads x.command ++ unsets x.command)
+    ++ remark_unread facts.is_read (sets x.command)
+    ++ own_remarks x.command
+
+-- remarks at a place
+abbrev pub findings_at : Place → List Remark → List Finding
+findings_at place remarks = map (λ r. record { place = place; remark = r }) remarks
 
 -- the findings of some commands
-abbrev pub findings_among : (List ℕ → Bool) → (List ℕ → Bool) → List InBlock → List Finding
-findings_among is_given is_read [] = []
-findings_among is_given is_read (x ∷ rest) = findings_at (place_of x.command) (command_warnings is_given is_read x) ++ findings_among is_given is_read rest
+abbrev pub findings_among : Facts → List InBlock → List Finding
+findings_among facts [] = []
+findings_among facts (x ∷ rest) = findings_at (place_of x.command) (command_remarks facts x) ++ findings_among facts rest
 
 -- whether a program or a preset gives a name a value
-abbrev pub is_given_in : CommandList → List Preset → List ℕ → Bool
-is_given_in program presets name = is_among name (all_given (all_commands program) ++ preset_names presets)
+abbrev pub is_given_in : List InBlock → List Preset → List ℕ → Bool
+is_given_in commands presets name = is_among name (all_given commands ++ preset_names presets)
 
 -- whether a program reads a name
-abbrev pub is_read_in : CommandList → List ℕ → Bool
-is_read_in program name = is_among name (all_reads (all_commands program))
+abbrev pub is_read_in : List InBlock → List ℕ → Bool
+is_read_in commands name = is_among name (all_reads commands)
 
--- The findings of a program, where these presets are given, in the order of the text.
+-- the facts of a program, where these presets are given
+abbrev pub facts_of : List InBlock → List Preset → Facts
+facts_of commands presets = record { is_given = is_given_in commands presets; is_read = is_read_in commands }
+
+-- whether a program mentions a name
+abbrev pub is_mentioned_in : List InBlock → List ℕ → Bool
+is_mentioned_in commands name = is_among name (all_mentioned commands)
+
+-- the place where a program starts
+abbrev pub start_place : Place
+start_place = record { line = 1; column = 1 }
+
+-- a finding, at the start of the program, for each preset with a name that the program nowhere mentions
+abbrev pub preset_findings : List InBlock → List Preset → List Finding
+preset_findings commands presets = findings_at start_place (remark_unknown kinds.UnknownPreset (is_mentioned_in commands) (preset_names presets))
+
+-- the findings of commands, where these presets are given
+abbrev pub findings_in : List InBlock → List Preset → List Finding
+findings_in commands presets = preset_findings commands presets ++ findings_among (facts_of commands presets) commands
+
+-- The findings of a program, where these presets are given: those of the presets, and then those of the commands in the order of the text.
 abbrev pub findings_of : CommandList → List Preset → List Finding
-findings_of program presets = findings_among (is_given_in program presets) (is_read_in program) (all_commands program)
+findings_of program presets = findings_in (all_commands program) presets

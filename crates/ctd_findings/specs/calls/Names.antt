@@ -1,7 +1,7 @@
 -- Which names a command reads, and which it gives a value.
 use Rattle.ctd_program.specs.Tree
-use Rattle.std.specs.Prelude.{ℕ, List, [], ◌∷◌, ◌++◌, map, Bool, Option, Some, None}
-use Rattle.std.specs.List.{list_any}
+use Rattle.std.specs.Prelude.{ℕ, List, [], ◌∷◌, ◌++◌, map, nat_eq, Bool, Option, Some, None}
+use Rattle.std.specs.List.{list_any, starts_with}
 use Rattle.ctd_program.specs.declared.preset.Preset.{Preset}
 use Rattle.ctd_program.specs.Tree.{ExprTree, ExprList, VarTree, TestTree, GuardTree, CommandTree}
 use Rattle.ctd_store.specs.Order.{same_bytes}
@@ -14,6 +14,10 @@ NameList = List (List ℕ)
 -- whether a name is one of these
 abbrev pub is_among : List ℕ → NameList → Bool
 is_among name names = list_any (same_bytes name) names
+
+-- whether a text begins with another
+abbrev pub begins_with : List ℕ → List ℕ → Bool
+begins_with start text = starts_with nat_eq text start
 
 abbrev mutual
   -- the names in an expression
@@ -136,6 +140,11 @@ all_reads (x ∷ rest) = reads x.command ++ all_reads rest
 abbrev pub all_given : List InBlock → NameList
 all_given [] = []
 all_given (x ∷ rest) = sets x.command ++ counts x.command ++ all_given rest
+
+-- the names that some commands mention
+abbrev pub all_mentioned : List InBlock → NameList
+all_mentioned [] = []
+all_mentioned (x ∷ rest) = reads x.command ++ unsets x.command ++ sets x.command ++ counts x.command ++ all_mentioned rest
 
 -- the names of presets
 abbrev pub preset_names : List Preset → NameList

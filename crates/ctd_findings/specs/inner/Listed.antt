@@ -1,6 +1,4 @@
 -- What the lists that the code makes stand for, apart from where it lies.
-use Rattle.ctd_findings.specs.declared.command.Lack.TheVariants as lack
-use Rattle.ctd_findings.specs.declared.finding.Warning.TheVariants as warnings
 use Rattle.std.specs.Prelude.{ℕ, Bool, List, map, Option, Some, None}
 use Rattle.std.specs.Borrow.{Bor}
 use Rattle.ctd_program.specs.declared.tree.Command.{Command}
@@ -9,8 +7,8 @@ use Rattle.ctd_program.specs.Tree.{CommandTree, ExprTree, TestTree, VarTree}
 use Rattle.ctd_program.specs.declared.tree.Test.{Test}
 use Rattle.ctd_program.specs.calls.View.{assignment, command_tree, test_tree}
 use Rattle.ctd_findings.specs.declared.block.CommandInBlock.{CommandInBlock}
-use Rattle.ctd_findings.specs.declared.command.Lack.{Lack}
-use Rattle.ctd_findings.specs.declared.finding.Warning.{Warning}
+use Rattle.ctd_findings.specs.declared.known.Known.{Known}
+use Rattle.ctd_findings.specs.calls.Findings.{Facts}
 use Rattle.ctd_findings.specs.calls.Block.{InBlock}
 use Rattle.ctd_findings.specs.declared.name_set.NameSet.{NameSet}
 use Rattle.ctd_findings.specs.calls.Names.{NameList}
@@ -48,7 +46,6 @@ abbrev pub test_at : Option (Bor Test) → Option TestTree
 test_at None = None
 test_at (Some t) = Some (test_tree t.now)
 
--- the warning for a name of which nothing does this
-abbrev pub lack_warning : Lack → List ℕ → Warning
-lack_warning lack.Value name = warnings.NoValue name
-lack_warning lack.Reader name = warnings.NeverRead name
+-- the facts that are known
+abbrev pub facts_known : Known → Facts
+facts_known known = record { is_given = λ name. has_name name known.given; is_read = λ name. has_name name known.read }

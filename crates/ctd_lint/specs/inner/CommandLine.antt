@@ -1,10 +1,23 @@
 -- The options and arguments of ctd-lint, as clap defines what it takes.
-use Rattle.std.specs.Prelude.{◌≡◌, List, [], Some, true, codes}
-use Rattle.clap.specs.Words.{App, Text, fault_of, first_of, matches_of, new_app, with_rule}
+use Rattle.std.specs.Prelude.{◌≡◌, ℕ, Bool, List, [], Option, Some, None, true, codes, map, find, nat_eq}
+use Rattle.std.specs.List.{slice_split}
+use Rattle.std.specs.Str.{bytes_eq}
+use Rattle.clap.specs.Words.{App, Rule, Text, all_of, fault_of, first_of, matches_of, new_app, new_rule, with_rule}
 use Rattle.clap.specs.Simple.{on_top}
-use Rattle.ctd_arguments.specs.CommandLine.{define_rule, program_rule}
+use Rattle.clap.specs.declared.builder.ArgAction.TheVariants.{Append, Set}
+use Rattle.ctd_arguments.specs.CommandLine.{define_rule, option_rule}
 use Rattle.ctd_arguments.specs.Settings.{ArePresetsOf}
+use Rattle.ctd_findings.specs.declared.kind.Kind.{Kind}
+use Rattle.ctd_findings.specs.calls.Kinds.{kind_named}
 use Rattle.ctd_lint.specs.declared.command_line.LintSetup.{LintSetup}
+
+-- --ignore
+abbrev pub ignore_rule : Rule
+ignore_rule = option_rule (codes "ignore") None Set
+
+-- the names of the programs' files, of which one has to be there
+abbrev pub programs_rule : Rule
+programs_rule = record (new_rule (codes "PROGRAM")) { required = true; action = Some Append }
 
 -- the command with a version and no argument
 abbrev pub bare_linter : App
@@ -12,10 +25,20 @@ bare_linter = on_top (λ s. record s { has_version = true }) (new_app (codes "ct
 
 -- It is opened only by name: computed at words that are not known, what clap makes of it is very large.
 unfoldable pub linter : App
-linter = with_rule (with_rule bare_linter define_rule) program_rule
+linter = with_rule (with_rule (with_rule bare_linter define_rule) ignore_rule) programs_rule
 
--- the words are taken by clap, and name this program and these presets
+-- the parts of a text between commas
+abbrev pub parts : Text → List Text
+parts text = slice_split (λ b. nat_eq b 44) text
+
+-- the kinds that a text names, with commas between them; none where there is no text
+abbrev pub AreKindsOf : Option Text → List Kind → Type 0
+AreKindsOf None kinds = kinds ≡ []
+AreKindsOf (Some text) kinds = map Some kinds ≡ map kind_named (parts text)
+
+-- the words are taken by clap, and name these programs, presets and kinds
 pub record IsLintSetup (words : List Text) (s : LintSetup) : Type 0 where
   pub taken : fault_of linter words ≡ []
-  pub program : first_of (codes "PROGRAM") (matches_of linter words) ≡ Some s.program
+  pub programs : all_of (codes "PROGRAM") (matches_of linter words) ≡ Some s.programs.items
   pub presets : ArePresetsOf (first_of (codes "define") (matches_of linter words)) s.presets
+  pub ignored : AreKindsOf (first_of (codes "ignore") (matches_of linter words)) s.ignored.items

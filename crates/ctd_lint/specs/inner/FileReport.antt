@@ -1,25 +1,31 @@
 -- What is reported of a file, and of words that name none.
 use Rattle.ctd_lint.specs.declared.command_line.LintFault.TheVariants as faults
-use Rattle.std.specs.Prelude.{◌≡◌, ◌⊎◌, ℕ, List, codes}
+use Rattle.std.specs.Prelude.{◌≡◌, ◌⊎◌, ◌++◌, ℕ, List, codes}
 use Rattle.ctd_source.specs.declared.source.Source.{Ghosts}
-use Rattle.ctd_report.specs.Report.{Report, on_err, on_out, open_report}
+use Rattle.ctd_report.specs.Report.{Report, on_err, on_out}
 use Rattle.ctd_lint.specs.declared.command_line.LintSetup.{LintSetup}
 use Rattle.ctd_lint.specs.declared.command_line.LintFault.{LintFault}
 use Rattle.ctd_lint.specs.inner.Report.{Call, IsLintReport}
+use Rattle.ctd_lint.specs.inner.Text.{open_line}
 
 -- the report of what some source gave
-abbrev pub IsFileReport : {P : Type 0} → Ghosts P → LintSetup → Report → Type 0
-IsFileReport {P} G setup report = (program : Call G) × IsLintReport setup.presets program report
+abbrev pub IsFileReport : {P : Type 0} → Ghosts P → List ℕ → LintSetup → Report → Type 0
+IsFileReport {P} G file setup report = (program : Call G) × IsLintReport file setup program report
 
 -- the report of what some source gave, or that the file cannot be opened
-abbrev pub IsNamedReport : {P : Type 0} → Ghosts P → LintSetup → Report → Type 0
-IsNamedReport G setup report = (report ≡ open_report setup.program) ⊎ IsFileReport G setup report
+abbrev pub IsNamedReport : {P : Type 0} → Ghosts P → List ℕ → LintSetup → Report → Type 0
+IsNamedReport G file setup report = (report ≡ on_err (open_line file)) ⊎ IsFileReport G file setup report
+
+-- what is written for a kind of findings that there is not
+abbrev pub unknown_kind_text : List ℕ → List ℕ
+unknown_kind_text name = codes "ctd-lint: unknown kind: " ++ name ++ codes "\n"
 
 -- what is written for words that ask for no program
 abbrev pub usage_text : LintFault → List ℕ
 usage_text faults.Words = codes "ctd-lint: bad arguments\nTry 'ctd-lint --help'.\n"
 usage_text faults.BadPreset = codes "ctd-lint: bad preset\n"
-usage_text faults.Help = codes "Usage: ctd-lint [OPTION]... PROGRAM\nTell what PROGRAM cannot mean: a line for each finding.\n  -D, --define=<name>=<value>[,...]  preset variables\n      --help                         show this text\n      --version                      show the version\n"
+usage_text (faults.UnknownKind name) = unknown_kind_text name
+usage_text faults.Help = codes "Usage: ctd-lint [OPTION]... PROGRAM...\nTell what each PROGRAM cannot mean: a line for each finding.\n  -D, --define=<name>=<value>[,...]  preset variables\n      --ignore=<kind>[,...]          leave out findings of these kinds\n      --help                         show this text\n      --version                      show the version\n"
 usage_text faults.Version = codes "ctd-lint 1.0 (whole-number profile)\n"
 usage_text faults.Memory = codes "ctd-lint: out of memory\n"
 
@@ -27,6 +33,7 @@ usage_text faults.Memory = codes "ctd-lint: out of memory\n"
 abbrev pub usage_report : LintFault → Report
 usage_report faults.Words = on_err (usage_text faults.Words)
 usage_report faults.BadPreset = on_err (usage_text faults.BadPreset)
+usage_report (faults.UnknownKind name) = on_err (usage_text (faults.UnknownKind name))
 usage_report faults.Help = on_out (usage_text faults.Help) 0
 usage_report faults.Version = on_out (usage_text faults.Version) 0
 usage_report faults.Memory = on_err (usage_text faults.Memory)

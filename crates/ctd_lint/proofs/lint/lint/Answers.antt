@@ -1,23 +1,29 @@
-use Rattle.std.proofs.Common.{ap, ◌∙◌}
+use Rattle.std.proofs.Common.{ap, subst, ◌∙◌}
 use Rattle.ctd_program.specs.calls.View.{command_trees}
-use Rattle.ctd_report.specs.Report.{load_report}
+use Rattle.ctd_report.specs.Report.{on_err}
+use Rattle.ctd_report.specs.Written.{before_after}
+use Rattle.ctd_report.specs.calls.Written.{Leaves}
 use Rattle.ctd_report.proofs.WrittenLemmas.{Leaves-LeavesOneOf}
 use Rattle.ctd_findings.specs.calls.Findings.{findings_of}
 use Rattle.ctd_lint.specs.inner.Report.{findings_report}
+use Rattle.ctd_lint.specs.inner.Text.{error_line, kept}
 use Rattle.ctd_lint.proofs.Reports.{reports_findings, reports_refusal}
 use Rattle.ctd_lint.proofs.lint.lint.Goals as goal
 
 pub returns : goal.returns
-returns g c = record {
-  written = Leaves-LeavesOneOf _ _ _ (findings_report c.as_slice.result.now) c.write_findings.result
-      (reports_findings command_trees g.P.Source c.args.presets.now c.args.program.now _ c.in-Ok.plan c.as_slice.result.now c.in-Ok.ensures.loads
-      (c.as_slice.ensures.value ∙ c.in_ok-found.ensures ∙ ap (λ p. findings_of (command_trees p) c.args.presets.now) c.commands.ensures.whole))
-      c.write_findings.ensures.written;
-}
+returns g c =
+    let setup = c.args.setup.now in
+    let found = c.as_slice.result.now in
+    let is = c.as_slice.ensures.value ∙ c.in_ok-found.ensures ∙ ap (λ p. findings_of (command_trees p) setup.presets) c.commands.ensures.whole in
+    record {
+      written = Leaves-LeavesOneOf _ _ _ (findings_report c.args.file.now (kept setup.ignored.items found)) c.write_findings.result
+          (reports_findings command_trees g.P.Source c.args.file.now setup c.args.program.now _ c.in-Ok.plan found c.in-Ok.ensures.loads is)
+          (subst (λ ignored. Leaves (before_after g.O.Sink c.args.out.now c.write_findings.new.out) (before_after g.E.Sink c.args.err.now c.write_findings.new.err) (findings_report c.args.file.now (kept ignored found)) c.write_findings.result) c.as_slice-2.ensures.value c.write_findings.ensures.written);
+    }
 
 pub returns-in_default : goal.returns-in_default
 returns-in_default g c = record {
-  written = Leaves-LeavesOneOf _ _ _ (load_report c.in-Err.fault) c.write_load_fault.result
-      (reports_refusal command_trees g.P.Source c.args.presets.now c.args.program.now _ c.in-Err.fault c.in-Err.ensures.loads c.in_default.not-Memory)
-      c.write_load_fault.ensures.written;
+  written = Leaves-LeavesOneOf _ _ _ (on_err (error_line c.args.file.now c.in-Err.fault)) c.write_refusal.result
+      (reports_refusal command_trees g.P.Source c.args.file.now c.args.setup.now c.args.program.now _ c.in-Err.fault c.in-Err.ensures.loads c.in_default.not-Memory)
+      c.write_refusal.ensures.written;
 }

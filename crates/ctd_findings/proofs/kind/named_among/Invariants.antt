@@ -1,0 +1,6 @@
+use Rattle.std.proofs.Common.{◌≡◌, drop}
+use Rattle.ctd_findings.specs.calls.Kinds.{named_among}
+use Rattle.ctd_findings.proofs.kind.named_among.Given as goal
+
+abbrev pub invariant-loop-kind : goal.invariant-loop-kind
+invariant-loop-kind l = named_among (drop l.kind-index l.kinds) l.name ≡ named_among l.kinds l.name

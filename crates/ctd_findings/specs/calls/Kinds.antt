@@ -1,0 +1,49 @@
+-- The kinds of findings: their names and ranks.
+use Rattle.ctd_findings.specs.declared.kind.Kind.TheVariants as kind
+use Rattle.ctd_findings.specs.declared.kind.Rank.TheVariants as ranks
+use Rattle.std.specs.Prelude.{ℕ, List, [], ◌∷◌, codes, Option, Some, None, if◌then◌else◌}
+use Rattle.std.specs.Str.{bytes_eq}
+use Rattle.ctd_findings.specs.declared.kind.Kind.{Kind}
+use Rattle.ctd_findings.specs.declared.kind.Rank.{Rank}
+
+-- all kinds
+abbrev pub all_kinds : List Kind
+all_kinds = kind.UnknownPreset ∷ kind.Unreachable ∷ kind.NoValue ∷ kind.Unread ∷ kind.AlwaysTrue ∷ kind.AlwaysFalse ∷ kind.EmptyRange
+    ∷ kind.EmptyString ∷ kind.Caret ∷ kind.Dollar ∷ kind.NoBound ∷ []
+
+-- the name of a kind
+abbrev pub kind_name : Kind → List ℕ
+kind_name kind.UnknownPreset = codes "unknown-preset"
+kind_name kind.Unreachable = codes "unreachable"
+kind_name kind.NoValue = codes "no-value"
+kind_name kind.Unread = codes "unread"
+kind_name kind.AlwaysTrue = codes "always-true"
+kind_name kind.AlwaysFalse = codes "always-false"
+kind_name kind.EmptyRange = codes "empty-range"
+kind_name kind.EmptyString = codes "empty-string"
+kind_name kind.Caret = codes "caret"
+kind_name kind.Dollar = codes "dollar"
+kind_name kind.NoBound = codes "no-bound"
+
+-- the first of some kinds that has this name
+abbrev pub named_among : List Kind → List ℕ → Option Kind
+named_among [] name = None
+named_among (k ∷ rest) name = if bytes_eq (kind_name k) name then Some k else named_among rest name
+
+-- the kind of a name, if there is one
+abbrev pub kind_named : List ℕ → Option Kind
+kind_named name = named_among all_kinds name
+
+-- how sure it is that a finding of a kind is a mistake
+abbrev pub rank : Kind → Rank
+rank kind.UnknownPreset = ranks.Warning
+rank kind.Unreachable = ranks.Warning
+rank kind.NoValue = ranks.Warning
+rank kind.Unread = ranks.Note
+rank kind.AlwaysTrue = ranks.Warning
+rank kind.AlwaysFalse = ranks.Warning
+rank kind.EmptyRange = ranks.Warning
+rank kind.EmptyString = ranks.Warning
+rank kind.Caret = ranks.Note
+rank kind.Dollar = ranks.Warning
+rank kind.NoBound = ranks.Note

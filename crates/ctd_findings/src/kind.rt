@@ -1,0 +1,107 @@
+//! The kinds of findings.
+
+ghost use Rattle.std.specs.Prelude.{◌≡◌};
+ghost use Rattle.ctd_findings.specs.calls.Kinds.{kind_name, kind_named, named_among, rank};
+
+/// How sure it is that a finding is a mistake.
+#[derive(Clone, Copy, PartialEq, Eq, Debug)]
+pub enum Rank {
+    /// It is worth a look.
+    Note,
+    /// It is surely a mistake.
+    Warning,
+}
+
+/// What a finding says.
+#[derive(Clone, Copy, PartialEq, Eq, Debug)]
+pub enum Kind {
+    /// A preset has a name that the program nowhere mentions.
+    UnknownPreset,
+    /// The loop before the command does not end.
+    Unreachable,
+    /// Nothing in the program and no preset gives this name a value.
+    NoValue,
+    /// This name gets a value here, and nothing reads it.
+    Unread,
+    /// The test is true whatever the data are.
+    AlwaysTrue,
+    /// The test is false whatever the data are.
+    AlwaysFalse,
+    /// The least integer is above the greatest.
+    EmptyRange,
+    /// The string is empty.
+    EmptyString,
+    /// The pattern begins with `^`.
+    Caret,
+    /// The pattern ends with `$`.
+    Dollar,
+    /// The pattern repeats a part without a bound.
+    NoBound,
+}
+
+impl Kind {
+    /// All kinds, in the order in which the findings of a command stand.
+    pub const ALL: [Kind; 11] = [
+        Kind::UnknownPreset,
+        Kind::Unreachable,
+        Kind::NoValue,
+        Kind::Unread,
+        Kind::AlwaysTrue,
+        Kind::AlwaysFalse,
+        Kind::EmptyRange,
+        Kind::EmptyString,
+        Kind::Caret,
+        Kind::Dollar,
+        Kind::NoBound,
+    ];
+
+    /// The name of a kind, as `no-value`.
+    pub fn name(self) -> &'static str
+        ensures { result.now ≡ kind_name self }
+    {
+        match self {
+            Kind::UnknownPreset => "unknown-preset",
+            Kind::Unreachable => "unreachable",
+            Kind::NoValue => "no-value",
+            Kind::Unread => "unread",
+            Kind::AlwaysTrue => "always-true",
+            Kind::AlwaysFalse => "always-false",
+            Kind::EmptyRange => "empty-range",
+            Kind::EmptyString => "empty-string",
+            Kind::Caret => "caret",
+            Kind::Dollar => "dollar",
+            Kind::NoBound => "no-bound",
+        }
+    }
+
+    /// How sure it is that a finding of this kind is a mistake.
+    pub fn rank(self) -> Rank
+        ensures { result ≡ rank self }
+    {
+        match self {
+            Kind::Unread | Kind::Caret | Kind::NoBound => Rank::Note,
+            Kind::UnknownPreset | Kind::Unreachable | Kind::NoValue => Rank::Warning,
+            Kind::AlwaysTrue | Kind::AlwaysFalse | Kind::EmptyRange => Rank::Warning,
+            Kind::EmptyString | Kind::Dollar => Rank::Warning,
+        }
+    }
+
+    /// The kind of this name, if there is one.
+    pub fn named(name: &str) -> Option<Kind>
+        ensures { result ≡ kind_named name.now }
+    {
+        named_among(&Kind::ALL, name)
+    }
+}
+
+/// The first of some kinds that has this name.
+fn named_among(kinds: &[Kind], name: &str) -> Option<Kind>
+    ensures { result ≡ named_among kinds.now name.now }
+{
+    for kind in kinds {
+        if kind.name() == name {
+            return Some(*kind);
+        }
+    }
+    None
+}

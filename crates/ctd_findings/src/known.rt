@@ -1,0 +1,126 @@
+//! What is known of a program as a whole.
+
+ghost use Rattle.std.specs.Prelude.{◌≡◌, ◌++◌, ℕ, List, IfOk};
+ghost use Rattle.ctd_findings.specs.inner.Found.{Adds, names_in};
+ghost use Rattle.ctd_findings.specs.inner.Listed.{has_name, in_blocks};
+ghost use Rattle.ctd_findings.specs.calls.Literal.{no_variables};
+ghost use Rattle.ctd_findings.specs.calls.Names.{all_given, all_mentioned, all_reads, is_among, preset_names};
+
+use crate::block::CommandInBlock;
+use crate::found::Found;
+use crate::name_set::NameSet;
+use crate::names::{list_counts, list_name, list_reads, list_sets, list_unsets};
+use ctd_program::Presets;
+use ctd_token::Name;
+use ctd_value::Store;
+use std::alloc::{AllocError, Global};
+
+/// What is known of a program: the names to which it, or a preset, gives values, those that it reads, and a store that has no variables.
+#[derive(Drop)]
+pub(crate) struct Known<'p> {
+    pub(crate) given: NameSet<'p>,
+    pub(crate) read: NameSet<'p>,
+    pub(crate) nothing: Store,
+}
+
+/// Adds the names that some commands read.
+fn list_all_reads<'p>(commands: &[CommandInBlock<'p>], names: &mut Found<&'p Name>)
+    ensures adds { Adds (names_in names.old) (all_reads (in_blocks commands.now)) (names_in names.new) }
+{
+    for entry in commands {
+        list_reads(entry.command, names);
+    }
+}
+
+/// The names that some commands read.
+fn read_names<'p>(alloc: Global, commands: &[CommandInBlock<'p>]) -> Result<NameSet<'p>, AllocError>
+    ensures members { IfOk result (λ set. (name : List ℕ) → has_name name set ≡ is_among name (all_reads (in_blocks commands.now))) }
+{
+    let mut names = Found::new(alloc);
+    list_all_reads(commands, &mut names);
+    NameSet::of(alloc, names.finish()?.as_slice())
+}
+
+/// Adds the names to which some commands give a value.
+fn list_given<'p>(commands: &[CommandInBlock<'p>], names: &mut Found<&'p Name>)
+    ensures adds { Adds (names_in names.old) (all_given (in_blocks commands.now)) (names_in names.new) }
+{
+    for entry in commands {
+        list_sets(entry.command, names);
+        list_counts(entry.command, names);
+    }
+}
+
+/// Adds the names of presets.
+pub(crate) fn list_presets<'p>(presets: &'p Presets, names: &mut Found<&'p Name>)
+    ensures adds { Adds (names_in names.old) (preset_names presets.now) (names_in names.new) }
+{
+    for preset in presets.pins() {
+        list_name(&preset.name, names);
+    }
+}
+
+/// The names to which some commands, or presets, give a value.
+fn given_names<'p>(
+    alloc: Global,
+    commands: &[CommandInBlock<'p>],
+    presets: &'p Presets,
+) -> Result<NameSet<'p>, AllocError>
+    ensures members { IfOk result (λ set. (name : List ℕ) → has_name name set ≡ is_among name (all_given (in_blocks commands.now) ++ preset_names presets.now)) }
+{
+    let mut names = Found::new(alloc);
+    list_given(commands, &mut names);
+    list_presets(presets, &mut names);
+    NameSet::of(alloc, names.finish()?.as_slice())
+}
+
+/// Adds the names that some commands mention.
+fn list_mentioned<'p>(commands: &[CommandInBlock<'p>], names: &mut Found<&'p Name>)
+    ensures adds { Adds (names_in names.old) (all_mentioned (in_blocks commands.now)) (names_in names.new) }
+{
+    for entry in commands {
+        list_reads(entry.command, names);
+        list_unsets(entry.command, names);
+        list_sets(entry.command, names);
+        list_counts(entry.command, names);
+    }
+}
+
+/// The names that some commands mention.
+pub(crate) fn mentioned_names<'p>(
+    alloc: Global,
+    commands: &[CommandInBlock<'p>],
+) -> Result<NameSet<'p>, AllocError>
+    ensures members { IfOk result (λ set. (name : List ℕ) → has_name name set ≡ is_among name (all_mentioned (in_blocks commands.now))) }
+{
+    let mut names = Found::new(alloc);
+    list_mentioned(commands, &mut names);
+    NameSet::of(alloc, names.finish()?.as_slice())
+}
+
+/// A store that has no variables.
+fn empty_store(alloc: Global) -> Result<Store, AllocError>
+    ensures { IfOk result (λ store. store ≡ no_variables) }
+{
+    Store::new(alloc, &Presets::none(alloc))
+}
+
+/// What is known of some commands, where these presets are given.
+pub(crate) fn known_of<'p>(
+    alloc: Global,
+    commands: &[CommandInBlock<'p>],
+    presets: &'p Presets,
+) -> Result<Known<'p>, AllocError>
+    ensures given { IfOk result (λ known. (name : List ℕ) → has_name name known.given ≡ is_among name (all_given (in_blocks commands.now) ++ preset_names presets.now)) }
+    ensures read { IfOk result (λ known. (name : List ℕ) → has_name name known.read ≡ is_among name (all_reads (in_blocks commands.now))) }
+    ensures nothing { IfOk result (λ known. known.nothing ≡ no_variables) }
+{
+    let nothing = empty_store(alloc)?;
+    let given = given_names(alloc, commands, presets)?;
+    let read = read_names(alloc, commands)?;
+    Ok(Known {
+        given,
+        read,
+        nothing,
+    })
+}
