@@ -26,6 +26,8 @@ ELSEWHERE = {
     ("ctd_arguments/src/words.rt", "texts_of"): "a push failed",
     ("ctd_buffers/src/run.rt", "run_in_memory"): "the words could not be split, which only memory can prevent",
     ("ctd_findings/src/found.rt", "finish"): "a push failed before",
+    ("ctd_lint/src/command_line.rt", "copies_of"): "a push failed",
+    ("ctd_lint/src/command_line.rt", "kinds_named"): "a push failed",
     ("ctd_lint/src/command_line.rt", "texts_of"): "a push failed",
     ("ctd_process/src/buffered.rt", "buffered_source"): "no buffer could be made",
     ("ctd_report/src/report.rt", "write_load_fault"): "the fault of the program is that no memory was left, as the contract says",
