@@ -1,11 +1,11 @@
 #!/usr/bin/env python3
-"""Runs the built checker again and again, with one allocation failing after the other, and then with all from it on; and so some tests of the
+"""Runs the built checker and ctd-lint again and again, with one allocation failing after the other, and then with all from it on; and so some tests of the
 crates, which show calls that no process shows.
 
 With none failing, each command line has to end as it stands here, and each test has to pass. Each other run has to end so too, or with
 `out of memory` on standard error, nothing on standard output and status 2; a test, with an error that says so. The last line counts the command
 lines and tests of which each run did so, as passed, and the others.
-usage: tests/allocations.py [PROGRAM]; with PROGRAM it runs no tests"""
+usage: tests/allocations.py [CHECKER [LINTER]]; with CHECKER it runs no tests"""
 import os
 import re
 import subprocess
@@ -16,7 +16,7 @@ from dataclasses import dataclass
 from pathlib import Path
 
 from reference.tool import TEXTS
-from results import TOP, checker_to_test, print_results
+from results import TOP, checker_to_test, linter_to_test, print_results
 
 
 # Tests of calls that may run out of memory, in the program that `rt ci` builds of each crate of tests.
@@ -85,10 +85,11 @@ class Run:
 
 @dataclass(frozen=True)
 class CommandLine:
-    """Words, and what the checker has to leave where no allocation fails."""
+    """Words, what the program has to leave where no allocation fails, and what where memory ran out."""
 
     words: list[str]
     answer: Left
+    out_of_memory: Left = OUT_OF_MEMORY
 
 
 def refused(text: str) -> Left:
@@ -123,14 +124,14 @@ class Runner:
                 yield f"allocation {first}{' and all after it' if goes_on else ''}", self.run(command, first, goes_on).answer
 
     def faults(self, program: Path, line: CommandLine) -> list[str]:
-        """What the runs of a command line of the checker did that they should not."""
+        """What the runs of a command line did that they should not."""
         command = [str(program), *line.words]
         whole = self.run(command, 0, False)
         faults = [] if whole.answer == line.answer else [f"with ample memory: {whole.answer}"]
         ran_out = False
         for what, answer in self.failing(command, whole.asked):
-            ran_out = ran_out or answer == OUT_OF_MEMORY
-            if answer not in (line.answer, OUT_OF_MEMORY):
+            ran_out = ran_out or answer == line.out_of_memory
+            if answer not in (line.answer, line.out_of_memory):
                 faults.append(f"{what}: {answer}")
         return faults if ran_out else [*faults, f"never out of memory, though asked for {whole.asked} times"]
 
@@ -192,16 +193,34 @@ def command_lines(folder: Path) -> dict[str, CommandLine]:
     }
 
 
-def all_results(program: Path, tests: bool) -> Iterator[tuple[str, list[str]]]:
+def lint_lines(folder: Path) -> dict[str, CommandLine]:
+    """Command lines of ctd-lint by what they do."""
+    (folder / "false.ctd").write_bytes(b"INT(1,9,longestname) ASSERT(1==2)")
+    names = {name: str(folder / name) for name in ["false.ctd", "open.ctd", "none.ctd"]}
+    finding = f"{names['false.ctd']}:1:22: warning: the test is false whatever the data are [always-false]\n".encode()
+    lines: dict[str, tuple[list[str], Left]] = {
+        "findings": (["--ignore=unread,caret", "-D", "longestname=3", names["false.ctd"]], (1, finding, b"")),
+        "a program that is refused": ([names["open.ctd"]], (2, b"", f"{names['open.ctd']}:1:9: error: syntax error\n".encode())),
+        "a program that is not there": ([names["none.ctd"]], (2, b"", f"{names['none.ctd']}: error: cannot open\n".encode())),
+        "a kind that there is not": (["--ignore=caret,longestname", names["false.ctd"]], (2, b"", b"ctd-lint: unknown kind: longestname\n")),
+        "a bad preset": (["-D", "n", names["false.ctd"]], (2, b"", b"ctd-lint: bad preset\n")),
+        "the version": (["--version"], (0, b"ctd-lint 1.0 (whole-number profile)\n", b"")),
+    }
+    return {what: CommandLine(*line, (2, b"", b"ctd-lint: out of memory\n")) for what, line in lines.items()}
+
+
+def all_results(program: Path, linter: Path, tests: bool) -> Iterator[tuple[str, list[str]]]:
     """What the runs did that they should not, by what was run."""
     with tempfile.TemporaryDirectory() as name:
         runner = Runner(Path(name))
         for what, line in command_lines(Path(name)).items():
             yield what, runner.faults(program, line)
+        for what, line in lint_lines(Path(name)).items():
+            yield f"ctd-lint: {what}", runner.faults(linter, line)
         for crate, names in TESTS.items() if tests else []:
             for test in names:
                 yield f"{crate} {test}", runner.faults_of_test(TOP / f"crates/{crate}/out/{crate}_tests", test)
 
 
 if __name__ == "__main__":
-    sys.exit(print_results("allocations", all_results(checker_to_test(), tests=len(sys.argv) == 1)))
+    sys.exit(print_results("allocations", all_results(checker_to_test(), linter_to_test(), tests=len(sys.argv) == 1)))

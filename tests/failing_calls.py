@@ -1,9 +1,9 @@
 #!/usr/bin/env python3
-"""Runs the built checker with one read or write of its process failing, each in turn, and counts its reads and writes.
+"""Runs the built checker and ctd-lint with one read or write of the process failing, each in turn, and counts its reads and writes.
 
 A call that fails, with whatever error, is made once: an interrupted one is not made again. So each run has to end as it stands here, with so
 many calls, though the calls behind the failing one would be served. The last line counts the runs that did so, as passed, and the others.
-usage: tests/failing_calls.py [PROGRAM]"""
+usage: tests/failing_calls.py [CHECKER [LINTER]]"""
 import errno
 import os
 import subprocess
@@ -11,9 +11,10 @@ import sys
 import tempfile
 from collections.abc import Iterator
 from dataclasses import dataclass
+from itertools import chain
 from pathlib import Path
 
-from results import TOP, checker_to_test, print_results
+from results import TOP, checker_to_test, linter_to_test, print_results
 
 # An interrupted call, one that would have to wait, and one that failed; and for a write one that takes no byte.
 ERRORS = [errno.EINTR, errno.EAGAIN, errno.EIO]
@@ -26,6 +27,9 @@ NO_END = b"checktestdata: line 2 column 1: read failed (program end)\n"
 FITS = b"testdata ok!\n"
 NO_NEWLINE = b"line 1 column 2: expected a newline (program line 1 column 11)\n"
 BAD_ARGUMENTS = b"checktestdata: bad arguments\nTry 'checktestdata --help'.\n"
+FINDING = b"false.ctd:1:1: warning: the test is false whatever the data are [always-false]\n"
+NOT_READ = b"false.ctd: error: cannot read program\n"
+NOT_THERE = b"none.ctd: error: cannot open\n"
 
 
 @dataclass(frozen=True)
@@ -50,7 +54,7 @@ class Case:
 
 
 class Checker:
-    """The built checker, with a library preloaded that lets a call fail."""
+    """The built checker or ctd-lint, with a library preloaded that lets a call fail."""
 
     def __init__(self, program: Path, folder: Path) -> None:
         self.program = program
@@ -126,23 +130,48 @@ def cases() -> Iterator[Case]:
         yield from failing_writes(error)
 
 
+def lint_cases() -> Iterator[Case]:
+    """Runs of ctd-lint in which a read or a write fails: a program that is not read has its line, and a failed write ends the run."""
+    words = ["false.ctd", "space.ctd"]
+    yield Case("no call fails", words, {}, Left(1, FINDING, b"", 4, 1))
+    yield Case("each call moves a byte", words, {"READ_MOST": 1, "WRITE_MOST": 1}, Left(1, FINDING, b"", 13 + 6, len(FINDING)))
+    for error in ERRORS:
+        for turn in [1, 2]:
+            yield Case(f"read {turn}", words, {"READ_FAILS": turn, "FAILS_WITH": error}, Left(2, b"", NOT_READ, turn + 2, 1))
+    for error in [*ERRORS, TAKES_NONE]:
+        for count in [0, 1, 40, len(FINDING) - 1]:
+            calls = {"WRITE_FAILS": 2 if count else 1, "WRITE_MOST": count, "FAILS_WITH": error}
+            yield Case(f"a write behind {count} bytes", words, calls, Left(2, FINDING[:count], b"", 2, calls["WRITE_FAILS"]))
+        calls = {"WRITE_FAILS": 1, "FAILS_WITH": error}
+        yield Case("a write of a fault", ["none.ctd", "space.ctd"], calls, Left(2, b"", b"", 0, 1))
+        calls = {"WRITE_FAILS": 2, "FAILS_WITH": error}
+        yield Case("a write behind that of a fault", ["none.ctd", *words], calls, Left(2, b"", NOT_THERE, 2, 2))
+
+
 def faults(checker: Checker, case: Case) -> list[str]:
     """What a run left that it should not."""
     left = checker.run(case)
     return [] if left == case.wanted else [f"{left}, wanted {case.wanted}"]
 
 
+def results(checker: Checker, cases: Iterator[Case]) -> Iterator[tuple[str, list[str]]]:
+    """What each run of a program left that it should not, by what was run."""
+    for case in cases:
+        yield f"{checker.program.name}: {case.name}, {' '.join(case.words)}, {case.calls}", faults(checker, case)
+
+
 def main() -> int:
-    program = checker_to_test()
+    programs = checker_to_test(), linter_to_test()
     with tempfile.TemporaryDirectory() as name:
         folder = Path(name)
         (folder / "p.ctd").write_bytes(PROGRAM)
+        (folder / "false.ctd").write_bytes(b"ASSERT(1==2)")
+        (folder / "space.ctd").write_bytes(b"SPACE")
         (folder / "right.in").write_bytes(b"5\n")
         (folder / "short.in").write_bytes(b"5")
         (folder / "folder").mkdir()
-        checker = Checker(program, folder)
-        results = ((f"{case.name}, {' '.join(case.words)}, {case.calls}", faults(checker, case)) for case in cases())
-        return print_results("failing calls", results)
+        checker, linter = (Checker(program, folder) for program in programs)
+        return print_results("failing calls", chain(results(checker, cases()), results(linter, lint_cases())))
 
 
 if __name__ == "__main__":

@@ -26,6 +26,8 @@ ELSEWHERE = {
     ("ctd_arguments/src/words.rt", "texts_of"): "a push failed",
     ("ctd_buffers/src/run.rt", "run_in_memory"): "the words could not be split, which only memory can prevent",
     ("ctd_findings/src/found.rt", "finish"): "a push failed before",
+    ("ctd_lint/src/command_line.rt", "copies_of"): "a push failed",
+    ("ctd_lint/src/command_line.rt", "kinds_named"): "a push failed",
     ("ctd_lint/src/command_line.rt", "texts_of"): "a push failed",
     ("ctd_lint/src/command_line.rt", "kinds_named"): "a push failed",
     ("ctd_lint/src/command_line.rt", "copies_of"): "a push failed",

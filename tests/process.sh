@@ -1,10 +1,11 @@
 #!/usr/bin/env bash
-# Runs the built checker with standard streams that are closed or full: what stands on the other streams, and the status. What it does with
-# all of its streams open is in tests/tables/process.toml. The last line counts passed and failed.
-# usage: tests/process.sh [PROGRAM]
+# Runs the built checker and ctd-lint with standard streams that are closed or full: what stands on the other streams, and the status. What they
+# do with all of their streams open is in tests/tables/process.toml and tests/lint.toml. The last line counts passed and failed.
+# usage: tests/process.sh [CHECKER [LINTER]]
 set -u
 top=$(cd "$(dirname "${BASH_SOURCE[0]}")/.." && pwd)
 checker=$(readlink -f "${1:-$top/crates/checktestdata/out/checktestdata}")
+linter=$(readlink -f "${2:-$top/crates/ctd_lint/out/ctd_lint}")
 work=$(mktemp -d)
 trap 'rm -rf "$work"' EXIT
 cd "$work" || exit
@@ -97,6 +98,25 @@ expect 'a full output for -q' 0 '' '' full_output -q p.ctd right.in
 expect 'a full output for -q and data that do not fit' 1 '' '' full_output -q p.ctd short.in
 expect 'a full error output' 2 '' '' full_error open.ctd right.in
 expect 'a full error output that is not written to' 0 "$fits" '' full_error p.ctd right.in
+
+# ctd-lint reads no standard input, so that a closed one changes nothing. A stream that fails ends it: no further program is opened.
+printf 'SPACE' >space.ctd
+printf 'ASSERT(1==2)' >false.ctd
+finding='false.ctd:1:1: warning: the test is false whatever the data are [always-false]\n'
+not_there='none.ctd: error: cannot open\n'
+with_closed "$sets" 'ctd-lint: a finding' 1 "$finding" '' "$linter" false.ctd
+with_closed "$sets" 'ctd-lint: no findings' 0 '' '' "$linter" space.ctd
+with_closed "$sets" 'ctd-lint: a program that is refused' 2 '' 'open.ctd:1:9: error: syntax error\n' "$linter" open.ctd
+with_closed "$sets" 'ctd-lint: a folder' 2 '' '.: error: cannot read program\n' "$linter" .
+with_closed "$sets" 'ctd-lint: a file that is not there' 2 '' "$not_there" "$linter" none.ctd
+with_closed "$sets" 'ctd-lint: the version' 0 'ctd-lint 1.0 (whole-number profile)\n' '' "$linter" --version
+checker=$linter
+expect 'ctd-lint: a full output' 2 '' '' full_output false.ctd
+expect 'ctd-lint: a full output at the first of two programs' 2 '' '' full_output false.ctd none.ctd
+expect 'ctd-lint: a full output at the last of two programs' 2 '' "$not_there" full_output none.ctd false.ctd
+expect 'ctd-lint: a full output that is not written to' 0 '' '' full_output space.ctd
+expect 'ctd-lint: a full error output' 2 '' '' full_error none.ctd false.ctd
+expect 'ctd-lint: a full error output that is not written to' 1 "$finding" '' full_error space.ctd false.ctd
 
 printf '%s passed, %s failed\n' "$passed" "$failed"
 [ "$failed" -eq 0 ]

@@ -6,14 +6,25 @@ from pathlib import Path
 
 TOP = Path(__file__).resolve().parent.parent
 BUILT = TOP / "crates/checktestdata/out/checktestdata"
+BUILT_LINTER = TOP / "crates/ctd_lint/out/ctd_lint"
 
 
 def checker_to_test() -> Path:
-    """The checker that the command line names, or else the one that was built here."""
-    checker = Path(sys.argv[1]).resolve() if len(sys.argv) > 1 else BUILT
-    if not checker.is_file():
-        sys.exit(f"there is no {checker}: make build makes it")
-    return checker
+    """The checker that the command line names first, or else the one that was built here."""
+    return program_to_test(1, BUILT)
+
+
+def linter_to_test() -> Path:
+    """The ctd-lint that the command line names second, or else the one that was built here."""
+    return program_to_test(2, BUILT_LINTER)
+
+
+def program_to_test(word: int, built: Path) -> Path:
+    """The program that this word of the command line names, or else the one that was built here."""
+    program = Path(sys.argv[word]).resolve() if len(sys.argv) > word else built
+    if not program.is_file():
+        sys.exit(f"there is no {program}: make build makes it")
+    return program
 
 
 def print_results(test: str, results: Iterable[tuple[str, Sequence[str]]]) -> int:
