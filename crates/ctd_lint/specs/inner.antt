@@ -3,3 +3,5 @@ pub mod CommandLine
 pub mod Text
 pub mod Report
 pub mod FileReport
+pub mod Usage
+pub mod Run
