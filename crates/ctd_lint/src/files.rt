@@ -4,37 +4,18 @@ ghost use Rattle.std.specs.Prelude.{◌≡◌, ◌≢◌, Err, false};
 ghost use Rattle.ctd_report.specs.Report.{on_err};
 ghost use Rattle.ctd_report.specs.calls.Written.{Leaves};
 ghost use Rattle.ctd_report.specs.Written.{LeavesOneOf, before_after};
-ghost use Rattle.ctd_lint.specs.inner.FileReport.{AsksFor, IsFileReport, IsNamedReport};
+ghost use Rattle.ctd_lint.specs.inner.FileReport.{IsNamedReport};
 ghost use Rattle.ctd_lint.specs.inner.Run.{LeavesRun, stand};
 ghost use Rattle.ctd_lint.specs.inner.Text.{open_line};
 
 use crate::command_line::LintSetup;
 use crate::lint::{NO_WARNINGS, lint};
+use crate::programs::Programs;
 use crate::text::open_text;
-use ctd_process::{Files, buffered_source};
 use ctd_report::{NO_VERDICT, Sink, ToolFault, write_report};
-use ctd_source::{FromRead, Source};
+use ctd_source::Source;
 use ctd_token::Bytes;
 use std::alloc::Global;
-use std::io::{BufReader, Read};
-
-/// Writes the findings of the program in a file, and returns the status.
-fn lint_file<R: Read + Drop, O: Sink, E: Sink>(
-    alloc: Global,
-    setup: &LintSetup,
-    name: &Bytes,
-    file: R,
-    out: &mut O,
-    err: &mut E,
-) -> Result<u8, ToolFault>
-    requires out_works { O.has_failed out.old ≡ false }
-    requires err_works { E.has_failed err.old ≡ false }
-    ensures written { LeavesOneOf (before_after O.Sink out.old out.new) (before_after E.Sink err.old err.new)
-        (IsFileReport R.remaining ⟦<FromRead<BufReader<R>> as Source>⟧ name.now setup.now file) result }
-{
-    let mut program = buffered_source(alloc, file)?;
-    lint(alloc, setup, name, &mut program, out, err)
-}
 
 /// Writes that a file cannot be opened, and returns the status.
 fn write_unopened<O: Sink, E: Sink>(
@@ -52,47 +33,47 @@ fn write_unopened<O: Sink, E: Sink>(
 }
 
 /// Opens a program, writes its findings, and returns the status.
-fn lint_named<F: Files, O: Sink, E: Sink>(
+fn lint_named<P: Programs, O: Sink, E: Sink>(
     alloc: Global,
     setup: &LintSetup,
     name: &Bytes,
-    files: &mut F,
+    programs: &mut P,
     out: &mut O,
     err: &mut E,
 ) -> Result<u8, ToolFault>
     requires out_works { O.has_failed out.old ≡ false }
     requires err_works { E.has_failed err.old ≡ false }
     ensures written { LeavesOneOf (before_after O.Sink out.old out.new) (before_after E.Sink err.old err.new)
-        (IsNamedReport F.File.remaining ⟦<FromRead<BufReader<F::File>> as Source>⟧ F.opens name.now setup.now files.old files.new) result }
+        (IsNamedReport P.opens_program P.Program.Source name.now setup.now programs.old programs.new) result }
     // also where memory ran out
-    ensures asked { AsksFor F.opens files.old name.now files.new }
+    ensures asked { P.asks_for programs.old name.now programs.new }
 {
-    match files.open(name.as_slice()) {
-        Some(file) => lint_file(alloc, setup, name, file, out, err),
+    match programs.open_program(alloc, name.as_slice())? {
+        Some(mut program) => lint(alloc, setup, name, &mut program, out, err),
         None => write_unopened(alloc, name, out, err),
     }
 }
 
 /// Lints the programs of these names one after the other, and returns the greatest status. A stream that fails, or memory that runs out, ends it.
-pub(crate) fn lint_all<F: Files, O: Sink, E: Sink>(
+pub(crate) fn lint_all<P: Programs, O: Sink, E: Sink>(
     alloc: Global,
     setup: &LintSetup,
     names: &[Bytes],
-    files: &mut F,
+    programs: &mut P,
     out: &mut O,
     err: &mut E,
 ) -> Result<u8, ToolFault>
     requires out_works { O.has_failed out.old ≡ false }
     requires err_works { E.has_failed err.old ≡ false }
     ensures run { LeavesRun
-        (record { opens = F.opens; out = O.Sink; err = E.Sink })
-        setup.now names.now (stand files.old out.old err.old) (stand files.new out.new err.new) result }
+        (record { opens = P.opens_program; asks = P.asks_for; source = P.Program.Source; out = O.Sink; err = E.Sink })
+        setup.now names.now (stand programs.old out.old err.old) (stand programs.new out.new err.new) result }
     ensures out_works { result ≢ Err ToolFault.Write → O.has_failed out.new ≡ false }
     ensures err_works { result ≢ Err ToolFault.Write → E.has_failed err.new ≡ false }
 {
     let mut status = NO_WARNINGS;
     for name in names {
-        let own = lint_named(alloc, setup, name, files, out, err)?;
+        let own = lint_named(alloc, setup, name, programs, out, err)?;
         status = status.max(own);
     }
     Ok(status)

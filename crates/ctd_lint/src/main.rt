@@ -5,6 +5,7 @@ mod command_line;
 mod files;
 mod lint;
 mod process;
+mod programs;
 mod text;
 mod usage;
 

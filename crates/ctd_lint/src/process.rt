@@ -1,17 +1,21 @@
 //! The process: what it gets from its host, and how it ends.
 
 ghost use Rattle.std.specs.Prelude.{◌≡◌, false};
+ghost use Rattle.ctd_process.specs.Process.{StartsOn};
+ghost use Rattle.ctd_lint.specs.inner.Opening.{AsksFor, OpensProgram};
 ghost use Rattle.ctd_lint.specs.inner.Run.{EndsArgs, EndsLint, EndsWords, stand};
 
 use crate::command_line::{LintFault, settings};
 use crate::files::lint_all;
+use crate::programs::Programs;
 use crate::usage::{memory_status, usage_status};
-use ctd_process::{Files, Host, copy_words};
+use ctd_process::{Host, copy_words};
 use ctd_report::{NO_VERDICT, Sink, ToWrite, ToolFault};
+use ctd_source::{FromRead, Source};
 use ctd_token::Bytes;
 use std::alloc::Global;
 use std::env::Args;
-use std::io::ErrorKind;
+use std::io::{BufReader, ErrorKind};
 
 /// How a process ended: its status, and its streams as it left them.
 #[derive(Drop)]
@@ -22,24 +26,24 @@ pub(crate) struct Answered<O, E> {
 }
 
 /// Answers the words of a command line: lints the programs that they name, or tells why not, and gives the status.
-fn answer_words<F: Files, O: Sink, E: Sink>(
+fn answer_words<P: Programs, O: Sink, E: Sink>(
     alloc: Global,
     words: &[Bytes],
-    files: &mut F,
+    programs: &mut P,
     out: &mut O,
     err: &mut E,
 ) -> u8
     requires out_works { O.has_failed out.old ≡ false }
     requires err_works { E.has_failed err.old ≡ false }
     ensures { EndsWords
-        (record { opens = F.opens; out = O.Sink; err = E.Sink })
-        words.now (stand files.old out.old err.old) (stand files.new out.new err.new) result }
+        (record { opens = P.opens_program; asks = P.asks_for; source = P.Program.Source; out = O.Sink; err = E.Sink })
+        words.now (stand programs.old out.old err.old) (stand programs.new out.new err.new) result }
 {
     let setup = match settings(alloc, words) {
         Ok(setup) => setup,
         Err(fault) => return usage_status(alloc, &fault, out, err),
     };
-    match lint_all(alloc, &setup, setup.programs.as_slice(), files, out, err) {
+    match lint_all(alloc, &setup, setup.programs.as_slice(), programs, out, err) {
         Ok(status) => status,
         Err(ToolFault::Write) => NO_VERDICT,
         Err(ToolFault::Memory) => memory_status(out, err),
@@ -47,18 +51,18 @@ fn answer_words<F: Files, O: Sink, E: Sink>(
 }
 
 /// Answers the words that the system gave, or that it gave none, with a status.
-fn answer_args<F: Files, O: Sink, E: Sink>(
+fn answer_args<P: Programs, O: Sink, E: Sink>(
     alloc: Global,
     args: Result<Args, ErrorKind>,
-    files: &mut F,
+    programs: &mut P,
     out: &mut O,
     err: &mut E,
 ) -> u8
     requires out_works { O.has_failed out.old ≡ false }
     requires err_works { E.has_failed err.old ≡ false }
     ensures { EndsArgs
-        (record { opens = F.opens; out = O.Sink; err = E.Sink })
-        args (stand files.old out.old err.old) (stand files.new out.new err.new) result }
+        (record { opens = P.opens_program; asks = P.asks_for; source = P.Program.Source; out = O.Sink; err = E.Sink })
+        args (stand programs.old out.old err.old) (stand programs.new out.new err.new) result }
 {
     let args = match args {
         Ok(args) => args,
@@ -72,14 +76,14 @@ fn answer_args<F: Files, O: Sink, E: Sink>(
     let Ok(words) = copy_words(alloc, args) else {
         return memory_status(out, err);
     };
-    answer_words(alloc, words.as_slice(), files, out, err)
+    answer_words(alloc, words.as_slice(), programs, out, err)
 }
 
 /// Answers the words of the process with a status.
 pub(crate) fn answer<H: Host>(alloc: Global, host: &mut H) -> Answered<H::Out, H::Err>
     ensures { EndsLint
         (record { gives_out = H.gives_out; gives_err = H.gives_err; gives_args = H.gives_args; opens = H.opens; takes_input = H.takes_input })
-        (record { opens = H.opens; out = ⟦<ToWrite<H::Out> as Sink>⟧; err = ⟦<ToWrite<H::Err> as Sink>⟧ })
+        (record { opens = OpensProgram H.opens (StartsOn H.File.remaining ⟦<FromRead<BufReader<H::File>> as Source>⟧); asks = AsksFor H.opens; source = ⟦<FromRead<BufReader<H::File>> as Source>⟧; out = ⟦<ToWrite<H::Out> as Sink>⟧; err = ⟦<ToWrite<H::Err> as Sink>⟧ })
         host.old host.new result }
 {
     let mut out = ToWrite::new(host.out());

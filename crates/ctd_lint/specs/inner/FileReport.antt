@@ -1,33 +1,17 @@
 -- What is reported of a file, and of words that name none.
 use Rattle.ctd_lint.specs.declared.command_line.LintFault.TheVariants as faults
 use Rattle.std.specs.Prelude.{◌≡◌, ◌++◌, ℕ, List, None, Option, Some, codes}
-use Rattle.std.specs.declared.alloc.Global.{Global}
-use Rattle.std.specs.declared.io.buffered.BufReader.{BufReader}
-use Rattle.ctd_source.specs.declared.from_read.FromRead.{FromRead}
 use Rattle.ctd_source.specs.declared.source.Source.{Ghosts}
-use Rattle.ctd_process.specs.Process.{StartsOn}
 use Rattle.ctd_report.specs.Report.{Report, on_err, on_out}
 use Rattle.ctd_lint.specs.declared.command_line.LintSetup.{LintSetup}
 use Rattle.ctd_lint.specs.declared.command_line.LintFault.{LintFault}
 use Rattle.ctd_lint.specs.inner.Report.{IsLintReport, call}
 use Rattle.ctd_lint.specs.inner.Text.{open_line}
 
--- the report of what a source gave that reads this file from its start
-pub record IsFileReport {R : Type 0} (remaining : R → Option (List ℕ)) (G : Ghosts (FromRead (BufReader R Global))) (name : List ℕ) (setup : LintSetup) (file : R) (report : Report) : Type 0 where
-  pub old : FromRead (BufReader R Global)
-  pub new : FromRead (BufReader R Global)
-  pub starts : StartsOn remaining G file old
-  pub reports : IsLintReport name setup (call G old new) report
-
--- a file of this name was asked for
-pub record AsksFor {F R : Type 0} (opens : F → List ℕ → Option R → F → Type 0) (old : F) (name : List ℕ) (new : F) : Type 0 where
-  pub file : Option R
-  pub opened : opens old name file new
-
--- the file of this name was opened, and the report is that of what it holds; or it could not be opened, and the report says so
-pub data IsNamedReport {F R : Type 0} (remaining : R → Option (List ℕ)) (G : Ghosts (FromRead (BufReader R Global))) (opens : F → List ℕ → Option R → F → Type 0) (name : List ℕ) (setup : LintSetup) (old new : F) (report : Report) : Type 0 where
-  of_file : (file : R) → opens old name (Some file) new → IsFileReport remaining G name setup file report → IsNamedReport remaining G opens name setup old new report
-  not_opened : opens old name None new → report ≡ on_err (open_line name) → IsNamedReport remaining G opens name setup old new report
+-- the program of this name was opened, and the report is that of what its source gave from then on; or it could not be opened, and the report says so
+pub data IsNamedReport {F S : Type 0} (opens : F → List ℕ → Option S → F → Type 0) (G : Ghosts S) (name : List ℕ) (setup : LintSetup) (old new : F) (report : Report) : Type 0 where
+  of_program : (program after : S) → opens old name (Some program) new → IsLintReport name setup (call G program after) report → IsNamedReport opens G name setup old new report
+  not_opened : opens old name None new → report ≡ on_err (open_line name) → IsNamedReport opens G name setup old new report
 
 -- what is written for a kind of findings that there is not
 abbrev pub unknown_kind_text : List ℕ → List ℕ

@@ -6,5 +6,5 @@ abbrev pub invariant-loop-name : goal.invariant-loop-name
 invariant-loop-name g l = record {
   out_works : g.O.Sink.has_failed l.out ≡ false;
   err_works : g.E.Sink.has_failed l.err ≡ false;
-  linted : Lints (record { opens = g.F.Files.opens; out = g.O.Sink; err = g.E.Sink }) l.setup l.names (stand l.initial.files l.initial.out l.initial.err) (drop l.name-index l.names) l.status (stand l.files l.out l.err);
+  linted : Lints (record { opens = g.P.Programs.opens_program; asks = g.P.Programs.asks_for; source = g.P.Program.Source; out = g.O.Sink; err = g.E.Sink }) l.setup l.names (stand l.initial.programs l.initial.out l.initial.err) (drop l.name-index l.names) l.status (stand l.programs l.out l.err);
 }
