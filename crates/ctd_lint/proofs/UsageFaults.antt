@@ -1,5 +1,5 @@
 -- Which of the rules gives a fault.
-use Rattle.std.proofs.Common.{◌≡◌, ◌∙◌, ◌⊎◌, inl, inr, true, List, Option, None, Some, Result, Ok, Err, ap, codes, is_some, refl, sym, subst}
+use Rattle.std.proofs.Common.{◌≡◌, ◌∙◌, ◌⊎◌, inl, inr, true, List, Option, None, Some, Result, Ok, Err, ap, codes, is_some, sym, subst}
 use Rattle.std.specs.Prelude.{IfErr}
 use Rattle.std.specs.Result.{IsErr, IsErrAnd}
 use Rattle.clap.specs.Words.{Row, Text, all_of, first_of, matches_of}

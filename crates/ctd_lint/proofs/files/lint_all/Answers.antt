@@ -1,6 +1,6 @@
-use Rattle.std.proofs.Common.{◌≡◌, ◌∙◌, ◌∷◌, ◌+◌, ap, drop, refl, rules, subst, sym}
-use Rattle.std.proofs.lemmas.List.{drop_all, drop_more}
-use Rattle.ctd_lint.specs.inner.Run.{LeavesRun, Lints, no_program, stand}
+use Rattle.std.proofs.Common.{◌∙◌, ◌∷◌, ◌+◌, ap, drop, rules, sym}
+use Rattle.std.proofs.lemmas.List.{drop_more}
+use Rattle.ctd_lint.specs.inner.Run.{LeavesRun, no_program, stand}
 use Rattle.ctd_lint.proofs.RunLemmas.{goes_on, holds_on_return, stops}
 use Rattle.ctd_lint.proofs.files.lint_all.Goals as goal
 

@@ -1,9 +1,9 @@
-use Rattle.std.proofs.Common.{Err, Ok, ap, refl, subst}
+use Rattle.std.proofs.Common.{Err, ap, refl, subst}
 use Rattle.ctd_lint.specs.declared.command_line.LintFault.TheVariants as faults
 use Rattle.ctd_lint.specs.inner.FileReport.{usage_report}
 use Rattle.ctd_report.proofs.EndLemmas.{breaks_off}
 use Rattle.ctd_report.specs.Report.{on_err}
-use Rattle.ctd_report.specs.Written.{WritesAll, before_after, whole}
+use Rattle.ctd_report.specs.Written.{before_after, whole}
 use Rattle.ctd_report.specs.calls.Written.{Leaves}
 use Rattle.ctd_lint.proofs.usage.memory_status.Goals as goal
 
