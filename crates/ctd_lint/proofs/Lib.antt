@@ -1,2 +1,4 @@
 pub mod Reports
-pub mod Usage
+pub mod UsageWritten
+pub mod UsageFaults
+pub mod RunLemmas

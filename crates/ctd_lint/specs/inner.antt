@@ -2,4 +2,7 @@
 pub mod CommandLine
 pub mod Text
 pub mod Report
+pub mod Opening
 pub mod FileReport
+pub mod Usage
+pub mod Run

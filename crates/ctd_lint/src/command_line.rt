@@ -1,12 +1,14 @@
 //! The words of the command line.
 
-ghost use Rattle.std.specs.Prelude.{◌≡◌, IfOk, Some, codes, map, option_map};
-ghost use Rattle.clap.specs.Words.{FailsBy, all_of, app_of, fault_of, first_of, found_of, matches_of, rows_of, rule_of};
+ghost use Rattle.std.specs.Prelude.{◌≡◌, ◌⊎◌, All, IfErr, IfOk, IsUtf8, List, MatchResult, None, Some, codes, map, option_map};
+ghost use Rattle.clap.specs.Words.{FailsBy, Text, all_of, app_of, fault_of, first_of, found_of, kind_of, matches_of, rows_of, rule_of};
 ghost use Rattle.ctd_arguments.specs.CommandLine.{define_rule};
 ghost use Rattle.ctd_arguments.specs.inner.RequiredProgram.{IsLocal};
 ghost use Rattle.ctd_arguments.specs.Settings.{ArePresetsOf};
+ghost use Rattle.ctd_arguments.specs.Usage.{IsBadPreset};
 ghost use Rattle.ctd_findings.specs.calls.Kinds.{kind_named};
 ghost use Rattle.ctd_lint.specs.inner.CommandLine.{AreKindsOf, IsLintSetup, ignore_rule, linter, parts, programs_rule};
+ghost use Rattle.ctd_lint.specs.inner.Usage.{IsFoundIn, IsLintFault, TellsUnknown, fault_by_kind, first_unknown, unknown_in};
 
 use clap::error::ErrorKind;
 use clap::{Arg, ArgAction, ArgMatches, Command, Error};
@@ -45,6 +47,10 @@ pub(crate) enum LintFault {
 }
 
 impl From<AllocError> for LintFault {
+    ghost use Rattle.ctd_lint.specs.declared.command_line.LintFault.TheVariants.{Memory};
+
+    ghost from_gives = { λ _ fault. fault ≡ Memory };
+
     fn from(_: AllocError) -> LintFault {
         LintFault::Memory
     }
@@ -106,6 +112,9 @@ fn matches_in<'a>(alloc: Global, words: &'a [&'a str]) -> Result<ArgMatches<'a>,
 /// The words as texts.
 fn texts_of<'w>(alloc: Global, words: &'w [Bytes]) -> Result<Vec<&'w str>, LintFault>
     ensures ok { IfOk result (λ texts. map (λ text. text.now) texts.items ≡ words.now) }
+    ensures text { IfOk result (λ _. All IsUtf8 words.now) }
+    ensures refused { result ≡ Err LintFault.Words → ¬ (All IsUtf8 words.now) }
+    ensures faults { IfErr result (λ fault. (fault ≡ LintFault.Words) ⊎ (fault ≡ LintFault.Memory)) }
 {
     let mut texts = Vec::new(alloc);
     for word in words {
@@ -120,7 +129,9 @@ fn texts_of<'w>(alloc: Global, words: &'w [Bytes]) -> Result<Vec<&'w str>, LintF
 }
 
 /// The fault for an error of clap.
-fn fault_for(error: &Error) -> LintFault {
+fn fault_for(error: &Error) -> LintFault
+    ensures { result ≡ fault_by_kind (kind_of error.now) }
+{
     match error.kind() {
         ErrorKind::DisplayHelp => LintFault::Help,
         ErrorKind::DisplayVersion => LintFault::Version,
@@ -145,7 +156,9 @@ fn values_of<'m, 'a>(matches: &'m ArgMatches<'a>, name: &str) -> Option<&'m [&'a
 
 /// The presets.
 fn presets_of(alloc: Global, text: Option<&str>) -> Result<Presets, LintFault>
-    ensures { IfOk result (ArePresetsOf (option_map (λ t. t.now) text.entry)) }
+    ensures { let given = option_map (λ t. t.now) text.entry in
+        MatchResult result (ArePresetsOf given)
+        (λ f. (f ≡ LintFault.Memory) ⊎ ((f ≡ LintFault.BadPreset) × IsBadPreset given)) }
 {
     match text {
         None => Ok(Presets::none(alloc)),
@@ -166,7 +179,8 @@ fn parts_of<'t>(alloc: Global, text: &'t str) -> Result<Vec<&'t str>, AllocError
 
 /// The kinds of some names.
 fn kinds_named(alloc: Global, names: &[&str]) -> Result<Vec<Kind>, LintFault>
-    ensures { IfOk result (λ kinds. map Some kinds.items ≡ map kind_named (map (λ name. name.now) names.now)) }
+    ensures kinds { IfOk result (λ kinds. map Some kinds.items ≡ map kind_named (map (λ name. name.now) names.now)) }
+    ensures fault { IfErr result (λ f. (f ≡ LintFault.Memory) ⊎ TellsUnknown (first_unknown (map (λ name. name.now) names.now)) f) }
 {
     let mut kinds = Vec::new(alloc);
     for name in names {
@@ -182,7 +196,8 @@ fn kinds_named(alloc: Global, names: &[&str]) -> Result<Vec<Kind>, LintFault>
 
 /// The kinds that are left out.
 fn kinds_of(alloc: Global, text: Option<&str>) -> Result<Vec<Kind>, LintFault>
-    ensures { IfOk result (λ kinds. AreKindsOf (option_map (λ t. t.now) text.entry) kinds.items) }
+    ensures kinds { IfOk result (λ kinds. AreKindsOf (option_map (λ t. t.now) text.entry) kinds.items) }
+    ensures fault { IfErr result (λ f. (f ≡ LintFault.Memory) ⊎ TellsUnknown (unknown_in (option_map (λ t. t.now) text.entry)) f) }
 {
     match text {
         None => Ok(Vec::new(alloc)),
@@ -195,7 +210,8 @@ fn kinds_of(alloc: Global, text: Option<&str>) -> Result<Vec<Kind>, LintFault>
 
 /// Copies of some names.
 fn copies_of(alloc: Global, names: &[&str]) -> Result<Vec<Bytes>, LintFault>
-    ensures { IfOk result (λ copies. copies.items ≡ map (λ name. name.now) names.now) }
+    ensures copies { IfOk result (λ copies. copies.items ≡ map (λ name. name.now) names.now) }
+    ensures fault { IfErr result (λ f. f ≡ LintFault.Memory) }
 {
     let mut copies = Vec::new(alloc);
     for name in names {
@@ -209,7 +225,9 @@ fn copies_of(alloc: Global, names: &[&str]) -> Result<Vec<Bytes>, LintFault>
 
 /// The names of the programs' files.
 fn programs_of(alloc: Global, matches: &ArgMatches<'_>) -> Result<Vec<Bytes>, LintFault>
-    ensures { IfOk result (λ programs. all_of (codes "PROGRAM") (rows_of (found_of matches.now)) ≡ Some programs.items) }
+    ensures { let names = all_of (codes "PROGRAM") (rows_of (found_of matches.now)) in
+        MatchResult result (λ programs. names ≡ Some programs.items)
+        (λ f. (f ≡ LintFault.Memory) ⊎ ((f ≡ LintFault.Words) × (names ≡ None))) }
 {
     match values_of(matches, "PROGRAM") {
         Some(names) => copies_of(alloc, names),
@@ -219,9 +237,8 @@ fn programs_of(alloc: Global, matches: &ArgMatches<'_>) -> Result<Vec<Bytes>, Li
 
 /// What is asked for by the values that clap found.
 fn setup_of(alloc: Global, matches: &ArgMatches<'_>) -> Result<LintSetup, LintFault>
-    ensures programs { IfOk result (λ s. all_of (codes "PROGRAM") (rows_of (found_of matches.now)) ≡ Some s.programs.items) }
-    ensures presets { IfOk result (λ s. ArePresetsOf (first_of (codes "define") (rows_of (found_of matches.now))) s.presets) }
-    ensures ignored { IfOk result (λ s. AreKindsOf (first_of (codes "ignore") (rows_of (found_of matches.now))) s.ignored.items) }
+    ensures setup { IfOk result (λ s. (words : List Text) → IsFoundIn words (rows_of (found_of matches.now)) → IsLintSetup words s) }
+    ensures fault { IfErr result (λ f. (words : List Text) → IsFoundIn words (rows_of (found_of matches.now)) → IsLintFault words f) }
 {
     let programs = programs_of(alloc, matches)?;
     let presets = presets_of(alloc, value_of(matches, "define"))?;
@@ -234,8 +251,12 @@ fn setup_of(alloc: Global, matches: &ArgMatches<'_>) -> Result<LintSetup, LintFa
 }
 
 /// What the words ask for: after the program's own name the two options, and PROGRAM once or more.
+///
+/// The first of these that applies is the fault: a word that is not UTF-8 (Words); what clap refuses, or answers with the
+/// help or the version (Words, Help, Version); BadPreset; UnknownKind. Memory may come at any of them.
 pub(crate) fn settings(alloc: Global, words: &[Bytes]) -> Result<LintSetup, LintFault>
     ensures setup { IfOk result (IsLintSetup words.now) }
+    ensures fault { IfErr result (IsLintFault words.now) }
 {
     let texts = texts_of(alloc, words)?;
     match matches_in(alloc, texts.as_slice()) {

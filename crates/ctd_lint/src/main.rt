@@ -2,16 +2,17 @@
 #![tactic(auto)]
 
 mod command_line;
+mod files;
 mod lint;
 mod process;
+mod programs;
 mod text;
+mod usage;
 
-use ctd_report::ToWrite;
+use ctd_process::System;
 use process::answer;
 use std::process::ExitCode;
 
 fn main(rt: HostRuntime) -> ExitCode {
-    let mut out = ToWrite::new(rt.stdout());
-    let mut err = ToWrite::new(rt.stderr());
-    ExitCode::from(answer(&rt, &mut out, &mut err))
+    ExitCode::from(answer(rt.alloc(), &mut System::new(&rt)).status)
 }

@@ -1,5 +1,5 @@
 -- The options and arguments of ctd-lint, as clap defines what it takes.
-use Rattle.std.specs.Prelude.{◌≡◌, List, [], Option, Some, None, true, codes, map, nat_eq}
+use Rattle.std.specs.Prelude.{◌≡◌, List, [], Option, Some, None, true, codes, map, nat_eq, All, IsUtf8}
 use Rattle.std.specs.List.{slice_split}
 use Rattle.clap.specs.Words.{App, Rule, Text, all_of, fault_of, first_of, matches_of, new_app, new_rule, with_rule}
 use Rattle.clap.specs.Simple.{on_top}
@@ -35,9 +35,13 @@ abbrev pub AreKindsOf : Option Text → List Kind → Type 0
 AreKindsOf None kinds = kinds ≡ []
 AreKindsOf (Some text) kinds = map Some kinds ≡ map kind_named (parts text)
 
--- the words are taken by clap, and name these programs, presets and kinds
+-- the words are texts, and clap takes them
+abbrev pub IsTaken : List Text → Type 0
+IsTaken words = All IsUtf8 words × (fault_of linter words ≡ [])
+
+-- the words are texts that clap takes, and name these programs, presets and kinds
 pub record IsLintSetup (words : List Text) (s : LintSetup) : Type 0 where
-  pub taken : fault_of linter words ≡ []
+  pub taken : IsTaken words
   pub programs : all_of (codes "PROGRAM") (matches_of linter words) ≡ Some s.programs.items
   pub presets : ArePresetsOf (first_of (codes "define") (matches_of linter words)) s.presets
   pub ignored : AreKindsOf (first_of (codes "ignore") (matches_of linter words)) s.ignored.items

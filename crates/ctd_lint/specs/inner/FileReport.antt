@@ -1,20 +1,17 @@
 -- What is reported of a file, and of words that name none.
 use Rattle.ctd_lint.specs.declared.command_line.LintFault.TheVariants as faults
-use Rattle.std.specs.Prelude.{◌≡◌, ◌⊎◌, ◌++◌, ℕ, List, codes}
+use Rattle.std.specs.Prelude.{◌≡◌, ◌++◌, ℕ, List, None, Option, Some, codes}
 use Rattle.ctd_source.specs.declared.source.Source.{Ghosts}
 use Rattle.ctd_report.specs.Report.{Report, on_err, on_out}
 use Rattle.ctd_lint.specs.declared.command_line.LintSetup.{LintSetup}
 use Rattle.ctd_lint.specs.declared.command_line.LintFault.{LintFault}
-use Rattle.ctd_lint.specs.inner.Report.{Call, IsLintReport}
+use Rattle.ctd_lint.specs.inner.Report.{IsLintReport, call}
 use Rattle.ctd_lint.specs.inner.Text.{open_line}
 
--- the report of what some source gave
-abbrev pub IsFileReport : {P : Type 0} → Ghosts P → List ℕ → LintSetup → Report → Type 0
-IsFileReport {P} G file setup report = (program : Call G) × IsLintReport file setup program report
-
--- the report of what some source gave, or that the file cannot be opened
-abbrev pub IsNamedReport : {P : Type 0} → Ghosts P → List ℕ → LintSetup → Report → Type 0
-IsNamedReport G file setup report = (report ≡ on_err (open_line file)) ⊎ IsFileReport G file setup report
+-- the program of this name was opened, and the report is that of what its source gave from then on; or it could not be opened, and the report says so
+pub data IsNamedReport {F S : Type 0} (opens : F → List ℕ → Option S → F → Type 0) (G : Ghosts S) (name : List ℕ) (setup : LintSetup) (old new : F) (report : Report) : Type 0 where
+  of_program : (program after : S) → opens old name (Some program) new → IsLintReport name setup (call G program after) report → IsNamedReport opens G name setup old new report
+  not_opened : opens old name None new → report ≡ on_err (open_line name) → IsNamedReport opens G name setup old new report
 
 -- what is written for a kind of findings that there is not
 abbrev pub unknown_kind_text : List ℕ → List ℕ

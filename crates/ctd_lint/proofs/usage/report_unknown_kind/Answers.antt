@@ -2,7 +2,7 @@ use Rattle.std.proofs.Common.{subst, ◌∙◌}
 use Rattle.ctd_report.specs.Report.{on_err}
 use Rattle.ctd_report.specs.Written.{before_after}
 use Rattle.ctd_report.specs.calls.Written.{Leaves}
-use Rattle.ctd_lint.proofs.process.report_unknown_kind.Goals as goal
+use Rattle.ctd_lint.proofs.usage.report_unknown_kind.Goals as goal
 
 pub returns : goal.returns
 returns g c = record {

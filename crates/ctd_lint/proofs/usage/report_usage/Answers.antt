@@ -2,8 +2,8 @@ use Rattle.ctd_lint.specs.declared.command_line.LintFault.TheVariants as faults
 use Rattle.std.proofs.Common.{ap, refl}
 use Rattle.ctd_report.specs.Report.{on_err, on_out}
 use Rattle.ctd_report.specs.Written.{before_after}
-use Rattle.ctd_lint.proofs.Usage.{usage_written}
-use Rattle.ctd_lint.proofs.process.report_usage.Goals as goal
+use Rattle.ctd_lint.proofs.UsageWritten.{usage_written}
+use Rattle.ctd_lint.proofs.usage.report_usage.Goals as goal
 
 pub returns-in-UnknownKind : goal.returns-in-UnknownKind
 returns-in-UnknownKind g c = record {
