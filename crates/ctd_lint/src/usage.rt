@@ -18,8 +18,8 @@ Usage: ctd-lint [OPTION]... PROGRAM...
 Tell what each PROGRAM cannot mean: a line for each finding.
   -D, --define=<name>=<value>[,...]  preset variables
       --ignore=<kind>[,...]          leave out findings of these kinds
-      --help                         show this text
-      --version                      show the version
+  -h, --help                         show this text
+  -V, --version                      show the version
 ";
 
 /// What is written for words that are not those of a command line of this program.
