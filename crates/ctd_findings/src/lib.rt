@@ -1,6 +1,7 @@
 //! What a program of the checktestdata language cannot mean: names that nothing gives a value, tests that do not depend on the data, and the like.
 #![tactic(auto)]
 
+mod assigned;
 mod block;
 mod command;
 mod finding;
@@ -12,6 +13,8 @@ mod literal;
 mod name_set;
 mod names;
 mod program;
+mod sides;
+mod sort;
 
 pub use finding::{Finding, Remark};
 pub use kind::{Kind, Rank};
