@@ -1,12 +1,22 @@
 //! Tests that compare a variable with itself.
 
 ghost use Rattle.std.specs.Prelude.{◌≡◌};
-ghost use Rattle.ctd_program.specs.calls.View.{expr_tree, test_tree};
-ghost use Rattle.ctd_findings.specs.calls.Sides.{has_pair, has_same_names, has_same_sides, is_same_name, name_in};
+ghost use Rattle.ctd_program.specs.calls.View.{expr_list, expr_tree, test_tree};
+ghost use Rattle.ctd_findings.specs.calls.Sides.{has_pair, has_same_names, has_same_sides, is_same_name, name_in, name_without};
 ghost use Rattle.ctd_findings.specs.inner.Listed.{name_at};
 
 use ctd_program::{Expr, Test};
 use ctd_token::Name;
+
+/// A name that has no indices.
+fn name_without<'p>(name: &'p Name, indices: &[Expr]) -> Option<&'p Name>
+    ensures { name_at result ≡ name_without name.now (expr_list indices.now) }
+{
+    match indices {
+        [] => Some(name),
+        [_, ..] => None,
+    }
+}
 
 /// The name that an expression is, if it is one without indices.
 fn name_in(e: &Expr) -> Option<&Name>
@@ -14,13 +24,7 @@ fn name_in(e: &Expr) -> Option<&Name>
 {
     match e {
         Expr::Name(name) => Some(name),
-        Expr::Element(element) => {
-            let indices = element.indices.as_slice();
-            match indices {
-                [] => Some(&element.name),
-                [_, ..] => None,
-            }
-        }
+        Expr::Element(element) => name_without(&element.name, element.indices.as_slice()),
         Expr::Numeral(_) | Expr::Text(_) | Expr::Strlen(_) | Expr::Minus(_) => None,
         Expr::Add(_, _) | Expr::Sub(_, _) | Expr::Mul(_, _) => None,
         Expr::Div(_, _) | Expr::Rem(_, _) | Expr::Pow(_, _) => None,
