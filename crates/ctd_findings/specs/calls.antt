@@ -6,5 +6,6 @@ pub mod Assigned
 pub mod Facts
 pub mod Sorts
 pub mod Sides
+pub mod Loops
 pub mod Kinds
 pub mod Findings

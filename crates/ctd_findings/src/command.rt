@@ -2,7 +2,7 @@
 
 ghost use Rattle.std.specs.Prelude.{◌≡◌, ◌++◌, ◌∷◌, [], OnOk, IfOk};
 ghost use Rattle.ctd_program.specs.calls.View.{command_tree, expr_tree, guard_tree, test_tree};
-ghost use Rattle.ctd_findings.specs.calls.Findings.{about, command_remarks, follows_endless, follows_eof, guard_test, is_above, is_empty_text, is_endless, is_eof, is_known_true, is_set_aside, loop_test, own_remarks, pattern_remarks, place_remarks, remark_if, remark_unknown, remark_unread, takes_bytes, test_remarks, truth_remarks, unread_kind};
+ghost use Rattle.ctd_findings.specs.calls.Findings.{about, about_if, command_remarks, follows_endless, follows_eof, guard_test, is_above, is_empty_text, is_endless, is_eof, is_known_true, is_set_aside, loop_remarks, loop_test, own_remarks, pattern_remarks, place_remarks, remark_if, remark_unknown, remark_unread, takes_bytes, test_remarks, truth_remarks, unread_kind};
 ghost use Rattle.ctd_findings.specs.inner.Found.{Adds, items_in};
 ghost use Rattle.ctd_findings.specs.inner.Listed.{command_at, facts_known, has_name, in_block, names_at, test_at};
 ghost use Rattle.ctd_findings.specs.calls.Names.{reads, sets, unsets};
@@ -16,6 +16,7 @@ use crate::found::Found;
 use crate::kind::Kind;
 use crate::known::Known;
 use crate::literal::{literal_number, literal_truth};
+use crate::loops::{counter_name, is_set_in, loop_body, some_set_fixed};
 use crate::name_set::NameSet;
 use crate::names::{list_reads, list_sets, list_unsets};
 use crate::sides::{has_same_names, has_same_sides};
@@ -347,6 +348,41 @@ fn list_place<'p>(
     Ok(())
 }
 
+/// Adds a remark about a name where this is so.
+fn remark_about_if(
+    alloc: Global,
+    is_so: bool,
+    kind: Kind,
+    name: &Name,
+    found: &mut Found<Remark>,
+) -> Result<(), AllocError>
+    ensures adds { OnOk result (Adds (items_in found.old) (about_if is_so kind name.now) (items_in found.new)) }
+{
+    if is_so {
+        remark_about(alloc, kind, name, found)?;
+    }
+    Ok(())
+}
+
+/// Adds the remarks on the counter of a loop.
+fn list_counter<'p>(
+    alloc: Global,
+    command: &'p Command,
+    known: &Known<'p>,
+    found: &mut Found<Remark>,
+) -> Result<(), AllocError>
+    ensures adds { OnOk result (Adds (items_in found.old) (loop_remarks (facts_known known.now) (command_tree command.now)) (items_in found.new)) }
+{
+    let Some(name) = counter_name(command) else {
+        return Ok(());
+    };
+    let body = loop_body(command);
+    let is_fixed = !known.read.contains(name) && some_set_fixed(body);
+    remark_about_if(alloc, is_fixed, Kind::LiteralIndex, name, found)?;
+    let is_set = is_set_in(name, body);
+    remark_about_if(alloc, is_set, Kind::CounterSet, name, found)
+}
+
 /// The remarks on a command.
 pub(crate) fn command_remarks<'p>(
     alloc: Global,
@@ -365,6 +401,7 @@ pub(crate) fn command_remarks<'p>(
         Kind::WrongSort,
         &mut found,
     );
+    list_counter(alloc, entry.command, known, &mut found)?;
     list_own(alloc, entry.command, &known.nothing, &mut found)?;
     found.finish()
 }

@@ -29,6 +29,10 @@ pub enum Kind {
     OwnReads,
     /// A number stands where a string is wanted, or a string where a number is wanted.
     WrongSort,
+    /// Nothing reads the counter of this loop, and the loop sets an element whose indices are numerals.
+    LiteralIndex,
+    /// A command in the loop gives its counter a value too.
+    CounterSet,
     /// The test is true whatever the data are.
     AlwaysTrue,
     /// The test is false whatever the data are.
@@ -55,7 +59,7 @@ pub enum Kind {
 
 impl Kind {
     /// All kinds, in the order in which the findings of a command stand.
-    pub const ALL: [Kind; 18] = [
+    pub const ALL: [Kind; 20] = [
         Kind::UnknownPreset,
         Kind::Unreachable,
         Kind::AfterEof,
@@ -63,6 +67,8 @@ impl Kind {
         Kind::Unread,
         Kind::OwnReads,
         Kind::WrongSort,
+        Kind::LiteralIndex,
+        Kind::CounterSet,
         Kind::AlwaysTrue,
         Kind::AlwaysFalse,
         Kind::SameSides,
@@ -88,6 +94,8 @@ impl Kind {
             Kind::Unread => "unread",
             Kind::OwnReads => "own-reads",
             Kind::WrongSort => "wrong-type",
+            Kind::LiteralIndex => "literal-index",
+            Kind::CounterSet => "counter-set",
             Kind::AlwaysTrue => "always-true",
             Kind::AlwaysFalse => "always-false",
             Kind::SameSides => "same-sides",
@@ -108,6 +116,7 @@ impl Kind {
     {
         match self {
             Kind::Unread | Kind::Caret | Kind::NoBound => Rank::Note,
+            Kind::LiteralIndex | Kind::CounterSet => Rank::Note,
             Kind::UnknownPreset | Kind::Unreachable | Kind::NoValue => Rank::Warning,
             Kind::AlwaysTrue | Kind::AlwaysFalse | Kind::EmptyRange => Rank::Warning,
             Kind::EmptyString | Kind::Dollar => Rank::Warning,

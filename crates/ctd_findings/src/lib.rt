@@ -10,6 +10,7 @@ mod kind;
 mod known;
 mod laws;
 mod literal;
+mod loops;
 mod name_set;
 mod names;
 mod program;

@@ -19,7 +19,11 @@ fn kind_text(kind: Kind) -> &'static str
         Kind::NoValue => "nothing gives this name a value (give it a default by SET, or one by -D)",
         Kind::Unread => "nothing reads this variable",
         Kind::OwnReads => "only its own assignments read this variable",
-        Kind::WrongSort => "a number stands where a string is wanted, or a string where a number is wanted",
+        Kind::WrongSort =>
+            "a number stands where a string is wanted, or a string where a number is wanted",
+        Kind::LiteralIndex =>
+            "nothing reads this counter, and the loop sets an element by a literal index",
+        Kind::CounterSet => "a command in the loop sets its counter too",
         Kind::AlwaysTrue => "the test is true whatever the data are",
         Kind::AlwaysFalse => "the test is false whatever the data are",
         Kind::SameSides => "the test compares a variable with itself",

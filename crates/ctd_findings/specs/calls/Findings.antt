@@ -1,7 +1,7 @@
 -- The findings of a program.
 use Rattle.ctd_program.specs.Tree
 use Rattle.ctd_findings.specs.declared.kind.Kind.TheVariants as kinds
-use Rattle.std.specs.Prelude.{ℕ, ℤ, Bool, true, false, ◌||◌, ◌&&◌, codes, List, [], ◌∷◌, ◌++◌, map, Option, Some, None, if◌then◌else◌}
+use Rattle.std.specs.Prelude.{ℕ, ℤ, Bool, true, false, not, ◌||◌, ◌&&◌, codes, List, [], ◌∷◌, ◌++◌, map, Option, Some, None, if◌then◌else◌}
 use Rattle.std.specs.Option.{option_and_then}
 use Rattle.std.specs.Ordering.{int_cmp, is_gt}
 use Rattle.ctd_token.specs.declared.text.Place.{Place}
@@ -14,6 +14,7 @@ use Rattle.ctd_findings.specs.calls.Block.{InBlock, all_commands}
 use Rattle.ctd_findings.specs.calls.Facts.{Facts, facts_of, is_mentioned_in}
 use Rattle.ctd_findings.specs.calls.Sorts.{has_wrong_sort}
 use Rattle.ctd_findings.specs.calls.Sides.{has_same_names, has_same_sides}
+use Rattle.ctd_findings.specs.calls.Loops.{counter_name, is_set_in, loop_body, some_set_fixed}
 use Rattle.ctd_findings.specs.calls.Names.{NameList, begins_with, reads, unsets, sets, preset_names}
 use Rattle.ctd_findings.specs.calls.Literal.{literal_truth, literal_number}
 use Rattle.ctd_outline.specs.calls.Outline.{telling_outline, has_wide_range, starts_with, ends_with, repeats_unbounded}
@@ -183,12 +184,27 @@ takes_bytes (Tree.choice place t then_do else_do) = false
 abbrev pub place_remarks : InBlock → List Remark
 place_remarks x = remark_if (follows_endless x.previous) kinds.Unreachable ++ remark_if (follows_eof x.previous && takes_bytes x.command) kinds.AfterEof
 
+-- a remark about a variable, where this is so
+abbrev pub about_if : Bool → Kind → List ℕ → List Remark
+about_if is_so kind name = if is_so then about kind name ∷ [] else []
+
+-- the remarks on a counter, by the body of its loop
+abbrev pub counter_remarks : Facts → CommandList → Option (List ℕ) → List Remark
+counter_remarks facts body None = []
+counter_remarks facts body (Some name) = about_if (not (facts.is_read name) && some_set_fixed body) kinds.LiteralIndex name
+    ++ about_if (is_set_in name body) kinds.CounterSet name
+
+-- the remarks on the counter of a loop
+abbrev pub loop_remarks : Facts → CommandTree → List Remark
+loop_remarks facts c = counter_remarks facts (loop_body c) (counter_name c)
+
 -- the remarks on a command
 abbrev pub command_remarks : Facts → InBlock → List Remark
 command_remarks facts x = place_remarks x
     ++ remark_unknown kinds.NoValue facts.is_given (reads x.command ++ unsets x.command)
     ++ remark_unread facts (sets x.command)
     ++ remark_if (has_wrong_sort facts x.command) kinds.WrongSort
+    ++ loop_remarks facts x.command
     ++ own_remarks x.command
 
 -- remarks at a place
