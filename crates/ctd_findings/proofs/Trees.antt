@@ -15,6 +15,7 @@ use Rattle.ctd_program.specs.declared.tree.Element as elements
 use Rattle.ctd_program.specs.calls.View.{action_tree, command_list, command_trees, commands_of, expr_list, expr_tree, exprs_of}
 use Rattle.ctd_program.specs.inner.View.{boxed_separator}
 use Rattle.ctd_program.proofs.Trees.{boxed_element, list_commands, loop_tree, choice_tree}
+use Rattle.ctd_program.specs.Tree
 use Rattle.ctd_program.specs.Tree.{place_of}
 use Rattle.ctd_findings.specs.calls.Block.{commands_behind, commands_within, separator_command}
 use Rattle.ctd_findings.specs.calls.Names.{expr_names, index_names}
@@ -32,6 +33,14 @@ pub within_choice : (a : Action) (x : Box Choice) (c : Choice) (place : Place) (
     → commands_within (action_tree a place) ≡ commands_behind None (command_trees cs) ++ commands_behind None (command_trees ds)
 within_choice a x c place cs ds is held then_do else_do = ap commands_within (choice_tree a x c place is held)
     ∙ sym (ap₂ (λ xs ys. xs ++ ys) (block_commands (out-Choice c).then_do cs then_do) (block_commands (out-Choice c).else_do ds else_do))
+
+-- the tree of an element, by what its box holds
+pub element_tree : (e : Expr) (x : Box elements.Element) (el indexed : elements.Element) (es : List Expr) → e ≡ Element x → el ≡ x.value → indexed ≡ x.value → es ≡ exprs_of indexed.indices
+    → expr_tree e ≡ Tree.variable el.name (expr_list es)
+element_tree e x el indexed es is held held_too all =
+    ap expr_tree is ∙ boxed_element x
+    ∙ ap (λ n. Tree.variable n (expr_list (exprs_of x.value.indices))) (ap (λ (y : elements.Element). y.name) (sym held))
+    ∙ ap (λ l. Tree.variable el.name (expr_list l)) (sym (all ∙ ap (λ (y : elements.Element). exprs_of y.indices) held_too))
 
 -- the names in an element, by what its box holds
 pub element_names : (e : Expr) (x : Box elements.Element) (el indexed : elements.Element) (es : List Expr) → e ≡ Element x → el ≡ x.value → indexed ≡ x.value → es ≡ exprs_of indexed.indices

@@ -2,5 +2,10 @@
 pub mod Block
 pub mod Names
 pub mod Literal
+pub mod Assigned
+pub mod Facts
+pub mod Sorts
+pub mod Sides
+pub mod Loops
 pub mod Kinds
 pub mod Findings

@@ -2,12 +2,12 @@
 
 ghost use Rattle.std.specs.Prelude.{◌≡◌, ◌++◌, ◌∷◌, [], OnOk, IfOk};
 ghost use Rattle.ctd_program.specs.calls.View.{command_tree, expr_tree, guard_tree, test_tree};
-ghost use Rattle.ctd_findings.specs.calls.Findings.{about, command_remarks, follows_endless, guard_test, is_above, is_empty_text, is_endless, is_known_true, is_set_aside, loop_test, outline_remarks, own_remarks, remark_if, remark_unknown, remark_unread, truth_remarks};
+ghost use Rattle.ctd_findings.specs.calls.Findings.{about, about_if, command_remarks, follows_endless, follows_eof, guard_test, is_above, is_empty_text, is_endless, is_eof, is_known_true, is_set_aside, loop_remarks, loop_test, own_remarks, pattern_remarks, place_remarks, remark_if, remark_unknown, remark_unread, takes_bytes, test_remarks, truth_remarks, unread_kind};
 ghost use Rattle.ctd_findings.specs.inner.Found.{Adds, items_in};
 ghost use Rattle.ctd_findings.specs.inner.Listed.{command_at, facts_known, has_name, in_block, names_at, test_at};
 ghost use Rattle.ctd_findings.specs.calls.Names.{reads, sets, unsets};
 ghost use Rattle.ctd_findings.specs.calls.Literal.{literal_number, literal_truth, no_variables};
-ghost use Rattle.ctd_outline.specs.calls.Outline.{telling_outline};
+ghost use Rattle.ctd_outline.specs.calls.Outline.{ends_with, has_wide_range, repeats_unbounded, starts_with, telling_outline};
 ghost use Rattle.std.specs.Option.{option_and_then};
 
 use crate::block::CommandInBlock;
@@ -16,9 +16,12 @@ use crate::found::Found;
 use crate::kind::Kind;
 use crate::known::Known;
 use crate::literal::{literal_number, literal_truth};
+use crate::loops::{counter_name, is_set_in, loop_body, some_set_fixed};
 use crate::name_set::NameSet;
 use crate::names::{list_reads, list_sets, list_unsets};
-use ctd_outline::form_of;
+use crate::sides::{has_same_names, has_same_sides};
+use crate::sort::has_wrong_sort;
+use ctd_outline::{Form, form_of};
 use ctd_program::{Action, Command, Expr, LoopGuard, Test};
 use ctd_token::{Bytes, Name};
 use ctd_value::Store;
@@ -73,18 +76,29 @@ fn is_set_aside(name: &Name) -> bool
     bytes.starts_with(b"skip") || bytes.starts_with(b"unused")
 }
 
-/// Adds a remark for each name that nothing reads, but for those that say so.
+/// The kind of a finding about a variable that nothing else reads, by whether its own assignments do.
+fn unread_kind(is_read: bool) -> Kind
+    ensures { result ≡ unread_kind is_read }
+{
+    if is_read {
+        Kind::OwnReads
+    } else {
+        Kind::Unread
+    }
+}
+
+/// Adds a remark for each name that nothing but its own assignments reads, but for those that say so.
 fn list_unread_among<'p>(
     alloc: Global,
     names: &[&'p Name],
-    read: &NameSet<'p>,
+    known: &Known<'p>,
     found: &mut Found<Remark>,
 ) -> Result<(), AllocError>
-    ensures adds { OnOk result (Adds (items_in found.old) (remark_unread (λ name. has_name name read.now) (names_at names.now)) (items_in found.new)) }
+    ensures adds { OnOk result (Adds (items_in found.old) (remark_unread (facts_known known.now) (names_at names.now)) (items_in found.new)) }
 {
     for name in names {
-        if !(read.contains(name) || is_set_aside(name)) {
-            remark_about(alloc, Kind::Unread, name, found)?;
+        if !(known.read_elsewhere.contains(name) || is_set_aside(name)) {
+            remark_about(alloc, unread_kind(known.read.contains(name)), name, found)?;
         }
     }
     Ok(())
@@ -141,18 +155,37 @@ fn follows_endless(
 /// Adds a remark where the truth of a test follows from its literals.
 fn list_truth(
     alloc: Global,
+    t: &Test,
+    nothing: &Store,
+    found: &mut Found<Remark>,
+) -> Result<(), AllocError>
+    requires { nothing.now ≡ no_variables }
+    ensures adds { OnOk result (Adds (items_in found.old) (truth_remarks (literal_truth (test_tree t.now))) (items_in found.new)) }
+{
+    match literal_truth(alloc, t, nothing)? {
+        Some(true) => remark_if(true, Kind::AlwaysTrue, found),
+        Some(false) => remark_if(true, Kind::AlwaysFalse, found),
+        None => (),
+    }
+    Ok(())
+}
+
+/// Adds the remarks on a test, if there is one.
+fn list_test(
+    alloc: Global,
     t: Option<&Test>,
     nothing: &Store,
     found: &mut Found<Remark>,
 ) -> Result<(), AllocError>
     requires { nothing.now ≡ no_variables }
-    ensures adds { OnOk result (Adds (items_in found.old) (truth_remarks (option_and_then literal_truth (test_at t.entry))) (items_in found.new)) }
+    ensures adds { OnOk result (Adds (items_in found.old) (test_remarks (test_at t.entry)) (items_in found.new)) }
 {
-    match truth_of(alloc, t, nothing)? {
-        Some(true) => remark_if(true, Kind::AlwaysTrue, found),
-        Some(false) => remark_if(true, Kind::AlwaysFalse, found),
-        None => (),
-    }
+    let Some(t) = t else {
+        return Ok(());
+    };
+    list_truth(alloc, t, nothing, found)?;
+    remark_if(has_same_sides(t), Kind::SameSides, found);
+    remark_if(has_same_names(t), Kind::SameNames, found);
     Ok(())
 }
 
@@ -181,14 +214,27 @@ fn is_empty_text(e: &Expr) -> bool
     }
 }
 
-/// Adds the remarks of a pattern, by what its outline shows.
-fn list_pattern(alloc: Global, pattern: &[u8], found: &mut Found<Remark>) -> Result<(), AllocError>
-    ensures adds { OnOk result (Adds (items_in found.old) (outline_remarks (telling_outline pattern.now)) (items_in found.new)) }
+/// Adds the remarks on a pattern of this form.
+fn list_form(pattern: &[u8], form: Form, found: &mut Found<Remark>)
+    requires caret { form.starts_with_caret ≡ starts_with 94 (telling_outline pattern.now) }
+    requires dollar { form.ends_with_dollar ≡ ends_with 36 (telling_outline pattern.now) }
+    requires unbounded { form.is_unbounded ≡ repeats_unbounded (telling_outline pattern.now) }
+    requires range { form.has_wide_range ≡ has_wide_range pattern.now }
+    ensures adds { Adds (items_in found.old) (pattern_remarks pattern.now) (items_in found.new) }
 {
-    let form = form_of(alloc, pattern)?;
+    remark_if(pattern.is_empty(), Kind::EmptyPattern, found);
+    remark_if(form.has_wide_range, Kind::LetterRange, found);
     remark_if(form.starts_with_caret, Kind::Caret, found);
     remark_if(form.ends_with_dollar, Kind::Dollar, found);
     remark_if(form.is_unbounded, Kind::NoBound, found);
+}
+
+/// Adds the remarks on a pattern.
+fn list_pattern(alloc: Global, pattern: &[u8], found: &mut Found<Remark>) -> Result<(), AllocError>
+    ensures adds { OnOk result (Adds (items_in found.old) (pattern_remarks pattern.now) (items_in found.new)) }
+{
+    let form = form_of(alloc, pattern)?;
+    list_form(pattern, form, found);
     Ok(())
 }
 
@@ -215,9 +261,9 @@ fn list_own(
             Ok(())
         }
         Action::Regex(regex) => list_pattern(alloc, regex.literal.bytes.as_slice(), found),
-        Action::Assert(t) => list_truth(alloc, Some(t), nothing, found),
-        Action::Loop(repeated) => list_truth(alloc, guard_test(&repeated.guard), nothing, found),
-        Action::If(choice) => list_truth(alloc, Some(&choice.condition), nothing, found),
+        Action::Assert(t) => list_test(alloc, Some(t), nothing, found),
+        Action::Loop(repeated) => list_test(alloc, guard_test(&repeated.guard), nothing, found),
+        Action::If(choice) => list_test(alloc, Some(&choice.condition), nothing, found),
     }
 }
 
@@ -237,19 +283,104 @@ fn list_without_value<'p>(
     list_unknown(alloc, Kind::NoValue, names.as_slice(), given, found)
 }
 
-/// Adds a remark for each name to which a command gives a value and that nothing reads.
+/// Adds a remark for each name to which a command gives a value and that nothing else reads.
 fn list_unread<'p>(
     alloc: Global,
     command: &'p Command,
-    read: &NameSet<'p>,
+    known: &Known<'p>,
     found: &mut Found<Remark>,
 ) -> Result<(), AllocError>
-    ensures adds { OnOk result (Adds (items_in found.old) (remark_unread (λ name. has_name name read.now) (sets (command_tree command.now))) (items_in found.new)) }
+    ensures adds { OnOk result (Adds (items_in found.old) (remark_unread (facts_known known.now) (sets (command_tree command.now))) (items_in found.new)) }
 {
     let mut names = Found::new(alloc);
     list_sets(command, &mut names);
     let names = names.finish()?;
-    list_unread_among(alloc, names.as_slice(), read, found)
+    list_unread_among(alloc, names.as_slice(), known, found)
+}
+
+/// Whether a command is there and is EOF.
+fn follows_eof(previous: Option<&Command>) -> bool
+    ensures { result ≡ follows_eof (command_at previous.entry) }
+{
+    match previous {
+        Some(command) => is_eof(command),
+        None => false,
+    }
+}
+
+/// Whether a command is EOF.
+fn is_eof(command: &Command) -> bool
+    ensures { result ≡ is_eof (command_tree command.now) }
+{
+    match &command.action {
+        Action::Eof => true,
+        Action::Space | Action::Newline | Action::Int(_) | Action::String(_) => false,
+        Action::Regex(_) | Action::Assert(_) | Action::Set(_) | Action::Unset(_) => false,
+        Action::Loop(_) | Action::If(_) => false,
+    }
+}
+
+/// Whether a command takes a byte of the data in every run that it does not end.
+fn takes_bytes(command: &Command) -> bool
+    ensures { result ≡ takes_bytes (command_tree command.now) }
+{
+    match &command.action {
+        Action::Space | Action::Newline | Action::Int(_) => true,
+        Action::Eof | Action::String(_) | Action::Regex(_) | Action::Assert(_) => false,
+        Action::Set(_) | Action::Unset(_) | Action::Loop(_) | Action::If(_) => false,
+    }
+}
+
+/// Adds the remarks that follow from where a command stands.
+fn list_place<'p>(
+    alloc: Global,
+    entry: &CommandInBlock<'p>,
+    nothing: &Store,
+    found: &mut Found<Remark>,
+) -> Result<(), AllocError>
+    requires { nothing.now ≡ no_variables }
+    ensures adds { OnOk result (Adds (items_in found.old) (place_remarks (in_block entry.now)) (items_in found.new)) }
+{
+    let is_unreachable = follows_endless(alloc, entry.previous, nothing)?;
+    remark_if(is_unreachable, Kind::Unreachable, found);
+    let is_behind = follows_eof(entry.previous) && takes_bytes(entry.command);
+    remark_if(is_behind, Kind::AfterEof, found);
+    Ok(())
+}
+
+/// Adds a remark about a name where this is so.
+fn remark_about_if(
+    alloc: Global,
+    is_so: bool,
+    kind: Kind,
+    name: &Name,
+    found: &mut Found<Remark>,
+) -> Result<(), AllocError>
+    ensures adds { OnOk result (Adds (items_in found.old) (about_if is_so kind name.now) (items_in found.new)) }
+{
+    if is_so {
+        remark_about(alloc, kind, name, found)?;
+    }
+    Ok(())
+}
+
+/// Adds the remarks on the counter of a loop.
+fn list_counter<'p>(
+    alloc: Global,
+    command: &'p Command,
+    known: &Known<'p>,
+    found: &mut Found<Remark>,
+) -> Result<(), AllocError>
+    ensures adds { OnOk result (Adds (items_in found.old) (loop_remarks (facts_known known.now) (command_tree command.now)) (items_in found.new)) }
+{
+    let Some(name) = counter_name(command) else {
+        return Ok(());
+    };
+    let body = loop_body(command);
+    let is_fixed = !known.read.contains(name) && some_set_fixed(body);
+    remark_about_if(alloc, is_fixed, Kind::LiteralIndex, name, found)?;
+    let is_set = is_set_in(name, body);
+    remark_about_if(alloc, is_set, Kind::CounterSet, name, found)
 }
 
 /// The remarks on a command.
@@ -262,10 +393,15 @@ pub(crate) fn command_remarks<'p>(
     ensures { IfOk result (λ found. found.items ≡ command_remarks (facts_known known.now) (in_block entry.now)) }
 {
     let mut found = Found::new(alloc);
-    let is_unreachable = follows_endless(alloc, entry.previous, &known.nothing)?;
-    remark_if(is_unreachable, Kind::Unreachable, &mut found);
+    list_place(alloc, entry, &known.nothing, &mut found)?;
     list_without_value(alloc, entry.command, &known.given, &mut found)?;
-    list_unread(alloc, entry.command, &known.read, &mut found)?;
+    list_unread(alloc, entry.command, known, &mut found)?;
+    remark_if(
+        has_wrong_sort(entry.command, known),
+        Kind::WrongSort,
+        &mut found,
+    );
+    list_counter(alloc, entry.command, known, &mut found)?;
     list_own(alloc, entry.command, &known.nothing, &mut found)?;
     found.finish()
 }

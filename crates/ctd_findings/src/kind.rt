@@ -19,18 +19,36 @@ pub enum Kind {
     UnknownPreset,
     /// The loop before the command does not end.
     Unreachable,
+    /// The command before is EOF, and this one takes a byte.
+    AfterEof,
     /// Nothing in the program and no preset gives this name a value.
     NoValue,
     /// This name gets a value here, and nothing reads it.
     Unread,
+    /// Nothing reads this name but its own assignments.
+    OwnReads,
+    /// A number stands where a string is wanted, or a string where a number is wanted.
+    WrongSort,
+    /// Nothing reads the counter of this loop, and the loop sets an element whose indices are numerals.
+    LiteralIndex,
+    /// A command in the loop gives its counter a value too.
+    CounterSet,
     /// The test is true whatever the data are.
     AlwaysTrue,
     /// The test is false whatever the data are.
     AlwaysFalse,
+    /// A variable is compared with itself.
+    SameSides,
+    /// UNIQUE has a name twice in a row.
+    SameNames,
     /// The least integer is above the greatest.
     EmptyRange,
     /// The string is empty.
     EmptyString,
+    /// The pattern is empty.
+    EmptyPattern,
+    /// A class has `A-z`.
+    LetterRange,
     /// The pattern begins with `^`.
     Caret,
     /// The pattern ends with `$`.
@@ -41,15 +59,24 @@ pub enum Kind {
 
 impl Kind {
     /// All kinds, in the order in which the findings of a command stand.
-    pub const ALL: [Kind; 11] = [
+    pub const ALL: [Kind; 20] = [
         Kind::UnknownPreset,
         Kind::Unreachable,
+        Kind::AfterEof,
         Kind::NoValue,
         Kind::Unread,
+        Kind::OwnReads,
+        Kind::WrongSort,
+        Kind::LiteralIndex,
+        Kind::CounterSet,
         Kind::AlwaysTrue,
         Kind::AlwaysFalse,
+        Kind::SameSides,
+        Kind::SameNames,
         Kind::EmptyRange,
         Kind::EmptyString,
+        Kind::EmptyPattern,
+        Kind::LetterRange,
         Kind::Caret,
         Kind::Dollar,
         Kind::NoBound,
@@ -62,12 +89,21 @@ impl Kind {
         match self {
             Kind::UnknownPreset => "unknown-preset",
             Kind::Unreachable => "unreachable",
+            Kind::AfterEof => "after-eof",
             Kind::NoValue => "no-value",
             Kind::Unread => "unread",
+            Kind::OwnReads => "own-reads",
+            Kind::WrongSort => "wrong-type",
+            Kind::LiteralIndex => "literal-index",
+            Kind::CounterSet => "counter-set",
             Kind::AlwaysTrue => "always-true",
             Kind::AlwaysFalse => "always-false",
+            Kind::SameSides => "same-sides",
+            Kind::SameNames => "same-names",
             Kind::EmptyRange => "empty-range",
             Kind::EmptyString => "empty-string",
+            Kind::EmptyPattern => "empty-pattern",
+            Kind::LetterRange => "letter-range",
             Kind::Caret => "caret",
             Kind::Dollar => "dollar",
             Kind::NoBound => "no-bound",
@@ -80,9 +116,13 @@ impl Kind {
     {
         match self {
             Kind::Unread | Kind::Caret | Kind::NoBound => Rank::Note,
+            Kind::LiteralIndex | Kind::CounterSet => Rank::Note,
             Kind::UnknownPreset | Kind::Unreachable | Kind::NoValue => Rank::Warning,
             Kind::AlwaysTrue | Kind::AlwaysFalse | Kind::EmptyRange => Rank::Warning,
             Kind::EmptyString | Kind::Dollar => Rank::Warning,
+            Kind::AfterEof | Kind::OwnReads | Kind::WrongSort => Rank::Warning,
+            Kind::SameSides | Kind::SameNames => Rank::Warning,
+            Kind::EmptyPattern | Kind::LetterRange => Rank::Warning,
         }
     }
 

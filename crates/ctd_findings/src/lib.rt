@@ -1,6 +1,7 @@
 //! What a program of the checktestdata language cannot mean: names that nothing gives a value, tests that do not depend on the data, and the like.
 #![tactic(auto)]
 
+mod assigned;
 mod block;
 mod command;
 mod finding;
@@ -9,9 +10,12 @@ mod kind;
 mod known;
 mod laws;
 mod literal;
+mod loops;
 mod name_set;
 mod names;
 mod program;
+mod sides;
+mod sort;
 
 pub use finding::{Finding, Remark};
 pub use kind::{Kind, Rank};

@@ -1,14 +1,15 @@
 //! The names in expressions and tests, and those that a command reads or gives a value.
 
-ghost use Rattle.std.specs.Prelude.{◌++◌, ◌∷◌, []};
-ghost use Rattle.ctd_program.specs.calls.View.{boxed_target, command_tree, expr_list, expr_tree, guard_tree, target, test_tree};
+ghost use Rattle.std.specs.Prelude.{◌++◌, ◌∷◌, [], OnOk};
+ghost use Rattle.ctd_program.specs.calls.View.{boxed_target, command_tree, expr_list, expr_tree, exprs_of, guard_tree, target, test_tree};
 ghost use Rattle.ctd_findings.specs.inner.Found.{Adds, names_in};
-ghost use Rattle.ctd_findings.specs.inner.Listed.{assigned_trees};
-ghost use Rattle.ctd_findings.specs.calls.Names.{assignment_names, assignment_reads, counts, expr_names, guard_names, index_names, reads, sets, target_name, target_reads, test_names, unsets};
+ghost use Rattle.ctd_findings.specs.inner.Listed.{assigned_trees, names_at};
+ghost use Rattle.ctd_findings.specs.calls.Names.{assignment_names, assignment_reads, assignment_reads_elsewhere, counts, expr_names, guard_names, index_names, others, reads, reads_elsewhere, sets, target_name, target_reads, test_names, unsets};
 
 use crate::found::Found;
 use ctd_program::{Action, Assignment, Command, Expr, IntArguments, LoopGuard, Test, Var};
 use ctd_token::Name;
+use std::alloc::{AllocError, Global};
 
 /// Adds a name.
 pub(crate) fn list_name<'p>(name: &'p Name, found: &mut Found<&'p Name>)
@@ -101,7 +102,7 @@ fn list_target_reads<'p>(variable: &'p Option<Var>, found: &mut Found<&'p Name>)
 }
 
 /// Adds the name of a variable, if there is one.
-fn list_target<'p>(variable: &'p Option<Var>, found: &mut Found<&'p Name>)
+pub(crate) fn list_target<'p>(variable: &'p Option<Var>, found: &mut Found<&'p Name>)
     ensures adds { Adds (names_in found.old) (target_name (target variable.now)) (names_in found.new) }
 {
     match variable {
@@ -158,7 +159,7 @@ fn list_counter_reads<'p>(counter: &'p Option<Box<Var>>, found: &mut Found<&'p N
 }
 
 /// Adds the name of a counter, if there is one.
-fn list_counter<'p>(counter: &'p Option<Box<Var>>, found: &mut Found<&'p Name>)
+pub(crate) fn list_counter<'p>(counter: &'p Option<Box<Var>>, found: &mut Found<&'p Name>)
     ensures adds { Adds (names_in found.old) (target_name (boxed_target counter.now)) (names_in found.new) }
 {
     match counter {
@@ -184,6 +185,66 @@ pub(crate) fn list_reads<'p>(command: &'p Command, found: &mut Found<&'p Name>)
         }
         Action::If(choice) => list_test(&choice.condition, found),
     }
+}
+
+/// Adds those of some names that are not this one.
+fn list_others<'p>(name: &Name, names: &[&'p Name], found: &mut Found<&'p Name>)
+    ensures adds { Adds (names_in found.old) (others name.now (names_at names.now)) (names_in found.new) }
+{
+    for other in names {
+        if other.as_slice() != name.as_slice() {
+            list_name(other, found);
+        }
+    }
+}
+
+/// Adds the names that an assignment reads, but for that of its own variable.
+fn list_assignment_reads_elsewhere<'p>(
+    alloc: Global,
+    assignment: &'p Assignment,
+    found: &mut Found<&'p Name>,
+) -> Result<(), AllocError>
+    ensures adds { OnOk result (Adds (names_in found.old) (others assignment.now.target.name (index_names (expr_list (exprs_of assignment.now.target.indices)) ++ expr_names (expr_tree assignment.now.value))) (names_in found.new)) }
+{
+    let mut names = Found::new(alloc);
+    list_indices(assignment.target.indices.as_slice(), &mut names);
+    list_expr(&assignment.value, &mut names);
+    let names = names.finish()?;
+    list_others(&assignment.target.name, names.as_slice(), found);
+    Ok(())
+}
+
+/// Adds the names that assignments read, but for those of their own variables.
+fn list_all_assignment_reads_elsewhere<'p>(
+    alloc: Global,
+    assignments: &'p [Assignment],
+    found: &mut Found<&'p Name>,
+) -> Result<(), AllocError>
+    ensures adds { OnOk result (Adds (names_in found.old) (assignment_reads_elsewhere (assigned_trees assignments.now)) (names_in found.new)) }
+{
+    for a in assignments {
+        list_assignment_reads_elsewhere(alloc, a, found)?;
+    }
+    Ok(())
+}
+
+/// Adds the names that a command reads, but for those that an assignment reads for its own variable.
+pub(crate) fn list_reads_elsewhere<'p>(
+    alloc: Global,
+    command: &'p Command,
+    found: &mut Found<&'p Name>,
+) -> Result<(), AllocError>
+    ensures adds { OnOk result (Adds (names_in found.old) (reads_elsewhere (command_tree command.now)) (names_in found.new)) }
+{
+    match &command.action {
+        Action::Set(assignments) => {
+            list_all_assignment_reads_elsewhere(alloc, assignments.as_slice(), found)?
+        }
+        Action::Space | Action::Newline | Action::Eof | Action::Unset(_) => (),
+        Action::Int(_) | Action::String(_) | Action::Regex(_) => list_reads(command, found),
+        Action::Assert(_) | Action::Loop(_) | Action::If(_) => list_reads(command, found),
+    }
+    Ok(())
 }
 
 /// Adds the names of UNSET.

@@ -15,12 +15,23 @@ fn kind_text(kind: Kind) -> &'static str
     match kind {
         Kind::UnknownPreset => "the program does not mention this name",
         Kind::Unreachable => "never reached: the loop before does not end",
+        Kind::AfterEof => "nothing can come here: EOF before it asks for the end of the data",
         Kind::NoValue => "nothing gives this name a value (give it a default by SET, or one by -D)",
         Kind::Unread => "nothing reads this variable",
+        Kind::OwnReads => "only its own assignments read this variable",
+        Kind::WrongSort =>
+            "a number stands where a string is wanted, or a string where a number is wanted",
+        Kind::LiteralIndex =>
+            "nothing reads this counter, and the loop sets an element by a literal index",
+        Kind::CounterSet => "a command in the loop sets its counter too",
         Kind::AlwaysTrue => "the test is true whatever the data are",
         Kind::AlwaysFalse => "the test is false whatever the data are",
+        Kind::SameSides => "the test compares a variable with itself",
+        Kind::SameNames => "UNIQUE has a name twice",
         Kind::EmptyRange => "the least integer is above the greatest",
         Kind::EmptyString => "the string is empty",
+        Kind::EmptyPattern => "the pattern is empty",
+        Kind::LetterRange => "A-z has six signs that are no letters, from [ to `",
         Kind::Caret => "a match always begins here, so ^ has no effect",
         Kind::Dollar => "$ is the end of the window, not of a line",
         Kind::NoBound => "the pattern has no bound on its length",

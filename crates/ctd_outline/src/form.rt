@@ -1,7 +1,7 @@
 //! The form of a pattern, by the bytes of its literal.
 
 ghost use Rattle.std.specs.Prelude.{◌≡◌, IfOk};
-ghost use Rattle.ctd_outline.specs.calls.Outline.{ends_with, has_special_group, is_in_count, is_open_count, is_outside, is_special_group, is_unclear, next_part, opens, outline, part_along, part_behind, part_inside, repeats_unbounded, starts_with, telling_outline};
+ghost use Rattle.ctd_outline.specs.calls.Outline.{ends_with, has_special_group, has_wide_range, is_in_count, is_open_count, is_outside, is_special_group, is_unclear, next_part, opens, outline, part_along, part_behind, part_inside, repeats_unbounded, starts_with, telling_outline};
 
 use std::alloc::{AllocError, Global};
 
@@ -14,6 +14,8 @@ pub struct Form {
     pub ends_with_dollar: bool,
     /// It has `*`, `+` or `{n,}`.
     pub is_unbounded: bool,
+    /// A class has `A-z`.
+    pub has_wide_range: bool,
 }
 
 /// How a byte of a pattern stands to the bytes in front of it.
@@ -239,6 +241,20 @@ fn has_special_group(outline: &[u8]) -> bool
     false
 }
 
+/// Whether `A-z` stands in a class.
+fn has_wide_range(pattern: &[u8]) -> bool
+    ensures { result ≡ has_wide_range pattern.now }
+{
+    let mut part = START;
+    for (i, byte) in pattern.iter().enumerate() {
+        if part.depth > 0 && pattern[i..].starts_with(b"A-z") {
+            return true;
+        }
+        part = next_part(part, *byte);
+    }
+    false
+}
+
 /// The outline of a pattern where it tells the form, and else nothing.
 fn telling_outline(alloc: Global, pattern: &[u8]) -> Result<Vec<u8>, AllocError>
     ensures { IfOk result (λ o. o.items ≡ telling_outline pattern.now) }
@@ -256,6 +272,7 @@ pub fn form_of(alloc: Global, pattern: &[u8]) -> Result<Form, AllocError>
     ensures caret { IfOk result (λ form. form.starts_with_caret ≡ starts_with 94 (telling_outline pattern.now)) }
     ensures dollar { IfOk result (λ form. form.ends_with_dollar ≡ ends_with 36 (telling_outline pattern.now)) }
     ensures unbounded { IfOk result (λ form. form.is_unbounded ≡ repeats_unbounded (telling_outline pattern.now)) }
+    ensures range { IfOk result (λ form. form.has_wide_range ≡ has_wide_range pattern.now) }
 {
     let outline = telling_outline(alloc, pattern)?;
     let bytes = outline.as_slice();
@@ -263,5 +280,6 @@ pub fn form_of(alloc: Global, pattern: &[u8]) -> Result<Form, AllocError>
         starts_with_caret: starts_with(b'^', bytes),
         ends_with_dollar: ends_with(b'$', bytes),
         is_unbounded: repeats_unbounded(bytes),
+        has_wide_range: has_wide_range(pattern),
     })
 }

@@ -1,7 +1,7 @@
 -- The findings of a program.
 use Rattle.ctd_program.specs.Tree
 use Rattle.ctd_findings.specs.declared.kind.Kind.TheVariants as kinds
-use Rattle.std.specs.Prelude.{ℕ, ℤ, Bool, true, false, ◌||◌, codes, List, [], ◌∷◌, ◌++◌, map, Option, Some, None, if◌then◌else◌}
+use Rattle.std.specs.Prelude.{ℕ, ℤ, Bool, true, false, not, ◌||◌, ◌&&◌, codes, List, [], ◌∷◌, ◌++◌, map, Option, Some, None, if◌then◌else◌}
 use Rattle.std.specs.Option.{option_and_then}
 use Rattle.std.specs.Ordering.{int_cmp, is_gt}
 use Rattle.ctd_token.specs.declared.text.Place.{Place}
@@ -11,16 +11,13 @@ use Rattle.ctd_findings.specs.declared.finding.Finding.{Finding}
 use Rattle.ctd_findings.specs.declared.finding.Remark.{Remark}
 use Rattle.ctd_findings.specs.declared.kind.Kind.{Kind}
 use Rattle.ctd_findings.specs.calls.Block.{InBlock, all_commands}
-use Rattle.ctd_findings.specs.calls.Names.{NameList, is_among, begins_with, reads, unsets, sets, all_reads, all_given, all_mentioned, preset_names}
+use Rattle.ctd_findings.specs.calls.Facts.{Facts, facts_of, is_mentioned_in}
+use Rattle.ctd_findings.specs.calls.Sorts.{has_wrong_sort}
+use Rattle.ctd_findings.specs.calls.Sides.{has_same_names, has_same_sides}
+use Rattle.ctd_findings.specs.calls.Loops.{counter_name, is_set_in, loop_body, some_set_fixed}
+use Rattle.ctd_findings.specs.calls.Names.{NameList, begins_with, reads, unsets, sets, preset_names}
 use Rattle.ctd_findings.specs.calls.Literal.{literal_truth, literal_number}
-use Rattle.ctd_outline.specs.calls.Outline.{telling_outline, starts_with, ends_with, repeats_unbounded}
-
--- what is asked of the names of a program
-pub record Facts : Type 0 where
-  -- something gives it a value
-  pub is_given : List ℕ → Bool
-  -- something reads it
-  pub is_read : List ℕ → Bool
+use Rattle.ctd_outline.specs.calls.Outline.{telling_outline, has_wide_range, starts_with, ends_with, repeats_unbounded}
 
 -- a remark about no variable
 abbrev pub plain : Kind → Remark
@@ -84,11 +81,29 @@ is_empty_text (Tree.quotient a b) = false
 is_empty_text (Tree.remainder a b) = false
 is_empty_text (Tree.power a b) = false
 
--- the remarks on a pattern, by the outline that tells its form
-abbrev pub outline_remarks : List ℕ → List Remark
-outline_remarks o = remark_if (starts_with 94 o) kinds.Caret
+-- whether a text has no bytes
+abbrev pub is_empty : List ℕ → Bool
+is_empty [] = true
+is_empty (b ∷ rest) = false
+
+-- the remarks on a pattern, where its outline tells its form
+abbrev pub form_remarks : List ℕ → List ℕ → List Remark
+form_remarks pattern o = remark_if (is_empty pattern) kinds.EmptyPattern
+    ++ remark_if (has_wide_range pattern) kinds.LetterRange
+    ++ remark_if (starts_with 94 o) kinds.Caret
     ++ remark_if (ends_with 36 o) kinds.Dollar
     ++ remark_if (repeats_unbounded o) kinds.NoBound
+
+-- the remarks on a pattern
+abbrev pub pattern_remarks : List ℕ → List Remark
+pattern_remarks pattern = form_remarks pattern (telling_outline pattern)
+
+-- the remarks on a test, if there is one
+abbrev pub test_remarks : Option TestTree → List Remark
+test_remarks None = []
+test_remarks (Some t) = truth_remarks (literal_truth t)
+    ++ remark_if (has_same_sides t) kinds.SameSides
+    ++ remark_if (has_same_names t) kinds.SameNames
 
 -- the remarks that follow from a command alone
 abbrev pub own_remarks : CommandTree → List Remark
@@ -97,12 +112,12 @@ own_remarks (Tree.newline place) = []
 own_remarks (Tree.eof place) = []
 own_remarks (Tree.int place low high target) = remark_if (is_above (literal_number low) (literal_number high)) kinds.EmptyRange
 own_remarks (Tree.string place e) = remark_if (is_empty_text e) kinds.EmptyString
-own_remarks (Tree.regex place literal target) = outline_remarks (telling_outline literal.bytes)
-own_remarks (Tree.assert place t) = truth_remarks (literal_truth t)
+own_remarks (Tree.regex place literal target) = pattern_remarks literal.bytes
+own_remarks (Tree.assert place t) = test_remarks (Some t)
 own_remarks (Tree.set place assignments) = []
 own_remarks (Tree.unset place names) = []
-own_remarks (Tree.loop place guard counter separator body) = truth_remarks (option_and_then literal_truth (guard_test guard))
-own_remarks (Tree.choice place t then_do else_do) = truth_remarks (literal_truth t)
+own_remarks (Tree.loop place guard counter separator body) = test_remarks (guard_test guard)
+own_remarks (Tree.choice place t then_do else_do) = test_remarks (Some t)
 
 -- whether a truth is known and is true
 abbrev pub is_known_true : Option Bool → Bool
@@ -122,17 +137,74 @@ follows_endless (Some c) = is_endless c
 abbrev pub is_set_aside : List ℕ → Bool
 is_set_aside name = begins_with (codes "skip") name || begins_with (codes "unused") name
 
--- a remark for each of the names that nothing reads, but for those that say so
-abbrev pub remark_unread : (List ℕ → Bool) → NameList → List Remark
-remark_unread is_read [] = []
-remark_unread is_read (name ∷ rest) =
-    if is_read name || is_set_aside name then remark_unread is_read rest else about kinds.Unread name ∷ remark_unread is_read rest
+-- the kind of a finding about a variable that nothing else reads, by whether its own assignments do
+abbrev pub unread_kind : Bool → Kind
+unread_kind is_read = if is_read then kinds.OwnReads else kinds.Unread
+
+-- a remark for each of the names that nothing but its own assignments reads, but for those that say so
+abbrev pub remark_unread : Facts → NameList → List Remark
+remark_unread facts [] = []
+remark_unread facts (name ∷ rest) =
+    if facts.is_read_elsewhere name || is_set_aside name then remark_unread facts rest else about (unread_kind (facts.is_read name)) name ∷ remark_unread facts rest
+
+-- whether a command is EOF
+abbrev pub is_eof : CommandTree → Bool
+is_eof (Tree.space place) = false
+is_eof (Tree.newline place) = false
+is_eof (Tree.eof place) = true
+is_eof (Tree.int place low high target) = false
+is_eof (Tree.string place e) = false
+is_eof (Tree.regex place literal target) = false
+is_eof (Tree.assert place t) = false
+is_eof (Tree.set place assignments) = false
+is_eof (Tree.unset place names) = false
+is_eof (Tree.loop place guard counter separator body) = false
+is_eof (Tree.choice place t then_do else_do) = false
+
+-- whether the command before is EOF
+abbrev pub follows_eof : Option CommandTree → Bool
+follows_eof None = false
+follows_eof (Some c) = is_eof c
+
+-- whether a command takes a byte of the data in every run that it does not end
+abbrev pub takes_bytes : CommandTree → Bool
+takes_bytes (Tree.space place) = true
+takes_bytes (Tree.newline place) = true
+takes_bytes (Tree.eof place) = false
+takes_bytes (Tree.int place low high target) = true
+takes_bytes (Tree.string place e) = false
+takes_bytes (Tree.regex place literal target) = false
+takes_bytes (Tree.assert place t) = false
+takes_bytes (Tree.set place assignments) = false
+takes_bytes (Tree.unset place names) = false
+takes_bytes (Tree.loop place guard counter separator body) = false
+takes_bytes (Tree.choice place t then_do else_do) = false
+
+-- the remarks that follow from where a command stands
+abbrev pub place_remarks : InBlock → List Remark
+place_remarks x = remark_if (follows_endless x.previous) kinds.Unreachable ++ remark_if (follows_eof x.previous && takes_bytes x.command) kinds.AfterEof
+
+-- a remark about a variable, where this is so
+abbrev pub about_if : Bool → Kind → List ℕ → List Remark
+about_if is_so kind name = if is_so then about kind name ∷ [] else []
+
+-- the remarks on a counter, by the body of its loop
+abbrev pub counter_remarks : Facts → CommandList → Option (List ℕ) → List Remark
+counter_remarks facts body None = []
+counter_remarks facts body (Some name) = about_if (not (facts.is_read name) && some_set_fixed body) kinds.LiteralIndex name
+    ++ about_if (is_set_in name body) kinds.CounterSet name
+
+-- the remarks on the counter of a loop
+abbrev pub loop_remarks : Facts → CommandTree → List Remark
+loop_remarks facts c = counter_remarks facts (loop_body c) (counter_name c)
 
 -- the remarks on a command
 abbrev pub command_remarks : Facts → InBlock → List Remark
-command_remarks facts x = remark_if (follows_endless x.previous) kinds.Unreachable
+command_remarks facts x = place_remarks x
     ++ remark_unknown kinds.NoValue facts.is_given (reads x.command ++ unsets x.command)
-    ++ remark_unread facts.is_read (sets x.command)
+    ++ remark_unread facts (sets x.command)
+    ++ remark_if (has_wrong_sort facts x.command) kinds.WrongSort
+    ++ loop_remarks facts x.command
     ++ own_remarks x.command
 
 -- remarks at a place
@@ -143,22 +215,6 @@ findings_at place remarks = map (λ r. record { place = place; remark = r }) rem
 abbrev pub findings_among : Facts → List InBlock → List Finding
 findings_among facts [] = []
 findings_among facts (x ∷ rest) = findings_at (place_of x.command) (command_remarks facts x) ++ findings_among facts rest
-
--- whether a program or a preset gives a name a value
-abbrev pub is_given_in : List InBlock → List Preset → List ℕ → Bool
-is_given_in commands presets name = is_among name (all_given commands ++ preset_names presets)
-
--- whether a program reads a name
-abbrev pub is_read_in : List InBlock → List ℕ → Bool
-is_read_in commands name = is_among name (all_reads commands)
-
--- the facts of a program, where these presets are given
-abbrev pub facts_of : List InBlock → List Preset → Facts
-facts_of commands presets = record { is_given = is_given_in commands presets; is_read = is_read_in commands }
-
--- whether a program mentions a name
-abbrev pub is_mentioned_in : List InBlock → List ℕ → Bool
-is_mentioned_in commands name = is_among name (all_mentioned commands)
 
 -- the place where a program starts
 abbrev pub start_place : Place

@@ -1,7 +1,8 @@
 -- Which names a command reads, and which it gives a value.
 use Rattle.ctd_program.specs.Tree
-use Rattle.std.specs.Prelude.{ℕ, List, [], ◌∷◌, ◌++◌, map, nat_eq, Bool, Option, Some, None}
+use Rattle.std.specs.Prelude.{ℕ, List, [], ◌∷◌, ◌++◌, map, nat_eq, if◌then◌else◌, Bool, Option, Some, None}
 use Rattle.std.specs.List.{list_any, starts_with}
+use Rattle.std.specs.Str.{bytes_eq}
 use Rattle.ctd_program.specs.declared.preset.Preset.{Preset}
 use Rattle.ctd_program.specs.Tree.{ExprTree, ExprList, VarTree, TestTree, GuardTree, CommandTree}
 use Rattle.ctd_store.specs.Order.{same_bytes}
@@ -130,6 +131,35 @@ counts (Tree.set place assignments) = []
 counts (Tree.unset place names) = []
 counts (Tree.loop place guard counter separator body) = target_name counter
 counts (Tree.choice place t then_do else_do) = []
+
+-- those of some names that are not this one
+abbrev pub others : List ℕ → NameList → NameList
+others name [] = []
+others name (n ∷ rest) = if bytes_eq n name then others name rest else n ∷ others name rest
+
+-- the names that assignments read, but for those of their own variables
+abbrev pub assignment_reads_elsewhere : List (VarTree × ExprTree) → NameList
+assignment_reads_elsewhere [] = []
+assignment_reads_elsewhere (a ∷ rest) = others a.0.name (index_names a.0.indices ++ expr_names a.1) ++ assignment_reads_elsewhere rest
+
+-- the names that a command reads, but for those that an assignment reads for its own variable
+abbrev pub reads_elsewhere : CommandTree → NameList
+reads_elsewhere (Tree.space place) = []
+reads_elsewhere (Tree.newline place) = []
+reads_elsewhere (Tree.eof place) = []
+reads_elsewhere (Tree.int place low high target) = reads (Tree.int place low high target)
+reads_elsewhere (Tree.string place e) = reads (Tree.string place e)
+reads_elsewhere (Tree.regex place literal target) = reads (Tree.regex place literal target)
+reads_elsewhere (Tree.assert place t) = reads (Tree.assert place t)
+reads_elsewhere (Tree.set place assignments) = assignment_reads_elsewhere assignments
+reads_elsewhere (Tree.unset place names) = []
+reads_elsewhere (Tree.loop place guard counter separator body) = reads (Tree.loop place guard counter separator body)
+reads_elsewhere (Tree.choice place t then_do else_do) = reads (Tree.choice place t then_do else_do)
+
+-- the names that some commands read, but for those that assignments read for their own variables
+abbrev pub all_reads_elsewhere : List InBlock → NameList
+all_reads_elsewhere [] = []
+all_reads_elsewhere (x ∷ rest) = reads_elsewhere x.command ++ all_reads_elsewhere rest
 
 -- the names that some commands read
 abbrev pub all_reads : List InBlock → NameList

@@ -1,5 +1,5 @@
 -- What the lists that the code makes stand for, apart from where it lies.
-use Rattle.std.specs.Prelude.{ℕ, Bool, List, map, Option, Some, None}
+use Rattle.std.specs.Prelude.{ℕ, Bool, not, ◌&&◌, List, map, Option, Some, None}
 use Rattle.std.specs.Borrow.{Bor}
 use Rattle.ctd_program.specs.declared.tree.Command.{Command}
 use Rattle.ctd_program.specs.declared.tree.Assignment.{Assignment}
@@ -8,7 +8,7 @@ use Rattle.ctd_program.specs.declared.tree.Test.{Test}
 use Rattle.ctd_program.specs.calls.View.{assignment, command_tree, test_tree}
 use Rattle.ctd_findings.specs.declared.block.CommandInBlock.{CommandInBlock}
 use Rattle.ctd_findings.specs.declared.known.Known.{Known}
-use Rattle.ctd_findings.specs.calls.Findings.{Facts}
+use Rattle.ctd_findings.specs.calls.Facts.{Facts}
 use Rattle.ctd_findings.specs.calls.Block.{InBlock}
 use Rattle.ctd_findings.specs.declared.name_set.NameSet.{NameSet}
 use Rattle.ctd_findings.specs.calls.Names.{NameList}
@@ -46,6 +46,17 @@ abbrev pub test_at : Option (Bor Test) → Option TestTree
 test_at None = None
 test_at (Some t) = Some (test_tree t.now)
 
+-- a name behind a reference, if there is one
+abbrev pub name_at : Option (Bor (List ℕ)) → Option (List ℕ)
+name_at None = None
+name_at (Some n) = Some n.now
+
 -- the facts that are known
 abbrev pub facts_known : Known → Facts
-facts_known known = record { is_given = λ name. has_name name known.given; is_read = λ name. has_name name known.read }
+facts_known known = record {
+  is_given = λ name. has_name name known.given;
+  is_read = λ name. has_name name known.read;
+  is_read_elsewhere = λ name. has_name name known.read_elsewhere;
+  is_number = λ name. has_name name known.given && not (has_name name known.not_numbers);
+  is_text = λ name. has_name name known.given && not (has_name name known.not_texts);
+}

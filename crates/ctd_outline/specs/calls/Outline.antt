@@ -1,6 +1,7 @@
 -- The form of a pattern, by the bytes of its literal.
 use Rattle.ctd_outline.specs.declared.form.Position.TheVariants as position
-use Rattle.std.specs.Prelude.{ℕ, Bool, true, false, not, ◌+◌, ◌-◌, ◌||◌, ◌&&◌, nat_eq, nat_lt, nat_le, List, [], ◌∷◌, ◌++◌, if◌then◌else◌}
+use Rattle.std.specs.Prelude.{ℕ, codes, Bool, true, false, not, ◌+◌, ◌-◌, ◌||◌, ◌&&◌, nat_eq, nat_lt, nat_le, List, [], ◌∷◌, ◌++◌, if◌then◌else◌}
+use Rattle.std.specs.List.{starts_with as begins}
 use Rattle.std.specs.Char.{is_ascii_digit}
 use Rattle.ctd_outline.specs.declared.form.Part.{Part}
 use Rattle.ctd_outline.specs.declared.form.Position.{Position}
@@ -127,3 +128,12 @@ has_special_group (b ∷ rest) = (nat_eq b 40 && is_special_group rest) || has_s
 -- clear end the outline is not right.
 abbrev pub telling_outline : List ℕ → List ℕ
 telling_outline pattern = if is_unclear pattern || has_special_group (outline pattern) then [] else outline pattern
+
+-- from a part on, `A-z` stands in a class
+abbrev pub has_wide_range_from : Part → List ℕ → Bool
+has_wide_range_from p [] = false
+has_wide_range_from p (b ∷ rest) = (nat_lt 0 p.depth && begins nat_eq (b ∷ rest) (codes "A-z")) || has_wide_range_from (next_part p b) rest
+
+-- `A-z` stands in a class
+abbrev pub has_wide_range : List ℕ → Bool
+has_wide_range pattern = has_wide_range_from start pattern

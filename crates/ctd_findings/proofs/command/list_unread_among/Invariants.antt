@@ -1,10 +1,10 @@
 use Rattle.std.proofs.Common.{drop}
 use Rattle.ctd_findings.specs.calls.Findings.{remark_unread}
 use Rattle.ctd_findings.specs.inner.Found.{items_in}
-use Rattle.ctd_findings.specs.inner.Listed.{has_name, names_at}
+use Rattle.ctd_findings.specs.inner.Listed.{facts_known, names_at}
 use Rattle.ctd_findings.proofs.Additions.{Leads}
 use Rattle.ctd_findings.proofs.command.list_unread_among.Given as goal
 
 abbrev pub invariant-loop-name : goal.invariant-loop-name
-invariant-loop-name l = Leads (items_in l.initial.found) (remark_unread (λ name. has_name name l.read) (names_at l.names))
-    (items_in l.found) (remark_unread (λ name. has_name name l.read) (names_at (drop l.name-index l.names)))
+invariant-loop-name l = Leads (items_in l.initial.found) (remark_unread (facts_known l.known) (names_at l.names))
+    (items_in l.found) (remark_unread (facts_known l.known) (names_at (drop l.name-index l.names)))
