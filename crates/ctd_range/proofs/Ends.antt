@@ -1,11 +1,12 @@
 -- What holds between the ends of ranges holds of what is computed of them.
-use Rattle.std.proofs.Common.{◌≡◌, ◌≤◌, ◌<◌, zero, suc, nat_lt, ◌+◌, ◌*◌, ◌^◌, ◌-◌, ℕ, Bool, true, false, ℤ, pos, negsuc, neg_ℤ, ◌+ℤ◌, ◌-ℤ◌, ◌≤ℤ◌, Ok, Err, if◌then◌else◌, refl, subst, arith}
+use Rattle.std.proofs.Common.{◌≡◌, ◌≤◌, ◌<◌, zero, suc, nat_lt, ◌+◌, ◌*◌, ◌^◌, ◌-◌, ℕ, Bool, true, false, ℤ, pos, negsuc, neg_ℤ, ◌+ℤ◌, ◌-ℤ◌, ◌≤ℤ◌, ◌<ℤ◌, Ok, Err, if◌then◌else◌, refl, subst, arith}
 use Rattle.std.proofs.lemmas.Int.{ints}
 use Rattle.std.proofs.lemmas.Bool.Decides.{nat_tests}
 use Rattle.std.proofs.Math.Nat.{mul-le-mul_right}
 use Rattle.std.specs.Int.{int_pow}
 use Rattle.ctd_value.specs.Fault.{Overflow, Exponent}
 use Rattle.ctd_value.specs.Arithmetic.{is_value, in_range, checked_divide, power}
+use Rattle.ctd_range.specs.declared.range.Range.{Range}
 use Rattle.ctd_range.specs.declared.arithmetic.Computed.{Computed}
 use Rattle.ctd_range.specs.declared.arithmetic.End.{End}
 use Rattle.ctd_range.specs.calls.Ranges.{IsIn, Covers}
@@ -116,3 +117,13 @@ zero_less (negsuc n) = omega (arith, ints)
 
 pub zero_is_in : (n : ℕ) → IsIn (record { low = pos 0; high = pos 0; rise = 0; fall = 0 }) n (pos 0)
 zero_is_in n = record { low = omega (arith, ints); high = omega (arith, ints) }
+
+-- numbers beside others
+pub just_below : (b : Range) (high : ℤ) (n : ℕ) (x y : ℤ) → high ≡ b.high -ℤ pos 1 → x <ℤ y → IsIn b n y → (x +ℤ pos (b.fall * n)) ≤ℤ high
+just_below b high n x y is before inside = let h = inside.high in rw is (omega (arith, ints, before, h))
+
+pub just_above : (b : Range) (low : ℤ) (n : ℕ) (x y : ℤ) → low ≡ b.low +ℤ pos 1 → y <ℤ x → IsIn b n y → (low +ℤ pos (b.rise * n)) ≤ℤ x
+just_above b low n x y is before inside = let l = inside.low in rw is (omega (arith, ints, before, l))
+
+pub only_one : (b : Range) (n : ℕ) (y : ℤ) → b.low ≡ b.high → IsIn b n y → y ≡ b.low
+only_one b n y is inside = let l = inside.low in let h = inside.high in omega (arith, ints, l, h)

@@ -24,3 +24,10 @@ paid_high h x s n k = let e : s * suc n ≡ s * n + s = omega arith in omega (ar
 
 pub above_flat : (x low below : ℤ) (f g n : ℕ) → g ≤ f → below ≤ℤ low → (low +ℤ pos (f * n)) ≤ℤ x → (below +ℤ pos (g * n)) ≤ℤ x
 above_flat x low below f g n less there here = let moves : g * n ≤ f * n = mul-le-mul_right n less in omega (arith, ints, here)
+
+pub above_by_gain : (x low below : ℤ) (f g n k : ℕ) → f ≤ g → n ≤ k → (low +ℤ pos (f * n)) ≤ℤ x → (below +ℤ pos ((g - f) * k)) ≤ℤ low → (below +ℤ pos (g * n)) ≤ℤ x
+above_by_gain x low below f g n k more few here gained =
+    let same : f + (g - f) ≡ g = omega arith in
+    let parts : g * n ≡ f * n + (g - f) * n = subst (λ s. s * n ≡ f * n + (g - f) * n) same (split_slope f (g - f) n) in
+    let moves : (g - f) * n ≤ (g - f) * k = mul-le-mul_left (g - f) few in
+    omega (arith, ints, here, gained)

@@ -1,9 +1,9 @@
 //! What an operator gives where its operands are known to lie in ranges.
 
-ghost use Rattle.std.specs.Prelude.{◌≡◌, ◌≤◌, ◌+◌, ◌||◌, true, false, ℕ, ℤ, ◌+ℤ◌, ◌-ℤ◌, ◌*ℤ◌, ◌≤ℤ◌, neg_ℤ, pos};
+ghost use Rattle.std.specs.Prelude.{◌≡◌, ◌≤◌, ◌<◌, ◌+◌, ◌^◌, ◌||◌, true, false, IfSome, ℕ, ℤ, ◌+ℤ◌, ◌-ℤ◌, ◌*ℤ◌, ◌≤ℤ◌, neg_ℤ, pos};
 ghost use Rattle.ctd_value.specs.Arithmetic.{in_range, power, quotient, remainder};
 ghost use Rattle.ctd_range.specs.calls.Ranges.{IsIn, Covers};
-ghost use Rattle.ctd_range.specs.inner.Ranges.{IsCount};
+ghost use Rattle.ctd_range.specs.inner.Ranges.{IsCount, IsTowardsZero};
 ghost use Rattle.ctd_range.specs.inner.Ends.{IsEnd, IsCorner, IsLeastOf, IsGreatestOf};
 
 use crate::range::{Range, every_value};
@@ -197,10 +197,30 @@ fn may_be_zero(a: Range) -> bool
     a.low <= 0 && a.high >= 0
 }
 
-/// The quotient of a number of each range.
-pub fn quotient(_a: Range, b: Range) -> Computed
-    ensures covers { (n : ℕ) (x y : ℤ) → IsIn b n y → Covers result n (quotient x y) }
+/// The numbers from those of a range to 0.
+fn towards_zero(a: Range) -> Range
+    ensures { (n : ℕ) (x z : ℤ) → IsIn a n x → IsTowardsZero x z → IsIn result n z }
 {
+    Range {
+        low: a.low.min(0),
+        high: a.high.max(0),
+        rise: 0,
+        fall: 0,
+    }
+}
+
+/// The quotient of a number of each range. It is no further from 0 than the dividend, and on its side where the divisor is above 0.
+pub fn quotient(a: Range, b: Range) -> Computed
+    ensures covers { (n : ℕ) (x y : ℤ) → IsIn a n x → IsIn b n y → Covers result n (quotient x y) }
+{
+    if b.low >= 1 {
+        return Computed {
+            range: towards_zero(a),
+            overflows: false,
+            divides_by_zero: false,
+            has_bad_exponent: false,
+        };
+    }
     Computed {
         range: every_value(),
         overflows: true,
@@ -209,13 +229,13 @@ pub fn quotient(_a: Range, b: Range) -> Computed
     }
 }
 
-/// The remainder of a number of each range.
-pub fn remainder(_a: Range, b: Range) -> Computed
-    ensures covers { (n : ℕ) (x y : ℤ) → IsIn b n y → Covers result n (remainder x y) }
+/// The remainder of a number of each range. It lies between 0 and the dividend.
+pub fn remainder(a: Range, b: Range) -> Computed
+    ensures covers { (n : ℕ) (x y : ℤ) → IsIn a n x → IsIn b n y → Covers result n (remainder x y) }
 {
     Computed {
-        range: every_value(),
-        overflows: true,
+        range: towards_zero(a),
+        overflows: false,
         divides_by_zero: may_be_zero(b),
         has_bad_exponent: false,
     }
@@ -228,10 +248,38 @@ fn may_be_no_exponent(a: Range) -> bool
     a.low < 0 || a.high > i128::from(u64::MAX)
 }
 
-/// The power of a number by an exponent of a range.
-pub fn power(_a: Range, b: Range) -> Computed
-    ensures covers { (n : ℕ) (x y : ℤ) → IsIn b n y → Covers result n (power x y) }
+/// The greatest power of numbers from 0 to this one by exponents from 0 to this one.
+fn greatest_power(base: i128, exponent: i128) -> Option<i128>
+    ensures { IfSome result (λ most. (p e : ℕ) → pos p ≤ℤ base → pos e ≤ℤ exponent → (e < 2 ^ 64) × (pos (p ^ e) ≤ℤ most)) }
 {
+    match u32::try_from(exponent) {
+        Ok(n) => base.max(1).checked_pow(n),
+        Err(_) => None,
+    }
+}
+
+/// The power of a number by an exponent of a range.
+pub fn power(a: Range, b: Range) -> Computed
+    ensures covers { (n : ℕ) (x y : ℤ) → IsIn a n x → IsIn b n y → Covers result n (power x y) }
+{
+    if a.low >= 0 && b.low >= 0 {
+        match greatest_power(a.high, b.high) {
+            Some(most) => {
+                return Computed {
+                    range: Range {
+                        low: a.low.min(1),
+                        high: most,
+                        rise: 0,
+                        fall: 0,
+                    },
+                    overflows: false,
+                    divides_by_zero: false,
+                    has_bad_exponent: false,
+                };
+            }
+            None => (),
+        }
+    }
     Computed {
         range: every_value(),
         overflows: true,

@@ -6,5 +6,5 @@ mod order;
 mod range;
 
 pub use arithmetic::{Computed, difference, negation, power, product, quotient, remainder, sum};
-pub use order::{at_least, at_most, is_empty, is_within, pay};
+pub use order::{at_least, at_most, greater, is_empty, is_within, less, other, pay, same};
 pub use range::{Range, every_value};
