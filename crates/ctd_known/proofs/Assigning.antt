@@ -1,5 +1,5 @@
 -- What is known once variables got values, or lost them.
-use Rattle.std.proofs.Common.{◌≡◌, ◌≢◌, ◌⊎◌, inl, inr, ℕ, Bool, true, false, IsTrue, IsFalse, List, [], ◌∷◌, map, fold, is_some, Option, Some, None, refl, ap, sym, subst, ◌∙◌}
+use Rattle.std.proofs.Common.{◌≡◌, ◌≢◌, ◌<◌, ◌^◌, ◌⊎◌, inl, inr, ℕ, Bool, true, false, IsTrue, IsFalse, List, [], ◌∷◌, map, fold, is_some, Option, Some, None, refl, ap, sym, subst, ◌∙◌}
 use Rattle.std.specs.Option.{option_or}
 use Rattle.ctd_store.specs.declared.value.Value.{Value}
 use Rattle.ctd_store.specs.Order.{same_values}
@@ -13,7 +13,7 @@ use Rattle.ctd_known.specs.calls.Facts.{EachStands, MayBe, MayHave, NameStands, 
 use Rattle.ctd_known.specs.inner.Facts.{Tells}
 use Rattle.ctd_known.specs.calls.Changed.{AssignsAlone, AssignsElements, Clears}
 use Rattle.ctd_known.specs.inner.Changed.{AreWithin, with_facts}
-use Rattle.ctd_known.proofs.Standing.{each_changed, name_same}
+use Rattle.ctd_known.proofs.Standing.{each_changed, each_few, name_same}
 
 -- keys of different names, or at different indices
 other_names : (name other : List ℕ) (is js : List Value) → other ≢ name → at_key other is ≢ at_key name js
@@ -47,7 +47,7 @@ free_value f n (Some v) none may = absurd (none n v may)
 pub assign_pinned : (pinned known : List Known) (name : List ℕ) (kinds : Kinds) (pin : NameFacts) → Tells pinned name pin → pin.may_lack ≡ false → AssignsAlone pinned known name kinds known
 assign_pinned pinned known name kinds pin tells sure pins n h v stand same each may =
     let key = at_key name [] in
-    let there : is_some (value_at (pins_alone pins) key) ≡ true = sure_value pin n (value_at (pins_alone pins) key) sure (tells n (pins_alone pins) (stand n)).alone in
+    let there : is_some (value_at (pins_alone pins) key) ≡ true = sure_value pin n (value_at (pins_alone pins) key) sure (tells n (pins_alone pins) (stand n (each_few known n h each))).alone in
     let is : is_pinned h key ≡ true = ap is_some (pinned_value pins h key same) ∙ there in
     subst (λ g. EachStands known n g) (sym (pinned_key_stays h key v is)) each
 
@@ -55,7 +55,7 @@ pub assign_free : (pinned known : List Known) (name : List ℕ) (kinds : Kinds) 
     → AssignsAlone pinned known name kinds (map (with_facts name new) known)
 assign_free pinned known name kinds pin facts new pin_tells none tells alone elements pins n h v stand same each may =
     let key = at_key name [] in
-    let there : is_some (value_at (pins_alone pins) key) ≡ false = free_value pin n (value_at (pins_alone pins) key) none (pin_tells n (pins_alone pins) (stand n)).alone in
+    let there : is_some (value_at (pins_alone pins) key) ≡ false = free_value pin n (value_at (pins_alone pins) key) none (pin_tells n (pins_alone pins) (stand n (each_few known n h each))).alone in
     let free : is_pinned h key ≡ false = ap is_some (pinned_value pins h key same) ∙ there in
     let g : History = assign h key v in
     let has : value_at g key ≡ Some v = assigned_key_has_its_value h key v free in
@@ -67,18 +67,18 @@ assign_free pinned known name kinds pin facts new pin_tells none tells alone ele
     each_changed name new known n h g here (λ other is apart. others_stay h name [] v other is apart) each
 
 -- an element
-element_after : (name : List ℕ) (facts new : NameFacts) (kinds : Kinds) (n : ℕ) (h : History) (i : Value) (is : List Value) (v : Value) (j : Value) (js : List Value) (w : Value) (b c : Bool) → same_values (j ∷ js) (i ∷ is) ≡ b → is_pinned h (at_key name (i ∷ is)) ≡ c
+element_after : (name : List ℕ) (facts new : NameFacts) (kinds : Kinds) (n : ℕ) (h : History) (i : Value) (is : List Value) (v : Value) (j : Value) (js : List Value) (w : Value) (b c : Bool) → n < 2 ^ 64 → same_values (j ∷ js) (i ∷ is) ≡ b → is_pinned h (at_key name (i ∷ is)) ≡ c
     → NameStands name facts n h → AreWithin facts.elements new.elements → AreWithin kinds new.elements → MayBe kinds n v → value_at (assign h (at_key name (i ∷ is)) v) (at_key name (j ∷ js)) ≡ Some w → MayBe new.elements n w
-element_after name facts new kinds n h i is v j js w true true same pinned old olds news may has =
-    olds n w (old.elements j js w (ap (λ g. value_at g (at_key name (j ∷ js))) (sym (pinned_key_stays h (at_key name (i ∷ is)) v pinned)) ∙ has))
-element_after name facts new kinds n h i is v j js w true false same free old olds news may has =
+element_after name facts new kinds n h i is v j js w true true few same pinned old olds news may has =
+    olds n w few (old.elements j js w (ap (λ g. value_at g (at_key name (j ∷ js))) (sym (pinned_key_stays h (at_key name (i ∷ is)) v pinned)) ∙ has))
+element_after name facts new kinds n h i is v j js w true false few same free old olds news may has =
     let one : (j ∷ js) ≡ (i ∷ is) = (decides (j ∷ js) (i ∷ is)).0 same in
     let got : Some v ≡ Some w = sym (assigned_key_has_its_value h (at_key name (i ∷ is)) v free) ∙ ap (λ l. value_at (assign h (at_key name (i ∷ is)) v) (at_key name l)) (sym one) ∙ has in
     let it : v ≡ w = cc got in
-    subst (λ x. MayBe new.elements n x) it (news n v may)
-element_after name facts new kinds n h i is v j js w false c different pinned old olds news may has =
+    subst (λ x. MayBe new.elements n x) it (news n v few may)
+element_after name facts new kinds n h i is v j js w false c few different pinned old olds news may has =
     let apart : (j ∷ js) ≢ (i ∷ is) = λ one. (let yes : same_values (j ∷ js) (i ∷ is) ≡ true = (decides (j ∷ js) (i ∷ is)).1 one in absurd (cc (yes, different))) in
-    olds n w (old.elements j js w (sym (assignment_keeps_other_keys h (at_key name (i ∷ is)) (at_key name (j ∷ js)) v (other_indices name (j ∷ js) (i ∷ is) apart)) ∙ has))
+    olds n w few (old.elements j js w (sym (assignment_keeps_other_keys h (at_key name (i ∷ is)) (at_key name (j ∷ js)) v (other_indices name (j ∷ js) (i ∷ is) apart)) ∙ has))
 
 kept_alone : (old new : NameFacts) (n : ℕ) (v : Option Value) → new.may_lack ≡ old.may_lack → new.alone ≡ old.alone → MayHave old n v → MayHave new n v
 kept_alone old new n None lacks alone may = lacks ∙ may
@@ -93,14 +93,14 @@ assign_element known name kinds facts new tells lacks alone olds news n h i is v
     let stays : value_at g (at_key name []) ≡ value_at h (at_key name []) = assignment_keeps_other_keys h key (at_key name []) v (other_indices name [] (i ∷ is) (no_indices i is)) in
     let here : NameStands name new n g = record {
       alone = subst (λ o. MayHave new n o) (sym stays) (kept_alone facts new n (value_at h (at_key name [])) lacks alone old.alone);
-      elements = λ j js w has. element_after name facts new kinds n h i is v j js w (same_values (j ∷ js) (i ∷ is)) (is_pinned h key) refl refl old olds news may has;
+      elements = λ j js w has. element_after name facts new kinds n h i is v j js w (same_values (j ∷ js) (i ∷ is)) (is_pinned h key) (each_few known n h each) refl refl old olds news may has;
     } in
     each_changed name new known n h g here (λ other is' apart. others_stay h name (i ∷ is) v other is' apart) each
 
 -- UNSET
 pub clear_name : (pinned known : List Known) (name : List ℕ) (facts : NameFacts) → Tells pinned name facts → Clears pinned known name (map (with_facts name facts) known)
 clear_name pinned known name facts tells pins n h stand same each =
-    let told : NameStands name facts n (pins_alone pins) = tells n (pins_alone pins) (stand n) in
+    let told : NameStands name facts n (pins_alone pins) = tells n (pins_alone pins) (stand n (each_few known n h each)) in
     let is_pin : (is : List Value) → value_at (unset h name) (at_key name is) ≡ value_at (pins_alone pins) (at_key name is) = λ is. unset_key_has_its_pin h (at_key name is) ∙ pinned_value pins h (at_key name is) same in
     let here : NameStands name facts n (unset h name) = name_same name facts n (pins_alone pins) (unset h name) is_pin told in
     each_changed name facts known n h (unset h name) here (λ other is apart. unset_keeps_other_names h name (at_key other is) apart) each

@@ -1,5 +1,5 @@
 -- What is known of variables, and what follows from it.
-use Rattle.std.proofs.Common.{◌≡◌, ◌≢◌, ◌≤◌, ◌<◌, ◌+◌, ◌⊎◌, inl, inr, ℕ, zero, suc, Bool, true, false, not, ◌&&◌, ◌||◌, ℤ, List, [], ◌∷◌, ◌++◌, map, length, get_or, drop, bytes_eq, Option, Some, None, refl, ap, sym, subst, ◌∙◌, arith, le_trans, if◌then◌else◌}
+use Rattle.std.proofs.Common.{◌≡◌, ◌≢◌, ◌≤◌, ◌<◌, ◌^◌, ◌+◌, ◌⊎◌, inl, inr, ℕ, zero, suc, Bool, true, false, not, ◌&&◌, ◌||◌, ℤ, List, [], ◌∷◌, ◌++◌, map, length, get_or, drop, bytes_eq, Option, Some, None, refl, ap, sym, subst, ◌∙◌, arith, le_trans, if◌then◌else◌}
 use Rattle.std.proofs.lemmas.List.{at_drop_more, drop_all}
 use Rattle.std.proofs.lemmas.Slice.Eq.{bytes_eq-Decides}
 use Rattle.ctd_store.specs.declared.value.Value.{Value}
@@ -13,7 +13,13 @@ use Rattle.ctd_known.specs.declared.facts.NameFacts.{NameFacts}
 use Rattle.ctd_known.specs.declared.facts.Known.{Known}
 use Rattle.ctd_known.specs.calls.Facts.{EachStands, IsImpossible, MayBe, MayHave, NameStands, TellsAll, at_key}
 use Rattle.ctd_known.specs.inner.Facts.{Tells}
-use Rattle.ctd_known.specs.inner.Changed.{AreWithin, NameIsWithin, with_facts}
+use Rattle.ctd_known.specs.inner.Changed.{AreWithin, KindsPay, NameIsWithin, NamePays, with_facts}
+use Rattle.ctd_known.specs.calls.Changed.{PaysStep}
+
+-- no more steps are left than a run may have
+pub each_few : (xs : List Known) (n : ℕ) (h : History) → EachStands xs n h → n < 2 ^ 64
+each_few [] n h each = each
+each_few (x ∷ xs) n h each = each_few xs n h each.1
 
 -- an entry of what is known
 pub each_at : (xs : List Known) (i : ℕ) (d : Known) (n : ℕ) (h : History) → i < length xs → EachStands xs n h → NameStands (get_or xs i d).name.now (get_or xs i d).facts n h
@@ -26,21 +32,21 @@ entry_tells xs i d name inside same n h each = subst (λ m. NameStands m (get_or
 
 -- kinds within kinds
 pub kinds_within : (a b : Kinds) → ((l : Lengths) → a.text ≡ Some l → (m : Lengths) × (b.text ≡ Some m) × (m.least ≤ l.least) × (l.most ≤ m.most))
-    → ((r : Range) → a.number ≡ Some r → (s : Range) × (b.number ≡ Some s) × ((n : ℕ) (x : ℤ) → IsIn r n x → IsIn s n x)) → AreWithin a b
-kinds_within a b lengths numbers n (values.Int x) may = let s = numbers may.0 may.1 in (s.0, s.1, s.2 n x may.2)
-kinds_within a b lengths numbers n (values.Text bytes) may = let m = lengths may.0 may.1 in (m.0, m.1, le_trans m.2 may.2, le_trans may.3 m.3)
+    → ((r : Range) → a.number ≡ Some r → (s : Range) × (b.number ≡ Some s) × ((n : ℕ) (x : ℤ) → n < 2 ^ 64 → IsIn r n x → IsIn s n x)) → AreWithin a b
+kinds_within a b lengths numbers n (values.Int x) few may = let s = numbers may.0 may.1 in (s.0, s.1, s.2 n x few may.2)
+kinds_within a b lengths numbers n (values.Text bytes) few may = let m = lengths may.0 may.1 in (m.0, m.1, le_trans m.2 may.2, le_trans may.3 m.3)
 
-have_within : (a b : NameFacts) → (a.may_lack ≡ true → b.may_lack ≡ true) → AreWithin a.alone b.alone → (n : ℕ) (v : Option Value) → MayHave a n v → MayHave b n v
-have_within a b lacks alone n None may = lacks may
-have_within a b lacks alone n (Some v) may = alone n v may
+have_within : (a b : NameFacts) → (a.may_lack ≡ true → b.may_lack ≡ true) → AreWithin a.alone b.alone → (n : ℕ) (v : Option Value) → n < 2 ^ 64 → MayHave a n v → MayHave b n v
+have_within a b lacks alone n None few may = lacks may
+have_within a b lacks alone n (Some v) few may = alone n v few may
 
 pub name_within : (a b : NameFacts) → (a.may_lack ≡ true → b.may_lack ≡ true) → AreWithin a.alone b.alone → AreWithin a.elements b.elements → NameIsWithin a b
 name_within a b lacks alone elements = record { alone = have_within a b lacks alone; elements = elements }
 
-pub within_stands : (name : List ℕ) (a b : NameFacts) (n : ℕ) (h : History) → NameIsWithin a b → NameStands name a n h → NameStands name b n h
-within_stands name a b n h within stands = record {
-  alone = within.alone n (value_at h (at_key name [])) stands.alone;
-  elements = λ i is v has. within.elements n v (stands.elements i is v has);
+pub within_stands : (name : List ℕ) (a b : NameFacts) (n : ℕ) (h : History) → n < 2 ^ 64 → NameIsWithin a b → NameStands name a n h → NameStands name b n h
+within_stands name a b n h few within stands = record {
+  alone = within.alone n (value_at h (at_key name [])) few stands.alone;
+  elements = λ i is v has. within.elements n v few (stands.elements i is v has);
 }
 
 -- nothing is possible
@@ -73,7 +79,7 @@ name_same name f n h g same stands = record {
 }
 
 pub each_same : (xs : List Known) (n : ℕ) (h g : History) → ((name : List ℕ) (is : List Value) → value_at g (at_key name is) ≡ value_at h (at_key name is)) → EachStands xs n h → EachStands xs n g
-each_same [] n h g same each = tt
+each_same [] n h g same each = each
 each_same (x ∷ xs) n h g same each = (name_same x.name.now x.facts n h g (same x.name.now) each.0, each_same xs n h g same each.1)
 
 -- other facts of one name
@@ -89,10 +95,38 @@ changed_at name facts x n h g here others stands = elim (bytes_eq x.name.now nam
 
 pub each_changed : (name : List ℕ) (facts : NameFacts) (xs : List Known) (n : ℕ) (h g : History) → NameStands name facts n g → ((other : List ℕ) (is : List Value) → other ≢ name → value_at g (at_key other is) ≡ value_at h (at_key other is)) → EachStands xs n h
     → EachStands (map (with_facts name facts) xs) n g
-each_changed name facts [] n h g here others each = tt
+each_changed name facts [] n h g here others each = each
 each_changed name facts (x ∷ xs) n h g here others each = (changed_at name facts x n h g here others each.0, each_changed name facts xs n h g here others each.1)
 
 -- one more entry
 pub each_push : (xs : List Known) (x : Known) (n : ℕ) (h : History) → EachStands xs n h → NameStands x.name.now x.facts n h → EachStands (xs ++ x ∷ []) n h
-each_push [] x n h each one = (one, tt)
+each_push [] x n h each one = (one, each)
 each_push (y ∷ xs) x n h each one = (each.0, each_push xs x n h each.1 one)
+
+-- a step is paid
+kinds_pay_text : (a b : Kinds) → b.text ≡ a.text → ((n : ℕ) (x : ℤ) → MayBe a (suc n) (values.Int x) → MayBe b n (values.Int x)) → KindsPay a b
+kinds_pay_text a b text numbers n (values.Int x) may = numbers n x may
+kinds_pay_text a b text numbers n (values.Text bytes) may = (may.0, text ∙ may.1, may.2, may.3)
+
+pub kinds_pay : (a : Kinds) (r s : Range) → a.number ≡ Some r → ((n : ℕ) (x : ℤ) → IsIn r (suc n) x → IsIn s n x) → KindsPay a (record { text = a.text; number = Some s })
+kinds_pay a r s is pays = kinds_pay_text a (record { text = a.text; number = Some s }) refl (λ n x may. let same : may.0 ≡ r = cc (is, may.1) in (s, refl, pays n x (subst (λ q. IsIn q (suc n) x) same may.2)))
+
+pub no_number_pays : (a : Kinds) → a.number ≡ None → KindsPay a a
+no_number_pays a none = kinds_pay_text a a refl (λ n x may. absurd (cc (none, may.1)))
+
+have_paid : (a b : NameFacts) (n : ℕ) (v : Option Value) → b.may_lack ≡ a.may_lack → KindsPay a.alone b.alone → MayHave a (suc n) v → MayHave b n v
+have_paid a b n None lacks alone may = lacks ∙ may
+have_paid a b n (Some v) lacks alone may = alone n v may
+
+pub name_pays : (a b : NameFacts) → b.may_lack ≡ a.may_lack → KindsPay a.alone b.alone → KindsPay a.elements b.elements → NamePays a b
+name_pays a b lacks alone elements name n h stands = record {
+  alone = have_paid a b n (value_at h (at_key name [])) lacks alone stands.alone;
+  elements = λ i is v has. elements n v (stands.elements i is v has);
+}
+
+pub nothing_paid : (known : List Known) → PaysStep known []
+nothing_paid known n h each = let few = each_few known (suc n) h each in omega (arith, few)
+
+pub one_paid : (known after : List Known) (i : ℕ) (d x : Known) → i < length known → PaysStep known after → x.name.now ≡ (get_or known i d).name.now → NamePays (get_or known i d).facts x.facts → PaysStep known (after ++ x ∷ [])
+one_paid known after i d x inside pays same name n h each =
+    each_push after x n h (pays n h each) (subst (λ m. NameStands m x.facts n h) (sym same) (name (get_or known i d).name.now n h (each_at known i d (suc n) h inside each)))

@@ -1,6 +1,6 @@
 //! What is known of the variables where a command begins.
 
-ghost use Rattle.std.specs.Prelude.{◌≡◌, ◌≤◌, true, false, ℕ, ℤ, Some, None, IfSome, IfOk, map, List};
+ghost use Rattle.std.specs.Prelude.{◌≡◌, ◌≤◌, ◌<◌, ◌^◌, true, false, ℕ, ℤ, Some, None, IfSome, IfOk, map, List};
 ghost use Rattle.ctd_store.specs.declared.value.Value.{Value};
 ghost use Rattle.ctd_range.specs.declared.range.Range.{Range};
 ghost use Rattle.ctd_range.specs.calls.Ranges.{IsIn};
@@ -76,7 +76,7 @@ fn lengths_are_within(a: Option<Lengths>, b: Option<Lengths>) -> bool
 
 /// Whether all numbers are among others.
 fn numbers_are_within(a: Option<Range>, b: Option<Range>) -> bool
-    ensures within { result ≡ true → (r : Range) → a ≡ Some r → (s : Range) × (b ≡ Some s) × ((n : ℕ) (x : ℤ) → IsIn r n x → IsIn s n x) }
+    ensures within { result ≡ true → (r : Range) → a ≡ Some r → (s : Range) × (b ≡ Some s) × ((n : ℕ) (x : ℤ) → n < 2 ^ 64 → IsIn r n x → IsIn s n x) }
 {
     match (a, b) {
         (None, _) => true,
@@ -87,7 +87,7 @@ fn numbers_are_within(a: Option<Range>, b: Option<Range>) -> bool
 
 /// Whether all values are among others.
 pub fn kinds_are_within(a: Kinds, b: Kinds) -> bool
-    ensures within { result ≡ true → (n : ℕ) (v : Value) → MayBe a n v → MayBe b n v }
+    ensures within { result ≡ true → (n : ℕ) (v : Value) → n < 2 ^ 64 → MayBe a n v → MayBe b n v }
 {
     if !lengths_are_within(a.text, b.text) {
         return false;

@@ -16,13 +16,46 @@ fn join_lengths(a: Option<Lengths>, b: Option<Lengths>) -> Option<Lengths> {
     }
 }
 
+/// How far an end with a slope moves over all steps that a run may have.
+fn reach(slope: u64) -> Option<i128> {
+    i128::from(slope).checked_mul(i128::from(u64::MAX))
+}
+
+/// The upper end of two ranges, with its slope: the greater slope where that end is above the other however many steps are left.
+fn join_high(a: Range, b: Range) -> (i128, u64) {
+    let (steep, flat) = if a.fall >= b.fall { (a, b) } else { (b, a) };
+    let most = match reach(steep.fall.saturating_sub(flat.fall)) {
+        Some(gain) => flat.high.checked_add(gain),
+        None => None,
+    };
+    match most {
+        Some(most) if most <= steep.high => (steep.high, steep.fall),
+        _ => (a.high.max(b.high), flat.fall),
+    }
+}
+
+/// The lower end of two ranges, with its slope.
+fn join_low(a: Range, b: Range) -> (i128, u64) {
+    let (steep, flat) = if a.rise >= b.rise { (a, b) } else { (b, a) };
+    let least = match reach(steep.rise.saturating_sub(flat.rise)) {
+        Some(gain) => flat.low.checked_sub(gain),
+        None => None,
+    };
+    match least {
+        Some(least) if least >= steep.low => (steep.low, steep.rise),
+        _ => (a.low.min(b.low), flat.rise),
+    }
+}
+
 /// The range of the numbers of two.
 fn join_ranges(a: Range, b: Range) -> Range {
+    let (low, rise) = join_low(a, b);
+    let (high, fall) = join_high(a, b);
     Range {
-        low: a.low.min(b.low),
-        high: a.high.max(b.high),
-        rise: a.rise.min(b.rise),
-        fall: a.fall.min(b.fall),
+        low,
+        high,
+        rise,
+        fall,
     }
 }
 
@@ -97,8 +130,10 @@ pub fn nowhere<'p>(alloc: Global, known: &[Known<'p>]) -> Result<Vec<Known<'p>>,
     Ok(all)
 }
 
-/// In which round ends that move are given up, and in which a guess is of all values.
-const NO_BOUNDS: usize = 3;
+/// In which rounds ends that move get a slope, are given up, and a guess is of all values.
+const SLOPES: usize = 2;
+
+const NO_BOUNDS: usize = 6;
 
 const ALL_VALUES: usize = 8;
 
@@ -131,46 +166,91 @@ fn widen_lengths(old: Option<Lengths>, all: Option<Lengths>) -> Option<Lengths> 
     }
 }
 
-/// The numbers of both, with no bound where they grew.
-fn widen_numbers(old: Option<Range>, all: Option<Range>) -> Option<Range> {
+/// How far an end moved in a turn, and a slope that is greater by that.
+fn steeper(moved: Option<i128>, slope: u64) -> Option<u64> {
+    let by = match moved {
+        Some(by) => u64::try_from(by).ok()?,
+        None => return None,
+    };
+    slope.checked_add(by.max(1))
+}
+
+/// An upper end that moved, with a slope for that, or with no bound.
+fn widen_high(old: Range, all: Range, is_sloped: bool) -> (i128, u64) {
+    if all.high <= old.high && all.fall >= old.fall {
+        return (all.high, all.fall);
+    }
+    if is_sloped {
+        match steeper(all.high.checked_sub(old.high), old.fall.max(all.fall)) {
+            Some(slope) => match reach(slope) {
+                Some(gain) => match all.high.checked_add(gain) {
+                    Some(high) => return (high, slope),
+                    None => (),
+                },
+                None => (),
+            },
+            None => (),
+        }
+    }
+    (i128::MAX, 0)
+}
+
+/// A lower end that moved, with a slope for that, or with no bound.
+fn widen_low(old: Range, all: Range, is_sloped: bool) -> (i128, u64) {
+    if all.low >= old.low && all.rise >= old.rise {
+        return (all.low, all.rise);
+    }
+    if is_sloped {
+        match steeper(old.low.checked_sub(all.low), old.rise.max(all.rise)) {
+            Some(slope) => match reach(slope) {
+                Some(gain) => match all.low.checked_sub(gain) {
+                    Some(low) => return (low, slope),
+                    None => (),
+                },
+                None => (),
+            },
+            None => (),
+        }
+    }
+    (i128::MIN, 0)
+}
+
+/// The numbers of both, with slopes or no bounds where they grew.
+fn widen_numbers(old: Option<Range>, all: Option<Range>, is_sloped: bool) -> Option<Range> {
     match (old, all) {
-        (Some(old), Some(all)) => Some(Range {
-            low: if all.low < old.low {
-                i128::MIN
-            } else {
-                all.low
-            },
-            high: if all.high > old.high {
-                i128::MAX
-            } else {
-                all.high
-            },
-            rise: if all.low < old.low { 0 } else { all.rise },
-            fall: if all.high > old.high { 0 } else { all.fall },
-        }),
+        (Some(old), Some(all)) => {
+            let (low, rise) = widen_low(old, all, is_sloped);
+            let (high, fall) = widen_high(old, all, is_sloped);
+            Some(Range {
+                low,
+                high,
+                rise,
+                fall,
+            })
+        }
         _ => all,
     }
 }
 
-/// The values of both, with no bound where they grew.
-fn widen_kinds(old: Kinds, all: Kinds) -> Kinds {
+/// The values of both, with slopes or no bounds where they grew.
+fn widen_kinds(old: Kinds, all: Kinds, is_sloped: bool) -> Kinds {
     Kinds {
         text: widen_lengths(old.text, all.text),
-        number: widen_numbers(old.number, all.number),
+        number: widen_numbers(old.number, all.number, is_sloped),
     }
 }
 
 /// A guess of a name by the last one and what held at the end of a turn.
 fn widen_name(old: NameFacts, end: NameFacts, round: usize) -> NameFacts {
     let all = join_names(old, end);
-    if round < NO_BOUNDS {
+    if round < SLOPES {
         return all;
     }
     if round < ALL_VALUES {
         return NameFacts {
             may_lack: all.may_lack,
-            alone: widen_kinds(old.alone, all.alone),
-            elements: widen_kinds(old.elements, all.elements),
+            alone: widen_kinds(old.alone, all.alone, round < NO_BOUNDS),
+            elements: widen_kinds(old.elements, all.elements, round < NO_BOUNDS),
         };
     }
     NameFacts {

@@ -7,6 +7,7 @@ mod expression;
 mod facts;
 mod faults;
 mod guess;
+mod steps;
 mod stop;
 
 pub use assign::{Ground, assign_alone, assign_element, clear};
@@ -15,4 +16,5 @@ pub use expression::{Found, examine, examine_indices, number_faults, text_faults
 pub use facts::{Kinds, Known, Lengths, NameFacts, copied, is_unreachable, is_within};
 pub use faults::{Faults, both, no_faults};
 pub use guess::{nowhere, widened};
+pub use steps::after_step;
 pub use stop::{Stop, pay};

@@ -1,5 +1,5 @@
 -- What is known after a change.
-use Rattle.std.specs.Prelude.{◌≡◌, ℕ, List, [], ◌∷◌}
+use Rattle.std.specs.Prelude.{◌≡◌, ℕ, suc, List, [], ◌∷◌}
 use Rattle.ctd_store.specs.declared.value.Value.{Value}
 use Rattle.ctd_store.specs.Store.{History, Variables, assign, unset}
 use Rattle.ctd_known.specs.declared.facts.Kinds.{Kinds}
@@ -17,3 +17,7 @@ AssignsElements known name kinds after = (n : ℕ) (h : History) (i : Value) (is
 -- of a name that loses what was assigned to it
 abbrev pub Clears : (pinned known : List Known) → List ℕ → List Known → Type 0
 Clears pinned known name after = (pins : Variables) (n : ℕ) (h : History) → PinsStand pinned pins → h.pins ≡ pins → EachStands known n h → EachStands after n (unset h name)
+
+-- what is known once a step is paid
+abbrev pub PaysStep : List Known → List Known → Type 0
+PaysStep known after = (n : ℕ) (h : History) → EachStands known (suc n) h → EachStands after n h

@@ -1,5 +1,5 @@
 -- What is known of the variables where a command begins.
-use Rattle.std.specs.Prelude.{◌≡◌, ◌≤◌, ℕ, true, List, [], ◌∷◌, length, Option, Some, None}
+use Rattle.std.specs.Prelude.{◌≡◌, ◌≤◌, ◌<◌, ◌^◌, ℕ, true, List, [], ◌∷◌, length, Option, Some, None}
 use Rattle.ctd_store.specs.declared.value.Value.{Value}
 use Rattle.ctd_store.specs.declared.value.Value.TheVariants as values
 use Rattle.ctd_store.specs.Store.{Key, History, Variables, value_at}
@@ -29,18 +29,18 @@ pub record NameStands (name : List ℕ) (facts : NameFacts) (n : ℕ) (h : Histo
   pub alone : MayHave facts n (value_at h (at_key name []))
   pub elements : (i : Value) (is : List Value) (v : Value) → value_at h (at_key name (i ∷ is)) ≡ Some v → MayBe facts.elements n v
 
--- all that is known is so
+-- all that is known is so, where no more steps are left than a run may have
 abbrev pub EachStands : List Known → ℕ → History → Type 0
-EachStands [] n h = Unit {0}
+EachStands [] n h = n < 2 ^ 64
 EachStands (x ∷ xs) n h = NameStands x.name.now x.facts n h × EachStands xs n h
 
 -- the pins alone
 abbrev pub pins_alone : Variables → History
 pins_alone pins = record { pins = []; assigned = pins }
 
--- what is known of the pins is so, however many steps are left
+-- what is known of the pins is so, however many steps are left of those that a run may have
 abbrev pub PinsStand : List Known → Variables → Type 0
-PinsStand known pins = (n : ℕ) → EachStands known n (pins_alone pins)
+PinsStand known pins = (n : ℕ) → n < 2 ^ 64 → EachStands known n (pins_alone pins)
 
 -- so does all that is known otherwise
 abbrev pub TellsAll : List Known → List Known → Type 0
