@@ -130,3 +130,13 @@ nothing_paid known n h each = let few = each_few known (suc n) h each in omega (
 pub one_paid : (known after : List Known) (i : ℕ) (d x : Known) → i < length known → PaysStep known after → x.name.now ≡ (get_or known i d).name.now → NamePays (get_or known i d).facts x.facts → PaysStep known (after ++ x ∷ [])
 one_paid known after i d x inside pays same name n h each =
     each_push after x n h (pays n h each) (subst (λ m. NameStands m x.facts n h) (sym same) (name (get_or known i d).name.now n h (each_at known i d (suc n) h inside each)))
+
+-- facts that follow, one more
+pub leads_on : (known others : List Known) (i : ℕ) (d : Known) (facts : NameFacts) → i < length others → Tells known (get_or others i d).name.now facts → NameIsWithin facts (get_or others i d).facts → Leads known (drop i others) others → Leads known (drop (i + 1) others) others
+leads_on known others i d facts inside tells within leads n h each rest =
+    let x : Known = get_or others i d in
+    let one : NameStands x.name.now x.facts n h = within_stands x.name.now facts x.facts n h (each_few known n h each) within (tells n h each) in
+    leads n h each (subst (λ l. EachStands l n h) (sym (at_drop_more (λ l. l) others i d inside)) (one, rest))
+
+pub all_follow : (known others : List Known) (i : ℕ) → length others ≤ i → Leads known (drop i others) others → TellsAll known others
+all_follow known others i all leads n h each = leads n h each (subst (λ l. EachStands l n h) (sym (drop_all i others all)) (each_few known n h each))

@@ -8,19 +8,23 @@ use Rattle.ctd_known.proofs.Applying.{Leads, element_gives, element_is, expr_fir
 use Rattle.ctd_known.proofs.expression.+examine.Goals as goal
 
 pub examine-returns-in-Numeral : goal.examine-returns-in-Numeral
-examine-returns-in-Numeral t c = record { gives = λ k h each.
-    let fits : FitsSigned w128 c.value.result = search rules in
-    let made = rw (to_z-of_z w128 c.value.result fits, c.value.ensures.same) at c.of_number.ensures k in
-    rw c.in-Numeral.is made }
+examine-returns-in-Numeral t c = record {
+  gives = λ k h each.
+      let fits : FitsSigned w128 c.value.result = search rules in
+      let made = rw (to_z-of_z w128 c.value.result fits, c.value.ensures.same) at c.of_number.ensures k in
+      rw c.in-Numeral.is made;
+}
 
 pub examine-returns-in_ok-facts-in-Element : goal.examine-returns-in_ok-facts-in-Element
 examine-returns-in_ok-facts-in-Element t c =
     let name = c.as_slice-in-Element-2.result.now in
     let es = c.as_slice-in-Element.result.now in
-    record { gives = subst (λ u. Gives c.args.known.now u c.of_element.result)
-    (sym (element_is c.args.e.now c.in-Element.element c.deref.result.now c.deref-in-Element.result.now name es c.in-Element.is c.deref.ensures c.as_slice-in-Element.ensures c.deref-in-Element.ensures c.as_slice-in-Element-2.ensures.whole))
-    (element_gives c.args.known.now name es c.in_ok-facts-in-Element.facts c.in_ok-indices-in-Element.indices c.of_element.result c.in_ok-indices-in-Element.ensures.some c.in_ok-indices-in-Element.ensures.fail c.in_ok-facts-in-Element.ensures.tells
-    c.of_element.ensures.value c.of_element.ensures.indices) }
+    record {
+      gives = subst (λ u. Gives c.args.known.now u c.of_element.result)
+          (sym (element_is c.args.e.now c.in-Element.element c.deref.result.now c.deref-in-Element.result.now name es c.in-Element.is c.deref.ensures c.as_slice-in-Element.ensures c.deref-in-Element.ensures c.as_slice-in-Element-2.ensures.whole))
+          (element_gives c.args.known.now name es c.in_ok-facts-in-Element.facts c.in_ok-indices-in-Element.indices c.of_element.result c.in_ok-indices-in-Element.ensures.some c.in_ok-indices-in-Element.ensures.fail c.in_ok-facts-in-Element.ensures.tells
+          c.of_element.ensures.value c.of_element.ensures.indices);
+    }
 
 pub examine_indices-loop-index-preserved : goal.examine_indices-loop-index-preserved
 examine_indices-loop-index-preserved t c =
