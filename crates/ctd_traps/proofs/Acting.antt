@@ -34,7 +34,7 @@ use Rattle.ctd_known.specs.calls.Facts.{EachStands, MayBe, PinsStand, at_key}
 use Rattle.ctd_known.specs.calls.Found.{AllFailBy, Decides, FailsBy, Gives, IsAmong, IsFound, SplitsBy, as_number, as_text}
 use Rattle.ctd_known.specs.calls.Changed.{AssignsAlone, AssignsElements, Clears}
 use Rattle.ctd_known.proofs.Applying.{AreFaults}
-use Rattle.ctd_traps.specs.inner.Walk.{Acts, Assigns, ByTurn, ClearsAll, Counts, Fits, IsAssigned, IsExpected, KeepsValue, Stays}
+use Rattle.ctd_traps.specs.inner.Walk.{IsCounted, Acts, Assigns, ByTurn, ClearsAll, Counts, Fits, IsAssigned, IsExpected, KeepsValue, Stays}
 use Rattle.ctd_traps.proofs.SimpleCommands.{same_why}
 use Rattle.ctd_traps.proofs.Fits.{Between, Same, Short, integer_fits, leading_fits, look_is_none, match_fits, then_fits}
 
@@ -212,6 +212,16 @@ pub count_fails : (g : Found) (own f : Faults) (bad : Bool) (k : ℕ) (r : Resul
 count_fails g own f bad k (Ok (values.Int x)) may fails more wrong good = counted x own f bad wrong (λ is. good is x may)
 count_fails g own f bad k (Ok (values.Text bytes)) may fails more wrong good = more faults.WrongType fails
 count_fails g own f bad k (Err why) may fails more wrong good = more why fails
+
+in_most : (f : Faults) (most n : ℕ) (b : Bool) → nat_lt n (2 ^ 64) ≡ b → (n < 2 ^ 64 → n ≤ most) → FailsBy f (if b then Ok n else Err faults.Count) → IsCounted most f (if b then Ok n else Err faults.Count)
+in_most f most n true is up fails = up (grind (arith, nat_tests, is))
+in_most f most n false is up fails = fails
+
+pub most_counted : (g : Found) (f : Faults) (most k : ℕ) (r : Result Value ValueFault) → IsFound g k r → ((n : ℕ) → n < 2 ^ 64 → MayBe g.kinds k (values.Int (pos n)) → n ≤ most) → FailsBy f ((as_number r) >>= (λ x. in_count x)) → IsCounted most f ((as_number r) >>= (λ x. in_count x))
+most_counted g f most k (Ok (values.Int (pos n))) may up fails = in_most f most n (nat_lt n (2 ^ 64)) refl (λ few. up n few may) fails
+most_counted g f most k (Ok (values.Int (negsuc n))) may up fails = fails
+most_counted g f most k (Ok (values.Text bytes)) may up fails = fails
+most_counted g f most k (Err why) may up fails = fails
 
 -- a variable of the code
 pub var_is : (v : Var) (name : List ℕ) (es : List Expr) → name ≡ v.name → es ≡ exprs_of v.indices → record { name = name; indices = expr_list es } ≡ var_tree v

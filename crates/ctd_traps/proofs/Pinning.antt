@@ -17,16 +17,16 @@ pin_is : (pins : Variables) (name : List ℕ) (is : List Value) (v : Value) (p :
 pin_is pins name is v p same_name same_is same_v = λ i. assign (pins_alone pins) (at_key (same_name i) (same_is i)) (same_v i)
 
 pub pin_alone : (nothing known after : List Known) (kinds : Kinds) (p : Preset) → p.indices ≡ [] → AssignsAlone nothing known p.name kinds after → ((n : ℕ) → MayBe kinds n (value_of p.value)) → PinsStand nothing [] → (pins : Variables) → PinsStand known pins → PinsStand after (with_pin pins p)
-pin_alone nothing known after kinds p none assigns may empty pins stand n =
-    subst (λ h. EachStands after n h) (pin_is pins p.name [] (value_of p.value) p refl (sym (ap (map value_of) none)) refl) (assigns [] n (pins_alone pins) (value_of p.value) empty refl (stand n) (may n))
+pin_alone nothing known after kinds p none assigns may empty pins stand n few =
+    subst (λ h. EachStands after n h) (pin_is pins p.name [] (value_of p.value) p refl (sym (ap (map value_of) none)) refl) (assigns [] n (pins_alone pins) (value_of p.value) empty refl (stand n few) (may n))
 
 element_pin : (known after : List Known) (kinds : Kinds) (p : Preset) (is : List Literal) → p.indices ≡ is → is ≢ [] → AssignsElements known p.name kinds after → ((n : ℕ) → MayBe kinds n (value_of p.value)) → (pins : Variables) → PinsStand known pins → PinsStand after (with_pin pins p)
-element_pin known after kinds p [] same some assigns may pins stand n = absurd (some refl)
-element_pin known after kinds p (i ∷ is) same some assigns may pins stand n =
-    subst (λ h. EachStands after n h) (pin_is pins p.name (value_of i ∷ map value_of is) (value_of p.value) p refl (sym (ap (map value_of) same)) refl) (assigns n (pins_alone pins) (value_of i) (map value_of is) (value_of p.value) (stand n) (may n))
+element_pin known after kinds p [] same some assigns may pins stand n few = absurd (some refl)
+element_pin known after kinds p (i ∷ is) same some assigns may pins stand n few =
+    subst (λ h. EachStands after n h) (pin_is pins p.name (value_of i ∷ map value_of is) (value_of p.value) p refl (sym (ap (map value_of) same)) refl) (assigns n (pins_alone pins) (value_of i) (map value_of is) (value_of p.value) (stand n few) (may n))
 
 pub pin_element : (known after : List Known) (kinds : Kinds) (p : Preset) → p.indices ≢ [] → AssignsElements known p.name kinds after → ((n : ℕ) → MayBe kinds n (value_of p.value)) → (pins : Variables) → PinsStand known pins → PinsStand after (with_pin pins p)
-pin_element known after kinds p some assigns may pins stand n = element_pin known after kinds p p.indices refl some assigns may pins stand n
+pin_element known after kinds p some assigns may pins stand n few = element_pin known after kinds p p.indices refl some assigns may pins stand n few
 
 -- presets one after the other
 abbrev pub PinLeads : (nothing known : List Known) (rest whole : List Preset) → Type 0
@@ -55,4 +55,4 @@ pub nothing_stands : (name : List ℕ) (f : NameFacts) (n : ℕ) → f.may_lack 
 nothing_stands name f n lacks = record { alone = lacks; elements = λ i is v has. absurd (cc has) }
 
 pub one_more_name : (xs : List Known) (x : Known) → x.facts.may_lack ≡ true → PinsStand xs [] → PinsStand (xs ++ x ∷ []) []
-one_more_name xs x lacks stand n = each_push xs x n (pins_alone []) (stand n) (nothing_stands x.name.now x.facts n lacks)
+one_more_name xs x lacks stand n few = each_push xs x n (pins_alone []) (stand n few) (nothing_stands x.name.now x.facts n lacks)

@@ -1,6 +1,7 @@
 -- How loops start, how their turns begin, and what a loop keeps.
-use Rattle.std.proofs.Common.{◌≡◌, ◌-◌, ◌<◌, ◌≤◌, ◌+◌, ◌^◌, ℕ, suc, Bool, true, false, nat_lt, pos, ℤ, ◌*◌, List, [], ◌∷◌, Option, Some, None, Result, Ok, Err, refl, sym, subst, le_trans, arith}
+use Rattle.std.proofs.Common.{◌≡◌, ◌-◌, ◌<◌, ◌≤◌, ◌+◌, ◌^◌, ℕ, suc, Bool, true, false, nat_lt, pos, ℤ, ◌<ℤ◌, ◌*◌, List, [], ◌∷◌, Option, Some, None, Result, Ok, Err, refl, sym, subst, le_trans, arith}
 use Rattle.std.proofs.lemmas.Int.{ints}
+use Rattle.std.proofs.lemmas.Bool.Decides.{nat_tests}
 use Rattle.std.specs.Prelude.{⊤}
 use Rattle.ctd_token.specs.declared.text.Place.{Place}
 use Rattle.ctd_source.specs.TestData.{TestData}
@@ -26,10 +27,11 @@ use Rattle.ctd_known.specs.declared.facts.Known.{Known}
 use Rattle.ctd_known.specs.declared.facts.NameFacts.{NameFacts}
 use Rattle.ctd_known.specs.calls.Facts.{EachStands, MayBe, MayHave, NameStands, PinsStand, TellsAll, at_key}
 use Rattle.ctd_known.specs.calls.Found.{FailsBy, IsAmong, SplitsBy}
+use Rattle.ctd_known.specs.calls.Changed.{PaysStep}
 use Rattle.ctd_known.proofs.Applying.{AreFaults}
 use Rattle.ctd_traps.specs.calls.Traps.{Trap}
 use Rattle.ctd_traps.specs.inner.Holds.{AreListed, Holds}
-use Rattle.ctd_traps.specs.inner.Walk.{Assigns, ByTurn, Counts, CountsTurn, Enters, Fits, IsGuard, Starts, Stays}
+use Rattle.ctd_traps.specs.inner.Walk.{Assigns, ByTurn, Counts, CountsTurn, Enters, Fits, IsCounted, IsGuard, Starts, Stays}
 use Rattle.ctd_traps.specs.inner.Triples.{Before, CommandKeeps, Ends, IsListed, Keeps, Listing, Splits}
 use Rattle.ctd_traps.specs.inner.PostFixpoint.{Guess, IsPostFixpoint, among}
 use Rattle.ctd_traps.proofs.Keeping.{no_steps}
@@ -46,41 +48,67 @@ pub counts_none : (pinned known : List Known) (turn : Range) (f : Faults) → Co
 counts_none pinned known turn f pins d k n s inside stand stays = stays
 
 -- the begin of a turn
-by_number : (inside : State → Type 0) (b : Bool) (t : State) → inside t → ByTurn inside inside b t
-by_number inside true t here = here
-by_number inside false t here = here
-
-times_goes : (pins : Variables) (after : List Known) (f : Faults) (e : ExprTree) (d : TestData) (k n : ℕ) (g : Guard) (t : State) → IsGuard (Tree.turns e) g → Stays pins after n t → Fits f (λ b u. ByTurn (Stays pins after n) (Stays pins after n) b u) (goes_on g k d t)
-times_goes pins after f e d k n (times m) t is here = by_number (Stays pins after n) (nat_lt k m) t here
-times_goes pins after f e d k n (while_true u) t is here = absurd is
-
-pub enters_times : (pinned known after : List Known) (e : ExprTree) (counter : Option VarTree) (turn : Range) (f : Faults) → CountsTurn pinned known counter turn after f → Enters pinned known (Tree.turns e) counter turn after after f
-enters_times pinned known after e counter turn f counts pins d k n s loop guard same inside stand stays =
-    then_fits f (λ _ t. Stays pins after n t) (λ b u. ByTurn (Stays pins after n) (Stays pins after n) b u) (count_turn loop.counter k d s) (λ _ t. goes_on loop.guard k d t)
-    (subst (λ c. Fits f (λ _ t. Stays pins after n t) (count_turn c k d s)) (sym same) (counts pins d k n s inside stand stays)) (λ _ t here. times_goes pins after f e d k n loop.guard t guard here)
-
-while_goes : (pins : Variables) (after on_true others : List Known) (f : Faults) (t : TestTree) (d : TestData) (k n : ℕ) (g : Guard) (u : State) → SplitsBy after t on_true others f → IsGuard (Tree.while t) g → Stays pins after n u → Fits f (λ b v. ByTurn (Stays pins on_true n) (Stays pins others n) b v) (goes_on g k d u)
-while_goes pins after on_true others f t d k n (times m) u splits is here = absurd is
-while_goes pins after on_true others f t d k n (while_true w) u splits is here = subst (λ x. Fits f (λ b v. ByTurn (Stays pins on_true n) (Stays pins others n) b v) (answer x d u)) (sym is) (answer_fits pins after on_true others f t d n u splits here)
-
 more_fits : {A : Type 0} (f g : Faults) (P : A → State → Type 0) (a : Effect A) → AreFaults f g → Fits f P a → Fits g P a
 more_fits f g P (done x t) more fits = fits
 more_fits f g P (rejected reason consumed) more fits = tt
 more_fits f g P (faulty fault consumed) more fits = λ why is. more why (fits why is)
 
-pub enters_while : (pinned known after on_true others : List Known) (t : TestTree) (counter : Option VarTree) (turn : Range) (f g all : Faults) → CountsTurn pinned known counter turn after f → SplitsBy after t on_true others g → AreFaults f all → AreFaults g all → Enters pinned known (Tree.while t) counter turn on_true others all
-enters_while pinned known after on_true others t counter turn f g all counts splits more_f more_g pins d k n s loop guard same inside stand stays =
+pub before_count : (k m : ℕ) → k < m → pos k <ℤ pos m
+before_count k m less = omega (arith, ints, less)
+
+pub in_counts : (most m n : ℕ) → m ≤ most → IsIn (record { low = pos 0; high = pos most; rise = 0; fall = 0 }) n (pos m)
+in_counts most m n up = record { low = omega (arith, ints); high = omega (arith, ints, up) }
+
+-- the parts of a turn of a loop that counts
+pub record TimesParts (pinned known inside over : List Known) (counter : Option VarTree) (turn below : Range) (most : ℕ) (f g all : Faults) : Type 0 where
+  pub goes_on : CountsTurn pinned known counter below inside f
+  pub is_over : CountsTurn pinned known counter turn over g
+  pub narrower : (n k m : ℕ) → k < m → m ≤ most → IsIn turn n (pos k) → IsIn below n (pos k)
+  pub by_f : AreFaults f all
+  pub by_g : AreFaults g all
+
+times_turn : (pinned known inside over : List Known) (counter : Option VarTree) (turn below : Range) (most : ℕ) (f g all : Faults) → TimesParts pinned known inside over counter turn below most f g all → (pins : Variables) (d : TestData) (k n m : ℕ) (s : State) (b : Bool) → nat_lt k m ≡ b → m ≤ most → IsIn turn n (pos k) → PinsStand pinned pins → Stays pins known n s
+    → Fits all (λ b u. ByTurn (Stays pins inside n) (Stays pins over n) b u) (proceed (count_turn counter k d s) (λ _ t. goes_on (times m) k d t))
+times_turn pinned known inside over counter turn below most f g all p pins d k n m s true is up here stand stays =
+    then_fits all (λ _ t. Stays pins inside n t) (λ b u. ByTurn (Stays pins inside n) (Stays pins over n) b u) (count_turn counter k d s) (λ _ t. goes_on (times m) k d t)
+    (more_fits f all (λ _ t. Stays pins inside n t) (count_turn counter k d s) p.by_f (p.goes_on pins d k n s (p.narrower n k m (grind (arith, nat_tests, is)) up here) stand stays))
+    (λ _ t there. subst (λ b. ByTurn (Stays pins inside n) (Stays pins over n) b t) (sym is) there)
+times_turn pinned known inside over counter turn below most f g all p pins d k n m s false is up here stand stays =
+    then_fits all (λ _ t. Stays pins over n t) (λ b u. ByTurn (Stays pins inside n) (Stays pins over n) b u) (count_turn counter k d s) (λ _ t. goes_on (times m) k d t)
+    (more_fits g all (λ _ t. Stays pins over n t) (count_turn counter k d s) p.by_g (p.is_over pins d k n s here stand stays))
+    (λ _ t there. subst (λ b. ByTurn (Stays pins inside n) (Stays pins over n) b t) (sym is) there)
+
+guarded_turn : (pinned known inside over : List Known) (e : ExprTree) (counter : Option VarTree) (turn below : Range) (most : ℕ) (f g all : Faults) → TimesParts pinned known inside over counter turn below most f g all → (pins : Variables) (d : TestData) (k n : ℕ) (s : State) (guard : Guard) → IsGuard (Tree.turns e) most guard → IsIn turn n (pos k) → PinsStand pinned pins → Stays pins known n s
+    → Fits all (λ b u. ByTurn (Stays pins inside n) (Stays pins over n) b u) (proceed (count_turn counter k d s) (λ _ t. goes_on guard k d t))
+guarded_turn pinned known inside over e counter turn below most f g all p pins d k n s (times m) is here stand stays = times_turn pinned known inside over counter turn below most f g all p pins d k n m s (nat_lt k m) refl is here stand stays
+guarded_turn pinned known inside over e counter turn below most f g all p pins d k n s (while_true u) is here stand stays = absurd is
+
+pub enters_times : (pinned known inside over : List Known) (e : ExprTree) (counter : Option VarTree) (turn below : Range) (most : ℕ) (f g all : Faults) → TimesParts pinned known inside over counter turn below most f g all → Enters pinned known (Tree.turns e) most counter turn inside over all
+enters_times pinned known inside over e counter turn below most f g all p pins d k n s loop guard same here stand stays =
+    subst (λ c. Fits all (λ b u. ByTurn (Stays pins inside n) (Stays pins over n) b u) (proceed (count_turn c k d s) (λ _ t. goes_on loop.guard k d t))) (sym same) (guarded_turn pinned known inside over e counter turn below most f g all p pins d k n s loop.guard guard here stand stays)
+
+while_goes : (pins : Variables) (after on_true others : List Known) (f : Faults) (t : TestTree) (d : TestData) (k n most : ℕ) (g : Guard) (u : State) → SplitsBy after t on_true others f → IsGuard (Tree.while t) most g → Stays pins after n u → Fits f (λ b v. ByTurn (Stays pins on_true n) (Stays pins others n) b v) (goes_on g k d u)
+while_goes pins after on_true others f t d k n most (times m) u splits is here = absurd is
+while_goes pins after on_true others f t d k n most (while_true w) u splits is here = subst (λ x. Fits f (λ b v. ByTurn (Stays pins on_true n) (Stays pins others n) b v) (answer x d u)) (sym is) (answer_fits pins after on_true others f t d n u splits here)
+
+pub enters_while : (pinned known after on_true others : List Known) (t : TestTree) (counter : Option VarTree) (turn : Range) (most : ℕ) (f g all : Faults) → CountsTurn pinned known counter turn after f → SplitsBy after t on_true others g → AreFaults f all → AreFaults g all → Enters pinned known (Tree.while t) most counter turn on_true others all
+enters_while pinned known after on_true others t counter turn most f g all counts splits more_f more_g pins d k n s loop guard same inside stand stays =
     then_fits all (λ _ t. Stays pins after n t) (λ b u. ByTurn (Stays pins on_true n) (Stays pins others n) b u) (count_turn loop.counter k d s) (λ _ t. goes_on loop.guard k d t)
     (more_fits f all (λ _ t. Stays pins after n t) (count_turn loop.counter k d s) more_f (subst (λ c. Fits f (λ _ t. Stays pins after n t) (count_turn c k d s)) (sym same) (counts pins d k n s inside stand stays)))
-    (λ _ u here. more_fits g all (λ b v. ByTurn (Stays pins on_true n) (Stays pins others n) b v) (goes_on loop.guard k d u) more_g (while_goes pins after on_true others g t d k n loop.guard u splits guard here))
+    (λ _ u here. more_fits g all (λ b v. ByTurn (Stays pins on_true n) (Stays pins others n) b v) (goes_on loop.guard k d u) more_g (while_goes pins after on_true others g t d k n most loop.guard u splits guard here))
 
 -- a loop starts
-pub starts_times : (known : List Known) (e : ExprTree) (f : Faults) → Counts known e f → Starts known (Tree.turns e) f
-starts_times known e f counts d n s each =
-    then_fits f (λ m t. (count e s.store ≡ Ok m) × (t ≡ s)) (λ g t. IsGuard (Tree.turns e) g × (t ≡ s)) (evaluate (count e) d s) (λ m t. return (times m) d t) (evaluation_fits f (count e s.store) s (counts n s.store each)) (λ m t here. (tt, here.1))
+counted_fails : (most : ℕ) (f : Faults) (r : Result ℕ ValueFault) → IsCounted most f r → FailsBy f r
+counted_fails most f (Ok n) counted = tt
+counted_fails most f (Err why) counted = counted
 
-pub starts_while : (known : List Known) (t : TestTree) (f : Faults) → Starts known (Tree.while t) f
-starts_while known t f d n s each = (refl, refl)
+pub starts_times : (known : List Known) (e : ExprTree) (most : ℕ) (f : Faults) → Counts known e most f → Starts known (Tree.turns e) most f
+starts_times known e most f counts d n s each =
+    then_fits f (λ m t. (count e s.store ≡ Ok m) × (t ≡ s)) (λ g t. IsGuard (Tree.turns e) most g × (t ≡ s)) (evaluate (count e) d s) (λ m t. return (times m) d t) (evaluation_fits f (count e s.store) s (counted_fails most f (count e s.store) (counts n s.store each)))
+    (λ m t here. (subst (IsCounted most f) here.0 (counts n s.store each), here.1))
+
+pub starts_while : (known : List Known) (t : TestTree) (most : ℕ) (f : Faults) → Starts known (Tree.while t) most f
+starts_while known t most f d n s each = (refl, refl)
 
 -- faults that are listed
 pub listed_fault : (traps : List Trap) (place : Place) (f : Faults) (why : ValueFault) → AreListed traps place f → IsAmong f why → among traps (At place) why
@@ -139,29 +167,31 @@ name_fewer name f n h stands = record {
 }
 
 pub each_fewer : (known : List Known) (n : ℕ) (h : History) → EachStands known (suc n) h → EachStands known n h
-each_fewer [] n h each = tt
+each_fewer [] n h each = omega (arith, each)
 each_fewer (x ∷ xs) n h each = (name_fewer x.name.now x.facts n h each.0, each_fewer xs n h each.1)
 
 pub holds_fewer : (pins : Variables) (known : List Known) (n : ℕ) (s : State) → Holds pins known (suc n) s → Holds pins known n s
 holds_fewer pins known n s here = record { steps = omega (arith, here.steps); pinned = here.pinned; each = each_fewer known n s.store here.each }
 
 -- a turn begins where one more step was left
-begins : (pinned known inside outside after : List Known) (pins : Variables) (traps : List Trap) (d : TestData) (loop : Loop) (guard : GuardTree) (counter : Option VarTree) (turn : Range) (f : Faults) (k n : ℕ) (s : State) →
-    IsGuard guard loop.guard → loop.counter ≡ counter → Enters pinned known guard counter turn inside outside f → TellsAll outside after → AreListed traps loop.place f → PinsStand pinned pins → IsIn turn n (pos k) → Holds pins known (suc n) s
+begins : (pinned known paid inside outside after : List Known) (pins : Variables) (traps : List Trap) (d : TestData) (loop : Loop) (guard : GuardTree) (most : ℕ) (counter : Option VarTree) (turn : Range) (f : Faults) (k n : ℕ) (s : State) →
+    IsGuard guard most loop.guard → loop.counter ≡ counter → PaysStep known paid → Enters pinned paid guard most counter turn inside outside f → TellsAll outside after → AreListed traps loop.place f → PinsStand pinned pins → IsIn turn n (pos k) → Holds pins known (suc n) s
     → Splits (among traps) (At loop.place) (Holds pins inside n) (Holds pins after n) (take_turn loop k d s)
-begins pinned known inside outside after pins traps d loop guard counter turn f k n s is same enters tells listed stand inside_range here =
+begins pinned known paid inside outside after pins traps d loop guard most counter turn f k n s is same pays enters tells listed stand inside_range here =
     let less : n < 2 ^ 64 = omega (arith, here.steps) in
     weaker_splits traps (At loop.place) (Stays pins inside n) (Stays pins outside n) (Holds pins inside n) (Holds pins after n) (take_turn loop k d s)
     (λ t stays. holds_of pins inside n t less stays) (λ t stays. tells_holds pins outside after tells n t (holds_of pins outside n t less stays))
     (splits_in traps loop.place f (Stays pins inside n) (Stays pins outside n) (take_turn loop k d s) listed
-    (enters pins d k n s loop is same inside_range stand (here.pinned, each_fewer known n s.store here.each)))
+    (enters pins d k n s loop is same inside_range stand (here.pinned, pays n s.store here.each)))
 
 -- a loop whose guess was checked
-pub record LoopParts (pinned known guess first_inside first_outside later_inside later_outside before end after : List Known) (place : Place) (guard : GuardTree) (counter : Option VarTree) (sep : Separator) (body : CommandList) (f : Faults) (first later : Faults) (pins : Variables) (d : TestData) (traps : List Trap) : Type 0 where
+pub record LoopParts (pinned known guess begun renewed first_inside first_outside later_inside later_outside before end after : List Known) (place : Place) (guard : GuardTree) (most : ℕ) (counter : Option VarTree) (sep : Separator) (body : CommandList) (f first later : Faults) (pins : Variables) (d : TestData) (traps : List Trap) : Type 0 where
   pub stand : PinsStand pinned pins
-  pub starts : Starts known guard f
-  pub first_enters : Enters pinned known guard counter first_turn first_inside first_outside first
-  pub later_enters : Enters pinned guess guard counter later_turn later_inside later_outside later
+  pub starts : Starts known guard most f
+  pub first_pays : PaysStep known begun
+  pub later_pays : PaysStep guess renewed
+  pub first_enters : Enters pinned begun guard most counter first_turn first_inside first_outside first
+  pub later_enters : Enters pinned renewed guard most counter later_turn later_inside later_outside later
   pub first_listed : AreListed traps place first
   pub later_listed : AreListed traps place later
   pub start_listed : AreListed traps place f
@@ -172,12 +202,12 @@ pub record LoopParts (pinned known guess first_inside first_outside later_inside
   pub first_after : TellsAll first_outside after
   pub later_after : TellsAll later_outside after
 
-started : {pinned known guess first_inside first_outside later_inside later_outside before end after : List Known} {place : Place} {guard : GuardTree} {counter : Option VarTree} {sep : Separator} {body : CommandList} {f first later : Faults} {pins : Variables} {d : TestData} {traps : List Trap} →
-    LoopParts pinned known guess first_inside first_outside later_inside later_outside before end after place guard counter sep body f first later pins d traps → (g : Guard) → IsGuard guard g →
+started : {pinned known guess begun renewed first_inside first_outside later_inside later_outside before end after : List Known} {place : Place} {guard : GuardTree} {most : ℕ} {counter : Option VarTree} {sep : Separator} {body : CommandList} {f first later : Faults} {pins : Variables} {d : TestData} {traps : List Trap} →
+    LoopParts pinned known guess begun renewed first_inside first_outside later_inside later_outside before end after place guard most counter sep body f first later pins d traps → (g : Guard) → IsGuard guard most g →
     IsPostFixpoint d pins traps (loop_of place g counter sep body) (record { first = known; later = guess; first_inside = first_inside; later_inside = later_inside; before_body = before; after_body = end; after = after })
-started {pinned} {known} {guess} {first_inside} {first_outside} {later_inside} {later_outside} {before} {end} {after} {place} {guard} {counter} {sep} {body} {f} {first} {later} {pins} {d} {traps} p g is = record {
-  first_begin = λ n s here. begins pinned known first_inside first_outside after pins traps d (loop_of place g counter sep body) guard counter first_turn first 0 n s is refl p.first_enters p.first_after p.first_listed p.stand (first_in n) here;
-  later_begin = λ k n s less here. begins pinned guess later_inside later_outside after pins traps d (loop_of place g counter sep body) guard counter later_turn later (suc k) n s is refl p.later_enters p.later_after p.later_listed p.stand (later_in k n less) here;
+started {pinned} {known} {guess} {begun} {renewed} {first_inside} {first_outside} {later_inside} {later_outside} {before} {end} {after} {place} {guard} {most} {counter} {sep} {body} {f} {first} {later} {pins} {d} {traps} p g is = record {
+  first_begin = λ n s here. begins pinned known begun first_inside first_outside after pins traps d (loop_of place g counter sep body) guard most counter first_turn first 0 n s is refl p.first_pays p.first_enters p.first_after p.first_listed p.stand (first_in n) here;
+  later_begin = λ k n s less here. begins pinned guess renewed later_inside later_outside after pins traps d (loop_of place g counter sep body) guard most counter later_turn later (suc k) n s is refl p.later_pays p.later_enters p.later_after p.later_listed p.stand (later_in k n less) here;
   first_body = λ n s here. tells_holds pins first_inside before p.first_before n s here;
   separator = p.separator;
   body = p.body_keeps;
@@ -185,26 +215,26 @@ started {pinned} {known} {guess} {first_inside} {first_outside} {later_inside} {
 }
 
 -- how the start of a loop ends
-guard_done : (known : List Known) (guard : GuardTree) (f : Faults) (d : TestData) (n : ℕ) (s : State) (g : Guard) → Starts known guard f → EachStands known n s.store → guard_of guard d s ≡ done g s → IsGuard guard g
-guard_done known guard f d n s g starts each is = (subst (Fits f (λ g t. IsGuard guard g × (t ≡ s))) is (starts d n s each)).0
+guard_done : (known : List Known) (guard : GuardTree) (most : ℕ) (f : Faults) (d : TestData) (n : ℕ) (s : State) (g : Guard) → Starts known guard most f → EachStands known n s.store → guard_of guard d s ≡ done g s → IsGuard guard most g
+guard_done known guard most f d n s g starts each is = (subst (Fits f (λ g t. IsGuard guard most g × (t ≡ s))) is (starts d n s each)).0
 
-guard_fails : (known : List Known) (guard : GuardTree) (f : Faults) (place : Place) (traps : List Trap) (d : TestData) (n : ℕ) (s : State) (fault : _) (consumed : ℕ) → Starts known guard f → EachStands known n s.store → AreListed traps place f → guard_of guard d s ≡ faulty fault consumed → IsListed (among traps) (At place) fault
-guard_fails known guard f place traps d n s fault consumed starts each listed is why same = listed_fault traps place f why listed (subst (Fits f (λ g t. IsGuard guard g × (t ≡ s))) is (starts d n s each) why same)
+guard_fails : (known : List Known) (guard : GuardTree) (most : ℕ) (f : Faults) (place : Place) (traps : List Trap) (d : TestData) (n : ℕ) (s : State) (fault : _) (consumed : ℕ) → Starts known guard most f → EachStands known n s.store → AreListed traps place f → guard_of guard d s ≡ faulty fault consumed → IsListed (among traps) (At place) fault
+guard_fails known guard most f place traps d n s fault consumed starts each listed is why same = listed_fault traps place f why listed (subst (Fits f (λ g t. IsGuard guard most g × (t ≡ s))) is (starts d n s each) why same)
 
 fewer_ends : (traps : Listing) (m n : ℕ) (after : Before) (e : RunResult) → m ≤ n → Ends traps m after e → Ends traps n after e
 fewer_ends traps m n after (all_done t l) less ends = (le_trans ends.0 less, ends.1)
 fewer_ends traps m n after (stopped outcome consumed l) less ends = ends
 
-pub loop_command : (pinned known guess first_inside first_outside later_inside later_outside before end after : List Known) (place : Place) (guard : GuardTree) (counter : Option VarTree) (sep : Separator) (body : CommandList) (f first later : Faults) (pins : Variables) (d : TestData) (traps : List Trap) →
-    LoopParts pinned known guess first_inside first_outside later_inside later_outside before end after place guard counter sep body f first later pins d traps → CommandKeeps d (among traps) (Holds pins known) (Tree.loop place guard counter sep body) (Holds pins after)
-loop_command pinned known guess first_inside first_outside later_inside later_outside before end after place guard counter sep body f first later pins d traps p n s e here (command_has_no_step) = no_steps (among traps) (At place)
-loop_command pinned known guess first_inside first_outside later_inside later_outside before end after place guard counter sep body f first later pins d traps p n s e here (loop_starts {n = m} {guard = g} is run) =
+pub loop_command : (pinned known guess begun renewed first_inside first_outside later_inside later_outside before end after : List Known) (place : Place) (guard : GuardTree) (most : ℕ) (counter : Option VarTree) (sep : Separator) (body : CommandList) (f first later : Faults) (pins : Variables) (d : TestData) (traps : List Trap) →
+    LoopParts pinned known guess begun renewed first_inside first_outside later_inside later_outside before end after place guard most counter sep body f first later pins d traps → CommandKeeps d (among traps) (Holds pins known) (Tree.loop place guard counter sep body) (Holds pins after)
+loop_command pinned known guess begun renewed first_inside first_outside later_inside later_outside before end after place guard most counter sep body f first later pins d traps p n s e here (command_has_no_step) = no_steps (among traps) (At place)
+loop_command pinned known guess begun renewed first_inside first_outside later_inside later_outside before end after place guard most counter sep body f first later pins d traps p n s e here (loop_starts {n = m} {guard = g} is run) =
     let held : Holds pins known m s = holds_fewer pins known m s here in
     fewer_ends (among traps) m n (Holds pins after) e (omega arith)
     (post_fixpoints_hold d pins traps (loop_of place g counter sep body) (record { first = known; later = guess; first_inside = first_inside; later_inside = later_inside; before_body = before; after_body = end; after = after })
-    (started p g (guard_done known guard f d m s g p.starts held.each is)) m s e held run)
-loop_command pinned known guess first_inside first_outside later_inside later_outside before end after place guard counter sep body f first later pins d traps p n s e here (loop_fails {n = m} {fault} is) =
-    guard_fails known guard f place traps d m s fault _ p.starts (holds_fewer pins known m s here).each p.start_listed is
-loop_command pinned known guess first_inside first_outside later_inside later_outside before end after place guard counter sep body f first later pins d traps p n s e here (command_is_done simple is) = elim simple [ ]
-loop_command pinned known guess first_inside first_outside later_inside later_outside before end after place guard counter sep body f first later pins d traps p n s e here (command_rejects simple is) = elim simple [ ]
-loop_command pinned known guess first_inside first_outside later_inside later_outside before end after place guard counter sep body f first later pins d traps p n s e here (command_fails simple is) = elim simple [ ]
+    (started p g (guard_done known guard most f d m s g p.starts held.each is)) m s e held run)
+loop_command pinned known guess begun renewed first_inside first_outside later_inside later_outside before end after place guard most counter sep body f first later pins d traps p n s e here (loop_fails {n = m} {fault} is) =
+    guard_fails known guard most f place traps d m s fault _ p.starts (holds_fewer pins known m s here).each p.start_listed is
+loop_command pinned known guess begun renewed first_inside first_outside later_inside later_outside before end after place guard most counter sep body f first later pins d traps p n s e here (command_is_done simple is) = elim simple [ ]
+loop_command pinned known guess begun renewed first_inside first_outside later_inside later_outside before end after place guard most counter sep body f first later pins d traps p n s e here (command_rejects simple is) = elim simple [ ]
+loop_command pinned known guess begun renewed first_inside first_outside later_inside later_outside before end after place guard most counter sep body f first later pins d traps p n s e here (command_fails simple is) = elim simple [ ]

@@ -101,11 +101,11 @@ none_owes traps sp si f none spot site fault is = let same : fault_of_value faul
 accepted_owes : (traps : List Trap) → Owes traps Accepted
 accepted_owes traps spot site fault is = absurd (cc)
 
-program_owes : (d : TestData) (traps : List Trap) (program : CommandList) (n : ℕ) (s : State) (pins : Variables) (first last : List Known) (e : RunResult) → n < 2 ^ 64 → s.store.pins ≡ pins → ((m : ℕ) → EachStands first m s.store) →
+program_owes : (d : TestData) (traps : List Trap) (program : CommandList) (n : ℕ) (s : State) (pins : Variables) (first last : List Known) (e : RunResult) → n < 2 ^ 64 → s.store.pins ≡ pins → ((m : ℕ) → m < 2 ^ 64 → EachStands first m s.store) →
     ((t : State) → first_skip d s ≡ done tt t → t.store ≡ s.store) → Keeps d (among traps) (Holds pins first) program (Holds pins last) → ProgramEnds d program n s e → Owes traps (outcome_of e)
 program_owes d traps program n s pins first last e less pinned here same keeps (start_fails {consumed} {fault} is) = none_owes traps _ Start fault (subst OnlyLooks is (start_looks s.mode d s))
 program_owes d traps program n s pins first last e less pinned here same keeps (commands_stop {m} {consumed} {t} {o} is list) =
-    listed_owes traps o (keeps n t (stopped o consumed m) (record { steps = less; pinned = ap (λ h. h.pins) (same t is) ∙ pinned; each = subst (λ h. EachStands first n h) (sym (same t is)) (here n) }) list)
+    listed_owes traps o (keeps n t (stopped o consumed m) (record { steps = less; pinned = ap (λ h. h.pins) (same t is) ∙ pinned; each = subst (λ h. EachStands first n h) (sym (same t is)) (here n less) }) list)
 program_owes d traps program n s pins first last e less pinned here same keeps (end_has_no_step is list) = none_owes traps _ Finish StepLimit steps_are_none
 program_owes d traps program n s pins first last e less pinned here same keeps (data_are_accepted is list ends) = accepted_owes traps
 program_owes d traps program n s pins first last e less pinned here same keeps (end_rejects is list ends) = listed_owes traps _ tt
@@ -142,4 +142,4 @@ pub traps_follow : BigStepsHold → (program : CommandList) (presets : List Pres
 traps_follow big program presets traps first last stand keeps mode d steps spot site fault less is =
     let s : State = at_start mode presets in
     let e : RunResult = run_from d steps (tasks program ++ finish ∷ []) s in
-    program_owes d traps program steps s (pins_of presets) first last e less refl (λ m. each_same first m (pins_alone (pins_of presets)) (initial presets) (at_first presets) (stand m)) (λ t is. subst (Keeps_store s.store) is (start_same mode d s)) (keeps d) (big d program steps s) spot site fault (sym (outcome_is steps e) ∙ is)
+    program_owes d traps program steps s (pins_of presets) first last e less refl (λ m few. each_same first m (pins_alone (pins_of presets)) (initial presets) (at_first presets) (stand m few)) (λ t is. subst (Keeps_store s.store) is (start_same mode d s)) (keeps d) (big d program steps s) spot site fault (sym (outcome_is steps e) ∙ is)

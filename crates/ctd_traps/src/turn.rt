@@ -1,8 +1,9 @@
 //! How loops start, and how their turns begin.
 
-ghost use Rattle.std.specs.Prelude.{◌≡◌, ℕ, ℤ, false, IfOk};
+ghost use Rattle.std.specs.Prelude.{◌≡◌, ◌≤◌, ◌<◌, ◌^◌, ℕ, ℤ, pos, false, IfOk};
 ghost use Rattle.ctd_program.specs.calls.View.{boxed_target, expr_tree, guard_tree};
 ghost use Rattle.ctd_store.specs.declared.value.Value.TheVariants as values;
+ghost use Rattle.ctd_range.specs.calls.Ranges.{IsIn};
 ghost use Rattle.ctd_range.specs.inner.Ranges.{IsCount};
 ghost use Rattle.ctd_known.specs.calls.Facts.{MayBe};
 ghost use Rattle.ctd_traps.specs.inner.Walk.{Counts, CountsTurn, Enters, Starts};
@@ -12,7 +13,7 @@ use ctd_known::{
     Faults, Ground, Kinds, Known, Stop, both, copied, inspect, no_faults, number_faults, split,
 };
 use ctd_program::{Expr, LoopGuard, Var};
-use ctd_range::Range;
+use ctd_range::{Range, less};
 
 /// What is known where a turn begins, and where the loop is over.
 #[derive(Drop)]
@@ -32,29 +33,65 @@ fn may_be_no_count(kinds: Kinds) -> bool
     }
 }
 
-/// The faults of a count of turns.
-fn count_faults(e: &Expr, known: &[Known]) -> Result<Faults, Stop>
-    ensures { IfOk result (λ f. Counts known.now (expr_tree e.now) f) }
+/// How many turns a number of these kinds may give at most.
+fn most_of(kinds: Kinds) -> u64
+    ensures { (k n : ℕ) → n < 2 ^ 64 → MayBe kinds k (values.Int (pos n)) → n ≤ result }
+{
+    match kinds.number {
+        Some(range) => u64::try_from(range.high).unwrap_or(u64::MAX),
+        None => 0,
+    }
+}
+
+/// How a loop may start: the faults, and how many turns it may have at most where it counts them.
+#[derive(Clone, Copy)]
+pub(crate) struct Turns {
+    pub(crate) faults: Faults,
+    pub(crate) most: u64,
+}
+
+/// What a count of turns may be.
+fn count_turns(e: &Expr, known: &[Known]) -> Result<Turns, Stop>
+    ensures { IfOk result (λ t. Counts known.now (expr_tree e.now) t.most t.faults) }
 {
     let count = inspect(e, known)?;
     let bad = Faults {
         count: may_be_no_count(count.kinds),
         ..no_faults()
     };
-    Ok(both(number_faults(count), bad))
+    Ok(Turns {
+        faults: both(number_faults(count), bad),
+        most: most_of(count.kinds),
+    })
 }
 
-/// The faults with which a loop may start.
-pub(crate) fn start(guard: &LoopGuard, known: &[Known]) -> Result<Faults, Stop>
-    ensures { IfOk result (λ f. Starts known.now (guard_tree guard.now) f) }
+/// How a loop may start.
+pub(crate) fn start(guard: &LoopGuard, known: &[Known]) -> Result<Turns, Stop>
+    ensures { IfOk result (λ t. Starts known.now (guard_tree guard.now) t.most t.faults) }
 {
     match guard {
         LoopGuard::Times(e) => {
-            let faults = count_faults(e, known)?;
-            Ok(faults)
+            let turns = count_turns(e, known)?;
+            Ok(turns)
         }
-        LoopGuard::While(_) => Ok(no_faults()),
+        LoopGuard::While(_) => Ok(Turns {
+            faults: no_faults(),
+            most: 0,
+        }),
     }
+}
+
+/// The numbers of turns that are below a count.
+fn below(turn: Range, most: u64) -> Range
+    ensures { (n k m : ℕ) → k < m → m ≤ most → IsIn turn n (pos k) → IsIn result n (pos k) }
+{
+    let counts = Range {
+        low: 0,
+        high: i128::from(most),
+        rise: 0,
+        fall: 0,
+    };
+    less(turn, counts)
 }
 
 /// What is known once the counter of a loop, if there is one, got the number of a turn.
@@ -90,19 +127,20 @@ pub(crate) fn enter<'p>(
     guard: &'p LoopGuard,
     counter: &'p Option<Box<Var>>,
     turn: Range,
+    most: u64,
     ground: Ground<'_, 'p>,
     known: &[Known<'p>],
 ) -> Result<Entered<'p>, Stop>
-    ensures { IfOk result (λ e. Enters ground.entry.pinned.now known.now (guard_tree guard.now) (boxed_target counter.now) turn e.inside.items e.outside.items e.faults) }
+    ensures { IfOk result (λ e. Enters ground.entry.pinned.now known.now (guard_tree guard.now) most (boxed_target counter.now) turn e.inside.items e.outside.items e.faults) }
 {
     let counted = count_turn(counter, turn, ground, known)?;
     match guard {
         LoopGuard::Times(_) => {
-            let outside = copied(ground.alloc, counted.after.as_slice())?;
+            let inside = count_turn(counter, below(turn, most), ground, known)?;
             Ok(Entered {
-                inside: counted.after,
-                outside,
-                faults: counted.faults,
+                inside: inside.after,
+                outside: counted.after,
+                faults: both(counted.faults, inside.faults),
             })
         }
         LoopGuard::While(t) => {

@@ -11,7 +11,9 @@ use crate::assign::{Acted, clear_all, set_all};
 use crate::finding::{Finding, append, report};
 use crate::simple::{assert_test, take_integer, take_match, take_string};
 use crate::turn::{enter, start};
-use ctd_known::{Ground, Known, Stop, both, copied, is_within, join, nowhere, pay, split, widened};
+use ctd_known::{
+    Ground, Known, Stop, after_step, both, copied, is_within, join, nowhere, pay, split, widened,
+};
 use ctd_program::{Action, Choice, Command, Loop};
 use ctd_range::Range;
 use ctd_token::Place;
@@ -186,16 +188,18 @@ fn repeat<'p>(
         between,
         body,
     } = repeated;
-    let faults = start(guard, known)?;
-    let first = enter(guard, counter, FIRST, ground, known)?;
+    let turns = start(guard, known)?;
+    let begun = after_step(ground.alloc, known)?;
+    let first = enter(guard, counter, FIRST, turns.most, ground, begun.as_slice())?;
     let mut guess = nowhere(ground.alloc, known)?;
     for round in 0..ROUNDS {
         pay(budget)?;
-        let later = enter(guard, counter, LATER, ground, guess.as_slice())?;
+        let renewed = after_step(ground.alloc, guess.as_slice())?;
+        let later = enter(guard, counter, LATER, turns.most, ground, renewed.as_slice())?;
         let mut found = Vec::new(ground.alloc);
         report(
             place,
-            both(faults, both(first.faults, later.faults)),
+            both(turns.faults, both(first.faults, later.faults)),
             &mut found,
         )?;
         let separated = separate(between, ground, later.inside.as_slice(), &mut found, budget)?;

@@ -1,5 +1,5 @@
 -- What a walk over commands finds out.
-use Rattle.std.specs.Prelude.{◌≡◌, ℕ, suc, pos, Bool, true, false, ⊤, List, [], ◌∷◌, fold, Option, Some, None, Result, Ok, Err}
+use Rattle.std.specs.Prelude.{◌≡◌, ◌≤◌, ℕ, suc, pos, Bool, true, false, ⊤, List, [], ◌∷◌, fold, Option, Some, None, Result, Ok, Err}
 use Rattle.ctd_source.specs.TestData.{TestData}
 use Rattle.ctd_program.specs.Tree
 use Rattle.ctd_program.specs.Tree.{ExprTree, VarTree, GuardTree, CommandTree, CommandList, Separator}
@@ -26,7 +26,7 @@ use Rattle.ctd_known.specs.declared.facts.Kinds.{Kinds}
 use Rattle.ctd_known.specs.declared.facts.Known.{Known}
 use Rattle.ctd_known.specs.calls.Facts.{EachStands, MayBe, PinsStand}
 use Rattle.ctd_traps.specs.inner.Holds.{ArePart, Holds}
-use Rattle.ctd_known.specs.calls.Found.{FailsBy, IsAmong}
+use Rattle.ctd_known.specs.calls.Found.{IsAmong}
 use Rattle.ctd_traps.specs.inner.PostFixpoint.{among}
 use Rattle.ctd_traps.specs.inner.Triples.{Keeps, CommandKeeps}
 
@@ -78,12 +78,12 @@ StepKeeps pinned known after found c = (pins : Variables) (d : TestData) (all : 
 abbrev pub SeparatorKeeps : (pinned known after : List Known) → List Finding → Separator → Type 0
 SeparatorKeeps pinned known after found sep = (pins : Variables) (d : TestData) (all : List Trap) (k : ℕ) → PinsStand pinned pins → ArePart (traps_of found) all → Keeps d (among all) (Holds pins known) (separator_before (suc k) sep) (Holds pins after)
 
--- how a loop goes on that has started
-abbrev pub IsGuard : GuardTree → Guard → Type 0
-IsGuard (Tree.turns e) (times n) = Unit {0}
-IsGuard (Tree.turns e) (while_true t) = ⊥
-IsGuard (Tree.while t) (times n) = ⊥
-IsGuard (Tree.while t) (while_true u) = u ≡ t
+-- how a loop goes on that has started, and that has at most so many turns if it counts them
+abbrev pub IsGuard : GuardTree → ℕ → Guard → Type 0
+IsGuard (Tree.turns e) most (times n) = n ≤ most
+IsGuard (Tree.turns e) most (while_true t) = ⊥
+IsGuard (Tree.while t) most (times n) = ⊥
+IsGuard (Tree.while t) most (while_true u) = u ≡ t
 
 -- what holds where a turn begins, and where a loop is over
 abbrev pub ByTurn : (State → Type 0) → (State → Type 0) → Bool → State → Type 0
@@ -91,17 +91,22 @@ ByTurn inside outside true t = inside t
 ByTurn inside outside false t = outside t
 
 -- the begin of a turn, whose number is of a range
-abbrev pub Enters : (pinned known : List Known) → GuardTree → Option VarTree → Range → (inside outside : List Known) → Faults → Type 0
-Enters pinned known guard counter turn inside outside f = (pins : Variables) (d : TestData) (k n : ℕ) (s : State) (loop : Started) → IsGuard guard loop.guard → loop.counter ≡ counter → IsIn turn n (pos k) → PinsStand pinned pins → Stays pins known n s
+abbrev pub Enters : (pinned known : List Known) → GuardTree → (most : ℕ) → Option VarTree → Range → (inside outside : List Known) → Faults → Type 0
+Enters pinned known guard most counter turn inside outside f = (pins : Variables) (d : TestData) (k n : ℕ) (s : State) (loop : Started) → IsGuard guard most loop.guard → loop.counter ≡ counter → IsIn turn n (pos k) → PinsStand pinned pins → Stays pins known n s
     → Fits f (λ b t. ByTurn (Stays pins inside n) (Stays pins outside n) b t) (take_turn loop k d s)
 
 -- a loop starts
-abbrev pub Starts : List Known → GuardTree → Faults → Type 0
-Starts known guard f = (d : TestData) (n : ℕ) (s : State) → EachStands known n s.store → Fits f (λ g t. IsGuard guard g × (t ≡ s)) (guard_of guard d s)
+abbrev pub Starts : List Known → GuardTree → (most : ℕ) → Faults → Type 0
+Starts known guard most f = (d : TestData) (n : ℕ) (s : State) → EachStands known n s.store → Fits f (λ g t. IsGuard guard most g × (t ≡ s)) (guard_of guard d s)
+
+-- a count of turns is at most so large, or has a fault of these
+abbrev pub IsCounted : (most : ℕ) → Faults → Result ℕ ValueFault → Type 0
+IsCounted most f (Ok n) = n ≤ most
+IsCounted most f (Err why) = IsAmong f why
 
 -- how many turns a loop has
-abbrev pub Counts : List Known → ExprTree → Faults → Type 0
-Counts known e f = (n : ℕ) (h : History) → EachStands known n h → FailsBy f (count e h)
+abbrev pub Counts : List Known → ExprTree → (most : ℕ) → Faults → Type 0
+Counts known e most f = (n : ℕ) (h : History) → EachStands known n h → IsCounted most f (count e h)
 
 -- the counter of a loop, if there is one, gets the number of a turn of a range
 abbrev pub CountsTurn : (pinned known : List Known) → Option VarTree → Range → List Known → Faults → Type 0
