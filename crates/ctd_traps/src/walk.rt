@@ -195,7 +195,14 @@ fn repeat<'p>(
     for round in 0..ROUNDS {
         pay(budget)?;
         let renewed = after_step(ground.alloc, guess.as_slice())?;
-        let later = enter(guard, counter, LATER, turns.most, ground, renewed.as_slice())?;
+        let later = enter(
+            guard,
+            counter,
+            LATER,
+            turns.most,
+            ground,
+            renewed.as_slice(),
+        )?;
         let mut found = Vec::new(ground.alloc);
         report(
             place,
@@ -212,7 +219,11 @@ fn repeat<'p>(
             budget,
         )?;
         if is_within(end.as_slice(), guess.as_slice()) {
-            let after = join(ground.alloc, first.outside.as_slice(), later.outside.as_slice())?;
+            let after = join(
+                ground.alloc,
+                first.outside.as_slice(),
+                later.outside.as_slice(),
+            )?;
             append(findings, found)?;
             return Ok(after);
         }
