@@ -1,5 +1,6 @@
 -- What is known of presets.
-use Rattle.std.proofs.Common.{◌≡◌, ◌≢◌, ◌<◌, ◌≤◌, ◌+◌, ◌++◌, ℕ, true, List, [], ◌∷◌, map, fold, length, get_or, drop, refl, ap, sym, subst, ◌∙◌}
+use Rattle.std.proofs.Common.{◌≡◌, ◌≢◌, ◌<◌, ◌≤◌, ◌+◌, ◌++◌, ◌==◌, ℕ, true, false, List, [], ◌∷◌, map, fold, length, get_or, drop, refl, ap, sym, subst, arith, ◌∙◌}
+use Rattle.std.proofs.lemmas.Bool.Decides.{nat_tests}
 use Rattle.std.proofs.lemmas.List.{at_drop_more, drop_all}
 use Rattle.ctd_program.specs.declared.preset.Literal.{Literal}
 use Rattle.ctd_program.specs.declared.preset.Preset.{Preset}
@@ -56,3 +57,12 @@ nothing_stands name f n lacks = record { alone = lacks; elements = λ i is v has
 
 pub one_more_name : (xs : List Known) (x : Known) → x.facts.may_lack ≡ true → PinsStand xs [] → PinsStand (xs ++ x ∷ []) []
 one_more_name xs x lacks stand n few = each_push xs x n (pins_alone []) (stand n few) (nothing_stands x.name.now x.facts n lacks)
+
+-- a list without elements, and one with some
+pub no_indices : (indices : List Literal) → true ≡ (length indices == 0) → indices ≡ []
+no_indices [] is = refl
+no_indices (i ∷ indices) is = absurd (grind (arith, nat_tests, is))
+
+pub some_indices : (indices : List Literal) → false ≡ (length indices == 0) → indices ≢ []
+some_indices [] is none = absurd (cc is)
+some_indices (i ∷ indices) is none = absurd (cc none)

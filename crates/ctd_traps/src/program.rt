@@ -80,9 +80,11 @@ fn pin<'p>(
     let name = preset.name.as_slice();
     let kinds = kinds_of(&preset.value);
     if preset.indices.as_slice().is_empty() {
-        assign_alone(without, name, kinds, known)
+        let alone = assign_alone(without, name, kinds, known)?;
+        Ok(alone)
     } else {
-        assign_element(without.alloc, name, kinds, known)
+        let element = assign_element(without.alloc, name, kinds, known)?;
+        Ok(element)
     }
 }
 

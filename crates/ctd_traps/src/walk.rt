@@ -211,7 +211,14 @@ fn repeat<'p>(
     for round in 0..ROUNDS {
         pay(budget)?;
         let renewed = after_step(ground.alloc, guess.as_slice())?;
-        let later = enter(guard, counter, LATER, turns.most, ground, renewed.as_slice())?;
+        let later = enter(
+            guard,
+            counter,
+            LATER,
+            turns.most,
+            ground,
+            renewed.as_slice(),
+        )?;
         let mut found = Vec::new(ground.alloc);
         report(
             place,
@@ -222,7 +229,11 @@ fn repeat<'p>(
         let before = join(ground.alloc, first.inside.as_slice(), separated.as_slice())?;
         let end = walk_block(body, ground, before.as_slice(), &mut found, budget)?;
         if is_within(end.as_slice(), guess.as_slice()) {
-            let after = join(ground.alloc, first.outside.as_slice(), later.outside.as_slice())?;
+            let after = join(
+                ground.alloc,
+                first.outside.as_slice(),
+                later.outside.as_slice(),
+            )?;
             append(findings, found)?;
             return Ok(after);
         }
