@@ -23,6 +23,7 @@ if [ "$failed" -eq 0 ]; then
     count tests/library.sh
     count tests/process.sh
     count tests/lint.py
+    count tests/verdicts.py
     count tests/failing_calls.py
     count tests/reads.py
     count tests/allocations.py

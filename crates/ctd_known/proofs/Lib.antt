@@ -1,0 +1,4 @@
+pub mod Standing
+pub mod Assigning
+pub mod Applying
+pub mod Deciding

@@ -1,0 +1,40 @@
+use Rattle.std.proofs.Common.{rules, ◌+◌, drop, sym, subst, ◌∙◌}
+use Rattle.std.specs.Int.RustNames.{FitsSigned}
+use Rattle.std.specs.Int.{w128}
+use Rattle.std.proofs.lemmas.Int.{to_z-of_z}
+use Rattle.ctd_program.specs.calls.View.{expr_list, expr_tree}
+use Rattle.ctd_known.specs.calls.Found.{AllFailBy, Gives}
+use Rattle.ctd_known.proofs.Applying.{Leads, element_gives, element_is, expr_first, expr_last, leads_on, none_fail}
+use Rattle.ctd_known.proofs.expression.+examine.Goals as goal
+
+pub examine-returns-in-Numeral : goal.examine-returns-in-Numeral
+examine-returns-in-Numeral t c = record {
+  gives = λ k h each.
+      let fits : FitsSigned w128 c.value.result = search rules in
+      let made = rw (to_z-of_z w128 c.value.result fits, c.value.ensures.same) at c.of_number.ensures k in
+      rw c.in-Numeral.is made;
+}
+
+pub examine-returns-in_ok-facts-in-Element : goal.examine-returns-in_ok-facts-in-Element
+examine-returns-in_ok-facts-in-Element t c =
+    let name = c.as_slice-in-Element-2.result.now in
+    let es = c.as_slice-in-Element.result.now in
+    record {
+      gives = subst (λ u. Gives c.args.known.now u c.of_element.result)
+          (sym (element_is c.args.e.now c.in-Element.element c.deref.result.now c.deref-in-Element.result.now name es c.in-Element.is c.deref.ensures c.as_slice-in-Element.ensures c.deref-in-Element.ensures c.as_slice-in-Element-2.ensures.whole))
+          (element_gives c.args.known.now name es c.in_ok-facts-in-Element.facts c.in_ok-indices-in-Element.indices c.of_element.result c.in_ok-indices-in-Element.ensures.some c.in_ok-indices-in-Element.ensures.fail c.in_ok-facts-in-Element.ensures.tells
+          c.of_element.ensures.value c.of_element.ensures.indices);
+    }
+
+pub examine_indices-loop-index-preserved : goal.examine_indices-loop-index-preserved
+examine_indices-loop-index-preserved t c =
+    let all = c.args.indices.now in
+    let i = c.loop-index.index-index in
+    leads_on c.args.known.now c.loop-index.faults c.both-faults.result (expr_tree c.index-item.result) (expr_list (drop (i + 1) all)) (expr_list all) c.in_ok-examine.field-0 c.in_ok-examine.ensures.gives
+    c.both-faults.ensures.first c.both-faults.ensures.second
+    (subst (λ l. Leads c.args.known.now c.loop-index.faults l (expr_list all)) (expr_first all i c.index-item.result c.loop-index-test.true c.index-item.is) c.loop-index.invariant)
+
+pub examine_indices-returns-clause-fail : goal.examine_indices-returns-clause-fail
+examine_indices-returns-clause-fail t c =
+    c.loop-index.invariant c.loop-index.faults (λ x h. h)
+    (subst (λ l. AllFailBy c.args.known.now l c.loop-index.faults) (sym (expr_last c.args.indices.now c.loop-index.index-index c.loop-index-test.false)) (none_fail c.args.known.now c.loop-index.faults))

@@ -1,0 +1,51 @@
+-- What is known of the variables where a command begins.
+use Rattle.std.specs.Prelude.{◌≡◌, ◌≤◌, ◌<◌, ◌^◌, ℕ, true, List, [], ◌∷◌, length, Option, Some, None}
+use Rattle.ctd_store.specs.declared.value.Value.{Value}
+use Rattle.ctd_store.specs.declared.value.Value.TheVariants as values
+use Rattle.ctd_store.specs.Store.{Key, History, Variables, value_at}
+use Rattle.ctd_range.specs.declared.range.Range.{Range}
+use Rattle.ctd_range.specs.calls.Ranges.{IsIn}
+use Rattle.ctd_known.specs.declared.facts.Lengths.{Lengths}
+use Rattle.ctd_known.specs.declared.facts.Kinds.{Kinds}
+use Rattle.ctd_known.specs.declared.facts.NameFacts.{NameFacts}
+use Rattle.ctd_known.specs.declared.facts.Known.{Known}
+
+-- a value is among those that may be, where so many steps are left
+abbrev pub MayBe : Kinds → ℕ → Value → Type 0
+MayBe kinds n (values.Int x) = (r : Range) × (kinds.number ≡ Some r) × IsIn r n x
+MayBe kinds n (values.Text bytes) = (l : Lengths) × (kinds.text ≡ Some l) × (l.least ≤ length bytes) × (length bytes ≤ l.most)
+
+-- a name without indices has one of these values, or may have none
+abbrev pub MayHave : NameFacts → ℕ → Option Value → Type 0
+MayHave known n None = known.may_lack ≡ true
+MayHave known n (Some v) = MayBe known.alone n v
+
+-- the key of a name at some indices
+abbrev pub at_key : List ℕ → List Value → Key
+at_key name indices = record { name = name; indices = indices }
+
+-- what is known of a name is so of some variables, where so many steps are left
+pub record NameStands (name : List ℕ) (facts : NameFacts) (n : ℕ) (h : History) : Type 0 where
+  pub alone : MayHave facts n (value_at h (at_key name []))
+  pub elements : (i : Value) (is : List Value) (v : Value) → value_at h (at_key name (i ∷ is)) ≡ Some v → MayBe facts.elements n v
+
+-- all that is known is so, where no more steps are left than a run may have
+abbrev pub EachStands : List Known → ℕ → History → Type 0
+EachStands [] n h = n < 2 ^ 64
+EachStands (x ∷ xs) n h = NameStands x.name.now x.facts n h × EachStands xs n h
+
+-- the pins alone
+abbrev pub pins_alone : Variables → History
+pins_alone pins = record { pins = []; assigned = pins }
+
+-- what is known of the pins is so, however many steps are left of those that a run may have
+abbrev pub PinsStand : List Known → Variables → Type 0
+PinsStand known pins = (n : ℕ) → n < 2 ^ 64 → EachStands known n (pins_alone pins)
+
+-- so does all that is known otherwise
+abbrev pub TellsAll : List Known → List Known → Type 0
+TellsAll known others = (n : ℕ) (h : History) → EachStands known n h → EachStands others n h
+
+-- no variables are so
+abbrev pub IsImpossible : List Known → Type 0
+IsImpossible known = (n : ℕ) (h : History) → EachStands known n h → ⊥

@@ -1,0 +1,109 @@
+//! What is known once variables got values, or lost them.
+
+ghost use Rattle.std.specs.Prelude.{◌≡◌, ℕ, true, IfOk};
+ghost use Rattle.ctd_store.specs.declared.value.Value.{Value};
+ghost use Rattle.ctd_known.specs.calls.Facts.{MayBe};
+ghost use Rattle.ctd_known.specs.inner.Facts.{Tells};
+ghost use Rattle.ctd_known.specs.calls.Changed.{AssignsAlone, AssignsElements, Clears};
+ghost use Rattle.ctd_known.specs.inner.Changed.{AreWithin};
+
+use crate::facts::{Kinds, Known, NameFacts, copied, facts_of, kinds_are_within, replaced};
+use crate::guess::join_kinds;
+use crate::stop::Stop;
+use std::alloc::Global;
+
+/// What the walk goes by: memory, and what is known of the pins.
+#[derive(Clone, Copy)]
+pub struct Ground<'g, 'p> {
+    pub alloc: Global,
+    pub pinned: &'g [Known<'p>],
+}
+
+/// What is known of a name, or nothing is told.
+fn listed(known: &[Known], name: &[u8]) -> Result<NameFacts, Stop>
+    ensures { IfOk result (λ facts. Tells known.now name.now facts) }
+{
+    match facts_of(known, name) {
+        Some(facts) => Ok(facts),
+        None => Err(Stop::NotTold),
+    }
+}
+
+/// The values of two kinds.
+fn either_kinds(a: Kinds, b: Kinds) -> Result<Kinds, Stop>
+    ensures left { IfOk result (λ all. AreWithin a all) }
+    ensures right { IfOk result (λ all. AreWithin b all) }
+{
+    let all = join_kinds(a, b);
+    if !kinds_are_within(a, all) {
+        return Err(Stop::NotTold);
+    }
+    if !kinds_are_within(b, all) {
+        return Err(Stop::NotTold);
+    }
+    Ok(all)
+}
+
+/// Whether there are no values of a kind.
+fn is_none(kinds: Kinds) -> bool
+    ensures { result ≡ true → (n : ℕ) (v : Value) → MayBe kinds n v → ⊥ }
+{
+    if kinds.text.is_some() {
+        return false;
+    }
+    kinds.number.is_none()
+}
+
+/// What is known once a name without indices got one of some values.
+pub fn assign_alone<'p>(
+    ground: Ground<'_, 'p>,
+    name: &[u8],
+    kinds: Kinds,
+    known: &[Known<'p>],
+) -> Result<Vec<Known<'p>>, Stop>
+    ensures { IfOk result (λ after. AssignsAlone ground.entry.pinned.now known.now name.now kinds after.items) }
+{
+    let facts = listed(known, name)?;
+    let pin = listed(ground.pinned, name)?;
+    if !pin.may_lack {
+        return Ok(copied(ground.alloc, known)?);
+    }
+    if !is_none(pin.alone) {
+        return Err(Stop::NotTold);
+    }
+    let facts = NameFacts {
+        may_lack: false,
+        alone: kinds,
+        elements: facts.elements,
+    };
+    Ok(replaced(ground.alloc, known, name, facts)?)
+}
+
+/// What is known once an element of a name got one of some values.
+pub fn assign_element<'p>(
+    alloc: Global,
+    name: &[u8],
+    kinds: Kinds,
+    known: &[Known<'p>],
+) -> Result<Vec<Known<'p>>, Stop>
+    ensures { IfOk result (λ after. AssignsElements known.now name.now kinds after.items) }
+{
+    let facts = listed(known, name)?;
+    let facts = NameFacts {
+        elements: either_kinds(facts.elements, kinds)?,
+        ..facts
+    };
+    Ok(replaced(alloc, known, name, facts)?)
+}
+
+/// What is known once a name lost what was assigned to it.
+pub fn clear<'p>(
+    ground: Ground<'_, 'p>,
+    name: &[u8],
+    known: &[Known<'p>],
+) -> Result<Vec<Known<'p>>, Stop>
+    ensures { IfOk result (λ after. Clears ground.entry.pinned.now known.now name.now after.items) }
+{
+    let facts = listed(ground.pinned, name)?;
+    Ok(replaced(ground.alloc, known, name, facts)?)
+}

@@ -1,0 +1,194 @@
+//! What is known where a test is true, and where it is false.
+
+ghost use Rattle.std.specs.Prelude.{◌≡◌, ◌≤◌, ◌⊎◌, length, List, ℕ, ℤ, true, Bool, Result, IfOk};
+ghost use Rattle.ctd_program.specs.calls.View.{expr_tree, test_tree};
+ghost use Rattle.ctd_program.specs.declared.tree.Compare.{Compare};
+ghost use Rattle.ctd_store.specs.declared.value.Value.{Value};
+ghost use Rattle.ctd_value.specs.Fault.{ValueFault, Shape};
+ghost use Rattle.ctd_value.specs.Truth.{compares};
+ghost use Rattle.ctd_store.specs.declared.value.Value.TheVariants as values;
+ghost use Rattle.ctd_known.specs.calls.Facts.{MayBe, TellsAll};
+ghost use Rattle.ctd_known.specs.calls.Found.{IsFound, IsAmong, FailsBy, Gives, SplitsBy};
+
+use crate::expression::{Found, examine, may_be_number, may_be_text, text_faults};
+use crate::facts::{Kinds, Known, copied, is_within};
+use crate::faults::{Faults, both, no_faults};
+use crate::guess::merged;
+use crate::stop::Stop;
+use ctd_program::{Expr, Test};
+use ctd_token::Name;
+use std::alloc::Global;
+
+/// What is known where a test is true, and where it is false, and the faults that it may have.
+#[derive(Drop)]
+pub struct Branches<'p> {
+    pub if_true: Vec<Known<'p>>,
+    pub if_false: Vec<Known<'p>>,
+    pub faults: Faults,
+}
+
+/// What an expression may give.
+pub fn inspect(e: &Expr, known: &[Known]) -> Result<Found, Stop>
+    ensures { IfOk result (λ f. Gives known.now (expr_tree e.now) f) }
+{
+    match examine(e, known) {
+        Some(f) => Ok(f),
+        None => Err(Stop::NotTold),
+    }
+}
+
+/// What is known where either is known.
+pub fn join<'p>(alloc: Global, a: &[Known<'p>], b: &[Known<'p>]) -> Result<Vec<Known<'p>>, Stop>
+    ensures left { IfOk result (λ all. TellsAll a.now all.items) }
+    ensures right { IfOk result (λ all. TellsAll b.now all.items) }
+{
+    let all = merged(alloc, a, b)?;
+    if !is_within(a, all.as_slice()) {
+        return Err(Stop::NotTold);
+    }
+    if !is_within(b, all.as_slice()) {
+        return Err(Stop::NotTold);
+    }
+    Ok(all)
+}
+
+/// What was known is known whatever a test gives.
+fn same<'p>(alloc: Global, known: &[Known<'p>], faults: Faults) -> Result<Branches<'p>, Stop>
+    ensures if_true { IfOk result (λ s. s.if_true.items ≡ known.now) }
+    ensures if_false { IfOk result (λ s. s.if_false.items ≡ known.now) }
+    ensures faults { IfOk result (λ s. s.faults ≡ faults) }
+{
+    let if_true = copied(alloc, known)?;
+    let if_false = copied(alloc, known)?;
+    Ok(Branches {
+        if_true,
+        if_false,
+        faults,
+    })
+}
+
+/// Whether both are so.
+fn are_both(p: bool, q: bool) -> bool
+    ensures { p ≡ true → q ≡ true → result ≡ true }
+{
+    p & q
+}
+
+/// Whether one at least is so.
+fn is_either(p: bool, q: bool) -> bool
+    ensures first { p ≡ true → result ≡ true }
+    ensures second { q ≡ true → result ≡ true }
+{
+    p | q
+}
+
+/// Whether of two values one may be a number and the other a string.
+fn may_mix(a: Kinds, b: Kinds) -> bool
+    ensures number { (k : ℕ) (x : ℤ) (bytes : List ℕ) → MayBe a k (values.Int x) → MayBe b k (values.Text bytes) → result ≡ true }
+    ensures text { (k : ℕ) (bytes : List ℕ) (x : ℤ) → MayBe a k (values.Text bytes) → MayBe b k (values.Int x) → result ≡ true }
+{
+    let number_first = are_both(may_be_number(a), may_be_text(b));
+    let text_first = are_both(may_be_text(a), may_be_number(b));
+    is_either(number_first, text_first)
+}
+
+/// The faults of a comparison of what two expressions may give.
+fn compare_faults(a: Found, b: Found) -> Faults
+    ensures { (by : Compare) (k : ℕ) (left right : Result Value ValueFault) → IsFound a k left → IsFound b k right → FailsBy result (compares by left right) }
+{
+    let mixed = Faults {
+        wrong_type: may_mix(a.kinds, b.kinds),
+        ..no_faults()
+    };
+    both(both(a.faults, b.faults), mixed)
+}
+
+/// The faults of UNIQUE.
+fn shape_faults(names: &[Name]) -> Faults
+    ensures { IsAmong result Shape ⊎ (length names.now ≤ 1) }
+{
+    Faults {
+        shape: names.len() > 1,
+        ..no_faults()
+    }
+}
+
+/// One test or another, of which the other is asked where the first is false.
+fn either<'p>(
+    alloc: Global,
+    first: Branches<'p>,
+    second: Branches<'p>,
+) -> Result<Branches<'p>, Stop>
+    ensures left { IfOk result (λ s. TellsAll first.entry.if_true.items s.if_true.items) }
+    ensures right { IfOk result (λ s. TellsAll second.entry.if_true.items s.if_true.items) }
+    ensures neither { IfOk result (λ s. s.if_false.items ≡ second.entry.if_false.items) }
+    ensures faults { IfOk result (λ s. ((f : ValueFault) → IsAmong first.entry.faults f → IsAmong s.faults f) × ((f : ValueFault) → IsAmong second.entry.faults f → IsAmong s.faults f)) }
+{
+    let if_true = join(alloc, first.if_true.as_slice(), second.if_true.as_slice())?;
+    Ok(Branches {
+        if_true,
+        if_false: second.if_false,
+        faults: both(first.faults, second.faults),
+    })
+}
+
+/// The opposite of a test.
+fn opposite<'p>(s: Branches<'p>) -> Branches<'p>
+    ensures if_true { result.if_true.items ≡ s.entry.if_false.items }
+    ensures if_false { result.if_false.items ≡ s.entry.if_true.items }
+    ensures faults { result.faults ≡ s.entry.faults }
+{
+    Branches {
+        if_true: s.if_false,
+        if_false: s.if_true,
+        faults: s.faults,
+    }
+}
+
+/// What is known where a test is true, and where it is false.
+pub fn split<'p>(alloc: Global, t: &'p Test, known: &[Known<'p>]) -> Result<Branches<'p>, Stop>
+    ensures { IfOk result (λ s. SplitsBy known.now (test_tree t.now) s.if_true.items s.if_false.items s.faults) }
+{
+    match t {
+        Test::Or(a, b) => {
+            let first = split(alloc, a, known)?;
+            let second = split(alloc, b, first.if_false.as_slice())?;
+            let all = either(alloc, first, second)?;
+            Ok(all)
+        }
+        Test::And(a, b) => {
+            let left = split(alloc, a, known)?;
+            let right = split(alloc, b, left.if_true.as_slice())?;
+            let none = either(alloc, opposite(left), opposite(right))?;
+            Ok(opposite(none))
+        }
+        Test::Not(a) => {
+            let turned = split(alloc, a, known)?;
+            Ok(opposite(turned))
+        }
+        Test::Compare(_, a, b) => {
+            let one = inspect(a, known)?;
+            let other = inspect(b, known)?;
+            let compared = same(alloc, known, compare_faults(one, other))?;
+            Ok(compared)
+        }
+        Test::Match(e) => {
+            let text = inspect(e, known)?;
+            let matched = same(alloc, known, text_faults(text))?;
+            Ok(matched)
+        }
+        Test::IsEof => {
+            let ended = same(alloc, known, no_faults())?;
+            Ok(ended)
+        }
+        Test::Unique(names) => {
+            let distinct = same(alloc, known, shape_faults(names.as_slice()))?;
+            Ok(distinct)
+        }
+        Test::InArray(e, _) => {
+            let wanted = inspect(e, known)?;
+            let listed = same(alloc, known, wanted.faults)?;
+            Ok(listed)
+        }
+    }
+}

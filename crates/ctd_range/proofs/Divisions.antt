@@ -1,0 +1,101 @@
+-- What divisions and powers give.
+use Rattle.std.proofs.Common.{◌≡◌, ◌≤◌, ◌<◌, zero, suc, nat_lt, ◌+◌, ◌*◌, ◌^◌, ◌-◌, ◌/◌, ◌%◌, ℕ, Bool, true, false, ℤ, pos, negsuc, neg_ℤ, ◌+ℤ◌, ◌≤ℤ◌, ◌<ℤ◌, unsigned_abs, inl, inr, Ok, Err, if◌then◌else◌, refl, subst, div-le_self, pow-suc, le_trans, Option, Some, None, arith}
+use Rattle.std.specs.Prelude.{int_div, int_rem, IfSome}
+use Rattle.std.specs.Option.{SomeIff}
+use Rattle.std.specs.Int.{int_pow, w128}
+use Rattle.std.specs.Int.RustNames.{FitsSigned}
+use Rattle.std.proofs.lemmas.Int.{ints}
+use Rattle.std.proofs.lemmas.Bool.Decides.{nat_tests}
+use Rattle.std.proofs.Math.Nat.{mod-le, pow-le-pow_left, pow-le-pow_right}
+use Rattle.ctd_value.specs.Fault.{Exponent}
+use Rattle.ctd_value.specs.Arithmetic.{is_value, in_range, quotient, remainder, power}
+use Rattle.ctd_range.specs.declared.range.Range.{Range}
+use Rattle.ctd_range.specs.declared.arithmetic.Computed.{Computed}
+use Rattle.ctd_range.specs.calls.Ranges.{IsIn, Covers}
+use Rattle.ctd_range.specs.inner.Ranges.{IsTowardsZero}
+use Rattle.ctd_range.proofs.Ends.{between, covers_in_range}
+
+-- a number between 0 and another
+above_zero : (q a : ℕ) → q ≤ a → IsTowardsZero (pos a) (pos q)
+above_zero q a h = inl (omega (arith, ints), omega (arith, ints, h))
+
+below_zero : (q a : ℕ) → q ≤ suc a → IsTowardsZero (negsuc a) (neg_ℤ (pos q))
+below_zero zero a h = inr (omega (arith, ints), omega (arith, ints))
+below_zero (suc q) a h = inr (omega (arith, ints, h), omega (arith, ints))
+
+quotient_towards : (x : ℤ) (m : ℕ) → IsTowardsZero x (int_div x (pos (suc m)))
+quotient_towards (pos a) m = above_zero (a / suc m) a (div-le_self a (suc m))
+quotient_towards (negsuc a) m = below_zero (suc a / suc m) a (div-le_self (suc a) (suc m))
+
+remainder_towards : (x y : ℤ) → IsTowardsZero x (int_rem x y)
+remainder_towards (pos a) y = above_zero _ a (mod-le a _)
+remainder_towards (negsuc a) y = below_zero _ a (mod-le (suc a) _)
+
+-- a number of a range is a value
+inside_is_value : (r : Range) (n : ℕ) (z : ℤ) → FitsSigned w128 r.low → FitsSigned w128 r.high → IsIn r n z → is_value z ≡ true
+inside_is_value r n z fits_low fits_high inside = let l = inside.low in let h = inside.high in between z r.low r.high (omega (arith, ints, fits_low)) (omega (arith, ints, l)) (omega (arith, ints, h)) (omega (arith, ints, fits_high))
+
+covers_inside : (c : Computed) (n : ℕ) (z : ℤ) → FitsSigned w128 c.range.low → FitsSigned w128 c.range.high → IsIn c.range n z → Covers c n (in_range z)
+covers_inside c n z fits_low fits_high inside = covers_in_range c n z (λ _. inside) (λ no. let yes = inside_is_value c.range n z fits_low fits_high inside in absurd (cc (yes, no)))
+
+pub quotient_covers : (c : Computed) (n : ℕ) (x y : ℤ) → pos 1 ≤ℤ y → FitsSigned w128 c.range.low → FitsSigned w128 c.range.high → ((z : ℤ) → IsTowardsZero x z → IsIn c.range n z) → Covers c n (quotient x y)
+quotient_covers c n x (pos zero) some fits_low fits_high inside = absurd (omega (arith, ints, some))
+quotient_covers c n x (pos (suc m)) some fits_low fits_high inside = covers_inside c n (int_div x (pos (suc m))) fits_low fits_high (inside (int_div x (pos (suc m))) (quotient_towards x m))
+quotient_covers c n x (negsuc m) some fits_low fits_high inside = absurd (omega (arith, ints, some))
+
+pub some_divisor : (b : Range) (n : ℕ) (y : ℤ) → pos 1 ≤ℤ b.low → IsIn b n y → pos 1 ≤ℤ y
+some_divisor b n y some inside = let l = inside.low in omega (arith, ints, some, l)
+
+pub remainder_covers : (c : Computed) (n : ℕ) (x y : ℤ) → FitsSigned w128 c.range.low → FitsSigned w128 c.range.high → ((z : ℤ) → IsTowardsZero x z → IsIn c.range n z) → (y ≡ pos 0 → c.divides_by_zero ≡ true) → Covers c n (remainder x y)
+remainder_covers c n x (pos zero) fits_low fits_high inside divides = divides refl
+remainder_covers c n x (pos (suc m)) fits_low fits_high inside divides = covers_inside c n (int_rem x (pos (suc m))) fits_low fits_high (inside (int_rem x (pos (suc m))) (remainder_towards x (pos (suc m))))
+remainder_covers c n x (negsuc m) fits_low fits_high inside divides = covers_inside c n (int_rem x (negsuc m)) fits_low fits_high (inside (int_rem x (negsuc m)) (remainder_towards x (negsuc m)))
+
+-- powers
+one_power : (e : ℕ) → 1 ^ e ≡ 1
+one_power zero = refl
+one_power (suc e) = let next : 1 ^ suc e ≡ 1 ^ e * 1 = pow-suc 1 e in let is = one_power e in omega (arith, next, is)
+
+least_power : (p e : ℕ) (l : ℤ) → l ≤ℤ pos p → l ≤ℤ pos 1 → l ≤ℤ pos (p ^ e)
+least_power zero e l h k = omega (arith, ints, h)
+least_power (suc p) e l h k = let one : 1 ^ e ≤ suc p ^ e = pow-le-pow_left {n = 1} {m = suc p} (omega arith) e in let is : 1 ^ e ≡ 1 = one_power e in omega (arith, ints, k)
+
+power_of : (c : Computed) (n p e : ℕ) → e < 2 ^ 64 → Covers c n (in_range (pos (p ^ e))) → Covers c n (power (pos p) (pos e))
+power_of c n p e less covers = let yes : nat_lt e (2 ^ 64) ≡ true = grind (arith, nat_tests, less) in rw yes covers
+
+pub power_up_to : (l most base exponent : ℤ) (n : ℕ) (x y : ℤ) → FitsSigned w128 l → FitsSigned w128 most → l ≤ℤ x → l ≤ℤ pos 1 → pos 0 ≤ℤ x → x ≤ℤ base → pos 0 ≤ℤ y → y ≤ℤ exponent → ((p e : ℕ) → pos p ≤ℤ base → pos e ≤ℤ exponent → (e < 2 ^ 64) × (pos (p ^ e) ≤ℤ most))
+    → Covers (record { range = record { low = l; high = most; rise = 0; fall = 0 }; overflows = false; divides_by_zero = false; has_bad_exponent = false }) n (power x y)
+power_up_to l most base exponent n (negsuc x) y fits_low fits_high a b c d e f up = absurd (omega (arith, ints, c))
+power_up_to l most base exponent n (pos p) (negsuc y) fits_low fits_high a b c d e f up = absurd (omega (arith, ints, e))
+power_up_to l most base exponent n (pos p) (pos i) fits_low fits_high a b c d e f up =
+    let found = up p i d f in
+    let result : Computed = record { range = record { low = l; high = most; rise = 0; fall = 0 }; overflows = false; divides_by_zero = false; has_bad_exponent = false } in
+    power_of result n p i found.0 (covers_inside result n (pos (p ^ i)) fits_low fits_high (record { low = omega (arith, ints, least_power p i l a b); high = omega (arith, ints, found.1) }))
+
+below_power : (q k p e : ℕ) → 1 ≤ q → p ≤ q → e ≤ k → p ^ e ≤ q ^ k
+below_power q k p e some less fewer = le_trans (pow-le-pow_left {n = p} {m = q} less e) (pow-le-pow_right {n = q} some {i = e} {j = k} fewer)
+
+all_below : (q k : ℕ) (base exponent most : ℤ) → 1 ≤ q → base ≤ℤ pos q → exponent ≤ℤ pos k → k < 2 ^ 32 → most ≡ pos (q ^ k) → (p e : ℕ) → pos p ≤ℤ base → pos e ≤ℤ exponent → (e < 2 ^ 64) × (pos (p ^ e) ≤ℤ most)
+all_below q k base exponent most some up to few is p e below fewer =
+    let less : p ≤ q = omega (arith, ints, up, below) in
+    let least : e ≤ k = omega (arith, ints, to, fewer) in
+    let power : p ^ e ≤ q ^ k = below_power q k p e some less least in
+    (omega (arith, least, few), omega (arith, ints, power, is))
+
+some_power : (q k : ℕ) (base exponent : ℤ) (o : Option ℤ) → 1 ≤ q → base ≤ℤ pos q → exponent ≤ℤ pos k → k < 2 ^ 32 → SomeIff o (FitsSigned w128 (pos (q ^ k))) (pos (q ^ k)) → IfSome o (λ most. (p e : ℕ) → pos p ≤ℤ base → pos e ≤ℤ exponent → (e < 2 ^ 64) × (pos (p ^ e) ≤ℤ most))
+some_power q k base exponent None some up to few iff = tt
+some_power q k base exponent (Some most) some up to few iff = all_below q k base exponent most some up to few iff.1
+
+pub greatest_is : (m base exponent : ℤ) (k : ℕ) (o : Option ℤ) → pos 1 ≤ℤ m → base ≤ℤ m → exponent ≤ℤ pos k → k < 2 ^ 32 → SomeIff o (FitsSigned w128 (int_pow m k)) (int_pow m k) → IfSome o (λ most. (p e : ℕ) → pos p ≤ℤ base → pos e ≤ℤ exponent → (e < 2 ^ 64) × (pos (p ^ e) ≤ℤ most))
+greatest_is (pos q) base exponent k o some up to few iff = some_power q k base exponent o (omega (arith, ints, some)) up to few iff
+greatest_is (negsuc q) base exponent k o some up to few iff = absurd (omega (arith, ints, some))
+
+pub as_count : (exponent : ℤ) (k : ℕ) → pos 0 ≤ℤ exponent → exponent <ℤ pos (2 ^ 32) → k ≡ unsigned_abs exponent → (exponent ≤ℤ pos k) × (k < 2 ^ 32)
+as_count (pos n) k some few is = (omega (arith, ints, is), omega (arith, ints, is, few))
+as_count (negsuc n) k some few is = absurd (omega (arith, ints, some))
+
+pub above_low : (r : Range) (l : ℤ) (n : ℕ) (x : ℤ) → l ≤ℤ r.low → IsIn r n x → l ≤ℤ x
+above_low r l n x less inside = let h = inside.low in omega (arith, ints, less, h)
+
+pub below_high : (r : Range) (n : ℕ) (x : ℤ) → IsIn r n x → x ≤ℤ r.high
+below_high r n x inside = let h = inside.high in omega (arith, ints, h)

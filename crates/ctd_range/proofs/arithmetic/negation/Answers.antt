@@ -1,0 +1,8 @@
+use Rattle.std.proofs.Common.{pos, subst}
+use Rattle.ctd_value.specs.Arithmetic.{in_range}
+use Rattle.ctd_range.specs.calls.Ranges.{Covers}
+use Rattle.ctd_range.proofs.Ends.{zero_is_in, zero_less}
+use Rattle.ctd_range.proofs.arithmetic.negation.Goals as goal
+
+pub returns : goal.returns
+returns c = record { covers = λ n x inside. subst (λ z. Covers c.difference.result n (in_range z)) (zero_less x) (c.difference.ensures.covers n (pos 0) x (zero_is_in n) inside) }

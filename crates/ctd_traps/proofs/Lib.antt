@@ -1,0 +1,12 @@
+pub mod Listed
+pub mod Keeping
+pub mod PostFixpoint
+pub mod SimpleCommands
+pub mod Fits
+pub mod Acting
+pub mod Rows
+pub mod Turning
+pub mod Walking
+pub mod Steps
+pub mod Whole
+pub mod Pinning

@@ -1,0 +1,38 @@
+-- Findings that are added to others.
+use Rattle.std.proofs.Common.{◌≡◌, ◌++◌, true, List, [], ◌∷◌, map, Contains, refl, ap, sym, subst, ◌∙◌, inl, inr}
+use Rattle.std.proofs.lemmas.List.Elements.{Contains-append_left, Contains-append_right, Contains-push}
+use Rattle.ctd_token.specs.declared.text.Place.{Place}
+use Rattle.ctd_value.specs.Fault.{ValueFault}
+use Rattle.ctd_value.specs.Fault as faults
+use Rattle.ctd_known.specs.declared.faults.Faults.{Faults}
+use Rattle.ctd_known.specs.calls.Found.{IsAmong}
+use Rattle.ctd_traps.specs.declared.finding.Finding.{Finding}
+use Rattle.ctd_traps.specs.calls.Traps.{Trap, trap_of, traps_of}
+use Rattle.ctd_traps.specs.inner.Holds.{AreListed, ArePart}
+
+traps_both : (a b : List Finding) → traps_of (a ++ b) ≡ traps_of a ++ traps_of b
+traps_both [] b = refl
+traps_both (x ∷ a) b = ap (λ l. trap_of x ∷ l) (traps_both a b)
+
+pub part_left : (a b all : List Finding) → all ≡ a ++ b → ArePart (traps_of a) (traps_of all)
+part_left a b all is t has = subst (λ l. Contains l t) (sym (ap traps_of is ∙ traps_both a b)) (Contains-append_left (traps_of a) (traps_of b) t has)
+
+pub part_right : (a b all : List Finding) → all ≡ a ++ b → ArePart (traps_of b) (traps_of all)
+part_right a b all is t has = subst (λ l. Contains l t) (sym (ap traps_of is ∙ traps_both a b)) (Contains-append_right (traps_of a) (traps_of b) t has)
+
+pub pushed : (a all : List Finding) (f : Finding) → all ≡ a ++ f ∷ [] → Contains (traps_of all) (trap_of f)
+pushed a all f is = subst (λ l. Contains l (trap_of f)) (sym (ap traps_of is ∙ traps_both a (f ∷ []))) (Contains-push (traps_of a) (trap_of f))
+
+-- all faults are listed
+pub all_listed : (traps : List Trap) (place : Place) (f : Faults) → (f.no_value ≡ true → Contains traps (record { place = place; fault = faults.Undefined })) → (f.no_element ≡ true → Contains traps (record { place = place; fault = faults.Undefined })) →
+    (f.wrong_type ≡ true → Contains traps (record { place = place; fault = faults.WrongType })) → (f.overflow ≡ true → Contains traps (record { place = place; fault = faults.Overflow })) →
+    (f.division_by_zero ≡ true → Contains traps (record { place = place; fault = faults.DivisionByZero })) → (f.exponent ≡ true → Contains traps (record { place = place; fault = faults.Exponent })) →
+    (f.count ≡ true → Contains traps (record { place = place; fault = faults.Count })) → (f.shape ≡ true → Contains traps (record { place = place; fault = faults.Shape })) → AreListed traps place f
+all_listed traps place f a b c d e g h i faults.Undefined (inl is) = a is
+all_listed traps place f a b c d e g h i faults.Undefined (inr is) = b is
+all_listed traps place f a b c d e g h i faults.WrongType is = c is
+all_listed traps place f a b c d e g h i faults.Overflow is = d is
+all_listed traps place f a b c d e g h i faults.DivisionByZero is = e is
+all_listed traps place f a b c d e g h i faults.Exponent is = g is
+all_listed traps place f a b c d e g h i faults.Count is = h is
+all_listed traps place f a b c d e g h i faults.Shape is = i is

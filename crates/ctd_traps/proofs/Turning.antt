@@ -1,0 +1,240 @@
+-- How loops start, how their turns begin, and what a loop keeps.
+use Rattle.std.proofs.Common.{◌≡◌, ◌-◌, ◌<◌, ◌≤◌, ◌+◌, ◌^◌, ℕ, suc, Bool, true, false, nat_lt, pos, ℤ, ◌<ℤ◌, ◌*◌, List, [], ◌∷◌, Option, Some, None, Result, Ok, Err, refl, sym, subst, le_trans, arith}
+use Rattle.std.proofs.lemmas.Int.{ints}
+use Rattle.std.proofs.lemmas.Bool.Decides.{nat_tests}
+use Rattle.std.specs.Prelude.{⊤}
+use Rattle.ctd_token.specs.declared.text.Place.{Place}
+use Rattle.ctd_source.specs.TestData.{TestData}
+use Rattle.ctd_program.specs.Tree
+use Rattle.ctd_program.specs.Tree.{ExprTree, VarTree, TestTree, GuardTree, CommandTree, CommandList, Separator}
+use Rattle.ctd_store.specs.declared.value.Value.{Value}
+use Rattle.ctd_store.specs.declared.value.Value.TheVariants as values
+use Rattle.ctd_store.specs.Store.{History, Variables, value_at}
+use Rattle.ctd_value.specs.Fault.{ValueFault, with_fault}
+use Rattle.ctd_value.specs.Val.{count}
+use Rattle.ctd_outcome.specs.declared.outcome.Site.{Site}
+use Rattle.ctd_outcome.specs.declared.outcome.Site.TheVariants.{At}
+use Rattle.ctd_command.specs.State.{State, Effect, done, rejected, faulty, evaluate, proceed, lift, return, fault_of_value}
+use Rattle.ctd_command.specs.Commands.{answer, set_to}
+use Rattle.ctd_check.specs.Loops.{Guard, Loop, times, while_true, loop_of, count_turn, goes_on, guard_of, take_turn}
+use Rattle.ctd_check.specs.Run.{RunResult, all_done, stopped}
+use Rattle.ctd_check.specs.calls.BigSteps.{TurnEnds, command_has_no_step, command_is_done, command_rejects, command_fails, loop_starts, loop_fails, separator_before}
+use Rattle.ctd_range.specs.declared.range.Range.{Range}
+use Rattle.ctd_range.specs.calls.Ranges.{IsIn}
+use Rattle.ctd_known.specs.declared.faults.Faults.{Faults}
+use Rattle.ctd_known.specs.declared.facts.Kinds.{Kinds}
+use Rattle.ctd_known.specs.declared.facts.Known.{Known}
+use Rattle.ctd_known.specs.declared.facts.NameFacts.{NameFacts}
+use Rattle.ctd_known.specs.calls.Facts.{EachStands, MayBe, MayHave, NameStands, PinsStand, TellsAll, at_key}
+use Rattle.ctd_known.specs.calls.Found.{FailsBy, IsAmong, SplitsBy}
+use Rattle.ctd_known.specs.calls.Changed.{PaysStep}
+use Rattle.ctd_known.proofs.Applying.{AreFaults}
+use Rattle.ctd_traps.specs.calls.Traps.{Trap}
+use Rattle.ctd_traps.specs.inner.Holds.{AreListed, Holds}
+use Rattle.ctd_traps.specs.inner.Walk.{Assigns, ByTurn, Counts, CountsTurn, Enters, Fits, IsCounted, IsGuard, Starts, Stays}
+use Rattle.ctd_traps.specs.inner.Triples.{Before, CommandKeeps, Ends, IsListed, Keeps, Listing, Splits}
+use Rattle.ctd_traps.specs.inner.PostFixpoint.{Guess, IsPostFixpoint, among}
+use Rattle.ctd_traps.proofs.Keeping.{no_steps}
+use Rattle.ctd_traps.proofs.PostFixpoint.{post_fixpoints_hold}
+use Rattle.ctd_traps.proofs.Fits.{evaluation_fits, then_fits}
+use Rattle.ctd_traps.proofs.Acting.{answer_fits, set_fits}
+
+-- the counter
+pub counts_some : (pinned known after : List Known) (target : VarTree) (turn : Range) (kinds : Kinds) (f : Faults) → kinds ≡ record { text = None; number = Some turn } → Assigns pinned known target kinds after f → CountsTurn pinned known (Some target) turn after f
+counts_some pinned known after target turn kinds f is assigns pins d k n s inside stand stays =
+    set_fits pinned known after target kinds f assigns pins d n s (values.Int (pos k)) stand stays (subst (λ ks. MayBe ks n (values.Int (pos k))) (sym is) (turn, refl, inside))
+
+pub counts_none : (pinned known : List Known) (turn : Range) (f : Faults) → CountsTurn pinned known None turn known f
+counts_none pinned known turn f pins d k n s inside stand stays = stays
+
+-- the begin of a turn
+more_fits : {A : Type 0} (f g : Faults) (P : A → State → Type 0) (a : Effect A) → AreFaults f g → Fits f P a → Fits g P a
+more_fits f g P (done x t) more fits = fits
+more_fits f g P (rejected reason consumed) more fits = tt
+more_fits f g P (faulty fault consumed) more fits = λ why is. more why (fits why is)
+
+pub before_count : (k m : ℕ) → k < m → pos k <ℤ pos m
+before_count k m less = omega (arith, ints, less)
+
+pub in_counts : (most m n : ℕ) → m ≤ most → IsIn (record { low = pos 0; high = pos most; rise = 0; fall = 0 }) n (pos m)
+in_counts most m n up = record { low = omega (arith, ints); high = omega (arith, ints, up) }
+
+-- the parts of a turn of a loop that counts
+pub record TimesParts (pinned known inside over : List Known) (counter : Option VarTree) (turn below : Range) (most : ℕ) (f g all : Faults) : Type 0 where
+  pub goes_on : CountsTurn pinned known counter below inside f
+  pub is_over : CountsTurn pinned known counter turn over g
+  pub narrower : (n k m : ℕ) → k < m → m ≤ most → IsIn turn n (pos k) → IsIn below n (pos k)
+  pub by_f : AreFaults f all
+  pub by_g : AreFaults g all
+
+times_turn : (pinned known inside over : List Known) (counter : Option VarTree) (turn below : Range) (most : ℕ) (f g all : Faults) → TimesParts pinned known inside over counter turn below most f g all → (pins : Variables) (d : TestData) (k n m : ℕ) (s : State) (b : Bool) → nat_lt k m ≡ b → m ≤ most → IsIn turn n (pos k) → PinsStand pinned pins → Stays pins known n s
+    → Fits all (λ b u. ByTurn (Stays pins inside n) (Stays pins over n) b u) (proceed (count_turn counter k d s) (λ _ t. goes_on (times m) k d t))
+times_turn pinned known inside over counter turn below most f g all p pins d k n m s true is up here stand stays =
+    then_fits all (λ _ t. Stays pins inside n t) (λ b u. ByTurn (Stays pins inside n) (Stays pins over n) b u) (count_turn counter k d s) (λ _ t. goes_on (times m) k d t)
+    (more_fits f all (λ _ t. Stays pins inside n t) (count_turn counter k d s) p.by_f (p.goes_on pins d k n s (p.narrower n k m (grind (arith, nat_tests, is)) up here) stand stays))
+    (λ _ t there. subst (λ b. ByTurn (Stays pins inside n) (Stays pins over n) b t) (sym is) there)
+times_turn pinned known inside over counter turn below most f g all p pins d k n m s false is up here stand stays =
+    then_fits all (λ _ t. Stays pins over n t) (λ b u. ByTurn (Stays pins inside n) (Stays pins over n) b u) (count_turn counter k d s) (λ _ t. goes_on (times m) k d t)
+    (more_fits g all (λ _ t. Stays pins over n t) (count_turn counter k d s) p.by_g (p.is_over pins d k n s here stand stays))
+    (λ _ t there. subst (λ b. ByTurn (Stays pins inside n) (Stays pins over n) b t) (sym is) there)
+
+guarded_turn : (pinned known inside over : List Known) (e : ExprTree) (counter : Option VarTree) (turn below : Range) (most : ℕ) (f g all : Faults) → TimesParts pinned known inside over counter turn below most f g all → (pins : Variables) (d : TestData) (k n : ℕ) (s : State) (guard : Guard) → IsGuard (Tree.turns e) most guard → IsIn turn n (pos k) → PinsStand pinned pins → Stays pins known n s
+    → Fits all (λ b u. ByTurn (Stays pins inside n) (Stays pins over n) b u) (proceed (count_turn counter k d s) (λ _ t. goes_on guard k d t))
+guarded_turn pinned known inside over e counter turn below most f g all p pins d k n s (times m) is here stand stays = times_turn pinned known inside over counter turn below most f g all p pins d k n m s (nat_lt k m) refl is here stand stays
+guarded_turn pinned known inside over e counter turn below most f g all p pins d k n s (while_true u) is here stand stays = absurd is
+
+pub enters_times : (pinned known inside over : List Known) (e : ExprTree) (counter : Option VarTree) (turn below : Range) (most : ℕ) (f g all : Faults) → TimesParts pinned known inside over counter turn below most f g all → Enters pinned known (Tree.turns e) most counter turn inside over all
+enters_times pinned known inside over e counter turn below most f g all p pins d k n s loop guard same here stand stays =
+    subst (λ c. Fits all (λ b u. ByTurn (Stays pins inside n) (Stays pins over n) b u) (proceed (count_turn c k d s) (λ _ t. goes_on loop.guard k d t))) (sym same) (guarded_turn pinned known inside over e counter turn below most f g all p pins d k n s loop.guard guard here stand stays)
+
+while_goes : (pins : Variables) (after on_true others : List Known) (f : Faults) (t : TestTree) (d : TestData) (k n most : ℕ) (g : Guard) (u : State) → SplitsBy after t on_true others f → IsGuard (Tree.while t) most g → Stays pins after n u → Fits f (λ b v. ByTurn (Stays pins on_true n) (Stays pins others n) b v) (goes_on g k d u)
+while_goes pins after on_true others f t d k n most (times m) u splits is here = absurd is
+while_goes pins after on_true others f t d k n most (while_true w) u splits is here = subst (λ x. Fits f (λ b v. ByTurn (Stays pins on_true n) (Stays pins others n) b v) (answer x d u)) (sym is) (answer_fits pins after on_true others f t d n u splits here)
+
+pub enters_while : (pinned known after on_true others : List Known) (t : TestTree) (counter : Option VarTree) (turn : Range) (most : ℕ) (f g all : Faults) → CountsTurn pinned known counter turn after f → SplitsBy after t on_true others g → AreFaults f all → AreFaults g all → Enters pinned known (Tree.while t) most counter turn on_true others all
+enters_while pinned known after on_true others t counter turn most f g all counts splits more_f more_g pins d k n s loop guard same inside stand stays =
+    then_fits all (λ _ t. Stays pins after n t) (λ b u. ByTurn (Stays pins on_true n) (Stays pins others n) b u) (count_turn loop.counter k d s) (λ _ t. goes_on loop.guard k d t)
+    (more_fits f all (λ _ t. Stays pins after n t) (count_turn loop.counter k d s) more_f (subst (λ c. Fits f (λ _ t. Stays pins after n t) (count_turn c k d s)) (sym same) (counts pins d k n s inside stand stays)))
+    (λ _ u here. more_fits g all (λ b v. ByTurn (Stays pins on_true n) (Stays pins others n) b v) (goes_on loop.guard k d u) more_g (while_goes pins after on_true others g t d k n most loop.guard u splits guard here))
+
+-- a loop starts
+counted_fails : (most : ℕ) (f : Faults) (r : Result ℕ ValueFault) → IsCounted most f r → FailsBy f r
+counted_fails most f (Ok n) counted = tt
+counted_fails most f (Err why) counted = counted
+
+pub starts_times : (known : List Known) (e : ExprTree) (most : ℕ) (f : Faults) → Counts known e most f → Starts known (Tree.turns e) most f
+starts_times known e most f counts d n s each =
+    then_fits f (λ m t. (count e s.store ≡ Ok m) × (t ≡ s)) (λ g t. IsGuard (Tree.turns e) most g × (t ≡ s)) (evaluate (count e) d s) (λ m t. return (times m) d t) (evaluation_fits f (count e s.store) s (counted_fails most f (count e s.store) (counts n s.store each)))
+    (λ m t here. (subst (IsCounted most f) here.0 (counts n s.store each), here.1))
+
+pub starts_while : (known : List Known) (t : TestTree) (most : ℕ) (f : Faults) → Starts known (Tree.while t) most f
+starts_while known t most f d n s each = (refl, refl)
+
+-- faults that are listed
+pub listed_fault : (traps : List Trap) (place : Place) (f : Faults) (why : ValueFault) → AreListed traps place f → IsAmong f why → among traps (At place) why
+listed_fault traps place f why listed is = (place, refl, listed why is)
+
+pub splits_in : (traps : List Trap) (place : Place) (f : Faults) (inside outside : State → Type 0) (a : Effect Bool) → AreListed traps place f → Fits f (λ b t. ByTurn inside outside b t) a → Splits (among traps) (At place) inside outside a
+splits_in traps place f inside outside (done true t) listed fits = fits
+splits_in traps place f inside outside (done false t) listed fits = fits
+splits_in traps place f inside outside (rejected reason consumed) listed fits = tt
+splits_in traps place f inside outside (faulty fault consumed) listed fits = λ why is. listed_fault traps place f why listed (fits why is)
+
+pub weaker_splits : (traps : List Trap) (site : Site) (P Q P' Q' : State → Type 0) (a : Effect Bool) → ((t : State) → P t → P' t) → ((t : State) → Q t → Q' t) → Splits (among traps) site P Q a → Splits (among traps) site P' Q' a
+weaker_splits traps site P Q P' Q' (done true t) p q splits = p t splits
+weaker_splits traps site P Q P' Q' (done false t) p q splits = q t splits
+weaker_splits traps site P Q P' Q' (rejected reason consumed) p q splits = tt
+weaker_splits traps site P Q P' Q' (faulty fault consumed) p q splits = splits
+
+pub holds_of : (pins : Variables) (known : List Known) (n : ℕ) (t : State) → n < 2 ^ 64 → Stays pins known n t → Holds pins known n t
+holds_of pins known n t steps stays = record { steps = steps; pinned = stays.0; each = stays.1 }
+
+pub tells_holds : (pins : Variables) (known others : List Known) → TellsAll known others → (n : ℕ) (s : State) → Holds pins known n s → Holds pins others n s
+tells_holds pins known others tells n s here = record { steps = here.steps; pinned = here.pinned; each = tells n s.store here.each }
+
+-- the number of the first turn, and of a later one
+abbrev pub first_turn : Range
+first_turn = record { low = pos 0; high = pos 0; rise = 0; fall = 0 }
+
+abbrev pub later_turn : Range
+later_turn = record { low = pos 1; high = pos (2 ^ 64 - 1); rise = 0; fall = 1 }
+
+first_in : (n : ℕ) → IsIn first_turn n (pos 0)
+first_in n = record { low = omega (arith, ints); high = omega (arith, ints) }
+
+later_in : (k n : ℕ) → suc k + suc n < 2 ^ 64 → IsIn later_turn n (pos (suc k))
+later_in k n less = record { low = omega (arith, ints); high = omega (arith, ints, less) }
+
+-- what holds where more steps are left holds where fewer are
+in_fewer : (r : Range) (n : ℕ) (x : ℤ) → IsIn r (suc n) x → IsIn r n x
+in_fewer r n x i =
+    let e : r.rise * suc n ≡ r.rise * n + r.rise = omega arith in
+    let f : r.fall * suc n ≡ r.fall * n + r.fall = omega arith in
+    let l = i.low in let h = i.high in record { low = omega (arith, ints, e, l); high = omega (arith, ints, f, h) }
+
+may_be_fewer : (k : Kinds) (n : ℕ) (v : Value) → MayBe k (suc n) v → MayBe k n v
+may_be_fewer k n (values.Int x) may = (may.0, may.1, in_fewer may.0 n x may.2)
+may_be_fewer k n (values.Text bytes) may = may
+
+may_have_fewer : (known : NameFacts) (n : ℕ) (v : Option Value) → MayHave known (suc n) v → MayHave known n v
+may_have_fewer known n None may = may
+may_have_fewer known n (Some v) may = may_be_fewer known.alone n v may
+
+name_fewer : (name : List ℕ) (f : NameFacts) (n : ℕ) (h : History) → NameStands name f (suc n) h → NameStands name f n h
+name_fewer name f n h stands = record {
+  alone = may_have_fewer f n (value_at h (at_key name [])) stands.alone;
+  elements = λ i is v has. may_be_fewer f.elements n v (stands.elements i is v has);
+}
+
+pub each_fewer : (known : List Known) (n : ℕ) (h : History) → EachStands known (suc n) h → EachStands known n h
+each_fewer [] n h each = omega (arith, each)
+each_fewer (x ∷ xs) n h each = (name_fewer x.name.now x.facts n h each.0, each_fewer xs n h each.1)
+
+pub holds_fewer : (pins : Variables) (known : List Known) (n : ℕ) (s : State) → Holds pins known (suc n) s → Holds pins known n s
+holds_fewer pins known n s here = record { steps = omega (arith, here.steps); pinned = here.pinned; each = each_fewer known n s.store here.each }
+
+-- a turn begins where one more step was left
+begins : (pinned known paid inside outside after : List Known) (pins : Variables) (traps : List Trap) (d : TestData) (loop : Loop) (guard : GuardTree) (most : ℕ) (counter : Option VarTree) (turn : Range) (f : Faults) (k n : ℕ) (s : State) →
+    IsGuard guard most loop.guard → loop.counter ≡ counter → PaysStep known paid → Enters pinned paid guard most counter turn inside outside f → TellsAll outside after → AreListed traps loop.place f → PinsStand pinned pins → IsIn turn n (pos k) → Holds pins known (suc n) s
+    → Splits (among traps) (At loop.place) (Holds pins inside n) (Holds pins after n) (take_turn loop k d s)
+begins pinned known paid inside outside after pins traps d loop guard most counter turn f k n s is same pays enters tells listed stand inside_range here =
+    let less : n < 2 ^ 64 = omega (arith, here.steps) in
+    weaker_splits traps (At loop.place) (Stays pins inside n) (Stays pins outside n) (Holds pins inside n) (Holds pins after n) (take_turn loop k d s)
+    (λ t stays. holds_of pins inside n t less stays) (λ t stays. tells_holds pins outside after tells n t (holds_of pins outside n t less stays))
+    (splits_in traps loop.place f (Stays pins inside n) (Stays pins outside n) (take_turn loop k d s) listed
+    (enters pins d k n s loop is same inside_range stand (here.pinned, pays n s.store here.each)))
+
+-- a loop whose guess was checked
+pub record LoopParts (pinned known guess begun renewed first_inside first_outside later_inside later_outside before end after : List Known) (place : Place) (guard : GuardTree) (most : ℕ) (counter : Option VarTree) (sep : Separator) (body : CommandList) (f first later : Faults) (pins : Variables) (d : TestData) (traps : List Trap) : Type 0 where
+  pub stand : PinsStand pinned pins
+  pub starts : Starts known guard most f
+  pub first_pays : PaysStep known begun
+  pub later_pays : PaysStep guess renewed
+  pub first_enters : Enters pinned begun guard most counter first_turn first_inside first_outside first
+  pub later_enters : Enters pinned renewed guard most counter later_turn later_inside later_outside later
+  pub first_listed : AreListed traps place first
+  pub later_listed : AreListed traps place later
+  pub start_listed : AreListed traps place f
+  pub first_before : TellsAll first_inside before
+  pub separator : (k : ℕ) → Keeps d (among traps) (Holds pins later_inside) (separator_before (suc k) sep) (Holds pins before)
+  pub body_keeps : Keeps d (among traps) (Holds pins before) body (Holds pins end)
+  pub again : TellsAll end guess
+  pub first_after : TellsAll first_outside after
+  pub later_after : TellsAll later_outside after
+
+started : {pinned known guess begun renewed first_inside first_outside later_inside later_outside before end after : List Known} {place : Place} {guard : GuardTree} {most : ℕ} {counter : Option VarTree} {sep : Separator} {body : CommandList} {f first later : Faults} {pins : Variables} {d : TestData} {traps : List Trap} →
+    LoopParts pinned known guess begun renewed first_inside first_outside later_inside later_outside before end after place guard most counter sep body f first later pins d traps → (g : Guard) → IsGuard guard most g →
+    IsPostFixpoint d pins traps (loop_of place g counter sep body) (record { first = known; later = guess; first_inside = first_inside; later_inside = later_inside; before_body = before; after_body = end; after = after })
+started {pinned} {known} {guess} {begun} {renewed} {first_inside} {first_outside} {later_inside} {later_outside} {before} {end} {after} {place} {guard} {most} {counter} {sep} {body} {f} {first} {later} {pins} {d} {traps} p g is = record {
+  first_begin = λ n s here. begins pinned known begun first_inside first_outside after pins traps d (loop_of place g counter sep body) guard most counter first_turn first 0 n s is refl p.first_pays p.first_enters p.first_after p.first_listed p.stand (first_in n) here;
+  later_begin = λ k n s less here. begins pinned guess renewed later_inside later_outside after pins traps d (loop_of place g counter sep body) guard most counter later_turn later (suc k) n s is refl p.later_pays p.later_enters p.later_after p.later_listed p.stand (later_in k n less) here;
+  first_body = λ n s here. tells_holds pins first_inside before p.first_before n s here;
+  separator = p.separator;
+  body = p.body_keeps;
+  again = λ n s here. tells_holds pins end guess p.again n s here;
+}
+
+-- how the start of a loop ends
+guard_done : (known : List Known) (guard : GuardTree) (most : ℕ) (f : Faults) (d : TestData) (n : ℕ) (s : State) (g : Guard) → Starts known guard most f → EachStands known n s.store → guard_of guard d s ≡ done g s → IsGuard guard most g
+guard_done known guard most f d n s g starts each is = (subst (Fits f (λ g t. IsGuard guard most g × (t ≡ s))) is (starts d n s each)).0
+
+guard_fails : (known : List Known) (guard : GuardTree) (most : ℕ) (f : Faults) (place : Place) (traps : List Trap) (d : TestData) (n : ℕ) (s : State) (fault : _) (consumed : ℕ) → Starts known guard most f → EachStands known n s.store → AreListed traps place f → guard_of guard d s ≡ faulty fault consumed → IsListed (among traps) (At place) fault
+guard_fails known guard most f place traps d n s fault consumed starts each listed is why same = listed_fault traps place f why listed (subst (Fits f (λ g t. IsGuard guard most g × (t ≡ s))) is (starts d n s each) why same)
+
+fewer_ends : (traps : Listing) (m n : ℕ) (after : Before) (e : RunResult) → m ≤ n → Ends traps m after e → Ends traps n after e
+fewer_ends traps m n after (all_done t l) less ends = (le_trans ends.0 less, ends.1)
+fewer_ends traps m n after (stopped outcome consumed l) less ends = ends
+
+pub loop_command : (pinned known guess begun renewed first_inside first_outside later_inside later_outside before end after : List Known) (place : Place) (guard : GuardTree) (most : ℕ) (counter : Option VarTree) (sep : Separator) (body : CommandList) (f first later : Faults) (pins : Variables) (d : TestData) (traps : List Trap) →
+    LoopParts pinned known guess begun renewed first_inside first_outside later_inside later_outside before end after place guard most counter sep body f first later pins d traps → CommandKeeps d (among traps) (Holds pins known) (Tree.loop place guard counter sep body) (Holds pins after)
+loop_command pinned known guess begun renewed first_inside first_outside later_inside later_outside before end after place guard most counter sep body f first later pins d traps p n s e here (command_has_no_step) = no_steps (among traps) (At place)
+loop_command pinned known guess begun renewed first_inside first_outside later_inside later_outside before end after place guard most counter sep body f first later pins d traps p n s e here (loop_starts {n = m} {guard = g} is run) =
+    let held : Holds pins known m s = holds_fewer pins known m s here in
+    fewer_ends (among traps) m n (Holds pins after) e (omega arith)
+    (post_fixpoints_hold d pins traps (loop_of place g counter sep body) (record { first = known; later = guess; first_inside = first_inside; later_inside = later_inside; before_body = before; after_body = end; after = after })
+    (started p g (guard_done known guard most f d m s g p.starts held.each is)) m s e held run)
+loop_command pinned known guess begun renewed first_inside first_outside later_inside later_outside before end after place guard most counter sep body f first later pins d traps p n s e here (loop_fails {n = m} {fault} is) =
+    guard_fails known guard most f place traps d m s fault _ p.starts (holds_fewer pins known m s here).each p.start_listed is
+loop_command pinned known guess begun renewed first_inside first_outside later_inside later_outside before end after place guard most counter sep body f first later pins d traps p n s e here (command_is_done simple is) = elim simple [ ]
+loop_command pinned known guess begun renewed first_inside first_outside later_inside later_outside before end after place guard most counter sep body f first later pins d traps p n s e here (command_rejects simple is) = elim simple [ ]
+loop_command pinned known guess begun renewed first_inside first_outside later_inside later_outside before end after place guard most counter sep body f first later pins d traps p n s e here (command_fails simple is) = elim simple [ ]

@@ -1,0 +1,7 @@
+use Rattle.std.proofs.Common.{drop, map}
+use Rattle.ctd_program.specs.calls.View.{assignment}
+use Rattle.ctd_traps.proofs.Acting.{SetLeads}
+use Rattle.ctd_traps.proofs.assign.set_all.Given as goal
+
+abbrev pub invariant-loop-a : goal.invariant-loop-a
+invariant-loop-a l = SetLeads l.ground.pinned.now l.known l.after.items l.faults (map assignment (drop l.a-index l.assignments)) (map assignment l.assignments)

@@ -1,0 +1,5 @@
+-- What only the proofs of this crate use.
+pub mod Holds
+pub mod Triples
+pub mod PostFixpoint
+pub mod Walk

@@ -1,0 +1,105 @@
+//! What is known once variables got values, or lost them.
+
+ghost use Rattle.std.specs.Prelude.{◌≡◌, IfOk, map};
+ghost use Rattle.ctd_program.specs.calls.View.{assignment, target, var_tree};
+ghost use Rattle.ctd_command.specs.Commands.{set};
+ghost use Rattle.ctd_traps.specs.inner.Walk.{Acts, Assigns, ClearsAll, KeepsValue};
+
+use ctd_known::{
+    Faults, Ground, Kinds, Known, Stop, assign_alone, assign_element, both, clear, copied,
+    examine_indices, inspect, no_faults,
+};
+use ctd_program::{Assignment, Var};
+use ctd_token::Name;
+
+/// What is known behind a simple command, and the faults that it may have.
+#[derive(Drop)]
+pub(crate) struct Acted<'p> {
+    pub(crate) after: Vec<Known<'p>>,
+    pub(crate) faults: Faults,
+}
+
+/// What is known once a variable got one of some values, and the faults of its indices.
+pub(crate) fn assign<'p>(
+    ground: Ground<'_, 'p>,
+    variable: &'p Var,
+    kinds: Kinds,
+    known: &[Known<'p>],
+) -> Result<Acted<'p>, Stop>
+    ensures { IfOk result (λ a. Assigns ground.entry.pinned.now known.now (var_tree variable.now) kinds a.after.items a.faults) }
+{
+    let name = variable.name.as_slice();
+    let indices = variable.indices.as_slice();
+    if indices.is_empty() {
+        let after = assign_alone(ground, name, kinds, known)?;
+        return Ok(Acted {
+            after,
+            faults: no_faults(),
+        });
+    }
+    match examine_indices(indices, known) {
+        Some(faults) => {
+            let after = assign_element(ground.alloc, name, kinds, known)?;
+            Ok(Acted { after, faults })
+        }
+        None => Err(Stop::NotTold),
+    }
+}
+
+/// What is known once a target, if there is one, got one of some values.
+pub(crate) fn keep<'p>(
+    ground: Ground<'_, 'p>,
+    variable: &'p Option<Var>,
+    kinds: Kinds,
+    known: &[Known<'p>],
+) -> Result<Acted<'p>, Stop>
+    ensures { IfOk result (λ a. KeepsValue ground.entry.pinned.now known.now (target variable.now) kinds a.after.items a.faults) }
+{
+    match variable {
+        Some(variable) => {
+            let kept = assign(ground, variable, kinds, known)?;
+            Ok(kept)
+        }
+        None => {
+            let after = copied(ground.alloc, known)?;
+            Ok(Acted {
+                after,
+                faults: no_faults(),
+            })
+        }
+    }
+}
+
+/// What is known behind SET.
+pub(crate) fn set_all<'p>(
+    ground: Ground<'_, 'p>,
+    assignments: &'p [Assignment],
+    known: &[Known<'p>],
+) -> Result<Acted<'p>, Stop>
+    ensures { IfOk result (λ a. Acts ground.entry.pinned.now known.now a.after.items a.faults (set (map assignment assignments.now))) }
+{
+    let mut after = copied(ground.alloc, known)?;
+    let mut faults = no_faults();
+    for a in assignments {
+        let value = inspect(&a.value, after.as_slice())?;
+        let next = assign(ground, &a.target, value.kinds, after.as_slice())?;
+        faults = both(both(faults, value.faults), next.faults);
+        after = next.after;
+    }
+    Ok(Acted { after, faults })
+}
+
+/// What is known behind UNSET.
+pub(crate) fn clear_all<'p>(
+    ground: Ground<'_, 'p>,
+    names: &'p [Name],
+    known: &[Known<'p>],
+) -> Result<Vec<Known<'p>>, Stop>
+    ensures { IfOk result (λ after. ClearsAll ground.entry.pinned.now known.now names.now after.items) }
+{
+    let mut after = copied(ground.alloc, known)?;
+    for name in names {
+        after = clear(ground, name.as_slice(), after.as_slice())?;
+    }
+    Ok(after)
+}

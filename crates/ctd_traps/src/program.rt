@@ -1,0 +1,156 @@
+//! The traps of a program.
+
+ghost use Rattle.std.specs.Prelude.{◌≡◌, ℕ, [], IfOk, IfSome};
+ghost use Rattle.ctd_program.specs.calls.View.{command_trees};
+ghost use Rattle.ctd_store.specs.Store.{Variables, pins_of, value_of, with_pin};
+ghost use Rattle.ctd_traps.specs.calls.Traps.{HasEachTrap, traps_of};
+ghost use Rattle.ctd_known.specs.calls.Facts.{MayBe, PinsStand};
+
+use crate::finding::Finding;
+use crate::names::names_of;
+use crate::walk::walk;
+use ctd_check::big_steps_are_the_run;
+use ctd_known::{
+    Ground, Kinds, Known, Lengths, NameFacts, Stop, assign_alone, assign_element, copied,
+};
+use ctd_program::{Command, Literal, Preset, Presets, Program};
+use ctd_range::Range;
+use std::alloc::{AllocError, Global};
+
+/// The most passes over bodies of loops.
+const BUDGET: u64 = 20_000;
+
+/// No values.
+const NONE: Kinds = Kinds {
+    text: None,
+    number: None,
+};
+
+/// What is known where no name has a value.
+fn unset<'p>(alloc: Global, names: &[&'p [u8]]) -> Result<Vec<Known<'p>>, AllocError>
+    ensures { IfOk result (λ known. PinsStand known.items []) }
+{
+    let facts = NameFacts {
+        may_lack: true,
+        alone: NONE,
+        elements: NONE,
+    };
+    let mut known = Vec::new(alloc);
+    for name in names {
+        known.push(Known { name: *name, facts })?;
+    }
+    Ok(known)
+}
+
+/// The kinds of a literal.
+fn kinds_of(literal: &Literal) -> Kinds
+    ensures { (n : ℕ) → MayBe result n (value_of literal.now) }
+{
+    match literal {
+        Literal::Int(n) => Kinds {
+            text: None,
+            number: Some(Range {
+                low: *n,
+                high: *n,
+                rise: 0,
+                fall: 0,
+            }),
+        },
+        Literal::Text(bytes) => {
+            let length = bytes.as_slice().len() as u64;
+            Kinds {
+                text: Some(Lengths {
+                    least: length,
+                    most: length,
+                }),
+                number: None,
+            }
+        }
+    }
+}
+
+/// What is known once a preset is pinned too. What is known without pins is given.
+fn pin<'p>(
+    without: Ground<'_, 'p>,
+    preset: &'p Preset,
+    known: &[Known<'p>],
+) -> Result<Vec<Known<'p>>, Stop>
+    ensures { IfOk result (λ after. PinsStand without.entry.pinned.now [] → (pins : Variables) → PinsStand known.now pins → PinsStand after.items (with_pin pins preset.now)) }
+{
+    let name = preset.name.as_slice();
+    let kinds = kinds_of(&preset.value);
+    if preset.indices.as_slice().is_empty() {
+        let alone = assign_alone(without, name, kinds, known)?;
+        Ok(alone)
+    } else {
+        let element = assign_element(without.alloc, name, kinds, known)?;
+        Ok(element)
+    }
+}
+
+/// What is known where all presets are pinned.
+fn pin_all<'p>(without: Ground<'_, 'p>, presets: &'p [Preset]) -> Result<Vec<Known<'p>>, Stop>
+    ensures { IfOk result (λ known. PinsStand without.entry.pinned.now [] → PinsStand known.items (pins_of presets.now)) }
+{
+    let mut known = copied(without.alloc, without.pinned)?;
+    for preset in presets {
+        known = pin(without, preset, known.as_slice())?;
+    }
+    Ok(known)
+}
+
+/// The traps of a program: the findings, and the names to which they refer.
+#[derive(Drop)]
+pub struct TrapList<'p> {
+    pub findings: Vec<Finding>,
+    pub names: Vec<&'p [u8]>,
+}
+
+/// The places at which a run of some commands with these names may stop by a fault of a value.
+fn findings_of<'p>(
+    alloc: Global,
+    commands: &'p [Command],
+    presets: &'p Presets,
+    names: &[&'p [u8]],
+) -> Result<Vec<Finding>, Stop>
+    ensures { IfOk result (λ found. HasEachTrap (command_trees commands.now) presets.now (traps_of found.items)) }
+{
+    big_steps_are_the_run();
+    let nothing = unset(alloc, names)?;
+    let without = Ground {
+        alloc,
+        pinned: nothing.as_slice(),
+    };
+    let pinned = pin_all(without, presets.pins())?;
+    let ground = Ground {
+        alloc,
+        pinned: pinned.as_slice(),
+    };
+    let mut findings = Vec::new(alloc);
+    let mut budget = BUDGET;
+    walk(
+        commands,
+        ground,
+        pinned.as_slice(),
+        &mut findings,
+        &mut budget,
+    )?;
+    Ok(findings)
+}
+
+/// The places at which a run of a program may stop by a fault of a value, whatever the data, the mode and the limit of steps; none where
+/// the program is too large to tell. An error where memory ran out.
+pub fn traps<'p>(
+    alloc: Global,
+    program: &'p Program,
+    presets: &'p Presets,
+) -> Result<Option<TrapList<'p>>, AllocError>
+    ensures each { IfOk result (λ told. IfSome told (λ found. HasEachTrap (command_trees program.now) presets.now (traps_of found.findings.items))) }
+{
+    let names = names_of(alloc, program.commands(), presets)?;
+    match findings_of(alloc, program.commands(), presets, names.as_slice()) {
+        Ok(findings) => Ok(Some(TrapList { findings, names })),
+        Err(Stop::Memory) => Err(AllocError),
+        Err(Stop::NotTold) => Ok(None),
+    }
+}

@@ -1,0 +1,110 @@
+//! What is known behind commands in which no others stand.
+
+ghost use Rattle.std.specs.Prelude.{◌≡◌, ◌≤ℤ◌, ◌≤◌, ◌<◌, ℕ, ℤ, List, length, false, IfOk};
+ghost use Rattle.ctd_source.specs.declared.limits.TheConstants.{WINDOW};
+ghost use Rattle.ctd_program.specs.calls.View.{expr_tree, target, test_tree};
+ghost use Rattle.ctd_store.specs.declared.value.Value.TheVariants as values;
+ghost use Rattle.ctd_command.specs.Commands.{assert, int, string};
+ghost use Rattle.ctd_command.specs.Regex.{regex};
+ghost use Rattle.ctd_known.specs.calls.Facts.{MayBe};
+ghost use Rattle.ctd_traps.specs.inner.Walk.{Acts};
+
+use crate::assign::{Acted, keep};
+use ctd_known::{
+    Ground, Kinds, Known, Lengths, Stop, both, copied, inspect, number_faults, split, text_faults,
+};
+use ctd_program::{Expr, IntArguments, RegexArguments, Test};
+use ctd_range::Range;
+use ctd_source::WINDOW;
+
+/// The numbers from one of a kind to one of another.
+fn between(a: Kinds, b: Kinds) -> Kinds
+    ensures { (k : ℕ) (x y z : ℤ) → MayBe a k (values.Int x) → MayBe b k (values.Int y) → x ≤ℤ z → z ≤ℤ y → MayBe result k (values.Int z) }
+{
+    let number = match (a.number, b.number) {
+        (Some(least), Some(most)) => Some(Range {
+            low: least.low,
+            high: most.high,
+            rise: least.rise,
+            fall: most.fall,
+        }),
+        _ => None,
+    };
+    Kinds { text: None, number }
+}
+
+/// What is known behind INT.
+pub(crate) fn take_integer<'p>(
+    arguments: &'p IntArguments,
+    ground: Ground<'_, 'p>,
+    known: &[Known<'p>],
+) -> Result<Acted<'p>, Stop>
+    ensures { IfOk result (λ a. Acts ground.entry.pinned.now known.now a.after.items a.faults (int (expr_tree arguments.now.low) (expr_tree arguments.now.high) (target arguments.now.target))) }
+{
+    let low = inspect(&arguments.low, known)?;
+    let high = inspect(&arguments.high, known)?;
+    let kept = keep(
+        ground,
+        &arguments.target,
+        between(low.kinds, high.kinds),
+        known,
+    )?;
+    let bounds = both(number_faults(low), number_faults(high));
+    Ok(Acted {
+        after: kept.after,
+        faults: both(bounds, kept.faults),
+    })
+}
+
+/// What is known behind STRING.
+pub(crate) fn take_string<'p>(
+    e: &'p Expr,
+    ground: Ground<'_, 'p>,
+    known: &[Known<'p>],
+) -> Result<Acted<'p>, Stop>
+    ensures { IfOk result (λ a. Acts ground.entry.pinned.now known.now a.after.items a.faults (string (expr_tree e.now))) }
+{
+    let faults = text_faults(inspect(e, known)?);
+    let after = copied(ground.alloc, known)?;
+    Ok(Acted { after, faults })
+}
+
+/// The strings that a window may have.
+fn in_window() -> Kinds
+    ensures { (k : ℕ) (bytes : List ℕ) → length bytes ≤ WINDOW → MayBe result k (values.Text bytes) }
+{
+    Kinds {
+        text: Some(Lengths {
+            least: 0,
+            most: WINDOW as u64,
+        }),
+        number: None,
+    }
+}
+
+/// What is known behind REGEX.
+pub(crate) fn take_match<'p>(
+    arguments: &'p RegexArguments,
+    ground: Ground<'_, 'p>,
+    known: &[Known<'p>],
+) -> Result<Acted<'p>, Stop>
+    ensures { IfOk result (λ a. Acts ground.entry.pinned.now known.now a.after.items a.faults (regex arguments.now.literal.bytes (target arguments.now.target))) }
+{
+    let kept = keep(ground, &arguments.target, in_window(), known)?;
+    Ok(kept)
+}
+
+/// What is known behind ASSERT.
+pub(crate) fn assert_test<'p>(
+    t: &'p Test,
+    ground: Ground<'_, 'p>,
+    known: &[Known<'p>],
+) -> Result<Acted<'p>, Stop>
+    ensures { IfOk result (λ a. Acts ground.entry.pinned.now known.now a.after.items a.faults (assert (test_tree t.now))) }
+{
+    let decided = split(ground.alloc, t, known)?;
+    Ok(Acted {
+        after: decided.if_true,
+        faults: decided.faults,
+    })
+}
