@@ -139,15 +139,14 @@ pub loop_step : (pinned known after : List Known) (found : List Finding) (a : Ac
 loop_step pinned known after found a x l place is held steps = subst (StepKeeps pinned known after found) (sym (loop_tree a x l place is held)) steps
 
 -- a loop whose guess was checked
-pub repeat_keeps : (pinned known guess begun renewed first_inside first_outside later_inside later_outside separated before end after : List Known) (place : Place) (l : Loop) (cs : List Command) (most : ℕ) (f first later every : Faults) (reported second third new : List Finding) →
+pub repeat_keeps : (pinned known guess begun renewed first_inside first_outside later_inside later_outside separated before end after : List Known) (place : Place) (l : Loop) (most : ℕ) (f first later every : Faults) (reported second third new : List Finding) →
     Starts known (guard_tree (out-Loop l).guard) most f → PaysStep known begun → PaysStep guess renewed → Enters pinned begun (guard_tree (out-Loop l).guard) most (boxed_target (out-Loop l).counter) first_turn first_inside first_outside first → Enters pinned renewed (guard_tree (out-Loop l).guard) most (boxed_target (out-Loop l).counter) later_turn later_inside later_outside later →
-    AreListed (traps_of reported) place every → AreFaults f every → AreFaults first every → AreFaults later every → SeparatorKeeps pinned later_inside separated second (boxed_separator (out-Loop l).between) → WalkKeeps pinned before end third (command_trees cs) → cs ≡ commands_of (out-Loop l).body →
+    AreListed (traps_of reported) place every → AreFaults f every → AreFaults first every → AreFaults later every → SeparatorKeeps pinned later_inside separated second (boxed_separator (out-Loop l).between) → WalkKeeps pinned before end third (command_list (out-Loop l).body) →
     TellsAll first_inside before → TellsAll separated before → TellsAll end guess → TellsAll first_outside after → TellsAll later_outside after → ArePart (traps_of reported) (traps_of new) → ArePart (traps_of second) (traps_of new) → ArePart (traps_of third) (traps_of new) →
     StepKeeps pinned known after new (loop_at place l)
-repeat_keeps pinned known guess begun renewed first_inside first_outside later_inside later_outside separated before end after place l cs most f first later every reported second third new starts first_pays later_pays first_enters later_enters listed by_f by_first by_later separates walks body
+repeat_keeps pinned known guess begun renewed first_inside first_outside later_inside later_outside separated before end after place l most f first later every reported second third new starts first_pays later_pays first_enters later_enters listed by_f by_first by_later separates walks
     first_before separated_before again first_after later_after part_one part_two part_three pins d all stand part =
     let in_all : AreListed all place every = listed_more (traps_of reported) all place every listed (part_trans (traps_of reported) (traps_of new) all part_one part) in
-    let same : command_trees cs ≡ command_list (out-Loop l).body = ap command_trees body ∙ sym (list_commands (out-Loop l).body) in
     loop_command pinned known guess begun renewed first_inside first_outside later_inside later_outside before end after place (guard_tree (out-Loop l).guard) most (boxed_target (out-Loop l).counter) (boxed_separator (out-Loop l).between) (command_list (out-Loop l).body) f first later pins d all
     (record {
       stand = stand;
@@ -162,7 +161,7 @@ repeat_keeps pinned known guess begun renewed first_inside first_outside later_i
       first_before = first_before;
       separator = λ k. weaker_keeps d (among all) (Holds pins later_inside) (Holds pins separated) (Holds pins before) (separator_before (suc k) (boxed_separator (out-Loop l).between)) (tells_holds pins separated before separated_before)
           (separates pins d all k stand (part_trans (traps_of second) (traps_of new) all part_two part));
-      body_keeps = subst (λ xs. Keeps d (among all) (Holds pins before) xs (Holds pins end)) same (walks pins d all stand (part_trans (traps_of third) (traps_of new) all part_three part));
+      body_keeps = walks pins d all stand (part_trans (traps_of third) (traps_of new) all part_three part);
       again = again;
       first_after = first_after;
       later_after = later_after;

@@ -1,7 +1,7 @@
 //! A walk over the commands of a program.
 
 ghost use Rattle.std.specs.Prelude.{◌≡◌, true, OnOk, IfOk};
-ghost use Rattle.ctd_program.specs.calls.View.{command_tree, command_trees};
+ghost use Rattle.ctd_program.specs.calls.View.{command_list, command_tree, command_trees};
 ghost use Rattle.ctd_program.specs.inner.View.{boxed_separator};
 ghost use Rattle.ctd_traps.specs.calls.Traps.{traps_of};
 ghost use Rattle.ctd_traps.specs.inner.Holds.{AreListed, ArePart};
@@ -14,7 +14,7 @@ use crate::turn::{enter, start};
 use ctd_known::{
     Ground, Known, Stop, after_step, both, copied, is_within, join, nowhere, pay, split, widened,
 };
-use ctd_program::{Action, Choice, Command, Loop};
+use ctd_program::{Action, Choice, Command, Commands, Loop};
 use ctd_range::Range;
 use ctd_token::Place;
 
@@ -53,6 +53,22 @@ pub(crate) fn walk<'p>(
     for command in commands {
         after = step(command, ground, after.as_slice(), findings, budget)?;
     }
+    Ok(after)
+}
+
+/// What is known behind the commands of a block.
+#[cycle(walk)]
+fn walk_block<'p>(
+    block: &'p Commands,
+    ground: Ground<'_, 'p>,
+    known: &[Known<'p>],
+    findings: &mut Vec<Finding>,
+    budget: &mut u64,
+) -> Result<Vec<Known<'p>>, Stop>
+    ensures more { OnOk result (ArePart (traps_of findings.old.items) (traps_of findings.new.items)) }
+    ensures keeps { IfOk result (λ after. WalkKeeps ground.entry.pinned.now known.now after.items findings.new.items (command_list block.now)) }
+{
+    let after = walk(block.as_slice(), ground, known, findings, budget)?;
     Ok(after)
 }
 
@@ -195,7 +211,14 @@ fn repeat<'p>(
     for round in 0..ROUNDS {
         pay(budget)?;
         let renewed = after_step(ground.alloc, guess.as_slice())?;
-        let later = enter(guard, counter, LATER, turns.most, ground, renewed.as_slice())?;
+        let later = enter(
+            guard,
+            counter,
+            LATER,
+            turns.most,
+            ground,
+            renewed.as_slice(),
+        )?;
         let mut found = Vec::new(ground.alloc);
         report(
             place,
@@ -204,15 +227,13 @@ fn repeat<'p>(
         )?;
         let separated = separate(between, ground, later.inside.as_slice(), &mut found, budget)?;
         let before = join(ground.alloc, first.inside.as_slice(), separated.as_slice())?;
-        let end = walk(
-            body.as_slice(),
-            ground,
-            before.as_slice(),
-            &mut found,
-            budget,
-        )?;
+        let end = walk_block(body, ground, before.as_slice(), &mut found, budget)?;
         if is_within(end.as_slice(), guess.as_slice()) {
-            let after = join(ground.alloc, first.outside.as_slice(), later.outside.as_slice())?;
+            let after = join(
+                ground.alloc,
+                first.outside.as_slice(),
+                later.outside.as_slice(),
+            )?;
             append(findings, found)?;
             return Ok(after);
         }
