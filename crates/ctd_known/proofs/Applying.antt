@@ -1,5 +1,5 @@
 -- What operators give of what their operands may give.
-use Rattle.std.proofs.Common.{◌≡◌, ◌≢◌, ◌<◌, ◌≤◌, ◌+◌, ◌∙◌, ap, get_or, drop, ℕ, pos, neg_ℤ, List, [], ◌∷◌, length, Option, Some, None, ℤ, Bool, true, Result, Ok, Err, refl, sym, subst, inl, inr}
+use Rattle.std.proofs.Common.{◌≡◌, ◌≢◌, ◌<◌, ◌≤◌, ◌+◌, ◌∙◌, ap, get_or, drop, ℕ, pos, neg_ℤ, List, [], ◌∷◌, length, Option, Some, None, ℤ, Bool, true, Result, Ok, Err, refl, sym, subst}
 use Rattle.std.proofs.lemmas.List.{at_drop_more, drop_all}
 use Rattle.std.specs.Global.{Box}
 use Rattle.ctd_program.proofs.Trees.{boxed_element}
@@ -7,7 +7,6 @@ use Rattle.ctd_program.specs.declared.tree.Element.{Element}
 use Rattle.ctd_program.specs.declared.tree.Expr.TheVariants as variants
 use Rattle.ctd_program.specs.Tree
 use Rattle.ctd_program.specs.Tree.{ExprTree, ExprList}
-use Rattle.ctd_program.specs.declared.tree.Compare.{Compare}
 use Rattle.ctd_program.specs.declared.tree.Expr.{Expr}
 use Rattle.ctd_program.specs.calls.View.{expr_list, expr_tree, exprs_of}
 use Rattle.ctd_store.specs.declared.value.Value.{Value}
@@ -17,7 +16,6 @@ use Rattle.ctd_value.specs.Fault.{ValueFault, ◌>>=◌}
 use Rattle.ctd_value.specs.Fault as faults
 use Rattle.ctd_value.specs.Arithmetic.{in_range}
 use Rattle.ctd_value.specs.Val.{arithmetic, val, vals, value_or_undefined}
-use Rattle.ctd_value.specs.Truth.{compares}
 use Rattle.ctd_range.specs.calls.Ranges.{IsIn}
 use Rattle.ctd_range.specs.declared.range.Range.{Range}
 use Rattle.ctd_known.specs.declared.expression.Found.{Found}
@@ -25,7 +23,7 @@ use Rattle.ctd_known.specs.declared.faults.Faults.{Faults}
 use Rattle.ctd_known.specs.declared.expression.Operator.{Operator}
 use Rattle.ctd_known.specs.declared.facts.Known.{Known}
 use Rattle.ctd_known.specs.declared.facts.NameFacts.{NameFacts}
-use Rattle.ctd_known.specs.calls.Facts.{EachStands, MayBe, NameStands, at_key}
+use Rattle.ctd_known.specs.calls.Facts.{MayBe, NameStands, at_key}
 use Rattle.ctd_known.specs.inner.Facts.{Tells}
 use Rattle.ctd_known.specs.calls.Found.{AllFailBy, FailsBy, Gives, IsAmong, IsFound, as_number, as_text}
 use Rattle.ctd_known.specs.inner.Found.{AreOperands, IsComputed, Operates, measured, negated, operate}

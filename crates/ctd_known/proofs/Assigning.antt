@@ -1,6 +1,5 @@
 -- What is known once variables got values, or lost them.
-use Rattle.std.proofs.Common.{◌≡◌, ◌≢◌, ◌<◌, ◌^◌, ◌⊎◌, inl, inr, ℕ, Bool, true, false, IsTrue, IsFalse, List, [], ◌∷◌, map, fold, is_some, Option, Some, None, refl, ap, sym, subst, ◌∙◌}
-use Rattle.std.specs.Option.{option_or}
+use Rattle.std.proofs.Common.{◌≡◌, ◌≢◌, ◌<◌, ◌^◌, ℕ, Bool, true, false, List, [], ◌∷◌, map, is_some, Option, Some, None, refl, ap, sym, subst, ◌∙◌}
 use Rattle.ctd_store.specs.declared.value.Value.{Value}
 use Rattle.ctd_store.specs.Order.{same_values}
 use Rattle.ctd_store.specs.Store.{History, Variables, Key, assign, is_pinned, unset, value_at, value_in}
@@ -9,7 +8,7 @@ use Rattle.ctd_store.proofs.StoreLaws.{assigned_key_has_its_value, pinned_key_st
 use Rattle.ctd_known.specs.declared.facts.Kinds.{Kinds}
 use Rattle.ctd_known.specs.declared.facts.NameFacts.{NameFacts}
 use Rattle.ctd_known.specs.declared.facts.Known.{Known}
-use Rattle.ctd_known.specs.calls.Facts.{EachStands, MayBe, MayHave, NameStands, PinsStand, at_key, pins_alone}
+use Rattle.ctd_known.specs.calls.Facts.{EachStands, MayBe, MayHave, NameStands, at_key, pins_alone}
 use Rattle.ctd_known.specs.inner.Facts.{Tells}
 use Rattle.ctd_known.specs.calls.Changed.{AssignsAlone, AssignsElements, Clears}
 use Rattle.ctd_known.specs.inner.Changed.{AreWithin, with_facts}

@@ -1,6 +1,6 @@
 -- What is known where tests are true, and where they are false.
-use Rattle.std.proofs.Common.{◌≡◌, ◌≤◌, ◌⊎◌, inl, inr, ℕ, zero, suc, Bool, true, false, not, List, [], ◌∷◌, length, map, Option, Result, Ok, Err, refl, sym, subst, arith, if◌then◌else◌}
-use Rattle.ctd_source.specs.TestData.{TestData, next_byte}
+use Rattle.std.proofs.Common.{◌≡◌, ◌≤◌, ◌⊎◌, inl, inr, ℕ, Bool, true, false, List, [], ◌∷◌, length, map, Option, Result, Ok, Err, arith, if◌then◌else◌}
+use Rattle.ctd_source.specs.TestData.{next_byte}
 use Rattle.ctd_source.specs.declared.spot.LookFault.{LookFault}
 use Rattle.ctd_program.specs.Tree
 use Rattle.ctd_program.specs.Tree.{ExprTree, TestTree}
@@ -11,11 +11,11 @@ use Rattle.ctd_store.specs.Store.{Array, History, values_of}
 use Rattle.ctd_value.specs.Fault.{ValueFault, TruthFault, with_fault, ◌>>=◌}
 use Rattle.ctd_value.specs.Fault as faults
 use Rattle.ctd_value.specs.Val.{val}
-use Rattle.ctd_value.specs.Truth.{as_test, compares, is_among, is_end, is_one_of, next_seen, truth, uniqueness}
+use Rattle.ctd_value.specs.Truth.{as_test, compares, is_among, is_end, is_one_of, uniqueness}
 use Rattle.ctd_known.specs.declared.expression.Found.{Found}
 use Rattle.ctd_known.specs.declared.faults.Faults.{Faults}
 use Rattle.ctd_known.specs.declared.facts.Known.{Known}
-use Rattle.ctd_known.specs.calls.Facts.{EachStands, MayBe, TellsAll}
+use Rattle.ctd_known.specs.calls.Facts.{EachStands, MayBe}
 use Rattle.ctd_known.specs.calls.Found.{Decides, FailsBy, Gives, IsAmong, IsFound, SplitsBy, as_text}
 use Rattle.ctd_known.proofs.Applying.{AreFaults}
 

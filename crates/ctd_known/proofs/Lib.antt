@@ -2,3 +2,4 @@ pub mod Standing
 pub mod Assigning
 pub mod Applying
 pub mod Deciding
+pub mod Comparing

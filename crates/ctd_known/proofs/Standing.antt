@@ -1,5 +1,5 @@
 -- What is known of variables, and what follows from it.
-use Rattle.std.proofs.Common.{◌≡◌, ◌≢◌, ◌≤◌, ◌<◌, ◌^◌, ◌+◌, ◌⊎◌, inl, inr, ℕ, zero, suc, Bool, true, false, not, ◌&&◌, ◌||◌, ℤ, List, [], ◌∷◌, ◌++◌, map, length, get_or, drop, bytes_eq, Option, Some, None, refl, ap, sym, subst, ◌∙◌, arith, le_trans, if◌then◌else◌}
+use Rattle.std.proofs.Common.{◌≡◌, ◌≢◌, ◌≤◌, ◌<◌, ◌^◌, ◌+◌, ℕ, zero, suc, true, false, ℤ, List, [], ◌∷◌, ◌++◌, map, length, get_or, drop, bytes_eq, Option, Some, None, refl, sym, subst, ◌∙◌, arith, le_trans, if◌then◌else◌}
 use Rattle.std.proofs.lemmas.List.{at_drop_more, drop_all}
 use Rattle.std.proofs.lemmas.Slice.Eq.{bytes_eq-Decides}
 use Rattle.ctd_store.specs.declared.value.Value.{Value}

@@ -2,3 +2,4 @@
 pub mod Facts
 pub mod Found
 pub mod Changed
+pub mod Compared

@@ -20,7 +20,7 @@ pub struct Ground<'g, 'p> {
 }
 
 /// What is known of a name, or nothing is told.
-fn listed(known: &[Known], name: &[u8]) -> Result<NameFacts, Stop>
+pub(crate) fn listed(known: &[Known], name: &[u8]) -> Result<NameFacts, Stop>
     ensures { IfOk result (λ facts. Tells known.now name.now facts) }
 {
     match facts_of(known, name) {

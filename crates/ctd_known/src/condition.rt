@@ -1,21 +1,24 @@
 //! What is known where a test is true, and where it is false.
 
-ghost use Rattle.std.specs.Prelude.{◌≡◌, ◌≤◌, ◌⊎◌, length, List, ℕ, ℤ, true, Bool, Result, IfOk};
+ghost use Rattle.std.specs.Prelude.{◌≡◌, ◌≤◌, ◌⊎◌, length, List, ℕ, ℤ, true, false, Bool, Result, IfOk};
 ghost use Rattle.ctd_program.specs.calls.View.{expr_tree, test_tree};
 ghost use Rattle.ctd_program.specs.declared.tree.Compare.{Compare};
 ghost use Rattle.ctd_store.specs.declared.value.Value.{Value};
 ghost use Rattle.ctd_value.specs.Fault.{ValueFault, Shape};
-ghost use Rattle.ctd_value.specs.Truth.{compares};
+ghost use Rattle.std.specs.declared.cmp.Ordering.{Ordering};
+ghost use Rattle.ctd_value.specs.Truth.{compares, holds_by};
+ghost use Rattle.ctd_program.specs.Tree;
 ghost use Rattle.ctd_store.specs.declared.value.Value.TheVariants as values;
 ghost use Rattle.ctd_known.specs.calls.Facts.{MayBe, TellsAll};
 ghost use Rattle.ctd_known.specs.calls.Found.{IsFound, IsAmong, FailsBy, Gives, SplitsBy};
 
+use crate::cut::cut_both;
 use crate::expression::{Found, examine, may_be_number, may_be_text, text_faults};
 use crate::facts::{Kinds, Known, copied, is_within};
 use crate::faults::{Faults, both, no_faults};
 use crate::guess::merged;
 use crate::stop::Stop;
-use ctd_program::{Expr, Test};
+use ctd_program::{Compare, Expr, Test};
 use ctd_token::Name;
 use std::alloc::Global;
 
@@ -145,6 +148,41 @@ fn opposite<'p>(s: Branches<'p>) -> Branches<'p>
     }
 }
 
+/// The comparison that holds where one does not.
+fn opposite_of(by: Compare) -> Compare
+    ensures { (o : Ordering) → holds_by by o ≡ false → holds_by result o ≡ true }
+{
+    match by {
+        Compare::Less => Compare::AtLeast,
+        Compare::Greater => Compare::AtMost,
+        Compare::AtMost => Compare::Greater,
+        Compare::AtLeast => Compare::Less,
+        Compare::Equal => Compare::Unequal,
+        Compare::Unequal => Compare::Equal,
+    }
+}
+
+/// What is known where a comparison is true, and where it is false.
+fn compare<'p>(
+    alloc: Global,
+    by: Compare,
+    a: &'p Expr,
+    b: &'p Expr,
+    known: &[Known<'p>],
+) -> Result<Branches<'p>, Stop>
+    ensures { IfOk result (λ s. SplitsBy known.now (Tree.compare by (expr_tree a.now) (expr_tree b.now)) s.if_true.items s.if_false.items s.faults) }
+{
+    let one = inspect(a, known)?;
+    let other = inspect(b, known)?;
+    let if_true = cut_both(alloc, known, by, a, b, one.kinds, other.kinds)?;
+    let if_false = cut_both(alloc, known, opposite_of(by), a, b, one.kinds, other.kinds)?;
+    Ok(Branches {
+        if_true,
+        if_false,
+        faults: compare_faults(one, other),
+    })
+}
+
 /// What is known where a test is true, and where it is false.
 pub fn split<'p>(alloc: Global, t: &'p Test, known: &[Known<'p>]) -> Result<Branches<'p>, Stop>
     ensures { IfOk result (λ s. SplitsBy known.now (test_tree t.now) s.if_true.items s.if_false.items s.faults) }
@@ -166,10 +204,8 @@ pub fn split<'p>(alloc: Global, t: &'p Test, known: &[Known<'p>]) -> Result<Bran
             let turned = split(alloc, a, known)?;
             Ok(opposite(turned))
         }
-        Test::Compare(_, a, b) => {
-            let one = inspect(a, known)?;
-            let other = inspect(b, known)?;
-            let compared = same(alloc, known, compare_faults(one, other))?;
+        Test::Compare(by, a, b) => {
+            let compared = compare(alloc, *by, a, b, known)?;
             Ok(compared)
         }
         Test::Match(e) => {

@@ -3,6 +3,7 @@
 
 mod assign;
 mod condition;
+mod cut;
 mod expression;
 mod facts;
 mod faults;

@@ -1,13 +1,13 @@
 -- What divisions and powers give.
-use Rattle.std.proofs.Common.{◌≡◌, ◌≤◌, ◌<◌, zero, suc, nat_lt, ◌+◌, ◌*◌, ◌^◌, ◌-◌, ◌/◌, ◌%◌, ℕ, Bool, true, false, ℤ, pos, negsuc, neg_ℤ, ◌+ℤ◌, ◌≤ℤ◌, ◌<ℤ◌, unsigned_abs, inl, inr, Ok, Err, if◌then◌else◌, refl, subst, div-le_self, pow-suc, le_trans, Option, Some, None, arith}
+use Rattle.std.proofs.Common.{◌≡◌, ◌≤◌, ◌<◌, zero, suc, nat_lt, ◌*◌, ◌^◌, ◌/◌, ◌%◌, ℕ, true, false, ℤ, pos, negsuc, neg_ℤ, ◌≤ℤ◌, ◌<ℤ◌, unsigned_abs, inl, inr, refl, div-le_self, pow-suc, le_trans, Option, Some, None, arith}
+use lib.Signed.{lt_z}
 use Rattle.std.specs.Prelude.{int_div, int_rem, IfSome}
 use Rattle.std.specs.Option.{SomeIff}
 use Rattle.std.specs.Int.{int_pow, w128}
 use Rattle.std.specs.Int.RustNames.{FitsSigned}
 use Rattle.std.proofs.lemmas.Int.{ints}
 use Rattle.std.proofs.lemmas.Bool.Decides.{nat_tests}
-use Rattle.std.proofs.Math.Nat.{mod-le, pow-le-pow_left, pow-le-pow_right}
-use Rattle.ctd_value.specs.Fault.{Exponent}
+use Rattle.std.proofs.Math.Nat.{mod-le, mod-lt, pow-le-pow_left, pow-le-pow_right}
 use Rattle.ctd_value.specs.Arithmetic.{is_value, in_range, quotient, remainder, power}
 use Rattle.ctd_range.specs.declared.range.Range.{Range}
 use Rattle.ctd_range.specs.declared.arithmetic.Computed.{Computed}
@@ -46,10 +46,24 @@ quotient_covers c n x (negsuc m) some fits_low fits_high inside = absurd (omega 
 pub some_divisor : (b : Range) (n : ℕ) (y : ℤ) → pos 1 ≤ℤ b.low → IsIn b n y → pos 1 ≤ℤ y
 some_divisor b n y some inside = let l = inside.low in omega (arith, ints, some, l)
 
-pub remainder_covers : (c : Computed) (n : ℕ) (x y : ℤ) → FitsSigned w128 c.range.low → FitsSigned w128 c.range.high → ((z : ℤ) → IsTowardsZero x z → IsIn c.range n z) → (y ≡ pos 0 → c.divides_by_zero ≡ true) → Covers c n (remainder x y)
+not_above_zero : (q b : ℕ) → neg_ℤ (pos q) <ℤ pos (suc b)
+not_above_zero zero b = omega (arith, ints)
+not_above_zero (suc q) b = omega (arith, ints)
+
+remainder_below : (x : ℤ) (m : ℕ) → int_rem x (pos (suc m)) <ℤ pos (suc m)
+remainder_below (pos a) m = let l : a % suc m < suc m = mod-lt a (omega arith) in omega (arith, ints)
+remainder_below (negsuc a) m = not_above_zero (suc a % suc m) m
+
+pub not_negative : (a : ℤ) → lt_z a (pos 0) ≡ false → pos 0 ≤ℤ a
+not_negative a is = grind (arith, ints)
+
+pub positive_from : (b : Range) (n : ℕ) (y : ℤ) → pos 0 ≤ℤ b.low → IsIn b n y → pos 0 ≤ℤ y
+positive_from b n y positive j = let low = j.low in omega (arith, ints, low, positive)
+
+pub remainder_covers : (c : Computed) (n : ℕ) (x y : ℤ) → FitsSigned w128 c.range.low → FitsSigned w128 c.range.high → ((z : ℤ) → IsTowardsZero x z → (pos 0 ≤ℤ y → z <ℤ y) → IsIn c.range n z) → (y ≡ pos 0 → c.divides_by_zero ≡ true) → Covers c n (remainder x y)
 remainder_covers c n x (pos zero) fits_low fits_high inside divides = divides refl
-remainder_covers c n x (pos (suc m)) fits_low fits_high inside divides = covers_inside c n (int_rem x (pos (suc m))) fits_low fits_high (inside (int_rem x (pos (suc m))) (remainder_towards x (pos (suc m))))
-remainder_covers c n x (negsuc m) fits_low fits_high inside divides = covers_inside c n (int_rem x (negsuc m)) fits_low fits_high (inside (int_rem x (negsuc m)) (remainder_towards x (negsuc m)))
+remainder_covers c n x (pos (suc m)) fits_low fits_high inside divides = covers_inside c n (int_rem x (pos (suc m))) fits_low fits_high (inside (int_rem x (pos (suc m))) (remainder_towards x (pos (suc m))) (λ _. remainder_below x m))
+remainder_covers c n x (negsuc m) fits_low fits_high inside divides = covers_inside c n (int_rem x (negsuc m)) fits_low fits_high (inside (int_rem x (negsuc m)) (remainder_towards x (negsuc m)) (λ positive. absurd (omega (arith, ints, positive))))
 
 -- powers
 one_power : (e : ℕ) → 1 ^ e ≡ 1

@@ -1,11 +1,12 @@
 //! What an operator gives where its operands are known to lie in ranges.
 
-ghost use Rattle.std.specs.Prelude.{◌≡◌, ◌≤◌, ◌<◌, ◌+◌, ◌^◌, ◌||◌, true, false, IfSome, ℕ, ℤ, ◌+ℤ◌, ◌-ℤ◌, ◌*ℤ◌, ◌≤ℤ◌, neg_ℤ, pos};
+ghost use Rattle.std.specs.Prelude.{◌≡◌, ◌≤◌, ◌<◌, ◌+◌, ◌^◌, ◌||◌, true, false, IfSome, ℕ, ℤ, ◌+ℤ◌, ◌-ℤ◌, ◌*ℤ◌, ◌≤ℤ◌, ◌<ℤ◌, neg_ℤ, pos};
 ghost use Rattle.ctd_value.specs.Arithmetic.{in_range, power, quotient, remainder};
 ghost use Rattle.ctd_range.specs.calls.Ranges.{IsIn, Covers};
 ghost use Rattle.ctd_range.specs.inner.Ranges.{IsCount, IsTowardsZero};
 ghost use Rattle.ctd_range.specs.inner.Ends.{IsEnd, IsCorner, IsLeastOf, IsGreatestOf};
 
+use crate::order::less;
 use crate::range::{Range, every_value};
 
 /// Where the result lies, and which faults the operation may have.
@@ -229,12 +230,22 @@ pub fn quotient(a: Range, b: Range) -> Computed
     }
 }
 
-/// The remainder of a number of each range. It lies between 0 and the dividend.
+/// The remainders of numbers of a range by those of another.
+fn remainders(a: Range, b: Range) -> Range
+    ensures { (n : ℕ) (x y z : ℤ) → IsIn a n x → IsIn b n y → IsTowardsZero x z → (pos 0 ≤ℤ y → z <ℤ y) → IsIn result n z }
+{
+    if b.low < 0 {
+        return towards_zero(a);
+    }
+    less(towards_zero(a), b)
+}
+
+/// The remainder of a number of each range. It lies between 0 and the dividend, and below a divisor that is not negative.
 pub fn remainder(a: Range, b: Range) -> Computed
     ensures covers { (n : ℕ) (x y : ℤ) → IsIn a n x → IsIn b n y → Covers result n (remainder x y) }
 {
     Computed {
-        range: towards_zero(a),
+        range: remainders(a, b),
         overflows: false,
         divides_by_zero: may_be_zero(b),
         has_bad_exponent: false,

@@ -1,5 +1,5 @@
 -- Numbers that count turns or are exponents; and what divisions give.
-use Rattle.std.specs.Prelude.{◌<◌, ◌≤◌, ◌^◌, ℤ, pos, negsuc, ◌≤ℤ◌, ◌⊎◌}
+use Rattle.std.specs.Prelude.{◌<◌, ◌^◌, ℤ, pos, negsuc, ◌≤ℤ◌, ◌⊎◌}
 
 -- a number from 0 to 2^64-1
 abbrev pub IsCount : ℤ → Type 0

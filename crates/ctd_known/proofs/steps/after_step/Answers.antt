@@ -1,4 +1,4 @@
-use Rattle.std.proofs.Common.{◌∷◌, [], refl, sym, subst}
+use Rattle.std.proofs.Common.{refl, sym, subst}
 use Rattle.ctd_known.specs.calls.Changed.{PaysStep}
 use Rattle.ctd_known.proofs.Standing.{nothing_paid, one_paid}
 use Rattle.ctd_known.proofs.steps.after_step.Goals as goal

@@ -1,5 +1,4 @@
-use Rattle.std.proofs.Common.{rules, refl, subst, arith}
-use Rattle.std.proofs.lemmas.Int.{ints}
+use Rattle.std.proofs.Common.{rules, refl, subst}
 use Rattle.std.specs.Prelude.{int_div}
 use Rattle.ctd_range.specs.calls.Ranges.{IsIn}
 use Rattle.ctd_range.proofs.Ends.{division_covers}

@@ -1,4 +1,4 @@
-use Rattle.std.proofs.Common.{rules, ◌≡◌, sym, ◌∙◌}
+use Rattle.std.proofs.Common.{rules, sym, ◌∙◌}
 use Rattle.ctd_range.proofs.Ends.{only_one}
 use Rattle.ctd_range.proofs.order.other.Goals as goal
 

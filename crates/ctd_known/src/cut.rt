@@ -1,0 +1,123 @@
+//! What is known where two expressions compare so.
+
+ghost use Rattle.std.specs.Prelude.{◌≡◌, ℕ, ℤ, Some, IfOk};
+ghost use Rattle.ctd_program.specs.calls.View.{expr_tree};
+ghost use Rattle.ctd_program.specs.declared.tree.Compare.{Compare};
+ghost use Rattle.ctd_store.specs.declared.value.Value.{Value};
+ghost use Rattle.ctd_range.specs.declared.range.Range.{Range};
+ghost use Rattle.ctd_range.specs.calls.Ranges.{IsIn};
+ghost use Rattle.ctd_known.specs.calls.Facts.{MayBe};
+ghost use Rattle.ctd_known.specs.inner.Compared.{Cuts, CutsBoth, MayCompare, Relates};
+
+use crate::assign::listed;
+use crate::facts::{Kinds, Known, Lengths, NameFacts, copied, replaced};
+use crate::stop::Stop;
+use ctd_program::{Compare, Expr};
+use ctd_range::{Range, at_least, at_most, greater, is_empty, less, other, same};
+use std::alloc::Global;
+
+/// The same comparison of the second with the first.
+fn turned(by: Compare) -> Compare
+    ensures { (v w : Value) → MayCompare by v w → MayCompare result w v }
+{
+    match by {
+        Compare::Less => Compare::Greater,
+        Compare::Greater => Compare::Less,
+        Compare::AtMost => Compare::AtLeast,
+        Compare::AtLeast => Compare::AtMost,
+        Compare::Equal => Compare::Equal,
+        Compare::Unequal => Compare::Unequal,
+    }
+}
+
+/// The range of a number that compares so with one of another range.
+fn compared(by: Compare, a: Range, b: Range) -> Range
+    ensures { (k : ℕ) (x y : ℤ) → Relates by x y → IsIn a k x → IsIn b k y → IsIn result k x }
+{
+    match by {
+        Compare::Less => less(a, b),
+        Compare::AtMost => at_most(a, b),
+        Compare::Greater => greater(a, b),
+        Compare::AtLeast => at_least(a, b),
+        Compare::Equal => same(a, b),
+        Compare::Unequal => other(a, b),
+    }
+}
+
+/// The numbers of one kind that may compare so with one of another, if there are any.
+fn cut_numbers(by: Compare, a: Option<Range>, b: Option<Range>) -> Option<Range>
+    ensures { (k : ℕ) (x y : ℤ) (r s : Range) → a ≡ Some r → b ≡ Some s → IsIn r k x → IsIn s k y → Relates by x y → (t : Range) × (result ≡ Some t) × IsIn t k x }
+{
+    match (a, b) {
+        (Some(x), Some(y)) => {
+            let cut = compared(by, x, y);
+            if is_empty(cut) { None } else { Some(cut) }
+        }
+        _ => None,
+    }
+}
+
+/// The lengths of strings that may be compared with others, if there are any.
+fn cut_texts(a: Option<Lengths>, b: Option<Lengths>) -> Option<Lengths>
+    ensures { (l m : Lengths) → a ≡ Some l → b ≡ Some m → result ≡ Some l }
+{
+    match b {
+        Some(_) => a,
+        None => None,
+    }
+}
+
+/// The values of one kind that may compare so with one of another.
+fn cut_kinds(by: Compare, a: Kinds, b: Kinds) -> Kinds
+    ensures { (k : ℕ) (v w : Value) → MayBe a k v → MayBe b k w → MayCompare by v w → MayBe result k v }
+{
+    Kinds {
+        text: cut_texts(a.text, b.text),
+        number: cut_numbers(by, a.number, b.number),
+    }
+}
+
+/// What is known where an expression compares so with a value of a kind.
+fn cut<'p>(
+    alloc: Global,
+    known: &[Known<'p>],
+    e: &'p Expr,
+    by: Compare,
+    kinds: Kinds,
+) -> Result<Vec<Known<'p>>, Stop>
+    ensures { IfOk result (λ after. Cuts known.now (expr_tree e.now) by kinds after.items) }
+{
+    match e {
+        Expr::Name(name) => {
+            let facts = listed(known, name.as_slice())?;
+            let narrowed = NameFacts {
+                may_lack: false,
+                alone: cut_kinds(by, facts.alone, kinds),
+                elements: facts.elements,
+            };
+            let named = replaced(alloc, known, name.as_slice(), narrowed)?;
+            Ok(named)
+        }
+        _ => {
+            let others = copied(alloc, known)?;
+            Ok(others)
+        }
+    }
+}
+
+/// What is known where two expressions, which may be of these kinds, compare so.
+pub(crate) fn cut_both<'p>(
+    alloc: Global,
+    known: &[Known<'p>],
+    by: Compare,
+    a: &'p Expr,
+    b: &'p Expr,
+    one: Kinds,
+    other: Kinds,
+) -> Result<Vec<Known<'p>>, Stop>
+    ensures { IfOk result (λ after. CutsBoth known.now by (expr_tree a.now) (expr_tree b.now) one other after.items) }
+{
+    let first = cut(alloc, known, a, by, other)?;
+    let after = cut(alloc, first.as_slice(), b, turned(by), one)?;
+    Ok(after)
+}
