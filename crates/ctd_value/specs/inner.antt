@@ -2,3 +2,4 @@
 pub mod Operators
 pub mod Lending
 pub mod Examples
+pub mod Unique
