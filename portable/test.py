@@ -10,18 +10,26 @@ import subprocess
 import sys
 import tempfile
 from collections.abc import Iterator
-from contextlib import contextmanager
+from contextlib import contextmanager, nullcontext
 from dataclasses import dataclass
 from pathlib import Path
 
 TOP = Path(__file__).resolve().parent.parent
 PORTABLE = TOP / "portable"
 PACKED = PORTABLE / "checktestdata.c.xz"
+LINT_FILE = TOP / "out/ctd-lint.c"
 sys.path.insert(0, str(TOP / "tests"))
 import tables
 from results import print_counts
 
 AARCH64 = "aarch64-unknown-linux-gnu"
+# The compilers for systems that are refused, and what these lack.
+REFUSED = [
+    (("gcc", "-m32"), "a system of 64 bits"),
+    (("clang", "--target=i686-linux-gnu"), "a system of 64 bits"),
+    (("clang", "--target=s390x-linux-gnu"), "a little-endian processor"),
+    (("s390x-linux-gnu-gcc",), "a little-endian processor"),
+]
 WINDOWS = ("-static", "-Wl,--stack,8388608", "-lshell32")
 # The headers of macOS that the C file includes.
 HEADERS = ["errno.h", "fcntl.h", "signal.h", "stdlib.h", "string.h", "sys/stat.h", "unistd.h"]
@@ -92,25 +100,31 @@ class Counts:
 
 
 @contextmanager
+def wine_settings(folder: Path) -> Iterator[dict[str, str]]:
+    """The variables for a Wine of its own, in a folder. Its server stays until the end: else each run may start all of Wine again."""
+    settings = {"WINEPREFIX": str(folder), "WINEDEBUG": "-all"}
+    environment = {**os.environ, **settings}
+    folder.mkdir()
+    subprocess.run(["wineserver", "-p"], env=environment, check=True)
+    try:
+        subprocess.run(["wineboot", "--init"], env=environment, stdout=subprocess.DEVNULL, stderr=subprocess.DEVNULL, check=True)
+        yield settings
+    finally:
+        subprocess.run(["wineserver", "-k"], env=environment, check=False)
+
+
+@contextmanager
 def command(way: Way, folder: Path, program: Path) -> Iterator[Path]:
     """A command that runs a program, by an emulator if it needs one."""
     if not way.runner:
         yield program
         return
-    wine = {**os.environ, "WINEPREFIX": str(folder / "wine"), "WINEDEBUG": "-all"} if way.is_windows else {}
     script = folder / "checktestdata"
-    settings = "".join(f"{name}={wine[name]} " for name in ("WINEPREFIX", "WINEDEBUG") if name in wine)
-    script.write_text(f'#!/bin/sh\n{settings}exec {shutil.which(way.runner)} "{program}" "$@"\n')
-    script.chmod(0o755)
-    try:
-        if wine:
-            # The server stays until it is told to end: else each run may start all of Wine again, which takes seconds.
-            subprocess.run(["wineserver", "-p"], env=wine, check=True)
-            subprocess.run(["wineboot", "--init"], env=wine, stdout=subprocess.DEVNULL, stderr=subprocess.DEVNULL, check=True)
+    with wine_settings(folder / "wine") if way.is_windows else nullcontext(dict[str, str]()) as settings:
+        words = [f"{name}={value}" for name, value in settings.items()]
+        script.write_text(f'#!/bin/sh\n{" ".join(words)} exec {shutil.which(way.runner)} "{program}" "$@"\n')
+        script.chmod(0o755)
         yield script
-    finally:
-        if wine:
-            subprocess.run(["wineserver", "-k"], env=wine, check=False)
 
 
 def rows_of_tables(way: Way, program: Path, counts: Counts) -> None:
@@ -156,12 +170,15 @@ def try_way(way: Way, counts: Counts) -> None:
 
 
 def refusals(folder: Path) -> Iterator[tuple[str, str]]:
-    """What is refused as it is compiled."""
-    for target, line in ("i686-linux-gnu", "a system of 64 bits"), ("s390x-linux-gnu", "a little-endian processor"):
-        words = ["clang", f"--target={target}", "-ffreestanding", "-fsyntax-only", folder / "checktestdata.c"]
+    """What is refused as it is compiled, by the compilers that are there."""
+    for compiler, line in REFUSED:
+        if not shutil.which(compiler[0]):
+            print(f"portable: left out {' '.join(compiler)}: it is not there", flush=True)
+            continue
+        words = [*compiler, "-ffreestanding", "-fsyntax-only", folder / "checktestdata.c"]
         ran = subprocess.run(words, capture_output=True, text=True, check=False)
         wanted = f'#error "checktestdata needs {line}"'
-        yield f"clang for {target}", "" if ran.returncode and wanted in ran.stderr else f"no {wanted}"
+        yield " ".join(compiler), "" if ran.returncode and wanted in ran.stderr else f"no {wanted}"
 
 
 def macos(folder: Path) -> Iterator[tuple[str, str]]:
@@ -197,6 +214,17 @@ def libraries(folder: Path) -> Iterator[tuple[str, str]]:
     yield "pip install ./embed/python", "" if ran_there.stdout == wanted else f"{ran_there.stdout!r} {ran_there.stderr}"
 
 
+def linter(folder: Path) -> Iterator[tuple[str, str]]:
+    """ctd-lint from its C file, if that was made."""
+    if not LINT_FILE.exists():
+        print(f"portable: left out ctd-lint: there is no {LINT_FILE.relative_to(TOP)}, which make portable makes", flush=True)
+        return
+    program = folder / "ctd-lint"
+    subprocess.run([PORTABLE / "compile.sh", LINT_FILE, program, "-Werror"], check=True)
+    ran = subprocess.run([TOP / "tests/lint.py", program], check=False)
+    yield "tests/lint.py", f"status {ran.returncode}" if ran.returncode else ""
+
+
 def compiled_only(folder: Path) -> Iterator[tuple[str, str]]:
     with open(folder / "checktestdata.c", "wb") as file:
         subprocess.run([PORTABLE / "unpack.sh"], stdout=file, check=True)
@@ -205,7 +233,7 @@ def compiled_only(folder: Path) -> Iterator[tuple[str, str]]:
 
 
 # What is tried otherwise than by the rows of the tables.
-OTHERS = {Way("compiled only", "clang"): compiled_only, Way("libraries", "gcc"): libraries}
+OTHERS = {Way("compiled only", "clang"): compiled_only, Way("libraries", "gcc"): libraries, Way("ctd-lint", "gcc"): linter}
 
 
 def try_other(way: Way, counts: Counts) -> None:
