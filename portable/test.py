@@ -162,11 +162,10 @@ def try_way(way: Way, counts: Counts) -> None:
         folder = Path(scratch)
         try:
             program = official(folder) if way is OFFICIAL else compiled(way, folder)
+            with command(way, folder, program) as run:
+                rows_of_tables(way, run, counts)
         except subprocess.CalledProcessError as failure:
             counts.add(way.name, str(failure))
-            return
-        with command(way, folder, program) as run:
-            rows_of_tables(way, run, counts)
 
 
 def refusals(folder: Path) -> Iterator[tuple[str, str]]:
