@@ -48,7 +48,7 @@ for_windows() {
     for file in "$1"/bin/*; do
         name=${file##*/}
         if [ -L "$file" ]; then
-            printf '@py -3 "%%~dp0..\\share\\checktestdata\\tools\\%s" %%*\r\n' "$name" >"$file.cmd"
+            printf '@py -3 "%%~dp0..\\share\\checktestdata\\tools\\%s" --checker "%%~dp0checktestdata.exe" %%*\r\n' "$name" >"$file.cmd"
             rm "$file"
         else
             mv "$file" "$file.exe"

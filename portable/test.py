@@ -9,23 +9,52 @@ import shutil
 import subprocess
 import sys
 import tempfile
-from collections.abc import Iterator, Sequence
+from collections.abc import Iterator
+from contextlib import contextmanager, nullcontext
 from dataclasses import dataclass
 from pathlib import Path
 
 TOP = Path(__file__).resolve().parent.parent
 PORTABLE = TOP / "portable"
 PACKED = PORTABLE / "checktestdata.c.xz"
+LINT_FILE = TOP / "out/ctd-lint.c"
 sys.path.insert(0, str(TOP / "tests"))
+import tables
 from results import print_counts
-from tables import TABLES, all_results
 
 AARCH64 = "aarch64-unknown-linux-gnu"
+# The compilers for systems that are refused, and what these lack.
+REFUSED = [
+    (("gcc", "-m32"), "a system of 64 bits"),
+    (("clang", "--target=i686-linux-gnu"), "a system of 64 bits"),
+    (("clang", "--target=s390x-linux-gnu"), "a little-endian processor"),
+    (("s390x-linux-gnu-gcc",), "a little-endian processor"),
+]
 WINDOWS = ("-static", "-Wl,--stack,8388608", "-lshell32")
 # The headers of macOS that the C file includes.
 HEADERS = ["errno.h", "fcntl.h", "signal.h", "stdlib.h", "string.h", "sys/stat.h", "unistd.h"]
-# What Windows has not: words that are not UTF-8, names with a line feed or a blank at the end, longer command lines.
-NOT_ON_WINDOWS = frozenset[str]()
+# The rows that Windows cannot have, by why.
+LONG_COMMAND_LINE = "a command line has at most 32,767 characters"
+NOT_UTF8 = "words are UTF-16, so each of them is UTF-8 for the program"
+BLANK_AT_THE_END = "a blank at the end of a name is left out"
+LINE_FEED = "a name has no line feed"
+NOT_ON_WINDOWS = {
+    "large: many presets and long ones: 'SET(n0=1,n4999=1) {5000 ASSERT(n@==@) }' on ''": LONG_COMMAND_LINE,
+    "large: many presets and long ones: 'SET(longname0=1) {5000 ASSERT(longname@==@) }' on ''": LONG_COMMAND_LINE,
+    "large: many presets and long ones: 'ASSERT(n==2)' on ''": LONG_COMMAND_LINE,
+    "large: many presets and long ones: 'ASSERT(STRLEN(s)==100000) STRING(s)' on '{100000 x}'": LONG_COMMAND_LINE,
+    "large: many presets and long ones: 'ASSERT(STRLEN(s)==100000 && n==5)' on ''": LONG_COMMAND_LINE,
+    "large: many presets and long ones: 'ASSERT({100000 n}==5)' on ''": LONG_COMMAND_LINE,
+    "process: words that are refused: a word that is not UTF-8": NOT_UTF8,
+    "process: words that are refused: only a word that is not UTF-8": NOT_UTF8,
+    "process: words that are refused: a preset that is not UTF-8": NOT_UTF8,
+    "process: words that are refused: help and a word that is not UTF-8": NOT_UTF8,
+    "process: a name is opened as it stands: a name that ends with a blank": BLANK_AT_THE_END,
+    "process: a name is opened as it stands: a name with a line feed and a letter of two bytes": LINE_FEED,
+    "process: a message has a name as it stands: data with a blank at the end of its name that are not there": BLANK_AT_THE_END,
+}
+# How long a run may take: emulators and sanitizers are slow.
+OUT_OF_TIME = 600
 
 
 @dataclass(frozen=True)
@@ -38,18 +67,23 @@ class Way:
     runner: str = ""
     without: frozenset[str] = frozenset()
 
+    @property
+    def is_windows(self) -> bool:
+        return self.runner == "wine"
+
     def missing(self) -> list[str]:
-        return [tool for tool in (self.compiler, self.runner) if tool and not shutil.which(tool)]
+        return [tool for tool in (self.compiler, self.runner, *(["wineserver"] if self.is_windows else [])) if tool and not shutil.which(tool)]
 
 
 WAYS = [
     Way("x86-64, GCC", "gcc"),
+    Way("x86-64, GCC, -O0", "gcc", ("-O0",)),
     Way("x86-64, clang", "clang"),
     Way("x86-64, musl, static", "musl-gcc", ("-static",)),
     Way("x86-64, GCC with sanitizers", "gcc", ("-O1", "-fsanitize=undefined,address", "-fno-sanitize-recover")),
     Way("aarch64, static", "aarch64-linux-gnu-gcc", ("-static",), "qemu-aarch64-static"),
     Way("riscv64, static", "riscv64-linux-gnu-gcc", ("-static",), "qemu-riscv64-static"),
-    Way("Windows", "x86_64-w64-mingw32-gcc", WINDOWS, "wine", NOT_ON_WINDOWS),
+    Way("Windows", "x86_64-w64-mingw32-gcc", WINDOWS, "wine", frozenset(NOT_ON_WINDOWS)),
 ]
 OFFICIAL = Way("aarch64, the toolchain's own target, static", "aarch64-linux-gnu-gcc", (), "qemu-aarch64-static")
 
@@ -65,31 +99,51 @@ class Counts:
             print(f"portable: {name}: {fault}", flush=True)
 
 
-def command(folder: Path, runner: str, program: Path) -> Path:
+@contextmanager
+def wine_settings(folder: Path) -> Iterator[dict[str, str]]:
+    """The variables for a Wine of its own, in a folder. Its server stays until the end: else each run may start all of Wine again."""
+    settings = {"WINEPREFIX": str(folder), "WINEDEBUG": "-all"}
+    environment = {**os.environ, **settings}
+    folder.mkdir()
+    subprocess.run(["wineserver", "-p"], env=environment, check=True)
+    try:
+        subprocess.run(["wineboot", "--init"], env=environment, stdout=subprocess.DEVNULL, stderr=subprocess.DEVNULL, check=True)
+        yield settings
+    finally:
+        subprocess.run(["wineserver", "-k"], env=environment, check=False)
+
+
+@contextmanager
+def command(way: Way, folder: Path, program: Path) -> Iterator[Path]:
     """A command that runs a program, by an emulator if it needs one."""
-    if not runner:
-        return program
+    if not way.runner:
+        yield program
+        return
     script = folder / "checktestdata"
-    script.write_text(f'#!/bin/sh\nWINEDEBUG=-all exec {shutil.which(runner)} "{program}" "$@"\n')
-    script.chmod(0o755)
-    return script
+    with wine_settings(folder / "wine") if way.is_windows else nullcontext(dict[str, str]()) as settings:
+        words = [f"{name}={value}" for name, value in settings.items()]
+        script.write_text(f'#!/bin/sh\n{" ".join(words)} exec {shutil.which(way.runner)} "{program}" "$@"\n')
+        script.chmod(0o755)
+        yield script
 
 
 def rows_of_tables(way: Way, program: Path, counts: Counts) -> None:
     """Runs the rows of the tables. Each of those that a system cannot have has to fail."""
-    failed = set()
-    for row, faults in all_results(program, TABLES):
+    passed, failed, unlike = counts.passed, counts.failed, set()
+    tables.OUT_OF_TIME = OUT_OF_TIME
+    for row, faults in tables.all_results(program, tables.TABLES):
         if row in way.without:
-            failed.update([row] if faults else [])
+            unlike.update([row] if faults else [])
         else:
             counts.add(f"{way.name}: {row}", "; ".join(faults))
-    for row in sorted(way.without - failed):
+    for row in sorted(way.without - unlike):
         counts.add(f"{way.name}: {row}", "it is among those that this system cannot have, and passed")
+    without = f", {len(unlike)} that it cannot have" if way.without else ""
+    print(f"portable: {way.name}: {counts.passed - passed} passed, {counts.failed - failed} failed{without}", flush=True)
 
 
 def compiled(way: Way, folder: Path) -> Path:
-    program = folder / f"checktestdata{'.exe' if way.runner == 'wine' else ''}.program"
-    program = program.with_suffix("") if way.runner == "wine" else program
+    program = folder / ("program.exe" if way.is_windows else "program")
     subprocess.run([PORTABLE / "compile.sh", PACKED, program, *way.words], env={**os.environ, "CC": way.compiler}, check=True)
     return program
 
@@ -108,19 +162,22 @@ def try_way(way: Way, counts: Counts) -> None:
         folder = Path(scratch)
         try:
             program = official(folder) if way is OFFICIAL else compiled(way, folder)
+            with command(way, folder, program) as run:
+                rows_of_tables(way, run, counts)
         except subprocess.CalledProcessError as failure:
             counts.add(way.name, str(failure))
-            return
-        rows_of_tables(way, command(folder, way.runner, program), counts)
 
 
 def refusals(folder: Path) -> Iterator[tuple[str, str]]:
-    """What is refused as it is compiled."""
-    for target, line in ("i686-linux-gnu", "a system of 64 bits"), ("s390x-linux-gnu", "a little-endian processor"):
-        words = ["clang", f"--target={target}", "-ffreestanding", "-fsyntax-only", folder / "checktestdata.c"]
+    """What is refused as it is compiled, by the compilers that are there."""
+    for compiler, line in REFUSED:
+        if not shutil.which(compiler[0]):
+            print(f"portable: left out {' '.join(compiler)}: it is not there", flush=True)
+            continue
+        words = [*compiler, "-ffreestanding", "-fsyntax-only", folder / "checktestdata.c"]
         ran = subprocess.run(words, capture_output=True, text=True, check=False)
         wanted = f'#error "checktestdata needs {line}"'
-        yield f"clang for {target}", "" if ran.returncode and wanted in ran.stderr else f"no {wanted}"
+        yield " ".join(compiler), "" if ran.returncode and wanted in ran.stderr else f"no {wanted}"
 
 
 def macos(folder: Path) -> Iterator[tuple[str, str]]:
@@ -156,6 +213,17 @@ def libraries(folder: Path) -> Iterator[tuple[str, str]]:
     yield "pip install ./embed/python", "" if ran_there.stdout == wanted else f"{ran_there.stdout!r} {ran_there.stderr}"
 
 
+def linter(folder: Path) -> Iterator[tuple[str, str]]:
+    """ctd-lint from its C file, if that was made."""
+    if not LINT_FILE.exists():
+        print(f"portable: left out ctd-lint: there is no {LINT_FILE.relative_to(TOP)}, which make portable makes", flush=True)
+        return
+    program = folder / "ctd-lint"
+    subprocess.run([PORTABLE / "compile.sh", LINT_FILE, program, "-Werror"], check=True)
+    ran = subprocess.run([TOP / "tests/lint.py", program], check=False)
+    yield "tests/lint.py", f"status {ran.returncode}" if ran.returncode else ""
+
+
 def compiled_only(folder: Path) -> Iterator[tuple[str, str]]:
     with open(folder / "checktestdata.c", "wb") as file:
         subprocess.run([PORTABLE / "unpack.sh"], stdout=file, check=True)
@@ -164,7 +232,7 @@ def compiled_only(folder: Path) -> Iterator[tuple[str, str]]:
 
 
 # What is tried otherwise than by the rows of the tables.
-OTHERS = {Way("compiled only", "clang"): compiled_only, Way("libraries", "gcc"): libraries}
+OTHERS = {Way("compiled only", "clang"): compiled_only, Way("libraries", "gcc"): libraries, Way("ctd-lint", "gcc"): linter}
 
 
 def try_other(way: Way, counts: Counts) -> None:
@@ -191,7 +259,6 @@ def main() -> int:
             try_other(way, counts)
         else:
             try_way(way, counts)
-            print(f"portable: {way.name}: {counts.passed} passed, {counts.failed} failed so far", flush=True)
     return print_counts(counts.passed, counts.failed)
 
 

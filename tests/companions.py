@@ -439,17 +439,32 @@ class Show(CompanionTest):
         self.assertEqual((ran.stdout, ran.returncode), (b"", 2))
         self.assertIn(b"ctd-show: error: the checker is not found; say where it is by --checker", ran.stderr)
 
-    def test_the_checker_beside_it_and_on_the_path(self) -> None:
+    def test_the_checker_beside_it_and_in_its_checkout_and_on_the_path(self) -> None:
         shutil.copytree(TOOLS, self.folder / "tools", ignore=shutil.ignore_patterns("__pycache__"))
-        for place in ["tools", "path"]:
-            (self.folder / place).mkdir(exist_ok=True)
+        places = ["tools", "crates/checktestdata/out", "out", "path"]
+        for place in places:
+            (self.folder / place).mkdir(parents=True, exist_ok=True)
             self.write(f"{place}/checktestdata", f"#!/bin/sh\necho from {place}\n")
             (self.folder / place / "checktestdata").chmod(0o755)
-        for place in ["tools", "path"]:
+        for place in places:
             call = [str(self.folder / "tools/ctd-show"), "list.ctd", "right.in"]
             ran = subprocess.run(call, cwd=self.folder, env={"PATH": f"{self.folder}/path:{os.environ['PATH']}"}, capture_output=True, check=False)
             self.assertEqual(ran.stdout.decode(), f"right.in: from {place}\n")
             (self.folder / place / "checktestdata").unlink()
+
+    def test_a_program_of_windows(self) -> None:
+        load("ctd-show")
+        companion = sys.modules["ctd_companion"]
+        self.write("ctd-lint.exe", "")
+        (self.folder / "ctd-lint.exe").chmod(0o755)
+        with mock.patch.object(companion, "PROGRAM_SUFFIX", ".exe"):
+            self.assertEqual(companion.find_program("ctd-lint", self.folder), str((self.folder / "ctd-lint.exe").resolve()))
+
+    def test_no_module_is_of_posix_alone(self) -> None:
+        missing = {name: None for name in ["fcntl", "grp", "pty", "pwd", "resource", "syslog", "termios", "tty"]}
+        modules = sorted(path.stem for path in TOOLS.glob("*.py"))
+        script = f"import sys; sys.modules.update({missing}); sys.path.insert(0, {str(TOOLS)!r}); import {', '.join(modules)}"
+        subprocess.run([sys.executable, "-B", "-c", script], timeout=OUT_OF_TIME, check=True)
 
     def test_progress_on_a_terminal(self) -> None:
         self.write_checker("cat >/dev/null\nsleep 0.8\necho testdata ok!")

@@ -21,6 +21,8 @@ from typing import IO, TextIO, TypeVar
 
 VERSION = "1.0"
 CHECKER = "checktestdata"
+# How the name of the file of a program ends.
+PROGRAM_SUFFIX = ".exe" if os.name == "nt" else ""
 FITS, REJECTED, NO_VERDICT = 0, 1, 2
 INTERRUPTED = 130
 # The name that stands for standard input.
@@ -78,10 +80,15 @@ def printable(text: str) -> str:
     return "".join(one if (one.isprintable() and one != "\\") or "\udc80" <= one <= "\udcff" else repr(one)[1:-1] for one in text)
 
 
+def text_of(written: bytes) -> str:
+    """What a program wrote, as text. Bytes outside of UTF-8 are kept, also on Windows, where names have none."""
+    return written.decode("utf-8", "surrogateescape")
+
+
 def answer_of(status: int, out: bytes, err: bytes) -> Answer:
     """The answer that a status and the bytes of both streams are."""
     written = (err if status == NO_VERDICT else out).removesuffix(ADVICE).removesuffix(b"\n")
-    line = printable(os.fsdecode(written))
+    line = printable(text_of(written))
     if status not in (FITS, REJECTED, NO_VERDICT) or not line:
         ending = f"was ended by signal {-status}" if status < 0 else f"ended with status {status}"
         return Answer(NO_VERDICT, f"{CHECKER}: the checker {ending}", f"the checker {ending}")
@@ -138,15 +145,21 @@ def copied_blocks(data: IO[bytes], copy: IO[bytes]) -> Iterator[bytes]:
         yield block
 
 
-def find_checker(given: str | None) -> str | None:
-    """The path of the checker: what was given, or beside this program, or as it is built in the checkout of this program, or on PATH."""
-    if given is not None:
-        return shutil.which(given)
-    called, here = Path(sys.argv[0]).parent, Path(__file__).resolve().parent
-    for path in (called / CHECKER, here / CHECKER, here.parent / "crates" / CHECKER / "out" / CHECKER):
+def find_program(name: str, *folders: Path) -> str | None:
+    """The path of a program: in one of these folders, or as it is built in the checkout of this program, or on PATH."""
+    checkout, crate = Path(__file__).resolve().parent.parent, name.replace("-", "_")
+    for path in (*(folder / name for folder in folders), checkout / "crates" / crate / "out" / crate, checkout / "out" / name):
+        path = path.with_name(path.name + PROGRAM_SUFFIX)
         if path.is_file() and os.access(path, os.X_OK):
             return str(path.resolve())
-    return shutil.which(CHECKER)
+    return shutil.which(name)
+
+
+def find_checker(given: str | None) -> str | None:
+    """The path of the checker: what was given, or beside this program, or in its checkout, or on PATH."""
+    if given is not None:
+        return shutil.which(given)
+    return find_program(CHECKER, Path(sys.argv[0]).parent, Path(__file__).resolve().parent)
 
 
 NAMED_BYTES = {0x20: "·", 0x09: r"\t", 0x0A: r"\n", 0x0D: r"\r", 0x5C: r"\\"}
@@ -200,7 +213,9 @@ def listed_names(path: str) -> list[str]:
     """The names that a file lists, or standard input: each ended by a byte 0 where there is one, and else by a line feed."""
     with open_data(path) as file:
         text = file.read()
-    return [os.fsdecode(name) for name in text.split(b"\0" if b"\0" in text else b"\n") if name]
+    names = text.split(b"\0") if b"\0" in text else text.replace(os.linesep.encode(), b"\n").split(b"\n")
+    # (bytes that no name can have on Windows are left to the system to refuse)
+    return [name.decode(sys.getfilesystemencoding(), "surrogateescape") for name in names if name]
 
 
 def data_files(words: argparse.ArgumentParser, given: argparse.Namespace) -> list[DataFile]:

@@ -81,6 +81,9 @@ export async function testFindings(page) {
   await page.tab.wait(`document.querySelector("#findings li")`);
   expect("a preset that cannot be read", await findings(page), ["error bad preset"]);
   await page.set("presets", "");
+  await page.set("program", 'REGEX("^a$")');
+  await page.tab.wait(`document.querySelector("#program-side .note.warning")`);
+  expect("of a note and a warning the warning is marked", await page.evaluate(`getComputedStyle(document.querySelector("#program-side .note.warning")).textDecorationStyle`), "wavy");
   await page.set("program", "INT(1,5) NEWLINE");
   await page.tab.wait(`!document.querySelector("#findings li")`);
   expect("nothing is marked in a right program", await page.evaluate(`document.querySelectorAll("#program-side .CodeMirror :is(.error, .warning, .note)").length`), 0);
