@@ -457,7 +457,7 @@ class Show(CompanionTest):
         companion = sys.modules["ctd_companion"]
         self.write("ctd-lint.exe", "")
         (self.folder / "ctd-lint.exe").chmod(0o755)
-        with mock.patch.object(companion, "PROGRAM_SUFFIX", ".exe"):
+        with mock.patch.object(companion, "EXECUTABLE_SUFFIX", ".exe"):
             self.assertEqual(companion.find_program("ctd-lint", self.folder), str((self.folder / "ctd-lint.exe").resolve()))
 
     def test_no_module_is_of_posix_alone(self) -> None:

@@ -21,8 +21,8 @@ from typing import IO, TextIO, TypeVar
 
 VERSION = "1.0"
 CHECKER = "checktestdata"
-# How the name of the file of a program ends.
-PROGRAM_SUFFIX = ".exe" if os.name == "nt" else ""
+# How the name of a program that can be run ends.
+EXECUTABLE_SUFFIX = ".exe" if os.name == "nt" else ""
 FITS, REJECTED, NO_VERDICT = 0, 1, 2
 INTERRUPTED = 130
 # The name that stands for standard input.
@@ -149,7 +149,7 @@ def find_program(name: str, *folders: Path) -> str | None:
     """The path of a program: in one of these folders, or as it is built in the checkout of this program, or on PATH."""
     checkout, crate = Path(__file__).resolve().parent.parent, name.replace("-", "_")
     for path in (*(folder / name for folder in folders), checkout / "crates" / crate / "out" / crate, checkout / "out" / name):
-        path = path.with_name(path.name + PROGRAM_SUFFIX)
+        path = path.with_name(path.name + EXECUTABLE_SUFFIX)
         if path.is_file() and os.access(path, os.X_OK):
             return str(path.resolve())
     return shutil.which(name)
