@@ -177,7 +177,7 @@ def command_lines(folder: Path) -> dict[str, CommandLine]:
         ),
         "data that fit but for blanks": CommandLine(["-w", paths["p.ctd"], paths["blanks.in"]], FITS),
         "presets, quietly": CommandLine(presets, (0, b"", b"")),
-        "a grid that becomes a map": CommandLine([paths["grid.ctd"], paths["grid.in"]], FITS),
+        "a grid beside a map": CommandLine([paths["grid.ctd"], paths["grid.in"]], FITS),
         "a long match that is kept": CommandLine([paths["long.ctd"], paths["long.in"]], FITS),
         "long names, one of them preset": CommandLine(["-D", "longestname=3", paths["names.ctd"], paths["names.in"]], FITS),
         "a program that breaks off": CommandLine([paths["open.ctd"], paths["right.in"]], refused("program line 1 column 9: syntax error")),

@@ -1,9 +1,10 @@
 -- What is known once variables got values, or lost them.
-use Rattle.std.proofs.Common.{◌≡◌, ◌≢◌, ◌<◌, ◌^◌, ℕ, Bool, true, false, List, [], ◌∷◌, map, is_some, Option, Some, None, refl, ap, sym, subst, ◌∙◌}
+use Rattle.std.proofs.Common.{◌≡◌, ◌≢◌, ◌<◌, ◌^◌, ℕ, Bool, true, false, List, [], ◌∷◌, map, is_some, Option, Some, None, Decides, refl, ap, sym, subst, ◌∙◌}
+use Rattle.std.proofs.lemmas.Map.Views.{tells_apart}
 use Rattle.ctd_store.specs.declared.value.Value.{Value}
 use Rattle.ctd_store.specs.Order.{same_values}
 use Rattle.ctd_store.specs.Store.{History, Variables, Key, assign, is_pinned, unset, value_at, value_in}
-use Rattle.ctd_store.proofs.Firsts.{decides}
+use Rattle.ctd_store.specs.inner.OrderLaws.{exact_lists, values_equiv}
 use Rattle.ctd_store.proofs.StoreLaws.{assigned_key_has_its_value, pinned_key_stays, assignment_keeps_other_keys, unset_key_has_its_pin, unset_keeps_other_names}
 use Rattle.ctd_known.specs.declared.facts.Kinds.{Kinds}
 use Rattle.ctd_known.specs.declared.facts.NameFacts.{NameFacts}
@@ -64,6 +65,10 @@ assign_free pinned known name kinds pin facts new pin_tells none tells alone ele
       elements = λ i is w is_there. subst (λ k. MayBe k n w) (sym elements) (old.elements i is w (sym (assignment_keeps_other_keys h key (at_key name (i ∷ is)) v (other_indices name (i ∷ is) [] (more_indices i is))) ∙ is_there));
     } in
     each_changed name new known n h g here (λ other is apart. others_stay h name [] v other is apart) each
+
+-- whether two index lists are one
+decides : (a b : List Value) → Decides (same_values a b) (a ≡ b)
+decides a b = (tells_apart exact_lists a b, λ e. subst (λ x. same_values a x ≡ true) e (values_equiv.refl a))
 
 -- an element
 element_after : (name : List ℕ) (facts new : NameFacts) (kinds : Kinds) (n : ℕ) (h : History) (i : Value) (is : List Value) (v : Value) (j : Value) (js : List Value) (w : Value) (b c : Bool) → n < 2 ^ 64 → same_values (j ∷ js) (i ∷ is) ≡ b → is_pinned h (at_key name (i ∷ is)) ≡ c

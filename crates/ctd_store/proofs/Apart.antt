@@ -9,8 +9,9 @@ use Rattle.ctd_store.specs.Order.{values_cmp}
 use Rattle.ctd_store.specs.inner.OrderLaws.{values_total}
 use Rattle.ctd_store.specs.Store.{Array, History, array_of, values_of, has_indices, first_of_each}
 use Rattle.ctd_store.specs.inner.Store.{are_apart}
-use Rattle.ctd_store.proofs.Firsts.{visible_entries, one_hides}
-use Rattle.ctd_store.proofs.Overlay.{left_of, right_of, sorted_each_once}
+use Rattle.ctd_store.specs.inner.Reading.{visible_entries}
+use Rattle.ctd_store.proofs.Firsts.{one_hides, sorted_each_once}
+use Rattle.ctd_store.proofs.Reading.{left_of, right_of, both}
 
 is_true : (b : Bool) → T b → b ≡ true
 is_true true h = refl
@@ -18,10 +19,6 @@ is_true false h = absurd h
 
 holds : (b : Bool) → b ≡ true → T b
 holds b h = subst T (sym h) tt
-
-both : (a b : Bool) → T a → T b → T (a && b)
-both true b p h = h
-both false b p h = p
 
 -- what is pinned is in order
 pins_sorted : (p vs : Array) → T (are_apart p vs) → T (is_sorted values_cmp p)

@@ -1,5 +1,5 @@
 -- Names with their arrays in any order: what a look-up, a write and a removal are in the order of the names.
-use Rattle.std.proofs.Common.{◌≡◌, ◌≢◌, ℕ, zero, suc, ◌+◌, ◌<◌, Bool, true, false, cond, not, filter, ◌&&◌, T, List, [], ◌∷◌, ◌++◌, length, Option, Some, None, refl, ap, sym, subst, ◌∙◌, arith}
+use Rattle.std.proofs.Common.{◌≡◌, ◌≢◌, ℕ, zero, suc, ◌+◌, Bool, true, false, cond, not, filter, ◌&&◌, T, List, [], ◌∷◌, ◌++◌, length, Option, Some, None, refl, ap, sym, subst, ◌∙◌, arith}
 use Rattle.std.specs.Prelude.{nat_eq, slice_get, slice_set, option_map}
 use Rattle.std.specs.declared.cmp.Ordering.TheVariants.{Less, Equal, Greater}
 use Rattle.std.specs.Cmp.{tied_itself, eq_by_cmp_equiv}
@@ -11,29 +11,16 @@ use Rattle.std.specs.Ordering.{is_eq}
 use Rattle.std.proofs.Math.Dec.{eqb_refl}
 use Rattle.std.proofs.lemmas.Bool.{eqb-true}
 use Rattle.std.proofs.lemmas.Map.Lookups.{exact_bytes}
+use Rattle.std.proofs.lemmas.Map.Views.{tells_apart}
 use Rattle.ctd_store.specs.declared.value.Value.{Value}
 use Rattle.ctd_store.specs.Order.{bytes_cmp, same_bytes, values_cmp}
 use Rattle.ctd_store.specs.Store.{Array, Variables, array_of}
-use Rattle.ctd_store.specs.calls.Store.{slot, overlay_row, Positions, with_array, in_order, is_position, have_positions}
+use Rattle.ctd_store.specs.calls.Store.{Positions, with_array, in_order, is_position, have_positions}
 use Rattle.ctd_store.specs.inner.Store.{name_at}
-use Rattle.ctd_store.proofs.Overlay.{left_of, right_of}
-
--- two names are one or two
-pub same_as : (q k : List ℕ) → same_bytes q k ≡ true → q ≡ k
-same_as q k = elim (bytes_cmp q k) as (λ o. bytes_cmp q k ≡ o → is_eq o ≡ true → q ≡ k) [
-  | Less ↦ λ _ never. cc
-  | Equal ↦ λ e _. exact_bytes q k e
-  | Greater ↦ λ _ never. cc
-] refl
+use Rattle.ctd_store.proofs.Reading.{left_of, right_of, both, differs}
 
 pub itself : (k : List ℕ) → same_bytes k k ≡ true
 itself k = ap is_eq (tied_itself nat_list_cmp_total k)
-
-differs : (q k : List ℕ) → q ≢ k → same_bytes q k ≡ false
-differs q k apart = elim (same_bytes q k) as (λ b. same_bytes q k ≡ b → b ≡ false) [
-  | true ↦ λ e. absurd (apart (same_as q k e))
-  | false ↦ λ _. refl
-] refl
 
 pub same_some : {X : Type 0} (x y : X) → Some x ≡ Some y → x ≡ y
 same_some x y e = ap (λ o. unwrap_or o x) e
@@ -52,7 +39,7 @@ array_given (e ∷ es) = refl
 
 not_there : (x k : List ℕ) (vs : Variables) → find bytes_cmp k vs ≡ None → find bytes_cmp x vs ≡ cond (same_bytes x k) None (find bytes_cmp x vs)
 not_there x k vs none = elim (same_bytes x k) as (λ b. same_bytes x k ≡ b → find bytes_cmp x vs ≡ cond b None (find bytes_cmp x vs)) [
-  | true ↦ λ e. ap (λ y. find bytes_cmp y vs) (same_as x k e) ∙ none
+  | true ↦ λ e. ap (λ y. find bytes_cmp y vs) (tells_apart exact_bytes x k e) ∙ none
   | false ↦ λ _. refl
 ] refl
 
@@ -82,7 +69,7 @@ not_first q v vs absent e = absent 0 (ap Some (sym e))
 found_none : (x q : List ℕ) (a : Array) (vs : Variables) → x ≢ q → find bytes_cmp x vs ≡ None → find bytes_cmp x (with_array q a vs) ≡ None
 found_none x q [] vs apart none = none
 found_none x q (e ∷ es) vs apart none =
-    find-put bytes_cmp nat_list_cmp_total x q (e ∷ es) vs ∙ (λ i. cond (differs x q apart i) (Some (e ∷ es)) (none i))
+    find-put bytes_cmp nat_list_cmp_total x q (e ∷ es) vs ∙ (λ i. cond (differs exact_bytes x q apart i) (Some (e ∷ es)) (none i))
 
 missing : (q : List ℕ) (vs : Variables) → IsAbsent q vs → find bytes_cmp q (in_order vs) ≡ None
 missing q [] absent = refl
@@ -141,7 +128,7 @@ name_of : (q : List ℕ) (a : Array) (at : ℕ) (vs : Variables) → slice_get v
 name_of q a at vs is = ap (option_map (λ v. v.0)) is
 
 apart_tests : (x q k : List ℕ) → q ≢ k → same_bytes x k ≡ true → same_bytes x q ≡ true → ⊥
-apart_tests x q k apart a b = apart (sym (same_as x q b) ∙ same_as x k a)
+apart_tests x q k apart a b = apart (sym (tells_apart exact_bytes x q b) ∙ tells_apart exact_bytes x k a)
 
 -- what is found where the array at a position is another
 found_set : (x : List ℕ) (n at : ℕ) (vs : Variables) (ps : Positions) (q : List ℕ) (a b : Array) → T (have_positions n vs ps) → slice_get vs at ≡ Some (q, a)
@@ -157,7 +144,7 @@ found_set x n (suc at) (v ∷ vs) ps q a b placed is =
     let after = found_set x (suc n) at vs ps q a b (right_of _ _ placed) is in
     let first = found_set v.0 (suc n) at vs ps q a b (right_of _ _ placed) is in
     overlay_over x v.0 v.1 (in_order (slice_set vs at (q, b)))
-    (first ∙ ap (λ t. cond t (given b) (find bytes_cmp v.0 (in_order vs))) (differs v.0 q (λ e. apart (sym e))) ∙ missing v.0 vs (first_absent n v vs ps placed))
+    (first ∙ ap (λ t. cond t (given b) (find bytes_cmp v.0 (in_order vs))) (differs exact_bytes v.0 q (λ e. apart (sym e))) ∙ missing v.0 vs (first_absent n v vs ps placed))
     ∙ ap (cond (same_bytes x v.0) (given v.1)) after
     ∙ swapped (same_bytes x v.0) (same_bytes x q) (given v.1) (given b) (find bytes_cmp x (in_order vs)) (apart_tests x q v.0 apart)
     ∙ ap (cond (same_bytes x q) (given b)) (sym (found_first x n v vs ps placed))
@@ -191,16 +178,6 @@ put_filled k v (e ∷ es) h = elim (values_cmp k e.0) as (λ o. by_order o ((k, 
   | Equal ↦ λ h. cc
   | Greater ↦ λ h. cc
 ] h
-
--- no test has two answers
-pub opposite : (b : Bool) → b ≡ false → b ≡ true → ⊥
-opposite true denied given = cc
-opposite false denied given = cc
-
--- a row with values overlaid is not empty
-pub row_filled : (n : ℕ) (xs : List Value) (es : Array) → 0 < length xs → overlay_row n xs es ≢ []
-row_filled n [] es filled h = absurd (omega (arith, filled))
-row_filled n (x ∷ xs) es filled h = put_filled (slot n) x (overlay_row (suc n) xs es) h
 
 find_without : (q x : List ℕ) (vs : Variables) → find bytes_cmp x (filter (λ v. not (same_bytes q v.0)) vs) ≡ cond (same_bytes x q) None (find bytes_cmp x vs)
 find_without q x vs =
@@ -236,7 +213,7 @@ found_added x n (v ∷ vs) ps q b placed absent =
     let after = found_added x (suc n) vs ps q b (right_of _ _ placed) (absent_after q v vs absent) in
     let first = found_added v.0 (suc n) vs ps q b (right_of _ _ placed) (absent_after q v vs absent) in
     overlay_over x v.0 v.1 (in_order (vs ++ (q, b) ∷ []))
-    (first ∙ ap (λ t. cond t (given b) (find bytes_cmp v.0 (in_order vs))) (differs v.0 q (λ e. apart (sym e))) ∙ missing v.0 vs (first_absent n v vs ps placed))
+    (first ∙ ap (λ t. cond t (given b) (find bytes_cmp v.0 (in_order vs))) (differs exact_bytes v.0 q (λ e. apart (sym e))) ∙ missing v.0 vs (first_absent n v vs ps placed))
     ∙ ap (cond (same_bytes x v.0) (given v.1)) after
     ∙ swapped (same_bytes x v.0) (same_bytes x q) (given v.1) (given b) (find bytes_cmp x (in_order vs)) (apart_tests x q v.0 apart)
     ∙ ap (cond (same_bytes x q) (given b)) (sym (found_first x n v vs ps placed))
@@ -254,10 +231,6 @@ pub added_empty : (vs : Variables) (ps : Positions) (q : List ℕ) → T (have_p
 added_empty vs ps q placed absent =
     same_entries bytes_cmp nat_list_cmp_total exact_bytes _ _ (sorted_in_order (vs ++ (q, []) ∷ [])) (sorted_in_order vs)
     (λ x. found_added x 0 vs ps q [] placed absent ∙ sym (not_there x q (in_order vs) (missing q vs absent)))
-
-both : (a b : Bool) → T a → T b → T (a && b)
-both true b p h = h
-both false b p h = p
 
 is_there : (n : ℕ) → T (nat_eq n n)
 is_there n = eqb_refl n
@@ -278,5 +251,5 @@ positions_added n m [] ps q b end absent placed =
 positions_added n m (v ∷ vs) ps q b end absent placed =
     let apart : q ≢ v.0 = not_first q v vs absent in
     both _ _
-    (subst (λ o. T (is_position n o)) (sym (find-put bytes_cmp nat_list_cmp_total v.0 q m ps ∙ ap (λ t. cond t (Some m) (find bytes_cmp v.0 ps)) (differs v.0 q (λ e. apart (sym e))))) (left_of _ _ placed))
+    (subst (λ o. T (is_position n o)) (sym (find-put bytes_cmp nat_list_cmp_total v.0 q m ps ∙ ap (λ t. cond t (Some m) (find bytes_cmp v.0 ps)) (differs exact_bytes v.0 q (λ e. apart (sym e))))) (left_of _ _ placed))
     (positions_added (suc n) m vs ps q b (omega (arith, end)) (absent_after q v vs absent) (right_of _ _ placed))

@@ -1,7 +1,6 @@
 -- What only the proofs of this crate use.
 pub mod Store
 pub mod OrderLaws
-pub mod Grid
-pub mod Index
+pub mod Reading
 pub mod Slot
 pub mod Showing

@@ -1,21 +1,26 @@
-//! The array of a name: index lists with their values, in their order.
+//! The array of a name: index lists with their values.
 
-ghost use Rattle.std.specs.Prelude.{◌≡◌, [], ◌∷◌, ◌++◌, map, Some, IfSome, OnOk, OnErr};
+ghost use Rattle.std.specs.Prelude.{◌≡◌, [], ◌∷◌, ◌++◌, map, Some, IfSome, IfOk, IsPermutation, OnOk, OnErr};
 ghost use Rattle.std.specs.List.{list_any};
 ghost use Rattle.std.specs.Option.{option_copied, unwrap_or};
 ghost use Rattle.std.specs.FinMap.{find, put};
 ghost use Rattle.ctd_store.specs.calls.Index.{indices_at, indices_of};
 ghost use Rattle.ctd_store.specs.calls.ValueRef.{value_of_ref};
+ghost use Rattle.ctd_store.specs.calls.Places.{placed, listed};
+ghost use Rattle.ctd_store.specs.inner.Reading.{visible_entries};
 ghost use Rattle.ctd_store.specs.Order.{values_cmp, same_value};
 ghost use Rattle.ctd_store.specs.calls.Showing.{entry};
-ghost use Rattle.ctd_store.specs.calls.Store.{overlay_row};
+ghost use Rattle.ctd_store.specs.calls.Store.{numbered};
+ghost use Rattle.ctd_store.specs.Store.{first_of_each};
 
-use crate::index::{Index, Indices};
-use crate::indexed::Indexed;
-use crate::row_and_map::Row;
+use crate::index::{Index, Indices, copy_all};
+use crate::line::Row;
+use crate::places::Places;
 use crate::store::EntryRef;
 use crate::value::Value;
+use crate::value_list::ROOM_KEPT;
 use crate::value_ref::ValueRef;
+use indexmap::IndexMap;
 use std::alloc::{AllocError, Global};
 use std::marker::Model;
 use std::mem::replace;
@@ -23,23 +28,25 @@ use std::mem::replace;
 /// Index lists with their values, each index list once, which contracts see as the list of them in order.
 #[derive(Drop)]
 pub(crate) struct Array {
-    // The value without indices, which is asked for most.
-    scalar: Option<Value>,
-    // The values at one index or more.
-    indexed: Indexed,
+    // The values that are found without a map.
+    places: Places,
+    // All others, by a hash of their index lists, none of which is empty. A value at an index list that has a place since then is hidden by the one in that place.
+    rest: IndexMap<Vec<Value>, Value>,
 }
 
 impl Model for Array {
-    ghost use Rattle.std.specs.Prelude.{T};
+    ghost use Rattle.std.specs.Prelude.{◌≡◌, ◌++◌, [], None};
+    ghost use Rattle.std.specs.FinMap.{find};
+    ghost use Rattle.ctd_store.specs.Order.{values_cmp};
     ghost use Rattle.ctd_store.specs.Store.{Array};
-    ghost use Rattle.ctd_store.specs.calls.Store.{with_scalar};
-    ghost use Rattle.ctd_store.specs.inner.Store.{is_indexed};
+    ghost use Rattle.ctd_store.specs.calls.Store.{by_indices};
+    ghost use Rattle.ctd_store.specs.calls.Places.{placed, listed};
 
     ghost Value = { Array };
 
-    ghost view = { λ a. with_scalar a.scalar a.indexed };
+    ghost view = { λ a. by_indices (placed a.places ++ listed a.rest.entries) };
 
-    ghost invariant = { λ a. T (is_indexed a.indexed) };
+    ghost invariant = { λ a. find values_cmp [] (listed a.rest.entries) ≡ None };
 }
 
 impl Array {
@@ -48,8 +55,8 @@ impl Array {
         ensures empty { result ≡ [] }
     {
         Array {
-            scalar: None,
-            indexed: Indexed::new(alloc),
+            places: Places::new(alloc),
+            rest: IndexMap::new(alloc),
         }
     }
 
@@ -59,41 +66,42 @@ impl Array {
         ensures value { option_copied result ≡ find values_cmp (indices_at index.entry) self.now }
     {
         match index {
-            Index::Scalar => self.scalar(),
-            Index::One(number) => self.indexed.get_one(number),
-            Index::Two(row, column) => self.indexed.get_two(row, column),
-            Index::List(indices) => self.get(indices),
+            Index::Scalar => self.places.scalar.as_ref(),
+            _ => match self.places.at(index) {
+                Some(value) => Some(value),
+                None => self.value_by_list(index),
+            },
         }
     }
 
-    /// The value without indices.
-    #[inline(always)]
-    fn scalar(&self) -> Option<&Value>
-        ensures value { option_copied result ≡ find values_cmp [] self.now }
+    /// The value at an index, by a list of its values. Out of line: keeps the caller small.
+    #[cold]
+    #[inline(never)]
+    fn value_by_list(&self, index: Index<'_>) -> Option<&Value>
+        ensures value { option_copied result ≡ find values_cmp (indices_at index.entry) self.now }
     {
-        self.scalar.as_ref()
+        self.get(index.to_indices().as_slice())
     }
 
-    /// The value at an index list. Allocates nothing. Out of line: keeps the caller small.
-    #[inline(never)]
+    /// The value at an index list. Allocates nothing.
     pub(crate) fn get(&self, indices: &[Value]) -> Option<&Value>
         ensures value { option_copied result ≡ find values_cmp indices.now self.now }
     {
-        if indices.is_empty() {
-            self.scalar()
-        } else {
-            self.indexed.get(indices)
+        match self.places.get(indices) {
+            Some(value) => Some(value),
+            None => self.rest.get(indices),
         }
     }
 
     /// The values, where they are a row alone. `None` means: take the general path.
-    #[inline(always)]
     pub(crate) fn row(&self) -> Option<Row<'_>>
-        ensures value { IfSome result (λ row. self.now ≡ overlay_row row.base row.values.now []) }
+        ensures value { IfSome result (λ row. self.now ≡ numbered [] row.base row.values.now) }
     {
-        match self.scalar {
-            Some(_) => None,
-            None => self.indexed.row(),
+        let row = self.places.row_alone()?;
+        if self.rest.is_empty() {
+            Some(row)
+        } else {
+            None
         }
     }
 
@@ -108,30 +116,47 @@ impl Array {
         ensures ok { OnOk result (self.new ≡ put values_cmp (indices_at index.entry) (value_of_ref value.entry) self.old) }
         ensures err { OnErr result (self.new ≡ self.old) }
     {
-        match index {
-            Index::Scalar => set_scalar(alloc, &mut self.scalar, value),
-            Index::One(number) => self.indexed.insert_one(alloc, number, value),
-            Index::Two(row, column) => self.indexed.insert_two(alloc, row, column, value),
-            Index::List(indices) => self.insert_by_list(alloc, indices, value),
+        if self.places.write(alloc, index, value)? {
+            return Ok(());
         }
+        self.insert_out_of_line(alloc, index, value)
     }
 
-    /// Gives the index list of a slice a value; after an error all is as it was.
+    /// Gives an index list a value; after an error all is as it was. In line, so that only this rare way makes room for what it passes on.
+    #[inline(always)]
+    fn insert_out_of_line(
+        &mut self,
+        alloc: Global,
+        index: Index<'_>,
+        value: ValueRef<'_>,
+    ) -> Result<(), AllocError>
+        ensures ok { OnOk result (self.new ≡ put values_cmp (indices_at index.entry) (value_of_ref value.entry) self.old) }
+        ensures err { OnErr result (self.new ≡ self.old) }
+    {
+        self.insert_by_list(alloc, index, value)
+    }
+
+    /// Gives an index list a value; after an error all is as it was. Out of line: keeps the caller small.
+    #[cold]
     #[inline(never)]
     fn insert_by_list(
         &mut self,
         alloc: Global,
-        indices: &[Value],
+        index: Index<'_>,
         value: ValueRef<'_>,
     ) -> Result<(), AllocError>
-        ensures ok { OnOk result (self.new ≡ put values_cmp indices.now (value_of_ref value.entry) self.old) }
+        ensures ok { OnOk result (self.new ≡ put values_cmp (indices_at index.entry) (value_of_ref value.entry) self.old) }
         ensures err { OnErr result (self.new ≡ self.old) }
     {
-        if indices.is_empty() {
-            set_scalar(alloc, &mut self.scalar, value)
-        } else {
-            self.indexed.insert(alloc, Index::List(indices), value)
+        let indices = index.to_indices();
+        let indices = indices.as_slice();
+        if self.places.insert(alloc, indices, value)? {
+            return Ok(());
         }
+        let list = copy_all(alloc, indices)?;
+        let value = value.to_value(alloc)?;
+        self.rest.insert(list, value)?;
+        Ok(())
     }
 
     /// Lets a row with no values begin behind an index that is a number.
@@ -139,84 +164,32 @@ impl Array {
         ensures same { self.new ≡ self.old }
     {
         if let Index::One(number) = index {
-            self.indexed.begin_behind(number);
+            self.places.row.begin_behind(number);
         }
     }
 
-    /// Removes all values.
+    /// Removes all values; a small map keeps its room for the next ones.
     pub(crate) fn clear(&mut self)
         ensures empty { self.new ≡ [] }
     {
-        drop(replace(&mut self.scalar, None));
-        self.indexed.clear();
+        self.places.clear();
+        clear_map(&mut self.rest);
     }
 
-    /// Adds the entries to others.
+    /// Adds the entries to others, in no stated order.
     fn add_entries<'s>(&'s self, entries: &mut Vec<EntryRef<'s>>) -> Result<(), AllocError>
-        ensures added { OnOk result (map entry entries.new.items ≡ map entry entries.old.items ++ self.now) }
+        ensures added { OnOk result (IsPermutation (map entry entries.old.items ++ self.now) (map entry entries.new.items)) }
     {
-        match &self.scalar {
-            Some(value) => {
-                add_entry(Indices::List(&[]), value, entries)?;
-                self.indexed.add_entries(entries)
-            }
-            None => self.indexed.add_entries(entries),
-        }
+        self.places.add_entries(entries)?;
+        add_rest(&self.rest, &self.places, entries)
     }
 
     /// Whether a value is among those of the array. Allocates nothing.
     fn has_value(&self, value: ValueRef<'_>) -> bool
         ensures value { result ≡ list_any (λ e. same_value (value_of_ref value.entry) e.1) self.now }
     {
-        match &self.scalar {
-            Some(scalar) => value.is_same(scalar) || self.indexed.has_value(value),
-            None => self.indexed.has_value(value),
-        }
+        self.places.has_value(value) || rest_has_value(&self.rest, &self.places, value)
     }
-}
-
-/// Puts a value in the place of another or of none; after an error all is as it was.
-#[inline(always)]
-fn set_scalar(
-    alloc: Global,
-    scalar: &mut Option<Value>,
-    value: ValueRef<'_>,
-) -> Result<(), AllocError>
-    ensures ok { OnOk result (scalar.new ≡ Some (value_of_ref value.entry)) }
-    ensures err { OnErr result (scalar.new ≡ scalar.old) }
-{
-    match scalar {
-        Some(stored) => value.put_into(alloc, stored),
-        None => begin_scalar(alloc, scalar, value),
-    }
-}
-
-/// Puts a first value in its place. In line, so that only this rare way makes room for the value that it passes on.
-#[inline(always)]
-fn begin_scalar(
-    alloc: Global,
-    scalar: &mut Option<Value>,
-    value: ValueRef<'_>,
-) -> Result<(), AllocError>
-    ensures ok { OnOk result (scalar.new ≡ Some (value_of_ref value.entry)) }
-    ensures err { OnErr result (scalar.new ≡ scalar.old) }
-{
-    put_scalar(alloc, scalar, value)
-}
-
-/// Puts a value in the place of another or of none. Out of line: keeps the caller small.
-#[cold]
-#[inline(never)]
-fn put_scalar(
-    alloc: Global,
-    scalar: &mut Option<Value>,
-    value: ValueRef<'_>,
-) -> Result<(), AllocError>
-    ensures ok { OnOk result (scalar.new ≡ Some (value_of_ref value.entry)) }
-    ensures err { OnErr result (scalar.new ≡ scalar.old) }
-{
-    drop(replace(scalar, Some(value.to_value(alloc)?)));
-    Ok(())
 }
 
 /// The value that an array, if there is one, has at an index list. Allocates nothing.
@@ -226,12 +199,12 @@ pub(crate) fn get<'s>(array: Option<&'s Array>, indices: &[Value]) -> Option<&'s
     array?.get(indices)
 }
 
-/// Adds the entries of an array, if there is one, to others.
+/// Adds the entries of an array, if there is one, to others, in no stated order.
 pub(crate) fn add_entries<'s>(
     array: Option<&'s Array>,
     entries: &mut Vec<EntryRef<'s>>,
 ) -> Result<(), AllocError>
-    ensures added { OnOk result (map entry entries.new.items ≡ map entry entries.old.items ++ unwrap_or (option_copied array.entry) []) }
+    ensures added { OnOk result (IsPermutation (map entry entries.old.items ++ unwrap_or (option_copied array.entry) []) (map entry entries.new.items)) }
 {
     match array {
         Some(array) => array.add_entries(entries),
@@ -259,4 +232,57 @@ pub(crate) fn add_entry<'s>(
 {
     entries.push(EntryRef { indices, value })?;
     Ok(())
+}
+
+/// Adds those entries of a map to others whose index lists have no place.
+fn add_rest<'s>(
+    rest: &'s IndexMap<Vec<Value>, Value>,
+    places: &Places,
+    entries: &mut Vec<EntryRef<'s>>,
+) -> Result<(), AllocError>
+    ensures added { OnOk result (map entry entries.new.items ≡ map entry entries.old.items ++ visible_entries (placed places.now) (first_of_each (listed rest.now.entries))) }
+{
+    for (indices, value) in rest {
+        add_beside(places, indices.as_slice(), value, entries)?;
+    }
+    Ok(())
+}
+
+/// Adds an entry to others, unless its index list has a place.
+fn add_beside<'s>(
+    places: &Places,
+    indices: &'s [Value],
+    value: &'s Value,
+    entries: &mut Vec<EntryRef<'s>>,
+) -> Result<(), AllocError>
+    ensures added { OnOk result (map entry entries.new.items ≡ map entry entries.old.items ++ visible_entries (placed places.now) ((indices.now, value.now) ∷ [])) }
+{
+    if places.get(indices).is_some() {
+        return Ok(());
+    }
+    add_entry(Indices::List(indices), value, entries)
+}
+
+/// Whether a value stands in a map, at an index list that has no place. Allocates nothing.
+fn rest_has_value(rest: &IndexMap<Vec<Value>, Value>, places: &Places, value: ValueRef<'_>) -> bool
+    ensures value { result ≡ list_any (λ e. same_value (value_of_ref value.entry) e.1) (visible_entries (placed places.now) (first_of_each (listed rest.now.entries))) }
+{
+    for (indices, stored) in rest {
+        if value.is_same(stored) && places.get(indices.as_slice()).is_none() {
+            return true;
+        }
+    }
+    false
+}
+
+/// Removes all values of a map; if it has much room, also that.
+fn clear_map(map: &mut IndexMap<Vec<Value>, Value>)
+    ensures empty { map.new.entries ≡ [] }
+{
+    if map.capacity() <= ROOM_KEPT {
+        map.clear();
+    } else {
+        let empty = IndexMap::new(*map.allocator());
+        drop(replace(map, empty));
+    }
 }

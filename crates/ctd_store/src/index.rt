@@ -58,13 +58,6 @@ impl<'i> Index<'i> {
             Index::List(indices) => Indices::List(indices),
         }
     }
-
-    /// The values of the index list, in a list of their own.
-    pub(crate) fn to_list(self, alloc: Global) -> Result<Vec<Value>, AllocError>
-        ensures same { IfOk result (λ list. list.items ≡ indices_at self.entry) }
-    {
-        copy_all(alloc, self.to_indices().as_slice())
-    }
 }
 
 impl Indices<'_> {
@@ -81,7 +74,7 @@ impl Indices<'_> {
 }
 
 /// Copies of values.
-fn copy_all(alloc: Global, values: &[Value]) -> Result<Vec<Value>, AllocError>
+pub(crate) fn copy_all(alloc: Global, values: &[Value]) -> Result<Vec<Value>, AllocError>
     ensures same { IfOk result (λ copies. copies.items ≡ values.now) }
 {
     let mut copies = Vec::with_capacity(alloc, values.len())?;

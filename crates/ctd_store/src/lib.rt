@@ -4,12 +4,11 @@
 mod array;
 mod grid;
 mod index;
-mod indexed;
 mod laws;
-mod list_map;
+mod line;
 mod order;
+mod places;
 mod positions;
-mod row_and_map;
 mod slot;
 mod store;
 mod value;
@@ -21,7 +20,7 @@ pub use laws::{
     assignment_sets_one_key, presets_give_first_values, unset_clears_one_name,
     values_are_of_distinct_keys,
 };
-pub use row_and_map::Row;
+pub use line::Row;
 pub use store::{EntryRef, Store};
 pub use value::{Key, Value, as_i64};
 pub use value_ref::ValueRef;

@@ -9,13 +9,13 @@ ghost use Rattle.ctd_store.specs.calls.ValueRef.{value_of_ref};
 ghost use Rattle.ctd_store.specs.Order.{bytes_cmp, values_cmp, same_value};
 ghost use Rattle.ctd_store.specs.inner.Slot.{name_in};
 ghost use Rattle.ctd_store.specs.Store.{initial, is_pinned, value_at, array_of, assign, unset, values_of, value_of, with_pin, with_value, has_indices};
-ghost use Rattle.ctd_store.specs.calls.Store.{overlay_row};
+ghost use Rattle.ctd_store.specs.calls.Store.{numbered};
 ghost use Rattle.ctd_store.specs.calls.Showing.{entry};
 
 use crate::array::{Array, add_entries, get, has_value};
 use crate::index::{Index, Indices};
+use crate::line::Row;
 use crate::positions::Positions;
-use crate::row_and_map::Row;
 use crate::slot::Slot;
 use crate::value::{Key, Value};
 use crate::value_ref::ValueRef;
@@ -161,7 +161,7 @@ impl Store {
 
     /// The values of a name, where nothing of it is pinned and they are a row alone. `None` means: take the general path.
     pub fn row(&self, name: &Name) -> Option<Row<'_>>
-        ensures value { IfSome result (λ row. values_of self.now name.now ≡ overlay_row row.base row.values.now []) }
+        ensures value { IfSome result (λ row. values_of self.now name.now ≡ numbered [] row.base row.values.now) }
     {
         let (pins, assigned) = self.arrays(name);
         match pins {
@@ -270,13 +270,6 @@ impl Store {
     pub fn entries(&self, alloc: Global, name: &Name) -> Result<Vec<EntryRef<'_>>, AllocError>
         ensures each_once { IfOk result (λ list. IsPermutation (values_of self.now name.now) (map entry list.items)) }
         ensures distinct { IfOk result (λ list. AllPairs (λ a b. indices_of a.indices ≢ indices_of b.indices) list.items) }
-    {
-        self.entries_of(alloc, name)
-    }
-
-    /// Each key of a name that has a value, once and with its value, in the order of the definition.
-    pub fn entries_of(&self, alloc: Global, name: &Name) -> Result<Vec<EntryRef<'_>>, AllocError>
-        ensures value { IfOk result (λ list. map entry list.items ≡ values_of self.now name.now) }
     {
         let (pins, assigned) = self.arrays(name);
         let mut entries = Vec::new(alloc);

@@ -1,17 +1,9 @@
 -- What the entries of a store show.
-use Rattle.ctd_store.specs.declared.indexed.ArrayRepr.TheVariants as forms
 use Rattle.std.specs.Prelude.{List}
-use Rattle.ctd_store.specs.declared.indexed.ArrayRepr.{ArrayRepr}
 use Rattle.ctd_store.specs.declared.store.EntryRef.{EntryRef}
 use Rattle.ctd_store.specs.declared.value.Value.{Value}
-use Rattle.ctd_store.specs.Store.{Array}
 use Rattle.ctd_store.specs.calls.Index.{indices_of}
 
 -- the indices and the value of an entry that is lent
 abbrev pub entry : EntryRef → List Value × Value
 entry e = (indices_of e.indices, e.value.now)
-
--- the array that is kept in one form or the other
-abbrev pub entries_in : ArrayRepr → Array
-entries_in (forms.RowAndMap array) = array
-entries_in (forms.Grid array) = array

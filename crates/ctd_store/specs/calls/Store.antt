@@ -1,7 +1,7 @@
 -- What has been assigned and pinned, and what a variable stands for.
 -- Of this, what only the contracts of single calls and laws say.
 use Rattle.ctd_store.specs.declared.value.Value.TheVariants as values
-use Rattle.std.specs.Prelude.{ℕ, suc, pos, nat_eq, true, false, Bool, ◌&&◌, List, [], ◌∷◌, map, Option, Some, None}
+use Rattle.std.specs.Prelude.{ℕ, suc, pos, nat_eq, true, false, Bool, ◌&&◌, List, [], ◌∷◌, ◌++◌, map, Option, Some, None}
 use Rattle.std.specs.FinMap.{find, put}
 use Rattle.std.specs.declared.cmp.Ordering.{Ordering}
 use Rattle.std.specs.Ordering.{ordering_then}
@@ -21,20 +21,15 @@ slot n = values.Int (pos n) ∷ []
 abbrev pub cell : ℕ → ℕ → List Value
 cell m n = values.Int (pos m) ∷ values.Int (pos n) ∷ []
 
--- an array, with values at the numbers from n on laid over it
-abbrev pub overlay_row : ℕ → List Value → Array → Array
-overlay_row n [] array = array
-overlay_row n (x ∷ xs) array = put values_cmp (slot n) x (overlay_row (suc n) xs array)
+-- values at the numbers from n on, behind the same indices
+abbrev pub numbered : List Value → ℕ → List Value → Array
+numbered front n [] = []
+numbered front n (x ∷ xs) = (front ++ slot n, x) ∷ numbered front (suc n) xs
 
 -- index lists with values, put in the order of the index lists; where one comes twice, its first value counts
 abbrev pub by_indices : Array → Array
 by_indices [] = []
 by_indices (e ∷ es) = put values_cmp e.0 e.1 (by_indices es)
-
--- an array, with the value without indices laid over it, if there is one
-abbrev pub with_scalar : Option Value → Array → Array
-with_scalar None array = array
-with_scalar (Some x) array = put values_cmp [] x array
 
 -- the variables, with the array of a name laid over them, if it has entries
 abbrev pub with_array : List ℕ → Array → Variables → Variables

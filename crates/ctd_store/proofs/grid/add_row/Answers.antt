@@ -1,10 +1,15 @@
-use Rattle.std.proofs.Common.{[], ◌∷◌, ◌++◌, ap, ◌∙◌}
-use Rattle.ctd_store.specs.calls.Grid.{grid}
+use Rattle.std.proofs.Common.{[], ◌∷◌, ◌++◌, ◌+◌, length, refl, ap, ◌∙◌}
+use Rattle.std.specs.FinMap.{find}
 use Rattle.ctd_store.specs.calls.ValueRef.{value_of_ref}
-use Rattle.ctd_store.proofs.Gridded.{row_added}
+use Rattle.ctd_store.specs.calls.Places.{grid}
+use Rattle.ctd_store.specs.Order.{values_cmp}
+use Rattle.ctd_store.proofs.Cells.{row_added}
 use Rattle.ctd_store.proofs.grid.add_row.Goals as goal
 
 pub returns-clause-ok : goal.returns-clause-ok
 returns-clause-ok c =
+    let rows = c.args.rows.now.items in
     let value = c.in_ok-push.ensures.items ∙ (λ i. c.in_ok-values.ensures.items i ++ c.in_ok-to_value.ensures.same i ∷ []) in
-    λ base. ap (grid base) c.in_ok-push-2.ensures.items ∙ row_added base c.args.rows.now.items (record { base = c.args.column; values = c.push.new.self }) (value_of_ref c.args.value) value
+    λ base q.
+    ap (λ rs. find values_cmp q (grid base rs)) c.in_ok-push-2.ensures.items
+    ∙ row_added base (base + length rows) rows (record { base = c.args.column; values = c.push.new.self }) (value_of_ref c.args.value) refl value q

@@ -1,17 +1,14 @@
-use Rattle.std.proofs.Common.{◌++◌, map, ap, sym, ◌∙◌}
+use Rattle.std.proofs.Common.{map}
 use Rattle.std.proofs.lemmas.Result.{on_ok_weaker}
 use Rattle.ctd_store.specs.calls.Showing.{entry}
-use Rattle.ctd_store.specs.calls.Store.{with_scalar}
-use Rattle.ctd_store.proofs.Scalar.{added_scalar}
+use Rattle.ctd_store.specs.calls.Places.{listed, placed}
+use Rattle.ctd_store.proofs.Listed.{entries_added}
+use Rattle.ctd_store.proofs.Placed.{once_placed}
 use Rattle.ctd_store.proofs.array.Array.add_entries.Goals as goal
 
-pub returns-in_ok-add_entry-in-Some : goal.returns-in_ok-add_entry-in-Some
-returns-in_ok-add_entry-in-Some c =
-    let whole = ap (λ a. with_scalar a c.self.inside.indexed) (sym c.in-Some.is) ∙ c.self.view_is in
-    record {
-      added = on_ok_weaker c.add_entries.result (λ e.
-          e
-          ∙ added_scalar (map entry c.args.entries.now.items) (map entry c.add_entry.new.entries.items) (map entry c.args.entries.now.items ++ c.args.self.now) c.in-Some.value c.self.inside.indexed c.self.invariant
-          (ap (λ es. map entry c.args.entries.now.items ++ es) whole)
-          c.in_ok-add_entry-in-Some.ensures.added) c.add_entries.ensures.added;
-    }
+pub returns : goal.returns
+returns c = record {
+  added = on_ok_weaker c.add_rest.result (λ e.
+      entries_added (map entry c.args.entries.now.items) (map entry c.add_entries.new.entries.items) (map entry c.add_rest.new.entries.items) (placed c.self.inside.places) (listed c.self.inside.rest.entries) c.args.self.now c.self.view_is (once_placed c.self.inside.places)
+      c.in_ok-add_entries.ensures.added e) c.add_rest.ensures.added;
+}

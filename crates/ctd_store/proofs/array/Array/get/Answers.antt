@@ -1,18 +1,14 @@
-use Rattle.std.proofs.Common.{ap, sym, ◌∙◌}
-use Rattle.std.specs.FinMap.{find}
-use Rattle.ctd_store.specs.Order.{values_cmp}
-use Rattle.ctd_store.proofs.Scalar.{is_empty, has_indices, found_indexed}
+use Rattle.std.proofs.Common.{sym, ◌∙◌}
+use Rattle.ctd_store.specs.calls.Places.{listed, placed}
+use Rattle.ctd_store.proofs.Listed.{found_first, found_second, looked_up}
 use Rattle.ctd_store.proofs.array.Array.get.Goals as goal
 
-pub returns-then-is_empty : goal.returns-then-is_empty
-returns-then-is_empty c = record {
-  value = c.scalar.ensures.value
-      ∙ sym (ap (λ q. find values_cmp q c.args.self.now) (is_empty c.args.indices.now (sym c.is_empty.ensures ∙ c.if-is_empty.true)));
-}
+pub returns-in-Some : goal.returns-in-Some
+returns-in-Some c = record { value = sym (found_first c.args.indices.now c.in-Some.value.now (placed c.self.inside.places) (listed c.self.inside.rest.entries) c.args.self.now c.self.view_is (sym c.in-Some.ensures.value)) }
 
-pub returns-else-is_empty : goal.returns-else-is_empty
-returns-else-is_empty c = record {
-  value = c.get.ensures.value
-      ∙ sym (found_indexed c.args.indices.now c.self.inside.scalar c.self.inside.indexed (has_indices c.args.indices.now (sym c.is_empty.ensures ∙ c.if-is_empty.false)))
-      ∙ ap (find values_cmp c.args.indices.now) c.self.view_is;
+pub returns-in-None : goal.returns-in-None
+returns-in-None c = record {
+  value = c.get-in-None.ensures.value
+      ∙ looked_up c.args.indices.now c.self.inside.rest.entries
+      ∙ sym (found_second c.args.indices.now (placed c.self.inside.places) (listed c.self.inside.rest.entries) c.args.self.now c.self.view_is (sym c.in-None.ensures.value));
 }

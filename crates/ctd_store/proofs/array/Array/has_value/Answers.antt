@@ -1,19 +1,30 @@
-use Rattle.std.proofs.Common.{true, false, ap, sym, ◌∙◌}
+use Rattle.std.proofs.Common.{◌||◌, ap, sym, ◌∙◌}
+use Rattle.std.specs.List.{list_any}
 use Rattle.ctd_store.specs.calls.ValueRef.{value_of_ref}
-use Rattle.ctd_store.specs.calls.Store.{with_scalar}
-use Rattle.ctd_store.proofs.Members.{in_scalar}
+use Rattle.ctd_store.specs.calls.Places.{listed, placed}
+use Rattle.ctd_store.specs.inner.Reading.{visible_entries}
+use Rattle.ctd_store.specs.Order.{same_value}
+use Rattle.ctd_store.specs.Store.{first_of_each}
+use Rattle.ctd_store.proofs.Listed.{any_in_both}
+use Rattle.ctd_store.proofs.Placed.{once_placed}
 use Rattle.ctd_store.proofs.array.Array.has_value.Goals as goal
 
-pub returns-then-is_same : goal.returns-then-is_same
-returns-then-is_same c = record {
-  value = c.if-is_same.true
-      ∙ sym (in_scalar (value_of_ref c.args.value) c.in-Some.scalar c.self.inside.indexed c.args.self.now c.is_same.result true c.self.invariant
-      (ap (λ a. with_scalar a c.self.inside.indexed) (sym c.in-Some.is) ∙ c.self.view_is) c.is_same.ensures.value c.if-is_same.true);
-}
+pub returns-then-has_value : goal.returns-then-has_value
+returns-then-has_value c =
+    let F = λ (e : _ × _). same_value (value_of_ref c.args.value) e.1 in
+    let a = placed c.self.inside.places in
+    let b = listed c.self.inside.rest.entries in
+    record {
+      value = c.if-has_value.true
+          ∙ sym (any_in_both F a b c.args.self.now c.self.view_is (once_placed c.self.inside.places) ∙ ap (λ t. t || list_any F (visible_entries a (first_of_each b))) (sym c.has_value.ensures.value ∙ c.if-has_value.true));
+    }
 
-pub returns-else-is_same : goal.returns-else-is_same
-returns-else-is_same c = record {
-  value = c.has_value.ensures.value
-      ∙ sym (in_scalar (value_of_ref c.args.value) c.in-Some.scalar c.self.inside.indexed c.args.self.now c.is_same.result false c.self.invariant
-      (ap (λ a. with_scalar a c.self.inside.indexed) (sym c.in-Some.is) ∙ c.self.view_is) c.is_same.ensures.value c.if-is_same.false);
-}
+pub returns-else-has_value : goal.returns-else-has_value
+returns-else-has_value c =
+    let F = λ (e : _ × _). same_value (value_of_ref c.args.value) e.1 in
+    let a = placed c.self.inside.places in
+    let b = listed c.self.inside.rest.entries in
+    record {
+      value = c.rest_has_value.ensures.value
+          ∙ sym (any_in_both F a b c.args.self.now c.self.view_is (once_placed c.self.inside.places) ∙ ap (λ t. t || list_any F (visible_entries a (first_of_each b))) (sym c.has_value.ensures.value ∙ c.if-has_value.false));
+    }

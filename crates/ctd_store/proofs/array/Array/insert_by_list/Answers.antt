@@ -1,25 +1,39 @@
-use Rattle.std.proofs.Common.{ap, sym, ◌∙◌}
-use Rattle.std.proofs.lemmas.Result.{on_ok_weaker}
-use Rattle.std.specs.FinMap.{put}
-use Rattle.ctd_store.specs.Order.{values_cmp}
-use Rattle.ctd_store.specs.calls.Store.{with_scalar}
+use Rattle.std.proofs.Common.{[], ◌∷◌, ◌++◌, cond, Some, Ok, ap, subst, sym, ◌∙◌}
+use Rattle.std.specs.FinMap.{find}
+use Rattle.ctd_store.specs.calls.Index.{indices_at}
+use Rattle.ctd_store.specs.calls.Store.{by_indices}
 use Rattle.ctd_store.specs.calls.ValueRef.{value_of_ref}
-use Rattle.ctd_store.proofs.Scalar.{is_empty, has_indices, written_scalar, written_indexed, indexed_after}
+use Rattle.ctd_store.specs.calls.Places.{listed, placed}
+use Rattle.ctd_store.specs.inner.Reading.{ReadsAs}
+use Rattle.ctd_store.specs.Order.{values_cmp}
+use Rattle.ctd_store.specs.inner.OrderLaws.{exact_lists}
+use Rattle.ctd_store.proofs.Reading.{differs}
+use Rattle.ctd_store.proofs.Listed.{inserted, put_first, put_second}
 use Rattle.ctd_store.proofs.array.Array.insert_by_list.Goals as goal
 
-pub returns-then-is_empty-clause-ok : goal.returns-then-is_empty-clause-ok
-returns-then-is_empty-clause-ok c = on_ok_weaker c.set_scalar.result (λ e.
-    ap (λ a. with_scalar a c.self.inside.indexed) e
-    ∙ written_scalar (value_of_ref c.args.value) c.self.inside.scalar c.self.inside.indexed c.self.invariant
-    ∙ ap (put values_cmp _ (value_of_ref c.args.value)) c.self.view_is
-    ∙ ap (λ q. put values_cmp q (value_of_ref c.args.value) c.args.self.now) (sym (is_empty c.args.indices.now (sym c.is_empty.ensures ∙ c.if-is_empty.true)))) c.set_scalar.ensures.ok
+pub returns-then-branch-clause-ok : goal.returns-then-branch-clause-ok
+returns-then-branch-clause-ok c =
+    let same = c.as_slice-indices.ensures.value ∙ c.to_indices-indices.ensures.same in
+    put_first (indices_at c.args.index) (value_of_ref c.args.value) (placed c.insert.new.self) (placed c.self.inside.places) (listed c.self.inside.rest.entries) c.args.self.now c.self.view_is
+    (subst (λ k. ReadsAs (placed c.insert.new.self) ((k, value_of_ref c.args.value) ∷ placed c.self.inside.places)) same (c.in_ok-insert.ensures.done (ap Ok c.if-branch.true)))
 
-pub invariant_of-self-else-is_empty : goal.invariant_of-self-else-is_empty
-invariant_of-self-else-is_empty c = indexed_after c.insert.result c.args.indices.now (value_of_ref c.args.value) c.self.inside.indexed c.insert.new.self (has_indices c.args.indices.now (sym c.is_empty.ensures ∙ c.if-is_empty.false)) c.self.invariant
-    c.insert.ensures.ok c.insert.ensures.err
+pub returns-clause-ok : goal.returns-clause-ok
+returns-clause-ok c =
+    let same = c.as_slice-indices.ensures.value ∙ c.to_indices-indices.ensures.same in
+    let entries = c.self.inside.rest.entries in
+    ap (λ a. by_indices (a ++ listed c.insert-2.new.self.entries)) (c.in_ok-insert.ensures.stays (ap Ok c.if-branch.false))
+    ∙ put_second (indices_at c.args.index) (value_of_ref c.args.value) (placed c.self.inside.places) (listed c.insert-2.new.self.entries) (listed entries) c.args.self.now c.self.view_is
+    (ap (λ q. find values_cmp q (placed c.self.inside.places)) (sym same) ∙ c.in_ok-insert.ensures.elsewhere (ap Ok c.if-branch.false))
+    (λ q.
+    ap (λ es. find values_cmp q (listed es)) c.in_ok-insert-2.ensures.entries
+    ∙ inserted entries c.in_ok-list.list c.in_ok-value.value q
+    ∙ (λ i. find values_cmp q (((c.in_ok-list.ensures.same ∙ same) i, c.in_ok-value.ensures.same i) ∷ listed entries)))
 
-pub returns-else-is_empty-clause-ok : goal.returns-else-is_empty-clause-ok
-returns-else-is_empty-clause-ok c = on_ok_weaker c.insert.result (λ e.
-    ap (with_scalar c.self.inside.scalar) e
-    ∙ written_indexed c.args.indices.now (value_of_ref c.args.value) c.self.inside.scalar c.self.inside.indexed (has_indices c.args.indices.now (sym c.is_empty.ensures ∙ c.if-is_empty.false)) c.self.invariant
-    ∙ ap (put values_cmp c.args.indices.now (value_of_ref c.args.value)) c.self.view_is) c.insert.ensures.ok
+pub invariant_of-self-2 : goal.invariant_of-self-2
+invariant_of-self-2 c =
+    let entries = c.self.inside.rest.entries in
+    let list = c.in_ok-list.list.items in
+    ap (λ es. find values_cmp [] (listed es)) c.in_ok-insert-2.ensures.entries
+    ∙ inserted entries c.in_ok-list.list c.in_ok-value.value []
+    ∙ ap (λ t. cond t (Some c.in_ok-value.value) (find values_cmp [] (listed entries))) (differs exact_lists [] list (λ e. c.in_ok-insert.ensures.indexed (ap Ok c.if-branch.false) (sym (e ∙ c.in_ok-list.ensures.same))))
+    ∙ c.self.invariant

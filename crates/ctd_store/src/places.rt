@@ -1,0 +1,210 @@
+//! The values of an array that are found without a map: the one without indices, a row and a grid.
+
+ghost use Rattle.std.specs.Prelude.{◌≡◌, ◌≢◌, ◌++◌, ◌∷◌, [], map, true, false, None, Some, Ok, OnOk, OnErr};
+ghost use Rattle.std.specs.List.{list_any};
+ghost use Rattle.std.specs.Option.{option_copied, IfSome};
+ghost use Rattle.std.specs.FinMap.{find};
+ghost use Rattle.ctd_store.specs.calls.Index.{indices_at};
+ghost use Rattle.ctd_store.specs.calls.Showing.{entry};
+ghost use Rattle.ctd_store.specs.calls.Store.{numbered};
+ghost use Rattle.ctd_store.specs.calls.ValueRef.{value_of_ref};
+ghost use Rattle.ctd_store.specs.calls.Places.{placed, scalar_entry};
+ghost use Rattle.ctd_store.specs.inner.Reading.{ReadsAs};
+ghost use Rattle.ctd_store.specs.Order.{values_cmp, same_value};
+
+use crate::array::add_entry;
+use crate::grid::Grid;
+use crate::index::{Index, Indices};
+use crate::line::{Line, Row};
+use crate::store::EntryRef;
+use crate::value::Value;
+use crate::value_ref::ValueRef;
+use std::alloc::{AllocError, Global};
+use std::mem::replace;
+
+/// Values at no index, at one number and at two numbers.
+#[derive(Drop)]
+pub(crate) struct Places {
+    // The value without indices, which is asked for most.
+    pub(crate) scalar: Option<Value>,
+    // From 0, from 1 or from behind a pin on.
+    pub(crate) row: Line,
+    pub(crate) grid: Grid,
+}
+
+impl Places {
+    /// No values; takes no memory.
+    pub(crate) fn new(alloc: Global) -> Places
+        ensures empty { placed result ≡ [] }
+    {
+        Places {
+            scalar: None,
+            row: Line::new(alloc),
+            grid: Grid::new(alloc),
+        }
+    }
+
+    /// The value at an index whose numbers stand as such. `None` means: take the general path. Allocates nothing.
+    #[inline(always)]
+    pub(crate) fn at(&self, index: Index<'_>) -> Option<&Value>
+        ensures value { IfSome result (λ value. find values_cmp (indices_at index.entry) (placed self.now) ≡ Some value.now) }
+    {
+        match index {
+            Index::Scalar => self.scalar.as_ref(),
+            Index::One(number) => self.row.at(number),
+            Index::Two(row, column) => self.grid.at(row, column),
+            Index::List(_) => None,
+        }
+    }
+
+    /// The value at an index list. Allocates nothing.
+    pub(crate) fn get(&self, indices: &[Value]) -> Option<&Value>
+        ensures value { option_copied result ≡ find values_cmp indices.now (placed self.now) }
+    {
+        match indices {
+            [] => self.scalar.as_ref(),
+            [index] => self.row.get(index),
+            [row, column] => self.grid.get(row, column),
+            _ => None,
+        }
+    }
+
+    /// The row, where there is nothing else.
+    pub(crate) fn row_alone(&self) -> Option<Row<'_>>
+        ensures value { IfSome result (λ row. placed self.now ≡ numbered [] row.base row.values.now) }
+    {
+        if self.scalar.is_some() {
+            return None;
+        }
+        if !self.grid.rows.is_empty() {
+            return None;
+        }
+        Some(Row {
+            base: self.row.base,
+            values: &self.row.values,
+        })
+    }
+
+    /// Gives an index whose numbers stand as such a value, where that has a place or one just behind the others of a row, and tells whether it
+    /// did. Else all is as it was; so it is after an error.
+    #[inline(always)]
+    pub(crate) fn write(
+        &mut self,
+        alloc: Global,
+        index: Index<'_>,
+        value: ValueRef<'_>,
+    ) -> Result<bool, AllocError>
+        ensures done { result ≡ Ok true → ReadsAs (placed self.new) ((indices_at index.entry, value_of_ref value.entry) ∷ placed self.old) }
+        ensures stays { result ≡ Ok false → placed self.new ≡ placed self.old }
+        ensures err { OnErr result (placed self.new ≡ placed self.old) }
+    {
+        match index {
+            Index::Scalar => write_scalar(alloc, &mut self.scalar, value),
+            Index::One(number) => self.row.write(alloc, number, value),
+            Index::Two(row, column) => self.grid.write(alloc, row, column, value),
+            Index::List(_) => Ok(false),
+        }
+    }
+
+    /// Gives an index list a value, where that has a place here or begins one, and tells whether it did. Else all is as it was; so it is after
+    /// an error.
+    pub(crate) fn insert(
+        &mut self,
+        alloc: Global,
+        indices: &[Value],
+        value: ValueRef<'_>,
+    ) -> Result<bool, AllocError>
+        ensures done { result ≡ Ok true → ReadsAs (placed self.new) ((indices.now, value_of_ref value.entry) ∷ placed self.old) }
+        ensures stays { result ≡ Ok false → placed self.new ≡ placed self.old }
+        ensures elsewhere { result ≡ Ok false → find values_cmp indices.now (placed self.old) ≡ None }
+        ensures indexed { result ≡ Ok false → indices.now ≢ [] }
+        ensures err { OnErr result (placed self.new ≡ placed self.old) }
+    {
+        match indices {
+            [] => {
+                drop(replace(&mut self.scalar, Some(value.to_value(alloc)?)));
+                Ok(true)
+            }
+            [index] => self.row.insert(alloc, index, value),
+            [row, column] => self.grid.insert(alloc, row, column, value),
+            _ => Ok(false),
+        }
+    }
+
+    /// Removes all values; a short row keeps its room for the next ones.
+    pub(crate) fn clear(&mut self)
+        ensures empty { placed self.new ≡ [] }
+    {
+        drop(replace(&mut self.scalar, None));
+        self.row.clear();
+        self.grid.clear();
+    }
+
+    /// Adds the entries to others.
+    pub(crate) fn add_entries<'s>(
+        &'s self,
+        entries: &mut Vec<EntryRef<'s>>,
+    ) -> Result<(), AllocError>
+        ensures added { OnOk result (map entry entries.new.items ≡ map entry entries.old.items ++ placed self.now) }
+    {
+        add_scalar(&self.scalar, entries)?;
+        self.row.add_entries(None, entries)?;
+        self.grid.add_entries(entries)
+    }
+
+    /// Whether a value is among these. Allocates nothing.
+    pub(crate) fn has_value(&self, value: ValueRef<'_>) -> bool
+        ensures value { result ≡ list_any (λ e. same_value (value_of_ref value.entry) e.1) (placed self.now) }
+    {
+        if is_scalar(&self.scalar, value) {
+            return true;
+        }
+        if value.is_among(&self.row.values) {
+            return true;
+        }
+        self.grid.has_value(value)
+    }
+}
+
+/// Puts a value in the place of another, if there is one, and tells whether it did. Else all is as it was; so it is after an error.
+#[inline(always)]
+fn write_scalar(
+    alloc: Global,
+    scalar: &mut Option<Value>,
+    value: ValueRef<'_>,
+) -> Result<bool, AllocError>
+    ensures done { result ≡ Ok true → scalar.new ≡ Some (value_of_ref value.entry) }
+    ensures stays { result ≡ Ok false → scalar.new ≡ scalar.old }
+    ensures err { OnErr result (scalar.new ≡ scalar.old) }
+{
+    match scalar {
+        Some(stored) => {
+            value.put_into(alloc, stored)?;
+            Ok(true)
+        }
+        None => Ok(false),
+    }
+}
+
+/// Adds the entry of a value without indices, if there is one, to others.
+fn add_scalar<'s>(
+    scalar: &'s Option<Value>,
+    entries: &mut Vec<EntryRef<'s>>,
+) -> Result<(), AllocError>
+    ensures added { OnOk result (map entry entries.new.items ≡ map entry entries.old.items ++ scalar_entry scalar.now) }
+{
+    match scalar {
+        Some(value) => add_entry(Indices::List(&[]), value, entries),
+        None => Ok(()),
+    }
+}
+
+/// Whether a value is the one without indices.
+fn is_scalar(scalar: &Option<Value>, value: ValueRef<'_>) -> bool
+    ensures value { result ≡ list_any (λ e. same_value (value_of_ref value.entry) e.1) (scalar_entry scalar.now) }
+{
+    match scalar {
+        Some(stored) => value.is_same(stored),
+        None => false,
+    }
+}
