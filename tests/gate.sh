@@ -24,6 +24,7 @@ if [ "$failed" -eq 0 ]; then
     count tests/process.sh
     count tests/lint.py
     count tests/verdicts.py
+    count tests/verdicts.py --lint
     count tests/failing_calls.py
     count tests/reads.py
     count tests/allocations.py

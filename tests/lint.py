@@ -2,7 +2,8 @@
 """Runs the built ctd-lint on the rows of tests/lint.toml, on all examples, and on the programs of the documents.
 
 A row has a program, further words of the command line, and the findings that it has to tell: the line and the column of a command, the kind, and the
-name of a variable. `{3 ab}` in a program stands for `ababab`, and each `@` in such a text for the number of its turn. A row of the table `refusals`
+name of a variable. Where it has `traps`, these are told behind the findings, and `verdict` is the line that --verdicts asks for; else all kinds of
+traps are left out. `{3 ab}` in a program stands for `ababab`, and each `@` in such a text for the number of its turn. A row of the table `refusals`
 has the line on standard error in place of the findings, and one of `calls` has several programs. What lists the kinds lists all of them. Programs of
 a megabyte are timed too.
 The last line counts passed and failed. usage: tests/lint.py [PROGRAM]"""
@@ -25,7 +26,7 @@ TOP = Path(__file__).resolve().parent.parent
 LINTER = TOP / "crates/ctd_lint/out/ctd_lint"
 OUT_OF_TIME = 60
 # What a program of a megabyte may take, in processor seconds, and how often it is tried: the least counts.
-TIME_LIMIT = 0.2
+TIME_LIMIT = 0.5
 TRIES = 5
 MEGABYTE = 1_048_576
 
@@ -48,21 +49,25 @@ Hostile = tuple[str, str, int]
 Table = dict[str, Any]
 
 
-def told(table: Table, findings: list[list[Any]]) -> Left:
-    """What a program with these findings leaves."""
+def told(table: Table, findings: list[list[Any]], verdict: str | None = None) -> Left:
+    """What a program with these findings and traps leaves, and with this said of verdicts."""
     lines, status = "", 0
     for line, column, kind, *names in findings:
-        rank, text = table["kinds"][kind]
+        rank, text = (table["kinds"] | table["traps"])[kind]
         about = "".join(f": {unfolded(name)}" for name in names)
         lines += f"F:{line}:{column}: {rank}: {text}{about} [{kind}]\n"
         status = max(status, int(rank == "warning"))
+    if verdict is not None:
+        lines += f"F: {verdict}\n"
     return status, lines, ""
 
 
 def rows(table: Table) -> Iterator[Case]:
     """The rows of the table."""
+    no_traps = ["--ignore=" + ",".join(table["traps"])]
     for row in table["findings"]:
-        yield f"row {row['program']}", unfolded(row["program"]), row.get("words", []), told(table, row["findings"])
+        words = row.get("words", []) + ([] if "traps" in row else no_traps)
+        yield f"row {row['program']}", unfolded(row["program"]), words, told(table, row["findings"] + row.get("traps", []), row.get("verdict"))
     for row in table["refusals"]:
         yield f"row {row['program']}", unfolded(row["program"]), row.get("words", []), (2, "", row["line"] + "\n")
 
@@ -94,6 +99,8 @@ def hostile() -> Iterator[Hostile]:
     yield "one long expression", "ASSERT(" + "1+" * (MEGABYTE // 2 - 8) + "1==0)", 2
     yield "one long pattern", 'REGEX("' + "[" * (MEGABYTE - 16) + '")', 2
     yield "counts in a pattern", 'STRING("x") ' + 'REGEX("a{1,}")' * 1000, 0
+    yield "loops in loops", "INT(0,9,n) " + "REP(n) " * 199 + "SET(skip=n)" + " END" * 199, 0
+    yield "many loops", "INT(0,9,n) " + "REP(n) SET(skip=n) END " * (MEGABYTE // 23 - 2), 0
     yield "one name many times", "SET(n=1) ASSERT(n==1) UNSET(" + ",".join("n" for _ in range(MEGABYTE // 2 - 20)) + ")", 0
 
 
@@ -146,7 +153,7 @@ def outcomes(linter: Linter, table: Table) -> Iterator[tuple[str, object, object
         wanted = (call["status"], call.get("out", ""), call.get("err", ""))
         yield f"call {call['words']}", wanted, linter.run_on(call["files"], call["words"])
     for file, beginning in LISTS.items():
-        yield f"the kinds in {file}", sorted(table["kinds"]), listed(file, beginning)
+        yield f"the kinds in {file}", sorted(table["kinds"] | table["traps"]), listed(file, beginning)
     for name, text, wanted_status in hostile():
         status, seconds = linter.least_time(text)
         in_time = "in time" if seconds < TIME_LIMIT else f"after {seconds:.2f} s"

@@ -1,54 +1,103 @@
 #!/usr/bin/env python3
 """Springs the traps of the programs of tests/verdicts/ with the built checker: a run on the data of a row of programs.toml stops by the fault and at
-the place of the row.
+the place of the row. With --lint the built ctd-lint reads all programs there: it tells the trap of the row, and of other traps, but for those of
+elements and of arrays in UNIQUE, just the `reports` of the row, which no data are known to spring.
 
-The last line counts what passed and failed. usage: tests/verdicts.py [PROGRAM]"""
+The last line counts what passed and failed. usage: tests/verdicts.py [--lint] [PROGRAM]"""
 from __future__ import annotations
 
+import re
 import subprocess
 import sys
 import tomllib
 from collections.abc import Iterator
-from dataclasses import dataclass
+from dataclasses import dataclass, field
 from pathlib import Path
 
-from results import TOP, checker_to_test, print_results
+from results import TOP, checker_to_test, linter_to_test, print_results
 
 FOLDER = TOP / "tests/verdicts"
 
+# The kinds of traps of ctd-lint that stand for each fault.
+KINDS = {
+    "variable has no value": ["no-value-here", "no-element-here"],
+    "wrong type": ["wrong-type-here"],
+    "number overflow": ["overflow"],
+    "division by zero": ["division-by-zero"],
+    "bad exponent": ["bad-exponent"],
+    "bad count": ["bad-count"],
+    "arrays have different indices": ["other-shape"],
+}
+NOT_COVERED = ["no-element-here", "other-shape"]
+TRAP_KINDS = [kind for kinds in KINDS.values() for kind in kinds]
+LINE = re.compile(r".*:(\d+):(\d+): (?:warning|note): .* \[([a-z-]+)\]")
+
+# The line and the column of a command, and the kind of a trap.
+Told = tuple[int, int, str]
+
 
 @dataclass(frozen=True)
-class Trap:
-    """A program with data that spring its trap, and how the run stops."""
+class Row:
+    """A program, with the data that spring its trap, if it has one, how the run then stops, and what else ctd-lint tells."""
 
     name: str
-    data: str
-    fault: str
-    line: int
-    column: int
+    data: str | None = None
+    fault: str = ""
+    line: int = 0
+    column: int = 0
+    reports: list[list[int | str]] = field(default_factory=list)
 
 
-def traps() -> list[Trap]:
-    """The programs that have a trap."""
-    rows = tomllib.loads((FOLDER / "programs.toml").read_text())["program"]
-    return [Trap(**row) for row in rows if "data" in row]
+def rows() -> list[Row]:
+    return [Row(**row) for row in tomllib.loads((FOLDER / "programs.toml").read_text())["program"]]
 
 
-def faults_of(checker: Path, trap: Trap) -> Iterator[str]:
+def faults_of_run(checker: Path, row: Row) -> Iterator[str]:
     """How the run on the data ends in another way."""
-    run = subprocess.run([checker, FOLDER / f"{trap.name}.ctd"], input=trap.data.encode(), capture_output=True, check=False)
-    end = f": {trap.fault} (program line {trap.line} column {trap.column})"
+    data = (row.data or "").encode()
+    run = subprocess.run([checker, FOLDER / f"{row.name}.ctd"], input=data, capture_output=True, check=False)
+    end = f": {row.fault} (program line {row.line} column {row.column})"
     if run.returncode != 2:
         yield f"the status is {run.returncode}, wanted 2"
     if not run.stderr.decode().strip().endswith(end):
         yield f"says {run.stderr.decode()!r}, wanted {end!r}"
 
 
-def results() -> Iterator[tuple[str, list[str]]]:
-    checker = checker_to_test()
-    for trap in traps():
-        yield trap.name, list(faults_of(checker, trap))
+def traps_told(linter: Path, row: Row) -> list[Told]:
+    """The traps that ctd-lint tells of a program, those of elements among them."""
+    run = subprocess.run([linter, "--elements", FOLDER / f"{row.name}.ctd"], capture_output=True, text=True, check=False)
+    found = [match for line in run.stdout.splitlines() if (match := LINE.fullmatch(line))]
+    return [(int(m[1]), int(m[2]), m[3]) for m in found if m[3] in TRAP_KINDS]
+
+
+def faults_of_lint(linter: Path, row: Row) -> Iterator[str]:
+    """The trap that is not told, and what else is told and not in the row, or in the row and not told."""
+    told = traps_told(linter, row)
+    planted = [(row.line, row.column, kind) for kind in KINDS.get(row.fault, [])]
+    if planted and not set(planted) & set(told):
+        yield f"does not tell the {row.fault} at {row.line}:{row.column}"
+    others = sorted(trap for trap in told if trap not in planted and trap[2] not in NOT_COVERED)
+    reports = sorted(tuple(report) for report in row.reports)
+    if others != reports:
+        yield f"tells {others}, wanted {reports}"
+
+
+def results(checker: Path) -> Iterator[tuple[str, list[str]]]:
+    for row in rows():
+        if row.data is not None:
+            yield row.name, list(faults_of_run(checker, row))
+
+
+def results_of_lint(linter: Path) -> Iterator[tuple[str, list[str]]]:
+    for row in rows():
+        yield row.name, list(faults_of_lint(linter, row))
+
+
+def main() -> int:
+    if sys.argv[1:2] == ["--lint"]:
+        return print_results("verdicts --lint", results_of_lint(linter_to_test()))
+    return print_results("verdicts", results(checker_to_test()))
 
 
 if __name__ == "__main__":
-    sys.exit(print_results("verdicts", results()))
+    sys.exit(main())

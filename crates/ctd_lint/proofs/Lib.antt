@@ -2,3 +2,4 @@ pub mod Reports
 pub mod UsageWritten
 pub mod UsageFaults
 pub mod RunLemmas
+pub mod Outlook

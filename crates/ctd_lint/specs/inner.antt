@@ -1,6 +1,8 @@
 -- What only the proofs of this crate use.
 pub mod CommandLine
+pub mod Kinds
 pub mod Text
+pub mod Traps
 pub mod Report
 pub mod Opening
 pub mod FileReport

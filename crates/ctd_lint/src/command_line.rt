@@ -5,14 +5,14 @@ ghost use Rattle.clap.specs.Words.{FailsBy, Text, all_of, app_of, fault_of, firs
 ghost use Rattle.ctd_arguments.specs.CommandLine.{define_rule};
 ghost use Rattle.ctd_arguments.specs.inner.RequiredProgram.{IsLocal};
 ghost use Rattle.ctd_arguments.specs.Settings.{ArePresetsOf};
-ghost use Rattle.ctd_arguments.specs.Usage.{IsBadPreset};
-ghost use Rattle.ctd_findings.specs.calls.Kinds.{kind_named};
-ghost use Rattle.ctd_lint.specs.inner.CommandLine.{AreKindsOf, IsLintSetup, ignore_rule, linter, parts, programs_rule};
+ghost use Rattle.ctd_arguments.specs.Usage.{IsBadPreset, is_on};
+ghost use Rattle.ctd_lint.specs.inner.CommandLine.{AreKindsOf, IsLintSetup, elements_rule, ignore_rule, linter, parts, programs_rule, verdicts_rule};
+ghost use Rattle.ctd_lint.specs.inner.Kinds.{lint_kind_named};
 ghost use Rattle.ctd_lint.specs.inner.Usage.{IsFoundIn, IsLintFault, TellsUnknown, fault_by_kind, first_unknown, unknown_in};
 
+use crate::kind::LintKind;
 use clap::error::ErrorKind;
 use clap::{Arg, ArgAction, ArgMatches, Command, Error};
-use ctd_findings::Kind;
 use ctd_program::{PresetFault, Presets};
 use ctd_token::Bytes;
 use std::alloc::{AllocError, Global};
@@ -25,8 +25,12 @@ pub(crate) struct LintSetup {
     pub(crate) programs: Vec<Bytes>,
     /// The names that presets give values.
     pub(crate) presets: Presets,
-    /// The kinds of findings that are left out.
-    pub(crate) ignored: Vec<Kind>,
+    /// The kinds that are left out.
+    pub(crate) ignored: Vec<LintKind>,
+    /// Whether a line tells of verdicts.
+    pub(crate) verdicts: bool,
+    /// Whether the traps of elements and of arrays in UNIQUE are shown too.
+    pub(crate) elements: bool,
 }
 
 /// Why the words ask for no program.
@@ -36,7 +40,7 @@ pub(crate) enum LintFault {
     Words,
     /// The text of the presets spells none.
     BadPreset,
-    /// There is no kind of findings of this name.
+    /// There is no kind of this name.
     UnknownKind(Bytes),
     /// The help is asked for.
     Help,
@@ -77,6 +81,26 @@ fn ignore_option<'a>(alloc: Global) -> Arg<'a>
         .action(ArgAction::Set)
 }
 
+/// The flag that asks for the line about verdicts.
+fn verdicts_flag<'a>(alloc: Global) -> Arg<'a>
+    ensures rule { rule_of result ≡ verdicts_rule }
+    ensures local { IsLocal result }
+{
+    Arg::new(alloc, "verdicts")
+        .long("verdicts")
+        .action(ArgAction::SetTrue)
+}
+
+/// The flag that asks for elements and arrays in UNIQUE.
+fn elements_flag<'a>(alloc: Global) -> Arg<'a>
+    ensures rule { rule_of result ≡ elements_rule }
+    ensures local { IsLocal result }
+{
+    Arg::new(alloc, "elements")
+        .long("elements")
+        .action(ArgAction::SetTrue)
+}
+
 /// The names of the programs' files, of which one has to be there.
 fn program_names<'a>(alloc: Global) -> Arg<'a>
     ensures rule { rule_of result ≡ programs_rule }
@@ -94,6 +118,8 @@ fn command<'a>(alloc: Global) -> Result<Command<'a>, AllocError>
     let arguments = vec![in alloc;
         define_option(alloc),
         ignore_option(alloc),
+        verdicts_flag(alloc),
+        elements_flag(alloc),
         program_names(alloc),
     ]?;
     Command::new(alloc, "ctd-lint")
@@ -147,6 +173,16 @@ fn value_of<'a>(matches: &ArgMatches<'a>, name: &str) -> Option<&'a str>
     matches.get_str(name)
 }
 
+/// Whether the words give a flag.
+fn is_set(matches: &ArgMatches<'_>, name: &str) -> bool
+    ensures { result ≡ is_on name.now (rows_of (found_of matches.now)) }
+{
+    match value_of(matches, name) {
+        Some(value) => value == "true",
+        None => false,
+    }
+}
+
 /// The values that the words give to an option or an argument, if it is there.
 fn values_of<'m, 'a>(matches: &'m ArgMatches<'a>, name: &str) -> Option<&'m [&'a str]>
     ensures { option_map (λ vs. map (λ v. v.now) vs.now) result ≡ all_of name.now (rows_of (found_of matches.now)) }
@@ -178,13 +214,13 @@ fn parts_of<'t>(alloc: Global, text: &'t str) -> Result<Vec<&'t str>, AllocError
 }
 
 /// The kinds of some names.
-fn kinds_named(alloc: Global, names: &[&str]) -> Result<Vec<Kind>, LintFault>
-    ensures kinds { IfOk result (λ kinds. map Some kinds.items ≡ map kind_named (map (λ name. name.now) names.now)) }
+fn kinds_named(alloc: Global, names: &[&str]) -> Result<Vec<LintKind>, LintFault>
+    ensures kinds { IfOk result (λ kinds. map Some kinds.items ≡ map lint_kind_named (map (λ name. name.now) names.now)) }
     ensures fault { IfErr result (λ f. (f ≡ LintFault.Memory) ⊎ TellsUnknown (first_unknown (map (λ name. name.now) names.now)) f) }
 {
     let mut kinds = Vec::new(alloc);
     for name in names {
-        let Some(kind) = Kind::named(name) else {
+        let Some(kind) = LintKind::named(name) else {
             return Err(LintFault::UnknownKind(Bytes::copy(alloc, name.as_bytes())?));
         };
         let Ok(()) = kinds.push(kind) else {
@@ -195,7 +231,7 @@ fn kinds_named(alloc: Global, names: &[&str]) -> Result<Vec<Kind>, LintFault>
 }
 
 /// The kinds that are left out.
-fn kinds_of(alloc: Global, text: Option<&str>) -> Result<Vec<Kind>, LintFault>
+fn kinds_of(alloc: Global, text: Option<&str>) -> Result<Vec<LintKind>, LintFault>
     ensures kinds { IfOk result (λ kinds. AreKindsOf (option_map (λ t. t.now) text.entry) kinds.items) }
     ensures fault { IfErr result (λ f. (f ≡ LintFault.Memory) ⊎ TellsUnknown (unknown_in (option_map (λ t. t.now) text.entry)) f) }
 {
@@ -247,10 +283,12 @@ fn setup_of(alloc: Global, matches: &ArgMatches<'_>) -> Result<LintSetup, LintFa
         programs,
         presets,
         ignored,
+        verdicts: is_set(matches, "verdicts"),
+        elements: is_set(matches, "elements"),
     })
 }
 
-/// What the words ask for: after the program's own name the two options, and PROGRAM once or more.
+/// What the words ask for: after the program's own name the options and flags, and PROGRAM once or more.
 ///
 /// The first of these that applies is the fault: a word that is not UTF-8 (Words); what clap refuses, or answers with the
 /// help or the version (Words, Help, Version); BadPreset; UnknownKind. Memory may come at any of them.

@@ -1,12 +1,14 @@
-//! The ctd-lint program: tells what a program of the checktestdata language cannot mean.
+//! The ctd-lint program: tells what a program of the checktestdata language cannot mean, and where it may stop without a verdict.
 #![tactic(auto)]
 
 mod command_line;
 mod files;
+mod kind;
 mod lint;
 mod process;
 mod programs;
 mod text;
+mod traps;
 mod usage;
 
 use ctd_process::System;

@@ -3,6 +3,7 @@
 ghost use Rattle.std.specs.Prelude.{◌≡◌, ◌++◌, decimal, OnOk, IfOk};
 ghost use Rattle.ctd_lint.specs.inner.Text.{error_line, fault_place_text, finding_line, findings_lines, is_ignored, kept, kind_text, name_text, open_line, place_text, rank_text, remark_text};
 
+use crate::kind::LintKind;
 use ctd_findings::{Finding, Kind, Rank, Remark};
 use ctd_token::{Bytes, LoadFault, Place};
 use itoa::Buffer;
@@ -39,7 +40,7 @@ fn kind_text(kind: Kind) -> &'static str
 }
 
 /// The word of a rank.
-fn rank_text(rank: Rank) -> &'static str
+pub(crate) fn rank_text(rank: Rank) -> &'static str
     ensures { result.now ≡ rank_text rank }
 {
     match rank {
@@ -80,7 +81,7 @@ fn write_number(number: u32, text: &mut Vec<u8>) -> Result<(), AllocError>
 }
 
 /// Appends a place behind the name of a file.
-fn write_place(place: Place, text: &mut Vec<u8>) -> Result<(), AllocError>
+pub(crate) fn write_place(place: Place, text: &mut Vec<u8>) -> Result<(), AllocError>
     ensures { OnOk result (text.new.items ≡ text.old.items ++ place_text place) }
 {
     text.push(b':')?;
@@ -100,12 +101,12 @@ fn write_finding(file: &[u8], finding: &Finding, text: &mut Vec<u8>) -> Result<(
     write_remark(&finding.remark, text)
 }
 
-/// Whether findings of a kind are left out.
-pub(crate) fn is_ignored(kind: Kind, ignored: &[Kind]) -> bool
-    ensures { result ≡ is_ignored ignored.now kind }
+/// Whether what has a kind of this name is left out.
+pub(crate) fn is_ignored(name: &str, ignored: &[LintKind]) -> bool
+    ensures { result ≡ is_ignored ignored.now name.now }
 {
     for left_out in ignored {
-        if left_out.name() == kind.name() {
+        if left_out.name() == name {
             return true;
         }
     }
@@ -117,13 +118,13 @@ pub(crate) fn findings_text(
     alloc: Global,
     file: &[u8],
     found: &[Finding],
-    ignored: &[Kind],
+    ignored: &[LintKind],
 ) -> Result<Vec<u8>, AllocError>
     ensures { IfOk result (λ text. text.items ≡ findings_lines file.now (kept ignored.now found.now)) }
 {
     let mut text = Vec::new(alloc);
     for finding in found {
-        if !is_ignored(finding.remark.kind, ignored) {
+        if !is_ignored(finding.remark.kind.name(), ignored) {
             write_finding(file, finding, &mut text)?;
         }
     }

@@ -15,9 +15,11 @@ use std::alloc::{AllocError, Global};
 /// The text of the help.
 const HELP: &str = "\
 Usage: ctd-lint [OPTION]... PROGRAM...
-Tell what each PROGRAM cannot mean: a line for each finding.
+Tell what each PROGRAM cannot mean, and where it may stop without a verdict.
   -D, --define=<name>=<value>[,...]  preset variables
       --ignore=<kind>[,...]          leave out findings of these kinds
+      --verdicts                     tell whether every data file gets a verdict
+      --elements                     show elements that may have no value too
   -h, --help                         show this text
   -V, --version                      show the version
 ";
@@ -34,7 +36,7 @@ const VERSION: &str = "ctd-lint 1.0 (whole-number profile)\n";
 /// What is written where memory ran out.
 const NO_MEMORY: &str = "ctd-lint: out of memory\n";
 
-/// What is written for a kind of findings that there is not.
+/// What is written for a kind that there is not.
 fn unknown_kind_text(alloc: Global, name: &Bytes) -> Result<Vec<u8>, AllocError>
     ensures { IfOk result (λ text. text.items ≡ unknown_kind_text name.now) }
 {
@@ -44,7 +46,7 @@ fn unknown_kind_text(alloc: Global, name: &Bytes) -> Result<Vec<u8>, AllocError>
     Ok(text)
 }
 
-/// Writes that there is no kind of findings of this name, and returns the status.
+/// Writes that there is no kind of this name, and returns the status.
 fn report_unknown_kind<O: Sink, E: Sink>(
     alloc: Global,
     name: &Bytes,

@@ -4,7 +4,7 @@ use ctd_program::{Action, Assignment, Command, Expr, Loop, LoopGuard, Names, Pre
 use std::alloc::{AllocError, Global};
 
 /// Names, which may come more than once.
-type List<'p> = Vec<&'p [u8]>;
+pub(crate) type List<'p> = Vec<&'p [u8]>;
 
 /// Adds the names in an expression.
 #[cycle(expr_names)]
@@ -159,18 +159,51 @@ fn add_loop<'p>(repeated: &'p Loop, names: &mut List<'p>) -> Result<(), AllocErr
     add_commands(body.as_slice(), names)
 }
 
-/// The names of a program and of presets, each once.
-pub(crate) fn names_of<'p>(
+/// How many commands there are, those in blocks among them.
+#[cycle(command_count)]
+fn count_commands(commands: &[Command]) -> usize {
+    let mut count: usize = 0;
+    for command in commands {
+        count = count.saturating_add(count_command(command));
+    }
+    count
+}
+
+/// How many commands a command is, those in it among them.
+#[cycle(command_count)]
+fn count_command(command: &Command) -> usize {
+    let within = match &command.action {
+        Action::Loop(repeated) => count_commands(repeated.body.as_slice()),
+        Action::If(choice) => {
+            let yes = count_commands(choice.then_do.as_slice());
+            yes.saturating_add(count_commands(choice.else_do.as_slice()))
+        }
+        _ => 0,
+    };
+    within.saturating_add(1)
+}
+
+/// The names of a program and of presets, each once, and what one pass over the program costs.
+#[derive(Drop)]
+pub(crate) struct Mentioned<'p> {
+    pub(crate) names: List<'p>,
+    pub(crate) cost: u64,
+}
+
+/// The names of a program and of presets, and the cost of a pass: that of a name for each command and for each place where one stands.
+pub(crate) fn mentioned_in<'p>(
     alloc: Global,
     commands: &'p [Command],
     presets: &'p Presets,
-) -> Result<Vec<&'p [u8]>, AllocError> {
+) -> Result<Mentioned<'p>, AllocError> {
     let mut names = Vec::new(alloc);
     add_commands(commands, &mut names)?;
     for preset in presets.pins() {
         names.push(preset.name.as_slice())?;
     }
+    let places = count_commands(commands).saturating_add(names.len()) as u64;
     names.sort()?;
     names.dedup();
-    Ok(names)
+    let cost = places.saturating_mul(names.len() as u64);
+    Ok(Mentioned { names, cost })
 }

@@ -7,18 +7,18 @@ ghost use Rattle.ctd_traps.specs.calls.Traps.{HasEachTrap, traps_of};
 ghost use Rattle.ctd_known.specs.calls.Facts.{MayBe, PinsStand};
 
 use crate::finding::Finding;
-use crate::names::names_of;
+use crate::names::{Mentioned, mentioned_in};
 use crate::walk::walk;
 use ctd_check::big_steps_are_the_run;
 use ctd_known::{
     Ground, Kinds, Known, Lengths, NameFacts, Stop, assign_alone, assign_element, copied,
 };
-use ctd_program::{Command, Literal, Preset, Presets, Program};
+use ctd_program::{Command, Literal, Preset, Presets};
 use ctd_range::Range;
 use std::alloc::{AllocError, Global};
 
-/// The most passes over bodies of loops.
-const BUDGET: u64 = 20_000;
+/// What the passes over a program may cost, where one costs as much as it has names at each command and at each place of a name.
+const BUDGET: u64 = 20_000_000;
 
 /// No values.
 const NONE: Kinds = Kinds {
@@ -112,6 +112,7 @@ fn findings_of<'p>(
     commands: &'p [Command],
     presets: &'p Presets,
     names: &[&'p [u8]],
+    passes: u64,
 ) -> Result<Vec<Finding>, Stop>
     ensures { IfOk result (λ found. HasEachTrap (command_trees commands.now) presets.now (traps_of found.items)) }
 {
@@ -127,7 +128,7 @@ fn findings_of<'p>(
         pinned: pinned.as_slice(),
     };
     let mut findings = Vec::new(alloc);
-    let mut budget = BUDGET;
+    let mut budget = passes;
     walk(
         commands,
         ground,
@@ -138,17 +139,21 @@ fn findings_of<'p>(
     Ok(findings)
 }
 
-/// The places at which a run of a program may stop by a fault of a value, whatever the data, the mode and the limit of steps; none where
-/// the program is too large to tell. An error where memory ran out.
+/// The places at which a run of some commands may stop by a fault of a value, whatever the data, the mode and the limit of steps; none where
+/// they are too large to tell. An error where memory ran out.
 pub fn traps<'p>(
     alloc: Global,
-    program: &'p Program,
+    commands: &'p [Command],
     presets: &'p Presets,
 ) -> Result<Option<TrapList<'p>>, AllocError>
-    ensures each { IfOk result (λ told. IfSome told (λ found. HasEachTrap (command_trees program.now) presets.now (traps_of found.findings.items))) }
+    ensures each { IfOk result (λ told. IfSome told (λ found. HasEachTrap (command_trees commands.now) presets.now (traps_of found.findings.items))) }
 {
-    let names = names_of(alloc, program.commands(), presets)?;
-    match findings_of(alloc, program.commands(), presets, names.as_slice()) {
+    let Mentioned { names, cost } = mentioned_in(alloc, commands, presets)?;
+    let passes = BUDGET / cost.max(1);
+    if passes == 0 {
+        return Ok(None);
+    }
+    match findings_of(alloc, commands, presets, names.as_slice(), passes) {
         Ok(findings) => Ok(Some(TrapList { findings, names })),
         Err(Stop::Memory) => Err(AllocError),
         Err(Stop::NotTold) => Ok(None),

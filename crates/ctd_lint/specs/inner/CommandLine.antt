@@ -3,16 +3,25 @@ use Rattle.std.specs.Prelude.{◌≡◌, List, [], Option, Some, None, true, cod
 use Rattle.std.specs.List.{slice_split}
 use Rattle.clap.specs.Words.{App, Rule, Text, all_of, fault_of, first_of, matches_of, new_app, new_rule, with_rule}
 use Rattle.clap.specs.Simple.{on_top}
-use Rattle.clap.specs.declared.builder.ArgAction.TheVariants.{Append, Set}
+use Rattle.clap.specs.declared.builder.ArgAction.TheVariants.{Append, Set, SetTrue}
 use Rattle.ctd_arguments.specs.CommandLine.{define_rule, option_rule}
 use Rattle.ctd_arguments.specs.Settings.{ArePresetsOf}
-use Rattle.ctd_findings.specs.declared.kind.Kind.{Kind}
-use Rattle.ctd_findings.specs.calls.Kinds.{kind_named}
+use Rattle.ctd_arguments.specs.Usage.{is_on}
 use Rattle.ctd_lint.specs.declared.command_line.LintSetup.{LintSetup}
+use Rattle.ctd_lint.specs.declared.kind.LintKind.{LintKind}
+use Rattle.ctd_lint.specs.inner.Kinds.{lint_kind_named}
 
 -- --ignore
 abbrev pub ignore_rule : Rule
 ignore_rule = option_rule (codes "ignore") None Set
+
+-- --verdicts
+abbrev pub verdicts_rule : Rule
+verdicts_rule = option_rule (codes "verdicts") None SetTrue
+
+-- --elements
+abbrev pub elements_rule : Rule
+elements_rule = option_rule (codes "elements") None SetTrue
 
 -- the names of the programs' files, of which one has to be there
 abbrev pub programs_rule : Rule
@@ -24,24 +33,26 @@ bare_linter = on_top (λ s. record s { has_version = true }) (new_app (codes "ct
 
 -- It is opened only by name: computed at words that are not known, what clap makes of it is very large.
 unfoldable pub linter : App
-linter = with_rule (with_rule (with_rule bare_linter define_rule) ignore_rule) programs_rule
+linter = with_rule (with_rule (with_rule (with_rule (with_rule bare_linter define_rule) ignore_rule) verdicts_rule) elements_rule) programs_rule
 
 -- the parts of a text between commas
 abbrev pub parts : Text → List Text
 parts text = slice_split (λ b. nat_eq b 44) text
 
 -- the kinds that a text names, with commas between them; none where there is no text
-abbrev pub AreKindsOf : Option Text → List Kind → Type 0
+abbrev pub AreKindsOf : Option Text → List LintKind → Type 0
 AreKindsOf None kinds = kinds ≡ []
-AreKindsOf (Some text) kinds = map Some kinds ≡ map kind_named (parts text)
+AreKindsOf (Some text) kinds = map Some kinds ≡ map lint_kind_named (parts text)
 
 -- the words are texts, and clap takes them
 abbrev pub IsTaken : List Text → Type 0
 IsTaken words = All IsUtf8 words × (fault_of linter words ≡ [])
 
--- the words are texts that clap takes, and name these programs, presets and kinds
+-- the words are texts that clap takes, name these programs, presets and kinds, and ask for this of verdicts and elements
 pub record IsLintSetup (words : List Text) (s : LintSetup) : Type 0 where
   pub taken : IsTaken words
   pub programs : all_of (codes "PROGRAM") (matches_of linter words) ≡ Some s.programs.items
   pub presets : ArePresetsOf (first_of (codes "define") (matches_of linter words)) s.presets
   pub ignored : AreKindsOf (first_of (codes "ignore") (matches_of linter words)) s.ignored.items
+  pub verdicts : s.verdicts ≡ is_on (codes "verdicts") (matches_of linter words)
+  pub elements : s.elements ≡ is_on (codes "elements") (matches_of linter words)

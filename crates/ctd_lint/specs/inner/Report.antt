@@ -1,6 +1,6 @@
 -- What ctd-lint writes of a program.
 use Rattle.ctd_findings.specs.declared.kind.Rank.TheVariants as ranks
-use Rattle.std.specs.Prelude.{◌≡◌, ◌⊎◌, ◌+◌, ◌≤◌, ℕ, List, [], ◌∷◌, length}
+use Rattle.std.specs.Prelude.{◌≡◌, ◌⊎◌, ◌+◌, ◌≤◌, ◌++◌, ℕ, List, [], ◌∷◌, length, max, Option, Some, None}
 use Rattle.ctd_source.specs.declared.source.Source.{Ghosts}
 use Rattle.ctd_source.specs.CursorCalls.{Gave}
 use Rattle.ctd_token.specs.declared.fault.LoadFault.{LoadFault}
@@ -13,7 +13,11 @@ use Rattle.ctd_findings.specs.declared.kind.Rank.{Rank}
 use Rattle.ctd_findings.specs.calls.Findings.{findings_of}
 use Rattle.ctd_findings.specs.calls.Kinds.{rank}
 use Rattle.ctd_lint.specs.declared.command_line.LintSetup.{LintSetup}
+use Rattle.ctd_traps.specs.declared.finding.Finding.{Finding as Trap}
+use Rattle.ctd_traps.specs.declared.program.TrapList.{TrapList}
+use Rattle.ctd_lint.specs.inner.Kinds.{trap_rank}
 use Rattle.ctd_lint.specs.inner.Text.{error_line, findings_lines, kept}
+use Rattle.ctd_lint.specs.inner.Traps.{AreTraps, kept_traps, told_lines}
 
 -- a source as a call begins and as it ends
 pub record Call {S : Type 0} (G : Ghosts S) : Type 0 where
@@ -34,17 +38,37 @@ abbrev pub findings_status : List Finding → ℕ
 findings_status [] = 0
 findings_status (f ∷ rest) = status_with (rank f.remark.kind) (findings_status rest)
 
--- the report of the findings in a file
-abbrev pub findings_report : List ℕ → List Finding → Report
-findings_report file fs = on_out (findings_lines file fs) (findings_status fs)
+-- the status: 1 where a trap is a warning, else 0
+abbrev pub traps_status : List Trap → ℕ
+traps_status [] = 0
+traps_status (t ∷ rest) = status_with (trap_rank t.kind) (traps_status rest)
 
--- the source gave the text of a program, and the report is that of the program's findings, but for those that are left out
+-- the status for the traps of a program that are shown
+abbrev pub told_status : LintSetup → Option TrapList → ℕ
+told_status setup None = 0
+told_status setup (Some list) = traps_status (kept_traps setup list.findings.items)
+
+-- the status for findings and traps: the greater one
+abbrev pub program_status : LintSetup → List Finding → Option TrapList → ℕ
+program_status setup found told = max (findings_status (kept setup.ignored.items found)) (told_status setup told)
+
+-- The lines of the findings, then those of the traps, and then the one that tells of verdicts, if it is asked for.
+abbrev pub program_lines : List ℕ → LintSetup → List Finding → Option TrapList → List ℕ
+program_lines file setup found told = findings_lines file (kept setup.ignored.items found) ++ told_lines file setup told
+
+-- the report of the findings and traps in a file
+abbrev pub program_report : List ℕ → LintSetup → List Finding → Option TrapList → Report
+program_report file setup found told = on_out (program_lines file setup found told) (program_status setup found told)
+
+-- The source gave the text of a program, and the report is that of the program's findings and of all its traps, but for those that are left out.
 pub record ReportsFindings {P : Type 0} {G : Ghosts P} (file : List ℕ) (setup : LintSetup) (program : Call G) (report : Report) : Type 0 where
   pub tree : CommandList
   pub text : List ℕ
   pub gave_text : Gave G program.old program.new text
   pub loads : Loads text (G.seen program.new) tree
-  pub report_is : report ≡ findings_report file (kept setup.ignored.items (findings_of tree setup.presets))
+  pub told : Option TrapList
+  pub traps : AreTraps tree setup.presets told
+  pub report_is : report ≡ program_report file setup (findings_of tree setup.presets) told
 
 -- the source gave a text that may fail so, and the report is that of this fault
 pub record ReportsRefusal {P : Type 0} {G : Ghosts P} (file : List ℕ) (program : Call G) (report : Report) : Type 0 where

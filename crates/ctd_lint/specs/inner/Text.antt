@@ -13,6 +13,8 @@ use Rattle.ctd_findings.specs.declared.finding.Remark.{Remark}
 use Rattle.ctd_findings.specs.declared.kind.Kind.{Kind}
 use Rattle.ctd_findings.specs.declared.kind.Rank.{Rank}
 use Rattle.ctd_findings.specs.calls.Kinds.{kind_name, rank}
+use Rattle.ctd_lint.specs.declared.kind.LintKind.{LintKind}
+use Rattle.ctd_lint.specs.inner.Kinds.{lint_kind_name}
 
 -- what a kind of findings says, without the name of a variable
 abbrev pub kind_text : Kind → List ℕ
@@ -64,14 +66,14 @@ abbrev pub findings_lines : List ℕ → List Finding → List ℕ
 findings_lines file [] = []
 findings_lines file (f ∷ rest) = finding_line file f ++ findings_lines file rest
 
--- whether findings of a kind are left out
-abbrev pub is_ignored : List Kind → Kind → Bool
-is_ignored ignored kind = list_any (λ k. bytes_eq (kind_name k) (kind_name kind)) ignored
+-- whether what has a kind of this name is left out
+abbrev pub is_ignored : List LintKind → List ℕ → Bool
+is_ignored ignored name = list_any (λ k. bytes_eq (lint_kind_name k) name) ignored
 
 -- the findings that are not left out
-abbrev pub kept : List Kind → List Finding → List Finding
+abbrev pub kept : List LintKind → List Finding → List Finding
 kept ignored [] = []
-kept ignored (f ∷ rest) = if is_ignored ignored f.remark.kind then kept ignored rest else f ∷ kept ignored rest
+kept ignored (f ∷ rest) = if is_ignored ignored (kind_name f.remark.kind) then kept ignored rest else f ∷ kept ignored rest
 
 -- the place of a fault, where it has one
 abbrev pub fault_place_text : Option Place → List ℕ

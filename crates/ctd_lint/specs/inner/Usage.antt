@@ -5,9 +5,9 @@ use Rattle.clap.specs.Words.{IsAmong, Row, Text, all_of, fault_of, first_of, mat
 use Rattle.clap.specs.declared.error.ErrorKind.{ErrorKind}
 use Rattle.clap.specs.declared.error.ErrorKind.TheVariants.{DisplayHelp, DisplayVersion, OutOfMemory}
 use Rattle.ctd_arguments.specs.Usage.{IsBadPreset, IsGoodPreset}
-use Rattle.ctd_findings.specs.calls.Kinds.{kind_named}
 use Rattle.ctd_lint.specs.declared.command_line.LintFault.{LintFault}
 use Rattle.ctd_lint.specs.inner.CommandLine.{IsTaken, linter, parts}
+use Rattle.ctd_lint.specs.inner.Kinds.{lint_kind_named}
 
 -- the fault for each kind of error of clap
 abbrev pub fault_by_kind : ErrorKind → LintFault
@@ -20,9 +20,9 @@ fault_by_kind _ = faults.Words
 abbrev pub IsFaultOfClap : List Text → LintFault → Type 0
 IsFaultOfClap words f = (kind : ErrorKind) × IsAmong kind (fault_of linter words) × (fault_by_kind kind ≡ f)
 
--- the first of some names that no kind of findings has
+-- the first of some names that no kind of findings or traps has
 abbrev pub first_unknown : List Text → Option Text
-first_unknown names = find (λ name. is_none (kind_named name)) names
+first_unknown names = find (λ name. is_none (lint_kind_named name)) names
 
 -- the same, where the names stand in a text, with commas between them
 abbrev pub unknown_in : Option Text → Option Text

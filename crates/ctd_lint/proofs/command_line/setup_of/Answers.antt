@@ -1,6 +1,7 @@
 use Rattle.std.proofs.Common.{◌∙◌, ap, sym, subst, codes}
 use Rattle.clap.specs.Words.{all_of, first_of}
 use Rattle.ctd_arguments.specs.Settings.{ArePresetsOf}
+use Rattle.ctd_arguments.specs.Usage.{is_on}
 use Rattle.ctd_lint.specs.inner.CommandLine.{AreKindsOf}
 use Rattle.ctd_lint.proofs.UsageFaults.{holds_on_return, named, no_kinds, no_presets, no_programs}
 use Rattle.ctd_lint.proofs.command_line.setup_of.Goals as goal
@@ -27,4 +28,6 @@ returns-clause-setup c = λ words found. record {
   programs = sym (ap (all_of (codes "PROGRAM")) found.1) ∙ c.in_ok-programs.ensures;
   presets = subst (λ v. ArePresetsOf v c.in_ok-presets.presets) (c.value_of.ensures ∙ ap (first_of (codes "define")) found.1) c.in_ok-presets.ensures;
   ignored = subst (λ v. AreKindsOf v c.in_ok-ignored.ignored.items) (c.value_of-2.ensures ∙ ap (first_of (codes "ignore")) found.1) c.in_ok-ignored.ensures.kinds;
+  verdicts = c.is_set.ensures ∙ ap (is_on (codes "verdicts")) found.1;
+  elements = c.is_set-2.ensures ∙ ap (is_on (codes "elements")) found.1;
 }

@@ -1,12 +1,11 @@
 use Rattle.std.proofs.Common.{ap, subst, ◌∙◌}
 use Rattle.ctd_program.specs.calls.View.{command_trees}
 use Rattle.ctd_report.specs.Report.{on_err}
-use Rattle.ctd_report.specs.Written.{before_after}
-use Rattle.ctd_report.specs.calls.Written.{Leaves}
 use Rattle.ctd_report.proofs.WrittenLemmas.{Leaves-LeavesOneOf}
 use Rattle.ctd_findings.specs.calls.Findings.{findings_of}
-use Rattle.ctd_lint.specs.inner.Report.{findings_report}
-use Rattle.ctd_lint.specs.inner.Text.{error_line, kept}
+use Rattle.ctd_lint.specs.inner.Report.{program_report}
+use Rattle.ctd_lint.specs.inner.Text.{error_line}
+use Rattle.ctd_lint.specs.inner.Traps.{AreTraps}
 use Rattle.ctd_lint.proofs.Reports.{reports_findings, reports_refusal}
 use Rattle.ctd_lint.proofs.lint.lint.Goals as goal
 
@@ -16,9 +15,10 @@ returns g c =
     let found = c.as_slice.result.now in
     let is = c.as_slice.ensures.value ∙ c.in_ok-found.ensures ∙ ap (λ p. findings_of (command_trees p) setup.presets) c.commands.ensures.whole in
     record {
-      written = Leaves-LeavesOneOf _ _ _ (findings_report c.args.file.now (kept setup.ignored.items found)) c.write_findings.result
-          (reports_findings command_trees g.P.Source c.args.file.now setup c.args.program.now _ c.in-Ok.plan found c.in-Ok.ensures.loads is)
-          (subst (λ ignored. Leaves (before_after g.O.Sink c.args.out.now c.write_findings.new.out) (before_after g.E.Sink c.args.err.now c.write_findings.new.err) (findings_report c.args.file.now (kept ignored found)) c.write_findings.result) c.as_slice-2.ensures.value c.write_findings.ensures.written);
+      written = Leaves-LeavesOneOf _ _ _ (program_report c.args.file.now setup found c.in_ok-told.told) c.write_program.result
+          (reports_findings command_trees g.P.Source c.args.file.now setup c.args.program.now _ c.in-Ok.plan found c.in_ok-told.told c.in-Ok.ensures.loads is
+          (subst (λ p. AreTraps (command_trees p) setup.presets c.in_ok-told.told) c.commands-2.ensures.whole c.in_ok-told.ensures.each))
+          c.write_program.ensures.written;
     }
 
 pub returns-in_default : goal.returns-in_default

@@ -3,4 +3,4 @@ use Rattle.ctd_lint.specs.inner.Text.{is_ignored}
 use Rattle.ctd_lint.proofs.text.is_ignored.Given as goal
 
 abbrev pub invariant-loop-left_out : goal.invariant-loop-left_out
-invariant-loop-left_out l = is_ignored (drop l.left_out-index l.ignored) l.kind ≡ is_ignored l.ignored l.kind
+invariant-loop-left_out l = is_ignored (drop l.left_out-index l.ignored) l.name ≡ is_ignored l.ignored l.name
