@@ -1,7 +1,7 @@
 #!/usr/bin/env python3
 """Springs the traps of the programs of tests/verdicts/ with the built checker: a run on the data of a row of programs.toml stops by the fault and at
 the place of the row. With --lint the built ctd-lint reads all programs there: it tells the trap of the row, and of other traps, but for those of
-elements and of arrays in UNIQUE, just the `reports` of the row, which no data are known to spring.
+elements and of arrays in UNIQUE, just the `reports` of the row, which no data can spring.
 
 The last line counts what passed and failed. usage: tests/verdicts.py [--lint] [PROGRAM]"""
 from __future__ import annotations
