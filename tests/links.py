@@ -69,7 +69,8 @@ def faults_of_names(text: str) -> Iterator[tuple[int, str | None]]:
 
 def faults_of_code(document: Path) -> Iterator[tuple[int, str | None]]:
     """For each file and each name that a document has between backticks the number of its line, and what is wrong with it."""
-    places, words = set(), set()
+    places: set[str] = set()
+    words: set[str] = set()
     for file in kept_files():
         parts = file.split("/")
         places |= {"/".join(parts[first:last]) for first in range(len(parts)) for last in range(first + 1, len(parts) + 1)}
