@@ -1,7 +1,8 @@
 # build: prove and compile the programs, with all processors (scripts/crates.mk); test: rebuild every proof and test from scratch, then run the
 # built program; install, uninstall: PREFIX and DESTDIR as usual; deb, dist: a Debian package and an archive of the built program, in out/.
 # lib: builds the libraries for C and Python, and installs them as install does; page: makes the page for the browser in web/out; test-lib and
-# test-page test these (docs/EMBEDDING.md). fuzz: compares the checker with a reference in Python on COUNT generated cases of a SEED. nightly:
+# test-page test these (docs/EMBEDDING.md). fuzz: compares the checker with a reference in Python on COUNT generated cases of a SEED, or,
+# with MODE=--verdicts, the faults by which it stops with what ctd-lint tells. nightly:
 # tests that take too long for test. bench: times the checker beside C written by hand (bench/README.md). portable: makes the programs as one C
 # file each, in out/, and packs that of the checker into portable/; test-portable: tests it for other systems (portable/README.md).
 #
@@ -119,7 +120,7 @@ test-portable:
 	@portable/test.py
 
 fuzz: build
-	@tests/fuzz.py --count $(COUNT) --seed $(SEED)
+	@tests/fuzz.py $(MODE) --count $(COUNT) --seed $(SEED)
 
 bench: build
 	@bench/whole_runs.py

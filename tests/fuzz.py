@@ -7,7 +7,11 @@ others.
 
     tests/fuzz.py --count 100000 --seed 1     the first 100,000 cases of seed 1; --first N begins with number N
     tests/fuzz.py --seed 1 --case 4711        one case, as it stands
-    tests/fuzz.py --self-test                 sees that each of ten wrong bodies in the reference makes a difference"""
+    tests/fuzz.py --self-test                 sees that each of ten wrong bodies in the reference makes a difference
+
+With --verdicts it compares the built checker with the built ctd-lint: each fault of a value by which a run stops has to be told, as a trap
+at its place, and no such run may be of a program of which ctd-lint says that every data file gets a verdict. The last line counts the faults
+that are told, as passed, and the others. With --self-test too it sees that a report without the lines of a kind is complained of."""
 import argparse
 import multiprocessing
 import os
@@ -22,13 +26,18 @@ from fuzzing.case import Case
 from fuzzing.cases import case_of
 from fuzzing.checker import Checker
 from fuzzing.shrink import shrink
+from fuzzing.verdicts import Comparison, Linter, complaints_of, wrong_reports_seen
+from fuzzing.verdicts import compare as compare_verdicts
 from reference.faults import LeftOut
 from reference.tool import Answer
 from reference.wrong_bodies import WRONG_BODIES, WrongBody
-from results import BUILT, print_counts
+from results import BUILT, BUILT_LINTER, print_counts
+from traps_told import TRAP_KINDS
 
 CASES_OF_SELF_TEST = 20_000
 MOST_PRINTED = 10
+# So many cases have faults of each kind.
+MANY_CASES = 2_000
 
 
 @dataclass
@@ -150,6 +159,41 @@ def self_test(program: Path, seed: int) -> int:
     return print_counts(len(WRONG_BODIES) - len(missing), len(missing))
 
 
+def compare_part(program: Path, linter: Path, seed: int, numbers: Sequence[int]) -> Comparison:
+    """Compares the faults of values of the cases of these numbers with what ctd-lint tells."""
+    with checker_in_folder(program) as checker:
+        return compare_verdicts(checker, Linter(linter), seed, numbers)
+
+
+def fuzz_verdicts(program: Path, linter: Path, seed: int, numbers: range, jobs: int) -> int:
+    """Compares faults of values with what ctd-lint tells, and prints cases with one that it leaves out. Of many cases some have to have each kind."""
+    found = Comparison()
+    with multiprocessing.Pool(jobs) as pool:
+        for part in pool.starmap(compare_part, [(program, linter, seed, numbers[job::jobs]) for job in range(jobs)]):
+            found.add(part)
+    with checker_in_folder(program) as checker:
+        for number in sorted(found.untold)[:MOST_PRINTED]:
+            case = shrink(case_of(seed, number), lambda case: bool(complaints_of(case, checker, Linter(linter))))
+            print(f"fuzz: case {number} of seed {seed} has a fault that is not told; made smaller:\n{case}")
+            print("\n".join(complaints_of(case, checker, Linter(linter))))
+    missing = [kind for kind in TRAP_KINDS if kind not in found.kinds] if len(numbers) >= MANY_CASES else []
+    for kind in missing:
+        print(f"fuzz: no fault is of the kind {kind}")
+    for counts in (found.programs, found.kinds):
+        print("fuzz: " + ", ".join(f"{name}: {count}" for name, count in sorted(counts.items())))
+    return print_counts(found.kinds.total() - len(found.untold), len(found.untold) + len(missing))
+
+
+def self_test_of_verdicts(program: Path, linter: Path, seed: int) -> int:
+    """Counts the wrong reports that are complained of in some case."""
+    passed = failed = 0
+    with checker_in_folder(program) as checker:
+        for name, number in wrong_reports_seen(checker, Linter(linter), seed, CASES_OF_SELF_TEST):
+            print(f"fuzz: {name}: " + (f"not seen by {CASES_OF_SELF_TEST} cases" if number is None else f"seen by case {number}"))
+            passed, failed = passed + (number is not None), failed + (number is None)
+    return print_counts(passed, failed)
+
+
 def main() -> int:
     parser = argparse.ArgumentParser(description=__doc__, formatter_class=argparse.RawDescriptionHelpFormatter)
     parser.add_argument("checker", nargs="?", type=Path, default=BUILT, help="the checker (default: the one that was built here)")
@@ -159,14 +203,20 @@ def main() -> int:
     parser.add_argument("--jobs", type=int, default=1, help="how many processes")
     parser.add_argument("--case", type=int, help="prints the case of this number and its answers")
     parser.add_argument("--self-test", action="store_true", help="looks for wrong bodies in the reference")
+    parser.add_argument("--verdicts", action="store_true", help="compares the checker with ctd-lint")
+    parser.add_argument("--linter", type=Path, default=BUILT_LINTER, help="the ctd-lint (default: the one that was built here)")
     given = parser.parse_args()
-    program = given.checker.resolve()
-    if not program.is_file():
-        parser.error(f"there is no {program}: make build makes it")
+    program, linter = given.checker.resolve(), given.linter.resolve()
+    for needed in [program, *([linter] if given.verdicts else [])]:
+        if not needed.is_file():
+            parser.error(f"there is no {needed}: make build makes it")
+    numbers = range(given.first, given.first + given.count)
+    if given.verdicts:
+        return self_test_of_verdicts(program, linter, given.seed) if given.self_test else fuzz_verdicts(program, linter, given.seed, numbers, given.jobs)
     if given.self_test:
         return self_test(program, given.seed)
     if given.case is None:
-        return fuzz(program, given.seed, range(given.first, given.first + given.count), given.jobs)
+        return fuzz(program, given.seed, numbers, given.jobs)
     with checker_in_folder(program) as checker:
         print_case(case_of(given.seed, given.case), checker)
     return 0

@@ -40,5 +40,6 @@ if [ "$failed" -eq 0 ]; then
     count tests/documents.py
     count tests/links.py
     count tests/fuzz.py
+    count tests/fuzz.py --verdicts
 fi
 end_of_counts

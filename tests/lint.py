@@ -5,7 +5,7 @@ A row has a program, further words of the command line, and the findings that it
 name of a variable. Where it has `traps`, these are told behind the findings, and `verdict` is the line that --verdicts asks for; else all kinds of
 traps are left out. `{3 ab}` in a program stands for `ababab`, and each `@` in such a text for the number of its turn. A row of the table `refusals`
 has the line on standard error in place of the findings, and one of `calls` has several programs. What lists the kinds lists all of them. Programs of
-a megabyte are timed too.
+a megabyte are timed too, and no program may take too much memory.
 The last line counts passed and failed. usage: tests/lint.py [PROGRAM]"""
 from __future__ import annotations
 
@@ -25,8 +25,9 @@ from tables import unfolded
 TOP = Path(__file__).resolve().parent.parent
 LINTER = TOP / "crates/ctd_lint/out/ctd_lint"
 OUT_OF_TIME = 60
-# What a program of a megabyte may take, in processor seconds, and how often it is tried: the least counts.
+# What a program of a megabyte may take, in processor seconds and in kilobytes, and how often it is tried: the least time counts.
 TIME_LIMIT = 0.5
+MEMORY_LIMIT = 200_000
 TRIES = 5
 MEGABYTE = 1_048_576
 
@@ -132,7 +133,7 @@ class Linter:
         status, times = -1, []
         for _ in range(TRIES):
             before = resource.getrusage(resource.RUSAGE_CHILDREN)
-            status, _, _ = self.run(text, [])
+            status, _, _ = self.run(text, ["--verdicts=all"])
             after = resource.getrusage(resource.RUSAGE_CHILDREN)
             times.append(after.ru_utime - before.ru_utime + after.ru_stime - before.ru_stime)
         return status, min(times)
@@ -158,6 +159,9 @@ def outcomes(linter: Linter, table: Table) -> Iterator[tuple[str, object, object
         status, seconds = linter.least_time(text)
         in_time = "in time" if seconds < TIME_LIMIT else f"after {seconds:.2f} s"
         yield name, (wanted_status, "in time"), (status, in_time)
+    # of all programs that were run
+    memory = resource.getrusage(resource.RUSAGE_CHILDREN).ru_maxrss
+    yield "memory", "enough", "enough" if memory < MEMORY_LIMIT else f"{memory} KB"
 
 
 def main() -> int:

@@ -1,5 +1,5 @@
 #!/usr/bin/env bash
-# What takes too long for the gate, on the checker that was built: rows of tests/tables/nightly/, 100,000 generated cases, 10,000 programs
+# What takes too long for the gate, on the checker that was built: rows of tests/tables/nightly/, 100,000 generated cases with a reference and with ctd-lint, 10,000 programs
 # that ctd-cover puts together again, the libraries and the page. The last line counts what passed and failed.
 set -u
 cd "$(dirname "${BASH_SOURCE[0]}")/.." || exit
@@ -8,6 +8,7 @@ cd "$(dirname "${BASH_SOURCE[0]}")/.." || exit
 
 count tests/tables.py crates/checktestdata/out/checktestdata tests/tables/nightly
 count tests/fuzz.py --count "${COUNT:-100000}" --seed "${SEED:-1}"
+count tests/fuzz.py --verdicts --count "${COUNT:-100000}" --seed "${SEED:-1}"
 count tests/cover.py crates/checktestdata/out/checktestdata 10000
 count make --no-print-directory test-lib
 count make --no-print-directory test-page

@@ -1,12 +1,11 @@
 #!/usr/bin/env python3
 """Springs the traps of the programs of tests/verdicts/ with the built checker: a run on the data of a row of programs.toml stops by the fault and at
 the place of the row. With --lint the built ctd-lint reads all programs there: it tells the trap of the row, and of other traps, but for those of
-elements and of arrays in UNIQUE, just the `reports` of the row, which no data are known to spring.
+elements and of arrays in UNIQUE, just the `reports` of the row, which no data can spring.
 
 The last line counts what passed and failed. usage: tests/verdicts.py [--lint] [PROGRAM]"""
 from __future__ import annotations
 
-import re
 import subprocess
 import sys
 import tomllib
@@ -15,25 +14,11 @@ from dataclasses import dataclass, field
 from pathlib import Path
 
 from results import TOP, checker_to_test, linter_to_test, print_results
+from traps_told import KINDS, Told, report_of
 
 FOLDER = TOP / "tests/verdicts"
 
-# The kinds of traps of ctd-lint that stand for each fault.
-KINDS = {
-    "variable has no value": ["no-value-here", "no-element-here"],
-    "wrong type": ["wrong-type-here"],
-    "number overflow": ["overflow"],
-    "division by zero": ["division-by-zero"],
-    "bad exponent": ["bad-exponent"],
-    "bad count": ["bad-count"],
-    "arrays have different indices": ["other-shape"],
-}
 NOT_COVERED = ["no-element-here", "other-shape"]
-TRAP_KINDS = [kind for kinds in KINDS.values() for kind in kinds]
-LINE = re.compile(r".*:(\d+):(\d+): (?:warning|note): .* \[([a-z-]+)\]")
-
-# The line and the column of a command, and the kind of a trap.
-Told = tuple[int, int, str]
 
 
 @dataclass(frozen=True)
@@ -63,18 +48,17 @@ def faults_of_run(checker: Path, row: Row) -> Iterator[str]:
         yield f"says {run.stderr.decode()!r}, wanted {end!r}"
 
 
-def traps_told(linter: Path, row: Row) -> list[Told]:
+def traps_told(linter: Path, row: Row) -> frozenset[Told]:
     """The traps that ctd-lint tells of a program, those of elements among them."""
     run = subprocess.run([linter, "--elements", FOLDER / f"{row.name}.ctd"], capture_output=True, text=True, check=False)
-    found = [match for line in run.stdout.splitlines() if (match := LINE.fullmatch(line))]
-    return [(int(m[1]), int(m[2]), m[3]) for m in found if m[3] in TRAP_KINDS]
+    return report_of(run.stdout).traps
 
 
 def faults_of_lint(linter: Path, row: Row) -> Iterator[str]:
     """The trap that is not told, and what else is told and not in the row, or in the row and not told."""
     told = traps_told(linter, row)
     planted = [(row.line, row.column, kind) for kind in KINDS.get(row.fault, [])]
-    if planted and not set(planted) & set(told):
+    if planted and not told.intersection(planted):
         yield f"does not tell the {row.fault} at {row.line}:{row.column}"
     others = sorted(trap for trap in told if trap not in planted and trap[2] not in NOT_COVERED)
     reports = sorted(tuple(report) for report in row.reports)

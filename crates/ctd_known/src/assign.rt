@@ -7,7 +7,7 @@ ghost use Rattle.ctd_known.specs.inner.Facts.{Tells};
 ghost use Rattle.ctd_known.specs.calls.Changed.{AssignsAlone, AssignsElements, Clears};
 ghost use Rattle.ctd_known.specs.inner.Changed.{AreWithin};
 
-use crate::facts::{Kinds, Known, NameFacts, copied, facts_of, kinds_are_within, replaced};
+use crate::facts::{Kinds, Known, NameFacts, copied, facts_of, kinds_are_within, replace_facts};
 use crate::guess::join_kinds;
 use crate::stop::Stop;
 use std::alloc::Global;
@@ -76,7 +76,7 @@ pub fn assign_alone<'p>(
         alone: kinds,
         elements: facts.elements,
     };
-    Ok(replaced(ground.alloc, known, name, facts)?)
+    Ok(replace_facts(ground.alloc, known, name, facts)?)
 }
 
 /// What is known once an element of a name got one of some values.
@@ -93,7 +93,7 @@ pub fn assign_element<'p>(
         elements: either_kinds(facts.elements, kinds)?,
         ..facts
     };
-    Ok(replaced(alloc, known, name, facts)?)
+    Ok(replace_facts(alloc, known, name, facts)?)
 }
 
 /// What is known once a name lost what was assigned to it.
@@ -105,5 +105,5 @@ pub fn clear<'p>(
     ensures { IfOk result (λ after. Clears ground.entry.pinned.now known.now name.now after.items) }
 {
     let facts = listed(ground.pinned, name)?;
-    Ok(replaced(ground.alloc, known, name, facts)?)
+    Ok(replace_facts(ground.alloc, known, name, facts)?)
 }

@@ -10,7 +10,7 @@ ghost use Rattle.ctd_known.specs.calls.Facts.{MayBe};
 ghost use Rattle.ctd_known.specs.inner.Compared.{Cuts, CutsBoth, MayCompare, Relates};
 
 use crate::assign::listed;
-use crate::facts::{Kinds, Known, Lengths, NameFacts, copied, replaced};
+use crate::facts::{Kinds, Known, Lengths, NameFacts, copied, replace_facts};
 use crate::stop::Stop;
 use ctd_program::{Compare, Expr};
 use ctd_range::{Range, at_least, at_most, greater, is_empty, less, other, same};
@@ -95,7 +95,7 @@ fn cut<'p>(
                 alone: cut_kinds(by, facts.alone, kinds),
                 elements: facts.elements,
             };
-            let named = replaced(alloc, known, name.as_slice(), narrowed)?;
+            let named = replace_facts(alloc, known, name.as_slice(), narrowed)?;
             Ok(named)
         }
         _ => {

@@ -69,7 +69,7 @@ fn of_name(index: Option<usize>, facts: NameFacts) -> Found
         kinds: facts.alone,
         faults: Faults {
             no_value: facts.may_lack,
-            name: index,
+            name: if facts.may_lack { index } else { None },
             ..no_faults()
         },
     }

@@ -185,7 +185,7 @@ fn with_facts<'p>(entry: Known<'p>, name: &[u8], facts: NameFacts) -> Known<'p>
 }
 
 /// What is known, with other facts of a name.
-pub fn replaced<'p>(
+pub fn replace_facts<'p>(
     alloc: Global,
     known: &[Known<'p>],
     name: &[u8],

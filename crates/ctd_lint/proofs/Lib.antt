@@ -3,3 +3,4 @@ pub mod UsageWritten
 pub mod UsageFaults
 pub mod RunLemmas
 pub mod Outlook
+pub mod Spelled

@@ -2,13 +2,13 @@
 use Rattle.std.proofs.Common.{◌≡◌, ◌∙◌, ◌⊎◌, inl, inr, true, List, Option, None, Some, Result, Ok, Err, ap, codes, is_some, sym, subst}
 use Rattle.std.specs.Prelude.{IfErr}
 use Rattle.std.specs.Result.{IsErr, IsErrAnd}
-use Rattle.clap.specs.Words.{Row, Text, all_of, first_of, matches_of}
+use Rattle.clap.specs.Words.{Row, Text, all_of, first_of}
 use Rattle.ctd_program.specs.declared.preset.Preset.{Preset}
 use Rattle.ctd_arguments.specs.Settings.{ArePresetsOf}
 use Rattle.ctd_arguments.specs.Usage.{IsBadPreset, IsGoodPreset}
 use Rattle.ctd_lint.specs.declared.command_line.LintFault.{LintFault}
 use Rattle.ctd_lint.specs.declared.command_line.LintFault.TheVariants as faults
-use Rattle.ctd_lint.specs.inner.CommandLine.{IsTaken, linter}
+use Rattle.ctd_lint.specs.inner.CommandLine.{IsTaken, found_in}
 use Rattle.ctd_lint.specs.inner.Usage.{IsLintFault, TellsUnknown, unknown_in}
 
 -- what holds of a fault holds of what `?` returns for it
@@ -26,23 +26,23 @@ is_there : (found : Option Text) (name : Text) → found ≡ Some name → is_so
 is_there found name is = ap is_some is
 
 -- clap found programs
-pub named : (words : List Text) (rows : List Row) (programs : List Text) → rows ≡ matches_of linter words → all_of (codes "PROGRAM") rows ≡ Some programs → is_some (all_of (codes "PROGRAM") (matches_of linter words)) ≡ true
+pub named : (words : List Text) (rows : List Row) (programs : List Text) → rows ≡ found_in words → all_of (codes "PROGRAM") rows ≡ Some programs → is_some (all_of (codes "PROGRAM") (found_in words)) ≡ true
 named words rows programs is are = ap is_some (sym (ap (all_of (codes "PROGRAM")) is) ∙ are)
 
 module _ (words : List Text) (taken : IsTaken words) where
   -- no program is named, or memory ran out
-  pub no_programs : (f : LintFault) (names : Option (List Text)) → names ≡ all_of (codes "PROGRAM") (matches_of linter words) → (f ≡ faults.Memory) ⊎ ((f ≡ faults.Words) × (names ≡ None)) → IsLintFault words f
+  pub no_programs : (f : LintFault) (names : Option (List Text)) → names ≡ all_of (codes "PROGRAM") (found_in words) → (f ≡ faults.Memory) ⊎ ((f ≡ faults.Words) × (names ≡ None)) → IsLintFault words f
   no_programs f names is (inl memory) = inr memory
   no_programs f names is (inr bad) = inl (inr (taken.0, inr (taken.1, inl (subst (λ n. n ≡ None) is bad.1, bad.0))))
 
-  module _ (named : is_some (all_of (codes "PROGRAM") (matches_of linter words)) ≡ true) where
+  module _ (named : is_some (all_of (codes "PROGRAM") (found_in words)) ≡ true) where
     -- no presets, or memory ran out
-    pub no_presets : (f : LintFault) (given : Option Text) → given ≡ first_of (codes "define") (matches_of linter words) → (f ≡ faults.Memory) ⊎ ((f ≡ faults.BadPreset) × IsBadPreset given) → IsLintFault words f
+    pub no_presets : (f : LintFault) (given : Option Text) → given ≡ first_of (codes "define") (found_in words) → (f ≡ faults.Memory) ⊎ ((f ≡ faults.BadPreset) × IsBadPreset given) → IsLintFault words f
     no_presets f given is (inl memory) = inr memory
     no_presets f given is (inr bad) = inl (inr (taken.0, inr (taken.1, inr (named, inl (subst IsBadPreset is bad.1, bad.0)))))
 
     -- presets, and no kinds, or memory ran out
-    pub no_kinds : (f : LintFault) (define given : Option Text) (presets : List Preset) → define ≡ first_of (codes "define") (matches_of linter words) → given ≡ first_of (codes "ignore") (matches_of linter words)
+    pub no_kinds : (f : LintFault) (define given : Option Text) (presets : List Preset) → define ≡ first_of (codes "define") (found_in words) → given ≡ first_of (codes "ignore") (found_in words)
         → ArePresetsOf define presets → (f ≡ faults.Memory) ⊎ TellsUnknown (unknown_in given) f → IsLintFault words f
     no_kinds f define given presets defines is are (inl memory) = inr memory
     no_kinds f define given presets defines is are (inr bad) =

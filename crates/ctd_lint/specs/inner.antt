@@ -1,4 +1,5 @@
 -- What only the proofs of this crate use.
+pub mod Words
 pub mod CommandLine
 pub mod Kinds
 pub mod Text

@@ -11,6 +11,7 @@ ghost use Rattle.ctd_lint.specs.inner.Kinds.{lint_kind_named};
 ghost use Rattle.ctd_lint.specs.inner.Usage.{IsFoundIn, IsLintFault, TellsUnknown, fault_by_kind, first_unknown, unknown_in};
 
 use crate::kind::LintKind;
+use crate::words::spelled_out;
 use clap::error::ErrorKind;
 use clap::{Arg, ArgAction, ArgMatches, Command, Error};
 use ctd_program::{PresetFault, Presets};
@@ -288,7 +289,7 @@ fn setup_of(alloc: Global, matches: &ArgMatches<'_>) -> Result<LintSetup, LintFa
     })
 }
 
-/// What the words ask for: after the program's own name the options and flags, and PROGRAM once or more.
+/// What the words ask for: after the program's own name the options and flags, and PROGRAM once or more. `--verdicts=all` stands for both flags.
 ///
 /// The first of these that applies is the fault: a word that is not UTF-8 (Words); what clap refuses, or answers with the
 /// help or the version (Words, Help, Version); BadPreset; UnknownKind. Memory may come at any of them.
@@ -297,7 +298,8 @@ pub(crate) fn settings(alloc: Global, words: &[Bytes]) -> Result<LintSetup, Lint
     ensures fault { IfErr result (IsLintFault words.now) }
 {
     let texts = texts_of(alloc, words)?;
-    match matches_in(alloc, texts.as_slice()) {
+    let spelled = spelled_out(alloc, texts.as_slice())?;
+    match matches_in(alloc, spelled.as_slice()) {
         Ok(matches) => setup_of(alloc, &matches),
         Err(error) => Err(fault_for(&error)),
     }

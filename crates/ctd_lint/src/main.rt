@@ -10,6 +10,7 @@ mod programs;
 mod text;
 mod traps;
 mod usage;
+mod words;
 
 use ctd_process::System;
 use process::answer;

@@ -20,6 +20,7 @@ Tell what each PROGRAM cannot mean, and where it may stop without a verdict.
       --ignore=<kind>[,...]          leave out findings of these kinds
       --verdicts                     tell whether every data file gets a verdict
       --elements                     show elements that may have no value too
+      --verdicts=all                 do both
   -h, --help                         show this text
   -V, --version                      show the version
 ";

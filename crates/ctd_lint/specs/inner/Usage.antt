@@ -1,12 +1,12 @@
 -- Which fault the words have.
 use Rattle.ctd_lint.specs.declared.command_line.LintFault.TheVariants as faults
 use Rattle.std.specs.Prelude.{◌≡◌, ◌⊎◌, true, List, [], ◌∷◌, Option, None, Some, All, IsUtf8, codes, find, is_none, is_some}
-use Rattle.clap.specs.Words.{IsAmong, Row, Text, all_of, fault_of, first_of, matches_of}
+use Rattle.clap.specs.Words.{IsAmong, Row, Text, all_of, first_of}
 use Rattle.clap.specs.declared.error.ErrorKind.{ErrorKind}
 use Rattle.clap.specs.declared.error.ErrorKind.TheVariants.{DisplayHelp, DisplayVersion, OutOfMemory}
 use Rattle.ctd_arguments.specs.Usage.{IsBadPreset, IsGoodPreset}
 use Rattle.ctd_lint.specs.declared.command_line.LintFault.{LintFault}
-use Rattle.ctd_lint.specs.inner.CommandLine.{IsTaken, linter, parts}
+use Rattle.ctd_lint.specs.inner.CommandLine.{IsTaken, errors_in, found_in, parts}
 use Rattle.ctd_lint.specs.inner.Kinds.{lint_kind_named}
 
 -- the fault for each kind of error of clap
@@ -18,7 +18,7 @@ fault_by_kind _ = faults.Words
 
 -- this is the fault of a kind of error that clap finds in the words
 abbrev pub IsFaultOfClap : List Text → LintFault → Type 0
-IsFaultOfClap words f = (kind : ErrorKind) × IsAmong kind (fault_of linter words) × (fault_by_kind kind ≡ f)
+IsFaultOfClap words f = (kind : ErrorKind) × IsAmong kind (errors_in words) × (fault_by_kind kind ≡ f)
 
 -- the first of some names that no kind of findings or traps has
 abbrev pub first_unknown : List Text → Option Text
@@ -35,7 +35,7 @@ TellsUnknown found f = (name : Text) × (found ≡ Some name) × (f ≡ faults.U
 
 -- clap takes the words, and finds these values in them
 abbrev pub IsFoundIn : List Text → List Row → Type 0
-IsFoundIn words rows = IsTaken words × (rows ≡ matches_of linter words)
+IsFoundIn words rows = IsTaken words × (rows ≡ found_in words)
 
 -- a rule for the words, and the fault for breaking it
 pub record FaultRule : Type 1 where
@@ -53,25 +53,25 @@ utf8_rule words = record { IsKept = All IsUtf8 words; IsBroken = ¬ (All IsUtf8 
 -- clap finds no error in the words, of which a request for the help or the version is one
 abbrev pub clap_rule : List Text → FaultRule
 clap_rule words =
-    let kinds = fault_of linter words in
+    let kinds = errors_in words in
     record { IsKept = kinds ≡ []; IsBroken = ¬ (kinds ≡ []); Gives = IsFaultOfClap words }
 
 -- one program is named, or more
 abbrev pub program_rule : List Text → FaultRule
 program_rule words =
-    let names = all_of (codes "PROGRAM") (matches_of linter words) in
+    let names = all_of (codes "PROGRAM") (found_in words) in
     record { IsKept = is_some names ≡ true; IsBroken = names ≡ None; Gives = λ f. f ≡ faults.Words }
 
 -- the text of the presets, if there is one, spells presets
 abbrev pub preset_rule : List Text → FaultRule
 preset_rule words =
-    let given = first_of (codes "define") (matches_of linter words) in
+    let given = first_of (codes "define") (found_in words) in
     record { IsKept = IsGoodPreset given; IsBroken = IsBadPreset given; Gives = λ f. f ≡ faults.BadPreset }
 
 -- each kind that is left out is one; the first that is none is told
 abbrev pub kinds_rule : List Text → FaultRule
 kinds_rule words =
-    let unknown = unknown_in (first_of (codes "ignore") (matches_of linter words)) in
+    let unknown = unknown_in (first_of (codes "ignore") (found_in words)) in
     record { IsKept = unknown ≡ None; IsBroken = is_some unknown ≡ true; Gives = TellsUnknown unknown }
 
 -- the rules, in the order in which they are tried
