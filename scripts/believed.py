@@ -4,7 +4,8 @@
 Each crate's definitions stand in three places: right in specs/ what the theorem of the tool reaches, which has to be believed; in specs/calls/
 what else the contracts of public calls reach; in specs/inner/ what only the contracts of private functions and the proofs use. A definition
 reaches what it names, a contract what its clauses name, and a type what its model names. Proofs reach nothing: the prover has read them.
-It fails too where a proof stands outside of specs/inner/, and where a definition has no line in plain words above it.
+It fails too where a proof stands outside of specs/inner/, where a definition has no line in plain words above it, and where a definition to be
+believed has a word that cannot be followed.
 """
 import argparse
 import re
@@ -12,7 +13,7 @@ import sys
 from collections import deque
 from pathlib import Path
 
-from spec_reader import bound_names, domains_of, exported, logical_lines, read_modules, read_source, words_of
+from spec_reader import domains_of, exported, logical_lines, read_modules, read_source, unknown_words, words_of
 from toolchain_reader import PLAINEST, Toolchain, toolchain_folder
 
 ROOT = Path(__file__).resolve().parent.parent
@@ -71,12 +72,10 @@ class Repository:
             return ('code', parts[0], name if owner == 'TheConstants' else owner)
         return None
 
-    def resolve(self, text, names, aliases, local, bound):
-        """The nodes that the words of a text name."""
+    def resolve(self, text, names, aliases, local):
+        """The nodes that the words of a text name. A name that a line binds for itself counts too, if it is also that of a definition."""
         found = set()
         for head, members in words_of(text):
-            if head in bound:
-                continue
             if head in local:
                 found |= local[head]
             elif head in names:
@@ -96,11 +95,8 @@ class Repository:
             node = (module.path, definition.name)
             units.setdefault(definition.unit, []).append(node)
             edges = self.edges.setdefault(node, set())
-            fields = set()
-            if definition.kind == 'record':
-                fields = set(re.findall(r'^\s+(?:pub )?(\S+) : ', '\n'.join(definition.lines[1:]), re.M))
             for line in definition.parts():
-                edges |= self.resolve(line, module.names, module.aliases, local, bound_names(line) | fields)
+                edges |= self.resolve(line, module.names, module.aliases, local)
         for nodes in units.values():
             for node in nodes:
                 self.edges[node].update(nodes)
@@ -109,14 +105,23 @@ class Repository:
         """The edges of a thing of the code."""
         edges = self.edges.setdefault(('code',) + item.key, set())
         for clause in item.clauses:
-            edges |= self.resolve(clause, source.names, source.aliases, {}, bound_names(clause))
+            edges |= self.resolve(clause, source.names, source.aliases, {})
         for name in item.mentions & source.brought:
             found = self.types.get(name, set())
             edges |= {node for node in found if node[1] == item.key[0]} or found
         if item.invariants:
             rests = self.edges.setdefault(('invariant',) + item.key, set())
             for clause in item.invariants:
-                rests |= self.resolve(clause, source.names, source.aliases, {}, bound_names(clause))
+                rests |= self.resolve(clause, source.names, source.aliases, {})
+
+    def lost_imports(self):
+        """The imports of definitions and of code here that the reader does not find, with the file of each; what it does not see cannot be reached."""
+        for importer in [*self.modules.values(), *self.sources]:
+            for path, name in importer.names.values():
+                parts = path.split('.')
+                # `contracts` is what the toolchain makes of contracts, for proofs.
+                if parts[0] in self.exports and 'contracts' not in parts and self.find(path, name) not in self.edges:
+                    yield importer.file, f'{path}.{name}'
 
     def is_proof(self, node):
         """Whether a definition is the proof of a fact, which the prover has read."""
@@ -273,6 +278,11 @@ def failures(repository):
             yield f'{repository.show(path)}: {definition.name} {REASONS[places[node]]}'
         if not definition.described:
             yield f'{repository.show(path)}: {definition.name} has no line in plain words above it'
+        if where == '':
+            for word in unknown_words(repository.modules[path], definition):
+                yield f'{repository.show(path)}: {definition.name} names {word}, which its module neither defines nor imports'
+    for file, name in repository.lost_imports():
+        yield f'{file.relative_to(repository.root)} imports {name}, which is not found'
 
 
 def late_names(repository):

@@ -5,6 +5,8 @@ from pathlib import Path
 
 DECLARATION = re.compile(r'(?P<marks>(?:(?:unfoldable|abbrev|pub|data|record) )*)(?P<name>[^\s(){}]+)(?= )(?P<rest>.*)')
 WORD = re.compile(r'[^\s(){};,"λ⟦⟧]+')
+# Words of the language, values and types that it has built in, numbers, and signs that are no operators.
+BUILT_IN = re.compile(r'pub|abbrev|unfoldable|if|then|else|do|let|in|where|record|Type|Unit|tt|⊥|_|\d+|[=:→×←¬^*\[\]|]|::')
 IMPORT = re.compile(r'use ([^\s{};]+?)(?:\.\{([^}]*)\}| as (\S+?))?;?$')
 
 
@@ -208,6 +210,27 @@ def words_of(text):
         head, *members = word.rstrip('.').split('.')
         yield head, members
         yield '◌>>=◌' if head == 'do' else f'◌{head}◌', []
+
+
+def unknown_words(module, definition):
+    """The words of a definition that are neither bound in it, nor defined or imported by its module, nor a part of the language. What such a
+    word names would be reached, and nobody would know it.
+    """
+    known = {*module.names, *module.aliases}
+    for other in module.definitions:
+        known |= {other.name, *other.constructors}
+    for start, stop, mutual in module.blocks:
+        if not mutual and start <= definition.start < stop:
+            known |= bound_names(' '.join(module.lines[start:definition.start]).split(' where')[0])
+    for line in [logical_lines(definition.lines)[0]] + definition.parts():
+        taken = re.split(r' =(?= |$)', line)[0] if definition.kind not in ('data', 'record') else ''
+        named_fields = re.findall(r'[{;]\s*(\S+) = ', line)
+        steps = ' '.join(re.findall(r'(\([^()]*\)|\S+) ←', line))
+        known |= bound_names(line) | set(named_fields) | {word for word, _ in words_of(f'{taken} {steps}')}
+    if definition.kind == 'record':
+        known |= set(re.findall(r'^\s+(?:pub )?(\S+) : ', '\n'.join(definition.lines[1:]), re.M))
+    heads = {head for part in definition.parts() for head, _ in words_of(part) if not head.startswith('◌')}
+    return sorted(head for head in heads if head and not {head, f'◌{head}◌'} & known and not BUILT_IN.fullmatch(head))
 
 
 # Code.

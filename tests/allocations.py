@@ -15,6 +15,7 @@ from collections.abc import Iterator
 from dataclasses import dataclass
 from pathlib import Path
 
+from reference import limits
 from reference.tool import TEXTS
 from results import TOP, checker_to_test, linter_to_test, print_results
 
@@ -162,7 +163,7 @@ def command_lines(folder: Path) -> dict[str, CommandLine]:
         "names.ctd": LONG_NAMES,
         "names.in": b"5\n",
         "open.ctd": b"INT(1,10",
-        "deep.ctd": b"ASSERT(" + b"(" * 200,
+        "deep.ctd": b"ASSERT(" + b"(" * limits.NESTING,
         "bad.ctd": b'REGEX("(")',
     }
     for name, content in files.items():
@@ -182,7 +183,7 @@ def command_lines(folder: Path) -> dict[str, CommandLine]:
         "long names, one of them preset": CommandLine(["-D", "longestname=3", paths["names.ctd"], paths["names.in"]], FITS),
         "a program that breaks off": CommandLine([paths["open.ctd"], paths["right.in"]], refused("program line 1 column 9: syntax error")),
         "a program that nests too deeply": CommandLine(
-            [paths["deep.ctd"], paths["right.in"]], refused("program line 1 column 207: nested too deeply")
+            [paths["deep.ctd"], paths["right.in"]], refused(f"program line 1 column {7 + limits.NESTING}: nested too deeply")
         ),
         "a bad pattern": CommandLine([paths["bad.ctd"], paths["right.in"]], refused("program line 1 column 7: bad pattern")),
         "a program that is not there": CommandLine([none["none.ctd"], paths["right.in"]], refused(f"cannot open {none['none.ctd']}")),

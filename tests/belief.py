@@ -125,6 +125,61 @@ class Definitions(unittest.TestCase):
         self.assertEqual(spec_reader.domains_of("(n : ℕ → ℕ) → {A : Type 0} → List A"), ["(n : ℕ → ℕ)", "{A : Type 0}", "List A"])
 
 
+UNUSUAL = """-- Definitions that look otherwise, and texts that look like definitions.
+use Rattle.std.specs.Prelude.{ℕ, ◌+◌, codes}
+
+-- one after the other
+infixl 10 ◌+++◌
+abbrev pub ◌+++◌ : ℕ → ℕ → ℕ
+a +++ b = a + b
+
+-- pub commented : ℕ → ℕ
+-- commented n = n
+text : ℕ → ℕ
+text n = first_of (codes "pub quoted : ℕ") n
+
+-- What has a parameter of its own.
+module _ {R : Type 0} where
+  -- whether it is so
+  abbrev pub inside : R → ℕ
+  inside r = 1
+  -- a thing
+  pub record Kept : Type 0 where
+    kept : R
+"""
+
+
+class Unusual(unittest.TestCase):
+    def setUp(self) -> None:
+        self.module = module_of(UNUSUAL)
+        self.found = {definition.name: definition for definition in self.module.definitions}
+
+    def test_comments_and_strings_define_nothing(self) -> None:
+        self.assertEqual(list(self.found), ["◌+++◌", "text", "inside", "Kept"])
+
+    def test_an_operator_has_its_clause_and_the_line_above_its_rank(self) -> None:
+        operator = self.found["◌+++◌"]
+        self.assertEqual((operator.described, operator.parts()[1:]), (True, ["a +++ b = a + b"]))
+
+    def test_what_stands_in_a_module_without_a_name_is_read_like_the_rest(self) -> None:
+        self.assertEqual([(d.name, d.kind, d.size()) for d in self.module.definitions[2:]], [("inside", "abbrev", 2), ("Kept", "record", 2)])
+        self.assertNotEqual(self.found["inside"].unit, self.found["Kept"].unit)
+
+    def test_words_that_nothing_explains(self) -> None:
+        unknown = {name: spec_reader.unknown_words(self.module, definition) for name, definition in self.found.items()}
+        self.assertEqual(unknown, {"◌+++◌": [], "text": ["first_of"], "inside": [], "Kept": []})
+
+    def test_words_that_a_definition_binds(self) -> None:
+        text = """use Rattle.std.specs.Prelude.{ℕ, ◌+◌, map}
+f : {A : Type 0} → (k : ℕ) → ℕ
+f (some x) = do
+  y ← map (λ z. z + x) x
+  let w = y in record { member = w + k; other = v }
+"""
+        [found] = module_of(text).definitions
+        self.assertEqual(spec_reader.unknown_words(module_of(text), found), ["v"])
+
+
 class Words(unittest.TestCase):
     def test_words_with_their_members_and_operators(self) -> None:
         words = list(spec_reader.words_of('f (a.b.c) ≡ "no words" ∷ xs'))
@@ -177,13 +232,13 @@ class Code(unittest.TestCase):
 REPOSITORY = {
     "crates.txt": "low: memchr\nhigh: low\n",
     "crates/low/specs/Lib.antt": "pub mod Base\npub mod calls\n",
-    "crates/low/specs/Base.antt": "-- Bases.\n-- A base.\npub base : ℕ → ℕ\nbase n = helped n\n\n-- A help.\nhelped : ℕ → ℕ\nhelped n = n\n",
+    "crates/low/specs/Base.antt": "-- Bases.\nuse Rattle.std.specs.Prelude.{ℕ}\n\n-- A base.\npub base : ℕ → ℕ\nbase n = helped n\n\n-- A help.\nhelped : ℕ → ℕ\nhelped n = n\n",
     "crates/low/specs/calls.antt": "pub mod Calls\n",
-    "crates/low/specs/calls/Calls.antt": "-- Calls.\n-- What a call of low does.\npub called : ℕ → ℕ\ncalled n = n\n",
+    "crates/low/specs/calls/Calls.antt": "-- Calls.\nuse Rattle.std.specs.Prelude.{ℕ}\n\n-- What a call of low does.\npub called : ℕ → ℕ\ncalled n = n\n",
     "crates/low/src/lib.rt": "pub use low::low;\nmod low;\n",
     "crates/low/src/low.rt": "ghost use Rattle.low.specs.calls.Calls.{called};\npub fn low()\n    ensures { called 1 ≡ 1 }\n{\n}\n",
     "crates/high/specs/Lib.antt": "pub mod Theorem\n",
-    "crates/high/specs/Theorem.antt": "-- It.\nuse Rattle.low.specs.Base.{base}\n\n-- Holds.\npub Holds : ℕ → Type 0\nHolds n = base n ≡ n\n",
+    "crates/high/specs/Theorem.antt": "-- It.\nuse Rattle.low.specs.Base.{base}\nuse Rattle.std.specs.Prelude.{ℕ, ◌≡◌}\n\n-- Holds.\npub Holds : ℕ → Type 0\nHolds n = base n ≡ n\n",
     "crates/high/src/lib.rt": "pub use high::high;\nmod high;\n",
     "crates/high/src/high.rt": "ghost use Rattle.high.specs.Theorem.{Holds};\npub fn high()\n    ensures { Holds 1 }\n{\n}\n",
 }
@@ -225,6 +280,87 @@ class Places(unittest.TestCase):
         found = self.failures(**{"crates/low/specs/Base.antt": text})
         self.assertEqual(len(found), 1)
         self.assertIn("lonely is reached by no public contract", found[0])
+
+    def assert_stray(self, name: str, place: str, **changes: str) -> None:
+        """One thing is wrong: this definition belongs to another place."""
+        [found] = self.failures(**changes)
+        self.assertRegex(found, f": {name} .* it belongs {place}$")
+
+    def test_a_definition_that_is_reached_by_an_alias_of_its_module(self) -> None:
+        theorem = REPOSITORY["crates/high/specs/Theorem.antt"].replace("Base.{base}", "calls.Calls as other").replace("base n", "other.called n")
+        [found] = [failure for failure in self.failures(**{"crates/high/specs/Theorem.antt": theorem}) if "called" in failure]
+        self.assertIn("it belongs right into specs/", found)
+
+    def test_a_definition_that_is_reached_by_another_name(self) -> None:
+        theorem = REPOSITORY["crates/high/specs/Theorem.antt"].replace("{base}", "{base as ground}").replace("base n", "ground n")
+        self.assertEqual(self.failures(**{"crates/high/specs/Theorem.antt": theorem}), [])
+
+    def test_a_definition_that_is_reached_through_a_module_that_passes_it_on(self) -> None:
+        theorem = REPOSITORY["crates/high/specs/Theorem.antt"].replace("low.specs.Base", "low.specs.calls.Calls")
+        calls = REPOSITORY["crates/low/specs/calls/Calls.antt"].replace("use Rattle.std", "pub use Rattle.low.specs.Base.{base}\nuse Rattle.std")
+        self.assertEqual(self.failures(**{"crates/high/specs/Theorem.antt": theorem, "crates/low/specs/calls/Calls.antt": calls}), [])
+
+    def test_an_operator(self) -> None:
+        operator = "\n-- A sum.\ninfixl 10 ◌+++◌\npub ◌+++◌ : ℕ → ℕ → ℕ\na +++ b = a\n"
+        base = {"crates/low/specs/Base.antt": REPOSITORY["crates/low/specs/Base.antt"] + operator}
+        self.assert_stray("◌\\+\\+\\+◌", "to specs/inner/", **base)
+        theorem = REPOSITORY["crates/high/specs/Theorem.antt"].replace("{base}", "{base, ◌+++◌}").replace("base n", "base n +++ n")
+        self.assertEqual(self.failures(**base, **{"crates/high/specs/Theorem.antt": theorem}), [])
+
+    def test_a_definition_in_a_module_without_a_name(self) -> None:
+        block = "\nmodule _ {R : Type 0} where\n  -- Inside.\n  pub inside : R → ℕ\n  inside r = 1\n"
+        base = {"crates/low/specs/Base.antt": REPOSITORY["crates/low/specs/Base.antt"] + block}
+        self.assert_stray("inside", "to specs/inner/", **base)
+        theorem = REPOSITORY["crates/high/specs/Theorem.antt"].replace("{base}", "{base, inside}").replace("base n", "base (inside n)")
+        self.assertEqual(self.failures(**base, **{"crates/high/specs/Theorem.antt": theorem}), [])
+
+    def test_comments_and_strings_reach_nothing(self) -> None:
+        lonely = "\n-- Alone.\nlonely : ℕ → ℕ\nlonely n = n\n"
+        base = {"crates/low/specs/Base.antt": REPOSITORY["crates/low/specs/Base.antt"] + lonely}
+        imports = "Base.{base, lonely}\nuse Rattle.std.specs.Prelude.{codes}"
+        theorem = REPOSITORY["crates/high/specs/Theorem.antt"].replace("Base.{base}", imports).replace("-- Holds.", "-- lonely")
+        theorem = theorem.replace("base n ≡ n", 'base n ≡\n  -- lonely n\n  codes "lonely n"')
+        code = "ghost use Rattle.high.specs.Theorem.{Holds};\nghost use Rattle.low.specs.Base.{lonely};\n// ensures { lonely 1 }\npub fn high()\n"
+        code += '    // ensures { lonely 1 }\n    ensures { Holds 1 }\n{\n    "ensures { lonely 1 }"; fn private() ensures { lonely 1 } {}\n}\n'
+        changes = {"crates/high/specs/Theorem.antt": theorem, "crates/high/src/high.rt": code}
+        self.assert_stray("lonely", "to specs/inner/", **base, **changes)
+
+    def test_a_name_that_a_line_binds_counts_as_that_of_a_definition(self) -> None:
+        theorem = REPOSITORY["crates/high/specs/Theorem.antt"].replace("base n ≡ n", "(λ base. base) (base n) ≡ n")
+        self.assertEqual(self.failures(**{"crates/high/specs/Theorem.antt": theorem}), [])
+
+    def test_a_definition_among_those_of_proofs_that_a_call_reaches(self) -> None:
+        moved = {
+            "crates/low/specs/Lib.antt": "pub mod Base\npub mod inner\n",
+            "crates/low/specs/inner.antt": "pub mod Calls\n",
+            "crates/low/specs/inner/Calls.antt": REPOSITORY["crates/low/specs/calls/Calls.antt"],
+            "crates/low/src/low.rt": REPOSITORY["crates/low/src/low.rt"].replace("calls.", "inner."),
+        }
+        self.assert_stray("called", "to specs/calls/", **moved)
+
+    def test_a_proof_among_the_definitions(self) -> None:
+        proof = "\n-- So it is.\npub same : (n : ℕ) → base n ≡ n\nsame n = refl\n"
+        text = REPOSITORY["crates/low/specs/Base.antt"].replace("{ℕ}", "{ℕ, ◌≡◌, refl}") + proof
+        [found] = self.failures(**{"crates/low/specs/Base.antt": text})
+        self.assertIn("same is a proof, which nobody has to believe", found)
+
+    def test_a_word_that_cannot_be_followed(self) -> None:
+        theorem = REPOSITORY["crates/high/specs/Theorem.antt"].replace("base n ≡ n", "base n ≡ hidden n")
+        [found] = self.failures(**{"crates/high/specs/Theorem.antt": theorem})
+        self.assertEqual(found, "crates/high/specs/Theorem.antt: Holds names hidden, which its module neither defines nor imports")
+
+    def test_an_import_that_is_not_found(self) -> None:
+        theorem = REPOSITORY["crates/high/specs/Theorem.antt"].replace("{base}", "{base, gone}")
+        [found] = self.failures(**{"crates/high/specs/Theorem.antt": theorem})
+        self.assertEqual(found, "crates/high/specs/Theorem.antt imports low.specs.Base.gone, which is not found")
+
+    def test_modules_in_another_order_than_that_of_reading(self) -> None:
+        text = "-- First.\nuse Rattle.low.specs.Base.{base}\nuse Rattle.std.specs.Prelude.{ℕ}\n\n-- It.\npub first : ℕ\nfirst = base 1\n"
+        changes = {"crates/low/specs/Lib.antt": "pub mod First\npub mod Base\npub mod calls\n", "crates/low/specs/First.antt": text}
+        theorem = REPOSITORY["crates/high/specs/Theorem.antt"].replace("Base.{base}", "First.{first}").replace("base n", "first")
+        self.assertEqual(self.failures(**changes, **{"crates/high/specs/Theorem.antt": theorem}), [])
+        [found] = believed.late_names(believed.Repository(self.folder))
+        self.assertIn("crates/low/specs/First.antt names Base", found)
 
     def test_a_definition_with_no_line_in_plain_words(self) -> None:
         text = REPOSITORY["crates/low/specs/Base.antt"].replace("-- A help.\n", "")

@@ -20,6 +20,7 @@ from pathlib import Path
 from companions import CompanionTest
 from fuzzing.case import Case, Source
 from fuzzing.cases import case_of
+from reference import limits
 from reference.faults import Refused
 from reference.syntax import printed_grammar
 from reference.tool import Answer as Left
@@ -360,11 +361,12 @@ class Cover(CompanionTest):
 
     def test_a_program_that_is_as_deep_as_one_may_be(self) -> None:
         # an ASSERT with a comparison in it weighs 2
-        self.write("deep.ctd", 198 * "IF(ISEOF) " + 198 * "END ")
+        blocks = limits.NESTING - 2
+        self.write("deep.ctd", blocks * "IF(ISEOF) " + blocks * "END ")
         self.write("1.in", "")
         ran = self.run_tool("deep.ctd", "1.in")
-        self.assertEqual((ran.returncode, len(ran.stdout.splitlines()), ran.stderr), (1, 199, b""))
-        self.write("deeper.ctd", 199 * "IF(ISEOF) " + 199 * "END ")
+        self.assertEqual((ran.returncode, len(ran.stdout.splitlines()), ran.stderr), (1, blocks + 1, b""))
+        self.write("deeper.ctd", (blocks + 1) * "IF(ISEOF) " + (blocks + 1) * "END ")
         ran = self.run_tool("deeper.ctd", "1.in")
         told = b"ctd-cover: deeper.ctd: questions cannot be put into the program: nested too deeply\n"
         self.assertEqual((ran.returncode, ran.stdout, ran.stderr), (2, b"", told))

@@ -381,7 +381,8 @@ class TextMate(unittest.TestCase):
         words = set(re.findall(r'"([A-Z]{2,})"', language[language.index("## Grammar") :]))
         vim = set(re.findall(r"[A-Z]{2,}", " ".join(re.findall(r"%\((.*?)\\\)", (TOP / "editors/vim/syntax/checktestdata.vim").read_text()))))
         grammar = {word for rule in self.grammar["patterns"] for words in re.findall(r"\(\?:([A-Z|]+)\)", rule.get("match", "")) for word in words.split("|")}
-        self.assertEqual((len(words), vim, grammar), (21, words, words))
+        self.assertLess({"SPACE", "REPI", "ISEOF"}, words)
+        self.assertEqual((vim, grammar), (words, words))
 
 
 if __name__ == "__main__":

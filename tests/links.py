@@ -2,7 +2,8 @@
 """Follows the links of all documents, and sees that docs/DESIGN.md says where a rule stands.
 
 A link leads to a file or a folder, and with a `#` to a heading of it or to an `<a id="..">`. In docs/DESIGN.md, names that stand before "in" and a
-link are words of the file that the link leads to. docs/LANGUAGE.md has a link to each row of the table with an `<a id="..">`.
+link are words of the file that the link leads to. docs/LANGUAGE.md has a link to each row of the table with an `<a id="..">`. What CONTRIBUTING.md has
+between backticks, if it is the name of a file or a word of the code, is there. The messages in the tables of docs/FAQ.md stand in docs/LANGUAGE.md.
 
 The last line counts the links and names that are right, as passed, and the others. usage: tests/links.py [FOLDER]
 With FOLDER only the links of the documents below it are followed, such as those that are installed."""
@@ -15,20 +16,27 @@ from pathlib import Path
 from markdown_blocks import anchors, lines_of_text, links
 
 TOP = Path(__file__).resolve().parent.parent
+CONTRIBUTING = TOP / "CONTRIBUTING.md"
 DESIGN = TOP / "docs/DESIGN.md"
+FAQ = TOP / "docs/FAQ.md"
 LANGUAGE = TOP / "docs/LANGUAGE.md"
 MARK = re.compile(r'<a id="([^"]+)"></a>')
 NAMED = re.compile(r"((?:`\w+`(?:, |,? and )?)+)\sin\s\[`[^\]]*`\]\(([^)]+)\)")
+
+
+def kept_files() -> list[str]:
+    """The files that the repository keeps, without what is built."""
+    listed = subprocess.run(["git", "ls-files"], cwd=TOP, capture_output=True, text=True, check=False)
+    if listed.returncode == 0 and listed.stdout:
+        return listed.stdout.splitlines()
+    return sorted(str(path.relative_to(TOP)) for path in TOP.rglob("*") if path.is_file() and "out" not in path.parts)
 
 
 def documents(folder: Path | None) -> list[Path]:
     """The documents below a folder, or those that the repository keeps."""
     if folder is not None:
         return sorted(folder.rglob("*.md"))
-    listed = subprocess.run(["git", "ls-files", "*.md"], cwd=TOP, capture_output=True, text=True, check=False)
-    if listed.returncode == 0 and listed.stdout:
-        return [TOP / name for name in listed.stdout.splitlines()]
-    return sorted(path for path in TOP.rglob("*.md") if "out" not in path.parts)
+    return [TOP / name for name in kept_files() if name.endswith(".md")]
 
 
 def marks(document: Path) -> set[str]:
@@ -59,6 +67,36 @@ def faults_of_names(text: str) -> Iterator[tuple[int, str | None]]:
             yield text[: found.start()].count("\n") + 1, None if name in words else f"there is no {name} in {found[2]}"
 
 
+def faults_of_code(document: Path) -> Iterator[tuple[int, str | None]]:
+    """For each file and each name that a document has between backticks the number of its line, and what is wrong with it."""
+    places: set[str] = set()
+    words: set[str] = set()
+    for file in kept_files():
+        parts = file.split("/")
+        places |= {"/".join(parts[first:last]) for first in range(len(parts)) for last in range(first + 1, len(parts) + 1)}
+        words |= {parts[-1].split(".")[0]}
+        if file.endswith((".rt", ".antt", ".py", ".mk", ".txt")) or file == "Makefile":
+            words |= set(re.findall(r"\w+", (TOP / file).read_text(errors="replace")))
+    text = re.sub(r"^```.*?^```", lambda block: "\n" * block[0].count("\n"), document.read_text(), flags=re.MULTILINE | re.DOTALL)
+    for number, line in enumerate(text.split("\n"), 1):
+        for code in re.findall(r"`([\w./+-]+)`", line):
+            if "NAME" in code:
+                continue
+            if "/" in code or re.fullmatch(r"\w+\.(?:rt|antt|py|toml|sh|md)", code):
+                yield number, None if code.strip("/") in places else f"there is no {code}"
+            elif re.fullmatch(r"\w+", code) and code.upper() != code:
+                yield number, None if code in words else f"nothing here is called {code}"
+
+
+def faults_of_messages(document: Path) -> Iterator[tuple[int, str | None]]:
+    """For each message that begins a row of a document the number of its line, and whether docs/LANGUAGE.md lacks it."""
+    language = LANGUAGE.read_text()
+    for number, line in lines_of_text(document):
+        first = line.split("|")[1] if line.startswith("| `") else ""
+        for message in re.findall(r"`((?!checktestdata: )[^`]+)`", first):
+            yield number, None if f"`{message}`" in language else f"{LANGUAGE.name} has no message {message}"
+
+
 def results(folder: Path | None) -> Iterator[tuple[Path, int, str | None]]:
     """For each link, row and name of the documents the number of its line, and what is wrong with it."""
     for document in documents(folder):
@@ -71,6 +109,10 @@ def results(folder: Path | None) -> Iterator[tuple[Path, int, str | None]]:
             yield DESIGN, number, fault_of_row(line)
     for number, fault in faults_of_names(DESIGN.read_text()):
         yield DESIGN, number, fault
+    for number, fault in faults_of_code(CONTRIBUTING):
+        yield CONTRIBUTING, number, fault
+    for number, fault in faults_of_messages(FAQ):
+        yield FAQ, number, fault
 
 
 def main() -> int:

@@ -29,8 +29,6 @@ ELSEWHERE = {
     ("ctd_lint/src/command_line.rt", "copies_of"): "a push failed",
     ("ctd_lint/src/command_line.rt", "kinds_named"): "a push failed",
     ("ctd_lint/src/command_line.rt", "texts_of"): "a push failed",
-    ("ctd_lint/src/command_line.rt", "kinds_named"): "a push failed",
-    ("ctd_lint/src/command_line.rt", "copies_of"): "a push failed",
     ("ctd_process/src/buffered.rt", "buffered_source"): "no buffer could be made",
     ("ctd_report/src/report.rt", "write_load_fault"): "the fault of the program is that no memory was left, as the contract says",
     ("ctd_tool/src/files.rt", "run_on"): "no buffer could be made",

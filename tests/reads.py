@@ -12,10 +12,9 @@ from collections.abc import Iterator
 from dataclasses import dataclass
 from pathlib import Path
 
+from reference.limits import PROGRAM_BYTES, WINDOW
 from results import TOP, checker_to_test, print_results
 
-WINDOW = 1_048_576
-PROGRAM_LIMIT = 1_048_576
 BUFFER = 16_384
 
 FITS = b"testdata ok!\n"
@@ -42,7 +41,7 @@ class Case:
     @property
     def most_of_program(self) -> int:
         """How many bytes of the program may be read."""
-        return min(len(self.program), PROGRAM_LIMIT + 1 + BUFFER)
+        return min(len(self.program), PROGRAM_BYTES + 1 + BUFFER)
 
 
 def data_left(offset: int) -> bytes:
@@ -60,9 +59,9 @@ def cases() -> Iterator[Case]:
         yield Case(f"no byte, {how}", b"", letters, data_left(0), 0, piece)
         yield Case(f"many matches, {how}", b'REP(20000) REGEX("a") END', letters, data_left(20_000), 20_000, piece)
         yield Case(f"all bytes, {how}", b'REP(3000) REGEX("a{1000}") END', letters, FITS, 3_000_000, piece)
-    yield Case("a program of the limit", PROGRAM_LIMIT * b" ", b"", FITS, 0)
-    yield Case("a program a byte too long", (PROGRAM_LIMIT + 1) * b" ", letters, TOO_LONG, 0)
-    yield Case("a program three times too long", 3 * PROGRAM_LIMIT * b" ", letters, TOO_LONG, 0)
+    yield Case("a program of the limit", PROGRAM_BYTES * b" ", b"", FITS, 0)
+    yield Case("a program a byte too long", (PROGRAM_BYTES + 1) * b" ", letters, TOO_LONG, 0)
+    yield Case("a program three times too long", 3 * PROGRAM_BYTES * b" ", letters, TOO_LONG, 0)
 
 
 def send(end: int, case: Case) -> None:

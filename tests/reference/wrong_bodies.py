@@ -112,6 +112,6 @@ WRONG_BODIES = [
     WrongBody("an overflow goes before a bad exponent", values, "power", power),
     WrongBody("UNIQUE looks at each array alone", Unique, "holds", holds),
     WrongBody("UNSET keeps the values with indices", Store, "unset", unset),
-    WrongBody("a program may nest 199 deep", limits, "NESTING", 199),
+    WrongBody("a program may nest one less deep", limits, "NESTING", limits.NESTING - 1),
     WrongBody("a syntax error is at the last right token", syntax, "parse", parse),
 ]
