@@ -15,7 +15,7 @@ pub returns-in-Ok-clause-setup : goal.returns-in-Ok-clause-setup
 returns-in-Ok-clause-setup c =
     let words : List Text = c.args.words.now in
     let are = ap (map (λ (t : Bor (List ℕ)). t.now)) c.as_slice-2.ensures.value ∙ c.in_ok-spelled.ensures
-        ∙ ap (λ (ts : List (Bor (List ℕ))). spelled_out (map (λ t. t.now) ts)) c.as_slice.ensures.value ∙ ap spelled_out c.in_ok-texts.ensures.ok in
+    ∙ ap (λ (ts : List (Bor (List ℕ))). spelled_out (map (λ t. t.now) ts)) c.as_slice.ensures.value ∙ ap spelled_out c.in_ok-texts.ensures.ok in
     let is = found words c.as_slice-2.result.now (rows_of (found_of c.in-Ok.matches)) are c.in_ok-texts.ensures.text c.in-Ok.ensures.fault c.in-Ok.ensures.found in
     IfOk-weaker c.setup_of.result _ _ (λ s by_words. by_words words is) c.setup_of.ensures.setup
 
@@ -23,7 +23,7 @@ pub returns-in-Ok-clause-fault : goal.returns-in-Ok-clause-fault
 returns-in-Ok-clause-fault c =
     let words : List Text = c.args.words.now in
     let are = ap (map (λ (t : Bor (List ℕ)). t.now)) c.as_slice-2.ensures.value ∙ c.in_ok-spelled.ensures
-        ∙ ap (λ (ts : List (Bor (List ℕ))). spelled_out (map (λ t. t.now) ts)) c.as_slice.ensures.value ∙ ap spelled_out c.in_ok-texts.ensures.ok in
+    ∙ ap (λ (ts : List (Bor (List ℕ))). spelled_out (map (λ t. t.now) ts)) c.as_slice.ensures.value ∙ ap spelled_out c.in_ok-texts.ensures.ok in
     let is = found words c.as_slice-2.result.now (rows_of (found_of c.in-Ok.matches)) are c.in_ok-texts.ensures.text c.in-Ok.ensures.fault c.in-Ok.ensures.found in
     IfErr-weaker c.setup_of.result _ _ (λ f by_words. by_words words is) c.setup_of.ensures.fault
 
