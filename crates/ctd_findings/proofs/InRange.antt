@@ -1,5 +1,5 @@
 -- Tests that the ranges of their variables decide have that answer.
-use Rattle.std.proofs.Common.{◌≡◌, ◌<ℤ◌, ◌≤ℤ◌, ℕ, ℤ, Bool, true, false, not, cond, List, [], Option, Some, None, Result, Ok, Err, refl, sym, ap, subst, ◌∙◌, arith}
+use Rattle.std.proofs.Common.{◌≡◌, ◌<ℤ◌, ℕ, ℤ, Bool, true, false, not, cond, List, [], Option, Some, None, Result, Ok, Err, refl, ap, subst, ◌∙◌, arith}
 use Rattle.std.specs.Option.{option_and_then, option_map, option_or}
 use Rattle.std.specs.declared.cmp.Ordering.{Ordering}
 use Rattle.std.specs.declared.cmp.Ordering.TheVariants as orders
@@ -17,7 +17,7 @@ use Rattle.ctd_store.specs.Store.{History, value_at}
 use Rattle.ctd_value.specs.Fault.{ValueFault, TruthFault, Undefined, WrongType, Overflow, DivisionByZero, Exponent, Count, Shape, Look, ◌>>=◌}
 use Rattle.ctd_value.specs.Fault as faults
 use Rattle.ctd_value.specs.Val.{number, val, value_or_undefined}
-use Rattle.ctd_value.specs.Truth.{as_test, comparison, compares, holds_by, truth}
+use Rattle.ctd_value.specs.Truth.{as_test, compares, holds_by, truth}
 use Rattle.ctd_findings.specs.declared.ranges.Bounds.{Bounds}
 use Rattle.ctd_findings.specs.calls.Decided.{IsOrUndefined, IsWithin, KeepsTo, holds_of_all, known_and, known_or, one_answer, only, opposite, range_truth, side_range}
 use Rattle.ctd_findings.specs.calls.Literal.{literal_number}

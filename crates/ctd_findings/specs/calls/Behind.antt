@@ -2,7 +2,7 @@
 use Rattle.ctd_program.specs.Tree
 use Rattle.std.specs.Prelude.{ℕ, Bool, true, false, not, ◌||◌, ◌&&◌, List, ◌++◌, Option, None}
 use Rattle.ctd_program.specs.Tree.{VarTree, GuardTree, CommandTree, CommandList}
-use Rattle.ctd_findings.specs.calls.Block.{InBlock, commands_within}
+use Rattle.ctd_findings.specs.calls.Block.{commands_within}
 use Rattle.ctd_findings.specs.calls.Loops.{is_set_by, var_name}
 use Rattle.ctd_findings.specs.calls.Names.{all_reads, is_among, reads, unsets}
 

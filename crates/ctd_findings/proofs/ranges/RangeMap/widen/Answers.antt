@@ -1,8 +1,7 @@
-use Rattle.std.proofs.Common.{◌≡◌, Some, Option, ap, sym, ◌∙◌}
+use Rattle.std.proofs.Common.{◌≡◌, Some, ap, sym, ◌∙◌}
 use Rattle.std.proofs.lemmas.Map.Text.{btree_map_updates_str}
 use Rattle.std.specs.Map.{update}
 use Rattle.std.specs.Str.{bytes_eq}
-use Rattle.ctd_findings.specs.declared.ranges.Bounds.{Bounds}
 use Rattle.ctd_findings.specs.inner.Listed.{bounds_at, given_at}
 use Rattle.ctd_findings.specs.calls.Ranges.{joined, widened}
 use Rattle.ctd_findings.proofs.RangeMaps.{set_is_widened}
