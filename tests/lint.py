@@ -102,6 +102,8 @@ def hostile() -> Iterator[Hostile]:
     yield "counts in a pattern", 'STRING("x") ' + 'REGEX("a{1,}")' * 1000, 0
     yield "loops in loops", "INT(0,9,n) " + "REP(n) " * 199 + "SET(skip=n)" + " END" * 199, 0
     yield "many loops", "INT(0,9,n) " + "REP(n) SET(skip=n) END " * (MEGABYTE // 23 - 2), 0
+    yield "many ranges", "".join(f"INT(0,9,v{i}) ASSERT(v{i}>0) " for i in range(32_000)), 0
+    yield "many counters", "".join(f"REPI(v{i},2) SPACE END " for i in range(41_000)), 0
     yield "one name many times", "SET(n=1) ASSERT(n==1) UNSET(" + ",".join("n" for _ in range(MEGABYTE // 2 - 20)) + ")", 0
 
 

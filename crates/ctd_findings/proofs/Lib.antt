@@ -3,4 +3,7 @@ pub mod Trees
 pub mod Bodies
 pub mod Parts
 pub mod Everywhere
+pub mod InRange
+pub mod RangeMaps
+pub mod SameNames
 pub mod Additions

@@ -3,9 +3,12 @@ pub mod Block
 pub mod Names
 pub mod Literal
 pub mod Assigned
+pub mod Ranges
 pub mod Facts
 pub mod Sorts
 pub mod Sides
+pub mod Decided
 pub mod Loops
+pub mod Behind
 pub mod Kinds
 pub mod Findings

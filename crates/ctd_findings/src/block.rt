@@ -11,11 +11,12 @@ use crate::found::Found;
 use ctd_program::{Action, Choice, Command, Loop};
 use std::alloc::{AllocError, Global};
 
-/// A command, and the one that stands before it in its list, if there is one.
+/// A command, with the one that stands before it in its list, if there is one, and those behind it.
 #[derive(Clone, Copy)]
 pub(crate) struct CommandInBlock<'p> {
     pub(crate) previous: Option<&'p Command>,
     pub(crate) command: &'p Command,
+    pub(crate) behind: &'p [Command],
 }
 
 /// Adds the commands of a list, and those in them.
@@ -24,8 +25,13 @@ fn list_block<'p>(commands: &'p [Command], found: &mut Found<CommandInBlock<'p>>
     ensures adds { Adds (blocks_in found.old) (commands_behind None (command_trees commands.now)) (blocks_in found.new) }
 {
     let mut previous = None;
-    for command in commands {
-        found.add(CommandInBlock { previous, command });
+    for (i, command) in commands.iter().enumerate() {
+        let behind = &commands[i + 1..];
+        found.add(CommandInBlock {
+            previous,
+            command,
+            behind,
+        });
         list_within(command, found);
         previous = Some(command);
     }
@@ -33,7 +39,7 @@ fn list_block<'p>(commands: &'p [Command], found: &mut Found<CommandInBlock<'p>>
 
 /// Adds the commands in a command.
 #[cycle(block)]
-fn list_within<'p>(command: &'p Command, found: &mut Found<CommandInBlock<'p>>)
+pub(crate) fn list_within<'p>(command: &'p Command, found: &mut Found<CommandInBlock<'p>>)
     ensures adds { Adds (blocks_in found.old) (commands_within (command_tree command.now)) (blocks_in found.new) }
 {
     match &command.action {
@@ -67,6 +73,7 @@ fn list_separator<'p>(between: &'p Option<Box<Command>>, found: &mut Found<Comma
             found.add(CommandInBlock {
                 previous: None,
                 command,
+                behind: &[],
             });
             list_within(command, found)
         }

@@ -10,7 +10,9 @@ ghost use Rattle.ctd_findings.specs.calls.Literal.{literal_number, literal_truth
 ghost use Rattle.ctd_outline.specs.calls.Outline.{ends_with, has_wide_range, repeats_unbounded, starts_with, telling_outline};
 ghost use Rattle.std.specs.Option.{option_and_then};
 
+use crate::behind::list_behind;
 use crate::block::CommandInBlock;
+use crate::decided::list_test_range;
 use crate::finding::Remark;
 use crate::found::Found;
 use crate::kind::Kind;
@@ -28,7 +30,7 @@ use ctd_value::Store;
 use std::alloc::{AllocError, Global};
 
 /// Adds a remark where this is so.
-fn remark_if(is_so: bool, kind: Kind, found: &mut Found<Remark>)
+pub(crate) fn remark_if(is_so: bool, kind: Kind, found: &mut Found<Remark>)
     ensures adds { Adds (items_in found.old) (remark_if is_so kind) (items_in found.new) }
 {
     if is_so {
@@ -349,7 +351,7 @@ fn list_place<'p>(
 }
 
 /// Adds a remark about a name where this is so.
-fn remark_about_if(
+pub(crate) fn remark_about_if(
     alloc: Global,
     is_so: bool,
     kind: Kind,
@@ -402,6 +404,8 @@ pub(crate) fn command_remarks<'p>(
         &mut found,
     );
     list_counter(alloc, entry.command, known, &mut found)?;
+    list_behind(alloc, entry, &mut found)?;
+    list_test_range(alloc, entry.command, known, &mut found)?;
     list_own(alloc, entry.command, &known.nothing, &mut found)?;
     found.finish()
 }

@@ -33,6 +33,14 @@ pub enum Kind {
     LiteralIndex,
     /// A command in the loop gives its counter a value too.
     CounterSet,
+    /// Behind this loop its counter is read, where it is the number of turns.
+    CounterBehind,
+    /// The test of IF or WHILE is true for all numbers that INT gives its variables.
+    RangeTrue,
+    /// The test is false for all numbers that INT gives its variables.
+    RangeFalse,
+    /// The test of ASSERT is true for all numbers that INT gives its variables.
+    RepeatsBounds,
     /// The test is true whatever the data are.
     AlwaysTrue,
     /// The test is false whatever the data are.
@@ -59,7 +67,7 @@ pub enum Kind {
 
 impl Kind {
     /// All kinds, in the order in which the findings of a command stand.
-    pub const ALL: [Kind; 20] = [
+    pub const ALL: [Kind; 24] = [
         Kind::UnknownPreset,
         Kind::Unreachable,
         Kind::AfterEof,
@@ -69,6 +77,10 @@ impl Kind {
         Kind::WrongSort,
         Kind::LiteralIndex,
         Kind::CounterSet,
+        Kind::CounterBehind,
+        Kind::RangeTrue,
+        Kind::RangeFalse,
+        Kind::RepeatsBounds,
         Kind::AlwaysTrue,
         Kind::AlwaysFalse,
         Kind::SameSides,
@@ -96,6 +108,10 @@ impl Kind {
             Kind::WrongSort => "wrong-type",
             Kind::LiteralIndex => "literal-index",
             Kind::CounterSet => "counter-set",
+            Kind::CounterBehind => "counter-behind",
+            Kind::RangeTrue => "range-true",
+            Kind::RangeFalse => "range-false",
+            Kind::RepeatsBounds => "repeats-bounds",
             Kind::AlwaysTrue => "always-true",
             Kind::AlwaysFalse => "always-false",
             Kind::SameSides => "same-sides",
@@ -116,7 +132,9 @@ impl Kind {
     {
         match self {
             Kind::Unread | Kind::Caret | Kind::NoBound => Rank::Note,
-            Kind::LiteralIndex | Kind::CounterSet => Rank::Note,
+            Kind::LiteralIndex | Kind::CounterSet | Kind::CounterBehind => Rank::Note,
+            Kind::RepeatsBounds => Rank::Note,
+            Kind::RangeTrue | Kind::RangeFalse => Rank::Warning,
             Kind::UnknownPreset | Kind::Unreachable | Kind::NoValue => Rank::Warning,
             Kind::AlwaysTrue | Kind::AlwaysFalse | Kind::EmptyRange => Rank::Warning,
             Kind::EmptyString | Kind::Dollar => Rank::Warning,

@@ -2,9 +2,10 @@
 
 ghost use Rattle.std.specs.Prelude.{◌≡◌, ◌++◌, ℕ, List, OnOk, IfOk};
 ghost use Rattle.ctd_findings.specs.inner.Found.{Adds, names_in};
-ghost use Rattle.ctd_findings.specs.inner.Listed.{has_name, in_blocks};
+ghost use Rattle.ctd_findings.specs.inner.Listed.{has_name, in_blocks, range_known};
 ghost use Rattle.ctd_findings.specs.calls.Literal.{no_variables};
 ghost use Rattle.ctd_findings.specs.calls.Assigned.{all_not_numbers, all_not_texts};
+ghost use Rattle.ctd_findings.specs.calls.Ranges.{range_in};
 ghost use Rattle.ctd_findings.specs.calls.Facts.{is_given_in, is_read_elsewhere_in, is_read_in};
 ghost use Rattle.ctd_findings.specs.calls.Names.{all_given, all_mentioned, all_reads, all_reads_elsewhere, is_among, preset_names};
 
@@ -15,6 +16,7 @@ use crate::name_set::NameSet;
 use crate::names::{
     list_counts, list_name, list_reads, list_reads_elsewhere, list_sets, list_unsets,
 };
+use crate::ranges::Ranges;
 use ctd_program::Presets;
 use ctd_token::Name;
 use ctd_value::Store;
@@ -33,12 +35,14 @@ pub(crate) struct Known<'p> {
     pub(crate) not_numbers: NameSet<'p>,
     /// The names to which it gives what may be no string, and those of presets.
     pub(crate) not_texts: NameSet<'p>,
+    /// The ranges of names.
+    pub(crate) ranges: Ranges<'p>,
     /// A store that has no variables.
     pub(crate) nothing: Store,
 }
 
 /// Adds the names that some commands read.
-fn list_all_reads<'p>(commands: &[CommandInBlock<'p>], names: &mut Found<&'p Name>)
+pub(crate) fn list_all_reads<'p>(commands: &[CommandInBlock<'p>], names: &mut Found<&'p Name>)
     ensures adds { Adds (names_in names.old) (all_reads (in_blocks commands.now)) (names_in names.new) }
 {
     for entry in commands {
@@ -202,14 +206,17 @@ pub(crate) fn known_of<'p>(
     ensures elsewhere { IfOk result (λ known. (name : List ℕ) → has_name name known.read_elsewhere ≡ is_read_elsewhere_in (in_blocks commands.now) name) }
     ensures numbers { IfOk result (λ known. (name : List ℕ) → has_name name known.not_numbers ≡ is_among name (all_not_numbers (in_blocks commands.now) ++ preset_names presets.now)) }
     ensures texts { IfOk result (λ known. (name : List ℕ) → has_name name known.not_texts ≡ is_among name (all_not_texts (in_blocks commands.now) ++ preset_names presets.now)) }
+    ensures ranges { IfOk result (λ known. (name : List ℕ) → range_known known.ranges name ≡ range_in (in_blocks commands.now) presets.now name) }
     ensures nothing { IfOk result (λ known. known.nothing ≡ no_variables) }
 {
+    let nothing = empty_store(alloc)?;
     Ok(Known {
         given: given_names(alloc, commands, presets)?,
         read: read_names(alloc, commands)?,
         read_elsewhere: names_read_elsewhere(alloc, commands)?,
         not_numbers: names_not_numbers(alloc, commands, presets)?,
         not_texts: names_not_texts(alloc, commands, presets)?,
-        nothing: empty_store(alloc)?,
+        ranges: Ranges::of(alloc, commands, presets, &nothing)?,
+        nothing,
     })
 }

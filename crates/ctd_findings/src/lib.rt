@@ -2,8 +2,10 @@
 #![tactic(auto)]
 
 mod assigned;
+mod behind;
 mod block;
 mod command;
+mod decided;
 mod finding;
 mod found;
 mod kind;
@@ -14,10 +16,13 @@ mod loops;
 mod name_set;
 mod names;
 mod program;
+mod ranges;
 mod sides;
 mod sort;
 
 pub use finding::{Finding, Remark};
 pub use kind::{Kind, Rank};
-pub use laws::{literal_number_is_the_number, literal_truth_is_the_truth};
+pub use laws::{
+    literal_number_is_the_number, literal_truth_is_the_truth, range_truth_is_the_truth,
+};
 pub use program::findings;

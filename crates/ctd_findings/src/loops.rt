@@ -112,7 +112,7 @@ fn assigns(name: &Name, assignments: &[Assignment]) -> bool
 
 /// Whether a command, or one in it, gives this name a value.
 #[cycle(is_set)]
-fn is_set_by(name: &Name, command: &Command) -> bool
+pub(crate) fn is_set_by(name: &Name, command: &Command) -> bool
     ensures { result ≡ is_set_by name.now (command_tree command.now) }
 {
     match &command.action {
@@ -183,7 +183,7 @@ pub(crate) fn loop_body(command: &Command) -> &[Command]
 }
 
 /// The name of a counter, if there is one.
-fn boxed_name(counter: &Option<Box<Var>>) -> Option<&Name>
+pub(crate) fn boxed_name(counter: &Option<Box<Var>>) -> Option<&Name>
     ensures { name_at result ≡ var_name (boxed_target counter.now) }
 {
     match counter {

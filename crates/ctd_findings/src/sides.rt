@@ -9,7 +9,7 @@ use ctd_program::{Expr, Test};
 use ctd_token::Name;
 
 /// A name that has no indices.
-fn name_without<'p>(name: &'p Name, indices: &[Expr]) -> Option<&'p Name>
+pub(crate) fn name_without<'p>(name: &'p Name, indices: &[Expr]) -> Option<&'p Name>
     ensures { name_at result ≡ name_without name.now (expr_list indices.now) }
 {
     match indices {
@@ -19,7 +19,7 @@ fn name_without<'p>(name: &'p Name, indices: &[Expr]) -> Option<&'p Name>
 }
 
 /// The name that an expression is, if it is one without indices.
-fn name_in(e: &Expr) -> Option<&Name>
+pub(crate) fn name_in(e: &Expr) -> Option<&Name>
     ensures { name_at result ≡ name_in (expr_tree e.now) }
 {
     match e {

@@ -25,6 +25,11 @@ fn kind_text(kind: Kind) -> &'static str
         Kind::LiteralIndex =>
             "nothing reads this counter, and the loop sets an element by a literal index",
         Kind::CounterSet => "a command in the loop sets its counter too",
+        Kind::CounterBehind =>
+            "the counter is read behind the loop, where it is the number of turns",
+        Kind::RangeTrue => "the test is true for all numbers that INT gives its variables",
+        Kind::RangeFalse => "the test is false for all numbers that INT gives its variables",
+        Kind::RepeatsBounds => "the test asks for no more than the bounds of INT",
         Kind::AlwaysTrue => "the test is true whatever the data are",
         Kind::AlwaysFalse => "the test is false whatever the data are",
         Kind::SameSides => "the test compares a variable with itself",

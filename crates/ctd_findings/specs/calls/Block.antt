@@ -3,16 +3,17 @@ use Rattle.ctd_program.specs.Tree
 use Rattle.std.specs.Prelude.{List, [], ◌∷◌, ◌++◌, Option, Some, None}
 use Rattle.ctd_program.specs.Tree.{CommandTree, CommandList, Separator}
 
--- a command, and the one that stands before it in its list, if there is one
+-- a command, with the one that stands before it in its list, if there is one, and those behind it
 pub record InBlock : Type 0 where
   pub previous : Option CommandTree
   pub command : CommandTree
+  pub behind : CommandList
 
 abbrev mutual
   -- all commands of a list behind another command, in the order of the text: each, and what stands in it before the next
   pub commands_behind : Option CommandTree → CommandList → List InBlock
   commands_behind previous Tree.done = []
-  commands_behind previous (Tree.then c rest) = record { previous = previous; command = c } ∷ commands_within c ++ commands_behind (Some c) rest
+  commands_behind previous (Tree.then c rest) = record { previous = previous; command = c; behind = rest } ∷ commands_within c ++ commands_behind (Some c) rest
 
   -- the commands in a command
   pub commands_within : CommandTree → List InBlock
@@ -31,7 +32,7 @@ abbrev mutual
   -- a separator, if there is one
   pub separator_command : Separator → List InBlock
   separator_command Tree.nothing = []
-  separator_command (Tree.between c) = record { previous = None; command = c } ∷ commands_within c
+  separator_command (Tree.between c) = record { previous = None; command = c; behind = Tree.done } ∷ commands_within c
 
 -- all commands of a program
 abbrev pub all_commands : CommandList → List InBlock

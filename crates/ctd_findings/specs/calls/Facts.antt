@@ -1,9 +1,11 @@
 -- What is asked of the names of a program as a whole.
-use Rattle.std.specs.Prelude.{ℕ, Bool, not, ◌&&◌, List, ◌++◌}
+use Rattle.std.specs.Prelude.{ℕ, Bool, not, ◌&&◌, List, ◌++◌, Option}
 use Rattle.ctd_program.specs.declared.preset.Preset.{Preset}
 use Rattle.ctd_findings.specs.calls.Block.{InBlock}
 use Rattle.ctd_findings.specs.calls.Names.{is_among, all_reads, all_reads_elsewhere, all_given, all_mentioned, preset_names}
 use Rattle.ctd_findings.specs.calls.Assigned.{all_not_numbers, all_not_texts}
+use Rattle.ctd_findings.specs.calls.Ranges.{range_in}
+use Rattle.ctd_findings.specs.declared.ranges.Bounds.{Bounds}
 
 -- what is asked of the names of a program
 pub record Facts : Type 0 where
@@ -17,6 +19,8 @@ pub record Facts : Type 0 where
   pub is_number : List ℕ → Bool
   -- it is given values, and they are strings
   pub is_text : List ℕ → Bool
+  -- the range of the numbers that INT gives it, where nothing else gives it values
+  pub range : List ℕ → Option Bounds
 
 -- whether a program or a preset gives a name a value
 abbrev pub is_given_in : List InBlock → List Preset → List ℕ → Bool
@@ -46,6 +50,7 @@ facts_of commands presets = record {
   is_read_elsewhere = is_read_elsewhere_in commands;
   is_number = is_number_in commands presets;
   is_text = is_text_in commands presets;
+  range = range_in commands presets;
 }
 
 -- whether a program mentions a name

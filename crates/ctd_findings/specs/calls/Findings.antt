@@ -1,7 +1,7 @@
 -- The findings of a program.
 use Rattle.ctd_program.specs.Tree
 use Rattle.ctd_findings.specs.declared.kind.Kind.TheVariants as kinds
-use Rattle.std.specs.Prelude.{ℕ, ℤ, Bool, true, false, not, ◌||◌, ◌&&◌, codes, List, [], ◌∷◌, ◌++◌, map, Option, Some, None, if◌then◌else◌}
+use Rattle.std.specs.Prelude.{ℕ, ℤ, Bool, true, false, not, is_some, ◌||◌, ◌&&◌, codes, List, [], ◌∷◌, ◌++◌, map, Option, Some, None, if◌then◌else◌}
 use Rattle.std.specs.Option.{option_and_then}
 use Rattle.std.specs.Ordering.{int_cmp, is_gt}
 use Rattle.ctd_token.specs.declared.text.Place.{Place}
@@ -14,6 +14,8 @@ use Rattle.ctd_findings.specs.calls.Block.{InBlock, all_commands}
 use Rattle.ctd_findings.specs.calls.Facts.{Facts, facts_of, is_mentioned_in}
 use Rattle.ctd_findings.specs.calls.Sorts.{has_wrong_sort}
 use Rattle.ctd_findings.specs.calls.Sides.{has_same_names, has_same_sides}
+use Rattle.ctd_findings.specs.calls.Decided.{range_truth}
+use Rattle.ctd_findings.specs.calls.Behind.{is_read_behind, repi_counter}
 use Rattle.ctd_findings.specs.calls.Loops.{counter_name, is_set_in, loop_body, some_set_fixed}
 use Rattle.ctd_findings.specs.calls.Names.{NameList, begins_with, reads, unsets, sets, preset_names}
 use Rattle.ctd_findings.specs.calls.Literal.{literal_truth, literal_number}
@@ -60,6 +62,11 @@ abbrev pub truth_remarks : Option Bool → List Remark
 truth_remarks None = []
 truth_remarks (Some truth) = plain (if truth then kinds.AlwaysTrue else kinds.AlwaysFalse) ∷ []
 
+-- a remark where a test is decided: one of the given kind where it is true
+abbrev pub decided_remarks : Kind → Option Bool → List Remark
+decided_remarks if_true None = []
+decided_remarks if_true (Some truth) = plain (if truth then if_true else kinds.RangeFalse) ∷ []
+
 -- whether two numbers are known and the first is above the second
 abbrev pub is_above : Option ℤ → Option ℤ → Bool
 is_above None high = false
@@ -104,6 +111,29 @@ test_remarks None = []
 test_remarks (Some t) = truth_remarks (literal_truth t)
     ++ remark_if (has_same_sides t) kinds.SameSides
     ++ remark_if (has_same_names t) kinds.SameNames
+
+-- A remark on a test that the ranges of its variables decide, and its literals alone do not. Where it is true, the remark is of the given kind.
+abbrev pub range_remarks : Facts → Kind → TestTree → List Remark
+range_remarks facts if_true t = if is_some (literal_truth t) then [] else decided_remarks if_true (range_truth facts.range t)
+
+-- the remark on the test of WHILE
+abbrev pub guard_range_remarks : Facts → GuardTree → List Remark
+guard_range_remarks facts (Tree.turns count) = []
+guard_range_remarks facts (Tree.while t) = range_remarks facts kinds.RangeTrue t
+
+-- The remark on the test of a command. An ASSERT that is always true only repeats what INT asks for; an IF or WHILE has commands that it always does.
+abbrev pub test_range_remarks : Facts → CommandTree → List Remark
+test_range_remarks facts (Tree.space place) = []
+test_range_remarks facts (Tree.newline place) = []
+test_range_remarks facts (Tree.eof place) = []
+test_range_remarks facts (Tree.int place low high target) = []
+test_range_remarks facts (Tree.string place e) = []
+test_range_remarks facts (Tree.regex place literal target) = []
+test_range_remarks facts (Tree.assert place t) = range_remarks facts kinds.RepeatsBounds t
+test_range_remarks facts (Tree.set place assignments) = []
+test_range_remarks facts (Tree.unset place names) = []
+test_range_remarks facts (Tree.loop place guard counter separator body) = guard_range_remarks facts guard
+test_range_remarks facts (Tree.choice place t then_do else_do) = range_remarks facts kinds.RangeTrue t
 
 -- the remarks that follow from a command alone
 abbrev pub own_remarks : CommandTree → List Remark
@@ -198,6 +228,15 @@ counter_remarks facts body (Some name) = about_if (not (facts.is_read name) && s
 abbrev pub loop_remarks : Facts → CommandTree → List Remark
 loop_remarks facts c = counter_remarks facts (loop_body c) (counter_name c)
 
+-- a remark where a counter is read in these commands
+abbrev pub read_behind_remarks : CommandList → Option (List ℕ) → List Remark
+read_behind_remarks behind None = []
+read_behind_remarks behind (Some name) = about_if (is_read_behind name behind) kinds.CounterBehind name
+
+-- the remark on a REPI whose counter is read behind it
+abbrev pub behind_remarks : InBlock → List Remark
+behind_remarks x = read_behind_remarks x.behind (repi_counter x.command)
+
 -- the remarks on a command
 abbrev pub command_remarks : Facts → InBlock → List Remark
 command_remarks facts x = place_remarks x
@@ -205,6 +244,8 @@ command_remarks facts x = place_remarks x
     ++ remark_unread facts (sets x.command)
     ++ remark_if (has_wrong_sort facts x.command) kinds.WrongSort
     ++ loop_remarks facts x.command
+    ++ behind_remarks x
+    ++ test_range_remarks facts x.command
     ++ own_remarks x.command
 
 -- remarks at a place

@@ -8,7 +8,7 @@ use Rattle.ctd_findings.specs.declared.kind.Rank.{Rank}
 
 -- all kinds
 abbrev pub all_kinds : List Kind
-all_kinds = kind.UnknownPreset ∷ kind.Unreachable ∷ kind.AfterEof ∷ kind.NoValue ∷ kind.Unread ∷ kind.OwnReads ∷ kind.WrongSort ∷ kind.LiteralIndex ∷ kind.CounterSet ∷ kind.AlwaysTrue ∷ kind.AlwaysFalse ∷ kind.SameSides ∷ kind.SameNames ∷ kind.EmptyRange ∷ kind.EmptyString ∷ kind.EmptyPattern ∷ kind.LetterRange ∷ kind.Caret ∷ kind.Dollar ∷ kind.NoBound ∷ []
+all_kinds = kind.UnknownPreset ∷ kind.Unreachable ∷ kind.AfterEof ∷ kind.NoValue ∷ kind.Unread ∷ kind.OwnReads ∷ kind.WrongSort ∷ kind.LiteralIndex ∷ kind.CounterSet ∷ kind.CounterBehind ∷ kind.RangeTrue ∷ kind.RangeFalse ∷ kind.RepeatsBounds ∷ kind.AlwaysTrue ∷ kind.AlwaysFalse ∷ kind.SameSides ∷ kind.SameNames ∷ kind.EmptyRange ∷ kind.EmptyString ∷ kind.EmptyPattern ∷ kind.LetterRange ∷ kind.Caret ∷ kind.Dollar ∷ kind.NoBound ∷ []
 
 -- the name of a kind
 abbrev pub kind_name : Kind → List ℕ
@@ -21,6 +21,10 @@ kind_name kind.OwnReads = codes "own-reads"
 kind_name kind.WrongSort = codes "wrong-type"
 kind_name kind.LiteralIndex = codes "literal-index"
 kind_name kind.CounterSet = codes "counter-set"
+kind_name kind.CounterBehind = codes "counter-behind"
+kind_name kind.RangeTrue = codes "range-true"
+kind_name kind.RangeFalse = codes "range-false"
+kind_name kind.RepeatsBounds = codes "repeats-bounds"
 kind_name kind.AlwaysTrue = codes "always-true"
 kind_name kind.AlwaysFalse = codes "always-false"
 kind_name kind.SameSides = codes "same-sides"
@@ -53,6 +57,10 @@ rank kind.OwnReads = ranks.Warning
 rank kind.WrongSort = ranks.Warning
 rank kind.LiteralIndex = ranks.Note
 rank kind.CounterSet = ranks.Note
+rank kind.CounterBehind = ranks.Note
+rank kind.RangeTrue = ranks.Warning
+rank kind.RangeFalse = ranks.Warning
+rank kind.RepeatsBounds = ranks.Note
 rank kind.AlwaysTrue = ranks.Warning
 rank kind.AlwaysFalse = ranks.Warning
 rank kind.SameSides = ranks.Warning

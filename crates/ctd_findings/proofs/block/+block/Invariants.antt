@@ -6,5 +6,5 @@ use Rattle.ctd_findings.specs.inner.Listed.{command_at}
 use Rattle.ctd_findings.proofs.Additions.{Leads}
 use Rattle.ctd_findings.proofs.block.+block.Given as goal
 
-abbrev pub invariant-list_block-loop-command : goal.invariant-list_block-loop-command
-invariant-list_block-loop-command l = Leads (blocks_in l.initial.found) (commands_behind None (command_trees l.commands)) (blocks_in l.found) (commands_behind (command_at l.previous) (command_trees (drop l.command-index l.commands)))
+abbrev pub invariant-list_block-loop-i : goal.invariant-list_block-loop-i
+invariant-list_block-loop-i l = Leads (blocks_in l.initial.found) (commands_behind None (command_trees l.commands)) (blocks_in l.found) (commands_behind (command_at l.previous) (command_trees (drop l.i l.commands)))

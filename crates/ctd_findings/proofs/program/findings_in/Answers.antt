@@ -16,6 +16,7 @@ returns c =
       is_read_elsewhere = λ n. c.in_ok-known.ensures.elsewhere n i;
       is_number = λ n. c.in_ok-known.ensures.given n i && not (c.in_ok-known.ensures.numbers n i);
       is_text = λ n. c.in_ok-known.ensures.given n i && not (c.in_ok-known.ensures.texts n i);
+      range = λ n. c.in_ok-known.ensures.ranges n i;
     } in
     let empty : c.new-found.result.items ≡ [] = search rules in
     let first : c.place_all.new.found.items ≡ preset_findings commands presets =
