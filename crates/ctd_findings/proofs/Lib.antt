@@ -4,3 +4,4 @@ pub mod Bodies
 pub mod Parts
 pub mod Everywhere
 pub mod Additions
+pub mod OneTree

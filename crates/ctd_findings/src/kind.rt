@@ -33,13 +33,15 @@ pub enum Kind {
     LiteralIndex,
     /// A command in the loop gives its counter a value too.
     CounterSet,
+    /// Each turn of this loop fills an array and looks at it as a whole, and none forgets it.
+    KeptArray,
     /// The test is true whatever the data are.
     AlwaysTrue,
     /// The test is false whatever the data are.
     AlwaysFalse,
-    /// A variable is compared with itself.
+    /// The two sides of a comparison are the same.
     SameSides,
-    /// UNIQUE has a name twice in a row.
+    /// UNIQUE has a name twice.
     SameNames,
     /// The least integer is above the greatest.
     EmptyRange,
@@ -49,17 +51,21 @@ pub enum Kind {
     EmptyPattern,
     /// A class has `A-z`.
     LetterRange,
+    /// An alternative of the pattern is never taken, since an earlier one is its beginning.
+    HiddenAlternative,
     /// The pattern begins with `^`.
     Caret,
     /// The pattern ends with `$`.
     Dollar,
     /// The pattern repeats a part without a bound.
     NoBound,
+    /// The pattern matches a line feed and names none.
+    LineFeed,
 }
 
 impl Kind {
     /// All kinds, in the order in which the findings of a command stand.
-    pub const ALL: [Kind; 20] = [
+    pub const ALL: [Kind; 23] = [
         Kind::UnknownPreset,
         Kind::Unreachable,
         Kind::AfterEof,
@@ -69,6 +75,7 @@ impl Kind {
         Kind::WrongSort,
         Kind::LiteralIndex,
         Kind::CounterSet,
+        Kind::KeptArray,
         Kind::AlwaysTrue,
         Kind::AlwaysFalse,
         Kind::SameSides,
@@ -77,9 +84,11 @@ impl Kind {
         Kind::EmptyString,
         Kind::EmptyPattern,
         Kind::LetterRange,
+        Kind::HiddenAlternative,
         Kind::Caret,
         Kind::Dollar,
         Kind::NoBound,
+        Kind::LineFeed,
     ];
 
     /// The name of a kind, as `no-value`.
@@ -96,6 +105,7 @@ impl Kind {
             Kind::WrongSort => "wrong-type",
             Kind::LiteralIndex => "literal-index",
             Kind::CounterSet => "counter-set",
+            Kind::KeptArray => "kept-array",
             Kind::AlwaysTrue => "always-true",
             Kind::AlwaysFalse => "always-false",
             Kind::SameSides => "same-sides",
@@ -104,9 +114,11 @@ impl Kind {
             Kind::EmptyString => "empty-string",
             Kind::EmptyPattern => "empty-pattern",
             Kind::LetterRange => "letter-range",
+            Kind::HiddenAlternative => "hidden-alternative",
             Kind::Caret => "caret",
             Kind::Dollar => "dollar",
             Kind::NoBound => "no-bound",
+            Kind::LineFeed => "line-feed",
         }
     }
 
@@ -115,14 +127,14 @@ impl Kind {
         ensures { result ≡ rank self }
     {
         match self {
-            Kind::Unread | Kind::Caret | Kind::NoBound => Rank::Note,
-            Kind::LiteralIndex | Kind::CounterSet => Rank::Note,
+            Kind::Unread | Kind::Caret | Kind::NoBound | Kind::LineFeed => Rank::Note,
+            Kind::LiteralIndex | Kind::CounterSet | Kind::KeptArray => Rank::Note,
             Kind::UnknownPreset | Kind::Unreachable | Kind::NoValue => Rank::Warning,
             Kind::AlwaysTrue | Kind::AlwaysFalse | Kind::EmptyRange => Rank::Warning,
             Kind::EmptyString | Kind::Dollar => Rank::Warning,
             Kind::AfterEof | Kind::OwnReads | Kind::WrongSort => Rank::Warning,
             Kind::SameSides | Kind::SameNames => Rank::Warning,
-            Kind::EmptyPattern | Kind::LetterRange => Rank::Warning,
+            Kind::EmptyPattern | Kind::LetterRange | Kind::HiddenAlternative => Rank::Warning,
         }
     }
 

@@ -7,6 +7,8 @@ ghost use Rattle.ctd_store.specs.Store.{History};
 ghost use Rattle.ctd_value.specs.Truth.{truth};
 ghost use Rattle.ctd_value.specs.Val.{number_of};
 ghost use Rattle.ctd_findings.specs.calls.Literal.{literal_number, literal_truth};
+ghost use Rattle.ctd_findings.specs.calls.Same.{same};
+ghost use Rattle.std.specs.Bool.{Decides};
 
 /// A test that is true, or false, by its literals is so whatever the variables and the data are.
 pub fn literal_truth_is_the_truth()
@@ -16,4 +18,9 @@ pub fn literal_truth_is_the_truth()
 /// An expression that is a number by its literals is this number whatever the variables are.
 pub fn literal_number_is_the_number()
     ensures always { (e : ExprTree) (n : ℤ) → literal_number e ≡ Some n → (h : History) → number_of e h ≡ Ok n }
+{}
+
+/// Two expressions that count as the same are one tree, and one tree counts as the same.
+pub fn same_is_one_tree()
+    ensures always { (t u : ExprTree) → Decides (same t u) (t ≡ u) }
 {}

@@ -3,6 +3,7 @@
 
 mod assigned;
 mod block;
+mod cases;
 mod command;
 mod finding;
 mod found;
@@ -14,10 +15,11 @@ mod loops;
 mod name_set;
 mod names;
 mod program;
+mod same;
 mod sides;
 mod sort;
 
 pub use finding::{Finding, Remark};
 pub use kind::{Kind, Rank};
-pub use laws::{literal_number_is_the_number, literal_truth_is_the_truth};
+pub use laws::{literal_number_is_the_number, literal_truth_is_the_truth, same_is_one_tree};
 pub use program::findings;
