@@ -21,7 +21,7 @@ use Rattle.ctd_value.specs.Truth.{as_test, compares, holds_by, truth}
 use Rattle.ctd_findings.specs.declared.ranges.Bounds.{Bounds}
 use Rattle.ctd_findings.specs.calls.Decided.{IsOrUndefined, IsWithin, KeepsTo, holds_of_all, known_and, known_or, one_answer, only, opposite, range_truth, side_range}
 use Rattle.ctd_findings.specs.calls.Literal.{literal_number}
-use Rattle.ctd_findings.specs.calls.Sides.{name_in}
+use Rattle.ctd_findings.specs.calls.Ranges.{name_in}
 use Rattle.ctd_findings.proofs.Everywhere.{number_everywhere}
 
 -- a side of a comparison has a number of the range, or a variable without a value

@@ -7,3 +7,4 @@ pub mod InRange
 pub mod RangeMaps
 pub mod SameNames
 pub mod Additions
+pub mod OneTree

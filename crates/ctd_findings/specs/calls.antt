@@ -6,9 +6,11 @@ pub mod Assigned
 pub mod Ranges
 pub mod Facts
 pub mod Sorts
+pub mod Same
 pub mod Sides
 pub mod Decided
 pub mod Loops
 pub mod Behind
+pub mod Cases
 pub mod Kinds
 pub mod Findings

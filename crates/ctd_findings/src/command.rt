@@ -2,17 +2,20 @@
 
 ghost use Rattle.std.specs.Prelude.{◌≡◌, ◌++◌, ◌∷◌, [], OnOk, IfOk};
 ghost use Rattle.ctd_program.specs.calls.View.{command_tree, expr_tree, guard_tree, test_tree};
-ghost use Rattle.ctd_findings.specs.calls.Findings.{about, about_if, command_remarks, follows_endless, follows_eof, guard_test, is_above, is_empty_text, is_endless, is_eof, is_known_true, is_set_aside, loop_remarks, loop_test, own_remarks, pattern_remarks, place_remarks, remark_if, remark_unknown, remark_unread, takes_bytes, test_remarks, truth_remarks, unread_kind};
+ghost use Rattle.ctd_findings.specs.calls.Findings.{about, about_if, command_remarks, content_remarks, follows_endless, follows_eof, form_remarks, guard_test, is_above, is_empty_text, is_endless, is_eof, is_known_true, is_set_aside, loop_remarks, loop_test, own_remarks, pattern_remarks, place_remarks, remark_if, remark_unknown, remark_unread, takes_bytes, test_remarks, truth_remarks, unread_kind};
 ghost use Rattle.ctd_findings.specs.inner.Found.{Adds, items_in};
 ghost use Rattle.ctd_findings.specs.inner.Listed.{command_at, facts_known, has_name, in_block, names_at, test_at};
 ghost use Rattle.ctd_findings.specs.calls.Names.{reads, sets, unsets};
 ghost use Rattle.ctd_findings.specs.calls.Literal.{literal_number, literal_truth, no_variables};
+ghost use Rattle.ctd_outline.specs.calls.Alternatives.{hides_alternative};
+ghost use Rattle.ctd_outline.specs.calls.LineFeeds.{matches_feed};
 ghost use Rattle.ctd_outline.specs.calls.Outline.{ends_with, has_wide_range, repeats_unbounded, starts_with, telling_outline};
 ghost use Rattle.std.specs.Option.{option_and_then};
 
 use crate::behind::list_behind;
 use crate::block::CommandInBlock;
 use crate::decided::list_test_range;
+use crate::cases::list_kept;
 use crate::finding::Remark;
 use crate::found::Found;
 use crate::kind::Kind;
@@ -216,19 +219,29 @@ fn is_empty_text(e: &Expr) -> bool
     }
 }
 
-/// Adds the remarks on a pattern of this form.
+/// Adds the remarks on what stands in a pattern of this form.
+fn list_content(pattern: &[u8], form: Form, found: &mut Found<Remark>)
+    requires range { form.has_wide_range ≡ has_wide_range pattern.now }
+    requires hidden { form.hides_alternative ≡ hides_alternative (telling_outline pattern.now) }
+    ensures adds { Adds (items_in found.old) (content_remarks pattern.now (telling_outline pattern.now)) (items_in found.new) }
+{
+    remark_if(pattern.is_empty(), Kind::EmptyPattern, found);
+    remark_if(form.has_wide_range, Kind::LetterRange, found);
+    remark_if(form.hides_alternative, Kind::HiddenAlternative, found);
+}
+
+/// Adds the remarks on how a pattern of this form begins and ends, and on what it may match.
 fn list_form(pattern: &[u8], form: Form, found: &mut Found<Remark>)
     requires caret { form.starts_with_caret ≡ starts_with 94 (telling_outline pattern.now) }
     requires dollar { form.ends_with_dollar ≡ ends_with 36 (telling_outline pattern.now) }
     requires unbounded { form.is_unbounded ≡ repeats_unbounded (telling_outline pattern.now) }
-    requires range { form.has_wide_range ≡ has_wide_range pattern.now }
-    ensures adds { Adds (items_in found.old) (pattern_remarks pattern.now) (items_in found.new) }
+    requires feed { form.matches_feed ≡ matches_feed pattern.now }
+    ensures adds { Adds (items_in found.old) (form_remarks pattern.now (telling_outline pattern.now)) (items_in found.new) }
 {
-    remark_if(pattern.is_empty(), Kind::EmptyPattern, found);
-    remark_if(form.has_wide_range, Kind::LetterRange, found);
     remark_if(form.starts_with_caret, Kind::Caret, found);
     remark_if(form.ends_with_dollar, Kind::Dollar, found);
     remark_if(form.is_unbounded, Kind::NoBound, found);
+    remark_if(form.matches_feed, Kind::LineFeed, found);
 }
 
 /// Adds the remarks on a pattern.
@@ -236,6 +249,7 @@ fn list_pattern(alloc: Global, pattern: &[u8], found: &mut Found<Remark>) -> Res
     ensures adds { OnOk result (Adds (items_in found.old) (pattern_remarks pattern.now) (items_in found.new)) }
 {
     let form = form_of(alloc, pattern)?;
+    list_content(pattern, form, found);
     list_form(pattern, form, found);
     Ok(())
 }
@@ -406,6 +420,7 @@ pub(crate) fn command_remarks<'p>(
     list_counter(alloc, entry.command, known, &mut found)?;
     list_behind(alloc, entry, &mut found)?;
     list_test_range(alloc, entry.command, known, &mut found)?;
+    list_kept(alloc, entry.command, known, &mut found)?;
     list_own(alloc, entry.command, &known.nothing, &mut found)?;
     found.finish()
 }

@@ -8,7 +8,7 @@ ghost use Rattle.ctd_findings.specs.inner.Listed.{facts_known, range_known};
 ghost use Rattle.ctd_findings.specs.calls.Decided.{holds_of_all, one_answer, opposite, range_truth, side_range};
 ghost use Rattle.ctd_findings.specs.calls.Findings.{decided_remarks, guard_range_remarks, range_remarks, test_range_remarks};
 ghost use Rattle.ctd_findings.specs.calls.Literal.{no_variables};
-ghost use Rattle.ctd_findings.specs.calls.Sides.{name_in};
+ghost use Rattle.ctd_findings.specs.calls.Ranges.{name_in};
 
 use crate::command::remark_if;
 use crate::finding::Remark;
@@ -16,8 +16,7 @@ use crate::found::Found;
 use crate::kind::Kind;
 use crate::known::Known;
 use crate::literal::{literal_number, literal_truth};
-use crate::ranges::Bounds;
-use crate::sides::name_in;
+use crate::ranges::{Bounds, name_in};
 use ctd_program::{Action, Command, Compare, Expr, LoopGuard, Test};
 use std::alloc::{AllocError, Global};
 

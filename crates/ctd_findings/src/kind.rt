@@ -41,13 +41,15 @@ pub enum Kind {
     RangeFalse,
     /// The test of ASSERT is true for all numbers that INT gives its variables.
     RepeatsBounds,
+    /// Each turn of this loop fills an array and looks at it as a whole, and none forgets it.
+    KeptArray,
     /// The test is true whatever the data are.
     AlwaysTrue,
     /// The test is false whatever the data are.
     AlwaysFalse,
-    /// A variable is compared with itself.
+    /// The two sides of a comparison are the same.
     SameSides,
-    /// UNIQUE has a name twice in a row.
+    /// UNIQUE has a name twice.
     SameNames,
     /// The least integer is above the greatest.
     EmptyRange,
@@ -57,17 +59,21 @@ pub enum Kind {
     EmptyPattern,
     /// A class has `A-z`.
     LetterRange,
+    /// An alternative of the pattern is never taken, since an earlier one is its beginning.
+    HiddenAlternative,
     /// The pattern begins with `^`.
     Caret,
     /// The pattern ends with `$`.
     Dollar,
     /// The pattern repeats a part without a bound.
     NoBound,
+    /// The pattern matches a line feed and names none.
+    LineFeed,
 }
 
 impl Kind {
     /// All kinds, in the order in which the findings of a command stand.
-    pub const ALL: [Kind; 24] = [
+    pub const ALL: [Kind; 27] = [
         Kind::UnknownPreset,
         Kind::Unreachable,
         Kind::AfterEof,
@@ -81,6 +87,7 @@ impl Kind {
         Kind::RangeTrue,
         Kind::RangeFalse,
         Kind::RepeatsBounds,
+        Kind::KeptArray,
         Kind::AlwaysTrue,
         Kind::AlwaysFalse,
         Kind::SameSides,
@@ -89,9 +96,11 @@ impl Kind {
         Kind::EmptyString,
         Kind::EmptyPattern,
         Kind::LetterRange,
+        Kind::HiddenAlternative,
         Kind::Caret,
         Kind::Dollar,
         Kind::NoBound,
+        Kind::LineFeed,
     ];
 
     /// The name of a kind, as `no-value`.
@@ -112,6 +121,7 @@ impl Kind {
             Kind::RangeTrue => "range-true",
             Kind::RangeFalse => "range-false",
             Kind::RepeatsBounds => "repeats-bounds",
+            Kind::KeptArray => "kept-array",
             Kind::AlwaysTrue => "always-true",
             Kind::AlwaysFalse => "always-false",
             Kind::SameSides => "same-sides",
@@ -120,9 +130,11 @@ impl Kind {
             Kind::EmptyString => "empty-string",
             Kind::EmptyPattern => "empty-pattern",
             Kind::LetterRange => "letter-range",
+            Kind::HiddenAlternative => "hidden-alternative",
             Kind::Caret => "caret",
             Kind::Dollar => "dollar",
             Kind::NoBound => "no-bound",
+            Kind::LineFeed => "line-feed",
         }
     }
 
@@ -131,16 +143,16 @@ impl Kind {
         ensures { result ≡ rank self }
     {
         match self {
-            Kind::Unread | Kind::Caret | Kind::NoBound => Rank::Note,
+            Kind::Unread | Kind::Caret | Kind::NoBound | Kind::LineFeed => Rank::Note,
             Kind::LiteralIndex | Kind::CounterSet | Kind::CounterBehind => Rank::Note,
-            Kind::RepeatsBounds => Rank::Note,
+            Kind::RepeatsBounds | Kind::KeptArray => Rank::Note,
             Kind::RangeTrue | Kind::RangeFalse => Rank::Warning,
             Kind::UnknownPreset | Kind::Unreachable | Kind::NoValue => Rank::Warning,
             Kind::AlwaysTrue | Kind::AlwaysFalse | Kind::EmptyRange => Rank::Warning,
             Kind::EmptyString | Kind::Dollar => Rank::Warning,
             Kind::AfterEof | Kind::OwnReads | Kind::WrongSort => Rank::Warning,
             Kind::SameSides | Kind::SameNames => Rank::Warning,
-            Kind::EmptyPattern | Kind::LetterRange => Rank::Warning,
+            Kind::EmptyPattern | Kind::LetterRange | Kind::HiddenAlternative => Rank::Warning,
         }
     }
 

@@ -4,6 +4,7 @@
 mod assigned;
 mod behind;
 mod block;
+mod cases;
 mod command;
 mod decided;
 mod finding;
@@ -17,6 +18,7 @@ mod name_set;
 mod names;
 mod program;
 mod ranges;
+mod same;
 mod sides;
 mod sort;
 
@@ -24,5 +26,6 @@ pub use finding::{Finding, Remark};
 pub use kind::{Kind, Rank};
 pub use laws::{
     literal_number_is_the_number, literal_truth_is_the_truth, range_truth_is_the_truth,
+    same_is_one_tree,
 };
 pub use program::findings;

@@ -62,7 +62,7 @@ fn list_both<'p>(a: &'p Expr, b: &'p Expr, found: &mut Found<&'p Name>)
 }
 
 /// Adds names.
-fn list_all<'p>(names: &'p [Name], found: &mut Found<&'p Name>)
+pub(crate) fn list_all<'p>(names: &'p [Name], found: &mut Found<&'p Name>)
     ensures adds { Adds (names_in found.old) names.now (names_in found.new) }
 {
     for name in names {

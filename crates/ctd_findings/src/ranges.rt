@@ -1,12 +1,12 @@
 //! The numbers that a variable can have where INT alone gives it values.
 
 ghost use Rattle.std.specs.Prelude.{◌≡◌, ◌++◌, ℕ, List, None, OnOk, IfOk};
-ghost use Rattle.ctd_program.specs.calls.View.{command_tree, expr_tree, target};
+ghost use Rattle.ctd_program.specs.calls.View.{command_tree, expr_list, expr_tree, target};
 ghost use Rattle.ctd_findings.specs.inner.Found.{Adds, names_in};
 ghost use Rattle.ctd_findings.specs.inner.Listed.{bounds_at, given_at, has_name, in_blocks, name_at, range_known};
 ghost use Rattle.ctd_findings.specs.calls.Literal.{literal_number, no_variables};
 ghost use Rattle.ctd_findings.specs.calls.Names.{is_among, preset_names};
-ghost use Rattle.ctd_findings.specs.calls.Ranges.{all_given_otherwise, bounds_by, gives_otherwise, joined, named_range, plain_name, range_among, range_given, range_in, widened};
+ghost use Rattle.ctd_findings.specs.calls.Ranges.{all_given_otherwise, bounds_by, gives_otherwise, joined, name_in, name_without, named_range, plain_name, range_among, range_given, range_in, widened};
 
 use crate::block::CommandInBlock;
 use crate::found::Found;
@@ -14,7 +14,6 @@ use crate::known::list_presets;
 use crate::literal::literal_number;
 use crate::name_set::NameSet;
 use crate::names::{list_counts, list_sets};
-use crate::sides::name_without;
 use ctd_program::{Action, Command, Expr, Presets, Var};
 use ctd_token::Name;
 use ctd_value::Store;
@@ -46,6 +45,29 @@ pub(crate) struct RangeMap<'p> {
 pub(crate) struct Ranges<'p> {
     map: RangeMap<'p>,
     others: NameSet<'p>,
+}
+
+/// A name that has no indices.
+fn name_without<'p>(name: &'p Name, indices: &[Expr]) -> Option<&'p Name>
+    ensures { name_at result ≡ name_without name.now (expr_list indices.now) }
+{
+    match indices {
+        [] => Some(name),
+        [_, ..] => None,
+    }
+}
+
+/// The name that an expression is, if it is one without indices.
+pub(crate) fn name_in(e: &Expr) -> Option<&Name>
+    ensures { name_at result ≡ name_in (expr_tree e.now) }
+{
+    match e {
+        Expr::Name(name) => Some(name),
+        Expr::Element(element) => name_without(&element.name, element.indices.as_slice()),
+        Expr::Numeral(_) | Expr::Text(_) | Expr::Strlen(_) | Expr::Minus(_) => None,
+        Expr::Add(_, _) | Expr::Sub(_, _) | Expr::Mul(_, _) => None,
+        Expr::Div(_, _) | Expr::Rem(_, _) | Expr::Pow(_, _) => None,
+    }
 }
 
 /// The bounds of INT, where both are numbers by their literals.

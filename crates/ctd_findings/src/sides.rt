@@ -1,80 +1,67 @@
-//! Tests that compare a variable with itself.
+//! Tests with two equal sides, or an array twice.
 
-ghost use Rattle.std.specs.Prelude.{◌≡◌};
-ghost use Rattle.ctd_program.specs.calls.View.{expr_list, expr_tree, test_tree};
-ghost use Rattle.ctd_findings.specs.calls.Sides.{has_pair, has_same_names, has_same_sides, is_same_name, name_in, name_without};
-ghost use Rattle.ctd_findings.specs.inner.Listed.{name_at};
+ghost use Rattle.std.specs.Prelude.{◌≡◌, ◌&&◌, length, nat_le};
+ghost use Rattle.ctd_program.specs.calls.View.{test_tree};
+ghost use Rattle.ctd_findings.specs.calls.Sides.{has_same_names, has_same_sides, is_in, stands_twice};
 
-use ctd_program::{Expr, Test};
+use crate::same::{has_variable, is_same};
+use ctd_program::Test;
 use ctd_token::Name;
 
-/// A name that has no indices.
-pub(crate) fn name_without<'p>(name: &'p Name, indices: &[Expr]) -> Option<&'p Name>
-    ensures { name_at result ≡ name_without name.now (expr_list indices.now) }
-{
-    match indices {
-        [] => Some(name),
-        [_, ..] => None,
-    }
-}
+/// Of how many names in one UNIQUE all are compared.
+const MOST_NAMES: usize = 100;
 
-/// The name that an expression is, if it is one without indices.
-pub(crate) fn name_in(e: &Expr) -> Option<&Name>
-    ensures { name_at result ≡ name_in (expr_tree e.now) }
-{
-    match e {
-        Expr::Name(name) => Some(name),
-        Expr::Element(element) => name_without(&element.name, element.indices.as_slice()),
-        Expr::Numeral(_) | Expr::Text(_) | Expr::Strlen(_) | Expr::Minus(_) => None,
-        Expr::Add(_, _) | Expr::Sub(_, _) | Expr::Mul(_, _) => None,
-        Expr::Div(_, _) | Expr::Rem(_, _) | Expr::Pow(_, _) => None,
-    }
-}
-
-/// Whether two names are there and are one.
-fn is_same_name(a: Option<&Name>, b: Option<&Name>) -> bool
-    ensures { result ≡ is_same_name (name_at a.entry) (name_at b.entry) }
-{
-    match (a, b) {
-        (Some(a), Some(b)) => a.as_slice() == b.as_slice(),
-        _ => false,
-    }
-}
-
-/// Whether a test compares a variable without indices with itself.
+/// Whether a test compares an expression that has a variable with itself.
 pub(crate) fn has_same_sides(t: &Test) -> bool
     ensures { result ≡ has_same_sides (test_tree t.now) }
 {
     match t {
         Test::Or(a, b) | Test::And(a, b) => has_same_sides(a) || has_same_sides(b),
         Test::Not(t) => has_same_sides(t),
-        Test::Compare(_, a, b) => is_same_name(name_in(a), name_in(b)),
+        Test::Compare(_, a, b) => has_variable(a) && is_same(a, b),
         Test::Match(_) | Test::IsEof | Test::Unique(_) | Test::InArray(_, _) => false,
     }
 }
 
-/// Whether a name stands twice in a row.
-fn has_pair(names: &[Name]) -> bool
-    ensures { result ≡ has_pair names.now }
+/// Whether a name is one of these.
+fn is_in(name: &Name, names: &[Name]) -> bool
+    ensures { result ≡ is_in name.now names.now }
 {
-    for (i, name) in names.iter().enumerate() {
-        if let [next, ..] = &names[i + 1..] {
-            if name.as_slice() == next.as_slice() {
-                return true;
-            }
+    for other in names {
+        if other.as_slice() == name.as_slice() {
+            return true;
         }
     }
     false
 }
 
-/// Whether UNIQUE has a name twice in a row.
+/// Whether one of these names stands twice.
+fn stands_twice(names: &[Name]) -> bool
+    ensures { result ≡ stands_twice names.now }
+{
+    for (i, name) in names.iter().enumerate() {
+        if is_in(name, &names[i + 1..]) {
+            return true;
+        }
+    }
+    false
+}
+
+/// Whether there are not too many names, and one of them stands twice.
+fn repeats(names: &[Name]) -> bool
+    ensures { result ≡ (nat_le (length names.now) 100 && stands_twice names.now) }
+{
+    names.len() <= MOST_NAMES && stands_twice(names)
+}
+
+/// Whether UNIQUE has a name twice.
 pub(crate) fn has_same_names(t: &Test) -> bool
     ensures { result ≡ has_same_names (test_tree t.now) }
 {
     match t {
         Test::Or(a, b) | Test::And(a, b) => has_same_names(a) || has_same_names(b),
         Test::Not(t) => has_same_names(t),
-        Test::Unique(names) => has_pair(names.as_slice()),
+        Test::Unique(names) => repeats(names.as_slice()),
         Test::Compare(_, _, _) | Test::Match(_) | Test::IsEof | Test::InArray(_, _) => false,
     }
 }

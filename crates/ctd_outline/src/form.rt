@@ -2,7 +2,11 @@
 
 ghost use Rattle.std.specs.Prelude.{◌≡◌, IfOk};
 ghost use Rattle.ctd_outline.specs.calls.Outline.{ends_with, has_special_group, has_wide_range, is_in_count, is_open_count, is_outside, is_special_group, is_unclear, next_part, opens, outline, part_along, part_behind, part_inside, repeats_unbounded, starts_with, telling_outline};
+ghost use Rattle.ctd_outline.specs.calls.LineFeeds.{matches_feed};
+ghost use Rattle.ctd_outline.specs.calls.Alternatives.{hides_alternative};
 
+use crate::alternative::hides_alternative;
+use crate::feed::matches_feed;
 use std::alloc::{AllocError, Global};
 
 /// What the outline of a pattern shows.
@@ -16,6 +20,10 @@ pub struct Form {
     pub is_unbounded: bool,
     /// A class has `A-z`.
     pub has_wide_range: bool,
+    /// It matches a line feed and names none.
+    pub matches_feed: bool,
+    /// One of its last alternatives is the beginning of a later one.
+    pub hides_alternative: bool,
 }
 
 /// How a byte of a pattern stands to the bytes in front of it.
@@ -48,7 +56,7 @@ pub(crate) struct Part {
 const DEEPEST: u8 = 250;
 
 /// Where a pattern begins.
-const START: Part = Part {
+pub(crate) const START: Part = Part {
     depth: 0,
     position: Position::Plain,
 };
@@ -97,7 +105,7 @@ fn part_behind(depth: u8, byte: u8) -> Part
 }
 
 /// Where the byte behind this one stands.
-fn next_part(part: Part, byte: u8) -> Part
+pub(crate) fn next_part(part: Part, byte: u8) -> Part
     ensures { result ≡ next_part part byte }
 {
     let depth = part.depth;
@@ -126,7 +134,7 @@ fn next_part(part: Part, byte: u8) -> Part
 }
 
 /// Whether it stays open where a class ends.
-fn is_unclear(pattern: &[u8]) -> bool
+pub(crate) fn is_unclear(pattern: &[u8]) -> bool
     ensures { result ≡ is_unclear pattern.now }
 {
     let mut part = START;
@@ -144,14 +152,14 @@ fn opens(byte: u8) -> bool
 }
 
 /// Whether a byte that stands so is in no escape and in no class.
-fn is_outside(part: Part) -> bool
+pub(crate) fn is_outside(part: Part) -> bool
     ensures { result ≡ is_outside part }
 {
     part.depth == 0 && matches!(part.position, Position::Plain)
 }
 
 /// The outline of a pattern: a point in place of each escape and of each class.
-fn outline(alloc: Global, pattern: &[u8]) -> Result<Vec<u8>, AllocError>
+pub(crate) fn outline(alloc: Global, pattern: &[u8]) -> Result<Vec<u8>, AllocError>
     ensures { IfOk result (λ o. o.items ≡ outline pattern.now) }
 {
     let mut outlined = Vec::new(alloc);
@@ -166,7 +174,7 @@ fn outline(alloc: Global, pattern: &[u8]) -> Result<Vec<u8>, AllocError>
 }
 
 /// Whether the first byte is this one.
-fn starts_with(byte: u8, outline: &[u8]) -> bool
+pub(crate) fn starts_with(byte: u8, outline: &[u8]) -> bool
     ensures { result ≡ starts_with byte outline.now }
 {
     match outline {
@@ -230,7 +238,7 @@ fn is_special_group(outline: &[u8]) -> bool
 }
 
 /// Whether a group with flags or a name stands somewhere: `(?`, and then no `:`.
-fn has_special_group(outline: &[u8]) -> bool
+pub(crate) fn has_special_group(outline: &[u8]) -> bool
     ensures { result ≡ has_special_group outline.now }
 {
     for (i, byte) in outline.iter().enumerate() {
@@ -273,6 +281,8 @@ pub fn form_of(alloc: Global, pattern: &[u8]) -> Result<Form, AllocError>
     ensures dollar { IfOk result (λ form. form.ends_with_dollar ≡ ends_with 36 (telling_outline pattern.now)) }
     ensures unbounded { IfOk result (λ form. form.is_unbounded ≡ repeats_unbounded (telling_outline pattern.now)) }
     ensures range { IfOk result (λ form. form.has_wide_range ≡ has_wide_range pattern.now) }
+    ensures feed { IfOk result (λ form. form.matches_feed ≡ matches_feed pattern.now) }
+    ensures hidden { IfOk result (λ form. form.hides_alternative ≡ hides_alternative (telling_outline pattern.now)) }
 {
     let outline = telling_outline(alloc, pattern)?;
     let bytes = outline.as_slice();
@@ -281,5 +291,7 @@ pub fn form_of(alloc: Global, pattern: &[u8]) -> Result<Form, AllocError>
         ends_with_dollar: ends_with(b'$', bytes),
         is_unbounded: repeats_unbounded(bytes),
         has_wide_range: has_wide_range(pattern),
+        matches_feed: matches_feed(alloc, pattern)?,
+        hides_alternative: hides_alternative(bytes),
     })
 }

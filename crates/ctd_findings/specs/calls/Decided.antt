@@ -12,7 +12,7 @@ use Rattle.ctd_value.specs.Fault.{TruthFault, Undefined, WrongType, Overflow, Di
 use Rattle.ctd_value.specs.Fault as faults
 use Rattle.ctd_findings.specs.declared.ranges.Bounds.{Bounds}
 use Rattle.ctd_findings.specs.calls.Literal.{literal_number}
-use Rattle.ctd_findings.specs.calls.Sides.{name_in}
+use Rattle.ctd_findings.specs.calls.Ranges.{name_in}
 
 -- a number as a range
 abbrev pub only : ℤ → Bounds

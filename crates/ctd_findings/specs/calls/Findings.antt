@@ -16,9 +16,12 @@ use Rattle.ctd_findings.specs.calls.Sorts.{has_wrong_sort}
 use Rattle.ctd_findings.specs.calls.Sides.{has_same_names, has_same_sides}
 use Rattle.ctd_findings.specs.calls.Decided.{range_truth}
 use Rattle.ctd_findings.specs.calls.Behind.{is_read_behind, repi_counter}
+use Rattle.ctd_findings.specs.calls.Cases.{all_arrays, all_unset, is_uncounted, loops_fill}
 use Rattle.ctd_findings.specs.calls.Loops.{counter_name, is_set_in, loop_body, some_set_fixed}
-use Rattle.ctd_findings.specs.calls.Names.{NameList, begins_with, reads, unsets, sets, preset_names}
+use Rattle.ctd_findings.specs.calls.Names.{NameList, is_among, begins_with, reads, unsets, sets, preset_names}
 use Rattle.ctd_findings.specs.calls.Literal.{literal_truth, literal_number}
+use Rattle.ctd_outline.specs.calls.Alternatives.{hides_alternative}
+use Rattle.ctd_outline.specs.calls.LineFeeds.{matches_feed}
 use Rattle.ctd_outline.specs.calls.Outline.{telling_outline, has_wide_range, starts_with, ends_with, repeats_unbounded}
 
 -- a remark about no variable
@@ -93,17 +96,22 @@ abbrev pub is_empty : List ℕ → Bool
 is_empty [] = true
 is_empty (b ∷ rest) = false
 
--- the remarks on a pattern, where its outline tells its form
-abbrev pub form_remarks : List ℕ → List ℕ → List Remark
-form_remarks pattern o = remark_if (is_empty pattern) kinds.EmptyPattern
+-- the remarks on what stands in a pattern, where its outline tells its form
+abbrev pub content_remarks : List ℕ → List ℕ → List Remark
+content_remarks pattern o = remark_if (is_empty pattern) kinds.EmptyPattern
     ++ remark_if (has_wide_range pattern) kinds.LetterRange
-    ++ remark_if (starts_with 94 o) kinds.Caret
+    ++ remark_if (hides_alternative o) kinds.HiddenAlternative
+
+-- the remarks on how a pattern begins and ends, and on what it may match
+abbrev pub form_remarks : List ℕ → List ℕ → List Remark
+form_remarks pattern o = remark_if (starts_with 94 o) kinds.Caret
     ++ remark_if (ends_with 36 o) kinds.Dollar
     ++ remark_if (repeats_unbounded o) kinds.NoBound
+    ++ remark_if (matches_feed pattern) kinds.LineFeed
 
 -- the remarks on a pattern
 abbrev pub pattern_remarks : List ℕ → List Remark
-pattern_remarks pattern = form_remarks pattern (telling_outline pattern)
+pattern_remarks pattern = content_remarks pattern (telling_outline pattern) ++ form_remarks pattern (telling_outline pattern)
 
 -- the remarks on a test, if there is one
 abbrev pub test_remarks : Option TestTree → List Remark
@@ -236,6 +244,18 @@ read_behind_remarks behind (Some name) = about_if (is_read_behind name behind) k
 -- the remark on a REPI whose counter is read behind it
 abbrev pub behind_remarks : InBlock → List Remark
 behind_remarks x = read_behind_remarks x.behind (repi_counter x.command)
+-- a remark for each of the arrays that is filled and not forgotten
+abbrev pub remark_kept : (List ℕ → Bool) → (List ℕ → Bool) → NameList → List Remark
+remark_kept is_filled is_unset [] = []
+remark_kept is_filled is_unset (name ∷ rest) = about_if (is_filled name && not (is_unset name)) kinds.KeptArray name ++ remark_kept is_filled is_unset rest
+
+-- the remarks on the arrays at which the commands of a loop look as a whole
+abbrev pub array_remarks : CommandList → List Remark
+array_remarks body = remark_kept (λ name. is_among name (loops_fill body)) (λ name. is_among name (all_unset body)) (all_arrays body)
+
+-- the remarks on the arrays of a loop whose counter nothing reads
+abbrev pub kept_remarks : Facts → CommandTree → List Remark
+kept_remarks facts c = if is_uncounted facts (counter_name c) then array_remarks (loop_body c) else []
 
 -- the remarks on a command
 abbrev pub command_remarks : Facts → InBlock → List Remark
@@ -246,6 +266,7 @@ command_remarks facts x = place_remarks x
     ++ loop_remarks facts x.command
     ++ behind_remarks x
     ++ test_range_remarks facts x.command
+    ++ kept_remarks facts x.command
     ++ own_remarks x.command
 
 -- remarks at a place

@@ -8,7 +8,7 @@ use Rattle.ctd_findings.specs.declared.kind.Rank.{Rank}
 
 -- all kinds
 abbrev pub all_kinds : List Kind
-all_kinds = kind.UnknownPreset ∷ kind.Unreachable ∷ kind.AfterEof ∷ kind.NoValue ∷ kind.Unread ∷ kind.OwnReads ∷ kind.WrongSort ∷ kind.LiteralIndex ∷ kind.CounterSet ∷ kind.CounterBehind ∷ kind.RangeTrue ∷ kind.RangeFalse ∷ kind.RepeatsBounds ∷ kind.AlwaysTrue ∷ kind.AlwaysFalse ∷ kind.SameSides ∷ kind.SameNames ∷ kind.EmptyRange ∷ kind.EmptyString ∷ kind.EmptyPattern ∷ kind.LetterRange ∷ kind.Caret ∷ kind.Dollar ∷ kind.NoBound ∷ []
+all_kinds = kind.UnknownPreset ∷ kind.Unreachable ∷ kind.AfterEof ∷ kind.NoValue ∷ kind.Unread ∷ kind.OwnReads ∷ kind.WrongSort ∷ kind.LiteralIndex ∷ kind.CounterSet ∷ kind.CounterBehind ∷ kind.RangeTrue ∷ kind.RangeFalse ∷ kind.RepeatsBounds ∷ kind.KeptArray ∷ kind.AlwaysTrue ∷ kind.AlwaysFalse ∷ kind.SameSides ∷ kind.SameNames ∷ kind.EmptyRange ∷ kind.EmptyString ∷ kind.EmptyPattern ∷ kind.LetterRange ∷ kind.HiddenAlternative ∷ kind.Caret ∷ kind.Dollar ∷ kind.NoBound ∷ kind.LineFeed ∷ []
 
 -- the name of a kind
 abbrev pub kind_name : Kind → List ℕ
@@ -25,6 +25,7 @@ kind_name kind.CounterBehind = codes "counter-behind"
 kind_name kind.RangeTrue = codes "range-true"
 kind_name kind.RangeFalse = codes "range-false"
 kind_name kind.RepeatsBounds = codes "repeats-bounds"
+kind_name kind.KeptArray = codes "kept-array"
 kind_name kind.AlwaysTrue = codes "always-true"
 kind_name kind.AlwaysFalse = codes "always-false"
 kind_name kind.SameSides = codes "same-sides"
@@ -33,9 +34,11 @@ kind_name kind.EmptyRange = codes "empty-range"
 kind_name kind.EmptyString = codes "empty-string"
 kind_name kind.EmptyPattern = codes "empty-pattern"
 kind_name kind.LetterRange = codes "letter-range"
+kind_name kind.HiddenAlternative = codes "hidden-alternative"
 kind_name kind.Caret = codes "caret"
 kind_name kind.Dollar = codes "dollar"
 kind_name kind.NoBound = codes "no-bound"
+kind_name kind.LineFeed = codes "line-feed"
 
 -- the first of some kinds that has this name
 abbrev pub named_among : List Kind → List ℕ → Option Kind
@@ -61,6 +64,7 @@ rank kind.CounterBehind = ranks.Note
 rank kind.RangeTrue = ranks.Warning
 rank kind.RangeFalse = ranks.Warning
 rank kind.RepeatsBounds = ranks.Note
+rank kind.KeptArray = ranks.Note
 rank kind.AlwaysTrue = ranks.Warning
 rank kind.AlwaysFalse = ranks.Warning
 rank kind.SameSides = ranks.Warning
@@ -69,6 +73,8 @@ rank kind.EmptyRange = ranks.Warning
 rank kind.EmptyString = ranks.Warning
 rank kind.EmptyPattern = ranks.Warning
 rank kind.LetterRange = ranks.Warning
+rank kind.HiddenAlternative = ranks.Warning
 rank kind.Caret = ranks.Note
 rank kind.Dollar = ranks.Warning
 rank kind.NoBound = ranks.Note
+rank kind.LineFeed = ranks.Note

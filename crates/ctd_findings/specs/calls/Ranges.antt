@@ -4,12 +4,30 @@ use Rattle.std.specs.Prelude.{ℕ, ℤ, is_some, List, [], ◌∷◌, ◌++◌, 
 use Rattle.std.specs.Int.{int_min, int_max}
 use Rattle.std.specs.Str.{bytes_eq}
 use Rattle.ctd_program.specs.declared.preset.Preset.{Preset}
-use Rattle.ctd_program.specs.Tree.{VarTree, CommandTree}
+use Rattle.ctd_program.specs.Tree.{ExprTree, ExprList, VarTree, CommandTree}
 use Rattle.ctd_findings.specs.declared.ranges.Bounds.{Bounds}
 use Rattle.ctd_findings.specs.calls.Block.{InBlock}
 use Rattle.ctd_findings.specs.calls.Literal.{literal_number}
 use Rattle.ctd_findings.specs.calls.Names.{NameList, counts, is_among, preset_names, sets}
-use Rattle.ctd_findings.specs.calls.Sides.{name_without}
+
+-- a name that has no indices
+abbrev pub name_without : List ℕ → ExprList → Option (List ℕ)
+name_without name Tree.none = Some name
+name_without name (Tree.some e rest) = None
+
+-- the name that an expression is, if it is one without indices
+abbrev pub name_in : ExprTree → Option (List ℕ)
+name_in (Tree.numeral n) = None
+name_in (Tree.text bytes) = None
+name_in (Tree.variable name indices) = name_without name indices
+name_in (Tree.strlen e) = None
+name_in (Tree.minus e) = None
+name_in (Tree.sum a b) = None
+name_in (Tree.difference a b) = None
+name_in (Tree.times a b) = None
+name_in (Tree.quotient a b) = None
+name_in (Tree.remainder a b) = None
+name_in (Tree.power a b) = None
 
 -- a name, and the bounds of an INT that gives it a value
 pub record NamedRange : Type 0 where

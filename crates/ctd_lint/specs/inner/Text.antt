@@ -31,17 +31,20 @@ kind_text kinds.CounterBehind = codes "the counter is read behind the loop, wher
 kind_text kinds.RangeTrue = codes "the test is true for all numbers that INT gives its variables"
 kind_text kinds.RangeFalse = codes "the test is false for all numbers that INT gives its variables"
 kind_text kinds.RepeatsBounds = codes "the test asks for no more than the bounds of INT"
+kind_text kinds.KeptArray = codes "each turn of this loop also sees what earlier turns put into this array (see UNSET)"
 kind_text kinds.AlwaysTrue = codes "the test is true whatever the data are"
 kind_text kinds.AlwaysFalse = codes "the test is false whatever the data are"
-kind_text kinds.SameSides = codes "the test compares a variable with itself"
+kind_text kinds.SameSides = codes "the two sides of a comparison are the same"
 kind_text kinds.SameNames = codes "UNIQUE has a name twice"
 kind_text kinds.EmptyRange = codes "the least integer is above the greatest"
 kind_text kinds.EmptyString = codes "the string is empty"
 kind_text kinds.EmptyPattern = codes "the pattern is empty"
 kind_text kinds.LetterRange = codes "A-z has six signs that are no letters, from [ to `"
+kind_text kinds.HiddenAlternative = codes "an alternative is never taken: an earlier one is its beginning"
 kind_text kinds.Caret = codes "a match always begins here, so ^ has no effect"
 kind_text kinds.Dollar = codes "$ is the end of the window, not of a line"
 kind_text kinds.NoBound = codes "the pattern has no bound on its length"
+kind_text kinds.LineFeed = codes "the pattern matches a line feed too"
 
 -- the word of a rank
 abbrev pub rank_text : Rank → List ℕ
