@@ -47,7 +47,7 @@ atom       = NUMERAL | TEXT | variable | "STRLEN" "(" expr ")" | "(" expr ")"
 
 test       = both | test "||" both
 both       = negation | both "&&" negation
-negation    = plain | "!" negation
+negation   = plain | "!" negation
 plain      = expr comparison expr | "MATCH" "(" expr ")" | "ISEOF"
            | "UNIQUE" "(" NAME {"," NAME} ")" | "INARRAY" "(" expr "," NAME ")"
            | "(" test ")"

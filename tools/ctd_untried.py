@@ -73,7 +73,7 @@ class Workshop:
 
 def skeleton_of(checker: Checker) -> Skeleton:
     """The program of a checker, which it has accepted, with places for questions."""
-    # A program nests at most 200 deep, and each level takes some calls.
+    # Programs nest deeply, and each level takes some calls.
     sys.setrecursionlimit(max(sys.getrecursionlimit(), 10_000))
     if not Path(checker.program).is_file():
         raise CannotAsk("the program is no file, and cannot be read again")

@@ -38,7 +38,7 @@ def value_lines(checker: Checker, answer: Answer, data: IO[bytes], origin: int) 
             return [expected_line(text)] if answer.message == "syntax error" else []
         if answer.in_program is None or answer.message == "step limit reached":
             return []
-        # A program nests at most 200 deep, and each level takes some calls.
+        # Programs nest deeply, and each level takes some calls.
         sys.setrecursionlimit(max(sys.getrecursionlimit(), 10_000))
         offset = offset_at(text, answer.in_program)
         found = [(one, is_separator) for one, is_separator in with_separators(commands_of(text)) if one.offset == offset]

@@ -3,6 +3,8 @@
 from collections.abc import Callable
 from random import Random
 
+from reference.limits import NESTING
+
 from .expressions import ALL_NAMES, ARRAY_NAMES, NUMBER_NAMES, TEXT_ARRAY_NAMES, TEXT_NAMES, TEXTS, Expressions, Scope, Tokens
 from .patterns import pattern
 from .spelling import literal, pattern_literal
@@ -262,7 +264,7 @@ def changed_tokens(random: Random, tokens: Tokens) -> Tokens:
 
 def deep_program(random: Random) -> Tokens:
     """A program that nests about as deeply as it may."""
-    weight = random.choice((198, 199, 200, 200, 201, 201, 202))
+    weight = NESTING + random.choice((-2, -1, 0, 0, 1, 1, 2))
     match random.randrange(7):
         case 0 | 1:
             # no program, but the first token that is too deep tells how each is weighed

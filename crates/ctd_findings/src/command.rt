@@ -14,8 +14,8 @@ ghost use Rattle.std.specs.Option.{option_and_then};
 
 use crate::behind::list_behind;
 use crate::block::CommandInBlock;
-use crate::decided::list_test_range;
 use crate::cases::list_kept;
+use crate::decided::list_test_range;
 use crate::finding::Remark;
 use crate::found::Found;
 use crate::kind::Kind;

@@ -244,6 +244,7 @@ read_behind_remarks behind (Some name) = about_if (is_read_behind name behind) k
 -- the remark on a REPI whose counter is read behind it
 abbrev pub behind_remarks : InBlock → List Remark
 behind_remarks x = read_behind_remarks x.behind (repi_counter x.command)
+
 -- a remark for each of the arrays that is filled and not forgotten
 abbrev pub remark_kept : (List ℕ → Bool) → (List ℕ → Bool) → NameList → List Remark
 remark_kept is_filled is_unset [] = []
