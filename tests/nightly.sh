@@ -1,6 +1,6 @@
 #!/usr/bin/env bash
-# What takes too long for the gate, on the checker that was built: rows of tests/tables/nightly/, 100,000 generated cases with a reference and with ctd-lint, 10,000 programs
-# that ctd-cover puts together again, the libraries and the page. The last line counts what passed and failed.
+# What takes too long for the gate, on the programs that were built: rows of tests/tables/nightly/, 100,000 generated cases with a reference and with
+# ctd-lint, 10,000 programs that ctd-cover puts together again, the libraries and the page. The last line counts what passed and failed.
 set -u
 cd "$(dirname "${BASH_SOURCE[0]}")/.." || exit
 # shellcheck source=tests/counting.sh
