@@ -25,7 +25,8 @@ fn kind_text(kind: Kind) -> &'static str
         Kind::LiteralIndex =>
             "nothing reads this counter, and the loop sets an element by a literal index",
         Kind::CounterSet => "a command in the loop sets its counter too",
-        Kind::KeptArray => "each turn of this loop also sees what earlier turns put into this array (see UNSET)",
+        Kind::KeptArray =>
+            "each turn of this loop also sees what earlier turns put into this array (see UNSET)",
         Kind::AlwaysTrue => "the test is true whatever the data are",
         Kind::AlwaysFalse => "the test is false whatever the data are",
         Kind::SameSides => "the two sides of a comparison are the same",
@@ -34,8 +35,7 @@ fn kind_text(kind: Kind) -> &'static str
         Kind::EmptyString => "the string is empty",
         Kind::EmptyPattern => "the pattern is empty",
         Kind::LetterRange => "A-z has six signs that are no letters, from [ to `",
-        Kind::HiddenAlternative =>
-            "an alternative is never taken: an earlier one is its beginning",
+        Kind::HiddenAlternative => "an alternative is never taken: an earlier one is its beginning",
         Kind::Caret => "a match always begins here, so ^ has no effect",
         Kind::Dollar => "$ is the end of the window, not of a line",
         Kind::NoBound => "the pattern has no bound on its length",
