@@ -1,4 +1,4 @@
-use Rattle.std.proofs.Common.{ap, sym, ◌∙◌}
+use Rattle.std.proofs.Common.{ap, sym}
 use Rattle.ctd_findings.specs.calls.Same.{indices_of}
 use Rattle.ctd_findings.proofs.Trees.{element_tree}
 use Rattle.ctd_findings.proofs.same.indices_of.Goals as goal
