@@ -31,10 +31,13 @@ use Rattle.ctd_known.specs.declared.facts.Kinds.{Kinds}
 use Rattle.ctd_known.specs.declared.facts.Known.{Known}
 use Rattle.ctd_known.specs.declared.expression.Found.{Found}
 use Rattle.ctd_known.specs.calls.Facts.{EachStands, MayBe, PinsStand, at_key}
-use Rattle.ctd_known.specs.calls.Found.{AllFailBy, Decides, FailsBy, Gives, IsAmong, IsFound, SplitsBy, as_number, as_text}
+use Rattle.ctd_known.specs.calls.Found.{AllFailBy, FailsBy, Gives, IsAmong, IsFound, as_number, as_text}
 use Rattle.ctd_known.specs.calls.Changed.{AssignsAlone, AssignsElements, Clears}
 use Rattle.ctd_known.proofs.Applying.{AreFaults}
-use Rattle.ctd_traps.specs.inner.Walk.{IsCounted, Acts, Assigns, ByTurn, ClearsAll, Counts, Fits, IsAssigned, IsExpected, KeepsValue, Stays}
+use Rattle.ctd_traps.specs.declared.cases.Case.{Case}
+use Rattle.ctd_traps.specs.declared.turn.Turns.{Turns}
+use Rattle.ctd_traps.specs.inner.Cases.{Divides, DividesTo}
+use Rattle.ctd_traps.specs.inner.Walk.{IsCounted, Acts, Assigns, ByTurn, ClearsAll, Counts, Fits, IsAssigned, IsExpected, KeepsValue, Stays, StaysIn}
 use Rattle.ctd_traps.proofs.SimpleCommands.{same_why}
 use Rattle.ctd_traps.proofs.Fits.{Between, Same, Short, integer_fits, leading_fits, look_is_none, match_fits, then_fits}
 
@@ -137,24 +140,24 @@ regex_acts pinned known after literal target kinds f short keeps pins d n s stan
     (λ bytes t read. keeps pins d n (record { offset = t.offset + length bytes; store = t.store; mode = t.mode }) (values.Text bytes) stand (stays_same pins known n s (record { offset = t.offset + length bytes; store = t.store; mode = t.mode }) read.1 stays) (short n bytes read.0))
 
 -- a test
-answer_fits_in : (pins : Variables) (on_true others : List Known) (f : Faults) (n : ℕ) (s : State) (r : Result Bool TruthFault) → s.store.pins ≡ pins → Decides on_true others f n s.store r → Fits f (λ b t. ByTurn (Stays pins on_true n) (Stays pins others n) b t) (lift (with_fault fault_of_truth r) s)
-answer_fits_in pins on_true others f n s (Ok true) pinned each = (pinned, each)
-answer_fits_in pins on_true others f n s (Ok false) pinned each = (pinned, each)
+answer_fits_in : (pins : Variables) (on_true others : List Case) (f : Faults) (n : ℕ) (s : State) (r : Result Bool TruthFault) → s.store.pins ≡ pins → DividesTo on_true others f n s.store r → Fits f (λ b t. ByTurn (StaysIn pins on_true n) (StaysIn pins others n) b t) (lift (with_fault fault_of_truth r) s)
+answer_fits_in pins on_true others f n s (Ok true) pinned one = (pinned, one)
+answer_fits_in pins on_true others f n s (Ok false) pinned one = (pinned, one)
 answer_fits_in pins on_true others f n s (Err (faults.Value why)) pinned among = expected f why among
 answer_fits_in pins on_true others f n s (Err (faults.Look why)) pinned unit = λ other same. absurd (look_is_none why other same)
 
-pub answer_fits : (pins : Variables) (known on_true others : List Known) (f : Faults) (t : TestTree) (d : TestData) (n : ℕ) (s : State) → SplitsBy known t on_true others f → Stays pins known n s → Fits f (λ b u. ByTurn (Stays pins on_true n) (Stays pins others n) b u) (answer t d s)
-answer_fits pins known on_true others f t d n s splits stays = answer_fits_in pins on_true others f n s (truth t s.store d s.offset) stays.0 (splits n s.store d s.offset stays.1)
+pub answer_fits : (pins : Variables) (cases on_true others : List Case) (f : Faults) (t : TestTree) (d : TestData) (n : ℕ) (s : State) → Divides cases t on_true others f → StaysIn pins cases n s → Fits f (λ b u. ByTurn (StaysIn pins on_true n) (StaysIn pins others n) b u) (answer t d s)
+answer_fits pins cases on_true others f t d n s divides stays = answer_fits_in pins on_true others f n s (truth t s.store d s.offset) stays.0 (divides n s.store d s.offset stays.1)
 
 -- ASSERT
-assert_then : (pins : Variables) (on_true others : List Known) (f : Faults) (n : ℕ) (d : TestData) (b : Bool) (t : State) → ByTurn (Stays pins on_true n) (Stays pins others n) b t → Fits {A = ⊤} f (λ _ u. Stays pins on_true n u) ((if b then return {A = ⊤} tt else reject AssertFailed) d t)
+assert_then : (pins : Variables) (on_true others : List Case) (f : Faults) (n : ℕ) (d : TestData) (b : Bool) (t : State) → ByTurn (StaysIn pins on_true n) (StaysIn pins others n) b t → Fits {A = ⊤} f (λ _ u. StaysIn pins on_true n u) ((if b then return {A = ⊤} tt else reject AssertFailed) d t)
 assert_then pins on_true others f n d true t stays = stays
 assert_then pins on_true others f n d false t stays = tt
 
-pub assert_acts : (pinned known on_true others : List Known) (f : Faults) (t : TestTree) → SplitsBy known t on_true others f → Acts pinned known on_true f (assert t)
-assert_acts pinned known on_true others f t splits pins d n s stand stays =
-    then_fits f (λ b u. ByTurn (Stays pins on_true n) (Stays pins others n) b u) (λ _ u. Stays pins on_true n u) (answer t d s) (λ b u. (if b then return {A = ⊤} tt else reject AssertFailed) d u)
-    (answer_fits pins known on_true others f t d n s splits stays) (λ b u here. assert_then pins on_true others f n d b u here)
+pub assert_fits : (pins : Variables) (cases on_true others : List Case) (f : Faults) (t : TestTree) → Divides cases t on_true others f → (d : TestData) (n : ℕ) (s : State) → StaysIn pins cases n s → Fits f (λ _ u. StaysIn pins on_true n u) (assert t d s)
+assert_fits pins cases on_true others f t divides d n s stays =
+    then_fits f (λ b u. ByTurn (StaysIn pins on_true n) (StaysIn pins others n) b u) (λ _ u. StaysIn pins on_true n u) (answer t d s) (λ b u. (if b then return {A = ⊤} tt else reject AssertFailed) d u)
+    (answer_fits pins cases on_true others f t d n s divides stays) (λ b u here. assert_then pins on_true others f n d b u here)
 
 -- SET
 pub one_acts : (pinned known after : List Known) (target : VarTree) (e : ExprTree) (g : Found) (own f : Faults) → Gives known e g → Assigns pinned known target g.kinds after own → AreFaults g.faults f → AreFaults own f → Acts pinned known after f (give_value (target, e))
@@ -213,15 +216,16 @@ count_fails g own f bad k (Ok (values.Int x)) may fails more wrong good = counte
 count_fails g own f bad k (Ok (values.Text bytes)) may fails more wrong good = more faults.WrongType fails
 count_fails g own f bad k (Err why) may fails more wrong good = more why fails
 
-in_most : (f : Faults) (most n : ℕ) (b : Bool) → nat_lt n (2 ^ 64) ≡ b → (n < 2 ^ 64 → n ≤ most) → FailsBy f (if b then Ok n else Err faults.Count) → IsCounted most f (if b then Ok n else Err faults.Count)
-in_most f most n true is up fails = up (grind (arith, nat_tests, is))
-in_most f most n false is up fails = fails
+in_turns : (turns : Turns) (n : ℕ) (b : Bool) → nat_lt n (2 ^ 64) ≡ b → (n < 2 ^ 64 → turns.least ≤ n) → (n < 2 ^ 64 → n ≤ turns.most) → FailsBy turns.faults (if b then Ok n else Err faults.Count) → IsCounted turns (if b then Ok n else Err faults.Count)
+in_turns turns n true is down up fails = (down (grind (arith, nat_tests, is)), up (grind (arith, nat_tests, is)))
+in_turns turns n false is down up fails = fails
 
-pub most_counted : (g : Found) (f : Faults) (most k : ℕ) (r : Result Value ValueFault) → IsFound g k r → ((n : ℕ) → n < 2 ^ 64 → MayBe g.kinds k (values.Int (pos n)) → n ≤ most) → FailsBy f ((as_number r) >>= (λ x. in_count x)) → IsCounted most f ((as_number r) >>= (λ x. in_count x))
-most_counted g f most k (Ok (values.Int (pos n))) may up fails = in_most f most n (nat_lt n (2 ^ 64)) refl (λ few. up n few may) fails
-most_counted g f most k (Ok (values.Int (negsuc n))) may up fails = fails
-most_counted g f most k (Ok (values.Text bytes)) may up fails = fails
-most_counted g f most k (Err why) may up fails = fails
+pub turns_counted : (g : Found) (turns : Turns) (k : ℕ) (r : Result Value ValueFault) → IsFound g k r → ((n : ℕ) → n < 2 ^ 64 → MayBe g.kinds k (values.Int (pos n)) → turns.least ≤ n) → ((n : ℕ) → n < 2 ^ 64 → MayBe g.kinds k (values.Int (pos n)) → n ≤ turns.most)
+    → FailsBy turns.faults ((as_number r) >>= (λ x. in_count x)) → IsCounted turns ((as_number r) >>= (λ x. in_count x))
+turns_counted g turns k (Ok (values.Int (pos n))) may down up fails = in_turns turns n (nat_lt n (2 ^ 64)) refl (λ few. down n few may) (λ few. up n few may) fails
+turns_counted g turns k (Ok (values.Int (negsuc n))) may down up fails = fails
+turns_counted g turns k (Ok (values.Text bytes)) may down up fails = fails
+turns_counted g turns k (Err why) may down up fails = fails
 
 -- a variable of the code
 pub var_is : (v : Var) (name : List ℕ) (es : List Expr) → name ≡ v.name → es ≡ exprs_of v.indices → record { name = name; indices = expr_list es } ≡ var_tree v

@@ -10,3 +10,4 @@ pub mod Walking
 pub mod Steps
 pub mod Whole
 pub mod Pinning
+pub mod Joining

@@ -1,5 +1,5 @@
 -- How loops start, how their turns begin, and what a loop keeps.
-use Rattle.std.proofs.Common.{◌≡◌, ◌-◌, ◌<◌, ◌≤◌, ◌+◌, ◌^◌, ℕ, suc, Bool, true, false, nat_lt, pos, ℤ, ◌<ℤ◌, ◌*◌, List, [], ◌∷◌, Option, Some, None, Result, Ok, Err, refl, sym, subst, le_trans, arith}
+use Rattle.std.proofs.Common.{◌≡◌, ◌-◌, ◌<◌, ◌≤◌, ◌+◌, ◌^◌, ℕ, suc, Bool, true, false, nat_lt, pos, ℤ, ◌<ℤ◌, ◌*◌, List, [], ◌∷◌, length, get_or, drop, inl, inr, Option, Some, None, Result, Ok, Err, refl, sym, subst, le_trans, arith}
 use Rattle.std.proofs.lemmas.Int.{ints}
 use Rattle.std.proofs.lemmas.Bool.Decides.{nat_tests}
 use Rattle.std.specs.Prelude.{⊤}
@@ -25,19 +25,23 @@ use Rattle.ctd_known.specs.declared.faults.Faults.{Faults}
 use Rattle.ctd_known.specs.declared.facts.Kinds.{Kinds}
 use Rattle.ctd_known.specs.declared.facts.Known.{Known}
 use Rattle.ctd_known.specs.declared.facts.NameFacts.{NameFacts}
-use Rattle.ctd_known.specs.calls.Facts.{EachStands, MayBe, MayHave, NameStands, PinsStand, TellsAll, at_key}
-use Rattle.ctd_known.specs.calls.Found.{FailsBy, IsAmong, SplitsBy}
+use Rattle.ctd_known.specs.calls.Facts.{EachStands, MayBe, MayHave, NameStands, PinsStand, at_key}
+use Rattle.ctd_known.specs.calls.Found.{FailsBy, IsAmong}
 use Rattle.ctd_known.specs.calls.Changed.{PaysStep}
 use Rattle.ctd_known.proofs.Applying.{AreFaults}
 use Rattle.ctd_traps.specs.calls.Traps.{Trap}
-use Rattle.ctd_traps.specs.inner.Holds.{AreListed, Holds}
-use Rattle.ctd_traps.specs.inner.Walk.{Assigns, ByTurn, Counts, CountsTurn, Enters, Fits, IsCounted, IsGuard, Starts, Stays}
+use Rattle.ctd_traps.specs.declared.cases.Case.{Case}
+use Rattle.ctd_traps.specs.declared.turn.Turns.{Turns}
+use Rattle.ctd_traps.specs.inner.Cases.{Divides, OneStands, TellsCase, TellsCases, TellsJoined}
+use Rattle.ctd_traps.specs.inner.Holds.{AreListed, Holds, HoldsAlone}
+use Rattle.ctd_traps.specs.inner.Walk.{Assigns, ByTurn, Counts, CountsEach, CountsLast, CountsTurn, Enters, Fits, IsCounted, IsGuard, Starts, StartsIn, Stays, StaysIn, first_turn, later_turn}
 use Rattle.ctd_traps.specs.inner.Triples.{Before, CommandKeeps, Ends, IsListed, Keeps, Listing, Splits}
 use Rattle.ctd_traps.specs.inner.PostFixpoint.{Guess, IsPostFixpoint, among}
 use Rattle.ctd_traps.proofs.Keeping.{no_steps}
 use Rattle.ctd_traps.proofs.PostFixpoint.{post_fixpoints_hold}
 use Rattle.ctd_traps.proofs.Fits.{evaluation_fits, then_fits}
 use Rattle.ctd_traps.proofs.Acting.{answer_fits, set_fits}
+use Rattle.ctd_traps.proofs.Joining.{RestOr, case_done, cases_done}
 
 -- the counter
 pub counts_some : (pinned known after : List Known) (target : VarTree) (turn : Range) (kinds : Kinds) (f : Faults) → kinds ≡ record { text = None; number = Some turn } → Assigns pinned known target kinds after f → CountsTurn pinned known (Some target) turn after f
@@ -59,56 +63,91 @@ before_count k m less = omega (arith, ints, less)
 pub in_counts : (most m n : ℕ) → m ≤ most → IsIn (record { low = pos 0; high = pos most; rise = 0; fall = 0 }) n (pos m)
 in_counts most m n up = record { low = omega (arith, ints); high = omega (arith, ints, up) }
 
+-- the counter in each case
+abbrev pub CountsSo : (pinned : List Known) → Option VarTree → Range → List Case → Faults → ℕ → History → Type 0
+CountsSo pinned counter turn after f m h = (pins : Variables) (d : TestData) (k n : ℕ) (s : State) → m ≡ suc n → h ≡ s.store → IsIn turn n (pos k) → PinsStand pinned pins → s.store.pins ≡ pins → Fits f (λ _ t. StaysIn pins after n t) (count_turn counter k d s)
+
+fits_in : {A : Type 0} (f g : Faults) (P Q : A → State → Type 0) (a : Effect A) → AreFaults f g → ((x : A) (t : State) → P x t → Q x t) → Fits f P a → Fits g Q a
+fits_in f g P Q (done x t) more wider fits = wider x t fits
+fits_in f g P Q (rejected reason consumed) more wider fits = tt
+fits_in f g P Q (faulty fault consumed) more wider fits = λ why is. more why (fits why is)
+
+pub count_step : (pinned : List Known) (cs : List Case) (i : ℕ) (c : Case) (counter : Option VarTree) (turn : Range) (slice paid lent after : List Known) (own old new : Faults) (before next : List Case) → slice ≡ c.known.items → i < length cs → c ≡ get_or cs i c → PaysStep slice paid → lent ≡ paid →
+    CountsTurn pinned lent counter turn after own → TellsCases before next → TellsCase after next → AreFaults old new → AreFaults own new → RestOr (drop i cs) cs (CountsSo pinned counter turn before old) → RestOr (drop (i + 1) cs) cs (CountsSo pinned counter turn next new)
+count_step pinned cs i c counter turn slice paid lent after own old new before next is_known inside is pays is_paid counts others added more_old more_own so_far =
+    case_done cs i c (CountsSo pinned counter turn before old) (CountsSo pinned counter turn next new) inside is
+    (λ m h so pins d k n s is_m is_h here stand same. fits_in old new (λ _ t. StaysIn pins before n t) (λ _ t. StaysIn pins next n t) (count_turn counter k d s) more_old (λ _ t stays. (stays.0, others n t.store stays.1)) (so pins d k n s is_m is_h here stand same))
+    (λ m h each pins d k n s is_m is_h here stand same. fits_in own new (λ _ t. Stays pins after n t) (λ _ t. StaysIn pins next n t) (count_turn counter k d s) more_own (λ _ t stays. (stays.0, added n t.store stays.1))
+    (counts pins d k n s here stand (same, subst (λ l. EachStands l n s.store) (sym is_paid) (pays n s.store (subst (λ l. EachStands l (suc n) s.store) (sym is_known) (subst (λ g. EachStands c.known.items (suc n) g) is_h (subst (λ l. EachStands c.known.items l h) is_m each)))))))
+    so_far
+
+pub count_done : (pinned : List Known) (cs : List Case) (i : ℕ) (counter : Option VarTree) (turn : Range) (after : List Case) (f : Faults) → length cs ≤ i → RestOr (drop i cs) cs (CountsSo pinned counter turn after f) → CountsEach pinned cs counter turn after f
+count_done pinned cs i counter turn after f all so_far pins d k n s here stand stays = cases_done cs i (CountsSo pinned counter turn after f) all so_far (suc n) s.store stays.1 pins d k n s refl refl here stand stays.0
+
+-- a loop that has more turns is not over
+pub counts_never : (pinned : List Known) (cs : List Case) (counter : Option VarTree) (turn : Range) (least : ℕ) (after : List Case) (f : Faults) → turn.high <ℤ pos least → CountsLast pinned cs counter turn least after f
+counts_never pinned cs counter turn least after f less pins d k n s some here stand stays = let high = here.high in absurd (omega (arith, ints, less, some, high))
+
+pub counts_only : (pinned : List Known) (cs : List Case) (counter : Option VarTree) (turn : Range) (least : ℕ) (after : List Case) (f : Faults) → CountsEach pinned cs counter turn after f → CountsLast pinned cs counter turn least after f
+counts_only pinned cs counter turn least after f counts pins d k n s some here stand stays = counts pins d k n s here stand stays
+
 -- the parts of a turn of a loop that counts
-pub record TimesParts (pinned known inside over : List Known) (counter : Option VarTree) (turn below : Range) (most : ℕ) (f g all : Faults) : Type 0 where
-  pub goes_on : CountsTurn pinned known counter below inside f
-  pub is_over : CountsTurn pinned known counter turn over g
-  pub narrower : (n k m : ℕ) → k < m → m ≤ most → IsIn turn n (pos k) → IsIn below n (pos k)
+pub record TimesParts (pinned : List Known) (cases inside over : List Case) (counter : Option VarTree) (turn below : Range) (turns : Turns) (f g all : Faults) : Type 0 where
+  pub goes_on : CountsEach pinned cases counter below inside f
+  pub is_over : CountsLast pinned cases counter turn turns.least over g
+  pub narrower : (n k m : ℕ) → k < m → m ≤ turns.most → IsIn turn n (pos k) → IsIn below n (pos k)
   pub by_f : AreFaults f all
   pub by_g : AreFaults g all
 
-times_turn : (pinned known inside over : List Known) (counter : Option VarTree) (turn below : Range) (most : ℕ) (f g all : Faults) → TimesParts pinned known inside over counter turn below most f g all → (pins : Variables) (d : TestData) (k n m : ℕ) (s : State) (b : Bool) → nat_lt k m ≡ b → m ≤ most → IsIn turn n (pos k) → PinsStand pinned pins → Stays pins known n s
-    → Fits all (λ b u. ByTurn (Stays pins inside n) (Stays pins over n) b u) (proceed (count_turn counter k d s) (λ _ t. goes_on (times m) k d t))
-times_turn pinned known inside over counter turn below most f g all p pins d k n m s true is up here stand stays =
-    then_fits all (λ _ t. Stays pins inside n t) (λ b u. ByTurn (Stays pins inside n) (Stays pins over n) b u) (count_turn counter k d s) (λ _ t. goes_on (times m) k d t)
-    (more_fits f all (λ _ t. Stays pins inside n t) (count_turn counter k d s) p.by_f (p.goes_on pins d k n s (p.narrower n k m (grind (arith, nat_tests, is)) up here) stand stays))
-    (λ _ t there. subst (λ b. ByTurn (Stays pins inside n) (Stays pins over n) b t) (sym is) there)
-times_turn pinned known inside over counter turn below most f g all p pins d k n m s false is up here stand stays =
-    then_fits all (λ _ t. Stays pins over n t) (λ b u. ByTurn (Stays pins inside n) (Stays pins over n) b u) (count_turn counter k d s) (λ _ t. goes_on (times m) k d t)
-    (more_fits g all (λ _ t. Stays pins over n t) (count_turn counter k d s) p.by_g (p.is_over pins d k n s here stand stays))
-    (λ _ t there. subst (λ b. ByTurn (Stays pins inside n) (Stays pins over n) b t) (sym is) there)
+times_turn : (pinned : List Known) (cases inside over : List Case) (counter : Option VarTree) (turn below : Range) (turns : Turns) (f g all : Faults) → TimesParts pinned cases inside over counter turn below turns f g all → (pins : Variables) (d : TestData) (k n m : ℕ) (s : State) (b : Bool) → nat_lt k m ≡ b → (turns.least ≤ m) × (m ≤ turns.most) → IsIn turn n (pos k) → PinsStand pinned pins → StaysIn pins cases (suc n) s
+    → Fits all (λ b u. ByTurn (StaysIn pins inside n) (StaysIn pins over n) b u) (proceed (count_turn counter k d s) (λ _ t. goes_on (times m) k d t))
+times_turn pinned cases inside over counter turn below turns f g all p pins d k n m s true is count here stand stays =
+    then_fits all (λ _ t. StaysIn pins inside n t) (λ b u. ByTurn (StaysIn pins inside n) (StaysIn pins over n) b u) (count_turn counter k d s) (λ _ t. goes_on (times m) k d t)
+    (more_fits f all (λ _ t. StaysIn pins inside n t) (count_turn counter k d s) p.by_f (p.goes_on pins d k n s (p.narrower n k m (grind (arith, nat_tests, is)) count.1 here) stand stays))
+    (λ _ t there. subst (λ b. ByTurn (StaysIn pins inside n) (StaysIn pins over n) b t) (sym is) there)
+times_turn pinned cases inside over counter turn below turns f g all p pins d k n m s false is count here stand stays =
+    let last : m ≤ k = grind (arith, nat_tests, is) in
+    then_fits all (λ _ t. StaysIn pins over n t) (λ b u. ByTurn (StaysIn pins inside n) (StaysIn pins over n) b u) (count_turn counter k d s) (λ _ t. goes_on (times m) k d t)
+    (more_fits g all (λ _ t. StaysIn pins over n t) (count_turn counter k d s) p.by_g (p.is_over pins d k n s (le_trans count.0 last) here stand stays))
+    (λ _ t there. subst (λ b. ByTurn (StaysIn pins inside n) (StaysIn pins over n) b t) (sym is) there)
 
-guarded_turn : (pinned known inside over : List Known) (e : ExprTree) (counter : Option VarTree) (turn below : Range) (most : ℕ) (f g all : Faults) → TimesParts pinned known inside over counter turn below most f g all → (pins : Variables) (d : TestData) (k n : ℕ) (s : State) (guard : Guard) → IsGuard (Tree.turns e) most guard → IsIn turn n (pos k) → PinsStand pinned pins → Stays pins known n s
-    → Fits all (λ b u. ByTurn (Stays pins inside n) (Stays pins over n) b u) (proceed (count_turn counter k d s) (λ _ t. goes_on guard k d t))
-guarded_turn pinned known inside over e counter turn below most f g all p pins d k n s (times m) is here stand stays = times_turn pinned known inside over counter turn below most f g all p pins d k n m s (nat_lt k m) refl is here stand stays
-guarded_turn pinned known inside over e counter turn below most f g all p pins d k n s (while_true u) is here stand stays = absurd is
+guarded_turn : (pinned : List Known) (cases inside over : List Case) (e : ExprTree) (counter : Option VarTree) (turn below : Range) (turns : Turns) (f g all : Faults) → TimesParts pinned cases inside over counter turn below turns f g all → (pins : Variables) (d : TestData) (k n : ℕ) (s : State) (guard : Guard) → IsGuard (Tree.turns e) turns guard → IsIn turn n (pos k) → PinsStand pinned pins → StaysIn pins cases (suc n) s
+    → Fits all (λ b u. ByTurn (StaysIn pins inside n) (StaysIn pins over n) b u) (proceed (count_turn counter k d s) (λ _ t. goes_on guard k d t))
+guarded_turn pinned cases inside over e counter turn below turns f g all p pins d k n s (times m) is here stand stays = times_turn pinned cases inside over counter turn below turns f g all p pins d k n m s (nat_lt k m) refl is here stand stays
+guarded_turn pinned cases inside over e counter turn below turns f g all p pins d k n s (while_true u) is here stand stays = absurd is
 
-pub enters_times : (pinned known inside over : List Known) (e : ExprTree) (counter : Option VarTree) (turn below : Range) (most : ℕ) (f g all : Faults) → TimesParts pinned known inside over counter turn below most f g all → Enters pinned known (Tree.turns e) most counter turn inside over all
-enters_times pinned known inside over e counter turn below most f g all p pins d k n s loop guard same here stand stays =
-    subst (λ c. Fits all (λ b u. ByTurn (Stays pins inside n) (Stays pins over n) b u) (proceed (count_turn c k d s) (λ _ t. goes_on loop.guard k d t))) (sym same) (guarded_turn pinned known inside over e counter turn below most f g all p pins d k n s loop.guard guard here stand stays)
+pub enters_times : (pinned : List Known) (cases inside over : List Case) (e : ExprTree) (counter : Option VarTree) (turn below : Range) (turns : Turns) (f g all : Faults) → TimesParts pinned cases inside over counter turn below turns f g all → Enters pinned cases (Tree.turns e) turns counter turn inside over all
+enters_times pinned cases inside over e counter turn below turns f g all p pins d k n s loop guard same here stand stays =
+    subst (λ c. Fits all (λ b u. ByTurn (StaysIn pins inside n) (StaysIn pins over n) b u) (proceed (count_turn c k d s) (λ _ t. goes_on loop.guard k d t))) (sym same) (guarded_turn pinned cases inside over e counter turn below turns f g all p pins d k n s loop.guard guard here stand stays)
 
-while_goes : (pins : Variables) (after on_true others : List Known) (f : Faults) (t : TestTree) (d : TestData) (k n most : ℕ) (g : Guard) (u : State) → SplitsBy after t on_true others f → IsGuard (Tree.while t) most g → Stays pins after n u → Fits f (λ b v. ByTurn (Stays pins on_true n) (Stays pins others n) b v) (goes_on g k d u)
-while_goes pins after on_true others f t d k n most (times m) u splits is here = absurd is
-while_goes pins after on_true others f t d k n most (while_true w) u splits is here = subst (λ x. Fits f (λ b v. ByTurn (Stays pins on_true n) (Stays pins others n) b v) (answer x d u)) (sym is) (answer_fits pins after on_true others f t d n u splits here)
+while_goes : (pins : Variables) (after on_true others : List Case) (f : Faults) (t : TestTree) (d : TestData) (k n : ℕ) (turns : Turns) (g : Guard) (u : State) → Divides after t on_true others f → IsGuard (Tree.while t) turns g → StaysIn pins after n u → Fits f (λ b v. ByTurn (StaysIn pins on_true n) (StaysIn pins others n) b v) (goes_on g k d u)
+while_goes pins after on_true others f t d k n turns (times m) u divides is here = absurd is
+while_goes pins after on_true others f t d k n turns (while_true w) u divides is here = subst (λ x. Fits f (λ b v. ByTurn (StaysIn pins on_true n) (StaysIn pins others n) b v) (answer x d u)) (sym is) (answer_fits pins after on_true others f t d n u divides here)
 
-pub enters_while : (pinned known after on_true others : List Known) (t : TestTree) (counter : Option VarTree) (turn : Range) (most : ℕ) (f g all : Faults) → CountsTurn pinned known counter turn after f → SplitsBy after t on_true others g → AreFaults f all → AreFaults g all → Enters pinned known (Tree.while t) most counter turn on_true others all
-enters_while pinned known after on_true others t counter turn most f g all counts splits more_f more_g pins d k n s loop guard same inside stand stays =
-    then_fits all (λ _ t. Stays pins after n t) (λ b u. ByTurn (Stays pins on_true n) (Stays pins others n) b u) (count_turn loop.counter k d s) (λ _ t. goes_on loop.guard k d t)
-    (more_fits f all (λ _ t. Stays pins after n t) (count_turn loop.counter k d s) more_f (subst (λ c. Fits f (λ _ t. Stays pins after n t) (count_turn c k d s)) (sym same) (counts pins d k n s inside stand stays)))
-    (λ _ u here. more_fits g all (λ b v. ByTurn (Stays pins on_true n) (Stays pins others n) b v) (goes_on loop.guard k d u) more_g (while_goes pins after on_true others g t d k n most loop.guard u splits guard here))
+pub enters_while : (pinned : List Known) (cases after on_true others : List Case) (t : TestTree) (counter : Option VarTree) (turn : Range) (turns : Turns) (f g all : Faults) → CountsEach pinned cases counter turn after f → Divides after t on_true others g → AreFaults f all → AreFaults g all → Enters pinned cases (Tree.while t) turns counter turn on_true others all
+enters_while pinned cases after on_true others t counter turn turns f g all counts divides more_f more_g pins d k n s loop guard same inside stand stays =
+    then_fits all (λ _ t. StaysIn pins after n t) (λ b u. ByTurn (StaysIn pins on_true n) (StaysIn pins others n) b u) (count_turn loop.counter k d s) (λ _ t. goes_on loop.guard k d t)
+    (more_fits f all (λ _ t. StaysIn pins after n t) (count_turn loop.counter k d s) more_f (subst (λ c. Fits f (λ _ t. StaysIn pins after n t) (count_turn c k d s)) (sym same) (counts pins d k n s inside stand stays)))
+    (λ _ u here. more_fits g all (λ b v. ByTurn (StaysIn pins on_true n) (StaysIn pins others n) b v) (goes_on loop.guard k d u) more_g (while_goes pins after on_true others g t d k n turns loop.guard u divides guard here))
 
 -- a loop starts
-counted_fails : (most : ℕ) (f : Faults) (r : Result ℕ ValueFault) → IsCounted most f r → FailsBy f r
-counted_fails most f (Ok n) counted = tt
-counted_fails most f (Err why) counted = counted
+counted_fails : (turns : Turns) (r : Result ℕ ValueFault) → IsCounted turns r → FailsBy turns.faults r
+counted_fails turns (Ok n) counted = tt
+counted_fails turns (Err why) counted = counted
 
-pub starts_times : (known : List Known) (e : ExprTree) (most : ℕ) (f : Faults) → Counts known e most f → Starts known (Tree.turns e) most f
-starts_times known e most f counts d n s each =
-    then_fits f (λ m t. (count e s.store ≡ Ok m) × (t ≡ s)) (λ g t. IsGuard (Tree.turns e) most g × (t ≡ s)) (evaluate (count e) d s) (λ m t. return (times m) d t) (evaluation_fits f (count e s.store) s (counted_fails most f (count e s.store) (counts n s.store each)))
-    (λ m t here. (subst (IsCounted most f) here.0 (counts n s.store each), here.1))
+pub starts_times : (known : List Known) (e : ExprTree) (turns : Turns) → Counts known e turns → Starts known (Tree.turns e) turns
+starts_times known e turns counts d n s each =
+    then_fits turns.faults (λ m t. (count e s.store ≡ Ok m) × (t ≡ s)) (λ g t. IsGuard (Tree.turns e) turns g × (t ≡ s)) (evaluate (count e) d s) (λ m t. return (times m) d t) (evaluation_fits turns.faults (count e s.store) s (counted_fails turns (count e s.store) (counts n s.store each)))
+    (λ m t here. (subst (IsCounted turns) here.0 (counts n s.store each), here.1))
 
-pub starts_while : (known : List Known) (t : TestTree) (most : ℕ) (f : Faults) → Starts known (Tree.while t) most f
-starts_while known t most f d n s each = (refl, refl)
+pub starts_while : (known : List Known) (t : TestTree) (turns : Turns) → Starts known (Tree.while t) turns
+starts_while known t turns d n s each = (refl, refl)
+
+pub starts_in : (cases : List Case) (known slice : List Known) (guard : GuardTree) (turns : Turns) → slice ≡ known → TellsJoined cases known → Starts slice guard turns → StartsIn cases guard turns
+starts_in cases known slice guard turns lent joined starts d n s one = starts d n s (subst (λ k. EachStands k n s.store) (sym lent) (joined n s.store one))
+
+pub starts_nowhere : (cases : List Case) (guard : GuardTree) (turns : Turns) → cases ≡ [] → StartsIn cases guard turns
+starts_nowhere cases guard turns is d n s one = absurd (subst (λ l. OneStands l n s.store) is one)
 
 -- faults that are listed
 pub listed_fault : (traps : List Trap) (place : Place) (f : Faults) (why : ValueFault) → AreListed traps place f → IsAmong f why → among traps (At place) why
@@ -126,18 +165,14 @@ weaker_splits traps site P Q P' Q' (done false t) p q splits = q t splits
 weaker_splits traps site P Q P' Q' (rejected reason consumed) p q splits = tt
 weaker_splits traps site P Q P' Q' (faulty fault consumed) p q splits = splits
 
-pub holds_of : (pins : Variables) (known : List Known) (n : ℕ) (t : State) → n < 2 ^ 64 → Stays pins known n t → Holds pins known n t
-holds_of pins known n t steps stays = record { steps = steps; pinned = stays.0; each = stays.1 }
+pub holds_of : (pins : Variables) (cases : List Case) (n : ℕ) (t : State) → n < 2 ^ 64 → StaysIn pins cases n t → Holds pins cases n t
+holds_of pins cases n t steps stays = record { steps = steps; pinned = stays.0; one = stays.1 }
 
-pub tells_holds : (pins : Variables) (known others : List Known) → TellsAll known others → (n : ℕ) (s : State) → Holds pins known n s → Holds pins others n s
-tells_holds pins known others tells n s here = record { steps = here.steps; pinned = here.pinned; each = tells n s.store here.each }
+pub holds_alone_of : (pins : Variables) (known : List Known) (n : ℕ) (t : State) → n < 2 ^ 64 → Stays pins known n t → HoldsAlone pins known n t
+holds_alone_of pins known n t steps stays = record { steps = steps; pinned = stays.0; each = stays.1 }
 
--- the number of the first turn, and of a later one
-abbrev pub first_turn : Range
-first_turn = record { low = pos 0; high = pos 0; rise = 0; fall = 0 }
-
-abbrev pub later_turn : Range
-later_turn = record { low = pos 1; high = pos (2 ^ 64 - 1); rise = 0; fall = 1 }
+pub tells_holds : (pins : Variables) (cases others : List Case) → TellsCases cases others → (n : ℕ) (s : State) → Holds pins cases n s → Holds pins others n s
+tells_holds pins cases others tells n s here = record { steps = here.steps; pinned = here.pinned; one = tells n s.store here.one }
 
 first_in : (n : ℕ) → IsIn first_turn n (pos 0)
 first_in n = record { low = omega (arith, ints); high = omega (arith, ints) }
@@ -170,44 +205,47 @@ pub each_fewer : (known : List Known) (n : ℕ) (h : History) → EachStands kno
 each_fewer [] n h each = omega (arith, each)
 each_fewer (x ∷ xs) n h each = (name_fewer x.name.now x.facts n h each.0, each_fewer xs n h each.1)
 
-pub holds_fewer : (pins : Variables) (known : List Known) (n : ℕ) (s : State) → Holds pins known (suc n) s → Holds pins known n s
-holds_fewer pins known n s here = record { steps = omega (arith, here.steps); pinned = here.pinned; each = each_fewer known n s.store here.each }
+pub one_fewer : (cases : List Case) (n : ℕ) (h : History) → OneStands cases (suc n) h → OneStands cases n h
+one_fewer [] n h one = one
+one_fewer (x ∷ xs) n h (inl each) = inl (each_fewer x.known.items n h each)
+one_fewer (x ∷ xs) n h (inr one) = inr (one_fewer xs n h one)
+
+pub holds_fewer : (pins : Variables) (cases : List Case) (n : ℕ) (s : State) → Holds pins cases (suc n) s → Holds pins cases n s
+holds_fewer pins cases n s here = record { steps = omega (arith, here.steps); pinned = here.pinned; one = one_fewer cases n s.store here.one }
 
 -- a turn begins where one more step was left
-begins : (pinned known paid inside outside after : List Known) (pins : Variables) (traps : List Trap) (d : TestData) (loop : Loop) (guard : GuardTree) (most : ℕ) (counter : Option VarTree) (turn : Range) (f : Faults) (k n : ℕ) (s : State) →
-    IsGuard guard most loop.guard → loop.counter ≡ counter → PaysStep known paid → Enters pinned paid guard most counter turn inside outside f → TellsAll outside after → AreListed traps loop.place f → PinsStand pinned pins → IsIn turn n (pos k) → Holds pins known (suc n) s
+begins : (pinned : List Known) (cases inside outside after : List Case) (pins : Variables) (traps : List Trap) (d : TestData) (loop : Loop) (guard : GuardTree) (turns : Turns) (counter : Option VarTree) (turn : Range) (f : Faults) (k n : ℕ) (s : State) →
+    IsGuard guard turns loop.guard → loop.counter ≡ counter → Enters pinned cases guard turns counter turn inside outside f → TellsCases outside after → AreListed traps loop.place f → PinsStand pinned pins → IsIn turn n (pos k) → Holds pins cases (suc n) s
     → Splits (among traps) (At loop.place) (Holds pins inside n) (Holds pins after n) (take_turn loop k d s)
-begins pinned known paid inside outside after pins traps d loop guard most counter turn f k n s is same pays enters tells listed stand inside_range here =
+begins pinned cases inside outside after pins traps d loop guard turns counter turn f k n s is same enters tells listed stand inside_range here =
     let less : n < 2 ^ 64 = omega (arith, here.steps) in
-    weaker_splits traps (At loop.place) (Stays pins inside n) (Stays pins outside n) (Holds pins inside n) (Holds pins after n) (take_turn loop k d s)
+    weaker_splits traps (At loop.place) (StaysIn pins inside n) (StaysIn pins outside n) (Holds pins inside n) (Holds pins after n) (take_turn loop k d s)
     (λ t stays. holds_of pins inside n t less stays) (λ t stays. tells_holds pins outside after tells n t (holds_of pins outside n t less stays))
-    (splits_in traps loop.place f (Stays pins inside n) (Stays pins outside n) (take_turn loop k d s) listed
-    (enters pins d k n s loop is same inside_range stand (here.pinned, pays n s.store here.each)))
+    (splits_in traps loop.place f (StaysIn pins inside n) (StaysIn pins outside n) (take_turn loop k d s) listed
+    (enters pins d k n s loop is same inside_range stand (here.pinned, here.one)))
 
 -- a loop whose guess was checked
-pub record LoopParts (pinned known guess begun renewed first_inside first_outside later_inside later_outside before end after : List Known) (place : Place) (guard : GuardTree) (most : ℕ) (counter : Option VarTree) (sep : Separator) (body : CommandList) (f first later : Faults) (pins : Variables) (d : TestData) (traps : List Trap) : Type 0 where
+pub record LoopParts (pinned : List Known) (cases guess first_inside first_outside later_inside later_outside before end after : List Case) (place : Place) (guard : GuardTree) (turns : Turns) (counter : Option VarTree) (sep : Separator) (body : CommandList) (first later : Faults) (pins : Variables) (d : TestData) (traps : List Trap) : Type 0 where
   pub stand : PinsStand pinned pins
-  pub starts : Starts known guard most f
-  pub first_pays : PaysStep known begun
-  pub later_pays : PaysStep guess renewed
-  pub first_enters : Enters pinned begun guard most counter first_turn first_inside first_outside first
-  pub later_enters : Enters pinned renewed guard most counter later_turn later_inside later_outside later
+  pub starts : StartsIn cases guard turns
+  pub first_enters : Enters pinned cases guard turns counter first_turn first_inside first_outside first
+  pub later_enters : Enters pinned guess guard turns counter later_turn later_inside later_outside later
   pub first_listed : AreListed traps place first
   pub later_listed : AreListed traps place later
-  pub start_listed : AreListed traps place f
-  pub first_before : TellsAll first_inside before
+  pub start_listed : AreListed traps place turns.faults
+  pub first_before : TellsCases first_inside before
   pub separator : (k : ℕ) → Keeps d (among traps) (Holds pins later_inside) (separator_before (suc k) sep) (Holds pins before)
   pub body_keeps : Keeps d (among traps) (Holds pins before) body (Holds pins end)
-  pub again : TellsAll end guess
-  pub first_after : TellsAll first_outside after
-  pub later_after : TellsAll later_outside after
+  pub again : TellsCases end guess
+  pub first_after : TellsCases first_outside after
+  pub later_after : TellsCases later_outside after
 
-started : {pinned known guess begun renewed first_inside first_outside later_inside later_outside before end after : List Known} {place : Place} {guard : GuardTree} {most : ℕ} {counter : Option VarTree} {sep : Separator} {body : CommandList} {f first later : Faults} {pins : Variables} {d : TestData} {traps : List Trap} →
-    LoopParts pinned known guess begun renewed first_inside first_outside later_inside later_outside before end after place guard most counter sep body f first later pins d traps → (g : Guard) → IsGuard guard most g →
-    IsPostFixpoint d pins traps (loop_of place g counter sep body) (record { first = known; later = guess; first_inside = first_inside; later_inside = later_inside; before_body = before; after_body = end; after = after })
-started {pinned} {known} {guess} {begun} {renewed} {first_inside} {first_outside} {later_inside} {later_outside} {before} {end} {after} {place} {guard} {most} {counter} {sep} {body} {f} {first} {later} {pins} {d} {traps} p g is = record {
-  first_begin = λ n s here. begins pinned known begun first_inside first_outside after pins traps d (loop_of place g counter sep body) guard most counter first_turn first 0 n s is refl p.first_pays p.first_enters p.first_after p.first_listed p.stand (first_in n) here;
-  later_begin = λ k n s less here. begins pinned guess renewed later_inside later_outside after pins traps d (loop_of place g counter sep body) guard most counter later_turn later (suc k) n s is refl p.later_pays p.later_enters p.later_after p.later_listed p.stand (later_in k n less) here;
+started : {pinned : List Known} {cases guess first_inside first_outside later_inside later_outside before end after : List Case} {place : Place} {guard : GuardTree} {turns : Turns} {counter : Option VarTree} {sep : Separator} {body : CommandList} {first later : Faults} {pins : Variables} {d : TestData} {traps : List Trap} →
+    LoopParts pinned cases guess first_inside first_outside later_inside later_outside before end after place guard turns counter sep body first later pins d traps → (g : Guard) → IsGuard guard turns g →
+    IsPostFixpoint d pins traps (loop_of place g counter sep body) (record { first = cases; later = guess; first_inside = first_inside; later_inside = later_inside; before_body = before; after_body = end; after = after })
+started {pinned} {cases} {guess} {first_inside} {first_outside} {later_inside} {later_outside} {before} {end} {after} {place} {guard} {turns} {counter} {sep} {body} {first} {later} {pins} {d} {traps} p g is = record {
+  first_begin = λ n s here. begins pinned cases first_inside first_outside after pins traps d (loop_of place g counter sep body) guard turns counter first_turn first 0 n s is refl p.first_enters p.first_after p.first_listed p.stand (first_in n) here;
+  later_begin = λ k n s less here. begins pinned guess later_inside later_outside after pins traps d (loop_of place g counter sep body) guard turns counter later_turn later (suc k) n s is refl p.later_enters p.later_after p.later_listed p.stand (later_in k n less) here;
   first_body = λ n s here. tells_holds pins first_inside before p.first_before n s here;
   separator = p.separator;
   body = p.body_keeps;
@@ -215,26 +253,26 @@ started {pinned} {known} {guess} {begun} {renewed} {first_inside} {first_outside
 }
 
 -- how the start of a loop ends
-guard_done : (known : List Known) (guard : GuardTree) (most : ℕ) (f : Faults) (d : TestData) (n : ℕ) (s : State) (g : Guard) → Starts known guard most f → EachStands known n s.store → guard_of guard d s ≡ done g s → IsGuard guard most g
-guard_done known guard most f d n s g starts each is = (subst (Fits f (λ g t. IsGuard guard most g × (t ≡ s))) is (starts d n s each)).0
+guard_done : (cases : List Case) (guard : GuardTree) (turns : Turns) (d : TestData) (n : ℕ) (s : State) (g : Guard) → StartsIn cases guard turns → OneStands cases n s.store → guard_of guard d s ≡ done g s → IsGuard guard turns g
+guard_done cases guard turns d n s g starts each is = (subst (Fits turns.faults (λ g t. IsGuard guard turns g × (t ≡ s))) is (starts d n s each)).0
 
-guard_fails : (known : List Known) (guard : GuardTree) (most : ℕ) (f : Faults) (place : Place) (traps : List Trap) (d : TestData) (n : ℕ) (s : State) (fault : _) (consumed : ℕ) → Starts known guard most f → EachStands known n s.store → AreListed traps place f → guard_of guard d s ≡ faulty fault consumed → IsListed (among traps) (At place) fault
-guard_fails known guard most f place traps d n s fault consumed starts each listed is why same = listed_fault traps place f why listed (subst (Fits f (λ g t. IsGuard guard most g × (t ≡ s))) is (starts d n s each) why same)
+guard_fails : (cases : List Case) (guard : GuardTree) (turns : Turns) (place : Place) (traps : List Trap) (d : TestData) (n : ℕ) (s : State) (fault : _) (consumed : ℕ) → StartsIn cases guard turns → OneStands cases n s.store → AreListed traps place turns.faults → guard_of guard d s ≡ faulty fault consumed → IsListed (among traps) (At place) fault
+guard_fails cases guard turns place traps d n s fault consumed starts each listed is why same = listed_fault traps place turns.faults why listed (subst (Fits turns.faults (λ g t. IsGuard guard turns g × (t ≡ s))) is (starts d n s each) why same)
 
 fewer_ends : (traps : Listing) (m n : ℕ) (after : Before) (e : RunResult) → m ≤ n → Ends traps m after e → Ends traps n after e
 fewer_ends traps m n after (all_done t l) less ends = (le_trans ends.0 less, ends.1)
 fewer_ends traps m n after (stopped outcome consumed l) less ends = ends
 
-pub loop_command : (pinned known guess begun renewed first_inside first_outside later_inside later_outside before end after : List Known) (place : Place) (guard : GuardTree) (most : ℕ) (counter : Option VarTree) (sep : Separator) (body : CommandList) (f first later : Faults) (pins : Variables) (d : TestData) (traps : List Trap) →
-    LoopParts pinned known guess begun renewed first_inside first_outside later_inside later_outside before end after place guard most counter sep body f first later pins d traps → CommandKeeps d (among traps) (Holds pins known) (Tree.loop place guard counter sep body) (Holds pins after)
-loop_command pinned known guess begun renewed first_inside first_outside later_inside later_outside before end after place guard most counter sep body f first later pins d traps p n s e here (command_has_no_step) = no_steps (among traps) (At place)
-loop_command pinned known guess begun renewed first_inside first_outside later_inside later_outside before end after place guard most counter sep body f first later pins d traps p n s e here (loop_starts {n = m} {guard = g} is run) =
-    let held : Holds pins known m s = holds_fewer pins known m s here in
+pub loop_command : (pinned : List Known) (cases guess first_inside first_outside later_inside later_outside before end after : List Case) (place : Place) (guard : GuardTree) (turns : Turns) (counter : Option VarTree) (sep : Separator) (body : CommandList) (first later : Faults) (pins : Variables) (d : TestData) (traps : List Trap) →
+    LoopParts pinned cases guess first_inside first_outside later_inside later_outside before end after place guard turns counter sep body first later pins d traps → CommandKeeps d (among traps) (Holds pins cases) (Tree.loop place guard counter sep body) (Holds pins after)
+loop_command pinned cases guess first_inside first_outside later_inside later_outside before end after place guard turns counter sep body first later pins d traps p n s e here (command_has_no_step) = no_steps (among traps) (At place)
+loop_command pinned cases guess first_inside first_outside later_inside later_outside before end after place guard turns counter sep body first later pins d traps p n s e here (loop_starts {n = m} {guard = g} is run) =
+    let held : Holds pins cases m s = holds_fewer pins cases m s here in
     fewer_ends (among traps) m n (Holds pins after) e (omega arith)
-    (post_fixpoints_hold d pins traps (loop_of place g counter sep body) (record { first = known; later = guess; first_inside = first_inside; later_inside = later_inside; before_body = before; after_body = end; after = after })
-    (started p g (guard_done known guard most f d m s g p.starts held.each is)) m s e held run)
-loop_command pinned known guess begun renewed first_inside first_outside later_inside later_outside before end after place guard most counter sep body f first later pins d traps p n s e here (loop_fails {n = m} {fault} is) =
-    guard_fails known guard most f place traps d m s fault _ p.starts (holds_fewer pins known m s here).each p.start_listed is
-loop_command pinned known guess begun renewed first_inside first_outside later_inside later_outside before end after place guard most counter sep body f first later pins d traps p n s e here (command_is_done simple is) = elim simple [ ]
-loop_command pinned known guess begun renewed first_inside first_outside later_inside later_outside before end after place guard most counter sep body f first later pins d traps p n s e here (command_rejects simple is) = elim simple [ ]
-loop_command pinned known guess begun renewed first_inside first_outside later_inside later_outside before end after place guard most counter sep body f first later pins d traps p n s e here (command_fails simple is) = elim simple [ ]
+    (post_fixpoints_hold d pins traps (loop_of place g counter sep body) (record { first = cases; later = guess; first_inside = first_inside; later_inside = later_inside; before_body = before; after_body = end; after = after })
+    (started p g (guard_done cases guard turns d m s g p.starts held.one is)) m s e held run)
+loop_command pinned cases guess first_inside first_outside later_inside later_outside before end after place guard turns counter sep body first later pins d traps p n s e here (loop_fails {n = m} {fault} is) =
+    guard_fails cases guard turns place traps d m s fault _ p.starts (holds_fewer pins cases m s here).one p.start_listed is
+loop_command pinned cases guess first_inside first_outside later_inside later_outside before end after place guard turns counter sep body first later pins d traps p n s e here (command_is_done simple is) = elim simple [ ]
+loop_command pinned cases guess first_inside first_outside later_inside later_outside before end after place guard turns counter sep body first later pins d traps p n s e here (command_rejects simple is) = elim simple [ ]
+loop_command pinned cases guess first_inside first_outside later_inside later_outside before end after place guard turns counter sep body first later pins d traps p n s e here (command_fails simple is) = elim simple [ ]

@@ -33,7 +33,9 @@ use Rattle.ctd_traps.specs.calls.Traps.{HasEachTrap, Trap}
 use Rattle.ctd_program.specs.declared.preset.Preset.{Preset}
 use Rattle.ctd_known.specs.declared.facts.Known.{Known}
 use Rattle.ctd_known.proofs.Standing.{each_same}
-use Rattle.ctd_known.specs.calls.Facts.{EachStands, PinsStand, at_key, pins_alone}
+use Rattle.ctd_known.specs.calls.Facts.{PinsStand, at_key, pins_alone}
+use Rattle.ctd_traps.specs.declared.cases.Case.{Case}
+use Rattle.ctd_traps.specs.inner.Cases.{OneStands, TellsCase}
 use Rattle.ctd_traps.specs.inner.Holds.{Holds}
 use Rattle.ctd_traps.specs.inner.Triples.{Keeps, IsListedOutcome}
 use Rattle.ctd_traps.specs.inner.PostFixpoint.{among}
@@ -101,11 +103,11 @@ none_owes traps sp si f none spot site fault is = let same : fault_of_value faul
 accepted_owes : (traps : List Trap) → Owes traps Accepted
 accepted_owes traps spot site fault is = absurd (cc)
 
-program_owes : (d : TestData) (traps : List Trap) (program : CommandList) (n : ℕ) (s : State) (pins : Variables) (first last : List Known) (e : RunResult) → n < 2 ^ 64 → s.store.pins ≡ pins → ((m : ℕ) → m < 2 ^ 64 → EachStands first m s.store) →
+program_owes : (d : TestData) (traps : List Trap) (program : CommandList) (n : ℕ) (s : State) (pins : Variables) (first last : List Case) (e : RunResult) → n < 2 ^ 64 → s.store.pins ≡ pins → ((m : ℕ) → m < 2 ^ 64 → OneStands first m s.store) →
     ((t : State) → first_skip d s ≡ done tt t → t.store ≡ s.store) → Keeps d (among traps) (Holds pins first) program (Holds pins last) → ProgramEnds d program n s e → Owes traps (outcome_of e)
 program_owes d traps program n s pins first last e less pinned here same keeps (start_fails {consumed} {fault} is) = none_owes traps _ Start fault (subst OnlyLooks is (start_looks s.mode d s))
 program_owes d traps program n s pins first last e less pinned here same keeps (commands_stop {m} {consumed} {t} {o} is list) =
-    listed_owes traps o (keeps n t (stopped o consumed m) (record { steps = less; pinned = ap (λ h. h.pins) (same t is) ∙ pinned; each = subst (λ h. EachStands first n h) (sym (same t is)) (here n less) }) list)
+    listed_owes traps o (keeps n t (stopped o consumed m) (record { steps = less; pinned = ap (λ h. h.pins) (same t is) ∙ pinned; one = subst (λ h. OneStands first n h) (sym (same t is)) (here n less) }) list)
 program_owes d traps program n s pins first last e less pinned here same keeps (end_has_no_step is list) = none_owes traps _ Finish StepLimit steps_are_none
 program_owes d traps program n s pins first last e less pinned here same keeps (data_are_accepted is list ends) = accepted_owes traps
 program_owes d traps program n s pins first last e less pinned here same keeps (end_rejects is list ends) = listed_owes traps _ tt
@@ -137,9 +139,9 @@ or_nothing (Some v) = refl
 at_first : (presets : List Preset) (name : List ℕ) (is : List Value) → value_at (initial presets) (at_key name is) ≡ value_at (pins_alone (pins_of presets)) (at_key name is)
 at_first presets name is = or_nothing (value_in (at_key name is) (pins_of presets))
 
-pub traps_follow : BigStepsHold → (program : CommandList) (presets : List Preset) (traps : List Trap) (first last : List Known) → PinsStand first (pins_of presets) →
+pub traps_follow : BigStepsHold → (program : CommandList) (presets : List Preset) (traps : List Trap) (pinned : List Known) (first last : List Case) → PinsStand pinned (pins_of presets) → TellsCase pinned first →
     ((d : TestData) → Keeps d (among traps) (Holds (pins_of presets) first) program (Holds (pins_of presets) last)) → HasEachTrap program presets traps
-traps_follow big program presets traps first last stand keeps mode d steps spot site fault less is =
+traps_follow big program presets traps pinned first last stand tells keeps mode d steps spot site fault less is =
     let s : State = at_start mode presets in
     let e : RunResult = run_from d steps (tasks program ++ finish ∷ []) s in
-    program_owes d traps program steps s (pins_of presets) first last e less refl (λ m few. each_same first m (pins_alone (pins_of presets)) (initial presets) (at_first presets) (stand m few)) (λ t is. subst (Keeps_store s.store) is (start_same mode d s)) (keeps d) (big d program steps s) spot site fault (sym (outcome_is steps e) ∙ is)
+    program_owes d traps program steps s (pins_of presets) first last e less refl (λ m few. tells m (initial presets) (each_same pinned m (pins_alone (pins_of presets)) (initial presets) (at_first presets) (stand m few))) (λ t is. subst (Keeps_store s.store) is (start_same mode d s)) (keeps d) (big d program steps s) spot site fault (sym (outcome_is steps e) ∙ is)

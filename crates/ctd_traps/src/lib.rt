@@ -1,7 +1,10 @@
 //! Where a run of a program may stop without a verdict.
 #![tactic(auto)]
 
+mod act;
 mod assign;
+mod cases;
+mod divide;
 mod finding;
 mod names;
 mod program;

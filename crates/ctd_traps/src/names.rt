@@ -159,28 +159,30 @@ fn add_loop<'p>(repeated: &'p Loop, names: &mut List<'p>) -> Result<(), AllocErr
     add_commands(body.as_slice(), names)
 }
 
-/// How many commands there are, those in blocks among them.
-#[cycle(command_count)]
-fn count_commands(commands: &[Command]) -> usize {
-    let mut count: usize = 0;
+/// What one pass over commands costs for each name. Behind a block what is known of each name is compared with what is known of all: it costs `joined`.
+#[cycle(command_cost)]
+fn cost_of_commands(commands: &[Command], joined: usize) -> usize {
+    let mut cost: usize = 0;
     for command in commands {
-        count = count.saturating_add(count_command(command));
+        cost = cost.saturating_add(cost_of_command(command, joined));
     }
-    count
+    cost
 }
 
-/// How many commands a command is, those in it among them.
-#[cycle(command_count)]
-fn count_command(command: &Command) -> usize {
-    let within = match &command.action {
-        Action::Loop(repeated) => count_commands(repeated.body.as_slice()),
-        Action::If(choice) => {
-            let yes = count_commands(choice.then_do.as_slice());
-            yes.saturating_add(count_commands(choice.else_do.as_slice()))
+/// What one pass over a command costs for each name.
+#[cycle(command_cost)]
+fn cost_of_command(command: &Command, joined: usize) -> usize {
+    match &command.action {
+        Action::Loop(repeated) => {
+            joined.saturating_add(cost_of_commands(repeated.body.as_slice(), joined))
         }
-        _ => 0,
-    };
-    within.saturating_add(1)
+        Action::If(choice) => {
+            let yes = cost_of_commands(choice.then_do.as_slice(), joined);
+            let no = cost_of_commands(choice.else_do.as_slice(), joined);
+            joined.saturating_add(yes.saturating_add(no))
+        }
+        _ => 1,
+    }
 }
 
 /// The names of a program and of presets, each once, and what one pass over the program costs.
@@ -190,7 +192,8 @@ pub(crate) struct Mentioned<'p> {
     pub(crate) cost: u64,
 }
 
-/// The names of a program and of presets, and the cost of a pass: that of a name for each command and for each place where one stands.
+/// The names of a program and of presets, and the cost of a pass: that of a name for each command, for each place where one stands, and for each name
+/// behind each block.
 pub(crate) fn mentioned_in<'p>(
     alloc: Global,
     commands: &'p [Command],
@@ -201,9 +204,11 @@ pub(crate) fn mentioned_in<'p>(
     for preset in presets.pins() {
         names.push(preset.name.as_slice())?;
     }
-    let places = count_commands(commands).saturating_add(names.len()) as u64;
+    let places = names.len();
     names.sort()?;
     names.dedup();
-    let cost = places.saturating_mul(names.len() as u64);
+    let joined = names.len().saturating_add(1);
+    let for_each = places.saturating_add(cost_of_commands(commands, joined)) as u64;
+    let cost = for_each.saturating_mul(names.len() as u64);
     Ok(Mentioned { names, cost })
 }

@@ -6,6 +6,7 @@ ghost use Rattle.ctd_store.specs.Store.{Variables, pins_of, value_of, with_pin};
 ghost use Rattle.ctd_traps.specs.calls.Traps.{HasEachTrap, traps_of};
 ghost use Rattle.ctd_known.specs.calls.Facts.{MayBe, PinsStand};
 
+use crate::cases::with_case;
 use crate::finding::Finding;
 use crate::names::{Mentioned, mentioned_in};
 use crate::walk::walk;
@@ -17,7 +18,7 @@ use ctd_program::{Command, Literal, Preset, Presets};
 use ctd_range::Range;
 use std::alloc::{AllocError, Global};
 
-/// What the passes over a program may cost, where one costs as much as it has names at each command and at each place of a name.
+/// What the passes over a program may cost. A pass is made in each case, of which there are at most four.
 const BUDGET: u64 = 20_000_000;
 
 /// No values.
@@ -127,15 +128,11 @@ fn findings_of<'p>(
         alloc,
         pinned: pinned.as_slice(),
     };
+    let known = copied(alloc, pinned.as_slice())?;
+    let first = with_case(ground, Vec::new(alloc), known)?;
     let mut findings = Vec::new(alloc);
     let mut budget = passes;
-    walk(
-        commands,
-        ground,
-        pinned.as_slice(),
-        &mut findings,
-        &mut budget,
-    )?;
+    walk(commands, ground, first, &mut findings, &mut budget)?;
     Ok(findings)
 }
 

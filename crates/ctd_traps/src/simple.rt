@@ -2,18 +2,18 @@
 
 ghost use Rattle.std.specs.Prelude.{◌≡◌, ◌≤ℤ◌, ◌≤◌, ◌<◌, ℕ, ℤ, List, length, false, IfOk};
 ghost use Rattle.ctd_source.specs.declared.limits.TheConstants.{WINDOW};
-ghost use Rattle.ctd_program.specs.calls.View.{expr_tree, target, test_tree};
+ghost use Rattle.ctd_program.specs.calls.View.{expr_tree, target};
 ghost use Rattle.ctd_store.specs.declared.value.Value.TheVariants as values;
-ghost use Rattle.ctd_command.specs.Commands.{assert, int, string};
+ghost use Rattle.ctd_command.specs.Commands.{int, string};
 ghost use Rattle.ctd_command.specs.Regex.{regex};
 ghost use Rattle.ctd_known.specs.calls.Facts.{MayBe};
 ghost use Rattle.ctd_traps.specs.inner.Walk.{Acts};
 
 use crate::assign::{Acted, keep};
 use ctd_known::{
-    Ground, Kinds, Known, Lengths, Stop, both, copied, inspect, number_faults, split, text_faults,
+    Ground, Kinds, Known, Lengths, Stop, both, copied, inspect, number_faults, text_faults,
 };
-use ctd_program::{Expr, IntArguments, RegexArguments, Test};
+use ctd_program::{Expr, IntArguments, RegexArguments};
 use ctd_range::Range;
 use ctd_source::WINDOW;
 
@@ -92,19 +92,4 @@ pub(crate) fn take_match<'p>(
 {
     let kept = keep(ground, &arguments.target, in_window(), known)?;
     Ok(kept)
-}
-
-/// What is known behind ASSERT.
-pub(crate) fn assert_test<'p>(
-    t: &'p Test,
-    ground: Ground<'_, 'p>,
-    known: &[Known<'p>],
-) -> Result<Acted<'p>, Stop>
-    ensures { IfOk result (λ a. Acts ground.entry.pinned.now known.now a.after.items a.faults (assert (test_tree t.now))) }
-{
-    let decided = split(ground.alloc, t, known)?;
-    Ok(Acted {
-        after: decided.if_true,
-        faults: decided.faults,
-    })
 }

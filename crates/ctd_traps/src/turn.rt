@@ -1,25 +1,29 @@
 //! How loops start, and how their turns begin.
 
-ghost use Rattle.std.specs.Prelude.{◌≡◌, ◌≤◌, ◌<◌, ◌^◌, ℕ, ℤ, pos, false, IfOk};
+ghost use Rattle.std.specs.Prelude.{◌≡◌, ◌≤◌, ◌<◌, ◌<ℤ◌, ◌^◌, ℕ, ℤ, pos, true, false, IfOk};
 ghost use Rattle.ctd_program.specs.calls.View.{boxed_target, expr_tree, guard_tree};
 ghost use Rattle.ctd_store.specs.declared.value.Value.TheVariants as values;
 ghost use Rattle.ctd_range.specs.calls.Ranges.{IsIn};
 ghost use Rattle.ctd_range.specs.inner.Ranges.{IsCount};
 ghost use Rattle.ctd_known.specs.calls.Facts.{MayBe};
-ghost use Rattle.ctd_traps.specs.inner.Walk.{Counts, CountsTurn, Enters, Starts};
+ghost use Rattle.ctd_traps.specs.inner.Walk.{Counts, CountsEach, CountsLast, CountsTurn, Enters, Starts, StartsIn, first_turn};
+ghost use Rattle.ctd_program.specs.declared.tree.Loop.{out-Loop};
 
+use crate::act::ActedCases;
 use crate::assign::{Acted, assign};
+use crate::cases::{Case, joined, with_case};
+use crate::divide::divide;
 use ctd_known::{
-    Faults, Ground, Kinds, Known, Stop, both, copied, inspect, no_faults, number_faults, split,
+    Faults, Ground, Kinds, Known, Stop, after_step, both, copied, inspect, no_faults, number_faults,
 };
-use ctd_program::{Expr, LoopGuard, Var};
+use ctd_program::{Expr, Loop, LoopGuard, Var};
 use ctd_range::{Range, less};
 
-/// What is known where a turn begins, and where the loop is over.
+/// The cases where a turn begins, and those where the loop is over.
 #[derive(Drop)]
 pub(crate) struct Entered<'p> {
-    pub(crate) inside: Vec<Known<'p>>,
-    pub(crate) outside: Vec<Known<'p>>,
+    pub(crate) inside: Vec<Case<'p>>,
+    pub(crate) outside: Vec<Case<'p>>,
     pub(crate) faults: Faults,
 }
 
@@ -43,16 +47,27 @@ fn most_of(kinds: Kinds) -> u64
     }
 }
 
-/// How a loop may start: the faults, and how many turns it may have at most where it counts them.
+/// How many turns a number of these kinds gives at least.
+fn least_of(kinds: Kinds) -> u64
+    ensures { (k n : ℕ) → n < 2 ^ 64 → MayBe kinds k (values.Int (pos n)) → result ≤ n }
+{
+    match kinds.number {
+        Some(range) => u64::try_from(range.low).unwrap_or(0),
+        None => 0,
+    }
+}
+
+/// How a loop may start: the faults, and how many turns it has at least and at most where it counts them.
 #[derive(Clone, Copy)]
 pub(crate) struct Turns {
     pub(crate) faults: Faults,
+    pub(crate) least: u64,
     pub(crate) most: u64,
 }
 
 /// What a count of turns may be.
 fn count_turns(e: &Expr, known: &[Known]) -> Result<Turns, Stop>
-    ensures { IfOk result (λ t. Counts known.now (expr_tree e.now) t.most t.faults) }
+    ensures { IfOk result (λ t. Counts known.now (expr_tree e.now) t) }
 {
     let count = inspect(e, known)?;
     let bad = Faults {
@@ -61,13 +76,14 @@ fn count_turns(e: &Expr, known: &[Known]) -> Result<Turns, Stop>
     };
     Ok(Turns {
         faults: both(number_faults(count), bad),
+        least: least_of(count.kinds),
         most: most_of(count.kinds),
     })
 }
 
 /// How a loop may start.
-pub(crate) fn start(guard: &LoopGuard, known: &[Known]) -> Result<Turns, Stop>
-    ensures { IfOk result (λ t. Starts known.now (guard_tree guard.now) t.most t.faults) }
+fn start(guard: &LoopGuard, known: &[Known]) -> Result<Turns, Stop>
+    ensures { IfOk result (λ t. Starts known.now (guard_tree guard.now) t) }
 {
     match guard {
         LoopGuard::Times(e) => {
@@ -76,9 +92,30 @@ pub(crate) fn start(guard: &LoopGuard, known: &[Known]) -> Result<Turns, Stop>
         }
         LoopGuard::While(_) => Ok(Turns {
             faults: no_faults(),
+            least: 0,
             most: 0,
         }),
     }
+}
+
+/// How a loop may start in some cases.
+fn start_each<'p>(
+    guard: &LoopGuard,
+    ground: Ground<'_, 'p>,
+    cases: &[Case<'p>],
+) -> Result<Turns, Stop>
+    ensures { IfOk result (λ t. StartsIn cases.now (guard_tree guard.now) t) }
+{
+    if cases.is_empty() {
+        return Ok(Turns {
+            faults: no_faults(),
+            least: 0,
+            most: 0,
+        });
+    }
+    let all = joined(ground, cases)?;
+    let turns = start(guard, all.as_slice())?;
+    Ok(turns)
 }
 
 /// The numbers of turns that are below a count.
@@ -122,34 +159,112 @@ fn count_turn<'p>(
     }
 }
 
-/// What is known where a turn of a loop begins whose number is of a range, and where the loop is over.
+/// The cases once a step was paid, and the counter of a loop, if there is one, got the number of a turn.
+fn count_each<'p>(
+    counter: &'p Option<Box<Var>>,
+    turn: Range,
+    ground: Ground<'_, 'p>,
+    cases: &[Case<'p>],
+) -> Result<ActedCases<'p>, Stop>
+    ensures { IfOk result (λ a. CountsEach ground.entry.pinned.now cases.now (boxed_target counter.now) turn a.after.items a.faults) }
+{
+    let mut after = Vec::new(ground.alloc);
+    let mut faults = no_faults();
+    for case in cases {
+        let paid = after_step(ground.alloc, case.known.as_slice())?;
+        let counted = count_turn(counter, turn, ground, paid.as_slice())?;
+        after = with_case(ground, after, counted.after)?;
+        faults = both(faults, counted.faults);
+    }
+    Ok(ActedCases { after, faults })
+}
+
+/// Whether all numbers of a range are below a count.
+fn are_below(turn: Range, count: u64) -> bool
+    ensures { result ≡ true → turn.high <ℤ pos count }
+{
+    turn.high < i128::from(count)
+}
+
+/// The cases where a loop that has at least so many turns is over at a turn.
+fn count_last<'p>(
+    counter: &'p Option<Box<Var>>,
+    turn: Range,
+    least: u64,
+    ground: Ground<'_, 'p>,
+    cases: &[Case<'p>],
+) -> Result<ActedCases<'p>, Stop>
+    ensures { IfOk result (λ a. CountsLast ground.entry.pinned.now cases.now (boxed_target counter.now) turn least a.after.items a.faults) }
+{
+    if are_below(turn, least) {
+        return Ok(ActedCases {
+            after: Vec::new(ground.alloc),
+            faults: no_faults(),
+        });
+    }
+    let counted = count_each(counter, turn, ground, cases)?;
+    Ok(counted)
+}
+
+/// The cases where a turn of a loop begins whose number is of a range, and those where the loop is over.
 pub(crate) fn enter<'p>(
     guard: &'p LoopGuard,
     counter: &'p Option<Box<Var>>,
     turn: Range,
-    most: u64,
+    turns: Turns,
     ground: Ground<'_, 'p>,
-    known: &[Known<'p>],
+    cases: &[Case<'p>],
 ) -> Result<Entered<'p>, Stop>
-    ensures { IfOk result (λ e. Enters ground.entry.pinned.now known.now (guard_tree guard.now) most (boxed_target counter.now) turn e.inside.items e.outside.items e.faults) }
+    ensures { IfOk result (λ e. Enters ground.entry.pinned.now cases.now (guard_tree guard.now) turns (boxed_target counter.now) turn e.inside.items e.outside.items e.faults) }
 {
-    let counted = count_turn(counter, turn, ground, known)?;
     match guard {
         LoopGuard::Times(_) => {
-            let inside = count_turn(counter, below(turn, most), ground, known)?;
+            let inside = count_each(counter, below(turn, turns.most), ground, cases)?;
+            let outside = count_last(counter, turn, turns.least, ground, cases)?;
             Ok(Entered {
                 inside: inside.after,
-                outside: counted.after,
-                faults: both(counted.faults, inside.faults),
+                outside: outside.after,
+                faults: both(inside.faults, outside.faults),
             })
         }
         LoopGuard::While(t) => {
-            let decided = split(ground.alloc, t, counted.after.as_slice())?;
+            let counted = count_each(counter, turn, ground, cases)?;
+            let divided = divide(ground, t, counted.after.as_slice())?;
             Ok(Entered {
-                inside: decided.if_true,
-                outside: decided.if_false,
-                faults: both(counted.faults, decided.faults),
+                inside: divided.if_true,
+                outside: divided.if_false,
+                faults: both(counted.faults, divided.faults),
             })
         }
     }
+}
+
+/// The number of the first turn.
+const FIRST: Range = Range {
+    low: 0,
+    high: 0,
+    rise: 0,
+    fall: 0,
+};
+
+/// How a loop starts, and how its first turn begins.
+#[derive(Drop)]
+pub(crate) struct Begun<'p> {
+    pub(crate) turns: Turns,
+    pub(crate) first: Entered<'p>,
+}
+
+/// How a loop starts, and how its first turn begins.
+pub(crate) fn begin<'p>(
+    repeated: &'p Loop,
+    ground: Ground<'_, 'p>,
+    cases: &[Case<'p>],
+) -> Result<Begun<'p>, Stop>
+    ensures starts { IfOk result (λ b. StartsIn cases.now (guard_tree (out-Loop repeated.now).guard) b.turns) }
+    ensures enters { IfOk result (λ b. Enters ground.entry.pinned.now cases.now (guard_tree (out-Loop repeated.now).guard) b.turns (boxed_target (out-Loop repeated.now).counter) first_turn b.first.inside.items b.first.outside.items b.first.faults) }
+{
+    let Loop { guard, counter, .. } = repeated;
+    let turns = start_each(guard, ground, cases)?;
+    let first = enter(guard, counter, FIRST, turns, ground, cases)?;
+    Ok(Begun { turns, first })
 }

@@ -8,13 +8,21 @@ use Rattle.ctd_known.specs.declared.faults.Faults.{Faults}
 use Rattle.ctd_known.specs.declared.facts.Known.{Known}
 use Rattle.ctd_known.specs.calls.Facts.{EachStands}
 use Rattle.ctd_known.specs.calls.Found.{IsAmong}
+use Rattle.ctd_traps.specs.declared.cases.Case.{Case}
+use Rattle.ctd_traps.specs.inner.Cases.{OneStands}
 use Rattle.ctd_traps.specs.calls.Traps.{Trap}
 
 -- all that is known is so of a state with these pins, where so many steps are left
-pub record Holds (pins : Variables) (known : List Known) (n : ℕ) (s : State) : Type 0 where
+pub record HoldsAlone (pins : Variables) (known : List Known) (n : ℕ) (s : State) : Type 0 where
   pub steps : n < 2 ^ 64
   pub pinned : s.store.pins ≡ pins
   pub each : EachStands known n s.store
+
+-- all that is known in one of the cases is so
+pub record Holds (pins : Variables) (cases : List Case) (n : ℕ) (s : State) : Type 0 where
+  pub steps : n < 2 ^ 64
+  pub pinned : s.store.pins ≡ pins
+  pub one : OneStands cases n s.store
 
 -- all traps of one list are in another
 abbrev pub ArePart : List Trap → List Trap → Type 0

@@ -10,7 +10,7 @@ use Rattle.ctd_store.specs.Store.{Variables}
 use Rattle.ctd_check.specs.Loops.{Loop, take_turn}
 use Rattle.ctd_check.specs.calls.BigSteps.{separator_before}
 use Rattle.ctd_traps.specs.calls.Traps.{Trap}
-use Rattle.ctd_known.specs.declared.facts.Known.{Known}
+use Rattle.ctd_traps.specs.declared.cases.Case.{Case}
 use Rattle.ctd_traps.specs.inner.Holds.{Holds}
 use Rattle.ctd_traps.specs.inner.Triples.{Keeps, Splits}
 
@@ -18,17 +18,17 @@ use Rattle.ctd_traps.specs.inner.Triples.{Keeps, Splits}
 abbrev pub among : List Trap → Site → ValueFault → Type 0
 among traps site fault = (place : Place) × (site ≡ At place) × Contains traps (record { place = place; fault = fault })
 
--- what is known before turn 0 and before each later turn; behind the begin of each; before the body, behind it, and behind the loop
+-- the cases before turn 0 and before each later turn; behind the begin of each; before the body, behind it, and behind the loop
 pub record Guess : Type 0 where
-  pub first : List Known
-  pub later : List Known
-  pub first_inside : List Known
-  pub later_inside : List Known
-  pub before_body : List Known
-  pub after_body : List Known
-  pub after : List Known
+  pub first : List Case
+  pub later : List Case
+  pub first_inside : List Case
+  pub later_inside : List Case
+  pub before_body : List Case
+  pub after_body : List Case
+  pub after : List Case
 
--- Each part of a turn keeps what is known, and what is known behind the body is at least what is known before a later turn. Turn k comes after k steps at least.
+-- Each part of a turn leads from its cases to the next ones, and where a case behind the body holds, one before a later turn does. Turn k comes after k steps at least.
 pub record IsPostFixpoint (d : TestData) (pins : Variables) (traps : List Trap) (loop : Loop) (g : Guess) : Type 0 where
   pub first_begin : (n : ℕ) (s : State) → Holds pins g.first (suc n) s → Splits (among traps) (At loop.place) (Holds pins g.first_inside n) (Holds pins g.after n) (take_turn loop 0 d s)
   pub later_begin : (k n : ℕ) (s : State) → suc k + suc n < 2 ^ 64 → Holds pins g.later (suc n) s → Splits (among traps) (At loop.place) (Holds pins g.later_inside n) (Holds pins g.after n) (take_turn loop (suc k) d s)

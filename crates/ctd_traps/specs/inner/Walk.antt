@@ -1,11 +1,12 @@
 -- What a walk over commands finds out.
-use Rattle.std.specs.Prelude.{◌≡◌, ◌≤◌, ℕ, suc, pos, Bool, true, false, ⊤, List, [], ◌∷◌, fold, Option, Some, None, Result, Ok, Err}
+use Rattle.std.specs.Prelude.{◌≡◌, ◌≤◌, ℕ, suc, pos, ◌-◌, ◌^◌, Bool, true, false, ⊤, List, [], ◌∷◌, fold, Option, Some, None, Result, Ok, Err}
 use Rattle.ctd_source.specs.TestData.{TestData}
 use Rattle.ctd_program.specs.Tree
-use Rattle.ctd_program.specs.Tree.{ExprTree, VarTree, GuardTree, CommandTree, CommandList, Separator}
+use Rattle.ctd_program.specs.Tree.{ExprTree, VarTree, GuardTree, CommandTree, CommandList, Separator, place_of}
 use Rattle.ctd_token.specs.declared.text.Place.{Place}
 use Rattle.ctd_program.specs.declared.tree.Loop.{Loop, out-Loop}
-use Rattle.ctd_program.specs.calls.View.{boxed_target, command_list, guard_tree}
+use Rattle.ctd_program.specs.declared.tree.Choice.{Choice, out-Choice}
+use Rattle.ctd_program.specs.calls.View.{boxed_target, command_list, guard_tree, test_tree}
 use Rattle.ctd_program.specs.inner.View.{boxed_separator}
 use Rattle.ctd_store.specs.declared.value.Value.{Value}
 use Rattle.ctd_store.specs.declared.value.Value.TheVariants as values
@@ -24,8 +25,11 @@ use Rattle.ctd_traps.specs.declared.finding.Finding.{Finding}
 use Rattle.ctd_known.specs.declared.faults.Faults.{Faults}
 use Rattle.ctd_known.specs.declared.facts.Kinds.{Kinds}
 use Rattle.ctd_known.specs.declared.facts.Known.{Known}
+use Rattle.ctd_traps.specs.declared.cases.Case.{Case}
+use Rattle.ctd_traps.specs.declared.turn.Turns.{Turns}
+use Rattle.ctd_traps.specs.inner.Cases.{OneStands, TellsCases}
 use Rattle.ctd_known.specs.calls.Facts.{EachStands, MayBe, PinsStand}
-use Rattle.ctd_traps.specs.inner.Holds.{ArePart, Holds}
+use Rattle.ctd_traps.specs.inner.Holds.{AreListed, ArePart, Holds, HoldsAlone}
 use Rattle.ctd_known.specs.calls.Found.{IsAmong}
 use Rattle.ctd_traps.specs.inner.PostFixpoint.{among}
 use Rattle.ctd_traps.specs.inner.Triples.{Keeps, CommandKeeps}
@@ -33,6 +37,10 @@ use Rattle.ctd_traps.specs.inner.Triples.{Keeps, CommandKeeps}
 -- what is known is so of a state with these pins
 abbrev pub Stays : Variables → List Known → ℕ → State → Type 0
 Stays pins known n s = (s.store.pins ≡ pins) × EachStands known n s.store
+
+-- what is known in one of the cases is so of a state with these pins
+abbrev pub StaysIn : Variables → List Case → ℕ → State → Type 0
+StaysIn pins cases n s = (s.store.pins ≡ pins) × OneStands cases n s.store
 
 -- a fault of a value is among these
 abbrev pub IsExpected : Faults → Fault → Type 0
@@ -66,52 +74,98 @@ KeepsValue pinned known target kinds after f = (pins : Variables) (d : TestData)
 abbrev pub ClearsAll : (pinned known : List Known) → List (List ℕ) → List Known → Type 0
 ClearsAll pinned known names after = (pins : Variables) (n : ℕ) (h : History) → PinsStand pinned pins → h.pins ≡ pins → EachStands known n h → EachStands after n (fold unset h names)
 
--- commands keep what is known, or stop at a trap of a list that has all that were found
-abbrev pub WalkKeeps : (pinned known after : List Known) → List Finding → CommandList → Type 0
-WalkKeeps pinned known after found cs = (pins : Variables) (d : TestData) (all : List Trap) → PinsStand pinned pins → ArePart (traps_of found) all → Keeps d (among all) (Holds pins known) cs (Holds pins after)
+-- a command keeps what is known, or stops by one of these faults
+abbrev pub ActKeeps : (pinned known after : List Known) → Faults → CommandTree → Type 0
+ActKeeps pinned known after f c = (pins : Variables) (d : TestData) (all : List Trap) → PinsStand pinned pins → AreListed all (place_of c) f → CommandKeeps d (among all) (HoldsAlone pins known) c (HoldsAlone pins after)
+
+-- the same, of cases
+abbrev pub ActsKeep : (pinned : List Known) (cases after : List Case) → Faults → CommandTree → Type 0
+ActsKeep pinned cases after f c = (pins : Variables) (d : TestData) (all : List Trap) → PinsStand pinned pins → AreListed all (place_of c) f → CommandKeeps d (among all) (Holds pins cases) c (Holds pins after)
+
+-- commands lead from some cases to others, or stop at a trap of a list that has all that were found
+abbrev pub WalkKeeps : (pinned : List Known) (cases after : List Case) → List Finding → CommandList → Type 0
+WalkKeeps pinned cases after found cs = (pins : Variables) (d : TestData) (all : List Trap) → PinsStand pinned pins → ArePart (traps_of found) all → Keeps d (among all) (Holds pins cases) cs (Holds pins after)
 
 -- the same of a command
-abbrev pub StepKeeps : (pinned known after : List Known) → List Finding → CommandTree → Type 0
-StepKeeps pinned known after found c = (pins : Variables) (d : TestData) (all : List Trap) → PinsStand pinned pins → ArePart (traps_of found) all → CommandKeeps d (among all) (Holds pins known) c (Holds pins after)
+abbrev pub StepKeeps : (pinned : List Known) (cases after : List Case) → List Finding → CommandTree → Type 0
+StepKeeps pinned cases after found c = (pins : Variables) (d : TestData) (all : List Trap) → PinsStand pinned pins → ArePart (traps_of found) all → CommandKeeps d (among all) (Holds pins cases) c (Holds pins after)
 
 -- the same of the separator of a loop
-abbrev pub SeparatorKeeps : (pinned known after : List Known) → List Finding → Separator → Type 0
-SeparatorKeeps pinned known after found sep = (pins : Variables) (d : TestData) (all : List Trap) (k : ℕ) → PinsStand pinned pins → ArePart (traps_of found) all → Keeps d (among all) (Holds pins known) (separator_before (suc k) sep) (Holds pins after)
+abbrev pub SeparatorKeeps : (pinned : List Known) (cases after : List Case) → List Finding → Separator → Type 0
+SeparatorKeeps pinned cases after found sep = (pins : Variables) (d : TestData) (all : List Trap) (k : ℕ) → PinsStand pinned pins → ArePart (traps_of found) all → Keeps d (among all) (Holds pins cases) (separator_before (suc k) sep) (Holds pins after)
 
--- how a loop goes on that has started, and that has at most so many turns if it counts them
-abbrev pub IsGuard : GuardTree → ℕ → Guard → Type 0
-IsGuard (Tree.turns e) most (times n) = n ≤ most
-IsGuard (Tree.turns e) most (while_true t) = ⊥
-IsGuard (Tree.while t) most (times n) = ⊥
-IsGuard (Tree.while t) most (while_true u) = u ≡ t
+-- how a loop goes on that has started, and that has at least and at most so many turns if it counts them
+abbrev pub IsGuard : GuardTree → Turns → Guard → Type 0
+IsGuard (Tree.turns e) turns (times n) = (turns.least ≤ n) × (n ≤ turns.most)
+IsGuard (Tree.turns e) turns (while_true t) = ⊥
+IsGuard (Tree.while t) turns (times n) = ⊥
+IsGuard (Tree.while t) turns (while_true u) = u ≡ t
 
 -- what holds where a turn begins, and where a loop is over
 abbrev pub ByTurn : (State → Type 0) → (State → Type 0) → Bool → State → Type 0
 ByTurn inside outside true t = inside t
 ByTurn inside outside false t = outside t
 
--- the begin of a turn, whose number is of a range
-abbrev pub Enters : (pinned known : List Known) → GuardTree → (most : ℕ) → Option VarTree → Range → (inside outside : List Known) → Faults → Type 0
-Enters pinned known guard most counter turn inside outside f = (pins : Variables) (d : TestData) (k n : ℕ) (s : State) (loop : Started) → IsGuard guard most loop.guard → loop.counter ≡ counter → IsIn turn n (pos k) → PinsStand pinned pins → Stays pins known n s
-    → Fits f (λ b t. ByTurn (Stays pins inside n) (Stays pins outside n) b t) (take_turn loop k d s)
+-- the begin of a turn, whose number is of a range, once its step is paid
+abbrev pub Enters : (pinned : List Known) (cases : List Case) → GuardTree → Turns → Option VarTree → Range → (inside outside : List Case) → Faults → Type 0
+Enters pinned cases guard turns counter turn inside outside f = (pins : Variables) (d : TestData) (k n : ℕ) (s : State) (loop : Started) → IsGuard guard turns loop.guard → loop.counter ≡ counter → IsIn turn n (pos k) → PinsStand pinned pins → StaysIn pins cases (suc n) s
+    → Fits f (λ b t. ByTurn (StaysIn pins inside n) (StaysIn pins outside n) b t) (take_turn loop k d s)
 
 -- a loop starts
-abbrev pub Starts : List Known → GuardTree → (most : ℕ) → Faults → Type 0
-Starts known guard most f = (d : TestData) (n : ℕ) (s : State) → EachStands known n s.store → Fits f (λ g t. IsGuard guard most g × (t ≡ s)) (guard_of guard d s)
+abbrev pub Starts : List Known → GuardTree → Turns → Type 0
+Starts known guard turns = (d : TestData) (n : ℕ) (s : State) → EachStands known n s.store → Fits turns.faults (λ g t. IsGuard guard turns g × (t ≡ s)) (guard_of guard d s)
 
--- a count of turns is at most so large, or has a fault of these
-abbrev pub IsCounted : (most : ℕ) → Faults → Result ℕ ValueFault → Type 0
-IsCounted most f (Ok n) = n ≤ most
-IsCounted most f (Err why) = IsAmong f why
+-- the same in one of some cases
+abbrev pub StartsIn : List Case → GuardTree → Turns → Type 0
+StartsIn cases guard turns = (d : TestData) (n : ℕ) (s : State) → OneStands cases n s.store → Fits turns.faults (λ g t. IsGuard guard turns g × (t ≡ s)) (guard_of guard d s)
+
+-- a count of turns is at least and at most so large, or has a fault of these
+abbrev pub IsCounted : Turns → Result ℕ ValueFault → Type 0
+IsCounted turns (Ok n) = (turns.least ≤ n) × (n ≤ turns.most)
+IsCounted turns (Err why) = IsAmong turns.faults why
 
 -- how many turns a loop has
-abbrev pub Counts : List Known → ExprTree → (most : ℕ) → Faults → Type 0
-Counts known e most f = (n : ℕ) (h : History) → EachStands known n h → IsCounted most f (count e h)
+abbrev pub Counts : List Known → ExprTree → Turns → Type 0
+Counts known e turns = (n : ℕ) (h : History) → EachStands known n h → IsCounted turns (count e h)
 
 -- the counter of a loop, if there is one, gets the number of a turn of a range
 abbrev pub CountsTurn : (pinned known : List Known) → Option VarTree → Range → List Known → Faults → Type 0
 CountsTurn pinned known counter turn after f = (pins : Variables) (d : TestData) (k n : ℕ) (s : State) → IsIn turn n (pos k) → PinsStand pinned pins → Stays pins known n s → Fits f (λ _ t. Stays pins after n t) (count_turn counter k d s)
 
+-- the same of cases, once a step is paid
+abbrev pub CountsEach : (pinned : List Known) (cases : List Case) → Option VarTree → Range → List Case → Faults → Type 0
+CountsEach pinned cases counter turn after f = (pins : Variables) (d : TestData) (k n : ℕ) (s : State) → IsIn turn n (pos k) → PinsStand pinned pins → StaysIn pins cases (suc n) s → Fits f (λ _ t. StaysIn pins after n t) (count_turn counter k d s)
+
+-- the same at a turn with which a loop is over that has at least so many
+abbrev pub CountsLast : (pinned : List Known) (cases : List Case) → Option VarTree → Range → (least : ℕ) → List Case → Faults → Type 0
+CountsLast pinned cases counter turn least after f = (pins : Variables) (d : TestData) (k n : ℕ) (s : State) → least ≤ k → IsIn turn n (pos k) → PinsStand pinned pins → StaysIn pins cases (suc n) s → Fits f (λ _ t. StaysIn pins after n t) (count_turn counter k d s)
+
+-- the number of the first turn, and of a later one
+-- the numbers of the first turn
+abbrev pub first_turn : Range
+first_turn = record { low = pos 0; high = pos 0; rise = 0; fall = 0 }
+
+-- the numbers of later turns
+abbrev pub later_turn : Range
+later_turn = record { low = pos 1; high = pos (2 ^ 64 - 1); rise = 0; fall = 1 }
+
+-- a later turn leads from a guess to the cases behind the loop, and each turn to the cases at its end
+pub record RoundKeeps (pinned : List Known) (guess : List Case) (turns : Turns) (first_inside : List Case) (first : Faults) (outside end : List Case) (found : List Finding) (place : Place) (l : Loop) : Type 0 where
+  pub later_inside : List Case
+  pub later : Faults
+  pub before : List Case
+  pub enters : Enters pinned guess (guard_tree (out-Loop l).guard) turns (boxed_target (out-Loop l).counter) later_turn later_inside outside later
+  pub start_listed : AreListed (traps_of found) place turns.faults
+  pub first_listed : AreListed (traps_of found) place first
+  pub later_listed : AreListed (traps_of found) place later
+  pub separates : SeparatorKeeps pinned later_inside before found (boxed_separator (out-Loop l).between)
+  pub first_before : TellsCases first_inside before
+  pub body : WalkKeeps pinned before end found (command_list (out-Loop l).body)
+
 -- the tree of a loop of the code at a place
 abbrev pub loop_at : Place → Loop → CommandTree
 loop_at place l = Tree.loop place (guard_tree (out-Loop l).guard) (boxed_target (out-Loop l).counter) (boxed_separator (out-Loop l).between) (command_list (out-Loop l).body)
+
+-- the tree of IF
+abbrev pub choice_at : Place → Choice → CommandTree
+choice_at place c = Tree.choice place (test_tree (out-Choice c).condition.value) (command_list (out-Choice c).then_do) (command_list (out-Choice c).else_do)

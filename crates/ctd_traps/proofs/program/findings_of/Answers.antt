@@ -3,6 +3,7 @@ use Rattle.ctd_store.specs.Store.{pins_of}
 use Rattle.ctd_program.specs.calls.View.{command_trees}
 use Rattle.ctd_known.specs.calls.Facts.{PinsStand}
 use Rattle.ctd_traps.specs.calls.Traps.{traps_of}
+use Rattle.ctd_traps.specs.inner.Cases.{TellsCase}
 use Rattle.ctd_traps.specs.inner.Walk.{WalkKeeps}
 use Rattle.ctd_traps.proofs.Walking.{part_refl}
 use Rattle.ctd_traps.proofs.Whole.{traps_follow}
@@ -11,9 +12,11 @@ use Rattle.ctd_traps.proofs.program.findings_of.Goals as goal
 pub returns : goal.returns
 returns c =
     let pinned = c.in_ok-pinned.pinned.items in
+    let first = c.in_ok-first.first.items in
     let found = traps_of c.walk.new.findings.items in
     let nothing : PinsStand c.as_slice.result.now [] = subst (λ l. PinsStand l []) (sym c.as_slice.ensures.value) c.in_ok-nothing.ensures in
     let stand : PinsStand pinned (pins_of c.args.presets.now) = subst (λ p. PinsStand pinned (pins_of p)) c.pins.ensures.whole (c.in_ok-pinned.ensures nothing) in
-    let keeps : WalkKeeps pinned pinned c.in_ok-walk.field-0.items c.walk.new.findings.items (command_trees c.args.commands.now) = rw (c.as_slice-2.ensures.value, c.as_slice-3.ensures.value) at c.in_ok-walk.ensures.keeps in
-    traps_follow c.big_steps_are_the_run.ensures.holds (command_trees c.args.commands.now) c.args.presets.now found pinned c.in_ok-walk.field-0.items stand
+    let tells : TellsCase pinned first = rw (sym c.as_slice-3.ensures.value, sym c.in_ok-known.ensures) c.in_ok-first.ensures.added in
+    let keeps : WalkKeeps pinned first c.in_ok-walk.field-0.items c.walk.new.findings.items (command_trees c.args.commands.now) = rw c.as_slice-2.ensures.value at c.in_ok-walk.ensures.keeps in
+    traps_follow c.big_steps_are_the_run.ensures.holds (command_trees c.args.commands.now) c.args.presets.now found pinned first c.in_ok-walk.field-0.items stand tells
     (λ d. keeps (pins_of c.args.presets.now) d found stand (part_refl found))

@@ -8,7 +8,7 @@ use Rattle.ctd_traps.proofs.walk.+walk.Given as goal
 abbrev pub invariant-walk-loop-command : goal.invariant-walk-loop-command
 invariant-walk-loop-command l = record {
   more : ArePart (traps_of l.initial.findings.items) (traps_of l.findings.items);
-  leads : WalkLeads l.ground.pinned.now l.known l.after.items l.findings.items (command_trees (drop l.command-index l.commands)) (command_trees l.commands);
+  leads : WalkLeads l.ground.pinned.now l.initial.after.items l.after.items l.findings.items (command_trees (drop l.command-index l.commands)) (command_trees l.commands);
 }
 
 abbrev pub invariant-repeat-loop-round : goal.invariant-repeat-loop-round

@@ -1,0 +1,108 @@
+-- Cases side by side, and what is done in each.
+use Rattle.std.proofs.Common.{◌≡◌, ◌<◌, ◌≤◌, ◌+◌, ◌++◌, ◌⊎◌, inl, inr, ℕ, zero, suc, Bool, true, false, List, [], ◌∷◌, length, get_or, drop, remove, Result, Ok, Err, refl, ap, sym, subst, ◌∙◌, arith}
+use Rattle.std.proofs.lemmas.List.{at_drop_more, drop_all}
+use Rattle.ctd_source.specs.TestData.{TestData}
+use Rattle.ctd_program.specs.Tree.{TestTree}
+use Rattle.ctd_store.specs.Store.{History}
+use Rattle.ctd_value.specs.Fault.{TruthFault}
+use Rattle.ctd_value.specs.Fault as faults
+use Rattle.ctd_value.specs.Truth.{truth}
+use Rattle.ctd_known.specs.declared.faults.Faults.{Faults}
+use Rattle.ctd_known.specs.declared.facts.Known.{Known}
+use Rattle.ctd_known.specs.calls.Facts.{EachStands, TellsAll}
+use Rattle.ctd_known.specs.calls.Found.{Decides, SplitsBy}
+use Rattle.ctd_known.proofs.Applying.{AreFaults}
+use Rattle.ctd_traps.specs.declared.cases.Case.{Case}
+use Rattle.ctd_traps.specs.inner.Cases.{Divides, DividesTo, OneStands, TellsCase, TellsCases, TellsJoined}
+
+-- a case of a list
+pub case_at : (cs : List Case) (i : ℕ) (c : Case) (n : ℕ) (h : History) → i < length cs → EachStands (get_or cs i c).known.items n h → OneStands cs n h
+case_at [] i c n h inside each = absurd (omega (arith, inside))
+case_at (x ∷ cs) zero c n h inside each = inl each
+case_at (x ∷ cs) (suc i) c n h inside each = inr (case_at cs i c n h (omega (arith, inside)) each)
+
+-- one more at the end
+pub pushed_others : (cs : List Case) (c : Case) → TellsCases cs (cs ++ c ∷ [])
+pushed_others [] c n h one = absurd one
+pushed_others (x ∷ cs) c n h (inl each) = inl each
+pushed_others (x ∷ cs) c n h (inr one) = inr (pushed_others cs c n h one)
+
+pub pushed_last : (cs : List Case) (c : Case) → TellsCase c.known.items (cs ++ c ∷ [])
+pushed_last [] c n h each = inl each
+pushed_last (x ∷ cs) c n h each = inr (pushed_last cs c n h each)
+
+-- one that is taken out, or another
+past : {A B X : Type 0} → A ⊎ B → A ⊎ (X ⊎ B)
+past (inl a) = inl a
+past (inr b) = inr (inr b)
+
+pub taken_or_left : (cs : List Case) (i : ℕ) (c : Case) (n : ℕ) (h : History) → i < length cs → OneStands cs n h → EachStands (get_or cs i c).known.items n h ⊎ OneStands (remove cs i) n h
+taken_or_left [] i c n h inside one = absurd one
+taken_or_left (x ∷ cs) zero c n h inside (inl each) = inl each
+taken_or_left (x ∷ cs) zero c n h inside (inr one) = inr one
+taken_or_left (x ∷ cs) (suc i) c n h inside (inl each) = inr (inl each)
+taken_or_left (x ∷ cs) (suc i) c n h inside (inr one) = past (taken_or_left cs i c n h (omega (arith, inside)) one)
+
+either_of : {A B X : Type 0} → (A → X) → (B → X) → A ⊎ B → X
+either_of f g (inl a) = f a
+either_of f g (inr b) = g b
+
+-- a case that was taken out, joined with one more, and put in again
+pub rejoined : (cs rest all : List Case) (i : ℕ) (c : Case) (both : List Known) → i < length cs → c ≡ get_or cs i c → rest ≡ remove cs i → TellsAll c.known.items both → TellsCases rest all → TellsCase both all → TellsCases cs all
+rejoined cs rest all i c both inside is left joined others added n h one =
+    either_of (λ each. added n h (joined n h (subst (λ (x : Case). EachStands x.known.items n h) (sym is) each))) (λ still. others n h (subst (λ l. OneStands l n h) (sym left) still)) (taken_or_left cs i c n h inside one)
+
+-- cases from their front: where a run is in one of them, it is in one of the rest, or this holds
+abbrev pub RestOr : (rest whole : List Case) → (ℕ → History → Type 0) → Type 0
+RestOr rest whole done = (n : ℕ) (h : History) → OneStands whole n h → OneStands rest n h ⊎ done n h
+
+case_first : (cs : List Case) (i : ℕ) (c : Case) → i < length cs → c ≡ get_or cs i c → drop i cs ≡ c ∷ drop (i + 1) cs
+case_first cs i c inside is = at_drop_more (λ l. l) cs i c inside ∙ ap (λ (x : Case). x ∷ drop (i + 1) cs) (sym is)
+
+next_case : (c : Case) (rest : List Case) (n : ℕ) (h : History) (X Y : Type 0) → (X → Y) → (EachStands c.known.items n h → Y) → OneStands (c ∷ rest) n h ⊎ X → OneStands rest n h ⊎ Y
+next_case c rest n h X Y more new (inl (inl each)) = inr (new each)
+next_case c rest n h X Y more new (inl (inr one)) = inl one
+next_case c rest n h X Y more new (inr x) = inr (more x)
+
+pub case_done : (cs : List Case) (i : ℕ) (c : Case) (X Y : ℕ → History → Type 0) → i < length cs → c ≡ get_or cs i c → ((n : ℕ) (h : History) → X n h → Y n h) → ((n : ℕ) (h : History) → EachStands c.known.items n h → Y n h)
+    → RestOr (drop i cs) cs X → RestOr (drop (i + 1) cs) cs Y
+case_done cs i c X Y inside is more new so_far n h one =
+    next_case c (drop (i + 1) cs) n h (X n h) (Y n h) (more n h) (new n h) (subst (λ l. OneStands l n h ⊎ X n h) (case_first cs i c inside is) (so_far n h one))
+
+none_left : (n : ℕ) (h : History) (X : Type 0) → OneStands [] n h ⊎ X → X
+none_left n h X (inl one) = absurd one
+none_left n h X (inr x) = x
+
+pub cases_done : (cs : List Case) (i : ℕ) (X : ℕ → History → Type 0) → length cs ≤ i → RestOr (drop i cs) cs X → (n : ℕ) (h : History) → OneStands cs n h → X n h
+cases_done cs i X all so_far n h one = none_left n h (X n h) (subst (λ l. OneStands l n h ⊎ X n h) (drop_all i cs all) (so_far n h one))
+
+-- tests
+abbrev pub DividesSo : TestTree → (if_true if_false : List Case) → Faults → ℕ → History → Type 0
+DividesSo t if_true if_false f n h = (d : TestData) (p : ℕ) → DividesTo if_true if_false f n h (truth t h d p)
+
+divides_more : (a b c d : List Case) (f g : Faults) (n : ℕ) (h : History) (r : Result Bool TruthFault) → TellsCases a c → TellsCases b d → AreFaults f g → DividesTo a b f n h r → DividesTo c d g n h r
+divides_more a b c d f g n h (Ok true) on_true on_false more divides = on_true n h divides
+divides_more a b c d f g n h (Ok false) on_true on_false more divides = on_false n h divides
+divides_more a b c d f g n h (Err (faults.Value why)) on_true on_false more divides = more why divides
+divides_more a b c d f g n h (Err (faults.Look why)) on_true on_false more divides = tt
+
+one_divides : (a b : List Known) (c d : List Case) (f g : Faults) (n : ℕ) (h : History) (r : Result Bool TruthFault) → TellsCase a c → TellsCase b d → AreFaults f g → Decides a b f n h r → DividesTo c d g n h r
+one_divides a b c d f g n h (Ok true) on_true on_false more decides = on_true n h decides
+one_divides a b c d f g n h (Ok false) on_true on_false more decides = on_false n h decides
+one_divides a b c d f g n h (Err (faults.Value why)) on_true on_false more decides = more why decides
+one_divides a b c d f g n h (Err (faults.Look why)) on_true on_false more decides = tt
+
+pub divide_step : (cs : List Case) (i : ℕ) (c : Case) (t : TestTree) (slice a b : List Known) (own old new : Faults) (on_true on_false wider_true wider_false : List Case) → slice ≡ c.known.items → i < length cs → c ≡ get_or cs i c → SplitsBy slice t a b own →
+    TellsCases on_true wider_true → TellsCase a wider_true → TellsCases on_false wider_false → TellsCase b wider_false → AreFaults old new → AreFaults own new → RestOr (drop i cs) cs (DividesSo t on_true on_false old) → RestOr (drop (i + 1) cs) cs (DividesSo t wider_true wider_false new)
+divide_step cs i c t slice a b own old new on_true on_false wider_true wider_false lent inside is splits more_yes one_yes more_no one_no more_old more_own so_far =
+    case_done cs i c (DividesSo t on_true on_false old) (DividesSo t wider_true wider_false new) inside is
+    (λ n h so d p. divides_more on_true on_false wider_true wider_false old new n h (truth t h d p) more_yes more_no more_old (so d p))
+    (λ n h each d p. one_divides a b wider_true wider_false own new n h (truth t h d p) one_yes one_no more_own (splits n h d p (subst (λ k. EachStands k n h) (sym lent) each)))
+    so_far
+
+pub divide_done : (cs : List Case) (i : ℕ) (t : TestTree) (on_true on_false : List Case) (f : Faults) → length cs ≤ i → RestOr (drop i cs) cs (DividesSo t on_true on_false f) → Divides cs t on_true on_false f
+divide_done cs i t on_true on_false f all so_far k h d p one = cases_done cs i (DividesSo t on_true on_false f) all so_far k h one d p
+
+-- a case that follows from one of the others
+pub case_within : (cs : List Case) (i : ℕ) (c : Case) (known slice : List Known) → i < length cs → c ≡ get_or cs i c → slice ≡ c.known.items → TellsAll known slice → TellsCase known cs
+case_within cs i c known slice inside is lent tells n h each = case_at cs i c n h inside (subst (λ (x : Case). EachStands x.known.items n h) is (subst (λ k. EachStands k n h) lent (tells n h each)))

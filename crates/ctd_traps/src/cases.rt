@@ -1,0 +1,174 @@
+//! Cases side by side: what is known together in each of them. A run is in one of them.
+
+ghost use Rattle.std.specs.Prelude.{◌≡◌, ◌<◌, true, length, IfOk, IfSome};
+ghost use Rattle.ctd_traps.specs.inner.Cases.{TellsCase, TellsCases, TellsJoined};
+
+use ctd_known::{
+    Ground, Known, Stop, copied, is_unreachable, is_within, join, nowhere, pay, widened,
+};
+
+/// How many cases there are at most.
+const MOST: usize = 4;
+
+/// What is known of the variables in one case.
+#[derive(Drop)]
+pub(crate) struct Case<'p> {
+    pub(crate) known: Vec<Known<'p>>,
+}
+
+/// Whether the same names are sure to have a value.
+fn have_same_values(a: &[Known], b: &[Known]) -> bool {
+    for (i, entry) in a.iter().enumerate() {
+        match b.get(i) {
+            Some(other) => {
+                if entry.facts.may_lack != other.facts.may_lack {
+                    return false;
+                }
+            }
+            None => return false,
+        }
+    }
+    true
+}
+
+/// The index of the case in which the same names are sure to have a value.
+fn same_case(cases: &[Case], known: &[Known]) -> Option<usize>
+    ensures inside { IfSome result (λ i. i < length cases.now) }
+{
+    for (i, case) in cases.iter().enumerate() {
+        if have_same_values(case.known.as_slice(), known) {
+            return Some(i);
+        }
+    }
+    None
+}
+
+/// What is known in each of some cases.
+pub(crate) fn joined<'p>(ground: Ground<'_, 'p>, cases: &[Case<'p>]) -> Result<Vec<Known<'p>>, Stop>
+    ensures { IfOk result (λ all. TellsJoined cases.now all.items) }
+{
+    let mut all = nowhere(ground.alloc, ground.pinned)?;
+    for case in cases {
+        all = join(ground.alloc, all.as_slice(), case.known.as_slice())?;
+    }
+    Ok(all)
+}
+
+/// Cases and one more.
+fn with_pushed<'p>(mut cases: Vec<Case<'p>>, known: Vec<Known<'p>>) -> Result<Vec<Case<'p>>, Stop>
+    ensures others { IfOk result (λ all. TellsCases cases.entry.items all.items) }
+    ensures added { IfOk result (λ all. TellsCase known.entry.items all.items) }
+{
+    cases.push(Case { known })?;
+    Ok(cases)
+}
+
+/// The cases where they are few, and otherwise one in their place.
+fn limited<'p>(ground: Ground<'_, 'p>, cases: Vec<Case<'p>>) -> Result<Vec<Case<'p>>, Stop>
+    ensures { IfOk result (λ all. TellsCases cases.entry.items all.items) }
+{
+    if cases.len() <= MOST {
+        return Ok(cases);
+    }
+    let all = joined(ground, cases.as_slice())?;
+    let one = with_pushed(Vec::new(ground.alloc), all)?;
+    Ok(one)
+}
+
+/// Cases and one more, which is joined with that in which the same names are sure to have a value. A case in which no run is is left out.
+pub(crate) fn with_case<'p>(
+    ground: Ground<'_, 'p>,
+    mut cases: Vec<Case<'p>>,
+    known: Vec<Known<'p>>,
+) -> Result<Vec<Case<'p>>, Stop>
+    ensures others { IfOk result (λ all. TellsCases cases.entry.items all.items) }
+    ensures added { IfOk result (λ all. TellsCase known.entry.items all.items) }
+{
+    if is_unreachable(known.as_slice()) {
+        return Ok(cases);
+    }
+    match same_case(cases.as_slice(), known.as_slice()) {
+        Some(i) => {
+            let same = cases.remove(i);
+            let both = join(ground.alloc, same.known.as_slice(), known.as_slice())?;
+            let merged = with_pushed(cases, both)?;
+            Ok(merged)
+        }
+        None => {
+            let more = with_pushed(cases, known)?;
+            let few = limited(ground, more)?;
+            Ok(few)
+        }
+    }
+}
+
+/// Cases and others.
+pub(crate) fn with_all<'p>(
+    ground: Ground<'_, 'p>,
+    cases: Vec<Case<'p>>,
+    others: &[Case<'p>],
+) -> Result<Vec<Case<'p>>, Stop>
+    ensures first { IfOk result (λ all. TellsCases cases.entry.items all.items) }
+    ensures second { IfOk result (λ all. TellsCases others.now all.items) }
+{
+    let mut all = cases;
+    for other in others {
+        let known = copied(ground.alloc, other.known.as_slice())?;
+        all = with_case(ground, all, known)?;
+    }
+    Ok(all)
+}
+
+/// Whether what is known follows a case of some.
+fn is_within_one(known: &[Known], others: &[Case]) -> bool
+    ensures within { result ≡ true → TellsCase known.now others.now }
+{
+    for other in others {
+        if is_within(known, other.known.as_slice()) {
+            return true;
+        }
+    }
+    false
+}
+
+/// Whether each case follows from one of others.
+pub(crate) fn are_within(cases: &[Case], others: &[Case]) -> bool
+    ensures within { result ≡ true → TellsCases cases.now others.now }
+{
+    for case in cases {
+        if !is_within_one(case.known.as_slice(), others) {
+            return false;
+        }
+    }
+    true
+}
+
+/// A guess of the cases before a turn, by the last one and the cases at the end of a turn. No contract speaks of it: it is checked where it is used.
+pub(crate) fn widened_cases<'p>(
+    ground: Ground<'_, 'p>,
+    guess: &[Case<'p>],
+    end: &[Case<'p>],
+    round: usize,
+) -> Result<Vec<Case<'p>>, Stop> {
+    let old = with_all(ground, Vec::new(ground.alloc), guess)?;
+    let grown = with_all(ground, old, end)?;
+    let mut next = Vec::new(ground.alloc);
+    for case in grown.as_slice() {
+        let known = case.known.as_slice();
+        let wider = match same_case(guess, known) {
+            Some(i) => widened(ground.alloc, guess[i].known.as_slice(), known, round)?,
+            None => copied(ground.alloc, known)?,
+        };
+        next = with_case(ground, next, wider)?;
+    }
+    Ok(next)
+}
+
+/// Pays a pass for each case, and one more.
+pub(crate) fn pay_each(budget: &mut u64, cases: &[Case]) -> Result<(), Stop> {
+    pay(budget)?;
+    for _ in cases {
+        pay(budget)?;
+    }
+    Ok(())
+}
