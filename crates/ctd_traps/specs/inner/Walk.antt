@@ -140,7 +140,6 @@ CountsEach pinned cases counter turn after f = (pins : Variables) (d : TestData)
 abbrev pub CountsLast : (pinned : List Known) (cases : List Case) → Option VarTree → Range → (least : ℕ) → List Case → Faults → Type 0
 CountsLast pinned cases counter turn least after f = (pins : Variables) (d : TestData) (k n : ℕ) (s : State) → least ≤ k → IsIn turn n (pos k) → PinsStand pinned pins → StaysIn pins cases (suc n) s → Fits f (λ _ t. StaysIn pins after n t) (count_turn counter k d s)
 
--- the number of the first turn, and of a later one
 -- the numbers of the first turn
 abbrev pub first_turn : Range
 first_turn = record { low = pos 0; high = pos 0; rise = 0; fall = 0 }
