@@ -1,11 +1,9 @@
 -- What simple commands leave.
-use Rattle.std.proofs.Common.{◌≡◌, ◌≢◌, ◌≤◌, ◌≤ℤ◌, ◌<◌, ◌^◌, ◌+◌, ℕ, Bool, true, false, nat_lt, ℤ, pos, negsuc, List, [], ◌∷◌, length, map, fold, drop, Option, Some, None, Result, Ok, Err, refl, ap, sym, subst, ◌∙◌, arith, if◌then◌else◌}
+use Rattle.std.proofs.Common.{◌≡◌, ◌≢◌, ◌≤◌, ◌≤ℤ◌, ◌<◌, ◌^◌, ◌+◌, ℕ, Bool, true, false, nat_lt, ℤ, pos, negsuc, List, [], ◌∷◌, length, fold, Option, Some, None, Result, Ok, Err, refl, sym, subst, ◌∙◌, arith, if◌then◌else◌}
 use Rattle.std.proofs.lemmas.Bool.Decides.{nat_tests}
 use Rattle.std.specs.Prelude.{⊤}
 use Rattle.ctd_source.specs.TestData.{TestData}
-use Rattle.ctd_source.specs.declared.spot.LookFault.{LookFault}
 use Rattle.ctd_source.specs.declared.limits.TheConstants.{WINDOW}
-use Rattle.ctd_program.specs.Tree
 use Rattle.ctd_program.specs.Tree.{ExprTree, VarTree, TestTree}
 use Rattle.std.proofs.lemmas.Int.{ints}
 use Rattle.ctd_program.specs.declared.tree.Var.{Var}
@@ -17,7 +15,7 @@ use Rattle.ctd_store.specs.Store.{History, Key, Variables, assign, unset}
 use Rattle.ctd_store.proofs.StoreLaws.{assignment_keeps_pins}
 use Rattle.ctd_value.specs.Fault.{ValueFault, TruthFault, with_fault, ◌>>=◌}
 use Rattle.ctd_value.specs.Fault as faults
-use Rattle.ctd_value.specs.Val.{count, in_count, key, number_of, text_of, val, vals}
+use Rattle.ctd_value.specs.Val.{in_count, key, number_of, text_of, val, vals}
 use Rattle.ctd_value.specs.Truth.{truth}
 use Rattle.ctd_outcome.specs.declared.reason.Reason.TheVariants.{AssertFailed}
 use Rattle.ctd_command.specs.State.{State, Effect, done, rejected, faulty, Act, evaluate, proceed, lift, return, reject, fault_of_value, fault_of_truth}
@@ -37,7 +35,7 @@ use Rattle.ctd_known.proofs.Applying.{AreFaults}
 use Rattle.ctd_traps.specs.declared.cases.Case.{Case}
 use Rattle.ctd_traps.specs.declared.turn.Turns.{Turns}
 use Rattle.ctd_traps.specs.inner.Cases.{Divides, DividesTo}
-use Rattle.ctd_traps.specs.inner.Walk.{IsCounted, Acts, Assigns, ByTurn, ClearsAll, Counts, Fits, IsAssigned, IsExpected, KeepsValue, Stays, StaysIn}
+use Rattle.ctd_traps.specs.inner.Walk.{IsCounted, Acts, Assigns, ByTurn, ClearsAll, Fits, IsAssigned, IsExpected, KeepsValue, Stays, StaysIn}
 use Rattle.ctd_traps.proofs.SimpleCommands.{same_why}
 use Rattle.ctd_traps.proofs.Fits.{Between, Same, Short, integer_fits, leading_fits, look_is_none, match_fits, then_fits}
 

@@ -1,5 +1,5 @@
 -- What acts leave, step by step.
-use Rattle.std.proofs.Common.{◌≡◌, ◌≢◌, ◌≤◌, ◌≤ℤ◌, ◌<◌, ◌+◌, ℕ, zero, suc, Bool, true, false, ◌&&◌, min, ℤ, pos, List, [], ◌∷◌, length, take, drop, map, fold, nat_eq, nat_lt, not, int_le, length-take, Option, Some, None, Result, Ok, Err, refl, ap, sym, subst, ◌∙◌, arith, if◌then◌else◌}
+use Rattle.std.proofs.Common.{◌≡◌, ◌≤◌, ◌≤ℤ◌, ◌+◌, ℕ, Bool, true, false, ◌&&◌, ℤ, List, [], ◌∷◌, length, take, drop, nat_eq, nat_lt, not, int_le, length-take, Option, Some, None, Result, Ok, Err, refl, ap, subst, arith, if◌then◌else◌}
 use Rattle.std.specs.Prelude.{⊤}
 use Rattle.std.proofs.lemmas.Int.{ints}
 use Rattle.std.specs.List.{prefix_len}
@@ -10,30 +10,24 @@ use Rattle.ctd_source.specs.declared.spot.LookFault.TheVariants as looks
 use Rattle.ctd_source.specs.declared.limits.TheConstants.{WINDOW}
 use Rattle.ctd_program.specs.declared.mode.Mode.{Mode}
 use Rattle.ctd_program.specs.declared.mode.Mode.TheVariants.{Exact, BlanksOk}
-use Rattle.ctd_program.specs.Tree
-use Rattle.ctd_program.specs.Tree.{ExprTree, VarTree, TestTree}
 use Rattle.ctd_pattern.specs.Pattern.{length_at_start}
-use Rattle.ctd_store.specs.declared.value.Value.{Value}
-use Rattle.ctd_store.specs.declared.value.Value.TheVariants as values
-use Rattle.ctd_store.specs.Store.{History, Key, Variables, assign, unset}
+use Rattle.ctd_store.specs.Store.{History}
 use Rattle.ctd_value.specs.Fault.{ValueFault, TruthFault, with_fault}
 use Rattle.ctd_value.specs.Fault as faults
 use Rattle.ctd_value.specs.Truth.{is_end}
 use Rattle.ctd_outcome.specs.declared.reason.Reason.{Reason}
-use Rattle.ctd_outcome.specs.declared.reason.Reason.TheVariants.{ExpectedSpace, ExpectedNewline, ExpectedEof, ExpectedInt, LeadingZero, MinusZero, StringMismatch, OutOfRange, RegexMismatch}
+use Rattle.ctd_outcome.specs.declared.reason.Reason.TheVariants.{ExpectedSpace, ExpectedNewline, ExpectedEof, ExpectedInt, LeadingZero, MinusZero, StringMismatch, OutOfRange}
 use Rattle.ctd_outcome.specs.declared.reason.Fault.{Fault}
 use Rattle.ctd_outcome.specs.declared.reason.Fault.TheVariants.{StepLimit, Read, DataTooLong, MatchTooLong}
-use Rattle.ctd_command.specs.State.{State, Effect, done, rejected, faulty, Act, proceed, lift, return, reject, pass, stop, see_next, see_visible, see_window, pass_longest, fault_of_value, fault_of_look, fault_of_truth}
-use Rattle.ctd_command.specs.Commands.{one_byte, eof, decide, integer, match_bytes, string, int, keep}
+use Rattle.ctd_command.specs.State.{State, Effect, done, rejected, faulty, proceed, lift, return, reject, pass, stop, see_next, fault_of_value, fault_of_look}
+use Rattle.ctd_command.specs.Commands.{one_byte, eof, decide, integer, match_bytes}
 use Rattle.ctd_command.specs.Integer.{decimal, digits_of, in_interval, is_minus, judge, prefix_len_of, with_sign, is_zero_first}
 use Rattle.ctd_command.specs.Blanks.{blank_next, end, end_in, is_blank, newline, newline_in, skip_blanks, some_blanks, space, space_in}
-use Rattle.ctd_command.specs.Regex.{leading_match, regex, shorter_match}
+use Rattle.ctd_command.specs.Regex.{leading_match, shorter_match}
 use Rattle.ctd_known.specs.declared.faults.Faults.{Faults}
-use Rattle.ctd_known.specs.declared.facts.Known.{Known}
-use Rattle.ctd_known.specs.calls.Facts.{EachStands, MayBe}
 use Rattle.ctd_known.specs.calls.Found.{FailsBy, IsAmong}
 use Rattle.ctd_known.proofs.Applying.{AreFaults}
-use Rattle.ctd_traps.specs.inner.Walk.{Fits, IsExpected, Stays}
+use Rattle.ctd_traps.specs.inner.Walk.{Fits, IsExpected}
 use Rattle.ctd_traps.proofs.SimpleCommands.{same_why}
 
 -- a fault that is none of a value

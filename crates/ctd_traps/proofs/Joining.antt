@@ -1,5 +1,5 @@
 -- Cases side by side, and what is done in each.
-use Rattle.std.proofs.Common.{◌≡◌, ◌<◌, ◌≤◌, ◌+◌, ◌++◌, ◌⊎◌, inl, inr, ℕ, zero, suc, Bool, true, false, List, [], ◌∷◌, length, get_or, drop, remove, Result, Ok, Err, refl, ap, sym, subst, ◌∙◌, arith}
+use Rattle.std.proofs.Common.{◌≡◌, ◌<◌, ◌≤◌, ◌+◌, ◌++◌, ◌⊎◌, inl, inr, ℕ, zero, suc, Bool, true, false, List, [], ◌∷◌, length, get_or, drop, remove, Result, Ok, Err, ap, sym, subst, ◌∙◌, arith}
 use Rattle.std.proofs.lemmas.List.{at_drop_more, drop_all}
 use Rattle.ctd_source.specs.TestData.{TestData}
 use Rattle.ctd_program.specs.Tree.{TestTree}
@@ -13,7 +13,7 @@ use Rattle.ctd_known.specs.calls.Facts.{EachStands, TellsAll}
 use Rattle.ctd_known.specs.calls.Found.{Decides, SplitsBy}
 use Rattle.ctd_known.proofs.Applying.{AreFaults}
 use Rattle.ctd_traps.specs.declared.cases.Case.{Case}
-use Rattle.ctd_traps.specs.inner.Cases.{Divides, DividesTo, OneStands, TellsCase, TellsCases, TellsJoined}
+use Rattle.ctd_traps.specs.inner.Cases.{Divides, DividesTo, OneStands, TellsCase, TellsCases}
 
 -- a case of a list
 pub case_at : (cs : List Case) (i : ℕ) (c : Case) (n : ℕ) (h : History) → i < length cs → EachStands (get_or cs i c).known.items n h → OneStands cs n h

@@ -1,11 +1,10 @@
 -- Findings that are added to others.
-use Rattle.std.proofs.Common.{◌≡◌, ◌++◌, true, List, [], ◌∷◌, map, Contains, refl, ap, sym, subst, ◌∙◌, inl, inr}
+use Rattle.std.proofs.Common.{◌≡◌, ◌++◌, true, List, [], ◌∷◌, Contains, refl, ap, sym, subst, ◌∙◌, inl, inr}
 use Rattle.std.proofs.lemmas.List.Elements.{Contains-append_left, Contains-append_right, Contains-push}
 use Rattle.ctd_token.specs.declared.text.Place.{Place}
 use Rattle.ctd_value.specs.Fault.{ValueFault}
 use Rattle.ctd_value.specs.Fault as faults
 use Rattle.ctd_known.specs.declared.faults.Faults.{Faults}
-use Rattle.ctd_known.specs.calls.Found.{IsAmong}
 use Rattle.ctd_traps.specs.declared.finding.Finding.{Finding}
 use Rattle.ctd_traps.specs.calls.Traps.{Trap, trap_of, traps_of}
 use Rattle.ctd_traps.specs.inner.Holds.{AreListed, ArePart}

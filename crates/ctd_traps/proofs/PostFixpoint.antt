@@ -1,5 +1,5 @@
 -- A guess that its check accepts is kept by the loop.
-use Rattle.std.proofs.Common.{◌≤◌, ◌<◌, ◌^◌, ◌+◌, ℕ, zero, suc, Bool, true, false, List, arith}
+use Rattle.std.proofs.Common.{◌<◌, ◌^◌, ◌+◌, ℕ, zero, suc, Bool, true, false, List, arith}
 use Rattle.ctd_program.specs.Tree.{CommandList}
 use Rattle.ctd_source.specs.TestData.{TestData}
 use Rattle.ctd_outcome.specs.declared.outcome.Site.{Site}

@@ -1,5 +1,5 @@
 -- SET and UNSET, from the front of their lists.
-use Rattle.std.proofs.Common.{◌≡◌, ◌<◌, ◌≤◌, ◌+◌, ℕ, List, [], ◌∷◌, map, length, get_or, drop, ap, sym, subst, ◌∙◌}
+use Rattle.std.proofs.Common.{◌≡◌, ◌<◌, ◌≤◌, ◌+◌, ℕ, List, ◌∷◌, map, length, get_or, drop, ap, sym, subst, ◌∙◌}
 use Rattle.std.proofs.lemmas.List.{at_drop_more, drop_all}
 use Rattle.ctd_program.specs.declared.tree.Assignment.{Assignment}
 use Rattle.ctd_program.specs.calls.View.{assignment, expr_tree, var_tree}

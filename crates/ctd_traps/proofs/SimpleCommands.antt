@@ -1,19 +1,15 @@
 -- Simple commands: what an act leaves, step by step.
-use Rattle.std.proofs.Common.{◌≡◌, ℕ, suc, Bool, true, false, Result, Ok, Err, refl, subst, arith, if◌then◌else◌}
+use Rattle.std.proofs.Common.{◌≡◌, ℕ, suc, refl, subst, arith}
 use Rattle.std.specs.Prelude.{⊤}
-use Rattle.ctd_token.specs.declared.text.Place.{Place}
 use Rattle.ctd_source.specs.TestData.{TestData}
-use Rattle.ctd_program.specs.Tree
-use Rattle.ctd_program.specs.Tree.{TestTree, CommandTree, place_of}
+use Rattle.ctd_program.specs.Tree.{CommandTree, place_of}
 use Rattle.ctd_value.specs.Fault.{ValueFault, with_fault}
 use Rattle.ctd_value.specs.Fault as faults
 use Rattle.ctd_outcome.specs.declared.outcome.Site.{Site}
 use Rattle.ctd_outcome.specs.declared.outcome.Site.TheVariants.{At}
-use Rattle.ctd_outcome.specs.declared.reason.Reason.TheVariants.{AssertFailed}
-use Rattle.ctd_command.specs.State.{State, Effect, done, rejected, faulty, Act, proceed, lift, return, reject, fault_of_value}
-use Rattle.ctd_command.specs.Commands.{answer, assert}
+use Rattle.ctd_command.specs.State.{State, Effect, done, rejected, faulty, Act, proceed, fault_of_value}
 use Rattle.ctd_check.specs.calls.BigSteps.{IsSimple, is_space, is_newline, is_eof, is_int, is_string, is_regex, is_assert, is_set, is_unset, command_has_no_step, command_is_done, command_rejects, command_fails, if_is_true, if_is_false, if_fails, loop_starts, loop_fails}
-use Rattle.ctd_traps.specs.inner.Triples.{Before, Listing, IsListed, CommandKeeps, Splits}
+use Rattle.ctd_traps.specs.inner.Triples.{Before, Listing, IsListed, CommandKeeps}
 use Rattle.ctd_traps.proofs.Keeping.{no_steps}
 
 -- an effect leaves an answer and a state of which this holds, or it is a fault that is listed

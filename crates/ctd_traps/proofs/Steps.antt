@@ -1,5 +1,5 @@
 -- The commands of the code, one by one.
-use Rattle.std.proofs.Common.{◌≡◌, ◌<◌, ◌≤◌, ◌+◌, ℕ, suc, false, List, [], ◌∷◌, map, length, get_or, drop, Contains, Option, Some, None, refl, ap, sym, subst, ◌∙◌, inl, inr}
+use Rattle.std.proofs.Common.{◌≡◌, ◌<◌, ◌≤◌, ◌+◌, ℕ, suc, List, map, length, get_or, drop, ap, sym, subst, ◌∙◌}
 use Rattle.std.specs.Global.{Box}
 use Rattle.std.proofs.lemmas.List.{at_drop_more, drop_all}
 use Rattle.ctd_token.specs.declared.text.Place.{Place}
@@ -15,26 +15,23 @@ use Rattle.ctd_program.specs.declared.tree.Names.{Names}
 use Rattle.ctd_program.specs.declared.tree.Assignment.{Assignment}
 use Rattle.ctd_program.specs.declared.tree.Assignments.{Assignments}
 use Rattle.ctd_program.specs.declared.tree.Command.{Command}
-use Rattle.ctd_program.specs.declared.tree.Choice.{Choice, out-Choice}
+use Rattle.ctd_program.specs.declared.tree.Choice.{Choice}
 use Rattle.ctd_program.specs.declared.tree.Loop.{Loop, out-Loop}
-use Rattle.ctd_program.specs.calls.View.{action_tree, assignment, assignments_of, boxed_target, guard_tree, command_list, command_tree, command_trees, commands_of, expr_tree, names_of, target, test_tree}
-use Rattle.ctd_program.proofs.Trees.{choice_tree, list_commands, loop_tree}
-use Rattle.ctd_value.specs.Fault.{ValueFault}
-use Rattle.ctd_value.specs.Fault as faults
-use Rattle.ctd_command.specs.Commands.{assert, int, set, string, unset_all}
+use Rattle.ctd_program.specs.calls.View.{action_tree, assignment, assignments_of, boxed_target, guard_tree, command_list, command_tree, command_trees, expr_tree, names_of, target, test_tree}
+use Rattle.ctd_program.proofs.Trees.{choice_tree, loop_tree}
+use Rattle.ctd_command.specs.Commands.{int, set, string, unset_all}
 use Rattle.ctd_command.specs.Blanks.{end, newline, space}
 use Rattle.ctd_command.specs.Regex.{regex}
-use Rattle.ctd_check.specs.calls.BigSteps.{separator_before, is_assert, is_eof, is_int, is_newline, is_regex, is_set, is_space, is_string, is_unset}
+use Rattle.ctd_check.specs.calls.BigSteps.{separator_before, is_eof, is_int, is_newline, is_regex, is_set, is_space, is_string, is_unset}
 use Rattle.ctd_known.specs.declared.faults.Faults.{Faults}
 use Rattle.ctd_known.specs.declared.facts.Known.{Known}
 use Rattle.ctd_traps.specs.declared.cases.Case.{Case}
 use Rattle.ctd_traps.specs.declared.turn.Turns.{Turns}
 use Rattle.ctd_traps.specs.inner.Cases.{Divides, TellsCases}
 use Rattle.ctd_traps.specs.declared.finding.Finding.{Finding}
-use Rattle.ctd_traps.specs.calls.Traps.{Trap, traps_of}
+use Rattle.ctd_traps.specs.calls.Traps.{traps_of}
 use Rattle.ctd_traps.specs.inner.Holds.{AreListed, ArePart, Holds}
 use Rattle.ctd_traps.specs.inner.Walk.{ActKeeps, Acts, ClearsAll, Enters, RoundKeeps, SeparatorKeeps, StartsIn, StepKeeps, WalkKeeps, choice_at, first_turn, loop_at}
-use Rattle.ctd_traps.specs.inner.Triples.{Keeps}
 use Rattle.ctd_traps.specs.inner.PostFixpoint.{among}
 use Rattle.ctd_program.specs.inner.View.{boxed_separator}
 use Rattle.ctd_traps.proofs.Fits.{end_fits, newline_fits, space_fits}

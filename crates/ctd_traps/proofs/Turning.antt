@@ -1,8 +1,7 @@
 -- How loops start, how their turns begin, and what a loop keeps.
-use Rattle.std.proofs.Common.{◌≡◌, ◌-◌, ◌<◌, ◌≤◌, ◌+◌, ◌^◌, ℕ, suc, Bool, true, false, nat_lt, pos, ℤ, ◌<ℤ◌, ◌*◌, List, [], ◌∷◌, length, get_or, drop, inl, inr, Option, Some, None, Result, Ok, Err, refl, sym, subst, le_trans, arith}
+use Rattle.std.proofs.Common.{◌≡◌, ◌<◌, ◌≤◌, ◌+◌, ◌^◌, ℕ, suc, Bool, true, false, nat_lt, pos, ℤ, ◌<ℤ◌, ◌*◌, List, [], ◌∷◌, length, get_or, drop, inl, inr, Option, Some, None, Result, Ok, Err, refl, sym, subst, le_trans, arith}
 use Rattle.std.proofs.lemmas.Int.{ints}
 use Rattle.std.proofs.lemmas.Bool.Decides.{nat_tests}
-use Rattle.std.specs.Prelude.{⊤}
 use Rattle.ctd_token.specs.declared.text.Place.{Place}
 use Rattle.ctd_source.specs.TestData.{TestData}
 use Rattle.ctd_program.specs.Tree
@@ -10,15 +9,15 @@ use Rattle.ctd_program.specs.Tree.{ExprTree, VarTree, TestTree, GuardTree, Comma
 use Rattle.ctd_store.specs.declared.value.Value.{Value}
 use Rattle.ctd_store.specs.declared.value.Value.TheVariants as values
 use Rattle.ctd_store.specs.Store.{History, Variables, value_at}
-use Rattle.ctd_value.specs.Fault.{ValueFault, with_fault}
+use Rattle.ctd_value.specs.Fault.{ValueFault}
 use Rattle.ctd_value.specs.Val.{count}
 use Rattle.ctd_outcome.specs.declared.outcome.Site.{Site}
 use Rattle.ctd_outcome.specs.declared.outcome.Site.TheVariants.{At}
-use Rattle.ctd_command.specs.State.{State, Effect, done, rejected, faulty, evaluate, proceed, lift, return, fault_of_value}
-use Rattle.ctd_command.specs.Commands.{answer, set_to}
+use Rattle.ctd_command.specs.State.{State, Effect, done, rejected, faulty, evaluate, proceed, return}
+use Rattle.ctd_command.specs.Commands.{answer}
 use Rattle.ctd_check.specs.Loops.{Guard, Loop, times, while_true, loop_of, count_turn, goes_on, guard_of, take_turn}
 use Rattle.ctd_check.specs.Run.{RunResult, all_done, stopped}
-use Rattle.ctd_check.specs.calls.BigSteps.{TurnEnds, command_has_no_step, command_is_done, command_rejects, command_fails, loop_starts, loop_fails, separator_before}
+use Rattle.ctd_check.specs.calls.BigSteps.{command_has_no_step, command_is_done, command_rejects, command_fails, loop_starts, loop_fails, separator_before}
 use Rattle.ctd_range.specs.declared.range.Range.{Range}
 use Rattle.ctd_range.specs.calls.Ranges.{IsIn}
 use Rattle.ctd_known.specs.declared.faults.Faults.{Faults}
@@ -36,7 +35,7 @@ use Rattle.ctd_traps.specs.inner.Cases.{Divides, OneStands, TellsCase, TellsCase
 use Rattle.ctd_traps.specs.inner.Holds.{AreListed, Holds, HoldsAlone}
 use Rattle.ctd_traps.specs.inner.Walk.{Assigns, ByTurn, Counts, CountsEach, CountsLast, CountsTurn, Enters, Fits, IsCounted, IsGuard, Starts, StartsIn, Stays, StaysIn, first_turn, later_turn}
 use Rattle.ctd_traps.specs.inner.Triples.{Before, CommandKeeps, Ends, IsListed, Keeps, Listing, Splits}
-use Rattle.ctd_traps.specs.inner.PostFixpoint.{Guess, IsPostFixpoint, among}
+use Rattle.ctd_traps.specs.inner.PostFixpoint.{IsPostFixpoint, among}
 use Rattle.ctd_traps.proofs.Keeping.{no_steps}
 use Rattle.ctd_traps.proofs.PostFixpoint.{post_fixpoints_hold}
 use Rattle.ctd_traps.proofs.Fits.{evaluation_fits, then_fits}

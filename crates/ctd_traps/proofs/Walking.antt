@@ -1,40 +1,29 @@
 -- A walk over commands.
-use Rattle.std.proofs.Common.{◌≡◌, ◌≢◌, ◌<◌, ◌≤◌, ◌^◌, ◌+◌, ◌++◌, ℕ, suc, Bool, true, false, List, [], ◌∷◌, map, length, get_or, drop, Contains, Option, Some, None, refl, ap, sym, subst, ◌∙◌, arith}
-use Rattle.std.proofs.lemmas.List.{at_drop_more, drop_all}
+use Rattle.std.proofs.Common.{◌≡◌, ◌<◌, ◌≤◌, ◌^◌, ◌+◌, ℕ, List, length, get_or, drop, refl, sym, subst, arith}
 use Rattle.std.specs.Prelude.{⊤}
-use Rattle.std.specs.Global.{Box}
 use Rattle.ctd_token.specs.declared.text.Place.{Place}
 use Rattle.ctd_source.specs.TestData.{TestData}
 use Rattle.ctd_program.specs.Tree
 use Rattle.ctd_program.specs.Tree.{CommandTree, CommandList, TestTree, Separator, place_of}
-use Rattle.ctd_program.specs.declared.tree.Command.{Command}
-use Rattle.ctd_program.specs.declared.tree.Action.{Action}
-use Rattle.ctd_program.specs.declared.tree.Action.TheVariants.{If}
-use Rattle.ctd_program.specs.declared.tree.Choice.{Choice, out-Choice}
-use Rattle.ctd_program.specs.calls.View.{action_tree, command_list, command_tree, command_trees, commands_of, test_tree}
-use Rattle.ctd_program.proofs.Trees.{choice_tree, list_commands}
 use Rattle.ctd_store.specs.Store.{Variables}
-use Rattle.ctd_value.specs.Fault.{ValueFault}
-use Rattle.ctd_outcome.specs.declared.outcome.Site.{Site}
 use Rattle.ctd_outcome.specs.declared.outcome.Site.TheVariants.{At}
 use Rattle.ctd_command.specs.State.{State, Effect, done, rejected, faulty, Act}
 use Rattle.ctd_command.specs.Commands.{answer, assert}
 use Rattle.ctd_check.specs.Run.{RunResult, all_done, stopped}
-use Rattle.ctd_check.specs.calls.BigSteps.{CommandEnds, IsSimple, is_assert, separator_before}
+use Rattle.ctd_check.specs.calls.BigSteps.{CommandEnds, IsSimple, is_assert}
 use Rattle.ctd_known.specs.declared.faults.Faults.{Faults}
 use Rattle.ctd_known.specs.declared.facts.Known.{Known}
 use Rattle.ctd_known.specs.calls.Facts.{EachStands, PinsStand}
-use Rattle.ctd_known.specs.calls.Found.{IsAmong}
 use Rattle.ctd_known.proofs.Applying.{AreFaults}
 use Rattle.ctd_store.specs.Store.{History}
 use Rattle.ctd_traps.specs.declared.cases.Case.{Case}
-use Rattle.ctd_traps.specs.inner.Cases.{Divides, OneStands, TellsCase, TellsCases}
+use Rattle.ctd_traps.specs.inner.Cases.{Divides, TellsCase, TellsCases}
 use Rattle.ctd_traps.proofs.Joining.{RestOr, case_done, cases_done}
 use Rattle.ctd_traps.specs.declared.finding.Finding.{Finding}
 use Rattle.ctd_traps.specs.calls.Traps.{Trap, traps_of}
 use Rattle.ctd_traps.specs.inner.Holds.{AreListed, ArePart, Holds, HoldsAlone}
-use Rattle.ctd_traps.specs.inner.Triples.{Before, CommandKeeps, Ends, Keeps, Listing, Splits}
-use Rattle.ctd_traps.specs.inner.Walk.{ActKeeps, Acts, ActsKeep, ByTurn, Fits, SeparatorKeeps, Stays, StaysIn, StepKeeps, WalkKeeps}
+use Rattle.ctd_traps.specs.inner.Triples.{Before, Ends, Keeps, Listing}
+use Rattle.ctd_traps.specs.inner.Walk.{ActKeeps, Acts, ActsKeep, Fits, SeparatorKeeps, Stays, StaysIn, StepKeeps, WalkKeeps}
 use Rattle.ctd_traps.specs.inner.PostFixpoint.{among}
 use Rattle.ctd_traps.proofs.Keeping.{choice_keeps, list_keeps, none_keeps}
 use Rattle.ctd_traps.proofs.SimpleCommands.{Leaves, simple_keeps}

@@ -1,5 +1,5 @@
 -- What a walk over commands finds out.
-use Rattle.std.specs.Prelude.{◌≡◌, ◌≤◌, ℕ, suc, pos, ◌-◌, ◌^◌, Bool, true, false, ⊤, List, [], ◌∷◌, fold, Option, Some, None, Result, Ok, Err}
+use Rattle.std.specs.Prelude.{◌≡◌, ◌≤◌, ℕ, suc, pos, ◌-◌, ◌^◌, Bool, true, false, ⊤, List, fold, Option, Result, Ok, Err}
 use Rattle.ctd_source.specs.TestData.{TestData}
 use Rattle.ctd_program.specs.Tree
 use Rattle.ctd_program.specs.Tree.{ExprTree, VarTree, GuardTree, CommandTree, CommandList, Separator, place_of}
@@ -9,14 +9,13 @@ use Rattle.ctd_program.specs.declared.tree.Choice.{Choice, out-Choice}
 use Rattle.ctd_program.specs.calls.View.{boxed_target, command_list, guard_tree, test_tree}
 use Rattle.ctd_program.specs.inner.View.{boxed_separator}
 use Rattle.ctd_store.specs.declared.value.Value.{Value}
-use Rattle.ctd_store.specs.declared.value.Value.TheVariants as values
 use Rattle.ctd_store.specs.Store.{Key, History, Variables, assign, unset}
 use Rattle.ctd_value.specs.Fault.{ValueFault}
 use Rattle.ctd_value.specs.Val.{count, key}
 use Rattle.ctd_outcome.specs.declared.reason.Fault.{Fault}
 use Rattle.ctd_command.specs.State.{State, Effect, done, rejected, faulty, Act, fault_of_value}
 use Rattle.ctd_command.specs.Commands.{keep}
-use Rattle.ctd_check.specs.Loops.{count_turn, Guard, Loop as Started, while_true, times, loop_of, take_turn, guard_of}
+use Rattle.ctd_check.specs.Loops.{count_turn, Guard, Loop as Started, while_true, times, take_turn, guard_of}
 use Rattle.ctd_check.specs.calls.BigSteps.{separator_before}
 use Rattle.ctd_range.specs.declared.range.Range.{Range}
 use Rattle.ctd_range.specs.calls.Ranges.{IsIn}

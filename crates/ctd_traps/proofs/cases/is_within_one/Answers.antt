@@ -1,5 +1,3 @@
-use Rattle.std.proofs.Common.{subst}
-use Rattle.ctd_known.specs.calls.Facts.{EachStands}
 use Rattle.ctd_traps.proofs.Joining.{case_within}
 use Rattle.ctd_traps.proofs.cases.is_within_one.Goals as goal
 

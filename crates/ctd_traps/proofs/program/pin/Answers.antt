@@ -1,4 +1,4 @@
-use Rattle.std.proofs.Common.{◌≡◌, ◌≢◌, [], ◌∙◌, sym, subst}
+use Rattle.std.proofs.Common.{◌∙◌, sym, subst}
 use Rattle.ctd_known.specs.calls.Changed.{AssignsAlone, AssignsElements}
 use Rattle.ctd_traps.proofs.Pinning.{no_indices, pin_alone, pin_element, some_indices}
 use Rattle.ctd_traps.proofs.program.pin.Goals as goal

@@ -1,5 +1,5 @@
 use Rattle.ctd_program.specs.calls.View.{guard_tree}
-use Rattle.ctd_traps.proofs.Turning.{starts_in, starts_nowhere}
+use Rattle.ctd_traps.proofs.Turning.{starts_in}
 use Rattle.ctd_traps.proofs.turn.start_each.Goals as goal
 
 pub returns : goal.returns

@@ -1,6 +1,6 @@
-use Rattle.std.proofs.Common.{◌∙◌, ap, sym, subst}
+use Rattle.std.proofs.Common.{sym, subst}
 use Rattle.ctd_program.proofs.Trees.{list_commands}
-use Rattle.ctd_program.specs.calls.View.{boxed_target, command_list, command_tree, command_trees, guard_tree, test_tree}
+use Rattle.ctd_program.specs.calls.View.{command_list, command_tree, command_trees, test_tree}
 use Rattle.ctd_program.specs.inner.View.{boxed_separator}
 use Rattle.ctd_program.specs.declared.tree.Command.{Command}
 use Rattle.ctd_program.specs.declared.tree.Choice.{out-Choice}
@@ -10,7 +10,7 @@ use Rattle.ctd_traps.specs.inner.Cases.{Divides, TellsCases}
 use Rattle.ctd_traps.specs.inner.Holds.{AreListed}
 use Rattle.ctd_check.proofs.Running.{place_is}
 use Rattle.ctd_traps.specs.inner.Walk.{RoundKeeps, SeparatorKeeps, StepKeeps, WalkKeeps}
-use Rattle.ctd_traps.proofs.Walking.{acts_step, between_keeps, choice_steps, listed_more, no_separator, part_refl, part_trans, walk_more}
+use Rattle.ctd_traps.proofs.Walking.{acts_step, between_keeps, choice_steps, listed_more, part_refl, part_trans}
 use Rattle.ctd_traps.proofs.Steps.{assert_step, choice_step, loop_step, repeat_keeps, separator_more, walk_done, walk_step}
 use Rattle.ctd_traps.proofs.walk.+walk.Goals as goal
 
