@@ -1,19 +1,19 @@
 -- What divisions and powers give.
-use Rattle.std.proofs.Common.{◌≡◌, ◌≤◌, ◌<◌, zero, suc, nat_lt, ◌*◌, ◌^◌, ◌/◌, ◌%◌, ℕ, true, false, ℤ, pos, negsuc, neg_ℤ, ◌≤ℤ◌, ◌<ℤ◌, unsigned_abs, inl, inr, refl, div-le_self, pow-suc, le_trans, Option, Some, None, arith}
+use Rattle.std.proofs.Common.{◌≡◌, ◌≤◌, ◌<◌, zero, suc, nat_lt, ◌*◌, ◌^◌, ◌%◌, ℕ, Bool, true, false, ℤ, pos, negsuc, neg_ℤ, ◌≤ℤ◌, ◌<ℤ◌, unsigned_abs, inl, inr, refl, pow-suc, le_trans, Option, Some, None, arith}
 use lib.Signed.{lt_z}
-use Rattle.std.specs.Prelude.{int_div, int_rem, IfSome}
+use Rattle.std.specs.Prelude.{int_rem, IfSome}
 use Rattle.std.specs.Option.{SomeIff}
 use Rattle.std.specs.Int.{int_pow, w128}
 use Rattle.std.specs.Int.RustNames.{FitsSigned}
 use Rattle.std.proofs.lemmas.Int.{ints}
 use Rattle.std.proofs.lemmas.Bool.Decides.{nat_tests}
 use Rattle.std.proofs.Math.Nat.{mod-le, mod-lt, pow-le-pow_left, pow-le-pow_right}
-use Rattle.ctd_value.specs.Arithmetic.{is_value, in_range, quotient, remainder, power}
+use Rattle.ctd_value.specs.Arithmetic.{is_value, in_range, remainder, power}
 use Rattle.ctd_range.specs.declared.range.Range.{Range}
 use Rattle.ctd_range.specs.declared.arithmetic.Computed.{Computed}
 use Rattle.ctd_range.specs.calls.Ranges.{IsIn, Covers}
-use Rattle.ctd_range.specs.inner.Ranges.{IsTowardsZero}
-use Rattle.ctd_range.proofs.Ends.{between, covers_in_range}
+use Rattle.ctd_range.specs.inner.Ranges.{IsCount, IsTowardsZero}
+use Rattle.ctd_range.proofs.Ends.{between, covers_in_range, not_false}
 
 -- a number between 0 and another
 above_zero : (q a : ℕ) → q ≤ a → IsTowardsZero (pos a) (pos q)
@@ -23,10 +23,6 @@ below_zero : (q a : ℕ) → q ≤ suc a → IsTowardsZero (negsuc a) (neg_ℤ (
 below_zero zero a h = inr (omega (arith, ints), omega (arith, ints))
 below_zero (suc q) a h = inr (omega (arith, ints, h), omega (arith, ints))
 
-quotient_towards : (x : ℤ) (m : ℕ) → IsTowardsZero x (int_div x (pos (suc m)))
-quotient_towards (pos a) m = above_zero (a / suc m) a (div-le_self a (suc m))
-quotient_towards (negsuc a) m = below_zero (suc a / suc m) a (div-le_self (suc a) (suc m))
-
 remainder_towards : (x y : ℤ) → IsTowardsZero x (int_rem x y)
 remainder_towards (pos a) y = above_zero _ a (mod-le a _)
 remainder_towards (negsuc a) y = below_zero _ a (mod-le (suc a) _)
@@ -35,16 +31,8 @@ remainder_towards (negsuc a) y = below_zero _ a (mod-le (suc a) _)
 inside_is_value : (r : Range) (n : ℕ) (z : ℤ) → FitsSigned w128 r.low → FitsSigned w128 r.high → IsIn r n z → is_value z ≡ true
 inside_is_value r n z fits_low fits_high inside = let l = inside.low in let h = inside.high in between z r.low r.high (omega (arith, ints, fits_low)) (omega (arith, ints, l)) (omega (arith, ints, h)) (omega (arith, ints, fits_high))
 
-covers_inside : (c : Computed) (n : ℕ) (z : ℤ) → FitsSigned w128 c.range.low → FitsSigned w128 c.range.high → IsIn c.range n z → Covers c n (in_range z)
+pub covers_inside : (c : Computed) (n : ℕ) (z : ℤ) → FitsSigned w128 c.range.low → FitsSigned w128 c.range.high → IsIn c.range n z → Covers c n (in_range z)
 covers_inside c n z fits_low fits_high inside = covers_in_range c n z (λ _. inside) (λ no. let yes = inside_is_value c.range n z fits_low fits_high inside in absurd (cc (yes, no)))
-
-pub quotient_covers : (c : Computed) (n : ℕ) (x y : ℤ) → pos 1 ≤ℤ y → FitsSigned w128 c.range.low → FitsSigned w128 c.range.high → ((z : ℤ) → IsTowardsZero x z → IsIn c.range n z) → Covers c n (quotient x y)
-quotient_covers c n x (pos zero) some fits_low fits_high inside = absurd (omega (arith, ints, some))
-quotient_covers c n x (pos (suc m)) some fits_low fits_high inside = covers_inside c n (int_div x (pos (suc m))) fits_low fits_high (inside (int_div x (pos (suc m))) (quotient_towards x m))
-quotient_covers c n x (negsuc m) some fits_low fits_high inside = absurd (omega (arith, ints, some))
-
-pub some_divisor : (b : Range) (n : ℕ) (y : ℤ) → pos 1 ≤ℤ b.low → IsIn b n y → pos 1 ≤ℤ y
-some_divisor b n y some inside = let l = inside.low in omega (arith, ints, some, l)
 
 not_above_zero : (q b : ℕ) → neg_ℤ (pos q) <ℤ pos (suc b)
 not_above_zero zero b = omega (arith, ints)
@@ -77,13 +65,13 @@ least_power (suc p) e l h k = let one : 1 ^ e ≤ suc p ^ e = pow-le-pow_left {n
 power_of : (c : Computed) (n p e : ℕ) → e < 2 ^ 64 → Covers c n (in_range (pos (p ^ e))) → Covers c n (power (pos p) (pos e))
 power_of c n p e less covers = let yes : nat_lt e (2 ^ 64) ≡ true = grind (arith, nat_tests, less) in rw yes covers
 
-pub power_up_to : (l most base exponent : ℤ) (n : ℕ) (x y : ℤ) → FitsSigned w128 l → FitsSigned w128 most → l ≤ℤ x → l ≤ℤ pos 1 → pos 0 ≤ℤ x → x ≤ℤ base → pos 0 ≤ℤ y → y ≤ℤ exponent → ((p e : ℕ) → pos p ≤ℤ base → pos e ≤ℤ exponent → (e < 2 ^ 64) × (pos (p ^ e) ≤ℤ most))
-    → Covers (record { range = record { low = l; high = most; rise = 0; fall = 0 }; overflows = false; divides_by_zero = false; has_bad_exponent = false }) n (power x y)
-power_up_to l most base exponent n (negsuc x) y fits_low fits_high a b c d e f up = absurd (omega (arith, ints, c))
-power_up_to l most base exponent n (pos p) (negsuc y) fits_low fits_high a b c d e f up = absurd (omega (arith, ints, e))
-power_up_to l most base exponent n (pos p) (pos i) fits_low fits_high a b c d e f up =
+pub power_up_to : (l most base exponent : ℤ) (bad : Bool) (n : ℕ) (x y : ℤ) → FitsSigned w128 l → FitsSigned w128 most → l ≤ℤ x → l ≤ℤ pos 1 → pos 0 ≤ℤ x → x ≤ℤ base → (bad ≡ false → IsCount y) → y ≤ℤ exponent → ((p e : ℕ) → pos p ≤ℤ base → pos e ≤ℤ exponent → (e < 2 ^ 64) × (pos (p ^ e) ≤ℤ most))
+    → Covers (record { range = record { low = l; high = most; rise = 0; fall = 0 }; overflows = false; divides_by_zero = false; has_bad_exponent = bad }) n (power x y)
+power_up_to l most base exponent bad n (negsuc x) y fits_low fits_high a b c d counts f up = absurd (omega (arith, ints, c))
+power_up_to l most base exponent bad n (pos p) (negsuc y) fits_low fits_high a b c d counts f up = not_false bad counts
+power_up_to l most base exponent bad n (pos p) (pos i) fits_low fits_high a b c d counts f up =
     let found = up p i d f in
-    let result : Computed = record { range = record { low = l; high = most; rise = 0; fall = 0 }; overflows = false; divides_by_zero = false; has_bad_exponent = false } in
+    let result : Computed = record { range = record { low = l; high = most; rise = 0; fall = 0 }; overflows = false; divides_by_zero = false; has_bad_exponent = bad } in
     power_of result n p i found.0 (covers_inside result n (pos (p ^ i)) fits_low fits_high (record { low = omega (arith, ints, least_power p i l a b); high = omega (arith, ints, found.1) }))
 
 below_power : (q k p e : ℕ) → 1 ≤ q → p ≤ q → e ≤ k → p ^ e ≤ q ^ k

@@ -91,7 +91,7 @@ difference_above ah bl x y fa rb f n h p q = omega (arith, ints, slopes f fa rb 
 pub every_value_is_in : (n : ℕ) (x : ℤ) → is_value x ≡ true → IsIn (record { low = negsuc (2 ^ 127 - 1); high = pos (2 ^ 127 - 1); rise = 0; fall = 0 }) n x
 every_value_is_in n x value = let l = value_is_least x value in let h = value_is_most x value in record { low = omega (arith, ints, l); high = omega (arith, ints, h) }
 
-not_false : (b : Bool) → (b ≡ false → ⊥) → b ≡ true
+pub not_false : (b : Bool) → (b ≡ false → ⊥) → b ≡ true
 not_false true never = refl
 not_false false never = absurd (never refl)
 

@@ -1,9 +1,9 @@
 //! What an operator gives where its operands are known to lie in ranges.
 
-ghost use Rattle.std.specs.Prelude.{◌≡◌, ◌≤◌, ◌<◌, ◌+◌, ◌^◌, ◌||◌, true, false, IfSome, ℕ, ℤ, ◌+ℤ◌, ◌-ℤ◌, ◌*ℤ◌, ◌≤ℤ◌, ◌<ℤ◌, neg_ℤ, pos};
+ghost use Rattle.std.specs.Prelude.{◌≡◌, ◌≤◌, ◌<◌, ◌+◌, ◌^◌, ◌||◌, true, false, IfSome, ℕ, ℤ, ◌+ℤ◌, ◌-ℤ◌, ◌*ℤ◌, ◌≤ℤ◌, ◌<ℤ◌, neg_ℤ, pos, int_div};
 ghost use Rattle.ctd_value.specs.Arithmetic.{in_range, power, quotient, remainder};
 ghost use Rattle.ctd_range.specs.calls.Ranges.{IsIn, Covers};
-ghost use Rattle.ctd_range.specs.inner.Ranges.{IsCount, IsTowardsZero};
+ghost use Rattle.ctd_range.specs.inner.Ranges.{IsCount, IsDivisor, IsNoFurther, IsTowardsZero};
 ghost use Rattle.ctd_range.specs.inner.Ends.{IsEnd, IsCorner, IsLeastOf, IsGreatestOf};
 
 use crate::order::less;
@@ -210,23 +210,65 @@ fn towards_zero(a: Range) -> Range
     }
 }
 
-/// The quotient of a number of each range. It is no further from 0 than the dividend, and on its side where the divisor is above 0.
+/// The quotients of numbers of a range by divisors from this one on, which is above 0.
+fn quotients(a: Range, least: i128) -> Range
+    requires { pos 1 ≤ℤ least }
+    ensures { (n : ℕ) (x y : ℤ) → IsIn a n x → least ≤ℤ y → IsIn result n (int_div x y) }
+{
+    Range {
+        low: a.low.min(0) / least,
+        high: a.high.max(0) / least,
+        rise: 0,
+        fall: 0,
+    }
+}
+
+/// The numbers that are no further from 0 than those of a range. `None` where one of them may be no value.
+fn no_further(a: Range) -> Option<Range>
+    ensures { IfSome result (λ range. (n : ℕ) (x z : ℤ) → IsIn a n x → IsNoFurther x z → IsIn range n z) }
+{
+    if a.low < -i128::MAX {
+        return None;
+    }
+    let most = a.high.max(-a.low.min(0));
+    Some(Range {
+        low: -most,
+        high: most,
+        rise: 0,
+        fall: 0,
+    })
+}
+
+/// The quotients of a number of each range, where the divisor is not 0. `None` where one of them may be no value.
+fn all_quotients(a: Range, b: Range) -> Option<Range>
+    ensures { IfSome result (λ range. (n : ℕ) (x y : ℤ) → IsIn a n x → IsIn b n y → IsDivisor y → IsIn range n (int_div x y)) }
+{
+    if b.low > 0 {
+        Some(quotients(a, b.low))
+    } else if b.low == 0 {
+        Some(quotients(a, 1))
+    } else {
+        no_further(a)
+    }
+}
+
+/// The quotient of a number of each range.
 pub fn quotient(a: Range, b: Range) -> Computed
     ensures covers { (n : ℕ) (x y : ℤ) → IsIn a n x → IsIn b n y → Covers result n (quotient x y) }
 {
-    if b.low >= 1 {
-        return Computed {
-            range: towards_zero(a),
+    match all_quotients(a, b) {
+        Some(range) => Computed {
+            range,
             overflows: false,
-            divides_by_zero: false,
+            divides_by_zero: may_be_zero(b),
             has_bad_exponent: false,
-        };
-    }
-    Computed {
-        range: every_value(),
-        overflows: true,
-        divides_by_zero: may_be_zero(b),
-        has_bad_exponent: false,
+        },
+        None => Computed {
+            range: every_value(),
+            overflows: true,
+            divides_by_zero: may_be_zero(b),
+            has_bad_exponent: false,
+        },
     }
 }
 
@@ -273,7 +315,8 @@ fn greatest_power(base: i128, exponent: i128) -> Option<i128>
 pub fn power(a: Range, b: Range) -> Computed
     ensures covers { (n : ℕ) (x y : ℤ) → IsIn a n x → IsIn b n y → Covers result n (power x y) }
 {
-    if a.low >= 0 && b.low >= 0 {
+    let has_bad_exponent = may_be_no_exponent(b);
+    if a.low >= 0 {
         match greatest_power(a.high, b.high) {
             Some(most) => {
                 return Computed {
@@ -285,7 +328,7 @@ pub fn power(a: Range, b: Range) -> Computed
                     },
                     overflows: false,
                     divides_by_zero: false,
-                    has_bad_exponent: false,
+                    has_bad_exponent,
                 };
             }
             None => (),
@@ -295,6 +338,6 @@ pub fn power(a: Range, b: Range) -> Computed
         range: every_value(),
         overflows: true,
         divides_by_zero: false,
-        has_bad_exponent: may_be_no_exponent(b),
+        has_bad_exponent,
     }
 }
