@@ -136,6 +136,7 @@ INLINE u128 size_of(u128 n) { return n >> 127 ? -n : n; }
 INLINE u128 quotient(u128 n, u128 by) { u128 size = size_of(n) / size_of(by); return (n ^ by) >> 127 ? -size : size; }
 INLINE void host___multi3(u64 to, u64 a, u64 b, u64 c, u64 d) { answer(to, join(a, b) * join(c, d)); }
 INLINE void host___divti3(u64 to, u64 a, u64 b, u64 c, u64 d) { answer(to, quotient(join(a, b), join(c, d))); }
+INLINE void host___udivti3(u64 to, u64 a, u64 b, u64 c, u64 d) { answer(to, join(a, b) / join(c, d)); }
 INLINE void host___modti3(u64 to, u64 a, u64 b, u64 c, u64 d) { answer(to, join(a, b) - quotient(join(a, b), join(c, d)) * join(c, d)); }
 INLINE void host___ashlti3(u64 to, u64 a, u64 b, u32 n) { answer(to, join(a, b) << (n & 127)); }
 INLINE void host___lshrti3(u64 to, u64 a, u64 b, u32 n) { answer(to, join(a, b) >> (n & 127)); }
