@@ -85,3 +85,21 @@ long write(int number, const char *bytes, size n) {
     written[number] += n;
     return (long)n;
 }
+
+typedef unsigned __int128 wide;
+
+/* The quotient of two numbers of 128 bits, of which clang makes a call, and which the toolchain's runtime for WebAssembly lacks. Bit by bit, from the
+ * highest on. */
+wide __udivti3(wide number, wide by) {
+    wide quotient = 0, rest = 0;
+    for (int bits = 128; bits > 0; bits--) {
+        rest = rest << 1 | number >> 127;
+        number <<= 1;
+        quotient <<= 1;
+        if (rest >= by) {
+            rest -= by;
+            quotient |= 1;
+        }
+    }
+    return quotient;
+}
