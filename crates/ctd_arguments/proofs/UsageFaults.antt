@@ -1,11 +1,15 @@
--- Which of the rules gives a fault.
-use Rattle.std.proofs.Common.{◌≡◌, ◌⊎◌, inl, inr, false, List, Option, None, Some, Result, Ok, Err, codes, sym, subst}
+-- Which fault the words have.
+use Rattle.std.proofs.Common.{◌≡◌, ◌⊎◌, ◌∙◌, inl, inr, ℕ, List, map, Option, Result, Ok, Err, All, IsUtf8, ap, codes, sym, subst}
 use Rattle.std.specs.Prelude.{IfErr}
 use Rattle.std.specs.Result.{IsErr, IsErrAnd}
-use Rattle.clap.specs.Words.{Text}
+use Rattle.std.specs.Borrow.{Bor}
+use Rattle.clap.specs.Words.{IsAmong, Text, fault_of}
+use Rattle.clap.specs.declared.error.ErrorKind.{ErrorKind}
+use Rattle.clap.specs.declared.error.ErrorKind.TheVariants.{OutOfMemory}
 use Rattle.ctd_program.specs.declared.preset.Preset.{Preset}
-use Rattle.ctd_arguments.specs.Settings.{ArePresetsOf}
-use Rattle.ctd_arguments.specs.Usage.{IsBadPreset, IsBadSteps, IsGoodPreset, IsTaken, IsUsageFault, flag_in, value_in}
+use Rattle.ctd_arguments.specs.CommandLine.{checker}
+use Rattle.ctd_arguments.specs.Usage.{ArePresetsOf, AsksForCheck, IsUsageFault, bad_preset, bad_steps, fault_by_kind, no_memory, no_text, not_taken, value_in}
+use Rattle.ctd_arguments.specs.inner.Usage.{HasNoPresets, HasNoStepLimit}
 use Rattle.ctd_arguments.specs.declared.setup.UsageFault.{UsageFault}
 use Rattle.ctd_arguments.specs.declared.setup.UsageFault.TheVariants as fault
 
@@ -14,20 +18,26 @@ pub holds_on_return : {T : Type 0} (P : UsageFault → Type 0) (f : UsageFault) 
 holds_on_return P f (Ok x) is has = tt
 holds_on_return P f (Err e) is has = subst P (sym is.1) has
 
--- a text that spells presets is a good one, and so is none
-is_good : (given : Option Text) (presets : List Preset) → ArePresetsOf given presets → IsGoodPreset given
-is_good None presets are = tt
-is_good (Some text) presets are = (presets, are)
+-- words that are no texts, or memory ran out
+pub no_texts : (words : List Text) (f : UsageFault) → (f ≡ fault.Words) ⊎ (f ≡ fault.Memory) → (f ≡ fault.Words → ¬ (All IsUtf8 words)) → IsUsageFault words f
+no_texts words f (inl is) broken = subst (IsUsageFault words) (sym is) (no_text (broken is))
+no_texts words f (inr is) broken = subst (IsUsageFault words) (sym is) no_memory
 
-module _ (words : List Text) (taken : IsTaken words) (checks : flag_in words (codes "generate") ≡ false) where
+-- words that are texts, of which clap finds an error
+pub by_clap : (words : List Text) (texts : List (Bor (List ℕ))) (kind : ErrorKind) (f : UsageFault) → map (λ t. t.now) texts ≡ words → All IsUtf8 words → f ≡ fault_by_kind kind
+    → (kind ≡ OutOfMemory) ⊎ IsAmong kind (fault_of checker (map (λ t. t.now) texts)) → IsUsageFault words f
+by_clap words texts kind f are utf8 is (inl out) = subst (IsUsageFault words) (sym (is ∙ ap fault_by_kind out)) no_memory
+by_clap words texts kind f are utf8 is (inr among) = not_taken utf8 (kind, subst (λ ws. IsAmong kind (fault_of checker ws)) are among, sym is)
+
+module _ (words : List Text) (asks : AsksForCheck words) where
   -- no presets, or memory ran out
-  pub no_presets : (f : UsageFault) (given : Option Text) → given ≡ value_in words (codes "define") → (f ≡ fault.Memory) ⊎ ((f ≡ fault.BadPreset) × IsBadPreset given) → IsUsageFault words f
-  no_presets f given is (inl memory) = inr memory
-  no_presets f given is (inr bad) = inl (inr (taken.0, inr (taken.1, inr (checks, inl (subst IsBadPreset is bad.1, bad.0)))))
+  pub no_presets : (f : UsageFault) (given : Option Text) → given ≡ value_in words (codes "define") → (f ≡ fault.Memory) ⊎ ((f ≡ fault.BadPreset) × HasNoPresets given) → IsUsageFault words f
+  no_presets f given is (inl memory) = subst (IsUsageFault words) (sym memory) no_memory
+  no_presets f given is (inr bad) = subst (IsUsageFault words) (sym bad.0) (bad_preset asks (subst HasNoPresets is bad.1))
 
   -- presets, and no number of steps
   pub no_steps : (f : UsageFault) (define given : Option Text) (presets : List Preset) → define ≡ value_in words (codes "define") → given ≡ value_in words (codes "max-steps")
-      → ArePresetsOf define presets → (f ≡ fault.BadSteps) × IsBadSteps given → IsUsageFault words f
+      → ArePresetsOf define presets → (f ≡ fault.BadSteps) × HasNoStepLimit given → IsUsageFault words f
   no_steps f define given presets defines is are bad =
-      let presets_are = is_good _ presets (subst (λ v. ArePresetsOf v presets) defines are) in
-      inl (inr (taken.0, inr (taken.1, inr (checks, inr (presets_are, inl (subst IsBadSteps is bad.1, bad.0))))))
+      let presets_are = subst (λ v. ArePresetsOf v presets) defines are in
+      subst (IsUsageFault words) (sym bad.0) (bad_steps presets asks presets_are (subst HasNoStepLimit is bad.1))

@@ -1,5 +1,5 @@
 -- The options and arguments of the command line, as clap defines what it takes.
-use Rattle.std.specs.Prelude.{ℕ, Option, None, Some, true, codes}
+use Rattle.std.specs.Prelude.{ℕ, [], ◌∷◌, fold, Option, None, Some, true, codes}
 use Rattle.clap.specs.Words.{App, Rule, Text, new_app, new_rule, with_rule}
 use Rattle.clap.specs.Simple.{on_top}
 use Rattle.clap.specs.declared.builder.ArgAction.{ArgAction}
@@ -7,42 +7,22 @@ use Rattle.clap.specs.declared.builder.ArgAction.TheVariants.{Set, SetTrue}
 
 -- an option with a long name and perhaps a short one
 abbrev pub option_rule : Text → Option ℕ → ArgAction → Rule
-option_rule name short action =
-    record (new_rule name) { long = Some name; short = short; action = Some action }
-
--- -g, --generate
-abbrev pub generate_rule : Rule
-generate_rule = option_rule (codes "generate") (Some 103) SetTrue
-
--- -D, --define
-abbrev pub define_rule : Rule
-define_rule = option_rule (codes "define") (Some 68) Set
-
--- -q, --quiet
-abbrev pub quiet_rule : Rule
-quiet_rule = option_rule (codes "quiet") (Some 113) SetTrue
-
--- -w, --whitespace-ok
-abbrev pub whitespace_rule : Rule
-whitespace_rule = option_rule (codes "whitespace-ok") (Some 119) SetTrue
-
--- --max-steps
-abbrev pub steps_rule : Rule
-steps_rule = option_rule (codes "max-steps") None Set
+option_rule name short action = record (new_rule name) { long = Some name; short = short; action = Some action }
 
 -- the program's file, which has to be there
 abbrev pub program_rule : Rule
 program_rule = record (new_rule (codes "PROGRAM")) { required = true; action = Some Set }
 
--- the data's file
-abbrev pub testdata_rule : Rule
-testdata_rule = new_rule (codes "TESTDATA")
-
 -- the command with a version and no argument
 abbrev pub bare_checker : App
 bare_checker = on_top (λ s. record s { has_version = true }) (new_app (codes "checktestdata"))
 
--- It is opened only by name: computed at words that are not known, what clap makes of it is very large.
+-- The options with their letters, and the two files. It is opened only by name: computed at words that are not known, what clap makes of it is very large.
 unfoldable pub checker : App
-checker = with_rule (with_rule (with_rule (with_rule (with_rule (with_rule (with_rule bare_checker
-    generate_rule) define_rule) quiet_rule) whitespace_rule) steps_rule) program_rule) testdata_rule
+checker = fold with_rule bare_checker (
+    option_rule (codes "generate") (Some 103) SetTrue ∷
+    option_rule (codes "define") (Some 68) Set ∷
+    option_rule (codes "quiet") (Some 113) SetTrue ∷
+    option_rule (codes "whitespace-ok") (Some 119) SetTrue ∷
+    option_rule (codes "max-steps") None Set ∷
+    program_rule ∷ new_rule (codes "TESTDATA") ∷ [])

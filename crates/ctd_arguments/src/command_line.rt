@@ -5,7 +5,7 @@ ghost use Rattle.clap.specs.Built.{TakesValue};
 ghost use Rattle.clap.specs.Matches.{first_value};
 ghost use Rattle.clap.specs.Words.{FailsBy, app_of, fault_of, found_of, matches_of, rows_of, rule_of};
 ghost use Rattle.clap.specs.declared.builder.ArgAction.TheVariants.{Set, SetTrue};
-ghost use Rattle.ctd_arguments.specs.CommandLine.{checker, define_rule, option_rule, program_rule};
+ghost use Rattle.ctd_arguments.specs.CommandLine.{checker, option_rule, program_rule};
 ghost use Rattle.ctd_arguments.specs.inner.RequiredProgram.{IsLocal, RequiresProgram};
 
 use clap::{Arg, ArgAction, ArgMatches, Command, Error};
@@ -34,7 +34,7 @@ fn option<'a>(alloc: Global, name: &'a str) -> Arg<'a>
 
 /// The option of the presets.
 fn define_option<'a>(alloc: Global) -> Arg<'a>
-    ensures rule { rule_of result ≡ define_rule }
+    ensures rule { rule_of result ≡ option_rule (codes "define") (Some 68) Set }
     ensures name { result.id.now ≡ codes "define" }
     ensures local { IsLocal result }
 {

@@ -5,9 +5,11 @@ ghost use Rattle.std.specs.Option.{SomeIff};
 ghost use Rattle.std.specs.Str.Parse.{digits_value};
 ghost use Rattle.clap.specs.Matches.{first_value};
 ghost use Rattle.clap.specs.Words.{Text, first_of, found_of, kind_of, rows_of};
-ghost use Rattle.ctd_arguments.specs.Settings.{ArePresetsOf, IsSetup, IsStepLimitOf, file_of, mode_by};
-ghost use Rattle.ctd_arguments.specs.Usage.{IsBadPreset, IsBadSteps, IsStepNumber, IsUsageFault, fault_by_kind, is_on};
-ghost use Rattle.ctd_arguments.specs.inner.Usage.{IsFoundIn};
+ghost use Rattle.ctd_arguments.specs.Settings.{IsSetup};
+ghost use Rattle.ctd_arguments.specs.inner.Usage.{file_of, mode_by};
+ghost use Rattle.ctd_arguments.specs.Usage.{ArePresetsOf, IsStepLimitOf, IsStepNumber, IsUsageFault, fault_by_kind};
+ghost use Rattle.ctd_arguments.specs.inner.Usage.{is_on};
+ghost use Rattle.ctd_arguments.specs.inner.Usage.{HasNoPresets, HasNoStepLimit, IsFoundIn};
 
 use crate::command_line::matches_in;
 use crate::setup::{Setup, UsageFault};
@@ -97,7 +99,7 @@ fn steps_in(text: &str) -> Option<u64>
 /// The limit on steps.
 fn step_limit(text: Option<&str>) -> Result<u64, UsageFault>
     ensures { let given = option_map (λ t. t.now) text.entry in
-        MatchResult result (IsStepLimitOf given) (λ f. (f ≡ UsageFault.BadSteps) × IsBadSteps given) }
+        MatchResult result (IsStepLimitOf given) (λ f. (f ≡ UsageFault.BadSteps) × HasNoStepLimit given) }
 {
     match text {
         None => Ok(STEPS),
@@ -109,7 +111,7 @@ fn step_limit(text: Option<&str>) -> Result<u64, UsageFault>
 fn presets_of(alloc: Global, text: Option<&str>) -> Result<Presets, UsageFault>
     ensures { let given = option_map (λ t. t.now) text.entry in
         MatchResult result (ArePresetsOf given)
-        (λ f. (f ≡ UsageFault.Memory) ⊎ ((f ≡ UsageFault.BadPreset) × IsBadPreset given)) }
+        (λ f. (f ≡ UsageFault.Memory) ⊎ ((f ≡ UsageFault.BadPreset) × HasNoPresets given)) }
 {
     match text {
         None => Ok(Presets::none(alloc)),

@@ -1,16 +1,14 @@
 -- What a source in memory gave, and what the tool reports of two such sources.
-use Rattle.std.proofs.Common.{◌≡◌, ◌≢◌, ℕ, ◌+◌, Bool, true, false, nat_le, if◌then◌else◌, List, ◌++◌, length, take, Option, Some, None, Ok, Err, IfSome, inl, inr, refl, sym, ap, subst, ◌∙◌, arith, length-append, leb-true, le-leb, take_at}
+use Rattle.std.proofs.Common.{◌≡◌, ◌≢◌, ℕ, List, ◌++◌, length, take, Option, Some, None, IfSome, inl, inr, refl, sym, ap, subst, ◌∙◌, arith, length-append, take_at}
 use Rattle.std.specs.Io.KnownBytes.{Consumes}
 use Rattle.ctd_source.specs.declared.source.Source.{Ghosts}
 use Rattle.ctd_source.specs.declared.source.Seen.{Seen}
 use Rattle.ctd_source.specs.declared.source.Seen.TheVariants.{Going, Ended, Broken}
 use Rattle.ctd_source.specs.Agreement.{Agrees}
 use Rattle.ctd_source.specs.CursorCalls.{Gave}
-use Rattle.ctd_token.specs.declared.limits.TheConstants.{PROGRAM_LIMIT}
 use Rattle.ctd_token.specs.declared.fault.LoadFault.{LoadFault}
-use Rattle.ctd_token.specs.declared.fault.LoadKind.TheVariants.{ProgramTooLong}
 use Rattle.ctd_program.specs.Tree.{CommandList}
-use Rattle.ctd_loader.specs.Loading.{IsLoaded, TextMayFail, Loads, MayFail}
+use Rattle.ctd_loader.specs.Loading.{IsReady, Loads, MayFail, TextHasFault, of_text, too_long, unread}
 use Rattle.ctd_arguments.specs.declared.setup.Setup.{Setup}
 use Rattle.ctd_report.specs.Report.{Report}
 use Rattle.ctd_tool.specs.Theorem.{Call, IsReport, of_meaning, of_program_fault}
@@ -38,26 +36,15 @@ given_of G old new text bytes starts gave =
       never_broken = starts.never_broken new;
     }
 
-loads_nothing : (b : Bool) (tree : CommandList) → IsLoaded (if b then Some (Err ProgramTooLong) else None) tree → ⊥
-loads_nothing true tree h = h
-loads_nothing false tree h = h
-
 -- a program that was read is that of all bytes
 loads_all : (seen : Seen) (text bytes : List ℕ) (tree : CommandList) → GivenOf seen text bytes → Loads text seen tree → Loads bytes Ended tree
-loads_all Going text bytes tree g h = absurd (loads_nothing (nat_le (PROGRAM_LIMIT + 1) (length text)) tree h)
-loads_all Ended text bytes tree g h = subst (λ t. Loads t Ended tree) (g.ended refl) h
-loads_all Broken text bytes tree g h = absurd (g.never_broken refl)
-
-fails_long : (b c : Bool) (bytes : List ℕ) (fault : LoadFault) → (b ≡ true → c ≡ true) → TextMayFail (if b then Some (Err ProgramTooLong) else None) fault → TextMayFail (if c then Some (Err ProgramTooLong) else Some (Ok bytes)) fault
-fails_long true c bytes fault up h = rw (up refl) h
-fails_long false c bytes fault up h = absurd h
+loads_all seen text bytes tree g h = (refl, subst (λ t. IsReady t tree) (g.ended h.0) h.1)
 
 -- a fault of the text that was read is one of all bytes
 fails_all : (seen : Seen) (text bytes : List ℕ) (fault : LoadFault) → GivenOf seen text bytes → MayFail text seen fault → MayFail bytes Ended fault
-fails_all Going text bytes fault g h = fails_long (nat_le (PROGRAM_LIMIT + 1) (length text)) (nat_le (PROGRAM_LIMIT + 1) (length bytes)) bytes fault
-    (λ e. le-leb (PROGRAM_LIMIT + 1) (length bytes) (omega (arith, leb-true (PROGRAM_LIMIT + 1) (length text) e, ap length g.front, length-append text g.rest))) h
-fails_all Ended text bytes fault g h = subst (λ t. MayFail t Ended fault) (g.ended refl) h
-fails_all Broken text bytes fault g h = absurd (g.never_broken refl)
+fails_all seen text bytes fault g (too_long long kind place) = too_long (omega (arith, long, ap length g.front, length-append text g.rest)) kind place
+fails_all seen text bytes fault g (unread within broken kind place) = absurd (g.never_broken broken)
+fails_all seen text bytes fault g (of_text ended has) = of_text refl (subst (λ t. TextHasFault t fault) (g.ended ended) has)
 
 agrees_all : (seen : Seen) (text bytes : List ℕ) (limit : ℕ) → GivenOf seen text bytes → Agrees text seen (data_of bytes limit)
 agrees_all Going text bytes limit g = ap (take (length text)) g.front ∙ take_at text g.rest (length text) refl

@@ -8,7 +8,8 @@ use Rattle.ctd_program.specs.declared.mode.Mode.{Mode}
 use Rattle.ctd_program.specs.declared.mode.Mode.TheVariants.{Exact, BlanksOk}
 use Rattle.ctd_program.specs.declared.preset.Preset.{Preset}
 use Rattle.ctd_program.specs.Tree
-use Rattle.ctd_program.specs.Tree.{ExprTree, VarTree, TestTree, GuardTree, CommandTree, CommandList, Separator, place_of}
+use Rattle.ctd_program.specs.Tree.{ExprTree, VarTree, TestTree, GuardTree, CommandTree, CommandList, Separator}
+use Rattle.ctd_check.specs.calls.Run.{place_of}
 use Rattle.ctd_store.specs.declared.value.Value.TheVariants as values
 use Rattle.ctd_value.specs.Fault.{ValueFault, TruthFault, with_fault}
 use Rattle.ctd_value.specs.Truth.{truth}
@@ -18,9 +19,13 @@ use Rattle.ctd_outcome.specs.declared.outcome.Site.{Site}
 use Rattle.ctd_outcome.specs.declared.outcome.Site.TheVariants.{Start, At, Finish}
 use Rattle.ctd_command.specs.State.{State, Effect, done, rejected, faulty, Act, proceed, lift, fault_of_value, fault_of_truth, fault_of_look, evaluate, see_next}
 use Rattle.ctd_command.specs.Commands.{answer, assign_key}
-use Rattle.ctd_command.specs.Blanks.{is_blank, start_in, end, first_skip}
-use Rattle.ctd_check.specs.Loops.{Guard, times, while_true, Task, start, turn, finish, Loop, loop_of, tasks, tasks_before_turn, turn_tasks, goes_on, count_turn, take_turn}
-use Rattle.ctd_check.specs.Run.{simple, act_of, RunResult, all_done, stopped, resume, run, run_from, with_steps, at_start, meaning}
+use Rattle.ctd_command.specs.Blanks.{is_blank, end, first_skip}
+use Rattle.ctd_command.specs.inner.Blanks.{start_in}
+use Rattle.ctd_check.specs.Loops.{Guard, times, while_true, Task, start, turn, finish, Loop, tasks, tasks_before_turn, turn_tasks, goes_on, take_turn}
+use Rattle.ctd_check.specs.calls.Loops.{loop_of}
+use Rattle.ctd_check.specs.inner.Loops.{count_turn}
+use Rattle.ctd_check.specs.Run.{simple, RunResult, all_done, stopped, resume, run, run_from, with_steps, at_start, meaning}
+use Rattle.ctd_check.specs.inner.Acts.{act_of}
 use Rattle.ctd_check.specs.calls.Laws.{and_then}
 use Rattle.ctd_check.specs.calls.BigSteps.{IsSimple, is_space, is_newline, is_eof, is_int, is_string, is_regex, is_assert, is_set, is_unset, separator_before, ListEnds, list_is_done, list_goes_on, list_stops, CommandEnds, command_has_no_step, command_is_done, command_rejects, command_fails, if_is_true, if_is_false, if_fails, loop_starts, loop_fails, TurnEnds, turn_has_no_step, loop_is_over, turn_goes_on, separator_stops, body_stops, turn_fails, ProgramEnds, start_fails, commands_stop, end_has_no_step, data_are_accepted, end_rejects, end_fails}
 use Rattle.ctd_check.proofs.InTurn.{in_turn}

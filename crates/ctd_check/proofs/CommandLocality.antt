@@ -15,7 +15,7 @@ use Rattle.ctd_store.specs.declared.value.Value.{Value}
 use Rattle.ctd_store.specs.declared.value.Value.TheVariants as values
 use Rattle.ctd_token.specs.declared.text.Place.{Place}
 use Rattle.ctd_value.specs.Fault.{with_fault}
-use Rattle.ctd_value.specs.Truth.{is_end}
+use Rattle.ctd_value.specs.inner.Truth.{is_end}
 use Rattle.ctd_value.specs.Val.{val, key, number_of, text_of, count}
 use Rattle.ctd_outcome.specs.declared.reason.Reason.{Reason}
 use Rattle.ctd_outcome.specs.declared.reason.Reason.TheVariants.{ExpectedSpace, ExpectedNewline, ExpectedEof, StringMismatch, AssertFailed, RegexMismatch}
@@ -23,10 +23,14 @@ use Rattle.ctd_outcome.specs.declared.reason.Fault.TheVariants.{MatchTooLong}
 use Rattle.ctd_command.specs.State.{State, done, Act, proceed, return, reject, stop, pass, lift, fault_of_look, evaluate, see_next, see_window}
 use Rattle.ctd_command.specs.Integer.{judge, is_minus, digits_of, prefix_len_of}
 use Rattle.ctd_command.specs.Commands.{one_byte, eof, set_to, keep, decide, integer, int, match_bytes, string, answer, assert, give_value, set, unset_all}
-use Rattle.ctd_command.specs.Blanks.{is_blank, blank_next, skip_blanks, some_blanks, newline_between_blanks, end_behind_blanks, space_in, newline_in, end_in, start_in, space, newline, end, first_skip}
+use Rattle.ctd_command.specs.Blanks.{is_blank, skip_blanks, some_blanks, newline_between_blanks, end_behind_blanks, space, newline, end, first_skip}
+use Rattle.ctd_command.specs.inner.Blanks.{blank_next, space_in, newline_in, end_in, start_in}
 use Rattle.ctd_command.specs.Regex.{shorter_match, leading_match, regex}
-use Rattle.ctd_check.specs.Loops.{Guard, times, while_true, Task, start, turn, finish, Loop, loop_of, tasks, turn_tasks, goes_on, count_turn, take_turn, run_turn, guard_of, repeat, choice}
-use Rattle.ctd_check.specs.Run.{simple, act_of, perform}
+use Rattle.ctd_check.specs.Loops.{Guard, times, while_true, Task, start, turn, finish, Loop, tasks, turn_tasks, goes_on, take_turn, run_turn, guard_of, repeat, choice}
+use Rattle.ctd_check.specs.calls.Loops.{loop_of}
+use Rattle.ctd_check.specs.inner.Loops.{count_turn}
+use Rattle.ctd_check.specs.Run.{simple, perform}
+use Rattle.ctd_check.specs.inner.Acts.{act_of}
 use Rattle.ctd_check.proofs.Prefixes.{same_prefix, same_minus, same_digits, integer_within, less_prefix, less_integer}
 use Rattle.ctd_check.proofs.LongerData.{byte_within, look_within}
 use Rattle.ctd_check.proofs.ActLocality.{Forward, Inside, SameOrCut, same, IsLocal, both, either, given, idle, rejecting, stopping, assigning, unsetting, evaluating, seeing, windowing, answering, on, forward_past, passing, forward_next, longer_next}

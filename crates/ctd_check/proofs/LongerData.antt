@@ -12,7 +12,8 @@ use Rattle.ctd_program.specs.Tree
 use Rattle.ctd_program.specs.Tree.{TestTree}
 use Rattle.ctd_store.specs.Store.{History}
 use Rattle.ctd_value.specs.Fault.{TruthFault, ◌>>=◌, with_fault, Look}
-use Rattle.ctd_value.specs.Truth.{truth, is_end, is_one_of, as_test}
+use Rattle.ctd_value.specs.Truth.{truth}
+use Rattle.ctd_value.specs.inner.Truth.{is_end, is_one_of, as_test}
 use Rattle.ctd_value.specs.Val.{text_of}
 
 -- data that broke off, and others under the same limit that begin with them

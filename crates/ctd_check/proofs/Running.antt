@@ -14,10 +14,11 @@ use Rattle.ctd_program.specs.declared.tree.Action.TheVariants as actions
 use Rattle.ctd_program.specs.declared.tree.Loop.{Loop'}
 use Rattle.ctd_program.specs.declared.tree.Choice.{Choice'}
 use Rattle.ctd_program.specs.declared.tree.Command.{Command}
-use Rattle.ctd_program.specs.Tree.{place_of, CommandList, CommandTree}
+use Rattle.ctd_program.specs.Tree.{CommandList, CommandTree}
+use Rattle.ctd_check.specs.calls.Run.{place_of, Finds}
 use Rattle.ctd_program.specs.calls.View.{action_tree, command_tree}
 use Rattle.ctd_program.specs.declared.preset.Preset.{Preset}
-use Rattle.ctd_syntax.specs.RegexNumbers.{command_literals}
+use Rattle.ctd_syntax.specs.calls.RegexNumbers.{command_literals}
 use Rattle.ctd_loader.specs.calls.PatternTable.{AreAmong}
 use Rattle.ctd_command.proofs.Acts.{answers_as}
 use Rattle.ctd_command.specs.declared.machine.Run.{Run}
@@ -36,8 +37,8 @@ use Rattle.ctd_check.specs.declared.halt.Halt.{Halt}
 use Rattle.ctd_check.specs.declared.halt.Halt.TheVariants as halts
 use Rattle.ctd_outcome.specs.declared.outcome.Outcome.TheVariants as outcomes
 use Rattle.ctd_check.specs.Loops.{Task, start, finish, tasks}
-use Rattle.ctd_check.specs.Run.{RunResult, stopped, site_of, act_of, perform, resume, run, run_from, with_steps, meaning, at_start}
-use Rattle.ctd_check.specs.calls.Run.{Finds}
+use Rattle.ctd_check.specs.Run.{RunResult, stopped, site_of, perform, resume, run, run_from, with_steps, meaning, at_start}
+use Rattle.ctd_check.specs.inner.Acts.{act_of}
 use Rattle.ctd_outcome.specs.declared.outcome.Checked.{Checked}
 use Rattle.ctd_check.specs.inner.Halts.{halt_of, at_limit, Concludes}
 use Rattle.ctd_check.specs.inner.Opening.{halt_result, Opens}

@@ -5,7 +5,7 @@ use Rattle.std.specs.Option.{option_to_list, option_copied}
 use Rattle.std.proofs.lemmas.List.{append-nil, length-append, same_from_push}
 use Rattle.std.proofs.Math.Seq.{take-append_seam}
 use Rattle.std.specs.List.{refill}
-use Rattle.ctd_program.specs.Tree.{list_blocks}
+use Rattle.ctd_program.specs.calls.Blocks.{list_blocks}
 use Rattle.ctd_program.specs.calls.View.{command_trees}
 use Rattle.ctd_check.specs.declared.frame.Frame.{Frame}
 use Rattle.ctd_check.specs.declared.frame.RunningLoop.{RunningLoop}

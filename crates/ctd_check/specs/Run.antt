@@ -3,7 +3,8 @@ use Rattle.ctd_program.specs.Tree
 use Rattle.std.specs.Prelude.{ℕ, zero, suc, ◌-◌, ⊤, List, [], ◌∷◌, ◌++◌}
 use Rattle.ctd_source.specs.TestData.{TestData, spot_at}
 use Rattle.ctd_program.specs.declared.preset.Preset.{Preset}
-use Rattle.ctd_program.specs.Tree.{CommandTree, CommandList, place_of}
+use Rattle.ctd_token.specs.declared.text.Place.{Place}
+use Rattle.ctd_program.specs.Tree.{CommandTree, CommandList}
 use Rattle.ctd_store.specs.Store.{initial}
 use Rattle.ctd_program.specs.declared.mode.Mode.{Mode}
 use Rattle.ctd_outcome.specs.declared.reason.Fault.TheVariants.{StepLimit}
@@ -17,35 +18,33 @@ use Rattle.ctd_outcome.specs.declared.outcome.Outcome.{Outcome}
 use Rattle.ctd_outcome.specs.declared.outcome.Outcome.TheVariants.{Accepted, Rejected, Stopped}
 use Rattle.ctd_check.specs.Loops.{Task, start, turn, finish, tasks, run_turn, repeat, choice}
 
+-- a simple command leaves no tasks
+abbrev pub simple : Act ⊤ → Act (List Task)
+simple m = m >>= (λ _. return [])
+
+-- a command: the place of its word, and what it does, with the tasks that it leaves to be done first
+abbrev pub command : CommandTree → Place × Act (List Task)
+command (Tree.space place) = (place, simple space)
+command (Tree.newline place) = (place, simple newline)
+command (Tree.eof place) = (place, simple end)
+command (Tree.int place low high target) = (place, simple (int low high target))
+command (Tree.string place e) = (place, simple (string e))
+command (Tree.regex place literal target) = (place, simple (regex literal.bytes target))
+command (Tree.assert place t) = (place, simple (assert t))
+command (Tree.set place assignments) = (place, simple (set assignments))
+command (Tree.unset place names) = (place, simple (unset_all names))
+command (Tree.loop place guard counter sep body) = (place, repeat place guard counter sep body)
+command (Tree.choice place t then_do else_do) = (place, choice t then_do else_do)
+
 -- where in the program a task stands
 abbrev pub site_of : Task → Site
-site_of (start c) = At (place_of c)
+site_of (start c) = At (command c).0
 site_of (turn loop k) = At loop.place
 site_of finish = Finish
 
--- a simple command leaves no tasks
-abbrev pub simple : Act ⊤ → Act (List Task)
-simple m = do
-  _ ← m
-  return []
-
--- a command, and the tasks that it leaves to be done first
-abbrev pub act_of : CommandTree → Act (List Task)
-act_of (Tree.space place) = simple space
-act_of (Tree.newline place) = simple newline
-act_of (Tree.eof place) = simple end
-act_of (Tree.int place low high target) = simple (int low high target)
-act_of (Tree.string place e) = simple (string e)
-act_of (Tree.regex place literal target) = simple (regex literal.bytes target)
-act_of (Tree.assert place t) = simple (assert t)
-act_of (Tree.set place assignments) = simple (set assignments)
-act_of (Tree.unset place names) = simple (unset_all names)
-act_of (Tree.loop place guard counter sep body) = repeat place guard counter sep body
-act_of (Tree.choice place t then_do else_do) = choice t then_do else_do
-
 -- a task whose step is paid, and the tasks that it leaves to be done first
 abbrev pub perform : Task → Act (List Task)
-perform (start c) = act_of c
+perform (start c) = (command c).1
 perform (turn loop k) = run_turn loop k
 perform finish = simple end
 

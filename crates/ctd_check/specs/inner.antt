@@ -5,3 +5,5 @@ pub mod Known
 pub mod Advances
 pub mod Opening
 pub mod Progress
+pub mod Loops
+pub mod Acts

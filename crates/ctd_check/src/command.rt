@@ -1,12 +1,12 @@
 //! Commands: each that holds no commands is done, and the others hand on what they take.
 ghost use Rattle.std.specs.Prelude.{◌≡◌, []};
 ghost use Rattle.ctd_program.specs.calls.View.{command_tree, target};
-ghost use Rattle.ctd_syntax.specs.RegexNumbers.{command_literals};
+ghost use Rattle.ctd_syntax.specs.calls.RegexNumbers.{command_literals};
 ghost use Rattle.ctd_loader.specs.calls.PatternTable.{AreAmong, IsAmong};
 ghost use Rattle.ctd_command.specs.Regex.{regex};
 ghost use Rattle.ctd_command.specs.calls.Performs.{IsSound, Performs};
 ghost use Rattle.ctd_value.specs.calls.Lending.{map_ok};
-ghost use Rattle.ctd_check.specs.Run.{act_of};
+ghost use Rattle.ctd_check.specs.inner.Acts.{act_of};
 ghost use Rattle.ctd_check.specs.inner.Progress.{IfDone, IsMadeOf, UnlessDone};
 
 use ctd_command::{CommandFailure, Run};

@@ -1,14 +1,16 @@
 //! IF and the loops: the frames that they leave to be done, and the turns of a loop.
 ghost use Rattle.std.specs.Prelude.{◌≡◌, ℕ, List, ◌+◌, ◌≤◌, ◌∷◌, ◌++◌, [], max, Some};
-ghost use Rattle.ctd_program.specs.Tree.{list_blocks, separator_blocks};
+ghost use Rattle.ctd_program.specs.calls.Blocks.{list_blocks, separator_blocks};
 ghost use Rattle.ctd_program.specs.inner.View.{boxed_separator};
 ghost use Rattle.ctd_program.specs.calls.View.{boxed_target, command_list, guard_tree, test_tree};
-ghost use Rattle.ctd_syntax.specs.RegexNumbers.{literals, separator_literals};
+ghost use Rattle.ctd_syntax.specs.calls.RegexNumbers.{literals, separator_literals};
 ghost use Rattle.ctd_loader.specs.calls.PatternTable.{AreAmong};
 ghost use Rattle.ctd_command.specs.calls.Performs.{IsSound, Performs};
 ghost use Rattle.ctd_value.specs.calls.Lending.{map_ok};
 ghost use Rattle.ctd_check.specs.inner.Known.{LeavesKnown};
-ghost use Rattle.ctd_check.specs.Loops.{tasks, loop_of, turn, take_turn, count_turn, goes_on, guard_of, repeat, choice};
+ghost use Rattle.ctd_check.specs.Loops.{tasks, turn, take_turn, goes_on, guard_of, repeat, choice};
+ghost use Rattle.ctd_check.specs.calls.Loops.{loop_of};
+ghost use Rattle.ctd_check.specs.inner.Loops.{count_turn};
 ghost use Rattle.ctd_check.specs.inner.FrameTasks.{frame_tasks, separator_in, frame_blocks, loop_turn, guard_in, counter_in, loop_in, left_tasks, IsWithin, NeedsRoom};
 
 use crate::frame::{Frame, Guard, RunningLoop};

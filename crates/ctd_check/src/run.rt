@@ -2,7 +2,7 @@
 ghost use Rattle.std.specs.Prelude.{◌≡◌, ◌≤◌, ◌<◌, ◌+◌, ◌*◌, ◌^◌, ◌∷◌, [], length, is_some, true, OnOk, IfSome, Some};
 ghost use Rattle.ctd_source.specs.calls.CursorCalls.{state_of};
 ghost use Rattle.ctd_token.specs.declared.text.Place.{Place};
-ghost use Rattle.ctd_program.specs.Tree.{blocks};
+ghost use Rattle.ctd_program.specs.calls.Blocks.{blocks};
 ghost use Rattle.ctd_program.specs.calls.View.{command_tree};
 ghost use Rattle.ctd_command.specs.calls.Performs.{IsSound, state};
 ghost use Rattle.ctd_check.specs.inner.Known.{AreKnown};

@@ -1,7 +1,7 @@
 //! What a run has still to do: its frames, and the steps that are left.
 ghost use Rattle.std.specs.Prelude.{◌≡◌, ℕ, ◌≤◌, ◌<◌, ◌+◌, ◌-◌, ◌^◌, ◌++◌, ◌∷◌, [], length, is_some, true, false, None, Some, OnOk, IfErr, IfNone, IfOk, IfSome};
 ghost use Rattle.std.specs.Option.{option_copied};
-ghost use Rattle.ctd_program.specs.Tree.{blocks, list_blocks};
+ghost use Rattle.ctd_program.specs.calls.Blocks.{blocks, list_blocks};
 ghost use Rattle.ctd_program.specs.calls.View.{command_tree, command_trees};
 ghost use Rattle.ctd_value.specs.calls.Lending.{map_ok};
 ghost use Rattle.ctd_check.specs.Loops.{start, tasks, finish};

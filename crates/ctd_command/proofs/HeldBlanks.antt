@@ -1,7 +1,6 @@
 -- Blanks that lie in a run of held bytes.
-use Rattle.std.specs.Prelude.{⊤}
+use Rattle.std.specs.Prelude.{⊤, count_by, slice_get}
 use Rattle.std.proofs.Common.{◌≡◌, ◌<◌, ◌≤◌, ℕ, ◌+◌, Bool, true, false, cond, List, [], ◌∷◌, ◌++◌, length, take, drop, refl, ap, sym, ◌∙◌, subst, arith, length-drop, Result, Ok, Option, IsOk, if◌then◌else◌}
-use Rattle.std.specs.Prelude.{count_by, slice_get}
 use Rattle.std.specs.List.{prefix_len}
 use Rattle.std.proofs.lemmas.Bool.Decides.{nat_tests}
 use Rattle.std.proofs.lemmas.List.Sums.{prefix_len-le-length}
@@ -11,7 +10,8 @@ use Rattle.ctd_source.specs.calls.Consistency.{CursorState, IsConsistentWith}
 use Rattle.ctd_source.proofs.Visible.{seen_run}
 use Rattle.ctd_value.specs.Fault.{with_fault}
 use Rattle.ctd_outcome.specs.declared.reason.Reason.TheVariants.{ExpectedSpace}
-use Rattle.ctd_command.specs.Blanks.{is_blank, blank_next, skip_blanks, some_blanks}
+use Rattle.ctd_command.specs.Blanks.{is_blank, skip_blanks, some_blanks}
+use Rattle.ctd_command.specs.inner.Blanks.{blank_next}
 use Rattle.ctd_command.specs.State.{State, done, proceed, lift, reject, fault_of_look}
 use Rattle.ctd_command.proofs.HeldRuns.{stops_within, front_in_line, run_front, held_next}
 use Rattle.ctd_command.proofs.Skipping.{skips}

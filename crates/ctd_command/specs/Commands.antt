@@ -1,14 +1,13 @@
 -- What each simple command does.
-use Rattle.std.specs.Prelude.{ℕ, Bool, ⊤, List, [], ◌∷◌, fold, ℤ, Option, Some, None, Result, Ok, Err, if◌then◌else◌}
+use Rattle.std.specs.Prelude.{ℕ, Bool, is_none, ⊤, List, [], ◌∷◌, fold, ℤ, Option, Some, None, Result, Ok, Err, if◌then◌else◌}
 use Rattle.ctd_source.specs.TestData.{is_byte}
 use Rattle.ctd_program.specs.Tree.{ExprTree, VarTree, TestTree}
 use Rattle.ctd_store.specs.declared.value.Value.{Value}
 use Rattle.ctd_store.specs.declared.value.Value.TheVariants as values
 use Rattle.ctd_store.specs.Store.{Key, assign, unset}
 use Rattle.ctd_value.specs.Fault.{with_fault}
-use Rattle.ctd_value.specs.Truth.{is_end}
-use Rattle.ctd_value.specs.Val.{val, key, number_of, text_of}
 use Rattle.ctd_value.specs.Truth.{truth}
+use Rattle.ctd_value.specs.Val.{val, key, number_of, text_of}
 use Rattle.ctd_outcome.specs.declared.reason.Reason.{Reason}
 use Rattle.ctd_outcome.specs.declared.reason.Reason.TheVariants.{ExpectedEof, StringMismatch, AssertFailed}
 use Rattle.ctd_command.specs.Integer.{prefix_len_of, judge, is_minus, digits_of}
@@ -24,7 +23,7 @@ one_byte c reason = do
 abbrev pub eof : Act ⊤
 eof = do
   next ← see_next
-  if is_end next then return tt else reject ExpectedEof
+  if is_none next then return tt else reject ExpectedEof
 
 -- a key has the value from now on
 abbrev pub assign_key : Key → Value → Act ⊤
@@ -67,9 +66,7 @@ match_bytes (b ∷ rest) = do
 
 -- the value, which has to be a string, and then its bytes
 abbrev pub string : ExprTree → Act ⊤
-string e = do
-  wanted ← evaluate (text_of e)
-  match_bytes wanted
+string e = evaluate (text_of e) >>= match_bytes
 
 -- a test's answer
 abbrev pub answer : TestTree → Act Bool

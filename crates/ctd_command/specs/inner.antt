@@ -5,3 +5,4 @@ pub mod Performs
 pub mod Alone
 pub mod Summaries
 pub mod Passing
+pub mod Blanks

@@ -16,8 +16,10 @@ use Rattle.ctd_store.specs.declared.value.Value.TheVariants as values
 use Rattle.ctd_store.specs.Store.{History, value_at}
 use Rattle.ctd_value.specs.Fault.{ValueFault, TruthFault, Undefined, WrongType, Overflow, DivisionByZero, Exponent, Count, Shape, Look, ◌>>=◌}
 use Rattle.ctd_value.specs.Fault as faults
-use Rattle.ctd_value.specs.Val.{number, val, value_or_undefined}
-use Rattle.ctd_value.specs.Truth.{as_test, compares, holds_by, truth}
+use Rattle.ctd_value.specs.Val.{number, val}
+use Rattle.ctd_value.specs.Truth.{compares, holds_by, truth}
+use Rattle.ctd_value.specs.inner.Truth.{as_test}
+use Rattle.ctd_value.specs.inner.Val.{value_or_undefined}
 use Rattle.ctd_findings.specs.declared.ranges.Bounds.{Bounds}
 use Rattle.ctd_findings.specs.calls.Decided.{IsOrUndefined, IsWithin, KeepsTo, holds_of_all, known_and, known_or, one_answer, only, opposite, range_truth, side_range}
 use Rattle.ctd_findings.specs.calls.Literal.{literal_number}

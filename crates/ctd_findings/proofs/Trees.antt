@@ -16,7 +16,7 @@ use Rattle.ctd_program.specs.calls.View.{action_tree, command_list, command_tree
 use Rattle.ctd_program.specs.inner.View.{boxed_separator}
 use Rattle.ctd_program.proofs.Trees.{boxed_element, list_commands, loop_tree, choice_tree}
 use Rattle.ctd_program.specs.Tree
-use Rattle.ctd_program.specs.Tree.{place_of}
+use Rattle.ctd_program.specs.calls.Places.{place_of}
 use Rattle.ctd_findings.specs.calls.Block.{commands_behind, commands_within, separator_command}
 use Rattle.ctd_findings.specs.calls.Names.{expr_names, index_names}
 

@@ -15,7 +15,8 @@ use Rattle.ctd_store.specs.Store.{History, value_at}
 use Rattle.ctd_value.specs.Fault.{ValueFault, ◌>>=◌}
 use Rattle.ctd_value.specs.Fault as faults
 use Rattle.ctd_value.specs.Arithmetic.{in_range}
-use Rattle.ctd_value.specs.Val.{arithmetic, val, vals, value_or_undefined}
+use Rattle.ctd_value.specs.Val.{arithmetic, val, vals}
+use Rattle.ctd_value.specs.inner.Val.{value_or_undefined}
 use Rattle.ctd_range.specs.calls.Ranges.{IsIn}
 use Rattle.ctd_range.specs.declared.range.Range.{Range}
 use Rattle.ctd_known.specs.declared.expression.Found.{Found}

@@ -15,8 +15,10 @@ use Rattle.ctd_store.specs.Store.{History, value_at}
 use Rattle.ctd_range.specs.declared.range.Range.{Range}
 use Rattle.ctd_range.specs.calls.Ranges.{IsIn}
 use Rattle.ctd_value.specs.Fault.{ValueFault}
-use Rattle.ctd_value.specs.Val.{val, value_or_undefined}
-use Rattle.ctd_value.specs.Truth.{as_test, compares, holds_by}
+use Rattle.ctd_value.specs.Val.{val}
+use Rattle.ctd_value.specs.inner.Val.{value_or_undefined}
+use Rattle.ctd_value.specs.Truth.{compares, holds_by}
+use Rattle.ctd_value.specs.inner.Truth.{as_test}
 use Rattle.ctd_known.specs.declared.expression.Found.{Found}
 use Rattle.ctd_known.specs.declared.faults.Faults.{Faults}
 use Rattle.ctd_known.specs.declared.facts.Lengths.{Lengths}

@@ -11,7 +11,8 @@ use Rattle.ctd_store.specs.Store.{Array, History, values_of}
 use Rattle.ctd_value.specs.Fault.{ValueFault, TruthFault, with_fault, ◌>>=◌}
 use Rattle.ctd_value.specs.Fault as faults
 use Rattle.ctd_value.specs.Val.{val}
-use Rattle.ctd_value.specs.Truth.{as_test, compares, is_among, is_end, is_one_of, uniqueness}
+use Rattle.ctd_value.specs.Truth.{compares, is_among, uniqueness}
+use Rattle.ctd_value.specs.inner.Truth.{as_test, is_end, is_one_of}
 use Rattle.ctd_known.specs.declared.expression.Found.{Found}
 use Rattle.ctd_known.specs.declared.faults.Faults.{Faults}
 use Rattle.ctd_known.specs.declared.facts.Known.{Known}

@@ -4,12 +4,11 @@ use Rattle.std.specs.Prelude.{IfErr}
 use Rattle.std.specs.Result.{IsErr, IsErrAnd}
 use Rattle.clap.specs.Words.{Row, Text, all_of, first_of}
 use Rattle.ctd_program.specs.declared.preset.Preset.{Preset}
-use Rattle.ctd_arguments.specs.Settings.{ArePresetsOf}
-use Rattle.ctd_arguments.specs.Usage.{IsBadPreset, IsGoodPreset}
+use Rattle.ctd_arguments.specs.Usage.{ArePresetsOf}
 use Rattle.ctd_lint.specs.declared.command_line.LintFault.{LintFault}
 use Rattle.ctd_lint.specs.declared.command_line.LintFault.TheVariants as faults
 use Rattle.ctd_lint.specs.inner.CommandLine.{IsTaken, found_in}
-use Rattle.ctd_lint.specs.inner.Usage.{IsLintFault, TellsUnknown, unknown_in}
+use Rattle.ctd_lint.specs.inner.Usage.{IsBadPreset, IsGoodPreset, IsLintFault, TellsUnknown, unknown_in}
 
 -- what holds of a fault holds of what `?` returns for it
 pub holds_on_return : {T : Type 0} (P : LintFault → Type 0) (f : LintFault) (q : Result T LintFault) → IsErr q × IsErrAnd q (λ e. e ≡ f) → P f → IfErr q P

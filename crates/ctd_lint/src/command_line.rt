@@ -2,13 +2,12 @@
 
 ghost use Rattle.std.specs.Prelude.{◌≡◌, ◌⊎◌, All, IfErr, IfOk, IsUtf8, List, MatchResult, None, Some, codes, map, option_map};
 ghost use Rattle.clap.specs.Words.{FailsBy, Text, all_of, app_of, fault_of, first_of, found_of, kind_of, matches_of, rows_of, rule_of};
-ghost use Rattle.ctd_arguments.specs.CommandLine.{define_rule};
 ghost use Rattle.ctd_arguments.specs.inner.RequiredProgram.{IsLocal};
-ghost use Rattle.ctd_arguments.specs.Settings.{ArePresetsOf};
-ghost use Rattle.ctd_arguments.specs.Usage.{IsBadPreset, is_on};
-ghost use Rattle.ctd_lint.specs.inner.CommandLine.{AreKindsOf, IsLintSetup, elements_rule, ignore_rule, linter, parts, programs_rule, verdicts_rule};
+ghost use Rattle.ctd_arguments.specs.Usage.{ArePresetsOf};
+ghost use Rattle.ctd_arguments.specs.inner.Usage.{is_on};
+ghost use Rattle.ctd_lint.specs.inner.CommandLine.{AreKindsOf, IsLintSetup, define_rule, elements_rule, ignore_rule, linter, parts, programs_rule, verdicts_rule};
 ghost use Rattle.ctd_lint.specs.inner.Kinds.{lint_kind_named};
-ghost use Rattle.ctd_lint.specs.inner.Usage.{IsFoundIn, IsLintFault, TellsUnknown, fault_by_kind, first_unknown, unknown_in};
+ghost use Rattle.ctd_lint.specs.inner.Usage.{IsBadPreset, IsFoundIn, IsLintFault, TellsUnknown, fault_by_kind, first_unknown, unknown_in};
 
 use crate::kind::LintKind;
 use crate::words::spelled_out;

@@ -1,29 +1,18 @@
 -- What loading a program gives.
 use Rattle.ctd_pattern.specs.declared.pattern.PatternFault.TheVariants as patterns
-use Rattle.std.specs.Prelude.{◌≡◌, ◌⊎◌, ◌+◌, ℕ, nat_le, if◌then◌else◌, List, ◌∷◌, ◌++◌, length, All, IsUtf8, Option, Some, None, Result, Ok, Err}
+use Rattle.std.specs.Prelude.{◌≡◌, ◌⊎◌, ◌<◌, ◌≤◌, ℕ, List, ◌∷◌, ◌++◌, length, All, IsUtf8, Some, None}
 use Rattle.ctd_source.specs.declared.source.Seen.{Seen}
-use Rattle.ctd_source.specs.declared.source.Seen.TheVariants.{Going, Ended, Broken}
+use Rattle.ctd_source.specs.declared.source.Seen.TheVariants.{Ended, Broken}
 use Rattle.ctd_token.specs.declared.limits.TheConstants.{PROGRAM_LIMIT}
 use Rattle.ctd_token.specs.declared.fault.LoadFault.{LoadFault}
-use Rattle.ctd_token.specs.declared.fault.LoadKind.{LoadKind}
 use Rattle.ctd_token.specs.declared.fault.LoadKind.TheVariants.{BadPattern, ProgramTooLong, Read}
 use Rattle.ctd_program.specs.declared.tree.PatternLiteral.{PatternLiteral}
 use Rattle.ctd_program.specs.Tree.{CommandList}
-use Rattle.ctd_syntax.specs.RegexNumbers.{literals}
-use Rattle.ctd_syntax.specs.Reading.{IsRefused, Parses}
+use Rattle.ctd_syntax.specs.RegexNumbers.{pattern_literals}
+use Rattle.ctd_syntax.specs.Reading.{IsRefused, Parses, lexemes}
 use Rattle.ctd_pattern.specs.declared.pattern.PatternFault.{PatternFault}
 use Rattle.ctd_pattern.specs.declared.pattern.PatternFault.TheVariants.{NotText, NotPattern, TooLarge}
 use Rattle.ctd_pattern.specs.Pattern.{IsPattern, IsNoPattern}
-
--- a reader that gave these bytes has them for its text once it ended; it has none where a read failed, and none yet while it goes on
-abbrev pub text_by : List ℕ → Seen → Option (Result (List ℕ) LoadKind)
-text_by bytes Ended = Some (Ok bytes)
-text_by bytes Broken = Some (Err Read)
-text_by bytes Going = None
-
--- the text of a reader that gave these bytes and of whose end this was seen; where one byte more than the limit came it is refused, whatever follows
-abbrev pub program_text : List ℕ → Seen → Option (Result (List ℕ) LoadKind)
-program_text bytes seen = if nat_le (PROGRAM_LIMIT + 1) (length bytes) then Some (Err ProgramTooLong) else text_by bytes seen
 
 -- the literals are patterns
 abbrev pub ArePatterns : List PatternLiteral → Type 0
@@ -52,32 +41,22 @@ pub record IsBadPattern (all : List PatternLiteral) (f : LoadFault) : Type 0 whe
 pub record HasBadPattern (program : List ℕ) (f : LoadFault) : Type 0 where
   pub tree : CommandList
   pub parses : Parses program tree
-  pub bad : IsBadPattern (literals tree) f
+  pub bad : IsBadPattern (pattern_literals (lexemes program parses.reads.tokens)) f
 
 -- all literals of the one program that a text spells are patterns
 abbrev pub IsReady : List ℕ → CommandList → Type 0
-IsReady program tree = Parses program tree × ArePatterns (literals tree)
+IsReady program tree = (parses : Parses program tree) × ArePatterns (pattern_literals (lexemes program parses.reads.tokens))
 
 -- a text that came whole is refused with this fault
 abbrev pub TextHasFault : List ℕ → LoadFault → Type 0
 TextHasFault program f = IsRefused program f.kind f.place ⊎ HasBadPattern program f
 
--- the faults with which what came of a text may be refused
-abbrev pub TextMayFail : Option (Result (List ℕ) LoadKind) → LoadFault → Type 0
-TextMayFail None f = ⊥
-TextMayFail (Some (Ok program)) f = TextHasFault program f
-TextMayFail (Some (Err kind)) f = (f.kind ≡ kind) × (f.place ≡ None)
+-- a reader that gave these bytes, and of whose end this was seen, may be refused with this fault: one byte more than the limit came, whatever follows; or a read failed; or its whole text has the fault
+pub data MayFail (bytes : List ℕ) (seen : Seen) (f : LoadFault) : Type 0 where
+  too_long : PROGRAM_LIMIT < length bytes → f.kind ≡ ProgramTooLong → f.place ≡ None → MayFail bytes seen f
+  unread : length bytes ≤ PROGRAM_LIMIT → seen ≡ Broken → f.kind ≡ Read → f.place ≡ None → MayFail bytes seen f
+  of_text : seen ≡ Ended → TextHasFault bytes f → MayFail bytes seen f
 
--- the program that what came of a text is read as
-abbrev pub IsLoaded : Option (Result (List ℕ) LoadKind) → CommandList → Type 0
-IsLoaded None tree = ⊥
-IsLoaded (Some (Ok program)) tree = IsReady program tree
-IsLoaded (Some (Err kind)) tree = ⊥
-
--- a reader that gave these bytes, and of whose end this was seen, may be refused with this fault
-abbrev pub MayFail : List ℕ → Seen → LoadFault → Type 0
-MayFail bytes seen f = TextMayFail (program_text bytes seen) f
-
--- the text of a reader that gave these bytes, and of whose end this was seen, is this program
+-- the whole text of a reader that gave these bytes, and of whose end this was seen, is this program
 abbrev pub Loads : List ℕ → Seen → CommandList → Type 0
-Loads bytes seen tree = IsLoaded (program_text bytes seen) tree
+Loads bytes seen tree = (seen ≡ Ended) × IsReady bytes tree

@@ -8,8 +8,8 @@ use Rattle.ctd_program.specs.declared.preset.PresetFault.TheVariants as presets
 use Rattle.ctd_token.specs.declared.fault.TokenFault.{TokenFault}
 use Rattle.ctd_token.specs.declared.fault.TokenFault.TheVariants.{Wrong, Memory}
 use Rattle.ctd_token.specs.declared.token.TokenKind.TheVariants as tokens
-use Rattle.ctd_token.specs.Cut.{name_len, wrong, token_at}
-use Rattle.ctd_token.specs.calls.Scanning.{Scans}
+use Rattle.ctd_token.specs.Cut.{name_len, token_at}
+use Rattle.ctd_token.specs.calls.Scanning.{wrong, Scans}
 use Rattle.ctd_program.specs.Presets.{IsToken, AreSeparated, IsPresetValue, IsTarget, alone, indexed}
 use Rattle.ctd_program.specs.calls.PresetFront.{fault_of}
 use Rattle.ctd_program.specs.inner.PresetFront.{MayFollowList, MayFollowTarget, IsAtFront, NothingIsAtFront, SpellsTarget, AreIndices, none, some}

@@ -9,16 +9,17 @@ use Rattle.ctd_program.specs.declared.preset.PresetFault.{PresetFault}
 use Rattle.ctd_program.specs.declared.preset.PresetFault.TheVariants.{BadPreset}
 use Rattle.ctd_token.specs.declared.token.TokenKind.{TokenKind}
 use Rattle.ctd_token.specs.declared.token.TokenKind.TheVariants as tokens
-use Rattle.ctd_token.specs.Cut.{TokenOrFault, is_digit, fraction_begins, token_at}
+use Rattle.std.specs.Char.{is_ascii_digit}
+use Rattle.ctd_token.specs.Cut.{TokenOrFault, fraction_begins, token_at}
 use Rattle.ctd_program.specs.Presets.{IsToken, IsPresetValue, number, negative, string}
 use Rattle.ctd_program.specs.inner.PresetFront.{IsFound, plain_literal, negative_literal, literal_at, MayFollowItem, IsAtFront, NothingIsAtFront}
 use Rattle.ctd_program.proofs.TokenFronts.{known_of, no_token, numeral_front, numeral_alone}
 use Rattle.ctd_program.proofs.LiteralFronts.{text_front, text_alone}
 
-no_digit : (rest : List ℕ) → MayFollowItem rest → (fraction_begins rest ≡ false) × (prefix_len is_digit rest ≡ 0)
+no_digit : (rest : List ℕ) → MayFollowItem rest → (fraction_begins rest ≡ false) × (prefix_len is_ascii_digit rest ≡ 0)
 no_digit [] end = (refl, refl)
-no_digit (b ∷ bs) (inl comma) = (ap (λ c. fraction_begins (c ∷ bs)) comma, ap (λ c. prefix_len is_digit (c ∷ bs)) comma)
-no_digit (b ∷ bs) (inr bracket) = (ap (λ c. fraction_begins (c ∷ bs)) bracket, ap (λ c. prefix_len is_digit (c ∷ bs)) bracket)
+no_digit (b ∷ bs) (inl comma) = (ap (λ c. fraction_begins (c ∷ bs)) comma, ap (λ c. prefix_len is_ascii_digit (c ∷ bs)) comma)
+no_digit (b ∷ bs) (inr bracket) = (ap (λ c. fraction_begins (c ∷ bs)) bracket, ap (λ c. prefix_len is_ascii_digit (c ∷ bs)) bracket)
 
 unsigned : (b : ℕ) (bs : List ℕ) → nat_eq b 45 ≡ false → literal_at (b ∷ bs) ≡ plain_literal (token_at (b ∷ bs))
 unsigned b bs is = ap (λ t. cond t (negative_literal (token_at bs)) (plain_literal (token_at (b ∷ bs)))) is

@@ -13,15 +13,18 @@ use Rattle.ctd_token.specs.declared.token.Mark.{Mark}
 use Rattle.ctd_token.specs.declared.token.TokenKind.{TokenKind}
 use Rattle.ctd_token.specs.declared.token.TokenKind.TheVariants as tokens
 use Rattle.ctd_token.specs.Literal.{WholeLiteral, literal}
-use Rattle.ctd_token.specs.Cut.{is_upper, is_lower, is_digit, Judgement, TokenOrFault, wrong, at_first_byte, is_left_out_word, word_at, name_len, decimal, has_leading_zero, fraction_begins, numeral_at, mark_or, mark_at, single_mark, double_mark, closed_text, text_at, token_at}
+use Rattle.std.specs.Char.{is_ascii_uppercase, is_ascii_lowercase, is_ascii_digit}
+use Rattle.ctd_token.specs.Cut.{Judgement, TokenOrFault, at_first_byte, is_left_out_word, word_at, name_len, decimal, has_leading_zero, fraction_begins, numeral_at, mark_at, single_mark, double_mark, text_at, token_at}
+use Rattle.ctd_token.specs.calls.Scanning.{wrong}
+use Rattle.ctd_token.specs.inner.Scanning.{mark_or, closed_text}
 use Rattle.ctd_program.specs.Presets.{IsToken}
 use Rattle.ctd_program.specs.inner.PresetFront.{negative_literal}
 use Rattle.ctd_token.proofs.TokenFaults.{token_some}
 
 -- what a name, a numeral or a string at the front of b ∷ bs is
 abbrev Known : ℕ → List ℕ → TokenOrFault → Type 0
-Known b bs (Ok (tokens.Name, n)) = (is_lower b ≡ true) × (n ≡ name_len (b ∷ bs))
-Known b bs (Ok (tokens.Numeral m, n)) = (is_digit b ≡ true) × (numeral_at (prefix_len is_digit (b ∷ bs)) (b ∷ bs) ≡ Ok (tokens.Numeral m, n))
+Known b bs (Ok (tokens.Name, n)) = (is_ascii_lowercase b ≡ true) × (n ≡ name_len (b ∷ bs))
+Known b bs (Ok (tokens.Numeral m, n)) = (is_ascii_digit b ≡ true) × (numeral_at (prefix_len is_ascii_digit (b ∷ bs)) (b ∷ bs) ≡ Ok (tokens.Numeral m, n))
 Known b bs (Ok (tokens.Text values, n)) = (b ≡ 34) × (text_at (literal 0 bs) ≡ Ok (tokens.Text values, n))
 Known b bs _ = Unit {0}
 
@@ -37,7 +40,7 @@ known_word b bs false n = tt
 abbrev judged : (wrong large : Bool) (m n : ℕ) → Judgement
 judged wrong large m n = cond wrong (Err NotInProfile) (cond large (Err NumberTooLarge) (Ok (tokens.Numeral (pos m), n)))
 
-known_numeral : (b : ℕ) (bs : List ℕ) (wrong large : Bool) (m n : ℕ) → is_digit b ≡ true → numeral_at (prefix_len is_digit (b ∷ bs)) (b ∷ bs) ≡ judged wrong large m n → Known b bs (at_first_byte (judged wrong large m n))
+known_numeral : (b : ℕ) (bs : List ℕ) (wrong large : Bool) (m n : ℕ) → is_ascii_digit b ≡ true → numeral_at (prefix_len is_ascii_digit (b ∷ bs)) (b ∷ bs) ≡ judged wrong large m n → Known b bs (at_first_byte (judged wrong large m n))
 known_numeral b bs true large m n digit is = tt
 known_numeral b bs false true m n digit is = tt
 known_numeral b bs false false m n digit is = (digit, is)
@@ -61,19 +64,19 @@ known_marks b bs (c ∷ cs) = known_mark b bs (double_mark b c) 2 (mark_or (sing
 known : (b : ℕ) (bs : List ℕ) → Known b bs (token_at (b ∷ bs))
 known b bs =
     let all : List ℕ = b ∷ bs in
-    let n : ℕ = prefix_len is_digit all in
+    let n : ℕ = prefix_len is_ascii_digit all in
     let name : TokenOrFault = Ok (tokens.Name, name_len all) in
-    let word : Judgement = word_at (prefix_len is_upper all) all in
+    let word : Judgement = word_at (prefix_len is_ascii_uppercase all) all in
     let numeral : Judgement = numeral_at n all in
     let text : TokenOrFault = text_at (literal 0 bs) in
     let mark : TokenOrFault = at_first_byte (mark_at b bs) in
     let by_quote : TokenOrFault = cond (nat_eq b 34) text mark in
-    let by_digit : TokenOrFault = cond (is_digit b) (at_first_byte numeral) by_quote in
-    let by_lower : TokenOrFault = cond (is_lower b) name by_digit in
+    let by_digit : TokenOrFault = cond (is_ascii_digit b) (at_first_byte numeral) by_quote in
+    let by_lower : TokenOrFault = cond (is_ascii_lowercase b) name by_digit in
     let from_quote : Known b bs by_quote = by_test (Known b bs) (nat_eq b 34) text mark (λ is. known_text b bs (literal 0 bs) (grind (arith, tests, is)) refl) (known_marks b bs bs) in
-    let from_digit : Known b bs by_digit = by_test (Known b bs) (is_digit b) (at_first_byte numeral) by_quote (λ is. known_numeral b bs (has_leading_zero (take n all) || fraction_begins (drop n all)) (nat_le (2 ^ 127) (decimal (take n all))) (decimal (take n all)) n is refl) from_quote in
-    let from_lower : Known b bs by_lower = by_test (Known b bs) (is_lower b) name by_digit (λ is. (is, refl)) from_digit in
-    by_test (Known b bs) (is_upper b) (at_first_byte word) by_lower (λ _. known_word b bs (is_left_out_word (take (prefix_len is_upper all) all)) (prefix_len is_upper all)) from_lower
+    let from_digit : Known b bs by_digit = by_test (Known b bs) (is_ascii_digit b) (at_first_byte numeral) by_quote (λ is. known_numeral b bs (has_leading_zero (take n all) || fraction_begins (drop n all)) (nat_le (2 ^ 127) (decimal (take n all))) (decimal (take n all)) n is refl) from_quote in
+    let from_lower : Known b bs by_lower = by_test (Known b bs) (is_ascii_lowercase b) name by_digit (λ is. (is, refl)) from_digit in
+    by_test (Known b bs) (is_ascii_uppercase b) (at_first_byte word) by_lower (λ _. known_word b bs (is_left_out_word (take (prefix_len is_ascii_uppercase all) all)) (prefix_len is_ascii_uppercase all)) from_lower
 
 pub known_of : (b : ℕ) (bs : List ℕ) (found : TokenOrFault) → token_at (b ∷ bs) ≡ found → Known b bs found
 known_of b bs found is = subst (Known b bs) is (known b bs)
@@ -100,7 +103,7 @@ pub numeral_value : (bytes : List ℕ) (m : ℤ) (len : ℕ) → token_at bytes 
 numeral_value [] m len is = absurd (let f : wrong BadByte 0 ≡ Ok (tokens.Numeral m, len) = is in cc)
 numeral_value (b ∷ bs) m len is =
     let all : List ℕ = b ∷ bs in
-    let n : ℕ = prefix_len is_digit all in
+    let n : ℕ = prefix_len is_ascii_digit all in
     let of = known_of b bs (Ok (tokens.Numeral m, len)) is in
     let small = small_numeral (has_leading_zero (take n all) || fraction_begins (drop n all)) (nat_le (2 ^ 127) (decimal (take n all))) (decimal (take n all)) n m len refl of.1 in
     (decimal (take n all), small.0, small.1)
@@ -131,26 +134,26 @@ run_alone p xs n is =
     let passes : (k : ℕ) → k < length (take n xs) → p (get_or (take n xs) k 0) ≡ true = λ k lt. ap p (get_or-take n xs k 0 (omega (arith, lt, long))) ∙ prefix_len_passes p xs k 0 (omega (arith, lt, long, is)) in
     (prefix_len_is p (take n xs) (length (take n xs)) 0 (omega arith) passes (λ lt. absurd (omega (arith, lt))), long)
 
-name_found : (b : ℕ) (bs : List ℕ) → is_lower b ≡ true → token_at (b ∷ bs) ≡ Ok (tokens.Name, name_len (b ∷ bs))
+name_found : (b : ℕ) (bs : List ℕ) → is_ascii_lowercase b ≡ true → token_at (b ∷ bs) ≡ Ok (tokens.Name, name_len (b ∷ bs))
 name_found b bs low =
     let all : List ℕ = b ∷ bs in
-    let up : is_upper b ≡ false = grind (arith, tests, low) in
+    let up : is_ascii_uppercase b ≡ false = grind (arith, tests, low) in
     let name : TokenOrFault = Ok (tokens.Name, name_len all) in
-    let word : TokenOrFault = at_first_byte (word_at (prefix_len is_upper all) all) in
-    let other : TokenOrFault = cond (is_digit b) (at_first_byte (numeral_at (prefix_len is_digit all) all)) (cond (nat_eq b 34) (text_at (literal 0 bs)) (at_first_byte (mark_at b bs))) in
-    ap (λ t. cond t word (cond (is_lower b) name other)) up ∙ ap (λ t. cond t name other) low
+    let word : TokenOrFault = at_first_byte (word_at (prefix_len is_ascii_uppercase all) all) in
+    let other : TokenOrFault = cond (is_ascii_digit b) (at_first_byte (numeral_at (prefix_len is_ascii_digit all) all)) (cond (nat_eq b 34) (text_at (literal 0 bs)) (at_first_byte (mark_at b bs))) in
+    ap (λ t. cond t word (cond (is_ascii_lowercase b) name other)) up ∙ ap (λ t. cond t name other) low
 
-numeral_found : (b : ℕ) (bs : List ℕ) → is_digit b ≡ true → token_at (b ∷ bs) ≡ at_first_byte (numeral_at (prefix_len is_digit (b ∷ bs)) (b ∷ bs))
+numeral_found : (b : ℕ) (bs : List ℕ) → is_ascii_digit b ≡ true → token_at (b ∷ bs) ≡ at_first_byte (numeral_at (prefix_len is_ascii_digit (b ∷ bs)) (b ∷ bs))
 numeral_found b bs digit =
     let all : List ℕ = b ∷ bs in
-    let up : is_upper b ≡ false = grind (arith, tests, digit) in
-    let low : is_lower b ≡ false = grind (arith, tests, digit) in
+    let up : is_ascii_uppercase b ≡ false = grind (arith, tests, digit) in
+    let low : is_ascii_lowercase b ≡ false = grind (arith, tests, digit) in
     let name : TokenOrFault = Ok (tokens.Name, name_len all) in
-    let word : TokenOrFault = at_first_byte (word_at (prefix_len is_upper all) all) in
-    let numeral : TokenOrFault = at_first_byte (numeral_at (prefix_len is_digit all) all) in
+    let word : TokenOrFault = at_first_byte (word_at (prefix_len is_ascii_uppercase all) all) in
+    let numeral : TokenOrFault = at_first_byte (numeral_at (prefix_len is_ascii_digit all) all) in
     let other : TokenOrFault = cond (nat_eq b 34) (text_at (literal 0 bs)) (at_first_byte (mark_at b bs)) in
-    ap (λ t. cond t word (cond (is_lower b) name (cond (is_digit b) numeral other))) up
-    ∙ ap (λ t. cond t name (cond (is_digit b) numeral other)) low
+    ap (λ t. cond t word (cond (is_ascii_lowercase b) name (cond (is_ascii_digit b) numeral other))) up
+    ∙ ap (λ t. cond t name (cond (is_ascii_digit b) numeral other)) low
     ∙ ap (λ t. cond t numeral other) digit
 
 pub no_token : (t : TokenKind) (n : ℕ) → token_at [] ≡ Ok (t, n) → ⊥
@@ -161,7 +164,7 @@ pub name_front : (text rest : List ℕ) → IsToken text tokens.Name → name_le
 name_front [] rest is none = absurd (no_token tokens.Name 0 is)
 name_front (b ∷ bs) rest is none =
     let of = known_of b bs (Ok (tokens.Name, length (b ∷ bs))) is in
-    name_found b (bs ++ rest) of.0 ∙ ap (λ n. Ok (tokens.Name, n)) (run_on (λ c. is_lower c || is_digit c) (b ∷ bs) rest (sym of.1) none)
+    name_found b (bs ++ rest) of.0 ∙ ap (λ n. Ok (tokens.Name, n)) (run_on (λ c. is_ascii_lowercase c || is_ascii_digit c) (b ∷ bs) rest (sym of.1) none)
 
 -- a name by itself
 pub name_alone : (bytes : List ℕ) (n : ℕ) → token_at bytes ≡ Ok (tokens.Name, n) → IsToken (take n bytes) tokens.Name
@@ -169,7 +172,7 @@ name_alone [] n is = absurd (no_token tokens.Name n is)
 name_alone (b ∷ bs) zero is = absurd (omega (arith, token_some (b ∷ bs) tokens.Name 0 is))
 name_alone (b ∷ bs) (suc n) is =
     let of = known_of b bs (Ok (tokens.Name, suc n)) is in
-    let run = run_alone (λ c. is_lower c || is_digit c) (b ∷ bs) (suc n) of.1 in
+    let run = run_alone (λ c. is_ascii_lowercase c || is_ascii_digit c) (b ∷ bs) (suc n) of.1 in
     name_found b (take n bs) of.0 ∙ ap (λ k. Ok (tokens.Name, k)) run.0
 
 -- a numeral of these digits and of what is behind it
@@ -182,20 +185,20 @@ numeral_whole text rest ends =
     ∙ ap (λ l. numeral_of (length text) text (fraction_begins l)) (drop-append_seam text rest)
     ∙ ap (numeral_of (length text) text) ends
 
-numeral_length : (b : ℕ) (bs : List ℕ) (m : ℤ) (n : ℕ) → numeral_at (prefix_len is_digit (b ∷ bs)) (b ∷ bs) ≡ Ok (tokens.Numeral m, n) → prefix_len is_digit (b ∷ bs) ≡ n
+numeral_length : (b : ℕ) (bs : List ℕ) (m : ℤ) (n : ℕ) → numeral_at (prefix_len is_ascii_digit (b ∷ bs)) (b ∷ bs) ≡ Ok (tokens.Numeral m, n) → prefix_len is_ascii_digit (b ∷ bs) ≡ n
 numeral_length b bs m len is =
     let all : List ℕ = b ∷ bs in
-    let n : ℕ = prefix_len is_digit all in
+    let n : ℕ = prefix_len is_ascii_digit all in
     (small_numeral (has_leading_zero (take n all) || fraction_begins (drop n all)) (nat_le (2 ^ 127) (decimal (take n all))) (decimal (take n all)) n m len refl is).2
 
 -- a numeral before what is no part of it
-pub numeral_front : (text rest : List ℕ) (m : ℤ) → IsToken text (tokens.Numeral m) → fraction_begins rest ≡ false → prefix_len is_digit rest ≡ 0 → token_at (text ++ rest) ≡ Ok (tokens.Numeral m, length text)
+pub numeral_front : (text rest : List ℕ) (m : ℤ) → IsToken text (tokens.Numeral m) → fraction_begins rest ≡ false → prefix_len is_ascii_digit rest ≡ 0 → token_at (text ++ rest) ≡ Ok (tokens.Numeral m, length text)
 numeral_front [] rest m is ends none = absurd (no_token (tokens.Numeral m) 0 is)
 numeral_front (b ∷ bs) rest m is ends none =
     let text : List ℕ = b ∷ bs in
     let of = known_of b bs (Ok (tokens.Numeral m, length text)) is in
-    let long : prefix_len is_digit text ≡ length text = numeral_length b bs m (length text) of.1 in
-    let longer : prefix_len is_digit (text ++ rest) ≡ length text = run_on is_digit text rest long none in
+    let long : prefix_len is_ascii_digit text ≡ length text = numeral_length b bs m (length text) of.1 in
+    let longer : prefix_len is_ascii_digit (text ++ rest) ≡ length text = run_on is_ascii_digit text rest long none in
     let alone : numeral_at (length text) text ≡ numeral_of (length text) text false = ap (numeral_at (length text)) (sym (append-nil text)) ∙ numeral_whole text [] refl in
     numeral_found b (bs ++ rest) of.0
     ∙ ap (λ n. at_first_byte (numeral_at n (text ++ rest))) longer
@@ -214,8 +217,8 @@ numeral_alone (b ∷ bs) (suc n) m is =
     let all : List ℕ = b ∷ bs in
     let text : List ℕ = b ∷ take n bs in
     let of = known_of b bs (Ok (tokens.Numeral m, suc n)) is in
-    let long : prefix_len is_digit all ≡ suc n = numeral_length b bs m (suc n) of.1 in
-    let run = run_alone is_digit all (suc n) (sym long) in
+    let long : prefix_len is_ascii_digit all ≡ suc n = numeral_length b bs m (suc n) of.1 in
+    let run = run_alone is_ascii_digit all (suc n) (sym long) in
     let found : numeral_of (suc n) text (fraction_begins (drop n bs)) ≡ Ok (tokens.Numeral m, suc n) = ap (λ k. numeral_at k all) (sym long) ∙ of.1 in
     let clean : numeral_of (suc n) text false ≡ Ok (tokens.Numeral m, suc n) = plain_digits (has_leading_zero text) (fraction_begins (drop n bs)) (nat_le (2 ^ 127) (decimal text)) (decimal text) (suc n) m (suc n) found in
     let alone : numeral_at (length text) text ≡ numeral_of (length text) text false = ap (numeral_at (length text)) (sym (append-nil text)) ∙ numeral_whole text [] refl in

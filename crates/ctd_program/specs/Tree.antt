@@ -1,5 +1,5 @@
 -- The trees of programs, apart from where they lie in memory.
-use Rattle.std.specs.Prelude.{ℕ, ℤ, List, ◌+◌, max, Option}
+use Rattle.std.specs.Prelude.{ℕ, ℤ, List, Option}
 use Rattle.ctd_token.specs.declared.text.Place.{Place}
 use Rattle.ctd_program.specs.declared.tree.Compare.{Compare}
 use Rattle.ctd_program.specs.declared.tree.PatternLiteral.{PatternLiteral}
@@ -71,43 +71,3 @@ mutual
   pub data CommandList : Type 0 where
     done : CommandList
     then : (c : CommandTree) (rest : CommandList) → CommandList
-
--- how many blocks are open at a command at most
-abbrev mutual
-  -- how many blocks are open at most inside a command
-  pub blocks : CommandTree → ℕ
-  blocks (space place) = 0
-  blocks (newline place) = 0
-  blocks (eof place) = 0
-  blocks (int place low high target) = 0
-  blocks (string place e) = 0
-  blocks (regex place literal target) = 0
-  blocks (assert place t) = 0
-  blocks (set place assignments) = 0
-  blocks (unset place names) = 0
-  blocks (loop place guard counter sep body) = 1 + max (separator_blocks sep) (list_blocks body)
-  blocks (choice place t a b) = 1 + max (list_blocks a) (list_blocks b)
-
-  -- how many blocks a separator opens inside one another
-  pub separator_blocks : Separator → ℕ
-  separator_blocks nothing = 0
-  separator_blocks (between c) = blocks c
-
-  -- the greatest of a list
-  pub list_blocks : CommandList → ℕ
-  list_blocks done = 0
-  list_blocks (then c rest) = max (blocks c) (list_blocks rest)
-
--- the place of a command's word
-abbrev pub place_of : CommandTree → Place
-place_of (space place) = place
-place_of (newline place) = place
-place_of (eof place) = place
-place_of (int place low high target) = place
-place_of (string place e) = place
-place_of (regex place literal target) = place
-place_of (assert place t) = place
-place_of (set place assignments) = place
-place_of (unset place names) = place
-place_of (loop place guard counter sep body) = place
-place_of (choice place t a b) = place

@@ -4,3 +4,5 @@ pub mod Writer
 pub mod Written
 -- what else the contracts of public calls say
 pub mod calls
+-- what only the proofs of this crate use
+pub mod inner

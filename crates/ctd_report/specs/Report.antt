@@ -24,67 +24,32 @@ on_out text status = record { out = text; err = []; status = status }
 abbrev pub on_err : List ℕ → Report
 on_err text = record { out = []; err = text; status = 2 }
 
--- the line of an outcome
-abbrev pub outcome_line : Outcome → List ℕ
-outcome_line Accepted = codes "testdata ok!\n"
-outcome_line (Rejected spot place reason) = spot_text spot ++ codes ": " ++ reason_text reason ++ codes " (" ++ site_text place ++ codes ")\n"
-outcome_line (Stopped spot place fault) =
-    codes "checktestdata: " ++ spot_text spot ++ codes ": " ++ fault_text fault ++ codes " (" ++ site_text place ++ codes ")\n"
-
--- a verdict goes to standard output, and a fault to standard error
-abbrev pub outcome_report : Outcome → Report
-outcome_report Accepted = on_out (outcome_line Accepted) 0
-outcome_report (Rejected spot place reason) = on_out (outcome_line (Rejected spot place reason)) 1
-outcome_report (Stopped spot place fault) = on_err (outcome_line (Stopped spot place fault))
-
--- nothing goes to standard output; the status stays
-abbrev pub quietly : Bool → Report → Report
-quietly quiet r = record { out = if quiet then [] else r.out; err = r.err; status = r.status }
-
--- the report of a check
+-- the report of a check: a verdict goes to standard output, unless the run is quiet, and a fault to standard error
 abbrev pub check_report : Bool → Outcome → Report
-check_report quiet outcome = quietly quiet (outcome_report outcome)
-
--- the line of a program that is not read
-abbrev pub load_line : LoadFault → List ℕ
-load_line fault = codes "checktestdata: " ++ load_fault_text fault ++ codes "\n"
+check_report quiet Accepted = on_out (if quiet then [] else codes "testdata ok!\n") 0
+check_report quiet (Rejected spot place reason) =
+    on_out (if quiet then [] else spot_text spot ++ codes ": " ++ reason_text reason ++ codes " (" ++ site_text place ++ codes ")\n") 1
+check_report quiet (Stopped spot place fault) =
+    on_err (codes "checktestdata: " ++ spot_text spot ++ codes ": " ++ fault_text fault ++ codes " (" ++ site_text place ++ codes ")\n")
 
 -- the report of a program that is not read
 abbrev pub load_report : LoadFault → Report
-load_report fault = on_err (load_line fault)
-
--- the line of a file that can't be opened
-abbrev pub open_line : List ℕ → List ℕ
-open_line name = codes "checktestdata: cannot open " ++ name ++ codes "\n"
+load_report fault = on_err (codes "checktestdata: " ++ load_fault_text fault ++ codes "\n")
 
 -- the report of a file that can't be opened
 abbrev pub open_report : List ℕ → Report
-open_report name = on_err (open_line name)
+open_report name = on_err (codes "checktestdata: cannot open " ++ name ++ codes "\n")
 
 -- the text of the help
 abbrev pub help_text : List ℕ
 help_text = codes "Usage: checktestdata [OPTION]... PROGRAM [TESTDATA]\nCheck TESTDATA (or standard input) against PROGRAM.\n  -g, --generate                     not supported\n  -D, --define=<name>=<value>[,...]  preset variables\n  -q, --quiet                        write nothing to standard output\n  -w, --whitespace-ok                accept changes of whitespace\n      --max-steps=N                  stop after N steps\n      --help                         show this text\n      --version                      show the version\n"
 
--- the text of the version
-abbrev pub version_text : List ℕ
-version_text = codes "checktestdata 1.0 (whole-number profile)\n"
-
--- what is written for words that give no settings
-abbrev pub usage_text : UsageFault → List ℕ
-usage_text usage.Words = codes "checktestdata: bad arguments\nTry 'checktestdata --help'.\n"
-usage_text usage.BadSteps = codes "checktestdata: bad step limit\n"
-usage_text usage.BadPreset = codes "checktestdata: bad preset\n"
-usage_text usage.Generate = codes "checktestdata: generating test data is not supported\n"
-usage_text usage.Help = help_text
-usage_text usage.Version = version_text
-usage_text usage.Memory = codes "checktestdata: out of memory\n"
-
 -- the report of words that give no settings: what was asked for goes to standard output, and a fault to standard error
 abbrev pub usage_report : UsageFault → Report
-usage_report usage.Words = on_err (usage_text usage.Words)
-usage_report usage.BadSteps = on_err (usage_text usage.BadSteps)
-usage_report usage.BadPreset = on_err (usage_text usage.BadPreset)
-usage_report usage.Generate = on_err (usage_text usage.Generate)
-usage_report usage.Help = on_out (usage_text usage.Help) 0
-usage_report usage.Version = on_out (usage_text usage.Version) 0
-usage_report usage.Memory = on_err (usage_text usage.Memory)
+usage_report usage.Words = on_err (codes "checktestdata: bad arguments\nTry 'checktestdata --help'.\n")
+usage_report usage.BadSteps = on_err (codes "checktestdata: bad step limit\n")
+usage_report usage.BadPreset = on_err (codes "checktestdata: bad preset\n")
+usage_report usage.Generate = on_err (codes "checktestdata: generating test data is not supported\n")
+usage_report usage.Help = on_out help_text 0
+usage_report usage.Version = on_out (codes "checktestdata 1.0 (whole-number profile)\n") 0
+usage_report usage.Memory = on_err (codes "checktestdata: out of memory\n")

@@ -1,9 +1,9 @@
 //! The line of a program that is not read, put together in an array, so that nothing is allocated.
 
-ghost use Rattle.std.specs.Prelude.{◌≡◌, ◌+◌, ◌≤◌, ◌++◌, length};
+ghost use Rattle.std.specs.Prelude.{◌≡◌, ◌+◌, ◌≤◌, ◌++◌, codes, length};
 ghost use Rattle.arrayvec.specs.ArrayVec.{array_vec_len};
-ghost use Rattle.ctd_token.specs.FaultText.{place_prefix};
-ghost use Rattle.ctd_report.specs.Report.{load_line};
+ghost use Rattle.ctd_token.specs.FaultText.{load_fault_text};
+ghost use Rattle.ctd_report.specs.inner.Report.{place_prefix};
 
 use arrayvec::ArrayVec;
 use ctd_token::{LoadFault, Place};
@@ -39,7 +39,7 @@ fn append_place(line: &mut ArrayVec<u8, ROOM>, place: Option<Place>)
 
 /// The line of a program that is not read.
 pub(crate) fn load_line_of(fault: &LoadFault) -> ArrayVec<u8, ROOM>
-    ensures { result.items ≡ load_line fault.now }
+    ensures { result.items ≡ codes "checktestdata: " ++ load_fault_text fault.now ++ codes "\n" }
 {
     let mut line = ArrayVec::new();
     append(&mut line, b"checktestdata: ");

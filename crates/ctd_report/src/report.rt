@@ -1,10 +1,11 @@
 //! What is written of a check, of a program that is not read and of the words, and the status.
 
-ghost use Rattle.std.specs.Prelude.{◌≡◌, ◌≢◌, false, string_bytes, true, IfOk};
+ghost use Rattle.std.specs.Prelude.{◌≡◌, ◌≢◌, ◌++◌, codes, false, string_bytes, true, IfOk};
 ghost use Rattle.ctd_token.specs.declared.fault.LoadKind.TheVariants.{Memory};
-ghost use Rattle.ctd_report.specs.Report.{check_report, load_report, on_err, on_out, open_line, open_report, outcome_line, usage_report, usage_text};
+ghost use Rattle.ctd_report.specs.Report.{check_report, load_report, on_err, on_out, open_report, usage_report};
 ghost use Rattle.ctd_report.specs.calls.Written.{Leaves};
 ghost use Rattle.ctd_report.specs.Written.{before_after};
+ghost use Rattle.ctd_report.specs.inner.Report.{outcome_line, usage_text};
 
 use crate::load_line::load_line_of;
 use crate::sink::Sink;
@@ -85,7 +86,7 @@ pub fn write_load_fault<O: Sink, E: Sink>(
 
 /// The line of a file that can't be opened.
 fn open_line_of(alloc: Global, name: &[u8]) -> Result<Vec<u8>, AllocError>
-    ensures { IfOk result (λ line. line.items ≡ open_line name.now) }
+    ensures { IfOk result (λ line. line.items ≡ codes "checktestdata: cannot open " ++ name.now ++ codes "\n") }
 {
     let mut line = b"checktestdata: cannot open ".to_vec(alloc)?;
     line.extend_from_slice(name)?;

@@ -52,13 +52,9 @@ pinned_key p = record { name = p.name; indices = map value_of p.indices }
 abbrev pub with_pin : Variables → Preset → Variables
 with_pin pins p = with_value (pinned_key p) (value_of p.value) pins
 
--- one preset after the other, so that the last of a key counts
-abbrev pub pins_of : List Preset → Variables
-pins_of presets = fold with_pin [] presets
-
--- the presets pinned, and nothing assigned
+-- the presets pinned, one after the other, so that the last of a key counts, and nothing assigned
 abbrev pub initial : List Preset → History
-initial presets = record { pins = pins_of presets; assigned = [] }
+initial presets = record { pins = fold with_pin [] presets; assigned = [] }
 
 -- whether a preset pins the key
 abbrev pub is_pinned : History → Key → Bool

@@ -2,7 +2,8 @@
 use Rattle.std.proofs.Common.{◌≡◌, ℕ, suc, ◌+◌, ◌≤◌, max, List, [], ◌∷◌, ◌++◌, length, sum, Option, Some, None, option_map, if◌then◌else◌, Bool, true, false, nat_lt, ltb-false, refl, sym, subst, append_assoc, append-nil, arith}
 use Rattle.std.proofs.Math.Nat.{max-zero, zero-max}
 use Rattle.ctd_syntax.specs.Lexeme.{Lexeme, mark, keyword}
-use Rattle.ctd_program.specs.Tree.{VarTree, CommandTree, CommandList, Separator, blocks, separator_blocks, list_blocks}
+use Rattle.ctd_program.specs.Tree.{VarTree, CommandTree, CommandList, Separator}
+use Rattle.ctd_program.specs.calls.Blocks.{blocks, separator_blocks, list_blocks}
 use Rattle.ctd_syntax.specs.Grammar
 use Rattle.ctd_syntax.specs.Grammar.{IsTargetEnd, IsCommand, IsRepeated, IsBranches, IsCommands}
 use Rattle.ctd_syntax.specs.Nesting.{change_of, word_change, step, start, weight}

@@ -19,3 +19,5 @@ pub mod Parsing
 pub mod TokensRead
 pub mod BatchesRead
 pub mod TestGroups
+pub mod Words
+pub mod RegexLiterals

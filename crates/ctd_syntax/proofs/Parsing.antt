@@ -8,11 +8,10 @@ use Rattle.ctd_syntax.specs.Grammar.{IsCommands}
 use Rattle.ctd_syntax.specs.inner.CommandWords.{CommandsEnd}
 use Rattle.ctd_syntax.specs.Nesting.{start}
 use Rattle.ctd_syntax.specs.inner.Nesting.{too_deep}
-use Rattle.ctd_syntax.specs.Reading.{IsCut, Parses, Spells, lexemes}
+use Rattle.ctd_syntax.specs.Reading.{IsCut, Parses, lexemes}
 use Rattle.ctd_syntax.specs.inner.Batches.{SpellsOnly}
 use Rattle.ctd_token.specs.declared.token.Token.{Token}
 use Rattle.ctd_token.proofs.UniqueTokens.{same_cut}
-use Rattle.ctd_syntax.proofs.Blocks.{blocks_within}
 use Rattle.ctd_syntax.proofs.Weights.{never_heavy}
 
 -- the commands that end with the tokens are the only ones there
@@ -26,19 +25,18 @@ spelled_only ts tree after f none = record {
 pub parsed : (program : List ℕ) (ts : List Token) (tree : CommandList) → IsCut program ts → too_deep start (lexemes program ts) ≡ None → SpellsOnly (lexemes program ts) tree → Parses program tree
 parsed program ts tree cut shallow s = record {
   reads = record { tokens = ts; is_cut = cut; shallow = never_heavy (lexemes program ts) shallow; spells = s.spells };
-  only = λ other r. s.only other (subst (λ l. Spells program l other) (same_cut program 0 program r.tokens ts r.is_cut.cut cut.cut) r.spells);
-  blocks = blocks_within (lexemes program ts) tree s.spells shallow;
+  only = λ other r. s.only other (subst (λ l. IsCommands (lexemes program l) other) (same_cut program 0 program r.tokens ts r.is_cut.cut cut.cut) r.spells);
 }
 
 -- where something is left, there is none
-pub left_over : (program : List ℕ) (ts : List Token) (tree : CommandList) (t : Lexeme) (after rest : List Lexeme) → HasTree IsCommands CommandsEnd (lexemes program ts) tree after → after ≡ t ∷ rest → (other : CommandList) → ¬ (Spells program ts other)
+pub left_over : (program : List ℕ) (ts : List Token) (tree : CommandList) (t : Lexeme) (after rest : List Lexeme) → HasTree IsCommands CommandsEnd (lexemes program ts) tree after → after ≡ t ∷ rest → (other : CommandList) → ¬ (IsCommands (lexemes program ts) other)
 left_over program ts tree t after rest f some other w =
     let ended : [] ≡ after = (f.only (lexemes program ts) [] other (sym (append-nil (lexemes program ts))) refl w).1 in
     let clash : [] ≡ t ∷ rest = ended ∙ some in
     cc
 
 -- and where no commands are read
-pub unspelled : (program : List ℕ) (ts : List Token) → HasNoTree IsCommands CommandsEnd (lexemes program ts) → (other : CommandList) → ¬ (Spells program ts other)
+pub unspelled : (program : List ℕ) (ts : List Token) → HasNoTree IsCommands CommandsEnd (lexemes program ts) → (other : CommandList) → ¬ (IsCommands (lexemes program ts) other)
 unspelled program ts not other w = not (lexemes program ts) [] other (sym (append-nil (lexemes program ts))) refl w
 
 -- what holds of the tokens of a text holds of all that it is cut into

@@ -1,12 +1,16 @@
 -- The weights of the prefixes of some tokens, told by one walk over them.
-use Rattle.std.proofs.Common.{◌≡◌, ℕ, zero, suc, ◌+◌, ◌<◌, ◌≤◌, List, [], ◌∷◌, length, Option, Some, None, option_map, if◌then◌else◌, Bool, true, false, nat_lt, ltb-false, refl, sym, subst, arith}
+use Rattle.std.proofs.Common.{◌≡◌, ℕ, zero, suc, ◌+◌, ◌<◌, ◌≤◌, List, [], ◌∷◌, length, Option, Some, None, option_map, if◌then◌else◌, Bool, true, false, nat_lt, ltb-false, refl, subst, arith}
 use Rattle.std.proofs.lemmas.Bool.{ltb-true}
 use Rattle.std.specs.Prelude.{take, fold}
 use Rattle.ctd_syntax.specs.Lexeme.{Lexeme}
 use Rattle.ctd_syntax.specs.Nesting.{change_of, step, start, weight, IsShallow, PassesLimitAt}
 use Rattle.ctd_syntax.specs.inner.Nesting.{too_deep}
+use Rattle.ctd_syntax.specs.Grammar.{IsCommands}
+use Rattle.ctd_syntax.specs.Reading.{Parses, lexemes}
+use Rattle.ctd_program.specs.Tree.{CommandList}
+use Rattle.ctd_program.specs.calls.Blocks.{list_blocks}
 use Rattle.ctd_token.specs.declared.limits.TheConstants.{NESTING_LIMIT}
-use Rattle.ctd_syntax.proofs.Blocks.{next}
+use Rattle.ctd_syntax.proofs.Blocks.{blocks_within, next}
 
 -- the weight behind some tokens, of which the first stands behind these counters
 abbrev weight_from : ℕ × List ℕ → List Lexeme → ℕ
@@ -65,3 +69,14 @@ heavy_from counters (t ∷ ts) before light e =
 -- the token that is found too deep is the first behind which the weight passes the limit
 pub first_heavy : (ts : List Lexeme) (before : ℕ) → too_deep start ts ≡ Some before → PassesLimitAt ts before
 first_heavy ts before e = let h = heavy_from start ts before (omega arith) e in record { within = h.within; light = h.light; heavy = h.heavy }
+
+-- tokens that do not nest too deep spell commands with few blocks in one another
+blocks_of_shallow : (ts : List Lexeme) (tree : CommandList) (found : Option ℕ) → IsShallow ts → IsCommands ts tree → too_deep start ts ≡ found → list_blocks tree ≤ NESTING_LIMIT
+blocks_of_shallow ts tree None shallow spells is = blocks_within ts tree spells is
+blocks_of_shallow ts tree (Some n) shallow spells is = let h = first_heavy ts n is in omega (arith, h.heavy, shallow (1 + n))
+
+-- at most NESTING_LIMIT blocks are open at any command of a program that a text spells
+pub few_blocks : (program : List ℕ) (tree : CommandList) → Parses program tree → list_blocks tree ≤ NESTING_LIMIT
+few_blocks program tree p =
+    let ts = lexemes program p.reads.tokens in
+    blocks_of_shallow ts tree (too_deep start ts) p.reads.shallow p.reads.spells refl

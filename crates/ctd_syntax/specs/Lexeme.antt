@@ -1,5 +1,6 @@
 -- Tokens as the grammar sees them; words and strings keep their places.
-use Rattle.std.specs.Prelude.{ℕ, ℤ, List, Option, None, Some, take, drop, ◌-◌, codes, unwrap_or, if◌then◌else◌}
+use Rattle.std.specs.Prelude.{ℕ, ℤ, List, [], ◌∷◌, take, drop, ◌-◌, codes, find}
+use Rattle.std.specs.Option.{option_map_or}
 use Rattle.std.specs.Str.{bytes_eq}
 use Rattle.ctd_token.specs.declared.text.Place.{Place}
 use Rattle.ctd_token.specs.declared.token.Mark.{Mark}
@@ -17,45 +18,18 @@ pub data Lexeme : Type 0 where
   text : (bytes : List ℕ) (place : Place) → Lexeme
   mark : (m : Mark) → Lexeme
 
--- a word with which a command without a block begins
-abbrev pub plain_word : List ℕ → Option Keyword
-plain_word w =
-    if bytes_eq w (codes "SPACE") then Some words.Space
-    else if bytes_eq w (codes "NEWLINE") then Some words.Newline
-    else if bytes_eq w (codes "EOF") then Some words.Eof
-    else if bytes_eq w (codes "INT") then Some words.Int
-    else if bytes_eq w (codes "STRING") then Some words.String
-    else if bytes_eq w (codes "REGEX") then Some (words.Regex 0)
-    else if bytes_eq w (codes "ASSERT") then Some words.Assert
-    else if bytes_eq w (codes "SET") then Some words.Set
-    else if bytes_eq w (codes "UNSET") then Some words.Unset
-    else None
-
--- a word with which a block begins or ends
-abbrev pub block_word : List ℕ → Option Keyword
-block_word w =
-    if bytes_eq w (codes "REP") then Some words.Rep
-    else if bytes_eq w (codes "REPI") then Some words.RepI
-    else if bytes_eq w (codes "WHILE") then Some words.While
-    else if bytes_eq w (codes "WHILEI") then Some words.WhileI
-    else if bytes_eq w (codes "IF") then Some words.If
-    else if bytes_eq w (codes "ELSE") then Some words.Else
-    else if bytes_eq w (codes "END") then Some words.End
-    else None
-
--- a word of tests and expressions
-abbrev pub test_word : List ℕ → Option Keyword
-test_word w =
-    if bytes_eq w (codes "STRLEN") then Some words.Strlen
-    else if bytes_eq w (codes "MATCH") then Some words.Match
-    else if bytes_eq w (codes "ISEOF") then Some words.IsEof
-    else if bytes_eq w (codes "UNIQUE") then Some words.Unique
-    else if bytes_eq w (codes "INARRAY") then Some words.InArray
-    else None
+-- the words that the grammar knows, REGEX with the number 0
+abbrev pub keywords : List (List ℕ × Keyword)
+keywords =
+    (codes "SPACE", words.Space) ∷ (codes "NEWLINE", words.Newline) ∷ (codes "EOF", words.Eof) ∷ (codes "INT", words.Int) ∷
+    (codes "STRING", words.String) ∷ (codes "REGEX", words.Regex 0) ∷ (codes "ASSERT", words.Assert) ∷ (codes "SET", words.Set) ∷
+    (codes "UNSET", words.Unset) ∷ (codes "REP", words.Rep) ∷ (codes "REPI", words.RepI) ∷ (codes "WHILE", words.While) ∷
+    (codes "WHILEI", words.WhileI) ∷ (codes "IF", words.If) ∷ (codes "ELSE", words.Else) ∷ (codes "END", words.End) ∷ (codes "STRLEN", words.Strlen) ∷
+    (codes "MATCH", words.Match) ∷ (codes "ISEOF", words.IsEof) ∷ (codes "UNIQUE", words.Unique) ∷ (codes "INARRAY", words.InArray) ∷ []
 
 -- the word that some bytes spell
 abbrev pub keyword_of : List ℕ → Keyword
-keyword_of w = unwrap_or (plain_word w) (unwrap_or (block_word w) (unwrap_or (test_word w) words.Unknown))
+keyword_of w = option_map_or (λ (entry : List ℕ × Keyword). entry.1) (find (λ entry. bytes_eq w entry.0) keywords) words.Unknown
 
 -- the bytes of a token's span
 abbrev pub span_of : List ℕ → Token → List ℕ

@@ -19,7 +19,7 @@ mark_change Comma = Restarts
 mark_change Assign = Keeps
 mark_change _ = Grows
 
--- loops and IF open, ELSE restarts, END closes
+-- loops and IF open, ELSE restarts, END closes, and no other word changes anything
 abbrev pub word_change : Keyword → CounterChange
 word_change words.Rep = Opens
 word_change words.RepI = Opens
@@ -28,21 +28,7 @@ word_change words.WhileI = Opens
 word_change words.If = Opens
 word_change words.Else = Restarts
 word_change words.End = Closes
-word_change words.Space = Keeps
-word_change words.Newline = Keeps
-word_change words.Eof = Keeps
-word_change words.Int = Keeps
-word_change words.String = Keeps
-word_change (words.Regex number) = Keeps
-word_change words.Assert = Keeps
-word_change words.Set = Keeps
-word_change words.Unset = Keeps
-word_change words.Strlen = Keeps
-word_change words.Match = Keeps
-word_change words.IsEof = Keeps
-word_change words.Unique = Keeps
-word_change words.InArray = Keeps
-word_change words.Unknown = Keeps
+word_change _ = Keeps
 
 -- names, numbers and strings change nothing
 abbrev pub change_of : Lexeme → CounterChange

@@ -3,14 +3,14 @@ use Rattle.std.specs.Prelude.{◌≡◌, ◌+◌, ◌<◌, ◌≤◌, ℕ, List,
 use Rattle.ctd_token.specs.declared.text.Place.{Place}
 use Rattle.ctd_token.specs.declared.token.Token.{Token}
 use Rattle.ctd_token.specs.declared.fault.LoadKind.{LoadKind}
-use Rattle.ctd_token.specs.declared.fault.LoadKind.TheVariants.{ProgramTooLong, BadByte, UnfinishedString, BadOctal, NumberTooLarge, NotInProfile, TooDeep, Syntax, BadPattern, Read, Memory}
-use Rattle.ctd_token.specs.declared.limits.TheConstants.{NESTING_LIMIT, PROGRAM_LIMIT}
+use Rattle.ctd_token.specs.declared.fault.LoadKind.TheVariants.{ProgramTooLong, TooDeep, Syntax}
+use Rattle.ctd_token.specs.declared.limits.TheConstants.{PROGRAM_LIMIT}
 use Rattle.ctd_token.specs.Lexing.{HasFault}
 use Rattle.ctd_syntax.specs.Lexeme.{Lexeme, lexeme_of, with_number, regex_count}
 use Rattle.ctd_token.specs.Cut.{Cuts}
 use Rattle.ctd_syntax.specs.Nesting.{IsShallow, PassesLimitAt}
 use Rattle.ctd_syntax.specs.Grammar.{IsCommands}
-use Rattle.ctd_program.specs.Tree.{CommandList, list_blocks}
+use Rattle.ctd_program.specs.Tree.{CommandList}
 
 -- the tokens of a program as the grammar sees them, where so many words REGEX stand before
 abbrev pub lexemes_from : List ℕ → ℕ → List Token → List Lexeme
@@ -20,10 +20,6 @@ lexemes_from program n (t ∷ ts) = with_number n (lexeme_of program t) ∷ lexe
 -- all tokens of a program
 abbrev pub lexemes : List ℕ → List Token → List Lexeme
 lexemes program ts = lexemes_from program 0 ts
-
--- the tokens spell this program
-abbrev pub Spells : List ℕ → List Token → CommandList → Type 0
-Spells program ts tree = IsCommands (lexemes program ts) tree
 
 -- the text is not too long, and is cut into these tokens
 pub record IsCut (program : List ℕ) (ts : List Token) : Type 0 where
@@ -35,13 +31,12 @@ pub record Reads (program : List ℕ) (tree : CommandList) : Type 0 where
   pub tokens : List Token
   pub is_cut : IsCut program tokens
   pub shallow : IsShallow (lexemes program tokens)
-  pub spells : Spells program tokens tree
+  pub spells : IsCommands (lexemes program tokens) tree
 
--- the one program that a text spells; at most 200 blocks are open at any of its commands
+-- the one program that a text spells
 pub record Parses (program : List ℕ) (tree : CommandList) : Type 0 where
   pub reads : Reads program tree
   pub only : (other : CommandList) → Reads program other → other ≡ tree
-  pub blocks : list_blocks tree ≤ NESTING_LIMIT
 
 -- the first prefix of the tokens whose weight passes the limit ends with a token that has this place
 pub record IsTooDeep (program : List ℕ) (place : Option Place) : Type 0 where
@@ -56,20 +51,13 @@ pub record IsNoProgram (program : List ℕ) (place : Option Place) : Type 0 wher
   pub tokens : List Token
   pub is_cut : IsCut program tokens
   pub shallow : IsShallow (lexemes program tokens)
-  pub none : (tree : CommandList) → ¬ (Spells program tokens tree)
+  pub none : (tree : CommandList) → ¬ (IsCommands (lexemes program tokens) tree)
   pub some_place : Place
   pub place_is : place ≡ Some some_place
 
--- a text is refused with this fault before its patterns are asked; running out of memory is no fault of a text
+-- a text is refused with this fault before its patterns are asked; all kinds but these three are faults of a token, or hold of no text
 abbrev pub IsRefused : List ℕ → LoadKind → Option Place → Type 0
 IsRefused program ProgramTooLong place = (PROGRAM_LIMIT < length program) × (place ≡ None)
-IsRefused program BadByte place = HasFault program BadByte place
-IsRefused program UnfinishedString place = HasFault program UnfinishedString place
-IsRefused program BadOctal place = HasFault program BadOctal place
-IsRefused program NumberTooLarge place = HasFault program NumberTooLarge place
-IsRefused program NotInProfile place = HasFault program NotInProfile place
 IsRefused program TooDeep place = IsTooDeep program place
 IsRefused program Syntax place = IsNoProgram program place
-IsRefused program BadPattern place = ⊥
-IsRefused program Read place = ⊥
-IsRefused program Memory place = ⊥
+IsRefused program kind place = HasFault program kind place

@@ -5,3 +5,4 @@ pub mod Levels
 pub mod TestGrammar
 pub mod CommandWords
 pub mod Batches
+pub mod Words

@@ -1,7 +1,7 @@
 //! The words of the language.
 
 ghost use Rattle.std.specs.Prelude.{◌≡◌};
-ghost use Rattle.ctd_syntax.specs.Lexeme.{block_word, plain_word, test_word};
+ghost use Rattle.ctd_syntax.specs.inner.Words.{block_word, plain_word, test_word};
 
 /// A word that the grammar knows, or any other.
 #[derive(Clone, Copy, PartialEq, Eq)]
@@ -84,6 +84,7 @@ impl Keyword {
     ghost use Rattle.ctd_syntax.specs.Lexeme.{keyword_of};
 
     /// The word that some bytes spell.
+    #[tactic(auto, using(crate::proofs::Words::is_plain, crate::proofs::Words::is_block, crate::proofs::Words::is_other))]
     pub(crate) fn from_word(word: &[u8]) -> Keyword
         ensures { result ≡ keyword_of word.now }
     {

@@ -6,8 +6,8 @@ use Rattle.ctd_token.specs.declared.fault.LoadKind.{LoadKind}
 use Rattle.ctd_token.specs.declared.fault.LoadFault.{LoadFault}
 use Rattle.ctd_token.specs.declared.fault.TokenFault.{TokenFault}
 use Rattle.ctd_token.specs.declared.fault.TokenFault.TheVariants.{Wrong, Memory}
-use Rattle.ctd_token.specs.Cut.{skip_gap, token_at, wrong, next_token, place_at, Cuts, none, token, Faults, here, later}
-use Rattle.ctd_token.specs.calls.Scanning.{Scans}
+use Rattle.ctd_token.specs.Cut.{skip_gap, token_at, next_token, place_at, Cuts, none, token, Faults, here, later}
+use Rattle.ctd_token.specs.calls.Scanning.{wrong, Scans}
 use Rattle.ctd_token.specs.inner.Scanning.{IsFaultAt}
 use Rattle.ctd_token.specs.calls.Lexing.{Uncut, left, IsEnd, IsNext, HasNextFault, IsNextFault}
 

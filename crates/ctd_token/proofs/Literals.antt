@@ -7,9 +7,11 @@ use Rattle.std.proofs.lemmas.List.Sums.{prefix_len-le-length}
 use Rattle.std.proofs.lemmas.Bool.{le-ltb, lt-ltb}
 use Rattle.ctd_token.specs.declared.fault.LoadKind.TheVariants.{UnfinishedString, BadOctal}
 use Rattle.ctd_token.specs.declared.token.TokenKind.TheVariants as tokens
-use Rattle.ctd_token.specs.Literal.{LiteralPart, literal_part, after_backslash, part_at, WholeLiteral, closing_quote, one_later, with_part, literal}
-use Rattle.ctd_token.specs.inner.Literal.{is_plain}
-use Rattle.ctd_token.specs.Cut.{TokenOrFault, wrong, closed_text, text_at}
+use Rattle.ctd_token.specs.Literal.{LiteralPart, literal_part, after_backslash, part_at, WholeLiteral, one_later, with_part, literal}
+use Rattle.ctd_token.specs.inner.Literal.{closing_quote, is_plain}
+use Rattle.ctd_token.specs.Cut.{TokenOrFault, text_at}
+use Rattle.ctd_token.specs.calls.Scanning.{wrong}
+use Rattle.ctd_token.specs.inner.Scanning.{closed_text}
 
 -- a literal with n bytes in front, which stand for these values and have this octal escape above 255
 abbrev pub joined : List ℕ → Option ℕ → ℕ → WholeLiteral → WholeLiteral

@@ -11,7 +11,9 @@ use Rattle.ctd_token.specs.declared.token.TokenKind.{TokenKind}
 use Rattle.ctd_token.specs.declared.token.TokenKind.TheVariants as tokens
 use Rattle.ctd_token.specs.declared.token.Mark.{Mark}
 use Rattle.ctd_token.specs.Literal.{WholeLiteral, literal}
-use Rattle.ctd_token.specs.Cut.{TokenOrFault, at_first_byte, is_upper, is_lower, is_digit, is_left_out_word, word_at, name_len, decimal, has_leading_zero, fraction_begins, numeral_at, single_mark, double_mark, mark_or, mark_at, closed_text, text_at, token_at}
+use Rattle.std.specs.Char.{is_ascii_uppercase, is_ascii_lowercase, is_ascii_digit}
+use Rattle.ctd_token.specs.Cut.{TokenOrFault, at_first_byte, is_left_out_word, word_at, name_len, decimal, has_leading_zero, fraction_begins, numeral_at, single_mark, double_mark, mark_at, text_at, token_at}
+use Rattle.ctd_token.specs.inner.Scanning.{mark_or, closed_text}
 use Rattle.ctd_token.specs.calls.Form.{Form, word, name, numeral, text, mark, form_of, mark_of, IsLiteral, IsRow, HasForm, IsLongestPrefix}
 use Rattle.ctd_token.proofs.LiteralEnds.{closes_within, literal-append, literal-take}
 
@@ -64,28 +66,28 @@ module _ (b : ℕ) (bs : List ℕ) where
     longest = λ m longer within has_it. row_ends p (b ∷ bs) m longer within (is_row (take m (b ∷ bs)) has_it);
   }
 
-  name_begins : is_lower b ≡ true → is_lower b || is_digit b ≡ true
-  name_begins lower = ap (λ t. t || is_digit b) lower
+  name_begins : is_ascii_lowercase b ≡ true → is_ascii_lowercase b || is_ascii_digit b ≡ true
+  name_begins lower = ap (λ t. t || is_ascii_digit b) lower
 
-  name_longest : is_lower b ≡ true → IsLongestPrefix name (name_len (b ∷ bs)) (b ∷ bs)
+  name_longest : is_ascii_lowercase b ≡ true → IsLongestPrefix name (name_len (b ∷ bs)) (b ∷ bs)
   name_longest lower =
-      let some = row_begins (λ c. is_lower c || is_digit c) b bs (name_begins lower) in
-      row_longest (λ c. is_lower c || is_digit c) name (name_begins lower)
-      (λ row. (ap is_lower (get_or-take (name_len (b ∷ bs)) (b ∷ bs) 0 0 some) ∙ lower, row))
+      let some = row_begins (λ c. is_ascii_lowercase c || is_ascii_digit c) b bs (name_begins lower) in
+      row_longest (λ c. is_ascii_lowercase c || is_ascii_digit c) name (name_begins lower)
+      (λ row. (ap is_ascii_lowercase (get_or-take (name_len (b ∷ bs)) (b ∷ bs) 0 0 some) ∙ lower, row))
       (λ _ has. has.1)
 
-  word_found : (k : TokenKind) (n : ℕ) → is_upper b ≡ true → (left_out : Bool)
-      → at_first_byte (cond left_out (Err NotInProfile) (Ok (tokens.Word, prefix_len is_upper (b ∷ bs)))) ≡ a_token k n → IsLongestPrefix (form_of k) n (b ∷ bs)
+  word_found : (k : TokenKind) (n : ℕ) → is_ascii_uppercase b ≡ true → (left_out : Bool)
+      → at_first_byte (cond left_out (Err NotInProfile) (Ok (tokens.Word, prefix_len is_ascii_uppercase (b ∷ bs)))) ≡ a_token k n → IsLongestPrefix (form_of k) n (b ∷ bs)
   word_found k n upper true e = absurd (let never : ⊥ = cc in never)
-  word_found k n upper false e = is_found tokens.Word k (prefix_len is_upper (b ∷ bs)) n (b ∷ bs) e (row_longest is_upper word upper (λ row. row) (λ _ row. row))
+  word_found k n upper false e = is_found tokens.Word k (prefix_len is_ascii_uppercase (b ∷ bs)) n (b ∷ bs) e (row_longest is_ascii_uppercase word upper (λ row. row) (λ _ row. row))
 
-  in_range : (k : TokenKind) (n : ℕ) (z : ℕ) → is_digit b ≡ true → (large : Bool)
-      → at_first_byte (cond large (Err NumberTooLarge) (Ok (tokens.Numeral (pos z), prefix_len is_digit (b ∷ bs)))) ≡ a_token k n → IsLongestPrefix (form_of k) n (b ∷ bs)
+  in_range : (k : TokenKind) (n : ℕ) (z : ℕ) → is_ascii_digit b ≡ true → (large : Bool)
+      → at_first_byte (cond large (Err NumberTooLarge) (Ok (tokens.Numeral (pos z), prefix_len is_ascii_digit (b ∷ bs)))) ≡ a_token k n → IsLongestPrefix (form_of k) n (b ∷ bs)
   in_range k n z digit true e = absurd (let never : ⊥ = cc in never)
-  in_range k n z digit false e = is_found (tokens.Numeral (pos z)) k (prefix_len is_digit (b ∷ bs)) n (b ∷ bs) e (row_longest is_digit numeral digit (λ row. row) (λ _ row. row))
+  in_range k n z digit false e = is_found (tokens.Numeral (pos z)) k (prefix_len is_ascii_digit (b ∷ bs)) n (b ∷ bs) e (row_longest is_ascii_digit numeral digit (λ row. row) (λ _ row. row))
 
-  numeral_found : (k : TokenKind) (n : ℕ) (z : ℕ) → is_digit b ≡ true → (left_out large : Bool)
-      → at_first_byte (cond left_out (Err NotInProfile) (cond large (Err NumberTooLarge) (Ok (tokens.Numeral (pos z), prefix_len is_digit (b ∷ bs))))) ≡ a_token k n → IsLongestPrefix (form_of k) n (b ∷ bs)
+  numeral_found : (k : TokenKind) (n : ℕ) (z : ℕ) → is_ascii_digit b ≡ true → (left_out large : Bool)
+      → at_first_byte (cond left_out (Err NotInProfile) (cond large (Err NumberTooLarge) (Ok (tokens.Numeral (pos z), prefix_len is_ascii_digit (b ∷ bs))))) ≡ a_token k n → IsLongestPrefix (form_of k) n (b ∷ bs)
   numeral_found k n z digit true large e = absurd (let never : ⊥ = cc in never)
   numeral_found k n z digit false large e = in_range k n z digit large e
 
@@ -194,27 +196,27 @@ quote_or_mark b bs k n true is e =
     subst (λ c. IsLongestPrefix (form_of k) n (c ∷ bs)) (sym same) (text_found bs k n (literal 0 bs) refl e)
 quote_or_mark b bs k n false is e = mark_found b bs k n e
 
-digit_or_more : (b : ℕ) (bs : List ℕ) (k : TokenKind) (n : ℕ) (digit : Bool) → is_digit b ≡ digit
-    → cond digit (at_first_byte (numeral_at (prefix_len is_digit (b ∷ bs)) (b ∷ bs))) (cond (nat_eq b 34) (text_at (literal 0 bs)) (at_first_byte (mark_at b bs))) ≡ a_token k n → IsLongestPrefix (form_of k) n (b ∷ bs)
+digit_or_more : (b : ℕ) (bs : List ℕ) (k : TokenKind) (n : ℕ) (digit : Bool) → is_ascii_digit b ≡ digit
+    → cond digit (at_first_byte (numeral_at (prefix_len is_ascii_digit (b ∷ bs)) (b ∷ bs))) (cond (nat_eq b 34) (text_at (literal 0 bs)) (at_first_byte (mark_at b bs))) ≡ a_token k n → IsLongestPrefix (form_of k) n (b ∷ bs)
 digit_or_more b bs k n true is e =
-    let digits = take (prefix_len is_digit (b ∷ bs)) (b ∷ bs) in
-    numeral_found b bs k n (decimal digits) is (has_leading_zero digits || fraction_begins (drop (prefix_len is_digit (b ∷ bs)) (b ∷ bs))) (nat_le (2 ^ 127) (decimal digits)) e
+    let digits = take (prefix_len is_ascii_digit (b ∷ bs)) (b ∷ bs) in
+    numeral_found b bs k n (decimal digits) is (has_leading_zero digits || fraction_begins (drop (prefix_len is_ascii_digit (b ∷ bs)) (b ∷ bs))) (nat_le (2 ^ 127) (decimal digits)) e
 digit_or_more b bs k n false is e = quote_or_mark b bs k n (nat_eq b 34) refl e
 
-lower_or_more : (b : ℕ) (bs : List ℕ) (k : TokenKind) (n : ℕ) (lower : Bool) → is_lower b ≡ lower
-    → cond lower (a_token tokens.Name (name_len (b ∷ bs))) (cond (is_digit b) (at_first_byte (numeral_at (prefix_len is_digit (b ∷ bs)) (b ∷ bs))) (cond (nat_eq b 34) (text_at (literal 0 bs)) (at_first_byte (mark_at b bs)))) ≡ a_token k n → IsLongestPrefix (form_of k) n (b ∷ bs)
+lower_or_more : (b : ℕ) (bs : List ℕ) (k : TokenKind) (n : ℕ) (lower : Bool) → is_ascii_lowercase b ≡ lower
+    → cond lower (a_token tokens.Name (name_len (b ∷ bs))) (cond (is_ascii_digit b) (at_first_byte (numeral_at (prefix_len is_ascii_digit (b ∷ bs)) (b ∷ bs))) (cond (nat_eq b 34) (text_at (literal 0 bs)) (at_first_byte (mark_at b bs)))) ≡ a_token k n → IsLongestPrefix (form_of k) n (b ∷ bs)
 lower_or_more b bs k n true is e = is_found tokens.Name k (name_len (b ∷ bs)) n (b ∷ bs) e (name_longest b bs is)
-lower_or_more b bs k n false is e = digit_or_more b bs k n (is_digit b) refl e
+lower_or_more b bs k n false is e = digit_or_more b bs k n (is_ascii_digit b) refl e
 
-upper_or_more : (b : ℕ) (bs : List ℕ) (k : TokenKind) (n : ℕ) (upper : Bool) → is_upper b ≡ upper
-    → cond upper (at_first_byte (word_at (prefix_len is_upper (b ∷ bs)) (b ∷ bs))) (cond (is_lower b) (a_token tokens.Name (name_len (b ∷ bs))) (cond (is_digit b) (at_first_byte (numeral_at (prefix_len is_digit (b ∷ bs)) (b ∷ bs))) (cond (nat_eq b 34) (text_at (literal 0 bs)) (at_first_byte (mark_at b bs))))) ≡ a_token k n
+upper_or_more : (b : ℕ) (bs : List ℕ) (k : TokenKind) (n : ℕ) (upper : Bool) → is_ascii_uppercase b ≡ upper
+    → cond upper (at_first_byte (word_at (prefix_len is_ascii_uppercase (b ∷ bs)) (b ∷ bs))) (cond (is_ascii_lowercase b) (a_token tokens.Name (name_len (b ∷ bs))) (cond (is_ascii_digit b) (at_first_byte (numeral_at (prefix_len is_ascii_digit (b ∷ bs)) (b ∷ bs))) (cond (nat_eq b 34) (text_at (literal 0 bs)) (at_first_byte (mark_at b bs))))) ≡ a_token k n
     → IsLongestPrefix (form_of k) n (b ∷ bs)
-upper_or_more b bs k n true is e = word_found b bs k n is (is_left_out_word (take (prefix_len is_upper (b ∷ bs)) (b ∷ bs))) e
-upper_or_more b bs k n false is e = lower_or_more b bs k n (is_lower b) refl e
+upper_or_more b bs k n true is e = word_found b bs k n is (is_left_out_word (take (prefix_len is_ascii_uppercase (b ∷ bs)) (b ∷ bs))) e
+upper_or_more b bs k n false is e = lower_or_more b bs k n (is_ascii_lowercase b) refl e
 
 pub token_is_longest : (bytes : List ℕ) (k : TokenKind) (n : ℕ) → token_at bytes ≡ a_token k n → IsLongestPrefix (form_of k) n bytes
 token_is_longest [] k n e = absurd (let never : ⊥ = cc in never)
-token_is_longest (b ∷ bs) k n e = upper_or_more b bs k n (is_upper b) refl e
+token_is_longest (b ∷ bs) k n e = upper_or_more b bs k n (is_ascii_uppercase b) refl e
 
 -- a string is found again where only its own bytes are left
 pub string_again : (bytes values : List ℕ) (n : ℕ) → token_at bytes ≡ Ok (tokens.Text values, n) → token_at (take n bytes) ≡ Ok (tokens.Text values, n)

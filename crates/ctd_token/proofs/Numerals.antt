@@ -4,7 +4,8 @@ use Rattle.std.specs.List.{prefix_len}
 use Rattle.std.proofs.Math.Nat.{mul_assoc, mul-le-mul_left, pow-suc, pow-le-pow_right}
 use Rattle.std.proofs.lemmas.List.{length-take, take_more}
 use Rattle.std.proofs.lemmas.List.Sums.{prefix_len-le-length, prefix_len_passes}
-use Rattle.ctd_token.specs.Cut.{decimal, is_digit}
+use Rattle.std.specs.Char.{is_ascii_digit}
+use Rattle.ctd_token.specs.Cut.{decimal}
 
 -- one more digit behind others
 pub decimal-append : (bs : List ℕ) (b : ℕ) → decimal (bs ++ b ∷ []) ≡ decimal bs * 10 + (b - 48)
@@ -31,8 +32,8 @@ pub decimal_more_le : (bs : List ℕ) (i : ℕ) → i < length bs → 10 * decim
 decimal_more_le bs i lt = omega (arith, decimal_more bs i lt, decimal-take-le (i + 1) bs)
 
 -- the longest row of digits holds digits alone
-pub digits_alone : (n : ℕ) (bs : List ℕ) → n ≡ prefix_len is_digit bs → (k d : ℕ) → k < length (take n bs) → is_digit (get_or (take n bs) k d) ≡ true
+pub digits_alone : (n : ℕ) (bs : List ℕ) → n ≡ prefix_len is_ascii_digit bs → (k d : ℕ) → k < length (take n bs) → is_ascii_digit (get_or (take n bs) k d) ≡ true
 digits_alone n bs is k d lt =
-    let within : n ≤ length bs = omega (arith, is, prefix_len-le-length is_digit bs) in
+    let within : n ≤ length bs = omega (arith, is, prefix_len-le-length is_ascii_digit bs) in
     let below : k < n = omega (arith, lt, length-take-le n bs within) in
-    ap is_digit (get_or-take n bs k d below) ∙ prefix_len_passes is_digit bs k d (omega (arith, below, is))
+    ap is_ascii_digit (get_or-take n bs k d below) ∙ prefix_len_passes is_ascii_digit bs k d (omega (arith, below, is))

@@ -10,7 +10,10 @@ use Rattle.ctd_token.specs.declared.token.Token.{Token}
 use Rattle.ctd_token.specs.declared.fault.LoadKind.{LoadKind}
 use Rattle.ctd_token.specs.declared.fault.LoadKind.TheVariants.{ProgramTooLong, BadByte, UnfinishedString, BadOctal, NumberTooLarge, NotInProfile, TooDeep, Syntax, BadPattern, Read, Memory}
 use Rattle.ctd_token.specs.Literal.{WholeLiteral, literal}
-use Rattle.ctd_token.specs.Cut.{is_upper, is_lower, is_digit, Judgement, TokenOrFault, wrong, at_first_byte, is_left_out_word, word_at, name_len, decimal, has_leading_zero, fraction_begins, numeral_at, mark_or, mark_at, single_mark, double_mark, closed_text, text_at, skip_gap, token_at, next_token, place_at}
+use Rattle.std.specs.Char.{is_ascii_uppercase, is_ascii_lowercase, is_ascii_digit}
+use Rattle.ctd_token.specs.Cut.{Judgement, TokenOrFault, at_first_byte, is_left_out_word, word_at, name_len, decimal, has_leading_zero, fraction_begins, numeral_at, mark_at, single_mark, double_mark, text_at, skip_gap, token_at, next_token, place_at}
+use Rattle.ctd_token.specs.calls.Scanning.{wrong}
+use Rattle.ctd_token.specs.inner.Scanning.{mark_or, closed_text}
 use Rattle.ctd_token.specs.calls.Lexing.{Uncut, left, IsNextFault, IsLexFault}
 use Rattle.ctd_token.specs.Lexing.{HasFault}
 use Rattle.ctd_token.proofs.Cutting.{Cutting, first_fault}
@@ -46,8 +49,8 @@ run_some p b bs is =
     let more : prefix_len p (b ∷ bs) ≡ 1 + prefix_len p bs = ap (λ t. cond t (1 + prefix_len p bs) 0) is in
     omega arith
 
-name_some : (b : ℕ) (bs : List ℕ) → is_lower b ≡ true → 0 < name_len (b ∷ bs)
-name_some b bs is = run_some (λ c. is_lower c || is_digit c) b bs (ap (λ t. t || is_digit b) is)
+name_some : (b : ℕ) (bs : List ℕ) → is_ascii_lowercase b ≡ true → 0 < name_len (b ∷ bs)
+name_some b bs is = run_some (λ c. is_ascii_lowercase c || is_ascii_digit c) b bs (ap (λ t. t || is_ascii_digit b) is)
 
 first_well : (j : Judgement) → JudgedWell j → FoundWell (at_first_byte j)
 first_well (Ok t) p = p
@@ -69,35 +72,35 @@ text_well : (o : Option WholeLiteral) → FoundWell (text_at o)
 text_well None = tt
 text_well (Some c) = closed_well c c.bad_octal
 
-word_well : (b : ℕ) (bs : List ℕ) → is_upper b ≡ true → JudgedWell (word_at (prefix_len is_upper (b ∷ bs)) (b ∷ bs))
+word_well : (b : ℕ) (bs : List ℕ) → is_ascii_uppercase b ≡ true → JudgedWell (word_at (prefix_len is_ascii_uppercase (b ∷ bs)) (b ∷ bs))
 word_well b bs is =
-    let n : ℕ = prefix_len is_upper (b ∷ bs) in
-    judged_if (is_left_out_word (take n (b ∷ bs))) (Err NotInProfile) (Ok (tokens.Word, n)) tt (run_some is_upper b bs is)
+    let n : ℕ = prefix_len is_ascii_uppercase (b ∷ bs) in
+    judged_if (is_left_out_word (take n (b ∷ bs))) (Err NotInProfile) (Ok (tokens.Word, n)) tt (run_some is_ascii_uppercase b bs is)
 
-numeral_well : (b : ℕ) (bs : List ℕ) → is_digit b ≡ true → JudgedWell (numeral_at (prefix_len is_digit (b ∷ bs)) (b ∷ bs))
+numeral_well : (b : ℕ) (bs : List ℕ) → is_ascii_digit b ≡ true → JudgedWell (numeral_at (prefix_len is_ascii_digit (b ∷ bs)) (b ∷ bs))
 numeral_well b bs is =
-    let n : ℕ = prefix_len is_digit (b ∷ bs) in
+    let n : ℕ = prefix_len is_ascii_digit (b ∷ bs) in
     let digits : List ℕ = take n (b ∷ bs) in
     let fits : Judgement = Ok (tokens.Numeral (pos (decimal digits)), n) in
     let judged : Judgement = cond (nat_le (2 ^ 127) (decimal digits)) (Err NumberTooLarge) fits in
-    judged_if (has_leading_zero digits || fraction_begins (drop n (b ∷ bs))) (Err NotInProfile) judged tt (judged_if (nat_le (2 ^ 127) (decimal digits)) (Err NumberTooLarge) fits tt (run_some is_digit b bs is))
+    judged_if (has_leading_zero digits || fraction_begins (drop n (b ∷ bs))) (Err NotInProfile) judged tt (judged_if (nat_le (2 ^ 127) (decimal digits)) (Err NumberTooLarge) fits tt (run_some is_ascii_digit b bs is))
 
 pub token_well : (bytes : List ℕ) → FoundWell (token_at bytes)
 token_well [] = tt
 token_well (b ∷ bs) =
     let all : List ℕ = b ∷ bs in
     let name : TokenOrFault = Ok (tokens.Name, name_len all) in
-    let word : Judgement = word_at (prefix_len is_upper all) all in
-    let numeral : Judgement = numeral_at (prefix_len is_digit all) all in
+    let word : Judgement = word_at (prefix_len is_ascii_uppercase all) all in
+    let numeral : Judgement = numeral_at (prefix_len is_ascii_digit all) all in
     let text : TokenOrFault = text_at (literal 0 bs) in
     let mark : TokenOrFault = at_first_byte (mark_at b bs) in
     let by_quote : TokenOrFault = cond (nat_eq b 34) text mark in
-    let by_digit : TokenOrFault = cond (is_digit b) (at_first_byte numeral) by_quote in
-    let by_lower : TokenOrFault = cond (is_lower b) name by_digit in
+    let by_digit : TokenOrFault = cond (is_ascii_digit b) (at_first_byte numeral) by_quote in
+    let by_lower : TokenOrFault = cond (is_ascii_lowercase b) name by_digit in
     let from_quote : FoundWell by_quote = found_if (nat_eq b 34) text mark (λ _. text_well (literal 0 bs)) (first_well (mark_at b bs) (marks_well b bs)) in
-    let from_digit : FoundWell by_digit = found_if (is_digit b) (at_first_byte numeral) by_quote (λ is. first_well numeral (numeral_well b bs is)) from_quote in
-    let from_lower : FoundWell by_lower = found_if (is_lower b) name by_digit (λ is. name_some b bs is) from_digit in
-    found_if (is_upper b) (at_first_byte word) by_lower (λ is. first_well word (word_well b bs is)) from_lower
+    let from_digit : FoundWell by_digit = found_if (is_ascii_digit b) (at_first_byte numeral) by_quote (λ is. first_well numeral (numeral_well b bs is)) from_quote in
+    let from_lower : FoundWell by_lower = found_if (is_ascii_lowercase b) name by_digit (λ is. name_some b bs is) from_digit in
+    found_if (is_ascii_uppercase b) (at_first_byte word) by_lower (λ is. first_well word (word_well b bs is)) from_lower
 
 pub token_some : (bytes : List ℕ) (t : TokenKind) (n : ℕ) → token_at bytes ≡ Ok (t, n) → 0 < n
 token_some bytes t n e = subst FoundWell e (token_well bytes)

@@ -4,7 +4,8 @@ use Rattle.ctd_token.specs.declared.token.Token.{Token}
 use Rattle.ctd_token.specs.declared.token.TokenKind.{TokenKind}
 use Rattle.ctd_token.specs.declared.fault.LoadKind.{LoadKind}
 use Rattle.ctd_token.specs.declared.fault.LoadKind.TheVariants.{BadByte}
-use Rattle.ctd_token.specs.Cut.{TokenOrFault, wrong, skip_gap, token_at, place_at, next_token, Cuts, none, token, Faults, here, later}
+use Rattle.ctd_token.specs.Cut.{TokenOrFault, skip_gap, token_at, place_at, next_token, Cuts, none, token, Faults, here, later}
+use Rattle.ctd_token.specs.calls.Scanning.{wrong}
 
 same_token : (x y : TokenKind) (n m : ℕ) (found : TokenOrFault) → found ≡ Ok (x, n) → found ≡ Ok (y, m) → (x ≡ y) × (n ≡ m)
 same_token x y n m found e f =

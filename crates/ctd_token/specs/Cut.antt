@@ -1,6 +1,8 @@
 -- How a text is cut into tokens.
-use Rattle.std.specs.Prelude.{◌≡◌, ℕ, ◌+◌, ◌-◌, ◌*◌, ◌||◌, ◌&&◌, not, Bool, false, nat_eq, nat_le, if◌then◌else◌, List, [], ◌∷◌, Option, Some, None, Result, Ok, Err, get_or, drop, take, length, count_by, codes, pos, ◌^◌}
+use Rattle.std.specs.Prelude.{◌≡◌, ℕ, ◌+◌, ◌-◌, ◌*◌, ◌||◌, ◌&&◌, Bool, false, nat_eq, nat_le, if◌then◌else◌, List, [], ◌∷◌, Option, Some, None, Result, Ok, Err, get_or, drop, take, length, count_by, codes, pos, ◌^◌, find, zip, option_map}
 use Rattle.std.specs.List.{prefix_len, after_last, list_any}
+use Rattle.std.specs.Option.{option_map_or}
+use Rattle.std.specs.Char.{is_ascii_uppercase, is_ascii_lowercase, is_ascii_digit}
 use Rattle.std.specs.Str.{bytes_eq}
 use Rattle.ctd_token.specs.declared.text.Place.{Place}
 use Rattle.ctd_token.specs.declared.token.TokenKind.{TokenKind}
@@ -23,18 +25,6 @@ place_at text p = record {
 abbrev pub is_whitespace : ℕ → Bool
 is_whitespace b = nat_eq b 32 || nat_eq b 9 || nat_eq b 13 || nat_eq b 10
 
--- `A` to `Z`
-abbrev pub is_upper : ℕ → Bool
-is_upper b = nat_le 65 b && nat_le b 90
-
--- `a` to `z`
-abbrev pub is_lower : ℕ → Bool
-is_lower b = nat_le 97 b && nat_le b 122
-
--- `0` to `9`
-abbrev pub is_digit : ℕ → Bool
-is_digit b = nat_le 48 b && nat_le b 57
-
 abbrev mutual
   -- the text behind its blanks and comments; a comment begins with `#`
   pub skip_gap : List ℕ → List ℕ
@@ -50,25 +40,15 @@ abbrev mutual
   skip_comment [] = []
   skip_comment (b ∷ bs) = if nat_eq b 10 then skip_gap bs else skip_comment bs
 
--- the mark that one byte is: ( ) [ ] , = + - * / % ^ ! < >
+-- the marks of one byte, each with its byte
+abbrev pub single_marks : List (ℕ × Mark)
+single_marks =
+    zip (codes "()[],=+-*/%^!<>")
+    (Open ∷ Close ∷ OpenIndex ∷ CloseIndex ∷ Comma ∷ Assign ∷ Plus ∷ Minus ∷ Times ∷ Divide ∷ Percent ∷ Caret ∷ Bang ∷ Less ∷ Greater ∷ [])
+
+-- the mark that one byte is
 abbrev pub single_mark : ℕ → Option Mark
-single_mark b =
-    if nat_eq b 40 then Some Open
-    else if nat_eq b 41 then Some Close
-    else if nat_eq b 91 then Some OpenIndex
-    else if nat_eq b 93 then Some CloseIndex
-    else if nat_eq b 44 then Some Comma
-    else if nat_eq b 61 then Some Assign
-    else if nat_eq b 43 then Some Plus
-    else if nat_eq b 45 then Some Minus
-    else if nat_eq b 42 then Some Times
-    else if nat_eq b 47 then Some Divide
-    else if nat_eq b 37 then Some Percent
-    else if nat_eq b 94 then Some Caret
-    else if nat_eq b 33 then Some Bang
-    else if nat_eq b 60 then Some Less
-    else if nat_eq b 62 then Some Greater
-    else None
+single_mark b = option_map (λ (m : ℕ × Mark). m.1) (find (λ m. nat_eq b m.0) single_marks)
 
 -- the mark that two bytes are: <= >= == != && ||
 abbrev pub double_mark : ℕ → ℕ → Option Mark
@@ -95,7 +75,7 @@ word_at n bytes = if is_left_out_word (take n bytes) then Err NotInProfile else 
 
 -- how many lower-case letters and digits come first
 abbrev pub name_len : List ℕ → ℕ
-name_len bytes = prefix_len (λ b. is_lower b || is_digit b) bytes
+name_len bytes = prefix_len (λ b. is_ascii_lowercase b || is_ascii_digit b) bytes
 
 -- the number that digits spell: the sum of the digits times powers of ten
 abbrev pub decimal : List ℕ → ℕ
@@ -118,46 +98,32 @@ numeral_at n bytes =
     else if nat_le (2 ^ 127) (decimal (take n bytes)) then Err NumberTooLarge
     else Ok (tokens.Numeral (pos (decimal (take n bytes))), n)
 
--- a mark of n bytes, or else something else
-abbrev pub mark_or : Option Mark → ℕ → Judgement → Judgement
-mark_or None n other = other
-mark_or (Some m) n other = Ok (tokens.Mark m, n)
-
 -- a mark of two bytes, or else of one; any other byte begins no token
 abbrev pub mark_at : ℕ → List ℕ → Judgement
-mark_at a [] = mark_or (single_mark a) 1 (Err BadByte)
-mark_at a (b ∷ bs) = mark_or (double_mark a b) 2 (mark_or (single_mark a) 1 (Err BadByte))
+mark_at a [] = option_map_or (λ m. Ok (tokens.Mark m, 1)) (single_mark a) (Err BadByte)
+mark_at a (b ∷ bs) = option_map_or (λ m. Ok (tokens.Mark m, 2)) (double_mark a b) (option_map_or (λ m. Ok (tokens.Mark m, 1)) (single_mark a) (Err BadByte))
 
 -- what stands at the front of some bytes: a token and its length, or a fault and how far behind the first byte it is
 abbrev pub TokenOrFault : Type 0
 TokenOrFault = Result (TokenKind × ℕ) (LoadKind × ℕ)
 
--- a fault this many bytes after the first
-abbrev pub wrong : LoadKind → ℕ → TokenOrFault
-wrong kind behind = Err (kind, behind)
-
 -- a fault is at the first byte, unless said otherwise
 abbrev pub at_first_byte : Judgement → TokenOrFault
 at_first_byte (Ok t) = Ok t
-at_first_byte (Err kind) = wrong kind 0
+at_first_byte (Err kind) = Err (kind, 0)
 
--- a closed string: its first octal escape above 255 is a fault, at the backslash
-abbrev pub closed_text : WholeLiteral → Option ℕ → TokenOrFault
-closed_text c None = Ok (tokens.Text c.values, 1 + c.length)
-closed_text c (Some n) = wrong BadOctal (1 + n)
-
--- a string after its opening quote
+-- a string after its opening quote: where it is closed, its first octal escape above 255 is a fault, at the backslash
 abbrev pub text_at : Option WholeLiteral → TokenOrFault
-text_at None = wrong UnfinishedString 0
-text_at (Some c) = closed_text c c.bad_octal
+text_at None = Err (UnfinishedString, 0)
+text_at (Some c) = option_map_or (λ n. Err (BadOctal, 1 + n)) c.bad_octal (Ok (tokens.Text c.values, 1 + c.length))
 
 -- the longest token at the front of some bytes and its length, or the fault there
 abbrev pub token_at : List ℕ → TokenOrFault
-token_at [] = wrong BadByte 0
+token_at [] = Err (BadByte, 0)
 token_at (b ∷ bs) =
-    if is_upper b then at_first_byte (word_at (prefix_len is_upper (b ∷ bs)) (b ∷ bs))
-    else if is_lower b then Ok (tokens.Name, name_len (b ∷ bs))
-    else if is_digit b then at_first_byte (numeral_at (prefix_len is_digit (b ∷ bs)) (b ∷ bs))
+    if is_ascii_uppercase b then at_first_byte (word_at (prefix_len is_ascii_uppercase (b ∷ bs)) (b ∷ bs))
+    else if is_ascii_lowercase b then Ok (tokens.Name, name_len (b ∷ bs))
+    else if is_ascii_digit b then at_first_byte (numeral_at (prefix_len is_ascii_digit (b ∷ bs)) (b ∷ bs))
     else if nat_eq b 34 then text_at (literal 0 bs)
     else at_first_byte (mark_at b bs)
 
@@ -177,7 +143,7 @@ pub data Cuts : (program : List ℕ) (at : ℕ) (bytes : List ℕ) (ts : List To
 -- the first token of these bytes that has a fault has this one, at this offset
 pub data Faults : (at : ℕ) (bytes : List ℕ) (kind : LoadKind) (offset : ℕ) → Type 0 where
   here : {at b n : ℕ} {bytes bs : List ℕ} {kind : LoadKind} →
-      skip_gap bytes ≡ b ∷ bs → token_at (b ∷ bs) ≡ wrong kind n → Faults at bytes kind (next_token at bytes + n)
+      skip_gap bytes ≡ b ∷ bs → token_at (b ∷ bs) ≡ Err (kind, n) → Faults at bytes kind (next_token at bytes + n)
   later : {at n offset : ℕ} {bytes : List ℕ} {t : TokenKind} {kind : LoadKind} →
       token_at (skip_gap bytes) ≡ Ok (t, n) →
       Faults (next_token at bytes + n) (drop n (skip_gap bytes)) kind offset → Faults at bytes kind offset

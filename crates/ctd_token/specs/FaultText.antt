@@ -1,5 +1,6 @@
 -- How places of a program and its faults are written.
-use Rattle.std.specs.Prelude.{ℕ, List, [], ◌++◌, codes, Option, Some, None}
+use Rattle.std.specs.Prelude.{ℕ, List, [], ◌++◌, codes}
+use Rattle.std.specs.Option.{option_map_or}
 use Rattle.std.specs.Fmt.{decimal}
 use Rattle.ctd_token.specs.declared.text.Place.{Place}
 use Rattle.ctd_token.specs.declared.fault.LoadKind.{LoadKind}
@@ -24,11 +25,6 @@ kind_text kind.BadPattern = codes "bad pattern"
 kind_text kind.Read = codes "cannot read program"
 kind_text kind.Memory = codes "out of memory"
 
--- the place, where there is one
-abbrev pub place_prefix : Option Place → List ℕ
-place_prefix None = []
-place_prefix (Some p) = place_text p ++ codes ": "
-
--- a fault with its place in front
+-- a fault with its place in front, where it has one
 abbrev pub load_fault_text : LoadFault → List ℕ
-load_fault_text f = place_prefix f.place ++ kind_text f.kind
+load_fault_text f = option_map_or (λ p. place_text p ++ codes ": ") f.place [] ++ kind_text f.kind

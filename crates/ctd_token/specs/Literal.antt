@@ -55,10 +55,6 @@ pub record WholeLiteral : Type 0 where
   pub bad_octal : Option ℕ
   pub length : ℕ
 
--- the closing quote
-abbrev pub closing_quote : WholeLiteral
-closing_quote = record { values = []; bad_octal = None; length = 1 }
-
 -- a literal that begins one byte earlier
 abbrev pub one_later : WholeLiteral → WholeLiteral
 one_later c = record { values = c.values; bad_octal = option_map (λ n. 1 + n) c.bad_octal; length = 1 + c.length }
@@ -76,5 +72,5 @@ abbrev pub literal : (skipped : ℕ) → List ℕ → Option WholeLiteral
 literal skipped [] = None
 literal (suc n) (b ∷ bs) = option_map one_later (literal n bs)
 literal zero (b ∷ bs) =
-    if nat_eq b 34 then Some closing_quote
+    if nat_eq b 34 then Some (record { values = []; bad_octal = None; length = 1 })
     else option_map (with_part (part_at b bs)) (literal ((part_at b bs).length - 1) bs)

@@ -3,7 +3,8 @@
 
 ghost use Rattle.std.specs.Prelude.{◌≡◌, ◌≤◌, ◌<◌, ◌^◌, drop, take, false, true, slice_index, length, All, IfOk, IfErr, IfSome, MatchOption};
 ghost use Rattle.std.specs.List.{prefix_len};
-ghost use Rattle.ctd_token.specs.Cut.{is_whitespace, is_upper, is_digit, skip_gap, single_mark, double_mark, is_left_out_word, name_len, decimal, word_at, numeral_at, mark_at, token_at};
+ghost use Rattle.std.specs.Char.{is_ascii_uppercase, is_ascii_digit};
+ghost use Rattle.ctd_token.specs.Cut.{is_whitespace, skip_gap, single_mark, double_mark, is_left_out_word, name_len, decimal, word_at, numeral_at, mark_at, token_at};
 ghost use Rattle.ctd_token.specs.calls.Scanning.{Scans, FaultWithin};
 ghost use Rattle.ctd_token.specs.inner.Scanning.{mark_judgement};
 
@@ -40,7 +41,7 @@ pub(crate) fn gap_len(bytes: &[u8]) -> usize
 }
 
 fn word_len(bytes: &[u8]) -> usize
-    ensures value { result ≡ prefix_len is_upper bytes.now }
+    ensures value { result ≡ prefix_len is_ascii_uppercase bytes.now }
     ensures within { result ≤ length bytes.now }
 {
     bytes.iter().take_while(|b| b.is_ascii_uppercase()).count()
@@ -57,7 +58,7 @@ fn name_len(bytes: &[u8]) -> usize
 }
 
 fn digits_len(bytes: &[u8]) -> usize
-    ensures value { result ≡ prefix_len is_digit bytes.now }
+    ensures value { result ≡ prefix_len is_ascii_digit bytes.now }
     ensures within { result ≤ length bytes.now }
 {
     bytes.iter().take_while(|b| b.is_ascii_digit()).count()
@@ -75,7 +76,7 @@ fn is_left_out(word: &[u8]) -> bool
 
 #[inline(always)]
 fn word_at(bytes: &[u8]) -> Result<(TokenKind, usize), LoadKind>
-    ensures token { result ≡ word_at (prefix_len is_upper bytes.now) bytes.now }
+    ensures token { result ≡ word_at (prefix_len is_ascii_uppercase bytes.now) bytes.now }
     ensures within { IfOk result (λ x. x.1 ≤ length bytes.now) }
 {
     let n = word_len(bytes);
@@ -87,7 +88,7 @@ fn word_at(bytes: &[u8]) -> Result<(TokenKind, usize), LoadKind>
 
 // The number that the digits spell, where it is below 2^127.
 fn decimal(digits: &[u8]) -> Option<u128>
-    requires { All (λ b. is_digit b ≡ true) digits.now }
+    requires { All (λ b. is_ascii_digit b ≡ true) digits.now }
     ensures { MatchOption result (2 ^ 127 ≤ decimal digits.now) (λ n. (n ≡ decimal digits.now) × (n < 2 ^ 127)) }
 {
     let mut value: u128 = 0;
@@ -107,7 +108,7 @@ fn decimal(digits: &[u8]) -> Option<u128>
 #[inline(always)]
 fn numeral_at(bytes: &[u8]) -> Result<(TokenKind, usize), LoadKind>
     requires { 0 < length bytes.now }
-    ensures token { result ≡ numeral_at (prefix_len is_digit bytes.now) bytes.now }
+    ensures token { result ≡ numeral_at (prefix_len is_ascii_digit bytes.now) bytes.now }
     ensures within { IfOk result (λ x. x.1 ≤ length bytes.now) }
 {
     let n = digits_len(bytes);

@@ -95,15 +95,10 @@ pub record RefusesTestdata {F R : Type 0} (v : Visit F R) (s : Setup) (name : Li
   pub name_is : s.testdata ≡ Some name
   pub refused : v.opens between name None v.new
 
--- the program could not be opened, and nothing else was asked for
-pub record RefusesProgram {F R : Type 0} (v : Visit F R) (s : Setup) (name : List ℕ) : Type 0 where
-  pub name_is : s.program ≡ name
-  pub refused : v.opens v.old name None v.new
-
--- which files were asked for, whatever came of it: the program, and then, if it was opened, the data
+-- which files were asked for, whatever came of it: the program, which could not be opened, or was opened, and then the data
 pub data Visits {F R : Type 0} (v : Visit F R) (s : Setup) : Type 0 where
   both : (program testdata : R) → OpensBoth v s program testdata → Visits v s
-  not_the_program : (name : List ℕ) → RefusesProgram v s name → Visits v s
+  not_the_program : v.opens v.old s.program None v.new → Visits v s
   not_the_testdata : (name : List ℕ) → RefusesTestdata v s name → Visits v s
 
 -- the report of a run on two readers, by what their sources gave
@@ -119,7 +114,7 @@ pub record IsRunReport {R : Type 0} (remaining : R → Option (List ℕ)) (G : s
 -- both files were opened, and the report is that of a run on them; or one was not, and the report names it
 pub data IsFilesReport {F R : Type 0} (remaining : R → Option (List ℕ)) (G : sources.Ghosts (FromRead (BufReader R Global))) (s : Setup) (v : Visit F R) (left : Option (Sources R)) (report : Report) : Type 0 where
   of_run : (program testdata : R) → OpensBoth v s program testdata → IsRunReport remaining G s program testdata left report → IsFilesReport remaining G s v left report
-  no_program : (name : List ℕ) → RefusesProgram v s name → report ≡ open_report name → IsFilesReport remaining G s v left report
+  no_program : v.opens v.old s.program None v.new → report ≡ open_report s.program → IsFilesReport remaining G s v left report
   no_testdata : (name : List ℕ) → RefusesTestdata v s name → report ≡ open_report name → IsFilesReport remaining G s v left report
 
 -- III. The report of a command line.

@@ -14,7 +14,7 @@ use Rattle.ctd_pattern.specs.Pattern.{length_at_start}
 use Rattle.ctd_store.specs.Store.{History}
 use Rattle.ctd_value.specs.Fault.{ValueFault, TruthFault, with_fault}
 use Rattle.ctd_value.specs.Fault as faults
-use Rattle.ctd_value.specs.Truth.{is_end}
+use Rattle.ctd_value.specs.inner.Truth.{is_end}
 use Rattle.ctd_outcome.specs.declared.reason.Reason.{Reason}
 use Rattle.ctd_outcome.specs.declared.reason.Reason.TheVariants.{ExpectedSpace, ExpectedNewline, ExpectedEof, ExpectedInt, LeadingZero, MinusZero, StringMismatch, OutOfRange}
 use Rattle.ctd_outcome.specs.declared.reason.Fault.{Fault}
@@ -22,7 +22,8 @@ use Rattle.ctd_outcome.specs.declared.reason.Fault.TheVariants.{StepLimit, Read,
 use Rattle.ctd_command.specs.State.{State, Effect, done, rejected, faulty, proceed, lift, return, reject, pass, stop, see_next, fault_of_value, fault_of_look}
 use Rattle.ctd_command.specs.Commands.{one_byte, eof, decide, integer, match_bytes}
 use Rattle.ctd_command.specs.Integer.{decimal, digits_of, in_interval, is_minus, judge, prefix_len_of, with_sign, is_zero_first}
-use Rattle.ctd_command.specs.Blanks.{blank_next, end, end_in, is_blank, newline, newline_in, skip_blanks, some_blanks, space, space_in}
+use Rattle.ctd_command.specs.Blanks.{end, is_blank, newline, skip_blanks, some_blanks, space}
+use Rattle.ctd_command.specs.inner.Blanks.{blank_next, end_in, newline_in, space_in}
 use Rattle.ctd_command.specs.Regex.{leading_match, shorter_match}
 use Rattle.ctd_known.specs.declared.faults.Faults.{Faults}
 use Rattle.ctd_known.specs.calls.Found.{FailsBy, IsAmong}

@@ -5,7 +5,8 @@ use Rattle.std.proofs.lemmas.List.{at_drop_more, drop_all}
 use Rattle.ctd_program.specs.declared.preset.Literal.{Literal}
 use Rattle.ctd_program.specs.declared.preset.Preset.{Preset}
 use Rattle.ctd_store.specs.declared.value.Value.{Value}
-use Rattle.ctd_store.specs.Store.{Variables, assign, pins_of, value_of, with_pin}
+use Rattle.ctd_store.specs.Store.{Variables, assign, value_of, with_pin}
+use Rattle.ctd_store.specs.inner.Store.{pins_of}
 use Rattle.ctd_known.specs.declared.facts.Kinds.{Kinds}
 use Rattle.ctd_known.specs.declared.facts.Known.{Known}
 use Rattle.ctd_known.specs.declared.facts.NameFacts.{NameFacts}

@@ -2,7 +2,8 @@
 use Rattle.std.proofs.Common.{◌≡◌, ℕ, suc, refl, subst, arith}
 use Rattle.std.specs.Prelude.{⊤}
 use Rattle.ctd_source.specs.TestData.{TestData}
-use Rattle.ctd_program.specs.Tree.{CommandTree, place_of}
+use Rattle.ctd_program.specs.Tree.{CommandTree}
+use Rattle.ctd_check.specs.calls.Run.{place_of}
 use Rattle.ctd_value.specs.Fault.{ValueFault, with_fault}
 use Rattle.ctd_value.specs.Fault as faults
 use Rattle.ctd_outcome.specs.declared.outcome.Site.{Site}

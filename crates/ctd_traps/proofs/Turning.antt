@@ -15,7 +15,9 @@ use Rattle.ctd_outcome.specs.declared.outcome.Site.{Site}
 use Rattle.ctd_outcome.specs.declared.outcome.Site.TheVariants.{At}
 use Rattle.ctd_command.specs.State.{State, Effect, done, rejected, faulty, evaluate, proceed, return}
 use Rattle.ctd_command.specs.Commands.{answer}
-use Rattle.ctd_check.specs.Loops.{Guard, Loop, times, while_true, loop_of, count_turn, goes_on, guard_of, take_turn}
+use Rattle.ctd_check.specs.Loops.{Guard, Loop, times, while_true, goes_on, guard_of, take_turn}
+use Rattle.ctd_check.specs.calls.Loops.{loop_of}
+use Rattle.ctd_check.specs.inner.Loops.{count_turn}
 use Rattle.ctd_check.specs.Run.{RunResult, all_done, stopped}
 use Rattle.ctd_check.specs.calls.BigSteps.{command_has_no_step, command_is_done, command_rejects, command_fails, loop_starts, loop_fails, separator_before}
 use Rattle.ctd_range.specs.declared.range.Range.{Range}

@@ -4,7 +4,8 @@ use Rattle.std.specs.Prelude.{⊤}
 use Rattle.ctd_token.specs.declared.text.Place.{Place}
 use Rattle.ctd_source.specs.TestData.{TestData}
 use Rattle.ctd_program.specs.Tree
-use Rattle.ctd_program.specs.Tree.{CommandTree, CommandList, TestTree, Separator, place_of}
+use Rattle.ctd_program.specs.Tree.{CommandTree, CommandList, TestTree, Separator}
+use Rattle.ctd_check.specs.calls.Run.{place_of}
 use Rattle.ctd_store.specs.Store.{Variables}
 use Rattle.ctd_outcome.specs.declared.outcome.Site.TheVariants.{At}
 use Rattle.ctd_command.specs.State.{State, Effect, done, rejected, faulty, Act}

@@ -10,9 +10,10 @@ use Rattle.ctd_program.specs.declared.mode.Mode.{Mode}
 use Rattle.ctd_program.specs.declared.mode.Mode.TheVariants.{Exact, BlanksOk}
 use Rattle.ctd_program.specs.Tree.{CommandList}
 use Rattle.ctd_store.specs.declared.value.Value.{Value}
-use Rattle.ctd_store.specs.Store.{History, Variables, initial, pins_of, value_at, value_in}
+use Rattle.ctd_store.specs.Store.{History, Variables, initial, value_at, value_in}
+use Rattle.ctd_store.specs.inner.Store.{pins_of}
 use Rattle.ctd_value.specs.Fault.{ValueFault, with_fault}
-use Rattle.ctd_value.specs.Truth.{is_end}
+use Rattle.ctd_value.specs.inner.Truth.{is_end}
 use Rattle.ctd_outcome.specs.declared.reason.Fault.{Fault}
 use Rattle.ctd_outcome.specs.declared.reason.Fault.TheVariants.{StepLimit}
 use Rattle.ctd_outcome.specs.declared.reason.Reason.TheVariants.{ExpectedEof}
@@ -22,7 +23,8 @@ use Rattle.ctd_outcome.specs.declared.outcome.Outcome.{Outcome}
 use Rattle.ctd_outcome.specs.declared.outcome.Outcome.TheVariants.{Accepted, Rejected, Stopped}
 use Rattle.ctd_command.specs.State.{State, Effect, done, rejected, faulty, proceed, lift, see_next, fault_of_value, fault_of_look, return, reject}
 use Rattle.ctd_command.specs.Commands.{eof}
-use Rattle.ctd_command.specs.Blanks.{is_blank, start_in, end_in, first_skip, skip_blanks}
+use Rattle.ctd_command.specs.Blanks.{is_blank, first_skip, skip_blanks}
+use Rattle.ctd_command.specs.inner.Blanks.{start_in, end_in}
 use Rattle.ctd_check.specs.Loops.{finish, tasks}
 use Rattle.ctd_check.specs.Run.{RunResult, all_done, stopped, run_from, with_steps, at_start}
 use Rattle.ctd_check.specs.calls.BigSteps.{ProgramEnds, start_fails, commands_stop, end_has_no_step, data_are_accepted, end_rejects, end_fails, BigStepsHold}

@@ -2,7 +2,8 @@
 
 ghost use Rattle.std.specs.Prelude.{◌≡◌, ℕ, [], IfOk, IfSome};
 ghost use Rattle.ctd_program.specs.calls.View.{command_trees};
-ghost use Rattle.ctd_store.specs.Store.{Variables, pins_of, value_of, with_pin};
+ghost use Rattle.ctd_store.specs.Store.{Variables, value_of, with_pin};
+ghost use Rattle.ctd_store.specs.inner.Store.{pins_of};
 ghost use Rattle.ctd_traps.specs.calls.Traps.{HasEachTrap, traps_of};
 ghost use Rattle.ctd_known.specs.calls.Facts.{MayBe, PinsStand};
 

@@ -3,3 +3,5 @@ pub mod Operators
 pub mod Lending
 pub mod Examples
 pub mod Unique
+pub mod Val
+pub mod Truth

@@ -6,7 +6,8 @@ use Rattle.ctd_token.specs.declared.text.Place.{Place}
 use Rattle.ctd_program.specs.declared.mode.Mode.{Mode}
 use Rattle.ctd_program.specs.declared.preset.Preset.{Preset}
 use Rattle.ctd_program.specs.declared.tree.PatternLiteral.{PatternLiteral}
-use Rattle.ctd_program.specs.Tree.{ExprTree, VarTree, TestTree, GuardTree, CommandTree, CommandList, Separator, place_of}
+use Rattle.ctd_program.specs.Tree.{ExprTree, VarTree, TestTree, GuardTree, CommandTree, CommandList, Separator}
+use Rattle.ctd_check.specs.calls.Run.{place_of}
 use Rattle.ctd_outcome.specs.declared.reason.Reason.{Reason}
 use Rattle.ctd_outcome.specs.declared.reason.Fault.{Fault}
 use Rattle.ctd_outcome.specs.declared.reason.Fault.TheVariants.{StepLimit}
@@ -18,7 +19,8 @@ use Rattle.ctd_command.specs.State.{State, Act, done, rejected, faulty}
 use Rattle.ctd_command.specs.Commands.{int, string, answer, assert, set, unset_all}
 use Rattle.ctd_command.specs.Blanks.{space, newline, end, first_skip}
 use Rattle.ctd_command.specs.Regex.{regex}
-use Rattle.ctd_check.specs.Loops.{Guard, Loop, loop_of, finish, tasks, guard_of, take_turn}
+use Rattle.ctd_check.specs.Loops.{Guard, Loop, finish, tasks, guard_of, take_turn}
+use Rattle.ctd_check.specs.calls.Loops.{loop_of}
 use Rattle.ctd_check.specs.Run.{RunResult, all_done, stopped, run_from, with_steps, at_start, meaning}
 
 -- a command in which no other commands stand, and what it does

@@ -7,13 +7,15 @@ use Rattle.std.specs.Coded.{×_prop, Unit-prop, le_prop}
 use Rattle.std.proofs.Common.{Bor}
 use Rattle.ctd_program.specs.declared.tree.Command.{Command}
 use Rattle.ctd_program.specs.declared.tree.Var.{Var}
-use Rattle.ctd_program.specs.Tree.{VarTree, Separator, list_blocks, separator_blocks}
+use Rattle.ctd_program.specs.Tree.{VarTree, Separator}
+use Rattle.ctd_program.specs.calls.Blocks.{list_blocks, separator_blocks}
 use Rattle.ctd_program.specs.calls.View.{var_tree, test_tree, command_tree, command_trees}
 use Rattle.ctd_command.specs.declared.failure.CommandFailure.{CommandFailure}
 use Rattle.ctd_check.specs.declared.frame.Guard.{Guard}
 use Rattle.ctd_check.specs.declared.frame.RunningLoop.{RunningLoop}
 use Rattle.ctd_check.specs.declared.frame.Frame.{Frame}
-use Rattle.ctd_check.specs.Loops.{Loop, loop_of, Task, start, turn, finish, tasks}
+use Rattle.ctd_check.specs.Loops.{Loop, Task, start, turn, finish, tasks}
+use Rattle.ctd_check.specs.calls.Loops.{loop_of}
 
 -- a guard
 abbrev pub guard_in : Guard → Loops.Guard

@@ -3,7 +3,7 @@ use Rattle.std.specs.Prelude.{◌≡◌, ℕ, List, ◌++◌, Result, Ok, Err, O
 use Rattle.ctd_source.specs.declared.source.Source.{Ghosts}
 use Rattle.ctd_source.specs.declared.spot.Spot.{Spot}
 use Rattle.ctd_program.specs.Tree.{CommandTree}
-use Rattle.ctd_syntax.specs.RegexNumbers.{command_literals}
+use Rattle.ctd_syntax.specs.calls.RegexNumbers.{command_literals}
 use Rattle.ctd_loader.specs.calls.PatternTable.{AreAmong}
 use Rattle.ctd_command.specs.declared.machine.Run.{Run}
 use Rattle.ctd_command.specs.declared.failure.CommandFailure.{CommandFailure}
@@ -15,7 +15,7 @@ use Rattle.ctd_outcome.specs.declared.outcome.Site.{Site}
 use Rattle.ctd_check.specs.inner.Halts.{halt_of}
 use Rattle.ctd_check.specs.inner.Known.{AreKnown}
 use Rattle.ctd_check.specs.Loops.{Task}
-use Rattle.ctd_check.specs.Run.{act_of}
+use Rattle.ctd_check.specs.inner.Acts.{act_of}
 use Rattle.ctd_check.specs.inner.FrameTasks.{to_do}
 
 -- how a run goes on or ends by the answer of a command that began at this spot and stands at this site

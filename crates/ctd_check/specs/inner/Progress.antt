@@ -5,7 +5,8 @@ use Rattle.std.specs.Prelude.{◌≡◌, ℕ, ◌+◌, max, Result}
 use Rattle.ctd_token.specs.declared.text.Place.{Place}
 use Rattle.ctd_program.specs.declared.tree.Choice.{Choice, out-Choice}
 use Rattle.ctd_program.specs.declared.tree.Loop.{Loop, out-Loop}
-use Rattle.ctd_program.specs.Tree.{CommandTree, list_blocks}
+use Rattle.ctd_program.specs.Tree.{CommandTree}
+use Rattle.ctd_program.specs.calls.Blocks.{list_blocks}
 use Rattle.ctd_program.specs.inner.View.{boxed_separator}
 use Rattle.ctd_program.specs.calls.View.{boxed_target, command_list, guard_tree, test_tree}
 use Rattle.ctd_command.specs.declared.failure.CommandFailure.{CommandFailure}

@@ -6,7 +6,8 @@ use Rattle.std.specs.Option.{option_and_then}
 use Rattle.std.specs.Ordering.{int_cmp, is_gt}
 use Rattle.ctd_token.specs.declared.text.Place.{Place}
 use Rattle.ctd_program.specs.declared.preset.Preset.{Preset}
-use Rattle.ctd_program.specs.Tree.{ExprTree, TestTree, GuardTree, CommandTree, CommandList, place_of}
+use Rattle.ctd_program.specs.Tree.{ExprTree, TestTree, GuardTree, CommandTree, CommandList}
+use Rattle.ctd_program.specs.calls.Places.{place_of}
 use Rattle.ctd_findings.specs.declared.finding.Finding.{Finding}
 use Rattle.ctd_findings.specs.declared.finding.Remark.{Remark}
 use Rattle.ctd_findings.specs.declared.kind.Kind.{Kind}

@@ -5,13 +5,17 @@ use Rattle.clap.specs.Words.{App, Row, Rule, Text, all_of, fault_of, first_of, m
 use Rattle.clap.specs.Simple.{on_top}
 use Rattle.clap.specs.declared.error.ErrorKind.{ErrorKind}
 use Rattle.clap.specs.declared.builder.ArgAction.TheVariants.{Append, Set, SetTrue}
-use Rattle.ctd_arguments.specs.CommandLine.{define_rule, option_rule}
-use Rattle.ctd_arguments.specs.Settings.{ArePresetsOf}
-use Rattle.ctd_arguments.specs.Usage.{is_on}
+use Rattle.ctd_arguments.specs.CommandLine.{option_rule}
+use Rattle.ctd_arguments.specs.Usage.{ArePresetsOf}
+use Rattle.ctd_arguments.specs.inner.Usage.{is_on}
 use Rattle.ctd_lint.specs.declared.command_line.LintSetup.{LintSetup}
 use Rattle.ctd_lint.specs.declared.kind.LintKind.{LintKind}
 use Rattle.ctd_lint.specs.inner.Kinds.{lint_kind_named}
 use Rattle.ctd_lint.specs.inner.Words.{spelled_out}
+
+-- -D, --define
+abbrev pub define_rule : Rule
+define_rule = option_rule (codes "define") (Some 68) Set
 
 -- --ignore
 abbrev pub ignore_rule : Rule

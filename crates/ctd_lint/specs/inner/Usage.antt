@@ -4,7 +4,8 @@ use Rattle.std.specs.Prelude.{◌≡◌, ◌⊎◌, true, List, [], ◌∷◌, O
 use Rattle.clap.specs.Words.{IsAmong, Row, Text, all_of, first_of}
 use Rattle.clap.specs.declared.error.ErrorKind.{ErrorKind}
 use Rattle.clap.specs.declared.error.ErrorKind.TheVariants.{DisplayHelp, DisplayVersion, OutOfMemory}
-use Rattle.ctd_arguments.specs.Usage.{IsBadPreset, IsGoodPreset}
+use Rattle.ctd_program.specs.Presets.{ArePresets}
+use Rattle.ctd_program.specs.declared.preset.Preset.{Preset}
 use Rattle.ctd_lint.specs.declared.command_line.LintFault.{LintFault}
 use Rattle.ctd_lint.specs.inner.CommandLine.{IsTaken, errors_in, found_in, parts}
 use Rattle.ctd_lint.specs.inner.Kinds.{lint_kind_named}
@@ -36,6 +37,16 @@ TellsUnknown found f = (name : Text) × (found ≡ Some name) × (f ≡ faults.U
 -- clap takes the words, and finds these values in them
 abbrev pub IsFoundIn : List Text → List Row → Type 0
 IsFoundIn words rows = IsTaken words × (rows ≡ found_in words)
+
+-- no text is given, or it spells presets
+abbrev pub IsGoodPreset : Option Text → Type 0
+IsGoodPreset None = Unit {0}
+IsGoodPreset (Some text) = (presets : List Preset) × ArePresets text presets
+
+-- a text is given, and spells no presets
+abbrev pub IsBadPreset : Option Text → Type 0
+IsBadPreset None = ⊥
+IsBadPreset (Some text) = (presets : List Preset) → ¬ (ArePresets text presets)
 
 -- a rule for the words, and the fault for breaking it
 pub record FaultRule : Type 1 where

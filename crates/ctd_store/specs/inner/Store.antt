@@ -1,11 +1,16 @@
 -- What has been assigned and pinned, and what a variable stands for.
 -- Of this, what only the proofs of this crate use.
-use Rattle.std.specs.Prelude.{ℕ, Bool, not, ◌&&◌, List, slice_get, option_map, Option, if◌then◌else◌}
+use Rattle.std.specs.Prelude.{ℕ, Bool, not, ◌&&◌, List, [], fold, slice_get, option_map, Option, if◌then◌else◌}
 use Rattle.std.specs.List.{list_all}
 use Rattle.std.specs.FinMap.{put, is_sorted}
+use Rattle.ctd_program.specs.declared.preset.Preset.{Preset}
 use Rattle.ctd_store.specs.declared.value.Value.{Value}
 use Rattle.ctd_store.specs.Order.{values_cmp}
-use Rattle.ctd_store.specs.Store.{Array, Variables, has_indices}
+use Rattle.ctd_store.specs.Store.{Array, Variables, has_indices, with_pin}
+
+-- one preset after the other, so that the last of a key counts
+abbrev pub pins_of : List Preset → Variables
+pins_of presets = fold with_pin [] presets
 
 -- whether two arrays are in order and have no index list in common
 abbrev pub are_apart : Array → Array → Bool

@@ -8,10 +8,10 @@ use Rattle.ctd_token.specs.declared.token.Mark.{Mark}
 use Rattle.ctd_token.specs.declared.token.Mark.TheVariants.{Assign}
 use Rattle.ctd_token.specs.declared.token.Token.{Token}
 use Rattle.ctd_program.specs.Tree.{ExprTree, VarTree, CommandList}
-use Rattle.ctd_syntax.specs.Grammar.{IsExpr, IsTarget}
+use Rattle.ctd_syntax.specs.Grammar.{IsCommands, IsExpr, IsTarget}
 use Rattle.ctd_syntax.specs.Lexeme.{Lexeme, mark, span_of}
 use Rattle.ctd_syntax.specs.Nesting.{IsShallow, PassesLimitAt}
-use Rattle.ctd_syntax.specs.Reading.{IsCut, Spells, lexemes}
+use Rattle.ctd_syntax.specs.Reading.{IsCut, lexemes}
 use Rattle.ctd_syntax.specs.declared.front.ParseError.{ParseError}
 use Rattle.ctd_syntax.specs.declared.front.ParseError.TheVariants.{Syntax, Memory}
 use Rattle.ctd_syntax.specs.declared.keyword.Keyword.{Keyword}
@@ -54,7 +54,7 @@ NestsTooDeep program before = (ts : List Token) → IsCut program ts → PassesL
 
 -- these tokens do not nest too deeply, and spell no program
 abbrev pub AreNoProgram : List ℕ → List Token → Type 0
-AreNoProgram program ts = IsShallow (lexemes program ts) × ((tree : CommandList) → ¬ (Spells program ts tree))
+AreNoProgram program ts = IsShallow (lexemes program ts) × ((tree : CommandList) → ¬ (IsCommands (lexemes program ts) tree))
 
 -- whatever tokens a text is cut into, they do not nest too deeply and spell no program
 abbrev pub SpellsNone : List ℕ → Type 0

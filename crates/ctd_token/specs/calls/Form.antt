@@ -3,7 +3,8 @@ use Rattle.ctd_token.specs.declared.token.TokenKind.TheVariants as tokens
 use Rattle.std.specs.Prelude.{◌≡◌, ◌<◌, ◌≤◌, ℕ, ◌||◌, true, List, [], ◌∷◌, Option, Some, None, IsSome, length, take, get_or, All}
 use Rattle.ctd_token.specs.declared.token.TokenKind.{TokenKind}
 use Rattle.ctd_token.specs.declared.token.Mark.{Mark}
-use Rattle.ctd_token.specs.Cut.{is_upper, is_lower, is_digit, single_mark, double_mark}
+use Rattle.std.specs.Char.{is_ascii_uppercase, is_ascii_lowercase, is_ascii_digit}
+use Rattle.ctd_token.specs.Cut.{single_mark, double_mark}
 use Rattle.ctd_token.specs.Literal.{WholeLiteral, literal}
 
 -- the five forms
@@ -44,9 +45,9 @@ pub record IsRow (P : ℕ → Type 0) (bytes : List ℕ) : Type 0 where
 
 -- these bytes have a form: `[A-Z]+`, `[a-z][a-z0-9]*`, `[0-9]+`, a string literal, or one of the marks
 abbrev pub HasForm : Form → List ℕ → Type 0
-HasForm word bytes = IsRow (λ b. is_upper b ≡ true) bytes
-HasForm name bytes = (is_lower (get_or bytes 0 0) ≡ true) × IsRow (λ b. is_lower b || is_digit b ≡ true) bytes
-HasForm numeral bytes = IsRow (λ b. is_digit b ≡ true) bytes
+HasForm word bytes = IsRow (λ b. is_ascii_uppercase b ≡ true) bytes
+HasForm name bytes = (is_ascii_lowercase (get_or bytes 0 0) ≡ true) × IsRow (λ b. is_ascii_lowercase b || is_ascii_digit b ≡ true) bytes
+HasForm numeral bytes = IsRow (λ b. is_ascii_digit b ≡ true) bytes
 HasForm text bytes = IsLiteral bytes
 HasForm mark bytes = IsSome (mark_of bytes)
 

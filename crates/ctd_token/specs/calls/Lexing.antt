@@ -6,7 +6,8 @@ use Rattle.ctd_token.specs.declared.text.Place.{Place}
 use Rattle.ctd_token.specs.declared.token.Token.{Token}
 use Rattle.ctd_token.specs.declared.fault.LoadKind.{LoadKind}
 use Rattle.ctd_token.specs.declared.fault.LoadKind.TheVariants.{ProgramTooLong, BadByte, UnfinishedString, BadOctal, NumberTooLarge, NotInProfile, TooDeep, Syntax, BadPattern, Read, Memory}
-use Rattle.ctd_token.specs.Cut.{Cuts, Faults, next_token, place_at, skip_gap, token_at, wrong}
+use Rattle.ctd_token.specs.Cut.{Cuts, Faults, next_token, place_at, skip_gap, token_at}
+use Rattle.ctd_token.specs.calls.Scanning.{wrong}
 use Rattle.ctd_token.specs.Lexing.{HasFault}
 
 -- the part of a text from an offset on, which is yet to be cut

@@ -3,7 +3,12 @@ use Rattle.std.specs.Prelude.{◌≡◌, ◌≤◌, ℕ, Result, Ok, Err}
 use Rattle.ctd_token.specs.declared.token.TokenKind.{TokenKind}
 use Rattle.ctd_token.specs.declared.fault.TokenFault.{TokenFault}
 use Rattle.ctd_token.specs.declared.fault.TokenFault.TheVariants.{Wrong, Memory}
-use Rattle.ctd_token.specs.Cut.{TokenOrFault, wrong}
+use Rattle.ctd_token.specs.declared.fault.LoadKind.{LoadKind}
+use Rattle.ctd_token.specs.Cut.{TokenOrFault}
+
+-- a fault this many bytes after the first
+abbrev pub wrong : LoadKind → ℕ → TokenOrFault
+wrong kind behind = Err (kind, behind)
 
 -- the token or the fault that is found, unless no memory was left
 abbrev pub Scans : Result (TokenKind × ℕ) TokenFault → TokenOrFault → Type 0

@@ -2,7 +2,8 @@
 use Rattle.std.specs.Prelude.{◌≡◌, ◌≤◌, ℕ, suc, pos, ◌-◌, ◌^◌, Bool, true, false, ⊤, List, fold, Option, Result, Ok, Err}
 use Rattle.ctd_source.specs.TestData.{TestData}
 use Rattle.ctd_program.specs.Tree
-use Rattle.ctd_program.specs.Tree.{ExprTree, VarTree, GuardTree, CommandTree, CommandList, Separator, place_of}
+use Rattle.ctd_program.specs.Tree.{ExprTree, VarTree, GuardTree, CommandTree, CommandList, Separator}
+use Rattle.ctd_check.specs.calls.Run.{place_of}
 use Rattle.ctd_token.specs.declared.text.Place.{Place}
 use Rattle.ctd_program.specs.declared.tree.Loop.{Loop, out-Loop}
 use Rattle.ctd_program.specs.declared.tree.Choice.{Choice, out-Choice}
@@ -15,7 +16,8 @@ use Rattle.ctd_value.specs.Val.{count, key}
 use Rattle.ctd_outcome.specs.declared.reason.Fault.{Fault}
 use Rattle.ctd_command.specs.State.{State, Effect, done, rejected, faulty, Act, fault_of_value}
 use Rattle.ctd_command.specs.Commands.{keep}
-use Rattle.ctd_check.specs.Loops.{count_turn, Guard, Loop as Started, while_true, times, take_turn, guard_of}
+use Rattle.ctd_check.specs.Loops.{Guard, Loop as Started, while_true, times, take_turn, guard_of}
+use Rattle.ctd_check.specs.inner.Loops.{count_turn}
 use Rattle.ctd_check.specs.calls.BigSteps.{separator_before}
 use Rattle.ctd_range.specs.declared.range.Range.{Range}
 use Rattle.ctd_range.specs.calls.Ranges.{IsIn}

@@ -1,7 +1,7 @@
 use Rattle.std.proofs.Common.{◌≡◌, ◌<◌, List, [], ◌∷◌, length, arith, refl, ap, sym, ◌∙◌}
 use Rattle.std.proofs.lemmas.List.{append-nil}
 use Rattle.ctd_program.specs.declared.tree.Command.{Command}
-use Rattle.ctd_program.specs.Tree.{list_blocks}
+use Rattle.ctd_program.specs.calls.Blocks.{list_blocks}
 use Rattle.ctd_program.specs.calls.View.{command_trees}
 use Rattle.ctd_program.proofs.Trees.{list_commands}
 use Rattle.ctd_check.specs.Loops.{tasks}

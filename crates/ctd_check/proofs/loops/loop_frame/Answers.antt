@@ -1,9 +1,10 @@
 use Rattle.std.proofs.Common.{arith, ◌∷◌, [], ap, sym, ◌∙◌}
-use Rattle.ctd_program.specs.Tree.{list_blocks, separator_blocks}
+use Rattle.ctd_program.specs.calls.Blocks.{list_blocks, separator_blocks}
 use Rattle.ctd_program.specs.calls.View.{command_trees, boxed_target}
 use Rattle.ctd_program.specs.inner.View.{boxed_separator}
 use Rattle.ctd_program.proofs.Trees.{list_commands}
-use Rattle.ctd_check.specs.Loops.{loop_of, turn}
+use Rattle.ctd_check.specs.Loops.{turn}
+use Rattle.ctd_check.specs.calls.Loops.{loop_of}
 use Rattle.ctd_check.specs.inner.FrameTasks.{guard_in, separator_in}
 use Rattle.ctd_check.proofs.loops.loop_frame.Goals as goal
 

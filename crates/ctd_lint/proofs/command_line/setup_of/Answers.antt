@@ -1,7 +1,7 @@
 use Rattle.std.proofs.Common.{◌∙◌, ap, sym, subst, codes}
 use Rattle.clap.specs.Words.{all_of, first_of}
-use Rattle.ctd_arguments.specs.Settings.{ArePresetsOf}
-use Rattle.ctd_arguments.specs.Usage.{is_on}
+use Rattle.ctd_arguments.specs.Usage.{ArePresetsOf}
+use Rattle.ctd_arguments.specs.inner.Usage.{is_on}
 use Rattle.ctd_lint.specs.inner.CommandLine.{AreKindsOf}
 use Rattle.ctd_lint.proofs.UsageFaults.{holds_on_return, named, no_kinds, no_presets, no_programs}
 use Rattle.ctd_lint.proofs.command_line.setup_of.Goals as goal

@@ -1,4 +1,4 @@
-use Rattle.std.proofs.Common.{◌≡◌, None, Some, sym, ap, ◌∙◌, subst}
+use Rattle.std.proofs.Common.{◌≡◌, None, sym, ap, ◌∙◌, subst}
 use Rattle.std.specs.Prelude.{map}
 use Rattle.ctd_syntax.specs.inner.Front.{AreNoProgram, HasTree, HasNoTree, IsRefusal, lexeme}
 use Rattle.ctd_syntax.specs.Grammar.{IsCommands}

@@ -1,7 +1,7 @@
 use Rattle.std.proofs.Common.{◌≡◌, ap, sym, arith, rules}
 use Rattle.std.specs.Prelude.{codes}
 use Rattle.std.proofs.lemmas.Slice.Eq.{text_from_reads}
-use Rattle.ctd_syntax.specs.Lexeme.{plain_word}
+use Rattle.ctd_syntax.specs.inner.Words.{plain_word}
 use Rattle.ctd_syntax.proofs.keyword.plain_word.Goals as goal
 
 pub returns-in-SPACE : goal.returns-in-SPACE

@@ -1,7 +1,7 @@
 use Rattle.std.proofs.Common.{◌≡◌, ap, sym, arith, rules}
 use Rattle.std.specs.Prelude.{codes}
 use Rattle.std.proofs.lemmas.Slice.Eq.{text_from_reads}
-use Rattle.ctd_syntax.specs.Lexeme.{test_word}
+use Rattle.ctd_syntax.specs.inner.Words.{test_word}
 use Rattle.ctd_syntax.proofs.keyword.test_word.Goals as goal
 
 pub returns-in-STRLEN : goal.returns-in-STRLEN

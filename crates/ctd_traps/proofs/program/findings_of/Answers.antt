@@ -1,5 +1,5 @@
 use Rattle.std.proofs.Common.{[], sym, subst}
-use Rattle.ctd_store.specs.Store.{pins_of}
+use Rattle.ctd_store.specs.inner.Store.{pins_of}
 use Rattle.ctd_program.specs.calls.View.{command_trees}
 use Rattle.ctd_known.specs.calls.Facts.{PinsStand}
 use Rattle.ctd_traps.specs.calls.Traps.{traps_of}

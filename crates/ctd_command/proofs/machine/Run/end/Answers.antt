@@ -1,5 +1,5 @@
 use Rattle.std.proofs.Common.{ap, sym}
-use Rattle.ctd_command.specs.Blanks.{end_in}
+use Rattle.ctd_command.specs.inner.Blanks.{end_in}
 use Rattle.ctd_command.specs.calls.Performs.{state}
 use Rattle.ctd_command.proofs.Acts.{performs_at}
 use Rattle.ctd_command.proofs.machine.Run.end.Goals as goal

@@ -1,0 +1,9 @@
+-- The value of a variable.
+use Rattle.std.specs.Prelude.{Option, Result}
+use Rattle.std.specs.Option.{ok_or}
+use Rattle.ctd_store.specs.declared.value.Value.{Value}
+use Rattle.ctd_value.specs.Fault.{ValueFault, Undefined}
+
+-- a variable has to have a value
+abbrev pub value_or_undefined : Option Value → Result Value ValueFault
+value_or_undefined found = ok_or found Undefined
