@@ -89,7 +89,7 @@ impl Array {
     {
         match self.places.get(indices) {
             Some(value) => Some(value),
-            None => self.rest.get(indices),
+            None => value_in_rest(&self.rest, indices),
         }
     }
 
@@ -261,6 +261,17 @@ fn add_beside<'s>(
         return Ok(());
     }
     add_entry(Indices::List(indices), value, entries)
+}
+
+/// The value at an index list in a map. Out of line: keeps the caller small.
+#[inline(never)]
+fn value_in_rest<'a>(
+    rest: &'a IndexMap<Vec<Value>, Value>,
+    indices: &[Value],
+) -> Option<&'a Value>
+    ensures value { option_copied result ≡ find values_cmp indices.now (listed rest.now.entries) }
+{
+    rest.get(indices)
 }
 
 /// Whether a value stands in a map, at an index list that has no place. Allocates nothing.

@@ -1,6 +1,6 @@
 use Rattle.std.proofs.Common.{sym, ◌∙◌}
 use Rattle.ctd_store.specs.calls.Places.{listed, placed}
-use Rattle.ctd_store.proofs.Listed.{found_first, found_second, looked_up}
+use Rattle.ctd_store.proofs.Listed.{found_first, found_second}
 use Rattle.ctd_store.proofs.array.Array.get.Goals as goal
 
 pub returns-in-Some : goal.returns-in-Some
@@ -8,7 +8,6 @@ returns-in-Some c = record { value = sym (found_first c.args.indices.now c.in-So
 
 pub returns-in-None : goal.returns-in-None
 returns-in-None c = record {
-  value = c.get-in-None.ensures.value
-      ∙ looked_up c.args.indices.now c.self.inside.rest.entries
+  value = c.value_in_rest.ensures.value
       ∙ sym (found_second c.args.indices.now (placed c.self.inside.places) (listed c.self.inside.rest.entries) c.args.self.now c.self.view_is (sym c.in-None.ensures.value));
 }
