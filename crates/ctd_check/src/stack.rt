@@ -1,6 +1,7 @@
 //! What a run has still to do: its frames, and the steps that are left.
 ghost use Rattle.std.specs.Prelude.{◌≡◌, ℕ, ◌≤◌, ◌<◌, ◌+◌, ◌-◌, ◌^◌, ◌++◌, ◌∷◌, [], length, is_some, true, false, None, Some, OnOk, IfErr, IfNone, IfOk, IfSome};
 ghost use Rattle.std.specs.Option.{option_copied};
+ghost use Rattle.ctd_token.specs.declared.limits.TheConstants.{NESTING_LIMIT};
 ghost use Rattle.ctd_program.specs.calls.Blocks.{blocks, list_blocks};
 ghost use Rattle.ctd_program.specs.calls.View.{command_tree, command_trees};
 ghost use Rattle.ctd_value.specs.calls.Lending.{map_ok};
@@ -13,9 +14,10 @@ use arrayvec::ArrayVec;
 use ctd_command::{CommandFailure, Failure};
 use ctd_outcome::Fault;
 use ctd_syntax::Command;
+use ctd_token::NESTING_LIMIT;
 
-/// The program's list, and 200 blocks in one another.
-const MOST_FRAMES: usize = 201;
+/// The program's list, and blocks in one another.
+const MOST_FRAMES: usize = NESTING_LIMIT as usize + 1;
 
 /// The frames of the blocks that are open, and the steps that are left.
 #[derive(Drop)]
@@ -54,7 +56,7 @@ fn next_turn_in(frames: &mut [Frame<'_>])
 impl<'p> FrameStack<'p> {
     /// The commands of a program.
     pub(crate) fn new(commands: &'p [Command], steps: u64) -> FrameStack<'p>
-        requires { list_blocks (command_trees commands.now) ≤ 200 }
+        requires { list_blocks (command_trees commands.now) ≤ NESTING_LIMIT }
         ensures left { result.left ≡ steps }
         ensures len { length result.frames.items ≡ 1 }
         ensures to_do { to_do result.frames.items ≡ tasks (command_trees commands.now) ++ finish ∷ [] }

@@ -1,7 +1,7 @@
 //! A program that was read, as it is run.
 ghost use Rattle.std.specs.Prelude.{◌≡◌, ◌≢◌, ◌≤◌, None, Some, length, IfOk, IfErr};
 ghost use Rattle.ctd_source.specs.declared.source.Seen.TheVariants.{Going};
-ghost use Rattle.ctd_token.specs.declared.limits.TheConstants.{PROGRAM_LIMIT};
+ghost use Rattle.ctd_token.specs.declared.limits.TheConstants.{NESTING_LIMIT, PROGRAM_LIMIT};
 ghost use Rattle.ctd_program.specs.calls.Blocks.{list_blocks};
 ghost use Rattle.ctd_program.specs.calls.View.{command_trees};
 ghost use Rattle.ctd_syntax.specs.calls.RegexNumbers.{IsNumbered, literals};
@@ -23,7 +23,7 @@ pub struct Plan {
     program: Program,
     /// The patterns of its literals, in the order of the text, so that each stands at its literal's number.
     patterns: Vec<Pattern>,
-    ghost shallow: { list_blocks (command_trees program) ≤ 200 },
+    ghost shallow: { list_blocks (command_trees program) ≤ NESTING_LIMIT },
     ghost numbered: { IsNumbered (command_trees program) },
     ghost built: { patterns.items ≡ texts_of (literals (command_trees program)) },
 }
@@ -103,10 +103,10 @@ impl Plan {
     ghost use Rattle.ctd_loader.specs.calls.Loading.{GivesProgramOrFault, LoadsFrom};
     ghost use Rattle.ctd_loader.specs.Loading.{IsReady, TextHasFault};
 
-    /// The commands, with at most 200 blocks open at each.
+    /// The commands, with at most `NESTING_LIMIT` blocks open at each.
     pub fn commands(&self) -> &[Command]
         ensures whole { result.now ≡ self.now }
-        ensures shallow { list_blocks (command_trees result.now) ≤ 200 }
+        ensures shallow { list_blocks (command_trees result.now) ≤ NESTING_LIMIT }
     {
         self.program.commands()
     }

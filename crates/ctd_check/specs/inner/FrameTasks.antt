@@ -5,6 +5,7 @@ use Rattle.ctd_check.specs.Loops
 use Rattle.std.specs.Prelude.{◌≡◌, ℕ, ◌+◌, ◌^◌, ◌≤◌, max, List, [], ◌∷◌, ◌++◌, Option, Some, None, Result, Ok, Err}
 use Rattle.std.specs.Coded.{×_prop, Unit-prop, le_prop}
 use Rattle.std.proofs.Common.{Bor}
+use Rattle.ctd_token.specs.declared.limits.TheConstants.{NESTING_LIMIT}
 use Rattle.ctd_program.specs.declared.tree.Command.{Command}
 use Rattle.ctd_program.specs.declared.tree.Var.{Var}
 use Rattle.ctd_program.specs.Tree.{VarTree, Separator}
@@ -114,9 +115,9 @@ abbrev pub NeedsRoom : Result (Option Frame) CommandFailure → ℕ → Type 0
 NeedsRoom (Ok frame) blocks = IsWithin frame blocks
 NeedsRoom (Err e) blocks = Unit {0}
 
--- how many frames may lie on one another: that of the program itself, and those of 200 blocks
+-- how many frames may lie on one another: that of the program itself, and those of blocks in one another
 abbrev pub most_frames : ℕ
-most_frames = 201
+most_frames = NESTING_LIMIT + 1
 
 -- each frame, from number i on, has room for its blocks, and its turns can be counted
 abbrev pub FitsFrom : ℕ → ℕ → List Frame → Type 0
