@@ -21,7 +21,7 @@ const TRAPS: [TrapKind; 8] = [
 /// The kind of a finding or of a trap.
 #[derive(Clone, Copy)]
 pub(crate) enum LintKind {
-    /// What a program cannot mean.
+    /// A likely mistake.
     Finding(Kind),
     /// Where a run may stop without a verdict.
     Trap(TrapKind),

@@ -144,8 +144,8 @@ pub struct Command {
     pub action: Action,
 }
 
-/// What a command does. The separator of a loop may be absent. What a command takes lies in a box, since every command has the room of the
-/// largest.
+/// What a command does. The separator of a loop may be absent. What a command takes is boxed: an enum is as large as its largest
+/// variant.
 #[derive(Drop)]
 #[cycle(command)]
 pub enum Action {

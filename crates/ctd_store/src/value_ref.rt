@@ -44,7 +44,7 @@ impl<'v> ValueRef<'v> {
         }
     }
 
-    /// Takes the place of a value of its kind, where that takes no memory, and tells whether it did; else that is as it was. A number takes
+    /// Takes the place of a value of its kind, where that takes no memory, and tells whether it did; otherwise leaves it unchanged. A number takes
     /// none, and neither does a string that is no longer than the one in its place.
     #[inline(always)]
     pub fn replaces(self, value: &mut Value) -> bool

@@ -59,7 +59,7 @@ pub record ReportsMeaning {P D : Type 0} {G : sources.Ghosts P} {H : sources.Gho
   pub within : length bytes ≤ s.limits.bytes + 1
   pub means : (d : TestData) → d.limit ≡ s.limits.bytes → Agrees bytes (H.seen testdata.new) d → ReportsRun s.quiet (length bytes) report (meaning s.mode tree s.presets d s.limits.steps)
 
--- the program's source gave a text that may fail so, and the data are not touched
+-- the program's source gave a text that may have this fault, and the data are not touched
 pub record ReportsFault {P D : Type 0} {G : sources.Ghosts P} {H : sources.Ghosts D} (program : Call G) (testdata : Call H) (report : Report) : Type 0 where
   pub fault : LoadFault
   pub text : List ℕ

@@ -1,5 +1,5 @@
 -- Which fault the words have.
--- Of this, what only the contracts of single calls and laws say.
+-- Used only by per-call contracts and laws.
 use Rattle.std.specs.Prelude.{◌≤◌, length}
 use Rattle.clap.specs.Words.{Kinds}
 

@@ -1,5 +1,5 @@
 -- REGEX: a match at the start of the window.
--- Of this, what only the proofs of this crate use.
+-- Used only by the proofs of this crate.
 use Rattle.std.specs.Prelude.{ℕ, List, length}
 use Rattle.ctd_command.specs.State.{Act, ◌>>=◌, return}
 use Rattle.ctd_command.specs.Regex.{leading_match}

@@ -70,7 +70,7 @@ pub record ReportsFindings {P : Type 0} {G : Ghosts P} (file : List ℕ) (setup 
   pub traps : AreTraps tree setup.presets told
   pub report_is : report ≡ program_report file setup (findings_of tree setup.presets) told
 
--- the source gave a text that may fail so, and the report is that of this fault
+-- the source gave a text that may have this fault, and the report is that of the fault
 pub record ReportsRefusal {P : Type 0} {G : Ghosts P} (file : List ℕ) (program : Call G) (report : Report) : Type 0 where
   pub fault : LoadFault
   pub text : List ℕ

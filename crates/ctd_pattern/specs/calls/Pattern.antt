@@ -1,5 +1,5 @@
 -- What a literal of REGEX means as a pattern, and what it matches at the start of a window.
--- Of this, what only the contracts of single calls and laws say.
+-- Used only by per-call contracts and laws.
 use Rattle.std.specs.Prelude.{ℕ, List, IsSomeAnd}
 use Rattle.regex.specs.Patterns.{Re, SameCaptures}
 use Rattle.ctd_pattern.specs.Pattern.{written_pattern}

@@ -1,5 +1,5 @@
 -- What writing a report leaves on the two streams.
--- Of this, what only the contracts of single calls and laws say.
+-- Used only by per-call contracts and laws.
 use Rattle.std.specs.Prelude.{ℕ, Result, Ok, Err}
 use Rattle.ctd_report.specs.declared.sink.Sink.{Ghosts}
 use Rattle.ctd_report.specs.declared.written.ToolFault.{ToolFault}

@@ -1,5 +1,5 @@
 -- Which data a reader may have had, by what it gave.
--- Of this, what only the contracts of single calls and laws say.
+-- Used only by per-call contracts and laws.
 use Rattle.std.specs.Prelude.{ℕ, Bool, true, false, List, [], ◌++◌}
 use Rattle.ctd_source.specs.declared.source.Seen.{Seen}
 use Rattle.ctd_source.specs.declared.source.Seen.TheVariants.{Going, Ended, Broken}

@@ -1,5 +1,5 @@
 -- What callers see of a cursor.
--- Of this, what only the contracts of single calls and laws say.
+-- Used only by per-call contracts and laws.
 use Rattle.std.specs.Prelude.{◌≡◌, ◌≢◌, ℕ, ◌+◌, ◌<◌, Bool, true, List, ◌++◌, length, drop, slice_get, Option, None, Some, ◌⊎◌, Result, Ok, Err, IfSome, IfOk, IsFalse}
 use Rattle.ctd_source.specs.declared.spot.LookFault.{LookFault}
 use Rattle.ctd_source.specs.declared.spot.LookFault.TheVariants.{Read}

@@ -1,5 +1,5 @@
 -- A reader as a source.
--- Of this, what only the contracts of single calls and laws say.
+-- Used only by per-call contracts and laws.
 use Rattle.std.specs.Prelude.{◌≡◌, ◌+◌, ◌^◌, ◌<◌, ◌≤◌, ℕ, List, Result, Ok, IsErr, IfOk}
 use Rattle.ctd_source.specs.declared.source.Failed.{Failed}
 use Rattle.ctd_source.specs.declared.source.Seen.TheVariants.{Going}

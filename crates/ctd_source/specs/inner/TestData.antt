@@ -1,5 +1,5 @@
 -- The data of a check: what a look at them gives, and the spot of each offset.
--- Of this, what only the proofs of this crate use.
+-- Used only by the proofs of this crate.
 use Rattle.std.specs.Prelude.{ℕ, ◌+◌, if◌then◌else◌}
 use Rattle.ctd_source.specs.declared.spot.Spot.{Spot}
 use Rattle.ctd_source.specs.TestData.{is_newline}

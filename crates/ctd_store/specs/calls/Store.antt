@@ -1,5 +1,5 @@
 -- What has been assigned and pinned, and what a variable stands for.
--- Of this, what only the contracts of single calls and laws say.
+-- Used only by per-call contracts and laws.
 use Rattle.ctd_store.specs.declared.value.Value.TheVariants as values
 use Rattle.std.specs.Prelude.{ℕ, suc, pos, nat_eq, true, false, Bool, ◌&&◌, List, [], ◌∷◌, ◌++◌, map, Option, Some, None}
 use Rattle.std.specs.FinMap.{find, put}

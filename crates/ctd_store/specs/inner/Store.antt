@@ -1,5 +1,5 @@
 -- What has been assigned and pinned, and what a variable stands for.
--- Of this, what only the proofs of this crate use.
+-- Used only by the proofs of this crate.
 use Rattle.std.specs.Prelude.{ℕ, Bool, not, ◌&&◌, List, [], fold, slice_get, option_map, Option, if◌then◌else◌}
 use Rattle.std.specs.List.{list_all}
 use Rattle.std.specs.FinMap.{put, is_sorted}

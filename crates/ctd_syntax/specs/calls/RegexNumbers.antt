@@ -1,5 +1,5 @@
 -- The literals of REGEX in a program, and their numbers.
--- Of this, what only the contracts of single calls and laws say.
+-- Used only by per-call contracts and laws.
 use Rattle.std.specs.Prelude.{◌≡◌, ℕ, List, [], ◌∷◌, ◌++◌, length, map}
 use Rattle.std.specs.List.{range_with_len}
 use Rattle.ctd_program.specs.declared.tree.PatternLiteral.{PatternLiteral}

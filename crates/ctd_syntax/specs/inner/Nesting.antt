@@ -1,5 +1,5 @@
 -- How deep the tokens of a program nest, counted before the grammar is asked.
--- Of this, what only the proofs of this crate use.
+-- Used only by the proofs of this crate.
 use Rattle.std.specs.Prelude.{ℕ, ◌+◌, List, [], ◌∷◌, Option, Some, None, option_map, nat_lt, if◌then◌else◌}
 use Rattle.ctd_token.specs.declared.limits.TheConstants.{NESTING_LIMIT}
 use Rattle.ctd_syntax.specs.Lexeme.{Lexeme}

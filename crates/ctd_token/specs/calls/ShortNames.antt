@@ -1,5 +1,5 @@
 -- How names are kept: short ones in place, as eight bytes by which two of them are compared.
--- Of this, what only the contracts of single calls and laws say.
+-- Used only by per-call contracts and laws.
 use Rattle.std.specs.Prelude.{◌≡◌, ◌<◌, ◌≤◌, ℕ, ◌-◌, List, [], ◌∷◌, ◌++◌, length, replicate, nat_lt, if◌then◌else◌}
 use Rattle.ctd_token.specs.declared.limits.TheConstants.{SHORT_NAME}
 use Rattle.ctd_token.specs.declared.name.NameRest.{NameRest}

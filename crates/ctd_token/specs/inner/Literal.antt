@@ -1,5 +1,5 @@
 -- What stands between the quotes of a string literal.
--- Of this, what only the proofs of this crate use.
+-- Used only by the proofs of this crate.
 use Rattle.std.specs.Prelude.{ℕ, ◌&&◌, Bool, not, nat_eq, [], None}
 use Rattle.ctd_token.specs.Literal.{WholeLiteral}
 

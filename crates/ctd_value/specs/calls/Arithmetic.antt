@@ -1,5 +1,5 @@
 -- Whole numbers, without bound and within the range of values.
--- Of this, what only the contracts of single calls and laws say.
+-- Used only by per-call contracts and laws.
 use Rattle.std.specs.Prelude.{ℕ, zero, suc, ℤ, pos, ◌*ℤ◌}
 
 -- the product of n equal factors

@@ -1,5 +1,5 @@
 -- Why there is no value; running out of memory is no such reason.
--- Of this, what only the contracts of single calls and laws say.
+-- Used only by per-call contracts and laws.
 use Rattle.ctd_value.specs.declared.fault.EvalFault.TheVariants as declared_faults
 use Rattle.ctd_value.specs.declared.fault.TestFault.TheVariants as declared_test_faults
 use Rattle.std.specs.Prelude.{◌≡◌, Result, Ok, Err}
