@@ -8,7 +8,7 @@ use Rattle.clap.specs.declared.error.ErrorKind.{ErrorKind}
 use Rattle.clap.specs.declared.error.ErrorKind.TheVariants.{OutOfMemory}
 use Rattle.ctd_program.specs.declared.preset.Preset.{Preset}
 use Rattle.ctd_arguments.specs.CommandLine.{checker}
-use Rattle.ctd_arguments.specs.Usage.{ArePresetsOf, AsksForCheck, IsUsageFault, bad_preset, bad_steps, fault_by_kind, no_memory, no_text, not_taken, value_in}
+use Rattle.ctd_arguments.specs.Usage.{ArePresetsOf, AsksForCheck, IsUsageFault, bad_preset, bad_steps, fault_by_kind, no_memory, no_text, not_taken, option_value}
 use Rattle.ctd_arguments.specs.inner.Usage.{HasNoPresets, HasNoStepLimit}
 use Rattle.ctd_arguments.specs.declared.setup.UsageFault.{UsageFault}
 use Rattle.ctd_arguments.specs.declared.setup.UsageFault.TheVariants as fault
@@ -31,12 +31,12 @@ by_clap words texts kind f are utf8 is (inr among) = not_taken utf8 (kind, subst
 
 module _ (words : List Text) (asks : AsksForCheck words) where
   -- no presets, or memory ran out
-  pub no_presets : (f : UsageFault) (given : Option Text) → given ≡ value_in words (codes "define") → (f ≡ fault.Memory) ⊎ ((f ≡ fault.BadPreset) × HasNoPresets given) → IsUsageFault words f
+  pub no_presets : (f : UsageFault) (given : Option Text) → given ≡ option_value words (codes "define") → (f ≡ fault.Memory) ⊎ ((f ≡ fault.BadPreset) × HasNoPresets given) → IsUsageFault words f
   no_presets f given is (inl memory) = subst (IsUsageFault words) (sym memory) no_memory
   no_presets f given is (inr bad) = subst (IsUsageFault words) (sym bad.0) (bad_preset asks (subst HasNoPresets is bad.1))
 
   -- presets, and no number of steps
-  pub no_steps : (f : UsageFault) (define given : Option Text) (presets : List Preset) → define ≡ value_in words (codes "define") → given ≡ value_in words (codes "max-steps")
+  pub no_steps : (f : UsageFault) (define given : Option Text) (presets : List Preset) → define ≡ option_value words (codes "define") → given ≡ option_value words (codes "max-steps")
       → ArePresetsOf define presets → (f ≡ fault.BadSteps) × HasNoStepLimit given → IsUsageFault words f
   no_steps f define given presets defines is are bad =
       let presets_are = subst (λ v. ArePresetsOf v presets) defines are in

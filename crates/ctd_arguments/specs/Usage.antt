@@ -20,8 +20,8 @@ fault_by_kind OutOfMemory = fault.Memory
 fault_by_kind _ = fault.Words
 
 -- the value that the words give to an option or an argument
-abbrev pub value_in : List Text → Text → Option Text
-value_in words name = first_of name (matches_of checker words)
+abbrev pub option_value : List Text → Text → Option Text
+option_value words name = first_of name (matches_of checker words)
 
 -- the words give a flag
 abbrev pub flag_in : List Text → Text → Bool
@@ -58,7 +58,7 @@ pub data IsUsageFault (words : List Text) : UsageFault → Type 0 where
   no_text : ¬ (All IsUtf8 words) → IsUsageFault words fault.Words
   not_taken : {f : UsageFault} → All IsUtf8 words → IsFaultOfClap words f → IsUsageFault words f
   generates : IsTaken words → flag_in words (codes "generate") ≡ true → IsUsageFault words fault.Generate
-  bad_preset : AsksForCheck words → ((presets : List Preset) → ¬ (ArePresetsOf (value_in words (codes "define")) presets)) → IsUsageFault words fault.BadPreset
-  bad_steps : (presets : List Preset) → AsksForCheck words → ArePresetsOf (value_in words (codes "define")) presets →
-      ((steps : ℕ) → ¬ (IsStepLimitOf (value_in words (codes "max-steps")) steps)) → IsUsageFault words fault.BadSteps
+  bad_preset : AsksForCheck words → ((presets : List Preset) → ¬ (ArePresetsOf (option_value words (codes "define")) presets)) → IsUsageFault words fault.BadPreset
+  bad_steps : (presets : List Preset) → AsksForCheck words → ArePresetsOf (option_value words (codes "define")) presets →
+      ((steps : ℕ) → ¬ (IsStepLimitOf (option_value words (codes "max-steps")) steps)) → IsUsageFault words fault.BadSteps
   no_memory : IsUsageFault words fault.Memory

@@ -5,14 +5,14 @@ use Rattle.ctd_source.specs.declared.source.Source.{Ghosts}
 use Rattle.ctd_source.specs.declared.source.Seen.{Seen}
 use Rattle.ctd_source.specs.declared.source.Seen.TheVariants.{Going, Ended, Broken}
 use Rattle.ctd_source.specs.Agreement.{Agrees}
-use Rattle.ctd_source.specs.CursorCalls.{Gave}
+use Rattle.ctd_source.specs.SourceReads.{GaveBytes}
 use Rattle.ctd_token.specs.declared.fault.LoadFault.{LoadFault}
 use Rattle.ctd_program.specs.Tree.{CommandList}
 use Rattle.ctd_loader.specs.Loading.{IsReady, Loads, MayFail, TextHasFault, of_text, too_long, unread}
 use Rattle.ctd_arguments.specs.declared.setup.Setup.{Setup}
 use Rattle.ctd_report.specs.Report.{Report}
 use Rattle.ctd_tool.specs.Theorem.{Call, IsReport, of_meaning, of_program_fault}
-use Rattle.ctd_buffers.specs.inner.MemorySource.{StartsWith}
+use Rattle.ctd_buffers.specs.inner.MemorySource.{HoldsBytes}
 use Rattle.ctd_buffers.specs.calls.InMemory.{data_of, IsReportBy}
 
 -- the bytes that a source in memory gave, beside all of its bytes
@@ -26,7 +26,7 @@ consumed : (left : Option (List ℕ)) (bytes text : List ℕ) → Consumes (Some
 consumed None bytes text h = absurd h
 consumed (Some rest) bytes text h = (rest, h)
 
-given_of : {S : Type 0} (G : Ghosts S) (old new : S) (text bytes : List ℕ) → StartsWith G bytes old → Gave G old new text → GivenOf (G.seen new) text bytes
+given_of : {S : Type 0} (G : Ghosts S) (old new : S) (text bytes : List ℕ) → HoldsBytes G bytes old → GaveBytes G old new text → GivenOf (G.seen new) text bytes
 given_of G old new text bytes starts gave =
     let cut = consumed gave.rest bytes text (subst (λ o. Consumes o gave.rest text) starts.left gave.first) in
     record {
@@ -53,7 +53,7 @@ agrees_all Broken text bytes limit g = absurd (g.never_broken refl)
 
 -- the report on two sources in memory is that on their bytes
 pub report_in_memory : {P D : Type 0} {G : Ghosts P} {H : Ghosts D} (s : Setup) (program testdata : List ℕ) (p : Call G) (d : Call H) (report : Report)
-    → StartsWith G program p.old → StartsWith H testdata d.old → IsReport s p d report → IsReportBy s program testdata report
+    → HoldsBytes G program p.old → HoldsBytes H testdata d.old → IsReport s p d report → IsReportBy s program testdata report
 report_in_memory {G} {H} s program testdata p d report sp sd (of_meaning m) =
     inl (record {
       tree = m.tree;

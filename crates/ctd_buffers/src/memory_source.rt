@@ -13,11 +13,11 @@ pub(crate) struct MemorySource<'m> {
 }
 
 impl<'m> MemorySource<'m> {
-    ghost use Rattle.ctd_buffers.specs.inner.MemorySource.{StartsWith};
+    ghost use Rattle.ctd_buffers.specs.inner.MemorySource.{HoldsBytes};
 
     /// A source that has these bytes left to give.
     pub(crate) fn new(bytes: &'m [u8]) -> Self
-        ensures { StartsWith ⟦<MemorySource<'m> as Source>⟧ bytes.now result }
+        ensures { HoldsBytes ⟦<MemorySource<'m> as Source>⟧ bytes.now result }
     {
         MemorySource {
             bytes,

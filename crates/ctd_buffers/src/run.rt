@@ -23,7 +23,7 @@ pub(crate) struct Answer {
 }
 
 /// Answers the words: reads the settings from them, checks the data, writes the report and returns the status.
-fn run_words<O: Sink, E: Sink>(
+fn answer_words<O: Sink, E: Sink>(
     alloc: Global,
     words: &[Bytes],
     program: &[u8],
@@ -59,7 +59,7 @@ pub(crate) fn run_in_memory(alloc: Global, words: &[u8], program: &[u8], testdat
     let status = match split_words(alloc, words) {
         Ok(words) => {
             let words = words.as_slice();
-            run_words(alloc, words, program, testdata, &mut out, &mut err)
+            answer_words(alloc, words, program, testdata, &mut out, &mut err)
         }
         Err(_) => usage_status(&UsageFault::Memory, &mut out, &mut err),
     };

@@ -7,7 +7,7 @@ use Rattle.ctd_source.specs.declared.spot.LookFault.TheVariants as looks
 use Rattle.ctd_source.specs.TestData.{TestData, next_byte, look, visible}
 use Rattle.ctd_program.specs.Tree.{TestTree}
 use Rattle.ctd_store.specs.declared.value.Value.{Value}
-use Rattle.ctd_store.specs.Store.{History, Key}
+use Rattle.ctd_store.specs.Store.{Bindings, Key}
 use Rattle.ctd_value.specs.Fault.{ValueFault, TruthFault, with_fault}
 use Rattle.ctd_value.specs.Fault as faults
 use Rattle.ctd_value.specs.Truth.{truth}
@@ -152,7 +152,7 @@ lift_longer size n as_fault read short long s is other few (inl h) = same (ap (�
 lift_longer size n as_fault read short long s is other few (inr h) =
     cut s.offset (ap (λ r. lift (with_fault as_fault r) s) h.0 ∙ ap (λ fault. faulty fault s.offset) is) (ends_after s.offset (lift (with_fault as_fault long) s) (lift_forward as_fault long s other)) (omega (arith, h.1, few))
 
-pub evaluating : {A : Type 0} (f : History → Result A ValueFault) → IsLocal (evaluate f)
+pub evaluating : {A : Type 0} (f : Bindings → Result A ValueFault) → IsLocal (evaluate f)
 evaluating f = record {
   forward = λ d s. lift_forward fault_of_value (f s.store) s of_value;
   inside = λ d s within. lift_inside (length d.bytes) (with_fault fault_of_value (f s.store)) s within;

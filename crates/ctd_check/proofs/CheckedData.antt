@@ -8,7 +8,7 @@ use Rattle.ctd_source.specs.declared.source.Seen.TheVariants.{Going, Ended, Brok
 use Rattle.ctd_source.specs.TestData.{TestData}
 use Rattle.ctd_source.specs.Agreement.{Agrees}
 use Rattle.ctd_source.specs.calls.Agreement.{data_of_call}
-use Rattle.ctd_source.specs.CursorCalls.{Gave}
+use Rattle.ctd_source.specs.SourceReads.{GaveBytes}
 use Rattle.ctd_program.specs.declared.limits.Limits.{Limits}
 use Rattle.ctd_outcome.specs.declared.outcome.Checked.{Checked}
 use Rattle.ctd_outcome.specs.declared.outcome.Outcome.{Outcome}
@@ -48,7 +48,7 @@ module _ {D : Type 0} {G : Ghosts D} where
   pub call_is_found : (old new : D) (limits : Limits) (meaning_on : TestData → Meaning) (checked : Checked) → (found : FindsMeaning G old new limits meaning_on checked) → (left : List ℕ) → Finds checked (meaning_on (data_of_call found.given left checked.seen limits.bytes))
   call_is_found old new limits meaning_on checked found left = found.finds (data_of_call found.given left checked.seen limits.bytes) refl (call_agrees found.given left checked.seen limits.bytes)
 
-  all_given : (old new : D) (given bytes : List ℕ) → Gave G old new given → G.seen old ≡ Going → G.left old ≡ Some bytes → G.seen new ≡ Ended → given ≡ bytes
+  all_given : (old new : D) (given bytes : List ℕ) → GaveBytes G old new given → G.seen old ≡ Going → G.left old ≡ Some bytes → G.seen new ≡ Ended → given ≡ bytes
   all_given old new given bytes gave going left ended = subst (λ had. IfSome had (λ xs. given ≡ xs)) left (gave.end.all going ended)
 
   pub known_are_found : (old new : D) (limits : Limits) (meaning_on : TestData → Meaning) (checked : Checked) → FindsMeaning G old new limits meaning_on checked → G.seen old ≡ Going → checked.seen ≡ G.seen new → checked.seen ≢ Broken

@@ -4,7 +4,7 @@ use Rattle.std.proofs.lemmas.Option.{slice_get_within, slice_get-get_or}
 use Rattle.ctd_program.specs.declared.tree.PatternLiteral.{PatternLiteral}
 use Rattle.ctd_program.specs.Tree
 use Rattle.ctd_program.specs.Tree.{CommandList, Separator}
-use Rattle.ctd_syntax.specs.calls.RegexNumbers.{command_literals, separator_literals, literals}
+use Rattle.ctd_syntax.specs.calls.PatternLiterals.{command_literals, separator_literals, literals}
 use Rattle.ctd_loader.specs.calls.PatternTable.{IsAmong, AreAmong}
 use Rattle.ctd_check.specs.inner.Known.{AreKnown}
 use Rattle.ctd_check.specs.Loops.{Task, Loop, turn, tasks, tasks_before_turn}

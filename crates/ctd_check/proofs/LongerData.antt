@@ -10,7 +10,7 @@ use Rattle.ctd_source.proofs.Agreeing.{spot_by_front}
 use Rattle.ctd_source.proofs.Visible.{seen_byte}
 use Rattle.ctd_program.specs.Tree
 use Rattle.ctd_program.specs.Tree.{TestTree}
-use Rattle.ctd_store.specs.Store.{History}
+use Rattle.ctd_store.specs.Store.{Bindings}
 use Rattle.ctd_value.specs.Fault.{TruthFault, ◌>>=◌, with_fault, Look}
 use Rattle.ctd_value.specs.Truth.{truth}
 use Rattle.ctd_value.specs.inner.Truth.{is_end, is_one_of, as_test}
@@ -136,7 +136,7 @@ when : (Early : Type 0) (b : Bool) (short long : Result Bool TruthFault) → Sam
 when Early true short long same = same
 when Early false short long same = inl refl
 
-pub longer_truth : (t : TestTree) (h : History) (d e : TestData) (p : ℕ) → Extends d e → SameOrRead (Look Read) (length d.bytes < p + 1) (truth t h d p) (truth t h e p)
+pub longer_truth : (t : TestTree) (h : Bindings) (d e : TestData) (p : ℕ) → Extends d e → SameOrRead (Look Read) (length d.bytes < p + 1) (truth t h d p) (truth t h e p)
 longer_truth (Tree.or a b) h d e p x =
     chain (length d.bytes < p + 1) (truth a h d p) (truth a h e p) (λ y. if y then Ok true else truth b h d p) (λ y. if y then Ok true else truth b h e p) (longer_truth a h d e p x)
     (λ y. unless (length d.bytes < p + 1) y (truth b h d p) (truth b h e p) (longer_truth b h d e p x))

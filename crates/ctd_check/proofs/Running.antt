@@ -18,7 +18,7 @@ use Rattle.ctd_program.specs.Tree.{CommandList, CommandTree}
 use Rattle.ctd_check.specs.calls.Run.{place_of, Finds}
 use Rattle.ctd_program.specs.calls.View.{action_tree, command_tree}
 use Rattle.ctd_program.specs.declared.preset.Preset.{Preset}
-use Rattle.ctd_syntax.specs.calls.RegexNumbers.{command_literals}
+use Rattle.ctd_syntax.specs.calls.PatternLiterals.{command_literals}
 use Rattle.ctd_loader.specs.calls.PatternTable.{AreAmong}
 use Rattle.ctd_command.proofs.Acts.{answers_as}
 use Rattle.ctd_command.specs.declared.machine.Run.{Run}

@@ -1,6 +1,6 @@
 //! The check of data against a program.
 ghost use Rattle.std.specs.Prelude.{◌≡◌, ◌+◌, ◌≤◌, ◌^◌, Err, IfOk, OnErr};
-ghost use Rattle.ctd_source.specs.CursorCalls.{GaveAtMost};
+ghost use Rattle.ctd_source.specs.SourceReads.{GaveAtMost};
 ghost use Rattle.ctd_source.specs.declared.source.Seen.TheVariants.{Going};
 ghost use Rattle.ctd_program.specs.calls.View.{command_trees};
 ghost use Rattle.ctd_check.specs.Run.{meaning};

@@ -1,7 +1,7 @@
 //! Commands: each that holds no commands is done, and the others hand on what they take.
 ghost use Rattle.std.specs.Prelude.{◌≡◌, []};
 ghost use Rattle.ctd_program.specs.calls.View.{command_tree, target};
-ghost use Rattle.ctd_syntax.specs.calls.RegexNumbers.{command_literals};
+ghost use Rattle.ctd_syntax.specs.calls.PatternLiterals.{command_literals};
 ghost use Rattle.ctd_loader.specs.calls.PatternTable.{AreAmong, IsAmong};
 ghost use Rattle.ctd_command.specs.Regex.{regex};
 ghost use Rattle.ctd_command.specs.calls.Performs.{IsSound, Performs};

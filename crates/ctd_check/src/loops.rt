@@ -3,7 +3,7 @@ ghost use Rattle.std.specs.Prelude.{◌≡◌, ℕ, List, ◌+◌, ◌≤◌, �
 ghost use Rattle.ctd_program.specs.calls.Blocks.{list_blocks, separator_blocks};
 ghost use Rattle.ctd_program.specs.inner.View.{boxed_separator};
 ghost use Rattle.ctd_program.specs.calls.View.{boxed_target, command_list, guard_tree, test_tree};
-ghost use Rattle.ctd_syntax.specs.calls.RegexNumbers.{literals, separator_literals};
+ghost use Rattle.ctd_syntax.specs.calls.PatternLiterals.{literals, separator_literals};
 ghost use Rattle.ctd_loader.specs.calls.PatternTable.{AreAmong};
 ghost use Rattle.ctd_command.specs.calls.Performs.{IsSound, Performs};
 ghost use Rattle.ctd_value.specs.calls.Lending.{map_ok};

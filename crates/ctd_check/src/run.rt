@@ -1,6 +1,6 @@
 //! The run of a program: its tasks one after the other, each for one step.
 ghost use Rattle.std.specs.Prelude.{◌≡◌, ◌≤◌, ◌<◌, ◌+◌, ◌*◌, ◌^◌, ◌∷◌, [], length, is_some, true, OnOk, IfSome, Some};
-ghost use Rattle.ctd_source.specs.calls.CursorCalls.{state_of};
+ghost use Rattle.ctd_source.specs.calls.SourceReads.{state_of};
 ghost use Rattle.ctd_token.specs.declared.text.Place.{Place};
 ghost use Rattle.ctd_program.specs.calls.Blocks.{blocks};
 ghost use Rattle.ctd_program.specs.calls.View.{command_tree};

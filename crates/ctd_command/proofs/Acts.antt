@@ -7,10 +7,10 @@ use Rattle.ctd_source.specs.declared.cursor.Cursor.{Cursor}
 use Rattle.ctd_source.specs.declared.spot.LookFault.{LookFault}
 use Rattle.ctd_source.specs.TestData.{TestData, look, first_of, is_byte}
 use Rattle.ctd_source.specs.calls.Consistency.{IsConsistentWith}
-use Rattle.ctd_source.specs.calls.CursorCalls.{state_of, ReadsOn, MovesPast, GivesByte, PassesIfEqual, whether_byte}
+use Rattle.ctd_source.specs.calls.SourceReads.{state_of, ReadsOn, MovesPast, GivesByte, PassesIfEqual, whether_byte}
 use Rattle.ctd_source.specs.calls.Received.{AdvancesSuchThat}
 use Rattle.ctd_source.proofs.AdvanceLemmas.{advances_so, advances_both, advances_nowhere, advances_looking, advances_moving}
-use Rattle.ctd_store.specs.Store.{History}
+use Rattle.ctd_store.specs.Store.{Bindings}
 use Rattle.ctd_value.specs.Fault.{ValueFault, with_fault}
 use Rattle.ctd_value.specs.calls.Lending.{map_ok}
 use Rattle.ctd_command.specs.Commands.{one_byte}
@@ -135,7 +135,7 @@ module _ {R : Type 0} {G : Ghosts R} where
   given_as a x y same sound = answers_as (ap Ok same) (given a y sound)
 
   -- a value
-  pub evaluated : {A : Type 0} (a : Run R G) (r : Result A CommandFailure) (f : History → Result A ValueFault) → IsSound a → Tells r (with_fault fault_of_value (f a.store)) → Performs a a r (evaluate f)
+  pub evaluated : {A : Type 0} (a : Run R G) (r : Result A CommandFailure) (f : Bindings → Result A ValueFault) → IsSound a → Tells r (with_fault fault_of_value (f a.store)) → Performs a a r (evaluate f)
   evaluated a r f sound is = record { sound = always r sound; goes = advances_so (advances_nowhere a.cursor) (λ d _ _. does_lift r (with_fault fault_of_value (f a.store)) (state a) is) }
 
   -- the same run over another cursor

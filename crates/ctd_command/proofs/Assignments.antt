@@ -7,7 +7,7 @@ use Rattle.ctd_source.specs.TestData.{TestData}
 use Rattle.ctd_source.proofs.AdvanceLemmas.{advances_so, advances_nowhere}
 use Rattle.ctd_program.specs.Tree.{ExprTree, VarTree}
 use Rattle.ctd_store.specs.declared.value.Value.{Value}
-use Rattle.ctd_store.specs.Store.{History, Key, assign}
+use Rattle.ctd_store.specs.Store.{Bindings, Key, assign}
 use Rattle.ctd_value.specs.declared.fault.EvalFault.{EvalFault}
 use Rattle.ctd_value.specs.Fault.{ValueFault, with_fault, ◌>>=◌}
 use Rattle.ctd_value.specs.calls.Fault.{Gives}
@@ -25,11 +25,11 @@ use Rattle.ctd_command.proofs.Acts.{answers_as, performs_as}
 use Rattle.ctd_command.proofs.Telling.{tells_fault}
 
 -- the state with other variables
-abbrev with_store : State → History → State
+abbrev with_store : State → Bindings → State
 with_store s h = record { offset = s.offset; store = h; mode = s.mode }
 
 -- the variables become what is meant, or there is a fault
-abbrev become : Result History ValueFault → State → Effect ⊤
+abbrev become : Result Bindings ValueFault → State → Effect ⊤
 become meant s = proceed (lift (with_fault fault_of_value meant) s) (λ h t. done tt (with_store t h))
 
 by_key : (r : Result Key ValueFault) (value : Value) (s : State)
@@ -48,23 +48,23 @@ by_value (Err e) v d s = refl
 sets_expression : (v : VarTree) (e : ExprTree) (d : TestData) (s : State) → become (with_expression v e s.store) s ≡ give_value (v, e) d s
 sets_expression v e d s = by_value (val e s.store) v d s
 
-fails : (failure : CommandFailure) (meant : Result History ValueFault) (s : State) (h : History) → Tells {A = History} (Err failure) (with_fault fault_of_value meant) → Does {A = ⊤} (Err failure) (with_store s h) (become meant s)
+fails : (failure : CommandFailure) (meant : Result Bindings ValueFault) (s : State) (h : Bindings) → Tells {A = Bindings} (Err failure) (with_fault fault_of_value meant) → Does {A = ⊤} (Err failure) (with_store s h) (become meant s)
 fails (Rejected reason) meant s h is = absurd is
 fails (Stopped fault) meant s h is = ap (λ m. proceed (lift m s) (λ g t. done tt (with_store t g))) is
 fails Memory meant s h is = tt
 
 module _ {R : Type 0} {G : Ghosts R} where
   -- the same run with other variables
-  abbrev pub with_variables : Run R G → History → Run R G
+  abbrev pub with_variables : Run R G → Bindings → Run R G
   with_variables a h = record { alloc = a.alloc; cursor = a.cursor; store = h; mode = a.mode }
 
-  becoming : (a : Run R G) (h : History) (meant : History → Result History ValueFault) → IsSound a → meant a.store ≡ Ok h → Performs {A = ⊤} a (with_variables a h) (Ok tt) (λ d s. become (meant s.store) s)
+  becoming : (a : Run R G) (h : Bindings) (meant : Bindings → Result Bindings ValueFault) → IsSound a → meant a.store ≡ Ok h → Performs {A = ⊤} a (with_variables a h) (Ok tt) (λ d s. become (meant s.store) s)
   becoming a h meant sound is = record {
     sound = sound;
     goes = advances_so (advances_nowhere a.cursor) (λ d _ _. ap (λ m. become m (state a)) is);
   }
 
-  failing : (a : Run R G) (h : History) (fault : EvalFault) (q : Result ⊤ CommandFailure) (meant : History → Result History ValueFault) → IsErr q × IsErrAnd q (λ e. e ≡ failure_of fault) → Gives {X = History} (Err fault) (meant a.store) → Performs {A = ⊤} a (with_variables a h) q (λ d s. become (meant s.store) s)
+  failing : (a : Run R G) (h : Bindings) (fault : EvalFault) (q : Result ⊤ CommandFailure) (meant : Bindings → Result Bindings ValueFault) → IsErr q × IsErrAnd q (λ e. e ≡ failure_of fault) → Gives {X = Bindings} (Err fault) (meant a.store) → Performs {A = ⊤} a (with_variables a h) q (λ d s. become (meant s.store) s)
   failing a h fault (Ok x) meant same gives = let e : true ≡ false = sym same.0 in cc
   failing a h fault (Err e) meant same gives = answers_as (ap Err same.1) (record {
     sound = tt;
@@ -72,17 +72,17 @@ module _ {R : Type 0} {G : Ghosts R} where
   })
 
   -- a variable got a value
-  pub variable_set : (a : Run R G) (h : History) (v : VarTree) (value : Value) → IsSound a → with_variable v value a.store ≡ Ok h → Performs {A = ⊤} a (with_variables a h) (Ok tt) (set_to v value)
+  pub variable_set : (a : Run R G) (h : Bindings) (v : VarTree) (value : Value) → IsSound a → with_variable v value a.store ≡ Ok h → Performs {A = ⊤} a (with_variables a h) (Ok tt) (set_to v value)
   variable_set a h v value sound is = performs_as (sets_variable v value) (becoming a h (with_variable v value) sound is)
 
   -- or had a fault, which `?` gives
-  pub variable_not_set : (a : Run R G) (h : History) (v : VarTree) (value : Value) (fault : EvalFault) (q : Result ⊤ CommandFailure) → IsErr q × IsErrAnd q (λ e. e ≡ failure_of fault) → Gives {X = History} (Err fault) (with_variable v value a.store) → Performs {A = ⊤} a (with_variables a h) q (set_to v value)
+  pub variable_not_set : (a : Run R G) (h : Bindings) (v : VarTree) (value : Value) (fault : EvalFault) (q : Result ⊤ CommandFailure) → IsErr q × IsErrAnd q (λ e. e ≡ failure_of fault) → Gives {X = Bindings} (Err fault) (with_variable v value a.store) → Performs {A = ⊤} a (with_variables a h) q (set_to v value)
   variable_not_set a h v value fault q same gives = performs_as (sets_variable v value) (failing a h fault q (with_variable v value) same gives)
 
   -- an assignment was done
-  pub expression_set : (a : Run R G) (h : History) (v : VarTree) (e : ExprTree) → IsSound a → with_expression v e a.store ≡ Ok h → Performs {A = ⊤} a (with_variables a h) (Ok tt) (give_value (v, e))
+  pub expression_set : (a : Run R G) (h : Bindings) (v : VarTree) (e : ExprTree) → IsSound a → with_expression v e a.store ≡ Ok h → Performs {A = ⊤} a (with_variables a h) (Ok tt) (give_value (v, e))
   expression_set a h v e sound is = performs_as (sets_expression v e) (becoming a h (with_expression v e) sound is)
 
   -- or had a fault
-  pub expression_not_set : (a : Run R G) (h : History) (v : VarTree) (e : ExprTree) (fault : EvalFault) (q : Result ⊤ CommandFailure) → IsErr q × IsErrAnd q (λ e. e ≡ failure_of fault) → Gives {X = History} (Err fault) (with_expression v e a.store) → Performs {A = ⊤} a (with_variables a h) q (give_value (v, e))
+  pub expression_not_set : (a : Run R G) (h : Bindings) (v : VarTree) (e : ExprTree) (fault : EvalFault) (q : Result ⊤ CommandFailure) → IsErr q × IsErrAnd q (λ e. e ≡ failure_of fault) → Gives {X = Bindings} (Err fault) (with_expression v e a.store) → Performs {A = ⊤} a (with_variables a h) q (give_value (v, e))
   expression_not_set a h v e fault q same gives = performs_as (sets_expression v e) (failing a h fault q (with_expression v e) same gives)

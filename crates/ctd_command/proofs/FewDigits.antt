@@ -5,15 +5,15 @@ use Rattle.std.specs.Char.{is_ascii_digit}
 use Rattle.std.proofs.lemmas.List.{drop_more, take_more, take-append-drop}
 use Rattle.std.proofs.lemmas.List.Folds.{list_all-append, length-prefix_len}
 use Rattle.std.proofs.Math.Nat.{pow-suc, pow-le-pow_right}
-use Rattle.ctd_command.specs.Integer.{decimal}
-use Rattle.ctd_command.proofs.Decimal.{decimal-append}
+use Rattle.ctd_command.specs.Integer.{digits_value}
+use Rattle.ctd_command.proofs.Decimal.{digits_value-append}
 use Rattle.ctd_command.proofs.Integers.{NoDigit, row_while}
 
 -- so many bytes are digits, and this is their number
 pub record HasRead (bytes : List ℕ) (count number : ℕ) : Type 0 where
   pub within : count ≤ length bytes
   pub digits : list_all is_ascii_digit (take count bytes) ≡ true
-  pub number_is : number ≡ decimal (take count bytes)
+  pub number_is : number ≡ digits_value (take count bytes)
   pub small : number < 10 ^ count
 
 -- none yet
@@ -32,7 +32,7 @@ read_more bytes count next number more step some digit is h =
     record {
       within = omega (arith, step, some);
       digits = ap (list_all is_ascii_digit) row ∙ list_all-append is_ascii_digit (take count bytes) (byte ∷ []) ∙ ap (λ b. b && (is_ascii_digit byte && true)) h.digits ∙ ap (λ b. b && true) digit;
-      number_is = is ∙ ap (λ n. n * 10 + (byte - 48)) h.number_is ∙ sym (ap decimal row ∙ decimal-append (take count bytes) byte);
+      number_is = is ∙ ap (λ n. n * 10 + (byte - 48)) h.number_is ∙ sym (ap digits_value row ∙ digits_value-append (take count bytes) byte);
       small = omega (arith, is, h.small, power, digit_size byte digit);
     }
 
@@ -44,13 +44,13 @@ read_fits bytes count number few some h =
     omega (arith, h.small, power)
 
 -- where no digit comes next, they are all
-read_all : (bytes : List ℕ) (count number : ℕ) → NoDigit (drop count bytes) → HasRead bytes count number → (number ≡ decimal (take_while is_ascii_digit bytes)) × (count ≡ prefix_len is_ascii_digit bytes)
+read_all : (bytes : List ℕ) (count number : ℕ) → NoDigit (drop count bytes) → HasRead bytes count number → (number ≡ digits_value (take_while is_ascii_digit bytes)) × (count ≡ prefix_len is_ascii_digit bytes)
 read_all bytes count number none h =
     let row : take_while is_ascii_digit bytes ≡ take count bytes = ap (take_while is_ascii_digit) (sym (take-append-drop count bytes)) ∙ row_while (take count bytes) (drop count bytes) h.digits none in
-    (h.number_is ∙ ap decimal (sym row), omega (arith, h.within, ap length row, length-take count bytes, length-prefix_len is_ascii_digit bytes))
+    (h.number_is ∙ ap digits_value (sym row), omega (arith, h.within, ap length row, length-take count bytes, length-prefix_len is_ascii_digit bytes))
 
 -- before another byte
-pub read_to_byte : (bytes : List ℕ) (count number : ℕ) → count < length bytes → is_ascii_digit (get_or bytes count 0) ≡ false → HasRead bytes count number → (number ≡ decimal (take_while is_ascii_digit bytes)) × (count ≡ prefix_len is_ascii_digit bytes)
+pub read_to_byte : (bytes : List ℕ) (count number : ℕ) → count < length bytes → is_ascii_digit (get_or bytes count 0) ≡ false → HasRead bytes count number → (number ≡ digits_value (take_while is_ascii_digit bytes)) × (count ≡ prefix_len is_ascii_digit bytes)
 read_to_byte bytes count number some other h =
     let P : List ℕ → Type 0 = λ xs. NoDigit xs in
     read_all bytes count number (subst P (sym (drop_more bytes count 0 some)) other) h
@@ -60,5 +60,5 @@ no_digit_in_none [] none = tt
 no_digit_in_none (x ∷ xs) none = absurd (omega arith)
 
 -- at the end
-pub read_to_end : (bytes : List ℕ) (count number : ℕ) → length bytes ≤ count → HasRead bytes count number → (number ≡ decimal (take_while is_ascii_digit bytes)) × (count ≡ prefix_len is_ascii_digit bytes)
+pub read_to_end : (bytes : List ℕ) (count number : ℕ) → length bytes ≤ count → HasRead bytes count number → (number ≡ digits_value (take_while is_ascii_digit bytes)) × (count ≡ prefix_len is_ascii_digit bytes)
 read_to_end bytes count number end h = read_all bytes count number (no_digit_in_none (drop count bytes) (omega (arith, end, length-drop count bytes))) h

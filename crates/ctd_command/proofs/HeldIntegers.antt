@@ -12,7 +12,7 @@ use Rattle.std.proofs.lemmas.List.Sums.{prefix_len-le-length, take_while-cons}
 use Rattle.ctd_source.specs.TestData.{TestData, visible, is_newline}
 use Rattle.ctd_source.specs.calls.Consistency.{CursorState, IsConsistentWith}
 use Rattle.ctd_source.proofs.Visible.{seen_run}
-use Rattle.ctd_command.specs.Integer.{decimal, is_minus, sign_len, digits_of, prefix_len_of, is_zero_first, with_sign, in_interval}
+use Rattle.ctd_command.specs.Integer.{digits_value, is_minus, sign_len, digits_of, prefix_len_of, is_zero_first, with_sign, in_interval}
 use Rattle.ctd_outcome.specs.declared.reason.Reason.{Reason}
 use Rattle.ctd_outcome.specs.declared.reason.Reason.TheVariants.{ExpectedInt, LeadingZero, MinusZero, OutOfRange}
 use Rattle.ctd_command.specs.inner.Passing.{IsBufferedInteger}
@@ -51,7 +51,7 @@ judged_by_value false negative n judged some form =
     ap (λ b. if b then Err ExpectedInt else judged) digits
 
 -- an integer in its form whose digits end within the first few bytes
-pub in_front : (bytes few : List ℕ) (value : ℤ) (negative : Bool) (sign m number count : ℕ) → negative ≡ is_minus bytes → sign ≡ (if negative then 1 else 0) → few ≡ take m (drop sign bytes) → number ≡ decimal (take_while is_ascii_digit few) → count ≡ prefix_len is_ascii_digit few → count ≢ length few
+pub in_front : (bytes few : List ℕ) (value : ℤ) (negative : Bool) (sign m number count : ℕ) → negative ≡ is_minus bytes → sign ≡ (if negative then 1 else 0) → few ≡ take m (drop sign bytes) → number ≡ digits_value (take_while is_ascii_digit few) → count ≡ prefix_len is_ascii_digit few → count ≢ length few
     → count ≢ 0 → (get_or few 0 0 ≡ 48 → (negative ≡ false) × (count ≡ 1)) → value ≡ with_sign negative number → IsBufferedInteger bytes value (sign + count)
 in_front bytes few value negative sign m number count is_negative is_sign is_few is_number is_count ends some form is_value =
     let unsigned = drop (sign_len bytes) bytes in
@@ -62,7 +62,7 @@ in_front bytes few value negative sign m number count is_negative is_sign is_few
     let len : length (digits_of bytes) ≡ count = ap length (sym row) ∙ length-prefix_len is_ascii_digit few ∙ sym is_count in
     let in_form : is_zero_first (digits_of bytes) ≡ true → (is_minus bytes ≡ false) × (length (digits_of bytes) ≡ 1) =
     λ zero. let f = form (first_zero few (ap is_zero_first row ∙ zero)) in (sym is_negative ∙ f.0, len ∙ f.1) in
-    let value_is : with_sign (is_minus bytes) (decimal (digits_of bytes)) ≡ value = sym (is_value ∙ ap (λ b. with_sign b number) is_negative ∙ ap (with_sign (is_minus bytes)) (is_number ∙ ap decimal row)) in
+    let value_is : with_sign (is_minus bytes) (digits_value (digits_of bytes)) ≡ value = sym (is_value ∙ ap (λ b. with_sign b number) is_negative ∙ ap (with_sign (is_minus bytes)) (is_number ∙ ap digits_value row)) in
     record {
       len = omega (arith, same_sign, len);
       ends = omega (arith, same_sign, len, is_count, within, ap (prefix_len is_ascii_digit) same, length-take m unsigned, length-drop (sign_len bytes) bytes);

@@ -13,7 +13,7 @@ use Rattle.ctd_source.specs.calls.Received.{AdvancesSuchThat}
 use Rattle.ctd_source.proofs.AdvanceLemmas.{advances_so}
 use Rattle.ctd_source.specs.TestData.{TestData, next_byte, visible, is_byte}
 use Rattle.ctd_source.proofs.Visible.{seen_byte, seen_end, seen_fault}
-use Rattle.ctd_store.specs.Store.{History}
+use Rattle.ctd_store.specs.Store.{Bindings}
 use Rattle.ctd_value.specs.Fault.{with_fault}
 use Rattle.ctd_command.specs.declared.failure.CommandFailure.{CommandFailure}
 use Rattle.ctd_command.specs.declared.failure.Failure.TheVariants.{Stopped}
@@ -29,7 +29,7 @@ use Rattle.ctd_command.proofs.Acts.{with_cursor}
 use Rattle.ctd_command.proofs.Lists.{no_bytes}
 
 -- a state that stands there
-abbrev pub at_offset : ℕ → History → Mode → State
+abbrev pub at_offset : ℕ → Bindings → Mode → State
 at_offset p store mode = record { offset = p; store = store; mode = mode }
 
 same_byte : (c : ℕ) → nat_eq c c ≡ true

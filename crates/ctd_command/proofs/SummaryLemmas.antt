@@ -3,9 +3,9 @@ use Rattle.std.proofs.Common.{◌≡◌, ℕ, ◌+◌, ◌-◌, ◌*◌, ◌^◌
 use Rattle.std.proofs.lemmas.Bool.Decides.{nat_tests}
 use Rattle.std.proofs.lemmas.List.{take_more}
 use Rattle.ctd_command.specs.declared.digits.DigitSummary.{DigitSummary}
-use Rattle.ctd_command.specs.Integer.{decimal, is_zero_first}
+use Rattle.ctd_command.specs.Integer.{digits_value, is_zero_first}
 use Rattle.ctd_command.specs.inner.Summaries.{Summarizes}
-use Rattle.ctd_command.proofs.Decimal.{decimal-append, grown_once}
+use Rattle.ctd_command.proofs.Decimal.{digits_value-append, grown_once}
 
 later_zero : (z first zero : Bool) → first ≡ false → (z || (first && zero)) ≡ z
 later_zero true first zero e = refl
@@ -22,7 +22,7 @@ pub summary_more : (old new : DigitSummary) (digits : List ℕ) (d : ℕ) → ne
 summary_more old new digits d count zero size s = record {
   count = omega (arith, s.count, length-append digits (d ∷ []));
   zero = zero ∙ ap (λ z. z || (nat_eq old.count 0 && nat_eq d 48)) s.zero ∙ ap (λ n. is_zero_first digits || (nat_eq n 0 && nat_eq d 48)) s.count ∙ zero_more digits d;
-  size = size ∙ grown_once old.size (decimal digits) (d - 48) s.size ∙ ap (λ n. min n (2 ^ 127 + 1)) (sym (decimal-append digits d));
+  size = size ∙ grown_once old.size (digits_value digits) (d - 48) s.size ∙ ap (λ n. min n (2 ^ 127 + 1)) (sym (digits_value-append digits d));
 }
 
 pub summary_step : (s : DigitSummary) (digits bytes : List ℕ) (i : ℕ) → i < length bytes → Summarizes s ((digits ++ take i bytes) ++ get_or bytes i 0 ∷ []) → Summarizes s (digits ++ take (i + 1) bytes)

@@ -5,11 +5,11 @@ use Rattle.std.specs.Result.{IsErr, IsErrAnd}
 use Rattle.ctd_source.specs.declared.source.Source.{Ghosts}
 use Rattle.ctd_source.specs.declared.cursor.Cursor.{Cursor}
 use Rattle.ctd_source.specs.calls.Consistency.{IsConsistentWith}
-use Rattle.ctd_source.specs.calls.CursorCalls.{state_of, ReadsOn}
+use Rattle.ctd_source.specs.calls.SourceReads.{state_of, ReadsOn}
 use Rattle.ctd_source.specs.TestData.{TestData, next_byte}
 use Rattle.ctd_source.proofs.AdvanceLemmas.{advances_so, advances_nowhere, advances_reading}
 use Rattle.ctd_program.specs.Tree.{TestTree}
-use Rattle.ctd_store.specs.Store.{History}
+use Rattle.ctd_store.specs.Store.{Bindings}
 use Rattle.ctd_value.specs.declared.fault.EvalFault.{EvalFault}
 use Rattle.ctd_value.specs.declared.fault.EvalFault.TheVariants as evals
 use Rattle.ctd_value.specs.declared.fault.TestFault.{TestFault}
@@ -105,7 +105,7 @@ tells_fault evals.Memory meant is = tt
 
 module _ {R : Type 0} {G : Ghosts R} where
   -- what `?` gives where an expression had a fault
-  pub unvalued : {A : Type 0} (a : Run R G) (fault : EvalFault) (q : Result A CommandFailure) (f : History → Result A ValueFault) → IsSound a → IsErr q × IsErrAnd q (λ e. e ≡ failure_of fault) → Gives {X = A} (Err fault) (f a.store) → Performs a a q (evaluate f)
+  pub unvalued : {A : Type 0} (a : Run R G) (fault : EvalFault) (q : Result A CommandFailure) (f : Bindings → Result A ValueFault) → IsSound a → IsErr q × IsErrAnd q (λ e. e ≡ failure_of fault) → Gives {X = A} (Err fault) (f a.store) → Performs a a q (evaluate f)
   unvalued a fault (Ok x) f sound is gives = let e : true ≡ false = sym is.0 in cc
   unvalued a fault (Err e) f sound is gives = answers_as (ap Err is.1) (evaluated a (Err (failure_of fault)) f sound (tells_fault fault (f a.store) gives))
 
@@ -116,7 +116,7 @@ module _ {R : Type 0} {G : Ghosts R} where
   -- a test whose answer the first byte of a run that is held tells
   pub answered_in_front : (a : Run R G) (t : TestTree) (b : Bool) (byte : ℕ) (run : List ℕ) → IsSound a → slice_get run 0 ≡ Some byte → take (length run) (state_of a.cursor).held ≡ run
       → length run ≤ length (state_of a.cursor).held → (0 < length run → (state_of a.cursor).spot.offset + length run ≤ (state_of a.cursor).limit)
-      → ((h : History) (d : TestData) (p : ℕ) → next_byte d p ≡ Ok (Some byte) → truth t h d p ≡ Ok b) → Performs a a (Ok b) (answer t)
+      → ((h : Bindings) (d : TestData) (p : ℕ) → next_byte d p ≡ Ok (Some byte) → truth t h d p ≡ Ok b) → Performs a a (Ok b) (answer t)
   answered_in_front a t b byte run sound first front held within known =
       let some : 0 < length run = some_held run byte first in
       record {

@@ -6,7 +6,7 @@ use Rattle.ctd_source.specs.declared.source.Source.{Ghosts}
 use Rattle.ctd_source.specs.declared.cursor.Cursor.{Cursor}
 use Rattle.ctd_source.specs.declared.spot.LookFault.{LookFault}
 use Rattle.ctd_source.specs.calls.Received.{AdvancesSuchThat}
-use Rattle.ctd_source.specs.calls.CursorCalls.{GivesWindow, MovesPast}
+use Rattle.ctd_source.specs.calls.SourceReads.{GivesWindow, MovesPast}
 use Rattle.ctd_source.specs.TestData.{TestData, look}
 use Rattle.ctd_source.proofs.AdvanceLemmas.{advances_so, advances_nowhere, advances_reading}
 use Rattle.ctd_pattern.specs.Pattern.{length_at_start}

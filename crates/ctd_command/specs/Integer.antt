@@ -3,7 +3,7 @@ use Rattle.std.specs.Prelude.{ℕ, ◌+◌, Bool, not, ◌&&◌, nat_eq, nat_lt,
 use Rattle.std.specs.List.{take_while}
 use Rattle.std.specs.Option.{ok_or}
 use Rattle.std.specs.Char.{is_ascii_digit}
-pub use Rattle.ctd_token.specs.Cut.{decimal}
+pub use Rattle.ctd_token.specs.Cut.{digits_value}
 use Rattle.ctd_outcome.specs.declared.reason.Reason.{Reason}
 use Rattle.ctd_outcome.specs.declared.reason.Reason.TheVariants.{ExpectedInt, LeadingZero, MinusZero, OutOfRange}
 
@@ -41,4 +41,4 @@ judge least most negative digits =
     if nat_eq (length digits) 0 then Err ExpectedInt
     else if is_zero_first digits && not negative && nat_lt 1 (length digits) then Err LeadingZero
     else if is_zero_first digits && negative then Err MinusZero
-    else ok_or (in_interval least most (with_sign negative (decimal digits))) OutOfRange
+    else ok_or (in_interval least most (with_sign negative (digits_value digits))) OutOfRange

@@ -4,7 +4,7 @@ use Rattle.ctd_source.specs.declared.limits.TheConstants.{WINDOW}
 use Rattle.ctd_source.specs.declared.spot.LookFault.{LookFault}
 use Rattle.ctd_source.specs.declared.spot.LookFault.TheVariants as looks
 use Rattle.ctd_source.specs.TestData.{TestData, next_byte, look, visible}
-use Rattle.ctd_store.specs.Store.{History}
+use Rattle.ctd_store.specs.Store.{Bindings}
 use Rattle.ctd_value.specs.Fault.{ValueFault, TruthFault}
 use Rattle.ctd_value.specs.Fault as faults
 use Rattle.ctd_program.specs.declared.mode.Mode.{Mode}
@@ -15,7 +15,7 @@ use Rattle.ctd_outcome.specs.declared.reason.Fault.TheVariants.{Undefined, Wrong
 -- the offset of the next byte, the variables, and how blanks are matched, which nothing changes
 pub record State : Type 0 where
   pub offset : ℕ
-  pub store : History
+  pub store : Bindings
   pub mode : Mode
 
 -- what was done gave an answer and left a state; or the data are rejected, or a fault stops the run, once this many bytes are consumed
@@ -81,7 +81,7 @@ fault_of_truth (faults.Value fault) = fault_of_value fault
 fault_of_truth (faults.Look fault) = fault_of_look fault
 
 -- a value of the variables, or its fault
-abbrev pub evaluate : {A : Type 0} → (History → Result A ValueFault) → Act A
+abbrev pub evaluate : {A : Type 0} → (Bindings → Result A ValueFault) → Act A
 evaluate f d s = lift (faults.with_fault fault_of_value (f s.store)) s
 
 -- the next byte, or none at the end

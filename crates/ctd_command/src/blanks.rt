@@ -1,7 +1,7 @@
 //! Blanks, which whitespace mode skips.
 ghost use Rattle.std.specs.Prelude.{◌≡◌, ◌<◌, true, false, OnOk, None, Ok};
 ghost use Rattle.std.specs.List.{prefix_len};
-ghost use Rattle.ctd_source.specs.calls.CursorCalls.{state_of};
+ghost use Rattle.ctd_source.specs.calls.SourceReads.{state_of};
 ghost use Rattle.ctd_source.specs.calls.Received.{AdvancesSuchThat};
 ghost use Rattle.ctd_command.specs.Blanks.{is_blank, skip_blanks, some_blanks, first_skip};
 ghost use Rattle.ctd_command.specs.inner.Passing.{PassesBlanks};

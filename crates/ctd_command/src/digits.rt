@@ -3,7 +3,7 @@
 ghost use Rattle.std.specs.Prelude.{◌≡◌, ◌≤◌, ◌<◌, ◌+◌, ◌-◌, ◌*◌, ◌^◌, ◌++◌, if◌then◌else◌, ◌∷◌, [], ℕ, List, length, take, min, IfSome, IfNone, true, false};
 ghost use Rattle.std.specs.List.{prefix_len, take_while};
 ghost use Rattle.std.specs.Char.{is_ascii_digit};
-ghost use Rattle.ctd_command.specs.Integer.{decimal, judge, with_sign, in_interval};
+ghost use Rattle.ctd_command.specs.Integer.{digits_value, judge, with_sign, in_interval};
 ghost use Rattle.ctd_command.specs.declared.digits.TheConstants.{MAX_U64_DIGITS};
 
 use ctd_outcome::Reason;
@@ -49,7 +49,7 @@ fn with_digit(number: u64, byte: u8) -> Option<u64>
 #[inline(never)]
 pub(crate) fn leading_number(few: &[u8]) -> (u64, usize)
     requires { length few.now ≤ MAX_U64_DIGITS }
-    ensures number { result.0 ≡ decimal (take_while is_ascii_digit few.now) }
+    ensures number { result.0 ≡ digits_value (take_while is_ascii_digit few.now) }
     ensures count { result.1 ≡ prefix_len is_ascii_digit few.now }
 {
     let mut number = 0;

@@ -1,6 +1,6 @@
 //! INT: an integer of any length, in an interval.
 ghost use Rattle.std.specs.Prelude.{◌≡◌, OnOk, IfSome, None, true};
-ghost use Rattle.ctd_source.specs.calls.CursorCalls.{state_of};
+ghost use Rattle.ctd_source.specs.calls.SourceReads.{state_of};
 ghost use Rattle.ctd_source.specs.calls.Received.{AdvancesSuchThat};
 ghost use Rattle.ctd_program.specs.calls.View.{expr_tree, target};
 ghost use Rattle.ctd_command.specs.Commands.{int, integer};

@@ -1,6 +1,6 @@
 //! The state of a run: where the data are read, and the variables.
 ghost use Rattle.std.specs.Prelude.{◌≡◌, ◌<◌, ◌≤◌, length, Ok, Err, IfOk, IfSome};
-ghost use Rattle.ctd_source.specs.calls.CursorCalls.{state_of, source as source_now, Borrows};
+ghost use Rattle.ctd_source.specs.calls.SourceReads.{state_of, source as source_now, Borrows};
 ghost use Rattle.ctd_command.specs.State.{see_next, pass};
 ghost use Rattle.ctd_command.specs.calls.Performs.{IsSound, Performs};
 

@@ -1,6 +1,6 @@
 //! REGEX: a match of its pattern at the start of the window.
 ghost use Rattle.std.specs.Prelude.{◌≡◌, ◌≤◌, length, Some, IfOk};
-ghost use Rattle.ctd_source.specs.calls.CursorCalls.{state_of};
+ghost use Rattle.ctd_source.specs.calls.SourceReads.{state_of};
 ghost use Rattle.ctd_program.specs.calls.View.{target, var_tree};
 ghost use Rattle.ctd_command.specs.inner.Regex.{match_len};
 ghost use Rattle.ctd_command.specs.Regex.{regex, shorter_match};

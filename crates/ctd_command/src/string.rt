@@ -2,7 +2,7 @@
 ghost use Rattle.std.specs.Prelude.{◌≡◌, ◌≤◌, ◌<◌, nat_eq, true, length, take, drop, count_by, None, OnOk, IfOk};
 ghost use Rattle.std.specs.List.{common_prefix_len};
 ghost use Rattle.ctd_source.specs.calls.Consistency.{IsBounded};
-ghost use Rattle.ctd_source.specs.calls.CursorCalls.{state_of, MovesPast};
+ghost use Rattle.ctd_source.specs.calls.SourceReads.{state_of, MovesPast};
 ghost use Rattle.ctd_source.specs.calls.Received.{AdvancesSuchThat};
 ghost use Rattle.ctd_source.specs.TestData.{is_newline};
 ghost use Rattle.ctd_program.specs.calls.View.{expr_tree};

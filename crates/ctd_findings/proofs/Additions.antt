@@ -1,6 +1,6 @@
 -- What is found piece by piece.
 use Rattle.std.proofs.Common.{◌≡◌, ◌++◌, List, [], Option, Some, None, ap, sym, ◌∙◌, append_assoc}
-use Rattle.ctd_findings.specs.inner.Found.{Adds}
+use Rattle.ctd_findings.specs.inner.Collector.{Adds}
 
 -- one part is added, and then another
 pub adds_both : {U : Type 0} (a b c : Option (List U)) (x y all : List U) → Adds a x b → Adds b y c → all ≡ x ++ y → Adds a all c

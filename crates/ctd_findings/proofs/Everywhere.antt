@@ -5,11 +5,11 @@ use Rattle.ctd_source.specs.TestData.{TestData}
 use Rattle.ctd_program.specs.Tree
 use Rattle.ctd_program.specs.Tree.{ExprTree, ExprList, TestTree}
 use Rattle.ctd_store.specs.declared.value.Value.{Value}
-use Rattle.ctd_store.specs.Store.{History}
+use Rattle.ctd_store.specs.Store.{Bindings}
 use Rattle.ctd_value.specs.Fault.{ValueFault, Undefined, TruthFault, with_fault, ◌>>=◌}
 use Rattle.ctd_value.specs.Val.{val, vals, number_of, arithmetic}
 use Rattle.ctd_value.specs.Truth.{truth}
-use Rattle.ctd_findings.specs.calls.Literal.{no_variables, no_data, compares_only, literal_truth, literal_number}
+use Rattle.ctd_findings.specs.calls.LiteralValues.{no_variables, no_data, compares_only, literal_truth, literal_number}
 
 no_ok : {A E : Type 0} (e : E) (x : A) → Err e ≡ Ok x → ⊥
 no_ok e x is = cc
@@ -36,7 +36,7 @@ undefined (Err e) f s none x is = absurd (no_ok e x is)
 computed : (operate : ℤ → ℤ → Result ℤ ValueFault) (a b c d : Result Value ValueFault) → Follows a c → Follows b d → Follows (arithmetic operate a b) (arithmetic operate c d)
 computed operate a b c d left right = then a c _ _ left (λ v. then b d _ _ right (λ w. same _))
 
-val_everywhere : (e : ExprTree) (h : History) → Follows (val e no_variables) (val e h)
+val_everywhere : (e : ExprTree) (h : Bindings) → Follows (val e no_variables) (val e h)
 val_everywhere (Tree.numeral n) h = same _
 val_everywhere (Tree.text bytes) h = same _
 val_everywhere (Tree.variable name indices) h = undefined (vals indices no_variables) _ _ (λ is. refl)
@@ -54,7 +54,7 @@ known_number : (r s : Result ℤ ValueFault) (n : ℤ) → Follows r s → resul
 known_number (Ok m) s n first is = first m refl ∙ ap Ok (cc)
 known_number (Err e) s n first is = absurd (cc)
 
-pub number_everywhere : (e : ExprTree) (n : ℤ) → literal_number e ≡ Some n → (h : History) → number_of e h ≡ Ok n
+pub number_everywhere : (e : ExprTree) (n : ℤ) → literal_number e ≡ Some n → (h : Bindings) → number_of e h ≡ Ok n
 number_everywhere e n is h = known_number _ _ n (then _ _ _ _ (val_everywhere e h) (λ v. same _)) is
 
 left_true : (a b : Bool) → (a && b) ≡ true → a ≡ true
@@ -73,7 +73,7 @@ before : (b : Bool) (r s q : Result Bool TruthFault) → Follows r s → Follows
 before true r s q h = h
 before false r s q h = same q
 
-truth_everywhere : (t : TestTree) → compares_only t ≡ true → (h : History) (d : TestData) (p : ℕ) → Follows (truth t no_variables no_data 0) (truth t h d p)
+truth_everywhere : (t : TestTree) → compares_only t ≡ true → (h : Bindings) (d : TestData) (p : ℕ) → Follows (truth t no_variables no_data 0) (truth t h d p)
 truth_everywhere (Tree.or s t) is h d p = then _ _ _ _ (truth_everywhere s (left_true _ _ is) h d p) (λ b. after b _ _ _ (truth_everywhere t (right_true _ _ is) h d p))
 truth_everywhere (Tree.and s t) is h d p = then _ _ _ _ (truth_everywhere s (left_true _ _ is) h d p) (λ b. before b _ _ _ (truth_everywhere t (right_true _ _ is) h d p))
 truth_everywhere (Tree.not t) is h d p = then _ _ _ _ (truth_everywhere t is h d p) (λ b. same _)
@@ -89,5 +89,5 @@ known_truth true (Err e) s b first is = absurd (cc)
 known_truth false r s b first is = absurd (cc)
 
 -- a truth that follows from literals is the truth everywhere
-pub literal_everywhere : (t : TestTree) (b : Bool) → literal_truth t ≡ Some b → (h : History) (d : TestData) (p : ℕ) → truth t h d p ≡ Ok b
+pub literal_everywhere : (t : TestTree) (b : Bool) → literal_truth t ≡ Some b → (h : Bindings) (d : TestData) (p : ℕ) → truth t h d p ≡ Ok b
 literal_everywhere t b is h d p = known_truth (compares_only t) _ _ b (λ only. truth_everywhere t only h d p) is

@@ -13,7 +13,7 @@ use Rattle.ctd_program.specs.declared.tree.Compare.{Compare}
 use Rattle.ctd_program.specs.declared.tree.Compare.TheVariants as comparisons
 use Rattle.ctd_store.specs.declared.value.Value.{Value}
 use Rattle.ctd_store.specs.declared.value.Value.TheVariants as values
-use Rattle.ctd_store.specs.Store.{History, value_at}
+use Rattle.ctd_store.specs.Store.{Bindings, value_at}
 use Rattle.ctd_value.specs.Fault.{ValueFault, TruthFault, Undefined, WrongType, Overflow, DivisionByZero, Exponent, Count, Shape, Look, ◌>>=◌}
 use Rattle.ctd_value.specs.Fault as faults
 use Rattle.ctd_value.specs.Val.{number, val}
@@ -22,7 +22,7 @@ use Rattle.ctd_value.specs.inner.Truth.{as_test}
 use Rattle.ctd_value.specs.inner.Val.{value_or_undefined}
 use Rattle.ctd_findings.specs.declared.ranges.Bounds.{Bounds}
 use Rattle.ctd_findings.specs.calls.Decided.{IsOrUndefined, IsWithin, KeepsTo, holds_of_all, known_and, known_or, one_answer, only, opposite, range_truth, side_range}
-use Rattle.ctd_findings.specs.calls.Literal.{literal_number}
+use Rattle.ctd_findings.specs.calls.LiteralValues.{literal_number}
 use Rattle.ctd_findings.specs.calls.Ranges.{name_in}
 use Rattle.ctd_findings.proofs.Everywhere.{number_everywhere}
 
@@ -50,7 +50,7 @@ of_name : (b : Bounds) (o : Option Value) → ((v : Value) → o ≡ Some v → 
 of_name b None keeps = tt
 of_name b (Some v) keeps = keeps v refl
 
-named : (range : List ℕ → Option Bounds) (e : ExprTree) (b : Bounds) (h : History) → KeepsTo range h → option_and_then range (name_in e) ≡ Some b → HasSide b (val e h)
+named : (range : List ℕ → Option Bounds) (e : ExprTree) (b : Bounds) (h : Bindings) → KeepsTo range h → option_and_then range (name_in e) ≡ Some b → HasSide b (val e h)
 named range (Tree.numeral n) b h keeps is = absurd (cc is)
 named range (Tree.text bytes) b h keeps is = absurd (cc is)
 named range (Tree.variable name Tree.none) b h keeps is = of_name b (value_at h (record { name = name; indices = [] })) (λ v. keeps name b v is)
@@ -64,11 +64,11 @@ named range (Tree.quotient x y) b h keeps is = absurd (cc is)
 named range (Tree.remainder x y) b h keeps is = absurd (cc is)
 named range (Tree.power x y) b h keeps is = absurd (cc is)
 
-side_by : (range : List ℕ → Option Bounds) (e : ExprTree) (b : Bounds) (h : History) (o : Option ℤ) → KeepsTo range h → literal_number e ≡ o → option_or (option_map only o) (option_and_then range (name_in e)) ≡ Some b → HasSide b (val e h)
+side_by : (range : List ℕ → Option Bounds) (e : ExprTree) (b : Bounds) (h : Bindings) (o : Option ℤ) → KeepsTo range h → literal_number e ≡ o → option_or (option_map only o) (option_and_then range (name_in e)) ≡ Some b → HasSide b (val e h)
 side_by range e b h None keeps known is = named range e b h keeps is
 side_by range e b h (Some n) keeps known is = is_number b n (val e h) (number_everywhere e n known h) (cc is)
 
-side : (range : List ℕ → Option Bounds) (e : ExprTree) (b : Bounds) (h : History) → KeepsTo range h → side_range range e ≡ Some b → HasSide b (val e h)
+side : (range : List ℕ → Option Bounds) (e : ExprTree) (b : Bounds) (h : Bindings) → KeepsTo range h → side_range range e ≡ Some b → HasSide b (val e h)
 side range e b h keeps is = side_by range e b h (literal_number e) keeps refl is
 
 -- a comparison that holds of all numbers of two ranges
@@ -182,7 +182,7 @@ negated None r first b is = absurd (cc is)
 negated (Some c) (Ok d) first b is = ap not (first c refl) ∙ cc is
 negated (Some c) (Err e) first b is = passed_on c b e (first c refl)
 
-known_truth : (range : List ℕ → Option Bounds) (t : TestTree) (h : History) (d : TestData) (p : ℕ) → KeepsTo range h → IsAsKnown (range_truth range t) (truth t h d p)
+known_truth : (range : List ℕ → Option Bounds) (t : TestTree) (h : Bindings) (d : TestData) (p : ℕ) → KeepsTo range h → IsAsKnown (range_truth range t) (truth t h d p)
 known_truth range (Tree.or s t) h d p keeps = either _ _ _ _ (known_truth range s h d p keeps) (known_truth range t h d p keeps)
 known_truth range (Tree.and s t) h d p keeps = both _ _ _ _ (known_truth range s h d p keeps) (known_truth range t h d p keeps)
 known_truth range (Tree.not t) h d p keeps = negated _ _ (known_truth range t h d p keeps)
@@ -193,5 +193,5 @@ known_truth range (Tree.unique names) h d p keeps = λ b is. absurd (cc is)
 known_truth range (Tree.in_array e name) h d p keeps = λ b is. absurd (cc is)
 
 -- a test that the ranges of its variables decide has this answer
-pub range_everywhere : (range : List ℕ → Option Bounds) (t : TestTree) (b : Bool) → range_truth range t ≡ Some b → (h : History) → KeepsTo range h → (d : TestData) (p : ℕ) → IsOrUndefined b (truth t h d p)
+pub range_everywhere : (range : List ℕ → Option Bounds) (t : TestTree) (b : Bool) → range_truth range t ≡ Some b → (h : Bindings) → KeepsTo range h → (d : TestData) (p : ℕ) → IsOrUndefined b (truth t h d p)
 range_everywhere range t b is h keeps d p = known_truth range t h d p keeps b is

@@ -1,7 +1,7 @@
 -- What else the contracts of public calls say.
 pub mod Block
 pub mod Names
-pub mod Literal
+pub mod LiteralValues
 pub mod Assigned
 pub mod Ranges
 pub mod Facts

@@ -1,3 +1,3 @@
 -- What only the proofs of this crate use.
 pub mod Listed
-pub mod Found
+pub mod Collector

@@ -2,7 +2,7 @@
 
 ghost use Rattle.std.specs.Prelude.{◌≡◌, IfOk, OnOk};
 ghost use Rattle.ctd_program.specs.calls.View.{boxed_target, command_tree, command_trees, guard_tree};
-ghost use Rattle.ctd_findings.specs.inner.Found.{Adds, items_in};
+ghost use Rattle.ctd_findings.specs.inner.Collector.{Adds, items_in};
 ghost use Rattle.ctd_findings.specs.inner.Listed.{in_block, name_at, names_at};
 ghost use Rattle.ctd_findings.specs.calls.Behind.{is_changed_by, is_loop, is_read_behind, is_read_by, repi_counter, turns_counter};
 ghost use Rattle.ctd_findings.specs.calls.Findings.{behind_remarks};
@@ -11,7 +11,7 @@ ghost use Rattle.ctd_findings.specs.calls.Names.{is_among};
 use crate::block::{CommandInBlock, list_within};
 use crate::command::remark_about_if;
 use crate::finding::Remark;
-use crate::found::Found;
+use crate::found::Collector;
 use crate::kind::Kind;
 use crate::known::list_all_reads;
 use crate::loops::{boxed_name, is_set_by};
@@ -70,10 +70,10 @@ fn is_among(name: &Name, names: &[&Name]) -> bool
 fn is_read_by(alloc: Global, name: &Name, command: &Command) -> Result<bool, AllocError>
     ensures { IfOk result (λ read. read ≡ is_read_by name.now (command_tree command.now)) }
 {
-    let mut within = Found::new(alloc);
+    let mut within = Collector::new(alloc);
     list_within(command, &mut within);
     let within = within.finish()?;
-    let mut names = Found::new(alloc);
+    let mut names = Collector::new(alloc);
     list_reads(command, &mut names);
     list_all_reads(within.as_slice(), &mut names);
     Ok(is_among(name, names.finish()?.as_slice()))
@@ -83,7 +83,7 @@ fn is_read_by(alloc: Global, name: &Name, command: &Command) -> Result<bool, All
 fn is_changed_by(alloc: Global, name: &Name, command: &Command) -> Result<bool, AllocError>
     ensures { IfOk result (λ changed. changed ≡ is_changed_by name.now (command_tree command.now)) }
 {
-    let mut names = Found::new(alloc);
+    let mut names = Collector::new(alloc);
     list_unsets(command, &mut names);
     Ok(is_set_by(name, command) || is_among(name, names.finish()?.as_slice()))
 }
@@ -110,7 +110,7 @@ fn is_read_behind(alloc: Global, name: &Name, commands: &[Command]) -> Result<bo
 pub(crate) fn list_behind<'p>(
     alloc: Global,
     entry: &CommandInBlock<'p>,
-    found: &mut Found<Remark>,
+    found: &mut Collector<Remark>,
 ) -> Result<(), AllocError>
     ensures adds { OnOk result (Adds (items_in found.old) (behind_remarks (in_block entry.now)) (items_in found.new)) }
 {

@@ -4,10 +4,10 @@ ghost use Rattle.std.specs.Prelude.{◌≡◌, None, IfOk};
 ghost use Rattle.ctd_program.specs.inner.View.{boxed_separator};
 ghost use Rattle.ctd_program.specs.calls.View.{command_tree, command_trees};
 ghost use Rattle.ctd_findings.specs.calls.Block.{all_commands, commands_behind, commands_within, separator_command};
-ghost use Rattle.ctd_findings.specs.inner.Found.{Adds, blocks_in};
+ghost use Rattle.ctd_findings.specs.inner.Collector.{Adds, blocks_in};
 ghost use Rattle.ctd_findings.specs.inner.Listed.{in_blocks};
 
-use crate::found::Found;
+use crate::found::Collector;
 use ctd_program::{Action, Choice, Command, Loop};
 use std::alloc::{AllocError, Global};
 
@@ -21,7 +21,7 @@ pub(crate) struct CommandInBlock<'p> {
 
 /// Adds the commands of a list, and those in them.
 #[cycle(block)]
-fn list_block<'p>(commands: &'p [Command], found: &mut Found<CommandInBlock<'p>>)
+fn list_block<'p>(commands: &'p [Command], found: &mut Collector<CommandInBlock<'p>>)
     ensures adds { Adds (blocks_in found.old) (commands_behind None (command_trees commands.now)) (blocks_in found.new) }
 {
     let mut previous = None;
@@ -39,7 +39,7 @@ fn list_block<'p>(commands: &'p [Command], found: &mut Found<CommandInBlock<'p>>
 
 /// Adds the commands in a command.
 #[cycle(block)]
-pub(crate) fn list_within<'p>(command: &'p Command, found: &mut Found<CommandInBlock<'p>>)
+pub(crate) fn list_within<'p>(command: &'p Command, found: &mut Collector<CommandInBlock<'p>>)
     ensures adds { Adds (blocks_in found.old) (commands_within (command_tree command.now)) (blocks_in found.new) }
 {
     match &command.action {
@@ -65,7 +65,7 @@ pub(crate) fn list_within<'p>(command: &'p Command, found: &mut Found<CommandInB
 
 /// Adds a separator, if there is one.
 #[cycle(block)]
-fn list_separator<'p>(between: &'p Option<Box<Command>>, found: &mut Found<CommandInBlock<'p>>)
+fn list_separator<'p>(between: &'p Option<Box<Command>>, found: &mut Collector<CommandInBlock<'p>>)
     ensures adds { Adds (blocks_in found.old) (separator_command (boxed_separator between.now)) (blocks_in found.new) }
 {
     match between {
@@ -88,7 +88,7 @@ pub(crate) fn all_commands(
 ) -> Result<Vec<CommandInBlock<'_>>, AllocError>
     ensures all { IfOk result (λ found. in_blocks found.items ≡ all_commands (command_trees commands.now)) }
 {
-    let mut found = Found::new(alloc);
+    let mut found = Collector::new(alloc);
     list_block(commands, &mut found);
     found.finish()
 }

@@ -5,12 +5,12 @@ ghost use Rattle.ctd_program.specs.calls.View.{command_tree, command_trees, expr
 ghost use Rattle.ctd_findings.specs.calls.Cases.{all_arrays, all_fill, all_unset, arrays, assigned_arrays, fills, indexed, indexed_name, is_uncounted, loops_fill, test_arrays};
 ghost use Rattle.ctd_findings.specs.calls.Findings.{array_remarks, kept_remarks, remark_kept};
 ghost use Rattle.ctd_findings.specs.calls.Names.{is_among};
-ghost use Rattle.ctd_findings.specs.inner.Found.{Adds, items_in, names_in};
+ghost use Rattle.ctd_findings.specs.inner.Collector.{Adds, items_in, names_in};
 ghost use Rattle.ctd_findings.specs.inner.Listed.{assigned_trees, facts_known, has_name, name_at, names_at};
 
 use crate::command::remark_about_if;
 use crate::finding::Remark;
-use crate::found::Found;
+use crate::found::Collector;
 use crate::kind::Kind;
 use crate::known::Known;
 use crate::loops::{counter_name, loop_body};
@@ -21,7 +21,7 @@ use ctd_token::Name;
 use std::alloc::{AllocError, Global};
 
 /// Adds a name where it has indices.
-fn list_indexed<'p>(name: &'p Name, indices: &[Expr], found: &mut Found<&'p Name>)
+fn list_indexed<'p>(name: &'p Name, indices: &[Expr], found: &mut Collector<&'p Name>)
     ensures adds { Adds (names_in found.old) (indexed name.now (expr_list indices.now)) (names_in found.new) }
 {
     match indices {
@@ -31,7 +31,7 @@ fn list_indexed<'p>(name: &'p Name, indices: &[Expr], found: &mut Found<&'p Name
 }
 
 /// Adds the name of a variable, if there is one and it has indices.
-fn list_indexed_target<'p>(variable: &'p Option<Var>, found: &mut Found<&'p Name>)
+fn list_indexed_target<'p>(variable: &'p Option<Var>, found: &mut Collector<&'p Name>)
     ensures adds { Adds (names_in found.old) (indexed_name (target variable.now)) (names_in found.new) }
 {
     match variable {
@@ -41,7 +41,7 @@ fn list_indexed_target<'p>(variable: &'p Option<Var>, found: &mut Found<&'p Name
 }
 
 /// Adds the arrays of which assignments set an element.
-fn list_assigned_arrays<'p>(assignments: &'p [Assignment], found: &mut Found<&'p Name>)
+fn list_assigned_arrays<'p>(assignments: &'p [Assignment], found: &mut Collector<&'p Name>)
     ensures adds { Adds (names_in found.old) (assigned_arrays (assigned_trees assignments.now)) (names_in found.new) }
 {
     for a in assignments {
@@ -50,7 +50,7 @@ fn list_assigned_arrays<'p>(assignments: &'p [Assignment], found: &mut Found<&'p
 }
 
 /// Adds the arrays of which INT, REGEX or SET sets an element.
-fn list_fills<'p>(command: &'p Command, found: &mut Found<&'p Name>)
+fn list_fills<'p>(command: &'p Command, found: &mut Collector<&'p Name>)
     ensures adds { Adds (names_in found.old) (fills (command_tree command.now)) (names_in found.new) }
 {
     match &command.action {
@@ -63,7 +63,7 @@ fn list_fills<'p>(command: &'p Command, found: &mut Found<&'p Name>)
 }
 
 /// Adds those of some commands.
-fn list_all_fill<'p>(commands: &'p [Command], found: &mut Found<&'p Name>)
+fn list_all_fill<'p>(commands: &'p [Command], found: &mut Collector<&'p Name>)
     ensures adds { Adds (names_in found.old) (all_fill (command_trees commands.now)) (names_in found.new) }
 {
     for command in commands {
@@ -72,7 +72,7 @@ fn list_all_fill<'p>(commands: &'p [Command], found: &mut Found<&'p Name>)
 }
 
 /// Adds the arrays that the loops among some commands fill.
-fn list_loops_fill<'p>(commands: &'p [Command], found: &mut Found<&'p Name>)
+fn list_loops_fill<'p>(commands: &'p [Command], found: &mut Collector<&'p Name>)
     ensures adds { Adds (names_in found.old) (loops_fill (command_trees commands.now)) (names_in found.new) }
 {
     for command in commands {
@@ -81,7 +81,7 @@ fn list_loops_fill<'p>(commands: &'p [Command], found: &mut Found<&'p Name>)
 }
 
 /// Adds the arrays of UNIQUE and INARRAY in a test.
-fn list_test_arrays<'p>(t: &'p Test, found: &mut Found<&'p Name>)
+fn list_test_arrays<'p>(t: &'p Test, found: &mut Collector<&'p Name>)
     ensures adds { Adds (names_in found.old) (test_arrays (test_tree t.now)) (names_in found.new) }
 {
     match t {
@@ -97,7 +97,7 @@ fn list_test_arrays<'p>(t: &'p Test, found: &mut Found<&'p Name>)
 }
 
 /// Adds the arrays of UNIQUE and INARRAY in the test of ASSERT or IF.
-fn list_arrays<'p>(command: &'p Command, found: &mut Found<&'p Name>)
+fn list_arrays<'p>(command: &'p Command, found: &mut Collector<&'p Name>)
     ensures adds { Adds (names_in found.old) (arrays (command_tree command.now)) (names_in found.new) }
 {
     match &command.action {
@@ -110,7 +110,7 @@ fn list_arrays<'p>(command: &'p Command, found: &mut Found<&'p Name>)
 }
 
 /// Adds those of some commands.
-fn list_all_arrays<'p>(commands: &'p [Command], found: &mut Found<&'p Name>)
+fn list_all_arrays<'p>(commands: &'p [Command], found: &mut Collector<&'p Name>)
     ensures adds { Adds (names_in found.old) (all_arrays (command_trees commands.now)) (names_in found.new) }
 {
     for command in commands {
@@ -119,7 +119,7 @@ fn list_all_arrays<'p>(commands: &'p [Command], found: &mut Found<&'p Name>)
 }
 
 /// Adds the names that UNSET among some commands forgets.
-fn list_all_unset<'p>(commands: &'p [Command], found: &mut Found<&'p Name>)
+fn list_all_unset<'p>(commands: &'p [Command], found: &mut Collector<&'p Name>)
     ensures adds { Adds (names_in found.old) (all_unset (command_trees commands.now)) (names_in found.new) }
 {
     for command in commands {
@@ -141,7 +141,7 @@ fn is_uncounted<'p>(counter: Option<&'p Name>, known: &Known<'p>) -> bool
 fn names_filled<'p>(alloc: Global, body: &'p [Command]) -> Result<NameSet<'p>, AllocError>
     ensures members { IfOk result (λ set. (name : List ℕ) → has_name name set ≡ is_among name (loops_fill (command_trees body.now))) }
 {
-    let mut names = Found::new(alloc);
+    let mut names = Collector::new(alloc);
     list_loops_fill(body, &mut names);
     NameSet::of(alloc, names.finish()?.as_slice())
 }
@@ -150,7 +150,7 @@ fn names_filled<'p>(alloc: Global, body: &'p [Command]) -> Result<NameSet<'p>, A
 fn names_unset<'p>(alloc: Global, body: &'p [Command]) -> Result<NameSet<'p>, AllocError>
     ensures members { IfOk result (λ set. (name : List ℕ) → has_name name set ≡ is_among name (all_unset (command_trees body.now))) }
 {
-    let mut names = Found::new(alloc);
+    let mut names = Collector::new(alloc);
     list_all_unset(body, &mut names);
     NameSet::of(alloc, names.finish()?.as_slice())
 }
@@ -161,7 +161,7 @@ fn list_kept_among<'p>(
     arrays: &[&'p Name],
     filled: &NameSet<'p>,
     unset: &NameSet<'p>,
-    found: &mut Found<Remark>,
+    found: &mut Collector<Remark>,
 ) -> Result<(), AllocError>
     ensures adds { OnOk result (Adds (items_in found.old) (remark_kept (λ name. has_name name filled.now) (λ name. has_name name unset.now) (names_at arrays.now)) (items_in found.new)) }
 {
@@ -176,11 +176,11 @@ fn list_kept_among<'p>(
 fn list_array_remarks<'p>(
     alloc: Global,
     body: &'p [Command],
-    found: &mut Found<Remark>,
+    found: &mut Collector<Remark>,
 ) -> Result<(), AllocError>
     ensures adds { OnOk result (Adds (items_in found.old) (array_remarks (command_trees body.now)) (items_in found.new)) }
 {
-    let mut names = Found::new(alloc);
+    let mut names = Collector::new(alloc);
     list_all_arrays(body, &mut names);
     let arrays = names.finish()?;
     if arrays.is_empty() {
@@ -196,7 +196,7 @@ pub(crate) fn list_kept<'p>(
     alloc: Global,
     command: &'p Command,
     known: &Known<'p>,
-    found: &mut Found<Remark>,
+    found: &mut Collector<Remark>,
 ) -> Result<(), AllocError>
     ensures adds { OnOk result (Adds (items_in found.old) (kept_remarks (facts_known known.now) (command_tree command.now)) (items_in found.new)) }
 {

@@ -3,10 +3,10 @@
 ghost use Rattle.std.specs.Prelude.{◌≡◌, ◌++◌, ◌∷◌, [], OnOk, IfOk};
 ghost use Rattle.ctd_program.specs.calls.View.{command_tree, expr_tree, guard_tree, test_tree};
 ghost use Rattle.ctd_findings.specs.calls.Findings.{about, about_if, command_remarks, content_remarks, follows_endless, follows_eof, form_remarks, guard_test, is_above, is_empty_text, is_endless, is_eof, is_known_true, is_set_aside, loop_remarks, loop_test, own_remarks, pattern_remarks, place_remarks, remark_if, remark_unknown, remark_unread, takes_bytes, test_remarks, truth_remarks, unread_kind};
-ghost use Rattle.ctd_findings.specs.inner.Found.{Adds, items_in};
+ghost use Rattle.ctd_findings.specs.inner.Collector.{Adds, items_in};
 ghost use Rattle.ctd_findings.specs.inner.Listed.{command_at, facts_known, has_name, in_block, names_at, test_at};
 ghost use Rattle.ctd_findings.specs.calls.Names.{reads, sets, unsets};
-ghost use Rattle.ctd_findings.specs.calls.Literal.{literal_number, literal_truth, no_variables};
+ghost use Rattle.ctd_findings.specs.calls.LiteralValues.{literal_number, literal_truth, no_variables};
 ghost use Rattle.ctd_outline.specs.calls.Alternatives.{hides_alternative};
 ghost use Rattle.ctd_outline.specs.calls.LineFeeds.{matches_feed};
 ghost use Rattle.ctd_outline.specs.calls.Outline.{ends_with, has_wide_range, repeats_unbounded, starts_with, telling_outline};
@@ -17,7 +17,7 @@ use crate::block::CommandInBlock;
 use crate::cases::list_kept;
 use crate::decided::list_test_range;
 use crate::finding::Remark;
-use crate::found::Found;
+use crate::found::Collector;
 use crate::kind::Kind;
 use crate::known::Known;
 use crate::literal::{literal_number, literal_truth};
@@ -33,7 +33,7 @@ use ctd_value::Store;
 use std::alloc::{AllocError, Global};
 
 /// Adds a remark where this is so.
-pub(crate) fn remark_if(is_so: bool, kind: Kind, found: &mut Found<Remark>)
+pub(crate) fn remark_if(is_so: bool, kind: Kind, found: &mut Collector<Remark>)
     ensures adds { Adds (items_in found.old) (remark_if is_so kind) (items_in found.new) }
 {
     if is_so {
@@ -46,7 +46,7 @@ fn remark_about(
     alloc: Global,
     kind: Kind,
     name: &Name,
-    found: &mut Found<Remark>,
+    found: &mut Collector<Remark>,
 ) -> Result<(), AllocError>
     ensures adds { OnOk result (Adds (items_in found.old) (about kind name.now ∷ []) (items_in found.new)) }
 {
@@ -61,7 +61,7 @@ pub(crate) fn list_unknown<'p>(
     kind: Kind,
     names: &[&'p Name],
     known: &NameSet<'p>,
-    found: &mut Found<Remark>,
+    found: &mut Collector<Remark>,
 ) -> Result<(), AllocError>
     ensures adds { OnOk result (Adds (items_in found.old) (remark_unknown kind (λ name. has_name name known.now) (names_at names.now)) (items_in found.new)) }
 {
@@ -97,7 +97,7 @@ fn list_unread_among<'p>(
     alloc: Global,
     names: &[&'p Name],
     known: &Known<'p>,
-    found: &mut Found<Remark>,
+    found: &mut Collector<Remark>,
 ) -> Result<(), AllocError>
     ensures adds { OnOk result (Adds (items_in found.old) (remark_unread (facts_known known.now) (names_at names.now)) (items_in found.new)) }
 {
@@ -162,7 +162,7 @@ fn list_truth(
     alloc: Global,
     t: &Test,
     nothing: &Store,
-    found: &mut Found<Remark>,
+    found: &mut Collector<Remark>,
 ) -> Result<(), AllocError>
     requires { nothing.now ≡ no_variables }
     ensures adds { OnOk result (Adds (items_in found.old) (truth_remarks (literal_truth (test_tree t.now))) (items_in found.new)) }
@@ -180,7 +180,7 @@ fn list_test(
     alloc: Global,
     t: Option<&Test>,
     nothing: &Store,
-    found: &mut Found<Remark>,
+    found: &mut Collector<Remark>,
 ) -> Result<(), AllocError>
     requires { nothing.now ≡ no_variables }
     ensures adds { OnOk result (Adds (items_in found.old) (test_remarks (test_at t.entry)) (items_in found.new)) }
@@ -220,7 +220,7 @@ fn is_empty_text(e: &Expr) -> bool
 }
 
 /// Adds the remarks on what stands in a pattern of this form.
-fn list_content(pattern: &[u8], form: Form, found: &mut Found<Remark>)
+fn list_content(pattern: &[u8], form: Form, found: &mut Collector<Remark>)
     requires range { form.has_wide_range ≡ has_wide_range pattern.now }
     requires hidden { form.hides_alternative ≡ hides_alternative (telling_outline pattern.now) }
     ensures adds { Adds (items_in found.old) (content_remarks pattern.now (telling_outline pattern.now)) (items_in found.new) }
@@ -231,7 +231,7 @@ fn list_content(pattern: &[u8], form: Form, found: &mut Found<Remark>)
 }
 
 /// Adds the remarks on how a pattern of this form begins and ends, and on what it may match.
-fn list_form(pattern: &[u8], form: Form, found: &mut Found<Remark>)
+fn list_form(pattern: &[u8], form: Form, found: &mut Collector<Remark>)
     requires caret { form.starts_with_caret ≡ starts_with 94 (telling_outline pattern.now) }
     requires dollar { form.ends_with_dollar ≡ ends_with 36 (telling_outline pattern.now) }
     requires unbounded { form.is_unbounded ≡ repeats_unbounded (telling_outline pattern.now) }
@@ -245,7 +245,11 @@ fn list_form(pattern: &[u8], form: Form, found: &mut Found<Remark>)
 }
 
 /// Adds the remarks on a pattern.
-fn list_pattern(alloc: Global, pattern: &[u8], found: &mut Found<Remark>) -> Result<(), AllocError>
+fn list_pattern(
+    alloc: Global,
+    pattern: &[u8],
+    found: &mut Collector<Remark>,
+) -> Result<(), AllocError>
     ensures adds { OnOk result (Adds (items_in found.old) (pattern_remarks pattern.now) (items_in found.new)) }
 {
     let form = form_of(alloc, pattern)?;
@@ -259,7 +263,7 @@ fn list_own(
     alloc: Global,
     command: &Command,
     nothing: &Store,
-    found: &mut Found<Remark>,
+    found: &mut Collector<Remark>,
 ) -> Result<(), AllocError>
     requires { nothing.now ≡ no_variables }
     ensures adds { OnOk result (Adds (items_in found.old) (own_remarks (command_tree command.now)) (items_in found.new)) }
@@ -288,11 +292,11 @@ fn list_without_value<'p>(
     alloc: Global,
     command: &'p Command,
     given: &NameSet<'p>,
-    found: &mut Found<Remark>,
+    found: &mut Collector<Remark>,
 ) -> Result<(), AllocError>
     ensures adds { OnOk result (Adds (items_in found.old) (remark_unknown Kind.NoValue (λ name. has_name name given.now) (reads (command_tree command.now) ++ unsets (command_tree command.now))) (items_in found.new)) }
 {
-    let mut names = Found::new(alloc);
+    let mut names = Collector::new(alloc);
     list_reads(command, &mut names);
     list_unsets(command, &mut names);
     let names = names.finish()?;
@@ -304,11 +308,11 @@ fn list_unread<'p>(
     alloc: Global,
     command: &'p Command,
     known: &Known<'p>,
-    found: &mut Found<Remark>,
+    found: &mut Collector<Remark>,
 ) -> Result<(), AllocError>
     ensures adds { OnOk result (Adds (items_in found.old) (remark_unread (facts_known known.now) (sets (command_tree command.now))) (items_in found.new)) }
 {
-    let mut names = Found::new(alloc);
+    let mut names = Collector::new(alloc);
     list_sets(command, &mut names);
     let names = names.finish()?;
     list_unread_among(alloc, names.as_slice(), known, found)
@@ -352,7 +356,7 @@ fn list_place<'p>(
     alloc: Global,
     entry: &CommandInBlock<'p>,
     nothing: &Store,
-    found: &mut Found<Remark>,
+    found: &mut Collector<Remark>,
 ) -> Result<(), AllocError>
     requires { nothing.now ≡ no_variables }
     ensures adds { OnOk result (Adds (items_in found.old) (place_remarks (in_block entry.now)) (items_in found.new)) }
@@ -370,7 +374,7 @@ pub(crate) fn remark_about_if(
     is_so: bool,
     kind: Kind,
     name: &Name,
-    found: &mut Found<Remark>,
+    found: &mut Collector<Remark>,
 ) -> Result<(), AllocError>
     ensures adds { OnOk result (Adds (items_in found.old) (about_if is_so kind name.now) (items_in found.new)) }
 {
@@ -385,7 +389,7 @@ fn list_counter<'p>(
     alloc: Global,
     command: &'p Command,
     known: &Known<'p>,
-    found: &mut Found<Remark>,
+    found: &mut Collector<Remark>,
 ) -> Result<(), AllocError>
     ensures adds { OnOk result (Adds (items_in found.old) (loop_remarks (facts_known known.now) (command_tree command.now)) (items_in found.new)) }
 {
@@ -408,7 +412,7 @@ pub(crate) fn command_remarks<'p>(
     requires { known.now.nothing ≡ no_variables }
     ensures { IfOk result (λ found. found.items ≡ command_remarks (facts_known known.now) (in_block entry.now)) }
 {
-    let mut found = Found::new(alloc);
+    let mut found = Collector::new(alloc);
     list_place(alloc, entry, &known.nothing, &mut found)?;
     list_without_value(alloc, entry.command, &known.given, &mut found)?;
     list_unread(alloc, entry.command, known, &mut found)?;

@@ -3,16 +3,16 @@
 ghost use Rattle.std.specs.Prelude.{◌≡◌, IfOk, OnOk, not};
 ghost use Rattle.std.specs.Option.{option_and_then, option_map};
 ghost use Rattle.ctd_program.specs.calls.View.{command_tree, expr_tree, guard_tree, test_tree};
-ghost use Rattle.ctd_findings.specs.inner.Found.{Adds, items_in};
+ghost use Rattle.ctd_findings.specs.inner.Collector.{Adds, items_in};
 ghost use Rattle.ctd_findings.specs.inner.Listed.{facts_known, range_known};
 ghost use Rattle.ctd_findings.specs.calls.Decided.{holds_of_all, one_answer, opposite, range_truth, side_range};
 ghost use Rattle.ctd_findings.specs.calls.Findings.{decided_remarks, guard_range_remarks, range_remarks, test_range_remarks};
-ghost use Rattle.ctd_findings.specs.calls.Literal.{no_variables};
+ghost use Rattle.ctd_findings.specs.calls.LiteralValues.{no_variables};
 ghost use Rattle.ctd_findings.specs.calls.Ranges.{name_in};
 
 use crate::command::remark_if;
 use crate::finding::Remark;
-use crate::found::Found;
+use crate::found::Collector;
 use crate::kind::Kind;
 use crate::known::Known;
 use crate::literal::{literal_number, literal_truth};
@@ -124,7 +124,7 @@ fn range_truth<'p>(
 }
 
 /// Adds a remark where a test is decided: one of the given kind where it is true.
-fn list_decided(if_true: Kind, truth: Option<bool>, found: &mut Found<Remark>)
+fn list_decided(if_true: Kind, truth: Option<bool>, found: &mut Collector<Remark>)
     ensures adds { Adds (items_in found.old) (decided_remarks if_true truth) (items_in found.new) }
 {
     match truth {
@@ -140,7 +140,7 @@ fn list_range<'p>(
     if_true: Kind,
     t: &'p Test,
     known: &Known<'p>,
-    found: &mut Found<Remark>,
+    found: &mut Collector<Remark>,
 ) -> Result<(), AllocError>
     requires { known.now.nothing ≡ no_variables }
     ensures adds { OnOk result (Adds (items_in found.old) (range_remarks (facts_known known.now) if_true (test_tree t.now)) (items_in found.new)) }
@@ -156,7 +156,7 @@ fn list_guard_range<'p>(
     alloc: Global,
     guard: &'p LoopGuard,
     known: &Known<'p>,
-    found: &mut Found<Remark>,
+    found: &mut Collector<Remark>,
 ) -> Result<(), AllocError>
     requires { known.now.nothing ≡ no_variables }
     ensures adds { OnOk result (Adds (items_in found.old) (guard_range_remarks (facts_known known.now) (guard_tree guard.now)) (items_in found.new)) }
@@ -172,7 +172,7 @@ pub(crate) fn list_test_range<'p>(
     alloc: Global,
     command: &'p Command,
     known: &Known<'p>,
-    found: &mut Found<Remark>,
+    found: &mut Collector<Remark>,
 ) -> Result<(), AllocError>
     requires { known.now.nothing ≡ no_variables }
     ensures adds { OnOk result (Adds (items_in found.old) (test_range_remarks (facts_known known.now) (command_tree command.now)) (items_in found.new)) }

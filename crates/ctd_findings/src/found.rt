@@ -1,23 +1,23 @@
 //! What is found piece by piece.
 
 ghost use Rattle.std.specs.Prelude.{◌≡◌, ◌∷◌, [], IfOk, Some};
-ghost use Rattle.ctd_findings.specs.inner.Found.{Adds, items_in};
+ghost use Rattle.ctd_findings.specs.inner.Collector.{Adds, items_in};
 
 use std::alloc::{AllocError, Global};
 
 /// Items that are found one after the other. Once memory ran out for one, they are not complete, and `finish` says so.
 #[derive(Drop)]
-pub(crate) struct Found<T> {
+pub(crate) struct Collector<T> {
     items: Vec<T>,
     is_complete: bool,
 }
 
-impl<T: Drop> Found<T> {
+impl<T: Drop> Collector<T> {
     /// No items.
-    pub(crate) fn new(alloc: Global) -> Found<T>
+    pub(crate) fn new(alloc: Global) -> Collector<T>
         ensures empty { items_in result ≡ Some [] }
     {
-        Found {
+        Collector {
             items: Vec::new(alloc),
             is_complete: true,
         }

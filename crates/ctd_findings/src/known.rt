@@ -1,9 +1,9 @@
 //! What is known of a program as a whole.
 
 ghost use Rattle.std.specs.Prelude.{◌≡◌, ◌++◌, ℕ, List, OnOk, IfOk};
-ghost use Rattle.ctd_findings.specs.inner.Found.{Adds, names_in};
+ghost use Rattle.ctd_findings.specs.inner.Collector.{Adds, names_in};
 ghost use Rattle.ctd_findings.specs.inner.Listed.{has_name, in_blocks, range_known};
-ghost use Rattle.ctd_findings.specs.calls.Literal.{no_variables};
+ghost use Rattle.ctd_findings.specs.calls.LiteralValues.{no_variables};
 ghost use Rattle.ctd_findings.specs.calls.Assigned.{all_not_numbers, all_not_texts};
 ghost use Rattle.ctd_findings.specs.calls.Ranges.{range_in};
 ghost use Rattle.ctd_findings.specs.calls.Facts.{is_given_in, is_read_elsewhere_in, is_read_in};
@@ -11,7 +11,7 @@ ghost use Rattle.ctd_findings.specs.calls.Names.{all_given, all_mentioned, all_r
 
 use crate::assigned::{list_not_numbers, list_not_texts};
 use crate::block::CommandInBlock;
-use crate::found::Found;
+use crate::found::Collector;
 use crate::name_set::NameSet;
 use crate::names::{
     list_counts, list_name, list_reads, list_reads_elsewhere, list_sets, list_unsets,
@@ -42,7 +42,7 @@ pub(crate) struct Known<'p> {
 }
 
 /// Adds the names that some commands read.
-pub(crate) fn list_all_reads<'p>(commands: &[CommandInBlock<'p>], names: &mut Found<&'p Name>)
+pub(crate) fn list_all_reads<'p>(commands: &[CommandInBlock<'p>], names: &mut Collector<&'p Name>)
     ensures adds { Adds (names_in names.old) (all_reads (in_blocks commands.now)) (names_in names.new) }
 {
     for entry in commands {
@@ -54,13 +54,13 @@ pub(crate) fn list_all_reads<'p>(commands: &[CommandInBlock<'p>], names: &mut Fo
 fn read_names<'p>(alloc: Global, commands: &[CommandInBlock<'p>]) -> Result<NameSet<'p>, AllocError>
     ensures members { IfOk result (λ set. (name : List ℕ) → has_name name set ≡ is_among name (all_reads (in_blocks commands.now))) }
 {
-    let mut names = Found::new(alloc);
+    let mut names = Collector::new(alloc);
     list_all_reads(commands, &mut names);
     NameSet::of(alloc, names.finish()?.as_slice())
 }
 
 /// Adds the names to which some commands give a value.
-fn list_given<'p>(commands: &[CommandInBlock<'p>], names: &mut Found<&'p Name>)
+fn list_given<'p>(commands: &[CommandInBlock<'p>], names: &mut Collector<&'p Name>)
     ensures adds { Adds (names_in names.old) (all_given (in_blocks commands.now)) (names_in names.new) }
 {
     for entry in commands {
@@ -70,7 +70,7 @@ fn list_given<'p>(commands: &[CommandInBlock<'p>], names: &mut Found<&'p Name>)
 }
 
 /// Adds the names of presets.
-pub(crate) fn list_presets<'p>(presets: &'p Presets, names: &mut Found<&'p Name>)
+pub(crate) fn list_presets<'p>(presets: &'p Presets, names: &mut Collector<&'p Name>)
     ensures adds { Adds (names_in names.old) (preset_names presets.now) (names_in names.new) }
 {
     for preset in presets.pins() {
@@ -86,7 +86,7 @@ fn given_names<'p>(
 ) -> Result<NameSet<'p>, AllocError>
     ensures members { IfOk result (λ set. (name : List ℕ) → has_name name set ≡ is_among name (all_given (in_blocks commands.now) ++ preset_names presets.now)) }
 {
-    let mut names = Found::new(alloc);
+    let mut names = Collector::new(alloc);
     list_given(commands, &mut names);
     list_presets(presets, &mut names);
     NameSet::of(alloc, names.finish()?.as_slice())
@@ -96,7 +96,7 @@ fn given_names<'p>(
 fn list_all_reads_elsewhere<'p>(
     alloc: Global,
     commands: &[CommandInBlock<'p>],
-    names: &mut Found<&'p Name>,
+    names: &mut Collector<&'p Name>,
 ) -> Result<(), AllocError>
     ensures adds { OnOk result (Adds (names_in names.old) (all_reads_elsewhere (in_blocks commands.now)) (names_in names.new)) }
 {
@@ -113,13 +113,13 @@ fn names_read_elsewhere<'p>(
 ) -> Result<NameSet<'p>, AllocError>
     ensures members { IfOk result (λ set. (name : List ℕ) → has_name name set ≡ is_among name (all_reads_elsewhere (in_blocks commands.now))) }
 {
-    let mut names = Found::new(alloc);
+    let mut names = Collector::new(alloc);
     list_all_reads_elsewhere(alloc, commands, &mut names)?;
     NameSet::of(alloc, names.finish()?.as_slice())
 }
 
 /// Adds the names to which some commands give what may be no number.
-fn list_all_not_numbers<'p>(commands: &[CommandInBlock<'p>], names: &mut Found<&'p Name>)
+fn list_all_not_numbers<'p>(commands: &[CommandInBlock<'p>], names: &mut Collector<&'p Name>)
     ensures adds { Adds (names_in names.old) (all_not_numbers (in_blocks commands.now)) (names_in names.new) }
 {
     for entry in commands {
@@ -135,14 +135,14 @@ fn names_not_numbers<'p>(
 ) -> Result<NameSet<'p>, AllocError>
     ensures members { IfOk result (λ set. (name : List ℕ) → has_name name set ≡ is_among name (all_not_numbers (in_blocks commands.now) ++ preset_names presets.now)) }
 {
-    let mut names = Found::new(alloc);
+    let mut names = Collector::new(alloc);
     list_all_not_numbers(commands, &mut names);
     list_presets(presets, &mut names);
     NameSet::of(alloc, names.finish()?.as_slice())
 }
 
 /// Adds the names to which some commands give what may be no string.
-fn list_all_not_texts<'p>(commands: &[CommandInBlock<'p>], names: &mut Found<&'p Name>)
+fn list_all_not_texts<'p>(commands: &[CommandInBlock<'p>], names: &mut Collector<&'p Name>)
     ensures adds { Adds (names_in names.old) (all_not_texts (in_blocks commands.now)) (names_in names.new) }
 {
     for entry in commands {
@@ -158,14 +158,14 @@ fn names_not_texts<'p>(
 ) -> Result<NameSet<'p>, AllocError>
     ensures members { IfOk result (λ set. (name : List ℕ) → has_name name set ≡ is_among name (all_not_texts (in_blocks commands.now) ++ preset_names presets.now)) }
 {
-    let mut names = Found::new(alloc);
+    let mut names = Collector::new(alloc);
     list_all_not_texts(commands, &mut names);
     list_presets(presets, &mut names);
     NameSet::of(alloc, names.finish()?.as_slice())
 }
 
 /// Adds the names that some commands mention.
-fn list_mentioned<'p>(commands: &[CommandInBlock<'p>], names: &mut Found<&'p Name>)
+fn list_mentioned<'p>(commands: &[CommandInBlock<'p>], names: &mut Collector<&'p Name>)
     ensures adds { Adds (names_in names.old) (all_mentioned (in_blocks commands.now)) (names_in names.new) }
 {
     for entry in commands {
@@ -183,7 +183,7 @@ pub(crate) fn mentioned_names<'p>(
 ) -> Result<NameSet<'p>, AllocError>
     ensures members { IfOk result (λ set. (name : List ℕ) → has_name name set ≡ is_among name (all_mentioned (in_blocks commands.now))) }
 {
-    let mut names = Found::new(alloc);
+    let mut names = Collector::new(alloc);
     list_mentioned(commands, &mut names);
     NameSet::of(alloc, names.finish()?.as_slice())
 }

@@ -6,7 +6,7 @@ ghost use Rattle.ctd_program.specs.calls.View.{expr_tree, test_tree};
 ghost use Rattle.ctd_value.specs.Fault.{TruthFault, ValueFault};
 ghost use Rattle.ctd_value.specs.Truth.{truth};
 ghost use Rattle.ctd_value.specs.calls.Fault.{Answers, Gives};
-ghost use Rattle.ctd_findings.specs.calls.Literal.{compares_only, literal_number, literal_truth, no_data, no_variables};
+ghost use Rattle.ctd_findings.specs.calls.LiteralValues.{compares_only, literal_number, literal_truth, no_data, no_variables};
 
 use ctd_program::{Expr, Test};
 use ctd_source::Plain;

@@ -2,17 +2,17 @@
 
 ghost use Rattle.std.specs.Prelude.{◌++◌, ◌∷◌, [], OnOk};
 ghost use Rattle.ctd_program.specs.calls.View.{boxed_target, command_tree, expr_list, expr_tree, exprs_of, guard_tree, target, test_tree};
-ghost use Rattle.ctd_findings.specs.inner.Found.{Adds, names_in};
+ghost use Rattle.ctd_findings.specs.inner.Collector.{Adds, names_in};
 ghost use Rattle.ctd_findings.specs.inner.Listed.{assigned_trees, names_at};
 ghost use Rattle.ctd_findings.specs.calls.Names.{assignment_names, assignment_reads, assignment_reads_elsewhere, counts, expr_names, guard_names, index_names, others, reads, reads_elsewhere, sets, target_name, target_reads, test_names, unsets};
 
-use crate::found::Found;
+use crate::found::Collector;
 use ctd_program::{Action, Assignment, Command, Expr, IntArguments, LoopGuard, Test, Var};
 use ctd_token::Name;
 use std::alloc::{AllocError, Global};
 
 /// Adds a name.
-pub(crate) fn list_name<'p>(name: &'p Name, found: &mut Found<&'p Name>)
+pub(crate) fn list_name<'p>(name: &'p Name, found: &mut Collector<&'p Name>)
     ensures adds { Adds (names_in found.old) (name.now ∷ []) (names_in found.new) }
 {
     found.add(name);
@@ -20,7 +20,7 @@ pub(crate) fn list_name<'p>(name: &'p Name, found: &mut Found<&'p Name>)
 
 /// Adds the names in an expression.
 #[cycle(expr_names)]
-fn list_expr<'p>(e: &'p Expr, found: &mut Found<&'p Name>)
+fn list_expr<'p>(e: &'p Expr, found: &mut Collector<&'p Name>)
     ensures adds { Adds (names_in found.old) (expr_names (expr_tree e.now)) (names_in found.new) }
 {
     match e {
@@ -45,7 +45,7 @@ fn list_expr<'p>(e: &'p Expr, found: &mut Found<&'p Name>)
 
 /// Adds the names in indices.
 #[cycle(expr_names)]
-fn list_indices<'p>(indices: &'p [Expr], found: &mut Found<&'p Name>)
+fn list_indices<'p>(indices: &'p [Expr], found: &mut Collector<&'p Name>)
     ensures adds { Adds (names_in found.old) (index_names (expr_list indices.now)) (names_in found.new) }
 {
     for index in indices {
@@ -54,7 +54,7 @@ fn list_indices<'p>(indices: &'p [Expr], found: &mut Found<&'p Name>)
 }
 
 /// Adds the names in two expressions.
-fn list_both<'p>(a: &'p Expr, b: &'p Expr, found: &mut Found<&'p Name>)
+fn list_both<'p>(a: &'p Expr, b: &'p Expr, found: &mut Collector<&'p Name>)
     ensures adds { Adds (names_in found.old) (expr_names (expr_tree a.now) ++ expr_names (expr_tree b.now)) (names_in found.new) }
 {
     list_expr(a, found);
@@ -62,7 +62,7 @@ fn list_both<'p>(a: &'p Expr, b: &'p Expr, found: &mut Found<&'p Name>)
 }
 
 /// Adds names.
-pub(crate) fn list_all<'p>(names: &'p [Name], found: &mut Found<&'p Name>)
+pub(crate) fn list_all<'p>(names: &'p [Name], found: &mut Collector<&'p Name>)
     ensures adds { Adds (names_in found.old) names.now (names_in found.new) }
 {
     for name in names {
@@ -71,7 +71,7 @@ pub(crate) fn list_all<'p>(names: &'p [Name], found: &mut Found<&'p Name>)
 }
 
 /// Adds the names in a test.
-fn list_test<'p>(t: &'p Test, found: &mut Found<&'p Name>)
+fn list_test<'p>(t: &'p Test, found: &mut Collector<&'p Name>)
     ensures adds { Adds (names_in found.old) (test_names (test_tree t.now)) (names_in found.new) }
 {
     match t {
@@ -92,7 +92,7 @@ fn list_test<'p>(t: &'p Test, found: &mut Found<&'p Name>)
 }
 
 /// Adds the names that are read where a variable is set.
-fn list_target_reads<'p>(variable: &'p Option<Var>, found: &mut Found<&'p Name>)
+fn list_target_reads<'p>(variable: &'p Option<Var>, found: &mut Collector<&'p Name>)
     ensures adds { Adds (names_in found.old) (target_reads (target variable.now)) (names_in found.new) }
 {
     match variable {
@@ -102,7 +102,7 @@ fn list_target_reads<'p>(variable: &'p Option<Var>, found: &mut Found<&'p Name>)
 }
 
 /// Adds the name of a variable, if there is one.
-pub(crate) fn list_target<'p>(variable: &'p Option<Var>, found: &mut Found<&'p Name>)
+pub(crate) fn list_target<'p>(variable: &'p Option<Var>, found: &mut Collector<&'p Name>)
     ensures adds { Adds (names_in found.old) (target_name (target variable.now)) (names_in found.new) }
 {
     match variable {
@@ -112,7 +112,7 @@ pub(crate) fn list_target<'p>(variable: &'p Option<Var>, found: &mut Found<&'p N
 }
 
 /// Adds the names that are read in assignments.
-fn list_assignment_reads<'p>(assignments: &'p [Assignment], found: &mut Found<&'p Name>)
+fn list_assignment_reads<'p>(assignments: &'p [Assignment], found: &mut Collector<&'p Name>)
     ensures adds { Adds (names_in found.old) (assignment_reads (assigned_trees assignments.now)) (names_in found.new) }
 {
     for a in assignments {
@@ -122,7 +122,7 @@ fn list_assignment_reads<'p>(assignments: &'p [Assignment], found: &mut Found<&'
 }
 
 /// Adds the names that assignments set.
-fn list_assignments<'p>(assignments: &'p [Assignment], found: &mut Found<&'p Name>)
+fn list_assignments<'p>(assignments: &'p [Assignment], found: &mut Collector<&'p Name>)
     ensures adds { Adds (names_in found.old) (assignment_names (assigned_trees assignments.now)) (names_in found.new) }
 {
     for a in assignments {
@@ -131,7 +131,7 @@ fn list_assignments<'p>(assignments: &'p [Assignment], found: &mut Found<&'p Nam
 }
 
 /// Adds the names that are read for what INT takes.
-fn list_int<'p>(int: &'p IntArguments, found: &mut Found<&'p Name>)
+fn list_int<'p>(int: &'p IntArguments, found: &mut Collector<&'p Name>)
     ensures adds { Adds (names_in found.old) (expr_names (expr_tree int.now.low) ++ expr_names (expr_tree int.now.high) ++ target_reads (target int.now.target)) (names_in found.new) }
 {
     list_both(&int.low, &int.high, found);
@@ -139,7 +139,7 @@ fn list_int<'p>(int: &'p IntArguments, found: &mut Found<&'p Name>)
 }
 
 /// Adds the names in the head of a loop.
-fn list_guard<'p>(guard: &'p LoopGuard, found: &mut Found<&'p Name>)
+fn list_guard<'p>(guard: &'p LoopGuard, found: &mut Collector<&'p Name>)
     ensures adds { Adds (names_in found.old) (guard_names (guard_tree guard.now)) (names_in found.new) }
 {
     match guard {
@@ -149,7 +149,7 @@ fn list_guard<'p>(guard: &'p LoopGuard, found: &mut Found<&'p Name>)
 }
 
 /// Adds the names that are read where a counter is set.
-fn list_counter_reads<'p>(counter: &'p Option<Box<Var>>, found: &mut Found<&'p Name>)
+fn list_counter_reads<'p>(counter: &'p Option<Box<Var>>, found: &mut Collector<&'p Name>)
     ensures adds { Adds (names_in found.old) (target_reads (boxed_target counter.now)) (names_in found.new) }
 {
     match counter {
@@ -159,7 +159,7 @@ fn list_counter_reads<'p>(counter: &'p Option<Box<Var>>, found: &mut Found<&'p N
 }
 
 /// Adds the name of a counter, if there is one.
-pub(crate) fn list_counter<'p>(counter: &'p Option<Box<Var>>, found: &mut Found<&'p Name>)
+pub(crate) fn list_counter<'p>(counter: &'p Option<Box<Var>>, found: &mut Collector<&'p Name>)
     ensures adds { Adds (names_in found.old) (target_name (boxed_target counter.now)) (names_in found.new) }
 {
     match counter {
@@ -169,7 +169,7 @@ pub(crate) fn list_counter<'p>(counter: &'p Option<Box<Var>>, found: &mut Found<
 }
 
 /// Adds the names that a command reads.
-pub(crate) fn list_reads<'p>(command: &'p Command, found: &mut Found<&'p Name>)
+pub(crate) fn list_reads<'p>(command: &'p Command, found: &mut Collector<&'p Name>)
     ensures adds { Adds (names_in found.old) (reads (command_tree command.now)) (names_in found.new) }
 {
     match &command.action {
@@ -188,7 +188,7 @@ pub(crate) fn list_reads<'p>(command: &'p Command, found: &mut Found<&'p Name>)
 }
 
 /// Adds those of some names that are not this one.
-fn list_others<'p>(name: &Name, names: &[&'p Name], found: &mut Found<&'p Name>)
+fn list_others<'p>(name: &Name, names: &[&'p Name], found: &mut Collector<&'p Name>)
     ensures adds { Adds (names_in found.old) (others name.now (names_at names.now)) (names_in found.new) }
 {
     for other in names {
@@ -202,11 +202,11 @@ fn list_others<'p>(name: &Name, names: &[&'p Name], found: &mut Found<&'p Name>)
 fn list_assignment_reads_elsewhere<'p>(
     alloc: Global,
     assignment: &'p Assignment,
-    found: &mut Found<&'p Name>,
+    found: &mut Collector<&'p Name>,
 ) -> Result<(), AllocError>
     ensures adds { OnOk result (Adds (names_in found.old) (others assignment.now.target.name (index_names (expr_list (exprs_of assignment.now.target.indices)) ++ expr_names (expr_tree assignment.now.value))) (names_in found.new)) }
 {
-    let mut names = Found::new(alloc);
+    let mut names = Collector::new(alloc);
     list_indices(assignment.target.indices.as_slice(), &mut names);
     list_expr(&assignment.value, &mut names);
     let names = names.finish()?;
@@ -218,7 +218,7 @@ fn list_assignment_reads_elsewhere<'p>(
 fn list_all_assignment_reads_elsewhere<'p>(
     alloc: Global,
     assignments: &'p [Assignment],
-    found: &mut Found<&'p Name>,
+    found: &mut Collector<&'p Name>,
 ) -> Result<(), AllocError>
     ensures adds { OnOk result (Adds (names_in found.old) (assignment_reads_elsewhere (assigned_trees assignments.now)) (names_in found.new)) }
 {
@@ -232,7 +232,7 @@ fn list_all_assignment_reads_elsewhere<'p>(
 pub(crate) fn list_reads_elsewhere<'p>(
     alloc: Global,
     command: &'p Command,
-    found: &mut Found<&'p Name>,
+    found: &mut Collector<&'p Name>,
 ) -> Result<(), AllocError>
     ensures adds { OnOk result (Adds (names_in found.old) (reads_elsewhere (command_tree command.now)) (names_in found.new)) }
 {
@@ -248,7 +248,7 @@ pub(crate) fn list_reads_elsewhere<'p>(
 }
 
 /// Adds the names of UNSET.
-pub(crate) fn list_unsets<'p>(command: &'p Command, found: &mut Found<&'p Name>)
+pub(crate) fn list_unsets<'p>(command: &'p Command, found: &mut Collector<&'p Name>)
     ensures adds { Adds (names_in found.old) (unsets (command_tree command.now)) (names_in found.new) }
 {
     match &command.action {
@@ -260,7 +260,7 @@ pub(crate) fn list_unsets<'p>(command: &'p Command, found: &mut Found<&'p Name>)
 }
 
 /// Adds the names that INT, REGEX and SET give a value.
-pub(crate) fn list_sets<'p>(command: &'p Command, found: &mut Found<&'p Name>)
+pub(crate) fn list_sets<'p>(command: &'p Command, found: &mut Collector<&'p Name>)
     ensures adds { Adds (names_in found.old) (sets (command_tree command.now)) (names_in found.new) }
 {
     match &command.action {
@@ -274,7 +274,7 @@ pub(crate) fn list_sets<'p>(command: &'p Command, found: &mut Found<&'p Name>)
 }
 
 /// Adds the name of the counter of a loop.
-pub(crate) fn list_counts<'p>(command: &'p Command, found: &mut Found<&'p Name>)
+pub(crate) fn list_counts<'p>(command: &'p Command, found: &mut Collector<&'p Name>)
     ensures adds { Adds (names_in found.old) (counts (command_tree command.now)) (names_in found.new) }
 {
     match &command.action {

@@ -4,14 +4,14 @@ ghost use Rattle.std.specs.Prelude.{◌≡◌, ◌++◌, OnOk, IfOk};
 ghost use Rattle.ctd_program.specs.calls.View.{command_trees};
 ghost use Rattle.ctd_findings.specs.calls.Findings.{findings_among, findings_at, findings_in, findings_of, remark_unknown};
 ghost use Rattle.ctd_findings.specs.inner.Listed.{facts_known, has_name, in_blocks, names_at};
-ghost use Rattle.ctd_findings.specs.calls.Literal.{no_variables};
+ghost use Rattle.ctd_findings.specs.calls.LiteralValues.{no_variables};
 ghost use Rattle.ctd_findings.specs.calls.Names.{preset_names};
 ghost use Rattle.ctd_findings.specs.declared.kind.Kind.TheVariants.{UnknownPreset};
 
 use crate::block::{CommandInBlock, all_commands};
 use crate::command::{command_remarks, list_unknown};
 use crate::finding::{Finding, Remark};
-use crate::found::Found;
+use crate::found::Collector;
 use crate::kind::Kind;
 use crate::known::{Known, known_of, list_presets, mentioned_names};
 use crate::name_set::NameSet;
@@ -36,7 +36,7 @@ fn place_all(place: Place, remarks: Vec<Remark>, found: &mut Vec<Finding>) -> Re
 fn names_of<'p>(alloc: Global, presets: &'p Presets) -> Result<Vec<&'p Name>, AllocError>
     ensures { IfOk result (λ names. names_at names.items ≡ preset_names presets.now) }
 {
-    let mut names = Found::new(alloc);
+    let mut names = Collector::new(alloc);
     list_presets(presets, &mut names);
     names.finish()
 }
@@ -50,7 +50,7 @@ fn preset_remarks<'p>(
     ensures { IfOk result (λ found. found.items ≡ remark_unknown UnknownPreset (λ name. has_name name mentioned.now) (preset_names presets.now)) }
 {
     let names = names_of(alloc, presets)?;
-    let mut found = Found::new(alloc);
+    let mut found = Collector::new(alloc);
     list_unknown(
         alloc,
         Kind::UnknownPreset,

@@ -2,14 +2,14 @@
 
 ghost use Rattle.std.specs.Prelude.{◌≡◌, ◌++◌, ℕ, List, None, OnOk, IfOk};
 ghost use Rattle.ctd_program.specs.calls.View.{command_tree, expr_list, expr_tree, target};
-ghost use Rattle.ctd_findings.specs.inner.Found.{Adds, names_in};
+ghost use Rattle.ctd_findings.specs.inner.Collector.{Adds, names_in};
 ghost use Rattle.ctd_findings.specs.inner.Listed.{bounds_at, given_at, has_name, in_blocks, name_at, range_known};
-ghost use Rattle.ctd_findings.specs.calls.Literal.{literal_number, no_variables};
+ghost use Rattle.ctd_findings.specs.calls.LiteralValues.{literal_number, no_variables};
 ghost use Rattle.ctd_findings.specs.calls.Names.{is_among, preset_names};
 ghost use Rattle.ctd_findings.specs.calls.Ranges.{all_given_otherwise, bounds_by, gives_otherwise, joined, name_in, name_without, named_range, plain_name, range_among, range_given, range_in, widened};
 
 use crate::block::CommandInBlock;
-use crate::found::Found;
+use crate::found::Collector;
 use crate::known::list_presets;
 use crate::literal::literal_number;
 use crate::name_set::NameSet;
@@ -133,7 +133,7 @@ fn list_given_otherwise<'p>(
     alloc: Global,
     command: &'p Command,
     nothing: &Store,
-    names: &mut Found<&'p Name>,
+    names: &mut Collector<&'p Name>,
 ) -> Result<(), AllocError>
     requires { nothing.now ≡ no_variables }
     ensures adds { OnOk result (Adds (names_in names.old) (gives_otherwise (command_tree command.now)) (names_in names.new)) }
@@ -150,7 +150,7 @@ fn list_all_given_otherwise<'p>(
     alloc: Global,
     commands: &[CommandInBlock<'p>],
     nothing: &Store,
-    names: &mut Found<&'p Name>,
+    names: &mut Collector<&'p Name>,
 ) -> Result<(), AllocError>
     requires { nothing.now ≡ no_variables }
     ensures adds { OnOk result (Adds (names_in names.old) (all_given_otherwise (in_blocks commands.now)) (names_in names.new)) }
@@ -171,7 +171,7 @@ fn names_given_otherwise<'p>(
     requires { nothing.now ≡ no_variables }
     ensures members { IfOk result (λ set. (name : List ℕ) → has_name name set ≡ is_among name (all_given_otherwise (in_blocks commands.now) ++ preset_names presets.now)) }
 {
-    let mut names = Found::new(alloc);
+    let mut names = Collector::new(alloc);
     list_all_given_otherwise(alloc, commands, nothing, &mut names)?;
     list_presets(presets, &mut names);
     NameSet::of(alloc, names.finish()?.as_slice())

@@ -11,7 +11,7 @@ use Rattle.ctd_program.specs.declared.tree.Expr.{Expr}
 use Rattle.ctd_program.specs.calls.View.{expr_list, expr_tree, exprs_of}
 use Rattle.ctd_store.specs.declared.value.Value.{Value}
 use Rattle.ctd_store.specs.declared.value.Value.TheVariants as values
-use Rattle.ctd_store.specs.Store.{History, value_at}
+use Rattle.ctd_store.specs.Store.{Bindings, value_at}
 use Rattle.ctd_value.specs.Fault.{ValueFault, ◌>>=◌}
 use Rattle.ctd_value.specs.Fault as faults
 use Rattle.ctd_value.specs.Arithmetic.{in_range}
@@ -86,11 +86,11 @@ pub none_fail : (known : List Known) (f : Faults) → AllFailBy known Tree.none 
 none_fail known f k h each = tt
 
 -- an element
-looked_up : (f : Found) (facts : NameFacts) (indices : Faults) (k : ℕ) (h : History) (name : List ℕ) (i : Value) (is : List Value) → NameStands name facts k h → ((o : Option Value) → ((v : Value) → o ≡ Some v → MayBe facts.elements k v) → IsFound f k (value_or_undefined o))
+looked_up : (f : Found) (facts : NameFacts) (indices : Faults) (k : ℕ) (h : Bindings) (name : List ℕ) (i : Value) (is : List Value) → NameStands name facts k h → ((o : Option Value) → ((v : Value) → o ≡ Some v → MayBe facts.elements k v) → IsFound f k (value_or_undefined o))
     → IsFound f k (value_or_undefined (value_at h (at_key name (i ∷ is))))
 looked_up f facts indices k h name i is stands value = value (value_at h (at_key name (i ∷ is))) (λ v has. stands.elements i is v has)
 
-at_indices : (f : Found) (facts : NameFacts) (indices : Faults) (k : ℕ) (h : History) (name : List ℕ) (e : Result Value ValueFault) (es : Result (List Value) ValueFault) → NameStands name facts k h → ((o : Option Value) → ((v : Value) → o ≡ Some v → MayBe facts.elements k v) → IsFound f k (value_or_undefined o))
+at_indices : (f : Found) (facts : NameFacts) (indices : Faults) (k : ℕ) (h : Bindings) (name : List ℕ) (e : Result Value ValueFault) (es : Result (List Value) ValueFault) → NameStands name facts k h → ((o : Option Value) → ((v : Value) → o ≡ Some v → MayBe facts.elements k v) → IsFound f k (value_or_undefined o))
     → AreFaults indices f.faults → FailsBy indices (e >>= (λ v. es >>= (λ l. Ok (v ∷ l)))) → IsFound f k ((e >>= (λ v. es >>= (λ l. Ok (v ∷ l)))) >>= (λ l. value_or_undefined (value_at h (at_key name l))))
 at_indices f facts indices k h name (Err x) es stands value more fails = more x fails
 at_indices f facts indices k h name (Ok v) (Err x) stands value more fails = more x fails

@@ -3,7 +3,7 @@ use Rattle.std.proofs.Common.{◌≡◌, ◌≢◌, ◌<◌, ◌^◌, ℕ, Bool,
 use Rattle.std.proofs.lemmas.Map.Views.{tells_apart}
 use Rattle.ctd_store.specs.declared.value.Value.{Value}
 use Rattle.ctd_store.specs.Order.{same_values}
-use Rattle.ctd_store.specs.Store.{History, Variables, Key, assign, is_pinned, unset, value_at, value_in}
+use Rattle.ctd_store.specs.Store.{Bindings, Variables, Key, assign, is_pinned, unset, value_at, value_under}
 use Rattle.ctd_store.specs.inner.OrderLaws.{exact_lists, values_equiv}
 use Rattle.ctd_store.proofs.StoreLaws.{assigned_key_has_its_value, pinned_key_stays, assignment_keeps_other_keys, unset_key_has_its_pin, unset_keeps_other_names}
 use Rattle.ctd_known.specs.declared.facts.Kinds.{Kinds}
@@ -28,12 +28,12 @@ more_indices i is same = absurd (cc same)
 no_indices : (i : Value) (is : List Value) → [] ≢ (i ∷ is)
 no_indices i is same = absurd (cc same)
 
-abbrev others_stay : (h : History) (name : List ℕ) (js : List Value) (v : Value) (other : List ℕ) (is : List Value) → other ≢ name → value_at (assign h (at_key name js) v) (at_key other is) ≡ value_at h (at_key other is)
+abbrev others_stay : (h : Bindings) (name : List ℕ) (js : List Value) (v : Value) (other : List ℕ) (is : List Value) → other ≢ name → value_at (assign h (at_key name js) v) (at_key other is) ≡ value_at h (at_key other is)
 others_stay h name js v other is apart = assignment_keeps_other_keys h (at_key name js) (at_key other is) v (other_names name other is js apart)
 
 -- what is known of pins is so of the pins of a history
-pinned_value : (pins : Variables) (h : History) (key : Key) → h.pins ≡ pins → value_in key h.pins ≡ value_at (pins_alone pins) key
-pinned_value pins h key same = ap (λ p. value_in key p) same
+pinned_value : (pins : Variables) (h : Bindings) (key : Key) → h.pins ≡ pins → value_under key h.pins ≡ value_at (pins_alone pins) key
+pinned_value pins h key same = ap (λ p. value_under key p) same
 
 -- a name that is surely pinned, or surely not
 sure_value : (f : NameFacts) (n : ℕ) (v : Option Value) → f.may_lack ≡ false → MayHave f n v → is_some v ≡ true
@@ -57,7 +57,7 @@ assign_free pinned known name kinds pin facts new pin_tells none tells alone ele
     let key = at_key name [] in
     let there : is_some (value_at (pins_alone pins) key) ≡ false = free_value pin n (value_at (pins_alone pins) key) none (pin_tells n (pins_alone pins) (stand n (each_few known n h each))).alone in
     let free : is_pinned h key ≡ false = ap is_some (pinned_value pins h key same) ∙ there in
-    let g : History = assign h key v in
+    let g : Bindings = assign h key v in
     let has : value_at g key ≡ Some v = assigned_key_has_its_value h key v free in
     let old : NameStands name facts n h = tells n h each in
     let here : NameStands name new n g = record {
@@ -71,7 +71,7 @@ decides : (a b : List Value) → Decides (same_values a b) (a ≡ b)
 decides a b = (tells_apart exact_lists a b, λ e. subst (λ x. same_values a x ≡ true) e (values_equiv.refl a))
 
 -- an element
-element_after : (name : List ℕ) (facts new : NameFacts) (kinds : Kinds) (n : ℕ) (h : History) (i : Value) (is : List Value) (v : Value) (j : Value) (js : List Value) (w : Value) (b c : Bool) → n < 2 ^ 64 → same_values (j ∷ js) (i ∷ is) ≡ b → is_pinned h (at_key name (i ∷ is)) ≡ c
+element_after : (name : List ℕ) (facts new : NameFacts) (kinds : Kinds) (n : ℕ) (h : Bindings) (i : Value) (is : List Value) (v : Value) (j : Value) (js : List Value) (w : Value) (b c : Bool) → n < 2 ^ 64 → same_values (j ∷ js) (i ∷ is) ≡ b → is_pinned h (at_key name (i ∷ is)) ≡ c
     → NameStands name facts n h → AreWithin facts.elements new.elements → AreWithin kinds new.elements → MayBe kinds n v → value_at (assign h (at_key name (i ∷ is)) v) (at_key name (j ∷ js)) ≡ Some w → MayBe new.elements n w
 element_after name facts new kinds n h i is v j js w true true few same pinned old olds news may has =
     olds n w few (old.elements j js w (ap (λ g. value_at g (at_key name (j ∷ js))) (sym (pinned_key_stays h (at_key name (i ∷ is)) v pinned)) ∙ has))
@@ -92,7 +92,7 @@ pub assign_element : (known : List Known) (name : List ℕ) (kinds : Kinds) (fac
     → AssignsElements known name kinds (map (with_facts name new) known)
 assign_element known name kinds facts new tells lacks alone olds news n h i is v each may =
     let key = at_key name (i ∷ is) in
-    let g : History = assign h key v in
+    let g : Bindings = assign h key v in
     let old : NameStands name facts n h = tells n h each in
     let stays : value_at g (at_key name []) ≡ value_at h (at_key name []) = assignment_keeps_other_keys h key (at_key name []) v (other_indices name [] (i ∷ is) (no_indices i is)) in
     let here : NameStands name new n g = record {

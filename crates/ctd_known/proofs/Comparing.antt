@@ -11,7 +11,7 @@ use Rattle.ctd_program.specs.declared.tree.Compare.{Compare}
 use Rattle.ctd_program.specs.declared.tree.Compare.TheVariants as comparisons
 use Rattle.ctd_store.specs.declared.value.Value.{Value}
 use Rattle.ctd_store.specs.declared.value.Value.TheVariants as values
-use Rattle.ctd_store.specs.Store.{History, value_at}
+use Rattle.ctd_store.specs.Store.{Bindings, value_at}
 use Rattle.ctd_range.specs.declared.range.Range.{Range}
 use Rattle.ctd_range.specs.calls.Ranges.{IsIn}
 use Rattle.ctd_value.specs.Fault.{ValueFault}
@@ -98,16 +98,16 @@ pub both_cut : (known first after : List Known) (by other_by : Compare) (a b : E
 both_cut known first after by other_by a b one other cuts cuts_more turn k h v w each is_v is_w may_v may_w compare = cuts_more k h w v (cuts k h v w each is_v may_w compare) is_w may_v (turn v w compare)
 
 -- a comparison
-decided : (if_true if_false : List Known) (f : Faults) (by other : Compare) (k : ℕ) (h : History) (x y : ℤ) (b : Bool) → b ≡ holds_by by (int_cmp x y) → ((o : Ordering) → holds_by by o ≡ false → holds_by other o ≡ true)
+decided : (if_true if_false : List Known) (f : Faults) (by other : Compare) (k : ℕ) (h : Bindings) (x y : ℤ) (b : Bool) → b ≡ holds_by by (int_cmp x y) → ((o : Ordering) → holds_by by o ≡ false → holds_by other o ≡ true)
     → (Relates by x y → EachStands if_true k h) → (Relates other x y → EachStands if_false k h) → Decides if_true if_false f k h (Ok b)
 decided if_true if_false f by other k h x y true is opposite on_true on_false = on_true (relates by x y (sym is))
 decided if_true if_false f by other k h x y false is opposite on_true on_false = on_false (relates other x y (opposite (int_cmp x y) (sym is)))
 
-texts_decided : (if_true if_false : List Known) (f : Faults) (k : ℕ) (h : History) (b : Bool) → EachStands if_true k h → EachStands if_false k h → Decides if_true if_false f k h (Ok b)
+texts_decided : (if_true if_false : List Known) (f : Faults) (k : ℕ) (h : Bindings) (b : Bool) → EachStands if_true k h → EachStands if_false k h → Decides if_true if_false f k h (Ok b)
 texts_decided if_true if_false f k h true on_true on_false = on_true
 texts_decided if_true if_false f k h false on_true on_false = on_false
 
-compare_values : (known if_true if_false : List Known) (by other : Compare) (a b : ExprTree) (f g : Found) (all : Faults) (k : ℕ) (h : History) (l r : Result Value ValueFault) → CutsBoth known by a b f.kinds g.kinds if_true → CutsBoth known other a b f.kinds g.kinds if_false →
+compare_values : (known if_true if_false : List Known) (by other : Compare) (a b : ExprTree) (f g : Found) (all : Faults) (k : ℕ) (h : Bindings) (l r : Result Value ValueFault) → CutsBoth known by a b f.kinds g.kinds if_true → CutsBoth known other a b f.kinds g.kinds if_false →
     ((o : Ordering) → holds_by by o ≡ false → holds_by other o ≡ true) → EachStands known k h → val a h ≡ l → val b h ≡ r → IsFound f k l → IsFound g k r → FailsBy all (compares by l r) → Decides if_true if_false all k h (as_test (compares by l r))
 compare_values known if_true if_false by other a b f g all k h (Err e) r on_true on_false opposite each is_l is_r may_l may_r fails = fails
 compare_values known if_true if_false by other a b f g all k h (Ok v) (Err e) on_true on_false opposite each is_l is_r may_l may_r fails = fails

@@ -7,11 +7,11 @@ use Rattle.ctd_program.specs.Tree.{ExprTree, TestTree}
 use Rattle.ctd_program.specs.declared.tree.Compare.{Compare}
 use Rattle.ctd_store.specs.declared.value.Value.{Value}
 use Rattle.ctd_store.specs.declared.value.Value.TheVariants as values
-use Rattle.ctd_store.specs.Store.{Array, History, values_of}
+use Rattle.ctd_store.specs.Store.{Array, Bindings, values_of}
 use Rattle.ctd_value.specs.Fault.{ValueFault, TruthFault, with_fault, ◌>>=◌}
 use Rattle.ctd_value.specs.Fault as faults
 use Rattle.ctd_value.specs.Val.{val}
-use Rattle.ctd_value.specs.Truth.{compares, is_among, uniqueness}
+use Rattle.ctd_value.specs.Truth.{compares, value_in_array, uniqueness}
 use Rattle.ctd_value.specs.inner.Truth.{as_test, is_end, is_one_of}
 use Rattle.ctd_known.specs.declared.expression.Found.{Found}
 use Rattle.ctd_known.specs.declared.faults.Faults.{Faults}
@@ -21,19 +21,19 @@ use Rattle.ctd_known.specs.calls.Found.{Decides, FailsBy, Gives, IsAmong, IsFoun
 use Rattle.ctd_known.proofs.Applying.{AreFaults}
 
 -- where both are known whatever a test gives
-both_decided : (known : List Known) (f : Faults) (k : ℕ) (h : History) (b : Bool) → EachStands known k h → Decides known known f k h (Ok b)
+both_decided : (known : List Known) (f : Faults) (k : ℕ) (h : Bindings) (b : Bool) → EachStands known k h → Decides known known f k h (Ok b)
 both_decided known f k h true each = each
 both_decided known f k h false each = each
 
-value_decides : (known : List Known) (f : Faults) (k : ℕ) (h : History) (r : Result Bool ValueFault) → EachStands known k h → FailsBy f r → Decides known known f k h (as_test r)
+value_decides : (known : List Known) (f : Faults) (k : ℕ) (h : Bindings) (r : Result Bool ValueFault) → EachStands known k h → FailsBy f r → Decides known known f k h (as_test r)
 value_decides known f k h (Ok b) each fails = both_decided known f k h b each
 value_decides known f k h (Err why) each fails = fails
 
-look_decides : (known : List Known) (f : Faults) (k : ℕ) (h : History) (r : Result (Option ℕ) LookFault) (test : Option ℕ → Bool) → EachStands known k h → Decides known known f k h ((with_fault faults.Look r) >>= (λ next. Ok (test next)))
+look_decides : (known : List Known) (f : Faults) (k : ℕ) (h : Bindings) (r : Result (Option ℕ) LookFault) (test : Option ℕ → Bool) → EachStands known k h → Decides known known f k h ((with_fault faults.Look r) >>= (λ next. Ok (test next)))
 look_decides known f k h (Ok next) test each = both_decided known f k h (test next) each
 look_decides known f k h (Err why) test each = tt
 
-match_decides : (known : List Known) (f : Faults) (k : ℕ) (h : History) (r : Result (List ℕ) ValueFault) (next : Result (Option ℕ) LookFault) → EachStands known k h → FailsBy f r
+match_decides : (known : List Known) (f : Faults) (k : ℕ) (h : Bindings) (r : Result (List ℕ) ValueFault) (next : Result (Option ℕ) LookFault) → EachStands known k h → FailsBy f r
     → Decides known known f k h ((as_test r) >>= (λ bytes. (with_fault faults.Look next) >>= (λ seen. Ok (is_one_of bytes seen))))
 match_decides known f k h (Ok bytes) next each fails = look_decides known f k h next (is_one_of bytes) each
 match_decides known f k h (Err why) next each fails = fails
@@ -48,19 +48,19 @@ compare_splits known by a b f g all left right fails k h d p each = value_decide
 pub match_splits : (known : List Known) (e : ExprTree) (f : Found) (all : Faults) → Gives known e f → ((k : ℕ) (r : Result Value ValueFault) → IsFound f k r → FailsBy all (as_text r)) → SplitsBy known (Tree.matches e) known known all
 match_splits known e f all gives fails k h d p each = match_decides known all k h (as_text (val e h)) (next_byte d p) each (fails k (val e h) (gives k h each))
 
-among_fails : (f : Found) (k : ℕ) (r : Result Value ValueFault) (array : Array) → IsFound f k r → FailsBy f.faults (is_among r array)
+among_fails : (f : Found) (k : ℕ) (r : Result Value ValueFault) (array : Array) → IsFound f k r → FailsBy f.faults (value_in_array r array)
 among_fails f k (Ok v) array may = tt
 among_fails f k (Err why) array may = may
 
 pub in_array_splits : (known : List Known) (e : ExprTree) (name : List ℕ) (f : Found) → Gives known e f → SplitsBy known (Tree.in_array e name) known known f.faults
-in_array_splits known e name f gives k h d p each = value_decides known f.faults k h (is_among (val e h) (values_of h name)) each (among_fails f k (val e h) (values_of h name) (gives k h each))
+in_array_splits known e name f gives k h d p each = value_decides known f.faults k h (value_in_array (val e h) (values_of h name)) each (among_fails f k (val e h) (values_of h name) (gives k h each))
 
 -- arrays of which there is one at most have one shape
 any_shape : (f : Faults) (b : Bool) → IsAmong f faults.Shape → (ok : Bool) → FailsBy f (if b then Ok ok else Err faults.Shape)
 any_shape f true listed ok = tt
 any_shape f false listed ok = listed
 
-unique_fails : (h : History) (f : Faults) (names : List (List ℕ)) → IsAmong f faults.Shape ⊎ (length names ≤ 1) → FailsBy f (uniqueness (map (values_of h) names))
+unique_fails : (h : Bindings) (f : Faults) (names : List (List ℕ)) → IsAmong f faults.Shape ⊎ (length names ≤ 1) → FailsBy f (uniqueness (map (values_of h) names))
 unique_fails h f [] shape = tt
 unique_fails h f (a ∷ []) shape = tt
 unique_fails h f (a ∷ (b ∷ rest)) (inl listed) = any_shape f _ listed _

@@ -4,7 +4,7 @@ use Rattle.std.proofs.lemmas.List.{at_drop_more, drop_all}
 use Rattle.std.proofs.lemmas.Slice.Eq.{bytes_eq-Decides}
 use Rattle.ctd_store.specs.declared.value.Value.{Value}
 use Rattle.ctd_store.specs.declared.value.Value.TheVariants as values
-use Rattle.ctd_store.specs.Store.{History, value_at}
+use Rattle.ctd_store.specs.Store.{Bindings, value_at}
 use Rattle.ctd_range.specs.declared.range.Range.{Range}
 use Rattle.ctd_range.specs.calls.Ranges.{IsIn}
 use Rattle.ctd_known.specs.declared.facts.Lengths.{Lengths}
@@ -17,12 +17,12 @@ use Rattle.ctd_known.specs.inner.Changed.{AreWithin, KindsPay, NameIsWithin, Nam
 use Rattle.ctd_known.specs.calls.Changed.{PaysStep}
 
 -- no more steps are left than a run may have
-pub each_few : (xs : List Known) (n : ℕ) (h : History) → EachStands xs n h → n < 2 ^ 64
+pub each_few : (xs : List Known) (n : ℕ) (h : Bindings) → EachStands xs n h → n < 2 ^ 64
 each_few [] n h each = each
 each_few (x ∷ xs) n h each = each_few xs n h each.1
 
 -- an entry of what is known
-pub each_at : (xs : List Known) (i : ℕ) (d : Known) (n : ℕ) (h : History) → i < length xs → EachStands xs n h → NameStands (get_or xs i d).name.now (get_or xs i d).facts n h
+pub each_at : (xs : List Known) (i : ℕ) (d : Known) (n : ℕ) (h : Bindings) → i < length xs → EachStands xs n h → NameStands (get_or xs i d).name.now (get_or xs i d).facts n h
 each_at [] i d n h inside each = absurd (omega (arith, inside))
 each_at (y ∷ xs) zero d n h inside each = each.0
 each_at (y ∷ xs) (suc i) d n h inside each = each_at xs i d n h (omega (arith, inside)) each.1
@@ -43,7 +43,7 @@ have_within a b lacks alone n (Some v) few may = alone n v few may
 pub name_within : (a b : NameFacts) → (a.may_lack ≡ true → b.may_lack ≡ true) → AreWithin a.alone b.alone → AreWithin a.elements b.elements → NameIsWithin a b
 name_within a b lacks alone elements = record { alone = have_within a b lacks alone; elements = elements }
 
-pub within_stands : (name : List ℕ) (a b : NameFacts) (n : ℕ) (h : History) → n < 2 ^ 64 → NameIsWithin a b → NameStands name a n h → NameStands name b n h
+pub within_stands : (name : List ℕ) (a b : NameFacts) (n : ℕ) (h : Bindings) → n < 2 ^ 64 → NameIsWithin a b → NameStands name a n h → NameStands name b n h
 within_stands name a b n h few within stands = record {
   alone = within.alone n (value_at h (at_key name [])) few stands.alone;
   elements = λ i is v has. within.elements n v few (stands.elements i is v has);
@@ -66,19 +66,19 @@ unreachable_tells known others never n h each = absurd (never n h each)
 
 -- facts that follow, one after the other: if the rest follows, all do
 abbrev pub Leads : List Known → List Known → List Known → Type 0
-Leads known rest others = (n : ℕ) (h : History) → EachStands known n h → EachStands rest n h → EachStands others n h
+Leads known rest others = (n : ℕ) (h : Bindings) → EachStands known n h → EachStands rest n h → EachStands others n h
 
 -- the same of two states of the variables that have the same values of a name
 have_same : (f : NameFacts) (n : ℕ) (v w : Option Value) → w ≡ v → MayHave f n v → MayHave f n w
 have_same f n v w same may = subst (λ x. MayHave f n x) (sym same) may
 
-pub name_same : (name : List ℕ) (f : NameFacts) (n : ℕ) (h g : History) → ((is : List Value) → value_at g (at_key name is) ≡ value_at h (at_key name is)) → NameStands name f n h → NameStands name f n g
+pub name_same : (name : List ℕ) (f : NameFacts) (n : ℕ) (h g : Bindings) → ((is : List Value) → value_at g (at_key name is) ≡ value_at h (at_key name is)) → NameStands name f n h → NameStands name f n g
 name_same name f n h g same stands = record {
   alone = have_same f n _ _ (same []) stands.alone;
   elements = λ i is v has. stands.elements i is v (sym (same (i ∷ is)) ∙ has);
 }
 
-pub each_same : (xs : List Known) (n : ℕ) (h g : History) → ((name : List ℕ) (is : List Value) → value_at g (at_key name is) ≡ value_at h (at_key name is)) → EachStands xs n h → EachStands xs n g
+pub each_same : (xs : List Known) (n : ℕ) (h g : Bindings) → ((name : List ℕ) (is : List Value) → value_at g (at_key name is) ≡ value_at h (at_key name is)) → EachStands xs n h → EachStands xs n g
 each_same [] n h g same each = each
 each_same (x ∷ xs) n h g same each = (name_same x.name.now x.facts n h g (same x.name.now) each.0, each_same xs n h g same each.1)
 
@@ -86,20 +86,20 @@ each_same (x ∷ xs) n h g same each = (name_same x.name.now x.facts n h g (same
 apart_by : (a b : List ℕ) → bytes_eq a b ≡ false → a ≢ b
 apart_by a b is same = let yes : bytes_eq a b ≡ true = (bytes_eq-Decides a b).1 same in absurd (cc (yes, is))
 
-changed_at : (name : List ℕ) (facts : NameFacts) (x : Known) (n : ℕ) (h g : History) → NameStands name facts n g → ((other : List ℕ) (is : List Value) → other ≢ name → value_at g (at_key other is) ≡ value_at h (at_key other is)) → NameStands x.name.now x.facts n h
+changed_at : (name : List ℕ) (facts : NameFacts) (x : Known) (n : ℕ) (h g : Bindings) → NameStands name facts n g → ((other : List ℕ) (is : List Value) → other ≢ name → value_at g (at_key other is) ≡ value_at h (at_key other is)) → NameStands x.name.now x.facts n h
     → NameStands (with_facts name facts x).name.now (with_facts name facts x).facts n g
 changed_at name facts x n h g here others stands = elim (bytes_eq x.name.now name) as (λ b. bytes_eq x.name.now name ≡ b → NameStands (if b then record { name = x.name; facts = facts } else x).name.now (if b then record { name = x.name; facts = facts } else x).facts n g) [
   | true ↦ λ is. subst (λ m. NameStands m facts n g) (sym ((bytes_eq-Decides x.name.now name).0 is)) here
   | false ↦ λ is. name_same x.name.now x.facts n h g (λ is'. others x.name.now is' (apart_by x.name.now name is)) stands
 ] refl
 
-pub each_changed : (name : List ℕ) (facts : NameFacts) (xs : List Known) (n : ℕ) (h g : History) → NameStands name facts n g → ((other : List ℕ) (is : List Value) → other ≢ name → value_at g (at_key other is) ≡ value_at h (at_key other is)) → EachStands xs n h
+pub each_changed : (name : List ℕ) (facts : NameFacts) (xs : List Known) (n : ℕ) (h g : Bindings) → NameStands name facts n g → ((other : List ℕ) (is : List Value) → other ≢ name → value_at g (at_key other is) ≡ value_at h (at_key other is)) → EachStands xs n h
     → EachStands (map (with_facts name facts) xs) n g
 each_changed name facts [] n h g here others each = each
 each_changed name facts (x ∷ xs) n h g here others each = (changed_at name facts x n h g here others each.0, each_changed name facts xs n h g here others each.1)
 
 -- one more entry
-pub each_push : (xs : List Known) (x : Known) (n : ℕ) (h : History) → EachStands xs n h → NameStands x.name.now x.facts n h → EachStands (xs ++ x ∷ []) n h
+pub each_push : (xs : List Known) (x : Known) (n : ℕ) (h : Bindings) → EachStands xs n h → NameStands x.name.now x.facts n h → EachStands (xs ++ x ∷ []) n h
 each_push [] x n h each one = (one, each)
 each_push (y ∷ xs) x n h each one = (each.0, each_push xs x n h each.1 one)
 

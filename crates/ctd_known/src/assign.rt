@@ -7,7 +7,7 @@ ghost use Rattle.ctd_known.specs.inner.Facts.{Tells};
 ghost use Rattle.ctd_known.specs.calls.Changed.{AssignsAlone, AssignsElements, Clears};
 ghost use Rattle.ctd_known.specs.inner.Changed.{AreWithin};
 
-use crate::facts::{Kinds, Known, NameFacts, copied, facts_of, kinds_are_within, replace_facts};
+use crate::facts::{Kinds, Known, NameFacts, copy_of, facts_of, kinds_are_within, replace_facts};
 use crate::guess::join_kinds;
 use crate::stop::Stop;
 use std::alloc::Global;
@@ -66,7 +66,7 @@ pub fn assign_alone<'p>(
     let facts = listed(known, name)?;
     let pin = listed(ground.pinned, name)?;
     if !pin.may_lack {
-        return Ok(copied(ground.alloc, known)?);
+        return Ok(copy_of(ground.alloc, known)?);
     }
     if !is_none(pin.alone) {
         return Err(Stop::NotTold);

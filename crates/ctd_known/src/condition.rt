@@ -14,9 +14,9 @@ ghost use Rattle.ctd_known.specs.calls.Found.{IsFound, IsAmong, FailsBy, Gives, 
 
 use crate::cut::cut_both;
 use crate::expression::{Found, examine, may_be_number, may_be_text, text_faults};
-use crate::facts::{Kinds, Known, copied, is_within};
+use crate::facts::{Kinds, Known, copy_of, is_within};
 use crate::faults::{Faults, both, no_faults};
-use crate::guess::merged;
+use crate::guess::merge;
 use crate::stop::Stop;
 use ctd_program::{Compare, Expr, Test};
 use ctd_token::Name;
@@ -45,7 +45,7 @@ pub fn join<'p>(alloc: Global, a: &[Known<'p>], b: &[Known<'p>]) -> Result<Vec<K
     ensures left { IfOk result (λ all. TellsAll a.now all.items) }
     ensures right { IfOk result (λ all. TellsAll b.now all.items) }
 {
-    let all = merged(alloc, a, b)?;
+    let all = merge(alloc, a, b)?;
     if !is_within(a, all.as_slice()) {
         return Err(Stop::NotTold);
     }
@@ -61,8 +61,8 @@ fn same<'p>(alloc: Global, known: &[Known<'p>], faults: Faults) -> Result<Branch
     ensures if_false { IfOk result (λ s. s.if_false.items ≡ known.now) }
     ensures faults { IfOk result (λ s. s.faults ≡ faults) }
 {
-    let if_true = copied(alloc, known)?;
-    let if_false = copied(alloc, known)?;
+    let if_true = copy_of(alloc, known)?;
+    let if_false = copy_of(alloc, known)?;
     Ok(Branches {
         if_true,
         if_false,

@@ -10,7 +10,7 @@ ghost use Rattle.ctd_known.specs.calls.Facts.{MayBe};
 ghost use Rattle.ctd_known.specs.inner.Compared.{Cuts, CutsBoth, MayCompare, Relates};
 
 use crate::assign::listed;
-use crate::facts::{Kinds, Known, Lengths, NameFacts, copied, replace_facts};
+use crate::facts::{Kinds, Known, Lengths, NameFacts, copy_of, replace_facts};
 use crate::stop::Stop;
 use ctd_program::{Compare, Expr};
 use ctd_range::{Range, at_least, at_most, greater, is_empty, less, other, same};
@@ -99,7 +99,7 @@ fn cut<'p>(
             Ok(named)
         }
         _ => {
-            let others = copied(alloc, known)?;
+            let others = copy_of(alloc, known)?;
             Ok(others)
         }
     }

@@ -201,7 +201,7 @@ pub fn replace_facts<'p>(
 }
 
 /// A copy of what is known.
-pub fn copied<'p>(alloc: Global, known: &[Known<'p>]) -> Result<Vec<Known<'p>>, AllocError>
+pub fn copy_of<'p>(alloc: Global, known: &[Known<'p>]) -> Result<Vec<Known<'p>>, AllocError>
     ensures { IfOk result (λ after. after.items ≡ known.now) }
 {
     known.to_vec(alloc)

@@ -82,7 +82,7 @@ fn join_names(a: NameFacts, b: NameFacts) -> NameFacts {
 }
 
 /// What is known where either is known, of the names of the first.
-pub fn merged<'p>(
+pub fn merge<'p>(
     alloc: Global,
     a: &[Known<'p>],
     b: &[Known<'p>],
@@ -261,7 +261,7 @@ fn widen_name(old: NameFacts, end: NameFacts, round: usize) -> NameFacts {
 }
 
 /// A guess of what is known before a turn, by the last one and what held at the end of a turn.
-pub fn widened<'p>(
+pub fn widen<'p>(
     alloc: Global,
     guess: &[Known<'p>],
     end: &[Known<'p>],

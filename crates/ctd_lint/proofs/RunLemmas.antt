@@ -8,7 +8,7 @@ use Rattle.ctd_report.specs.declared.sink.Sink as sinks
 use Rattle.ctd_report.specs.declared.written.ToolFault.{ToolFault}
 use Rattle.ctd_report.specs.declared.written.ToolFault.TheVariants.{Memory, Write}
 use Rattle.ctd_report.specs.Report.{Report}
-use Rattle.ctd_report.specs.Written.{BeforeAfter, EndsWithReport, LeavesOneOf, before_after, broken_off, whole}
+use Rattle.ctd_report.specs.Written.{BeforeAfter, EndsWithReport, WritesOneOf, before_after, broken_off, whole}
 use Rattle.ctd_lint.specs.declared.command_line.LintFault.{LintFault}
 use Rattle.ctd_lint.specs.declared.command_line.LintFault.TheVariants as faults
 use Rattle.ctd_lint.specs.declared.command_line.LintSetup.{LintSetup}
@@ -42,13 +42,13 @@ holds_on_return P f (Err e) is has = subst (λ x. P (Err x)) (sym is.1) has
 
 module _ {F S O E : Type 0} (m : Means F S O E) (setup : LintSetup) (names : List (List ℕ)) (first : Stand F O E) (rest later : List (List ℕ)) (name : List ℕ) (status : ℕ) (between new : Stand F O E) (is : rest ≡ name ∷ later) (linted : Lints m setup names first rest status between) where
   -- one more program was linted
-  pub goes_on : (own total : ℕ) → total ≡ max status own → LeavesOneOf (before_after m.out between.out new.out) (before_after m.err between.err new.err) (IsReportOf m setup name between new) (Ok own)
+  pub goes_on : (own total : ℕ) → total ≡ max status own → WritesOneOf (before_after m.out between.out new.out) (before_after m.err between.err new.err) (IsReportOf m setup name between new) (Ok own)
       → Lints m setup names first later total new
   goes_on own total greatest h = subst (λ t. Lints m setup names first later t new) (sym greatest) (one_more name later status own between new (subst (λ r. Lints m setup names first r status between) is linted)
       (record { report = h.0; is = h.1; written = h.2 }))
 
   -- the run stopped at a program
-  pub stops : (fault : ToolFault) → LeavesOneOf (before_after m.out between.out new.out) (before_after m.err between.err new.err) (IsReportOf m setup name between new) (Err fault)
+  pub stops : (fault : ToolFault) → WritesOneOf (before_after m.out between.out new.out) (before_after m.err between.err new.err) (IsReportOf m setup name between new) (Err fault)
       → m.asks between.files name new.files → LeavesRun m setup names first new (Err fault)
   stops Write h asked = record {
     at = record { name = name; later = later; status = status; between = between; linted = subst (λ r. Lints m setup names first r status between) is linted };

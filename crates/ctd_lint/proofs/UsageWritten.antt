@@ -4,7 +4,7 @@ use Rattle.ctd_report.specs.declared.sink.Sink.{Ghosts}
 use Rattle.ctd_report.specs.declared.written.ToolFault.{ToolFault}
 use Rattle.ctd_report.specs.Report.{Report}
 use Rattle.ctd_report.specs.declared.written.ToolFault.TheVariants.{Memory, Write}
-use Rattle.ctd_report.specs.Written.{BeforeAfter, BreaksOff, IsUntouched}
+use Rattle.ctd_report.specs.Written.{BeforeAfter, FailsMidway, IsUntouched}
 use Rattle.ctd_report.specs.calls.Written.{Leaves}
 use Rattle.ctd_lint.specs.declared.command_line.LintFault.{LintFault}
 use Rattle.ctd_lint.specs.inner.FileReport.{usage_report}
@@ -17,7 +17,7 @@ usage_written out err result fault this report is same written =
 
 module _ {O E : Type 0} {G : Ghosts O} {H : Ghosts E} (out : BeforeAfter G) (err : BeforeAfter H) (report : Report) (result : Result ℕ ToolFault) where
   -- after `Write` the report broke off
-  pub breaks : result ≡ Err Write → Leaves out err report result → BreaksOff out err report
+  pub breaks : result ≡ Err Write → Leaves out err report result → FailsMidway out err report
   breaks is = subst (Leaves out err report) is
 
   -- after `Memory` nothing was written

@@ -3,7 +3,7 @@
 ghost use Rattle.std.specs.Prelude.{◌≡◌, ◌≢◌, Err, false};
 ghost use Rattle.ctd_report.specs.Report.{on_err};
 ghost use Rattle.ctd_report.specs.calls.Written.{Leaves};
-ghost use Rattle.ctd_report.specs.Written.{LeavesOneOf, before_after};
+ghost use Rattle.ctd_report.specs.Written.{WritesOneOf, before_after};
 ghost use Rattle.ctd_lint.specs.inner.FileReport.{IsNamedReport};
 ghost use Rattle.ctd_lint.specs.inner.Run.{LeavesRun, stand};
 ghost use Rattle.ctd_lint.specs.inner.Text.{open_line};
@@ -43,7 +43,7 @@ fn lint_named<P: Programs, O: Sink, E: Sink>(
 ) -> Result<u8, ToolFault>
     requires out_works { O.has_failed out.old ≡ false }
     requires err_works { E.has_failed err.old ≡ false }
-    ensures written { LeavesOneOf (before_after O.Sink out.old out.new) (before_after E.Sink err.old err.new)
+    ensures written { WritesOneOf (before_after O.Sink out.old out.new) (before_after E.Sink err.old err.new)
         (IsNamedReport P.opens_program P.Program.Source name.now setup.now programs.old programs.new) result }
     // also where memory ran out
     ensures asked { P.asks_for programs.old name.now programs.new }

@@ -4,15 +4,15 @@ ghost use Rattle.std.specs.Prelude.{◌≡◌, ◌++◌, IfOk, false};
 ghost use Rattle.ctd_source.specs.declared.source.Seen.TheVariants.{Going};
 ghost use Rattle.ctd_report.specs.Report.{on_err};
 ghost use Rattle.ctd_report.specs.calls.Written.{Leaves};
-ghost use Rattle.ctd_report.specs.Written.{LeavesOneOf, before_after};
-ghost use Rattle.ctd_lint.specs.inner.Report.{IsLintReport, call, findings_status, program_lines, program_report, program_status, told_status, traps_status};
+ghost use Rattle.ctd_report.specs.Written.{WritesOneOf, before_after};
+ghost use Rattle.ctd_lint.specs.inner.Report.{IsLintReport, call, findings_status, program_lines, program_report, program_status, verdict_status, traps_status};
 ghost use Rattle.ctd_lint.specs.inner.Text.{error_line, kept};
 ghost use Rattle.ctd_lint.specs.inner.Traps.{kept_traps};
 
 use crate::command_line::LintSetup;
 use crate::kind::{LintKind, trap_rank};
 use crate::text::{error_text, findings_text, is_ignored};
-use crate::traps::{is_shown, told_text};
+use crate::traps::{is_shown, verdict_text};
 use ctd_findings::{Finding, Rank, findings};
 use ctd_loader::Plan;
 use ctd_report::{NO_VERDICT, Sink, ToolFault, write_report};
@@ -54,8 +54,8 @@ fn traps_status(setup: &LintSetup, traps: &[Trap]) -> u8
 }
 
 /// The status for the traps of a program, as far as they are told and shown.
-fn told_status(setup: &LintSetup, told: &Option<TrapList<'_>>) -> u8
-    ensures { result ≡ told_status setup.now told.now }
+fn verdict_status(setup: &LintSetup, told: &Option<TrapList<'_>>) -> u8
+    ensures { result ≡ verdict_status setup.now told.now }
 {
     match told {
         Some(list) => traps_status(setup, list.findings.as_slice()),
@@ -68,7 +68,7 @@ fn program_status(setup: &LintSetup, found: &[Finding], told: &Option<TrapList<'
     ensures { result ≡ program_status setup.now found.now told.now }
 {
     let own = status_of(found, setup.ignored.as_slice());
-    own.max(told_status(setup, told))
+    own.max(verdict_status(setup, told))
 }
 
 /// The lines of findings and traps.
@@ -82,7 +82,7 @@ fn program_text(
     ensures { IfOk result (λ text. text.items ≡ program_lines file.now setup.now found.now told.now) }
 {
     let mut text = findings_text(alloc, file.as_slice(), found, setup.ignored.as_slice())?;
-    let lines = told_text(alloc, file.as_slice(), setup, told)?;
+    let lines = verdict_text(alloc, file.as_slice(), setup, told)?;
     text.extend_from_slice(lines.as_slice())?;
     Ok(text)
 }
@@ -138,7 +138,7 @@ pub(crate) fn lint<P: Source, O: Sink, E: Sink>(
     requires program_going { P.seen program.old ≡ Going }
     requires out_works { O.has_failed out.old ≡ false }
     requires err_works { E.has_failed err.old ≡ false }
-    ensures written { LeavesOneOf (before_after O.Sink out.old out.new) (before_after E.Sink err.old err.new)
+    ensures written { WritesOneOf (before_after O.Sink out.old out.new) (before_after E.Sink err.old err.new)
         (IsLintReport file.now setup.now (call P.Source program.old program.new)) result }
 {
     let plan = match Plan::load(alloc, program) {

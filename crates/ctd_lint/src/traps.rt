@@ -3,7 +3,7 @@
 ghost use Rattle.std.specs.Prelude.{◌≡◌, ◌++◌, decimal, OnOk, IfOk, if◌then◌else◌, [], option_map};
 ghost use Rattle.ctd_lint.specs.inner.Kinds.{is_covered, trap_name};
 ghost use Rattle.ctd_lint.specs.inner.Text.{name_text};
-ghost use Rattle.ctd_lint.specs.inner.Traps.{condition_text, every_text, is_shown, kept_traps, name_at, outlook_line, outlook_text, places_text, some_covered, some_element, some_shape, told_lines, trap_line, trap_remark, traps_lines, untold_line};
+ghost use Rattle.ctd_lint.specs.inner.Traps.{condition_text, every_text, is_shown, kept_traps, name_at, outlook_line, outlook_text, places_text, some_covered, some_element, some_shape, verdict_lines, trap_line, trap_remark, traps_lines, too_large_line};
 
 use crate::command_line::LintSetup;
 use crate::kind::{is_covered, is_element, is_shape, trap_name, trap_rank, trap_text};
@@ -199,8 +199,8 @@ fn write_outlook_line(
 }
 
 /// The line that says that it cannot be told, if it is asked for.
-fn untold_text(alloc: Global, file: &[u8], setup: &LintSetup) -> Result<Vec<u8>, AllocError>
-    ensures { IfOk result (λ text. text.items ≡ (if setup.now.verdicts then untold_line file.now else [])) }
+fn too_large_text(alloc: Global, file: &[u8], setup: &LintSetup) -> Result<Vec<u8>, AllocError>
+    ensures { IfOk result (λ text. text.items ≡ (if setup.now.verdicts then too_large_line file.now else [])) }
 {
     if !setup.verdicts {
         return Ok(Vec::new(alloc));
@@ -211,16 +211,16 @@ fn untold_text(alloc: Global, file: &[u8], setup: &LintSetup) -> Result<Vec<u8>,
 }
 
 /// What is written of the traps of a program.
-pub(crate) fn told_text(
+pub(crate) fn verdict_text(
     alloc: Global,
     file: &[u8],
     setup: &LintSetup,
     told: &Option<TrapList<'_>>,
 ) -> Result<Vec<u8>, AllocError>
-    ensures { IfOk result (λ text. text.items ≡ told_lines file.now setup.now told.now) }
+    ensures { IfOk result (λ text. text.items ≡ verdict_lines file.now setup.now told.now) }
 {
     let Some(list) = told else {
-        return untold_text(alloc, file, setup);
+        return too_large_text(alloc, file, setup);
     };
     let traps = list.findings.as_slice();
     let mut text = traps_text(alloc, file, setup, list.names.as_slice(), traps)?;

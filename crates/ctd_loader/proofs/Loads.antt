@@ -3,22 +3,22 @@ use Rattle.std.proofs.Common.{◌≡◌, ◌≢◌, ◌≤◌, ◌<◌, ◌+◌,
 use Rattle.std.specs.Result.{IsErr, IsErrAnd}
 use Rattle.ctd_source.specs.declared.source.Source.{Ghosts}
 use Rattle.ctd_source.specs.declared.source.Seen.TheVariants.{Ended, Broken}
-use Rattle.ctd_source.specs.CursorCalls.{Gave}
+use Rattle.ctd_source.specs.SourceReads.{GaveBytes}
 use Rattle.ctd_token.specs.declared.fault.LoadFault.{LoadFault}
 use Rattle.ctd_token.specs.declared.limits.TheConstants.{PROGRAM_LIMIT}
 use Rattle.ctd_token.specs.declared.fault.LoadKind.TheVariants.{Memory, ProgramTooLong, Read}
 use Rattle.ctd_program.specs.Tree.{CommandList}
 use Rattle.ctd_program.specs.declared.tree.PatternLiteral.{PatternLiteral}
 use Rattle.ctd_syntax.specs.Reading.{Parses, lexemes}
-use Rattle.ctd_syntax.specs.RegexNumbers.{pattern_literals}
-use Rattle.ctd_syntax.specs.calls.RegexNumbers.{literals}
+use Rattle.ctd_syntax.specs.PatternLiterals.{pattern_literals}
+use Rattle.ctd_syntax.specs.calls.PatternLiterals.{literals}
 use Rattle.ctd_syntax.proofs.RegexLiterals.{spelled_literals}
 use Rattle.ctd_loader.specs.Loading.{ArePatterns, HasBadPattern, IsBadPattern, IsReady, TextHasFault, of_text, too_long, unread}
 use Rattle.ctd_loader.specs.calls.Loading.{GivesProgramOrFault, LoadsFrom}
 
 -- nothing is said of the text, whatever came of it
 pub wants_memory : {V R : Type 0} (tree_of : V → CommandList) (G : Ghosts R) (old new : R) (q : Result V LoadFault) → IsErr q × IsErrAnd q (λ e. e ≡ record { kind = Memory; place = None })
-    → (bytes : List ℕ) × (length bytes ≤ PROGRAM_LIMIT + 1) × Gave G old new bytes → LoadsFrom tree_of G old new q
+    → (bytes : List ℕ) × (length bytes ≤ PROGRAM_LIMIT + 1) × GaveBytes G old new bytes → LoadsFrom tree_of G old new q
 wants_memory tree_of G old new (Ok x) is came = absurd is.1
 wants_memory tree_of G old new (Err e) is (bytes, short, gave) = record { bytes = bytes; gave = gave; short = short; answer = λ other. absurd (other (ap (λ f. f.kind) is.1)) }
 
@@ -27,7 +27,7 @@ pub memory_alone : {A : Type 0} (P : LoadFault → Type 0) (q : Result A LoadFau
 memory_alone P (Ok x) is = tt
 memory_alone P (Err e) is = λ other. absurd (other (ap (λ f. f.kind) is.1))
 
-module _ {V R : Type 0} (tree_of : V → CommandList) (G : Ghosts R) (old new : R) (bytes : List ℕ) (gave : Gave G old new bytes) (short : length bytes ≤ PROGRAM_LIMIT + 1) where
+module _ {V R : Type 0} (tree_of : V → CommandList) (G : Ghosts R) (old new : R) (bytes : List ℕ) (gave : GaveBytes G old new bytes) (short : length bytes ≤ PROGRAM_LIMIT + 1) where
   -- a byte more came than a program may have
   pub came_too_long : PROGRAM_LIMIT < length bytes → LoadsFrom tree_of G old new (Err (record { kind = ProgramTooLong; place = None }))
   came_too_long long = record { bytes = bytes; gave = gave; short = short; answer = λ other. too_long long refl refl }

@@ -4,7 +4,7 @@ use Rattle.std.specs.Prelude.{slice_get}
 use Rattle.std.specs.List.{range_with_len}
 use Rattle.std.proofs.lemmas.Option.{slice_get-get_or}
 use Rattle.ctd_program.specs.declared.tree.PatternLiteral.{PatternLiteral}
-use Rattle.ctd_syntax.specs.calls.RegexNumbers.{numbers_of}
+use Rattle.ctd_syntax.specs.calls.PatternLiterals.{numbers_of}
 use Rattle.ctd_loader.specs.calls.PatternTable.{AreAmong, texts_of}
 
 next_at : (before : List (List ℕ)) (x : List ℕ) (rest : List (List ℕ)) → slice_get (before ++ x ∷ rest) (length before) ≡ Some x

@@ -8,7 +8,7 @@ use Rattle.ctd_token.specs.declared.fault.LoadFault.{LoadFault}
 use Rattle.ctd_token.specs.declared.fault.LoadKind.TheVariants.{BadPattern, ProgramTooLong, Read}
 use Rattle.ctd_program.specs.declared.tree.PatternLiteral.{PatternLiteral}
 use Rattle.ctd_program.specs.Tree.{CommandList}
-use Rattle.ctd_syntax.specs.RegexNumbers.{pattern_literals}
+use Rattle.ctd_syntax.specs.PatternLiterals.{pattern_literals}
 use Rattle.ctd_syntax.specs.Reading.{IsRefused, Parses, lexemes}
 use Rattle.ctd_pattern.specs.declared.pattern.PatternFault.{PatternFault}
 use Rattle.ctd_pattern.specs.declared.pattern.PatternFault.TheVariants.{NotText, NotPattern, TooLarge}

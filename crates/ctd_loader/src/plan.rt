@@ -4,7 +4,7 @@ ghost use Rattle.ctd_source.specs.declared.source.Seen.TheVariants.{Going};
 ghost use Rattle.ctd_token.specs.declared.limits.TheConstants.{NESTING_LIMIT, PROGRAM_LIMIT};
 ghost use Rattle.ctd_program.specs.calls.Blocks.{list_blocks};
 ghost use Rattle.ctd_program.specs.calls.View.{command_trees};
-ghost use Rattle.ctd_syntax.specs.calls.RegexNumbers.{IsNumbered, literals};
+ghost use Rattle.ctd_syntax.specs.calls.PatternLiterals.{IsNumbered, literals};
 ghost use Rattle.ctd_loader.specs.calls.PatternTable.{texts_of};
 ghost use Rattle.ctd_loader.specs.inner.Literals.{literals_at};
 ghost use Rattle.ctd_loader.specs.Loading.{ArePatterns, IsBadPattern};

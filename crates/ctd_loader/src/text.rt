@@ -2,14 +2,14 @@
 ghost use Rattle.std.specs.Prelude.{◌≡◌, ◌<◌, ◌≤◌, ◌+◌, ℕ, List, true, false, length, IfOk, IfErr};
 ghost use Rattle.std.specs.Io.KnownBytes.{IsAtEnd};
 ghost use Rattle.ctd_source.specs.Pull.{seen_after, pull_count, GivesNext};
-ghost use Rattle.ctd_source.specs.CursorCalls.{Gave};
+ghost use Rattle.ctd_source.specs.SourceReads.{GaveBytes};
 ghost use Rattle.ctd_source.specs.declared.source.Seen.TheVariants.{Going, Ended, Broken};
 
 use ctd_source::{Failed, Source};
 use std::alloc::{AllocError, Global};
 
 /// How many bytes are pulled at a time. Most programs have fewer, so a check touches no more memory for its program than it needs.
-const PIECE: usize = 16_384;
+const PROGRAM_READ: usize = 16_384;
 
 /// The text that a source gave.
 #[derive(Drop)]
@@ -23,7 +23,7 @@ pub(crate) struct ReceivedText {
 fn pull_most<P: Source>(
     program: &mut P,
     most: usize,
-    piece: &mut [u8; PIECE],
+    piece: &mut [u8; PROGRAM_READ],
 ) -> Result<usize, Failed>
     requires { 0 < most }
     ensures bound { IfOk result (λ n. n ≤ length piece.new) }
@@ -45,12 +45,12 @@ pub(crate) fn receive<P: Source>(
 ) -> Result<ReceivedText, AllocError>
     requires going { P.seen program.old ≡ Going }
     ensures within { IfOk result (λ text. length text.bytes.items ≤ most) }
-    ensures gave { IfOk result (λ text. Gave P.Source program.old program.new text.bytes.items) }
+    ensures gave { IfOk result (λ text. GaveBytes P.Source program.old program.new text.bytes.items) }
     ensures failed { IfOk result (λ text. text.failed ≡ true → P.seen program.new ≡ Broken) }
     ensures ended { IfOk result (λ text. text.failed ≡ false → length text.bytes.items < most → P.seen program.new ≡ Ended) }
-    ensures memory { IfErr result (λ _. (bytes : List ℕ) × (length bytes ≤ most) × Gave P.Source program.old program.new bytes) }
+    ensures memory { IfErr result (λ _. (bytes : List ℕ) × (length bytes ≤ most) × GaveBytes P.Source program.old program.new bytes) }
 {
-    let mut piece = [0; PIECE];
+    let mut piece = [0; PROGRAM_READ];
     let mut bytes = Vec::new(alloc);
     while bytes.len() < most {
         match pull_most(program, most - bytes.len(), &mut piece) {

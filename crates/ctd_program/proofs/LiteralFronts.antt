@@ -5,8 +5,8 @@ use Rattle.std.specs.List.{prefix_len}
 use Rattle.std.proofs.lemmas.List.{take-append-le, take-take, length-take-le, take_all}
 use Rattle.ctd_token.specs.declared.token.TokenKind.TheVariants as tokens
 use Rattle.ctd_token.specs.declared.fault.LoadKind.TheVariants.{UnfinishedString, BadOctal}
-use Rattle.ctd_token.specs.Literal.{LiteralPart, literal_part, is_octal, octal, octal_len, octal_escape, escape, after_backslash, part_at, WholeLiteral, one_later, with_part, literal}
-use Rattle.ctd_token.specs.inner.Literal.{closing_quote}
+use Rattle.ctd_token.specs.StringLiteral.{LiteralPart, literal_part, is_octal, octal, octal_len, octal_escape, escape, after_backslash, part_at, WholeLiteral, one_later, with_part, literal}
+use Rattle.ctd_token.specs.inner.StringLiteral.{closing_quote}
 use Rattle.ctd_token.specs.Cut.{text_at, token_at}
 use Rattle.ctd_token.specs.calls.Scanning.{wrong}
 use Rattle.ctd_token.specs.inner.Scanning.{closed_text}

@@ -2,7 +2,7 @@
 use Rattle.std.proofs.Common.{◌≡◌, ℕ, ◌+◌, ◌<◌, ◌≤◌, List, [], ◌∷◌, ◌++◌, length, take, drop, get_or, Ok, Err, refl, sym, ap, ◌∙◌, subst, arith, append_assoc, append-nil, length-append, length-drop}
 use Rattle.std.proofs.lemmas.List.{get_or-drop}
 use Rattle.std.proofs.Math.Seq.{take-append_seam, drop-append_seam, take-add}
-use Rattle.ctd_program.specs.declared.preset.Literal.{Literal}
+use Rattle.ctd_program.specs.declared.preset.PresetValue.{PresetValue}
 use Rattle.ctd_program.specs.declared.preset.PresetFault.TheVariants.{BadPreset}
 use Rattle.ctd_program.specs.declared.preset.PresetFault.TheVariants as presets
 use Rattle.ctd_token.specs.declared.fault.TokenFault.{TokenFault}
@@ -10,7 +10,7 @@ use Rattle.ctd_token.specs.declared.fault.TokenFault.TheVariants.{Wrong, Memory}
 use Rattle.ctd_token.specs.declared.token.TokenKind.TheVariants as tokens
 use Rattle.ctd_token.specs.Cut.{name_len, token_at}
 use Rattle.ctd_token.specs.calls.Scanning.{wrong, Scans}
-use Rattle.ctd_program.specs.Presets.{IsToken, AreSeparated, IsPresetValue, IsTarget, alone, indexed}
+use Rattle.ctd_program.specs.Presets.{IsToken, AreSeparated, IsPresetValue, IsPresetTarget, alone, indexed}
 use Rattle.ctd_program.specs.calls.PresetFront.{fault_of}
 use Rattle.ctd_program.specs.inner.PresetFront.{MayFollowList, MayFollowTarget, IsAtFront, NothingIsAtFront, SpellsTarget, AreIndices, none, some}
 use Rattle.ctd_program.proofs.Splits.{behind_front, take_past, take_with}
@@ -18,7 +18,7 @@ use Rattle.ctd_program.proofs.TokenFronts.{same_found, name_front, name_alone}
 
 -- ---- the indices
 
-only_none : (bytes : List ℕ) → (0 < length bytes → get_or bytes 0 0 ≡ 91 → ⊥) → (text rest : List ℕ) (indices : List Literal) → bytes ≡ text ++ rest → MayFollowTarget rest → AreIndices text indices → (indices ≡ []) × (length text ≡ 0)
+only_none : (bytes : List ℕ) → (0 < length bytes → get_or bytes 0 0 ≡ 91 → ⊥) → (text rest : List ℕ) (indices : List PresetValue) → bytes ≡ text ++ rest → MayFollowTarget rest → AreIndices text indices → (indices ≡ []) × (length text ≡ 0)
 only_none bytes closed text rest indices is follows none = (refl, refl)
 only_none bytes closed text rest indices is follows (some values separated) =
     let bracket = behind_front bytes [] ((values ++ 93 ∷ []) ++ rest) 91 0 is refl in
@@ -33,7 +33,7 @@ no_indices bytes closed = record {
 }
 
 -- what stands between the brackets
-pub record Between (bytes text rest : List ℕ) (indices : List Literal) : Type 0 where
+pub record Between (bytes text rest : List ℕ) (indices : List PresetValue) : Type 0 where
   pub values : List ℕ
   pub there : drop 1 bytes ≡ values ++ 93 ∷ rest
   pub long : length text ≡ 1 + length values + 1
@@ -43,7 +43,7 @@ no_equals : (bytes rest : List ℕ) → bytes ≡ rest → MayFollowTarget rest 
 no_equals bytes [] is follows opens = absurd follows
 no_equals bytes (b ∷ bs) is follows opens = omega (arith, (behind_front bytes [] bs b 0 is refl).1, follows, opens)
 
-between : (bytes text rest : List ℕ) (indices : List Literal) → get_or bytes 0 0 ≡ 91 → bytes ≡ text ++ rest → MayFollowTarget rest → AreIndices text indices → Between bytes text rest indices
+between : (bytes text rest : List ℕ) (indices : List PresetValue) → get_or bytes 0 0 ≡ 91 → bytes ≡ text ++ rest → MayFollowTarget rest → AreIndices text indices → Between bytes text rest indices
 between bytes text rest indices opens is follows none = absurd (no_equals bytes rest is follows opens)
 between bytes text rest indices opens is follows (some values separated) = record {
   values = values;
@@ -59,7 +59,7 @@ no_values bytes opens nothing text rest indices is follows spells =
     nothing inside.values (93 ∷ rest) indices inside.there refl inside.separated
 
 -- values stand behind it, and no bracket closes behind these
-pub not_closed : (bytes : List ℕ) (found : List Literal) (n : ℕ) → get_or bytes 0 0 ≡ 91 → IsAtFront MayFollowList (AreSeparated IsPresetValue) (drop 1 bytes) (found, n)
+pub not_closed : (bytes : List ℕ) (found : List PresetValue) (n : ℕ) → get_or bytes 0 0 ≡ 91 → IsAtFront MayFollowList (AreSeparated IsPresetValue) (drop 1 bytes) (found, n)
     → (1 + n < length bytes → get_or bytes (1 + n) 0 ≡ 93 → ⊥) → NothingIsAtFront MayFollowTarget AreIndices bytes
 not_closed bytes found n opens f closed text rest indices is follows spells =
     let inside = between bytes text rest indices opens is follows spells in
@@ -68,7 +68,7 @@ not_closed bytes found n opens f closed text rest indices is follows spells =
     absurd (closed (omega (arith, bracket.0, length-drop 1 bytes)) (sym (get_or-drop 1 bytes n 0) ∙ bracket.1))
 
 -- and one closes behind them
-pub closed_indices : (bytes : List ℕ) (found : List Literal) (n : ℕ) → get_or bytes 0 0 ≡ 91 → IsAtFront MayFollowList (AreSeparated IsPresetValue) (drop 1 bytes) (found, n)
+pub closed_indices : (bytes : List ℕ) (found : List PresetValue) (n : ℕ) → get_or bytes 0 0 ≡ 91 → IsAtFront MayFollowList (AreSeparated IsPresetValue) (drop 1 bytes) (found, n)
     → 1 + n < length bytes → get_or bytes (1 + n) 0 ≡ 93 → IsAtFront MayFollowTarget AreIndices bytes (found, 1 + n + 1)
 closed_indices bytes found n opens f lt closes =
     let whole : take (1 + n + 1) bytes ≡ 91 ∷ (take n (drop 1 bytes) ++ 93 ∷ []) =
@@ -85,30 +85,30 @@ closed_indices bytes found n opens f lt closes =
 -- ---- the target
 
 -- a target is a name with what may be its indices behind it
-record Parts (text name : List ℕ) (indices : List Literal) : Type 0 where
+record Parts (text name : List ℕ) (indices : List PresetValue) : Type 0 where
   behind : List ℕ
   whole : text ≡ name ++ behind
   is_name : IsToken name tokens.Name
   are_indices : AreIndices behind indices
 
-parts : (text name : List ℕ) (indices : List Literal) → IsTarget text name indices → Parts text name indices
+parts : (text name : List ℕ) (indices : List PresetValue) → IsPresetTarget text name indices → Parts text name indices
 parts text name indices (alone is) = record { behind = []; whole = sym (append-nil name); is_name = is; are_indices = none }
 parts text name indices (indexed _ values is separated) = record { behind = 91 ∷ (values ++ 93 ∷ []); whole = refl; is_name = is; are_indices = some values separated }
 
-made_of : (name behind : List ℕ) (indices : List Literal) → IsToken name tokens.Name → AreIndices behind indices → IsTarget (name ++ behind) name indices
-made_of name behind indices is none = subst (λ l. IsTarget l name []) (sym (append-nil name)) (alone is)
+made_of : (name behind : List ℕ) (indices : List PresetValue) → IsToken name tokens.Name → AreIndices behind indices → IsPresetTarget (name ++ behind) name indices
+made_of name behind indices is none = subst (λ l. IsPresetTarget l name []) (sym (append-nil name)) (alone is)
 made_of name behind indices is (some values separated) = indexed name values is separated
 
 no_name : (rest : List ℕ) → MayFollowTarget rest → name_len rest ≡ 0
 no_name [] follows = absurd follows
 no_name (b ∷ bs) follows = ap (λ c. name_len (c ∷ bs)) follows
 
-name_ends : (behind rest : List ℕ) (indices : List Literal) → AreIndices behind indices → MayFollowTarget rest → name_len (behind ++ rest) ≡ 0
+name_ends : (behind rest : List ℕ) (indices : List PresetValue) → AreIndices behind indices → MayFollowTarget rest → name_len (behind ++ rest) ≡ 0
 name_ends behind rest indices none follows = no_name rest follows
 name_ends behind rest indices (some values separated) follows = refl
 
 -- a target begins with its name, behind which its indices are
-record Begins (bytes text rest : List ℕ) (name : List ℕ) (indices : List Literal) : Type 0 where
+record Begins (bytes text rest : List ℕ) (name : List ℕ) (indices : List PresetValue) : Type 0 where
   behind : List ℕ
   found : token_at bytes ≡ Ok (tokens.Name, length name)
   is_name : take (length name) bytes ≡ name
@@ -116,7 +116,7 @@ record Begins (bytes text rest : List ℕ) (name : List ℕ) (indices : List Lit
   long : length text ≡ length name + length behind
   are_indices : AreIndices behind indices
 
-begins : (bytes text rest name : List ℕ) (indices : List Literal) → bytes ≡ text ++ rest → MayFollowTarget rest → IsTarget text name indices → Begins bytes text rest name indices
+begins : (bytes text rest name : List ℕ) (indices : List PresetValue) → bytes ≡ text ++ rest → MayFollowTarget rest → IsPresetTarget text name indices → Begins bytes text rest name indices
 begins bytes text rest name indices is follows spells =
     let p = parts text name indices spells in
     let all : bytes ≡ name ++ (p.behind ++ rest) = is ∙ ap (λ l. l ++ rest) p.whole ∙ append_assoc name p.behind rest in
@@ -146,11 +146,11 @@ no_indices_behind bytes n found nothing text rest target is follows spells =
     nothing b.behind rest target.1 (ap (λ k. drop k bytes) (sym same.1) ∙ b.there) follows b.are_indices
 
 -- a name and its indices
-pub target_in_front : (bytes : List ℕ) (n len : ℕ) (indices : List Literal) → token_at bytes ≡ Ok (tokens.Name, n) → n ≤ length bytes
+pub target_in_front : (bytes : List ℕ) (n len : ℕ) (indices : List PresetValue) → token_at bytes ≡ Ok (tokens.Name, n) → n ≤ length bytes
     → IsAtFront MayFollowTarget AreIndices (drop n bytes) (indices, len) → IsAtFront MayFollowTarget SpellsTarget bytes ((take n bytes, indices), n + len)
 target_in_front bytes n len indices found inside f = record {
   within = omega (arith, inside, f.within, length-drop n bytes);
-  spelled = subst (λ l. IsTarget l (take n bytes) indices) (sym (take-add n len bytes)) (made_of (take n bytes) (take len (drop n bytes)) indices (name_alone bytes n found) f.spelled);
+  spelled = subst (λ l. IsPresetTarget l (take n bytes) indices) (sym (take-add n len bytes)) (made_of (take n bytes) (take len (drop n bytes)) indices (name_alone bytes n found) f.spelled);
   only = λ text rest target is follows spells.
       let b = begins bytes text rest target.0 target.1 is follows spells in
       let same = same_found tokens.Name tokens.Name (length target.0) n (token_at bytes) b.found found in

@@ -1,8 +1,8 @@
 -- A preset at the front of a text: a target, an equals sign and a value.
 use Rattle.std.proofs.Common.{◌≡◌, ℕ, ◌+◌, ◌<◌, List, ◌∷◌, ◌++◌, length, take, drop, get_or, refl, sym, ◌∙◌, subst, arith, append_assoc, length-append, length-drop}
-use Rattle.ctd_program.specs.declared.preset.Literal.{Literal}
+use Rattle.ctd_program.specs.declared.preset.PresetValue.{PresetValue}
 use Rattle.ctd_program.specs.declared.preset.Preset.{Preset}
-use Rattle.ctd_program.specs.Presets.{IsPresetValue, IsTarget, IsPreset, preset}
+use Rattle.ctd_program.specs.Presets.{IsPresetValue, IsPresetTarget, IsPreset, preset}
 use Rattle.ctd_program.specs.inner.PresetFront.{MayFollowItem, MayFollowTarget, IsAtFront, NothingIsAtFront, SpellsTarget}
 use Rattle.ctd_program.proofs.Splits.{behind_front, take_past}
 
@@ -12,7 +12,7 @@ record Parts (bytes text rest : List ℕ) (p : Preset) : Type 0 where
   value : List ℕ
   there : bytes ≡ target ++ 61 ∷ (value ++ rest)
   long : length text ≡ length target + 1 + length value
-  is_target : IsTarget target p.name p.indices
+  is_target : IsPresetTarget target p.name p.indices
   is_value : IsPresetValue value p.value
 
 parts : (bytes text rest : List ℕ) (p : Preset) → bytes ≡ text ++ rest → IsPreset text p → Parts bytes text rest p
@@ -32,7 +32,7 @@ no_target bytes nothing text rest p is follows spells =
     nothing of.target (61 ∷ (of.value ++ rest)) (p.name, p.indices) of.there refl of.is_target
 
 -- a target, and no equals sign behind it
-pub no_equals : (bytes : List ℕ) (target : List ℕ × List Literal) (n : ℕ) → IsAtFront MayFollowTarget SpellsTarget bytes (target, n) → (n < length bytes → get_or bytes n 0 ≡ 61 → ⊥) → NothingIsAtFront MayFollowItem IsPreset bytes
+pub no_equals : (bytes : List ℕ) (target : List ℕ × List PresetValue) (n : ℕ) → IsAtFront MayFollowTarget SpellsTarget bytes (target, n) → (n < length bytes → get_or bytes n 0 ≡ 61 → ⊥) → NothingIsAtFront MayFollowItem IsPreset bytes
 no_equals bytes target n f other text rest p is follows spells =
     let of = parts bytes text rest p is spells in
     let same = f.only of.target (61 ∷ (of.value ++ rest)) (p.name, p.indices) of.there refl of.is_target in
@@ -40,7 +40,7 @@ no_equals bytes target n f other text rest p is follows spells =
     other equals.0 equals.1
 
 -- an equals sign, and no value behind it
-pub no_value : (bytes : List ℕ) (target : List ℕ × List Literal) (n : ℕ) → IsAtFront MayFollowTarget SpellsTarget bytes (target, n) → NothingIsAtFront MayFollowItem IsPresetValue (drop (n + 1) bytes) → NothingIsAtFront MayFollowItem IsPreset bytes
+pub no_value : (bytes : List ℕ) (target : List ℕ × List PresetValue) (n : ℕ) → IsAtFront MayFollowTarget SpellsTarget bytes (target, n) → NothingIsAtFront MayFollowItem IsPresetValue (drop (n + 1) bytes) → NothingIsAtFront MayFollowItem IsPreset bytes
 no_value bytes target n f nothing text rest p is follows spells =
     let of = parts bytes text rest p is spells in
     let same = f.only of.target (61 ∷ (of.value ++ rest)) (p.name, p.indices) of.there refl of.is_target in

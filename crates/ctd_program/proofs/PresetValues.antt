@@ -3,8 +3,8 @@ use Rattle.std.proofs.Common.{◌≡◌, inl, inr, ℕ, suc, ◌+◌, ◌≤◌,
 use lib.IntN.{neg_ℤ}
 use Rattle.std.specs.List.{prefix_len}
 use Rattle.std.proofs.lemmas.Option.{none-some}
-use Rattle.ctd_program.specs.declared.preset.Literal.{Literal}
-use Rattle.ctd_program.specs.declared.preset.Literal.TheVariants as literals
+use Rattle.ctd_program.specs.declared.preset.PresetValue.{PresetValue}
+use Rattle.ctd_program.specs.declared.preset.PresetValue.TheVariants as literals
 use Rattle.ctd_program.specs.declared.preset.PresetFault.{PresetFault}
 use Rattle.ctd_program.specs.declared.preset.PresetFault.TheVariants.{BadPreset}
 use Rattle.ctd_token.specs.declared.token.TokenKind.{TokenKind}
@@ -39,7 +39,7 @@ no_minus_text text values is b bs e =
     ap (λ c. nat_eq c 45) of.0
 
 -- a literal before what may follow it is the one at the front
-literal_first : (text rest : List ℕ) (v : Literal) → IsPresetValue text v → MayFollowItem rest → literal_at (text ++ rest) ≡ Some (v, length text)
+literal_first : (text rest : List ℕ) (v : PresetValue) → IsPresetValue text v → MayFollowItem rest → literal_at (text ++ rest) ≡ Some (v, length text)
 literal_first text rest v (number {n} is) end =
     let ends = no_digit rest end in
     plain_front text rest (tokens.Numeral n) is (no_minus text n is) ∙ ap plain_literal (numeral_front text rest n is ends.0 ends.1)
@@ -56,7 +56,7 @@ same_some {A} x y n m o e f =
     let second : A × ℕ → ℕ = λ q. q.1 in
     (ap first pair, ap second pair)
 
-plain_spells : (bytes : List ℕ) (found : TokenOrFault) (v : Literal) (n : ℕ) → token_at bytes ≡ found → plain_literal found ≡ Some (v, n) → IsPresetValue (take n bytes) v
+plain_spells : (bytes : List ℕ) (found : TokenOrFault) (v : PresetValue) (n : ℕ) → token_at bytes ≡ found → plain_literal found ≡ Some (v, n) → IsPresetValue (take n bytes) v
 plain_spells bytes (Ok (tokens.Numeral m, k)) v n is e =
     let same = same_some (literals.Int m) v k n (plain_literal (Ok (tokens.Numeral m, k))) refl e in
     subst (λ w. IsPresetValue (take n bytes) w) same.0 (subst (λ j. IsPresetValue (take j bytes) (literals.Int m)) same.1 (number (numeral_alone bytes k m is)))
@@ -68,7 +68,7 @@ plain_spells bytes (Ok (tokens.Name, k)) v n is e = absurd (let f : None ≡ Som
 plain_spells bytes (Ok (tokens.Mark m, k)) v n is e = absurd (let f : None ≡ Some (v, n) = e in cc)
 plain_spells bytes (Err x) v n is e = absurd (let f : None ≡ Some (v, n) = e in cc)
 
-negated_spells : (bytes : List ℕ) (found : TokenOrFault) (v : Literal) (n : ℕ) → token_at bytes ≡ found → negative_literal found ≡ Some (v, n) → IsPresetValue (take n (45 ∷ bytes)) v
+negated_spells : (bytes : List ℕ) (found : TokenOrFault) (v : PresetValue) (n : ℕ) → token_at bytes ≡ found → negative_literal found ≡ Some (v, n) → IsPresetValue (take n (45 ∷ bytes)) v
 negated_spells bytes (Ok (tokens.Numeral m, k)) v n is e =
     let same = same_some (literals.Int (neg_ℤ m)) v (1 + k) n (negative_literal (Ok (tokens.Numeral m, k))) refl e in
     let next : suc k ≡ n = omega (arith, same.1) in
@@ -79,19 +79,19 @@ negated_spells bytes (Ok (tokens.Name, k)) v n is e = absurd (let f : None ≡ S
 negated_spells bytes (Ok (tokens.Mark m, k)) v n is e = absurd (let f : None ≡ Some (v, n) = e in cc)
 negated_spells bytes (Err x) v n is e = absurd (let f : None ≡ Some (v, n) = e in cc)
 
-signed_spells : (b : ℕ) (bs : List ℕ) (v : Literal) (n : ℕ) (minus : Bool) → nat_eq b 45 ≡ minus → cond minus (negative_literal (token_at bs)) (plain_literal (token_at (b ∷ bs))) ≡ Some (v, n) → IsPresetValue (take n (b ∷ bs)) v
+signed_spells : (b : ℕ) (bs : List ℕ) (v : PresetValue) (n : ℕ) (minus : Bool) → nat_eq b 45 ≡ minus → cond minus (negative_literal (token_at bs)) (plain_literal (token_at (b ∷ bs))) ≡ Some (v, n) → IsPresetValue (take n (b ∷ bs)) v
 signed_spells b bs v n true is e =
     let same : 45 ≡ b = grind (arith, tests, is) in
     subst (λ c. IsPresetValue (take n (c ∷ bs)) v) same (negated_spells bs (token_at bs) v n refl e)
 signed_spells b bs v n false is e = plain_spells (b ∷ bs) (token_at (b ∷ bs)) v n refl e
 
 -- the literal at the front is one
-literal_spells : (bytes : List ℕ) (v : Literal) (n : ℕ) → literal_at bytes ≡ Some (v, n) → IsPresetValue (take n bytes) v
+literal_spells : (bytes : List ℕ) (v : PresetValue) (n : ℕ) → literal_at bytes ≡ Some (v, n) → IsPresetValue (take n bytes) v
 literal_spells [] v n e = absurd (let f : None ≡ Some (v, n) = e in cc)
 literal_spells (b ∷ bs) v n e = signed_spells b bs v n (nat_eq b 45) refl e
 
 -- a literal that is found is the value at the front
-value_in_front : (bytes : List ℕ) (v : Literal) (n : ℕ) → literal_at bytes ≡ Some (v, n) → n ≤ length bytes → IsAtFront MayFollowItem IsPresetValue bytes (v, n)
+value_in_front : (bytes : List ℕ) (v : PresetValue) (n : ℕ) → literal_at bytes ≡ Some (v, n) → n ≤ length bytes → IsAtFront MayFollowItem IsPresetValue bytes (v, n)
 value_in_front bytes v n found inside = record {
   within = inside;
   spelled = literal_spells bytes v n found;
@@ -99,11 +99,11 @@ value_in_front bytes v n found inside = record {
 }
 
 -- what a reader of literals answers is the value at the front, or that there is none
-pub value_read : (bytes : List ℕ) (answer : Result (Literal × ℕ) PresetFault) → IsFound answer (literal_at bytes) → IfOk answer (λ x. x.1 ≤ length bytes) → IfOk answer (IsAtFront MayFollowItem IsPresetValue bytes)
+pub value_read : (bytes : List ℕ) (answer : Result (PresetValue × ℕ) PresetFault) → IsFound answer (literal_at bytes) → IfOk answer (λ x. x.1 ≤ length bytes) → IfOk answer (IsAtFront MayFollowItem IsPresetValue bytes)
 value_read bytes (Ok x) found inside = value_in_front bytes x.0 x.1 found inside
 value_read bytes (Err fault) found inside = tt
 
-pub no_value_read : (bytes : List ℕ) (answer : Result (Literal × ℕ) PresetFault) → IsFound answer (literal_at bytes) → answer ≡ Err BadPreset → NothingIsAtFront MayFollowItem IsPresetValue bytes
+pub no_value_read : (bytes : List ℕ) (answer : Result (PresetValue × ℕ) PresetFault) → IsFound answer (literal_at bytes) → answer ≡ Err BadPreset → NothingIsAtFront MayFollowItem IsPresetValue bytes
 no_value_read bytes answer found bad text rest v is follows spells =
     let none : literal_at bytes ≡ None = subst (λ a. IsFound a (literal_at bytes)) bad found in
     none-some (v, length text) (sym none ∙ ap literal_at is ∙ literal_first text rest v spells follows)

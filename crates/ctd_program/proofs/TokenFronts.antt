@@ -12,9 +12,9 @@ use Rattle.ctd_token.specs.declared.fault.LoadKind.TheVariants.{BadByte, NumberT
 use Rattle.ctd_token.specs.declared.token.Mark.{Mark}
 use Rattle.ctd_token.specs.declared.token.TokenKind.{TokenKind}
 use Rattle.ctd_token.specs.declared.token.TokenKind.TheVariants as tokens
-use Rattle.ctd_token.specs.Literal.{WholeLiteral, literal}
+use Rattle.ctd_token.specs.StringLiteral.{WholeLiteral, literal}
 use Rattle.std.specs.Char.{is_ascii_uppercase, is_ascii_lowercase, is_ascii_digit}
-use Rattle.ctd_token.specs.Cut.{Judgement, TokenOrFault, at_first_byte, is_left_out_word, word_at, name_len, decimal, has_leading_zero, fraction_begins, numeral_at, mark_at, single_mark, double_mark, text_at, token_at}
+use Rattle.ctd_token.specs.Cut.{Judgement, TokenOrFault, at_first_byte, is_left_out_word, word_at, name_len, digits_value, has_leading_zero, fraction_begins, numeral_at, mark_at, single_mark, double_mark, text_at, token_at}
 use Rattle.ctd_token.specs.calls.Scanning.{wrong}
 use Rattle.ctd_token.specs.inner.Scanning.{mark_or, closed_text}
 use Rattle.ctd_program.specs.Presets.{IsToken}
@@ -74,7 +74,7 @@ known b bs =
     let by_digit : TokenOrFault = cond (is_ascii_digit b) (at_first_byte numeral) by_quote in
     let by_lower : TokenOrFault = cond (is_ascii_lowercase b) name by_digit in
     let from_quote : Known b bs by_quote = by_test (Known b bs) (nat_eq b 34) text mark (λ is. known_text b bs (literal 0 bs) (grind (arith, tests, is)) refl) (known_marks b bs bs) in
-    let from_digit : Known b bs by_digit = by_test (Known b bs) (is_ascii_digit b) (at_first_byte numeral) by_quote (λ is. known_numeral b bs (has_leading_zero (take n all) || fraction_begins (drop n all)) (nat_le (2 ^ 127) (decimal (take n all))) (decimal (take n all)) n is refl) from_quote in
+    let from_digit : Known b bs by_digit = by_test (Known b bs) (is_ascii_digit b) (at_first_byte numeral) by_quote (λ is. known_numeral b bs (has_leading_zero (take n all) || fraction_begins (drop n all)) (nat_le (2 ^ 127) (digits_value (take n all))) (digits_value (take n all)) n is refl) from_quote in
     let from_lower : Known b bs by_lower = by_test (Known b bs) (is_ascii_lowercase b) name by_digit (λ is. (is, refl)) from_digit in
     by_test (Known b bs) (is_ascii_uppercase b) (at_first_byte word) by_lower (λ _. known_word b bs (is_left_out_word (take (prefix_len is_ascii_uppercase all) all)) (prefix_len is_ascii_uppercase all)) from_lower
 
@@ -105,8 +105,8 @@ numeral_value (b ∷ bs) m len is =
     let all : List ℕ = b ∷ bs in
     let n : ℕ = prefix_len is_ascii_digit all in
     let of = known_of b bs (Ok (tokens.Numeral m, len)) is in
-    let small = small_numeral (has_leading_zero (take n all) || fraction_begins (drop n all)) (nat_le (2 ^ 127) (decimal (take n all))) (decimal (take n all)) n m len refl of.1 in
-    (decimal (take n all), small.0, small.1)
+    let small = small_numeral (has_leading_zero (take n all) || fraction_begins (drop n all)) (nat_le (2 ^ 127) (digits_value (take n all))) (digits_value (take n all)) n m len refl of.1 in
+    (digits_value (take n all), small.0, small.1)
 
 -- a number in the range has a negative
 pub negative_fits : (n : ℤ) (k : ℕ) → n ≡ pos k → k < 2 ^ 127 → SFits w128 (pos 0 -ℤ to_z w128 (of_z w128 n))
@@ -177,7 +177,7 @@ name_alone (b ∷ bs) (suc n) is =
 
 -- a numeral of these digits and of what is behind it
 abbrev numeral_of : ℕ → List ℕ → Bool → Judgement
-numeral_of n digits more = judged (has_leading_zero digits || more) (nat_le (2 ^ 127) (decimal digits)) (decimal digits) n
+numeral_of n digits more = judged (has_leading_zero digits || more) (nat_le (2 ^ 127) (digits_value digits)) (digits_value digits) n
 
 numeral_whole : (text rest : List ℕ) → fraction_begins rest ≡ false → numeral_at (length text) (text ++ rest) ≡ numeral_of (length text) text false
 numeral_whole text rest ends =
@@ -189,7 +189,7 @@ numeral_length : (b : ℕ) (bs : List ℕ) (m : ℤ) (n : ℕ) → numeral_at (p
 numeral_length b bs m len is =
     let all : List ℕ = b ∷ bs in
     let n : ℕ = prefix_len is_ascii_digit all in
-    (small_numeral (has_leading_zero (take n all) || fraction_begins (drop n all)) (nat_le (2 ^ 127) (decimal (take n all))) (decimal (take n all)) n m len refl is).2
+    (small_numeral (has_leading_zero (take n all) || fraction_begins (drop n all)) (nat_le (2 ^ 127) (digits_value (take n all))) (digits_value (take n all)) n m len refl is).2
 
 -- a numeral before what is no part of it
 pub numeral_front : (text rest : List ℕ) (m : ℤ) → IsToken text (tokens.Numeral m) → fraction_begins rest ≡ false → prefix_len is_ascii_digit rest ≡ 0 → token_at (text ++ rest) ≡ Ok (tokens.Numeral m, length text)
@@ -220,7 +220,7 @@ numeral_alone (b ∷ bs) (suc n) m is =
     let long : prefix_len is_ascii_digit all ≡ suc n = numeral_length b bs m (suc n) of.1 in
     let run = run_alone is_ascii_digit all (suc n) (sym long) in
     let found : numeral_of (suc n) text (fraction_begins (drop n bs)) ≡ Ok (tokens.Numeral m, suc n) = ap (λ k. numeral_at k all) (sym long) ∙ of.1 in
-    let clean : numeral_of (suc n) text false ≡ Ok (tokens.Numeral m, suc n) = plain_digits (has_leading_zero text) (fraction_begins (drop n bs)) (nat_le (2 ^ 127) (decimal text)) (decimal text) (suc n) m (suc n) found in
+    let clean : numeral_of (suc n) text false ≡ Ok (tokens.Numeral m, suc n) = plain_digits (has_leading_zero text) (fraction_begins (drop n bs)) (nat_le (2 ^ 127) (digits_value text)) (digits_value text) (suc n) m (suc n) found in
     let alone : numeral_at (length text) text ≡ numeral_of (length text) text false = ap (numeral_at (length text)) (sym (append-nil text)) ∙ numeral_whole text [] refl in
     numeral_found b (take n bs) of.0
     ∙ ap (λ k. at_first_byte (numeral_at k text)) run.0

@@ -1,7 +1,7 @@
 -- Which texts spell which presets.
 use Rattle.std.specs.Prelude.{◌≡◌, ℕ, ℤ, List, [], ◌∷◌, ◌++◌, length, neg_ℤ, Ok}
-use Rattle.ctd_program.specs.declared.preset.Literal.{Literal}
-use Rattle.ctd_program.specs.declared.preset.Literal.TheVariants as literals
+use Rattle.ctd_program.specs.declared.preset.PresetValue.{PresetValue}
+use Rattle.ctd_program.specs.declared.preset.PresetValue.TheVariants as literals
 use Rattle.ctd_program.specs.declared.preset.Preset.{Preset}
 use Rattle.ctd_token.specs.declared.token.TokenKind.{TokenKind}
 use Rattle.ctd_token.specs.declared.token.TokenKind.TheVariants as tokens
@@ -17,19 +17,19 @@ pub data AreSeparated {T : Type 0} (Item : List ℕ → T → Type 0) : List ℕ
   more : (text rest : List ℕ) {x : T} {xs : List T} → Item text x → AreSeparated Item rest xs → AreSeparated Item (text ++ 44 ∷ rest) (x ∷ xs)
 
 -- a value: a numeral, a minus and a numeral, or a string
-pub data IsPresetValue : List ℕ → Literal → Type 0 where
+pub data IsPresetValue : List ℕ → PresetValue → Type 0 where
   number : {text : List ℕ} {n : ℤ} → IsToken text (tokens.Numeral n) → IsPresetValue text (literals.Int n)
   negative : {text : List ℕ} {n : ℤ} → IsToken text (tokens.Numeral n) → IsPresetValue (45 ∷ text) (literals.Int (neg_ℤ n))
   string : {text values : List ℕ} → IsToken text (tokens.Text values) → IsPresetValue text (literals.Text values)
 
 -- a target: a name alone, or a name and its indices between brackets
-pub data IsTarget : List ℕ → (name : List ℕ) → (indices : List Literal) → Type 0 where
-  alone : {name : List ℕ} → IsToken name tokens.Name → IsTarget name name []
-  indexed : (name values : List ℕ) {indices : List Literal} → IsToken name tokens.Name → AreSeparated IsPresetValue values indices → IsTarget (name ++ 91 ∷ (values ++ 93 ∷ [])) name indices
+pub data IsPresetTarget : List ℕ → (name : List ℕ) → (indices : List PresetValue) → Type 0 where
+  alone : {name : List ℕ} → IsToken name tokens.Name → IsPresetTarget name name []
+  indexed : (name values : List ℕ) {indices : List PresetValue} → IsToken name tokens.Name → AreSeparated IsPresetValue values indices → IsPresetTarget (name ++ 91 ∷ (values ++ 93 ∷ [])) name indices
 
 -- target=value, without blanks
 pub data IsPreset : List ℕ → Preset → Type 0 where
-  preset : (target value : List ℕ) {p : Preset} → IsTarget target p.name p.indices → IsPresetValue value p.value → IsPreset (target ++ 61 ∷ value) p
+  preset : (target value : List ℕ) {p : Preset} → IsPresetTarget target p.name p.indices → IsPresetValue value p.value → IsPreset (target ++ 61 ∷ value) p
 
 -- one preset or more
 abbrev pub ArePresets : List ℕ → List Preset → Type 0

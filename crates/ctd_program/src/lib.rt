@@ -11,7 +11,7 @@ mod tree;
 pub use limits::Limits;
 pub use mode::Mode;
 pub use numeral::Numeral;
-pub use preset::{Literal, Literals, Preset, PresetFault, Presets};
+pub use preset::{Literals, Preset, PresetFault, PresetValue, Presets};
 pub use tree::{
     Action, Assignment, Assignments, Choice, Command, Commands, Compare, Element, Expr, Exprs,
     IntArguments, Loop, LoopGuard, Names, PatternLiteral, Program, RegexArguments, Test, Var,

@@ -10,7 +10,7 @@ use std::marker::Model;
 
 /// A number or a string, as written.
 #[derive(Drop)]
-pub enum Literal {
+pub enum PresetValue {
     Int(i128),
     Text(Bytes),
 }
@@ -18,28 +18,28 @@ pub enum Literal {
 /// The indices of a variable as written, which contracts see as the list of them.
 #[derive(Drop)]
 pub struct Literals {
-    values: Vec<Literal>,
+    values: Vec<PresetValue>,
 }
 
 impl Model for Literals {
     ghost use Rattle.std.specs.Prelude.{List};
-    ghost use Rattle.ctd_program.specs.declared.preset.Literal.{Literal};
+    ghost use Rattle.ctd_program.specs.declared.preset.PresetValue.{PresetValue};
 
-    ghost Value = { List Literal };
+    ghost Value = { List PresetValue };
 
     ghost view = { λ l. l.values.items };
 }
 
 impl Literals {
     /// A list with these literals, which takes no memory.
-    pub(crate) fn from_vec(values: Vec<Literal>) -> Literals
+    pub(crate) fn from_vec(values: Vec<PresetValue>) -> Literals
         ensures same { result ≡ values.items }
     {
         Literals { values }
     }
 
     /// Lends the list.
-    pub fn as_slice(&self) -> &[Literal]
+    pub fn as_slice(&self) -> &[PresetValue]
         ensures whole { result.now ≡ self.now }
     {
         self.values.as_slice()
@@ -51,7 +51,7 @@ impl Literals {
 pub struct Preset {
     pub name: Name,
     pub indices: Literals,
-    pub value: Literal,
+    pub value: PresetValue,
 }
 
 /// Presets in their order, which contracts see as the list of them; the last of a key, which is a name with its indices, counts.

@@ -7,7 +7,7 @@ ghost use Rattle.ctd_program.specs.Presets.{AreSeparated, ArePresets, IsPreset};
 ghost use Rattle.ctd_program.specs.inner.PresetFront.{IsFound, negative_literal, literal_at, MayFollowItem, MayFollowList, MayFollowTarget, IsAtFront, NothingIsAtFront, AreIndices, SpellsTarget};
 ghost use Rattle.ctd_program.specs.declared.preset.Preset.{Preset};
 
-use crate::preset::{Literal, Literals, Preset, PresetFault};
+use crate::preset::{Literals, Preset, PresetFault, PresetValue};
 use ctd_token::{Name, TokenKind, token_at};
 use std::alloc::Global;
 
@@ -25,12 +25,12 @@ trait Item: Sized {
         ensures refused { result ≡ Err PresetFault.BadPreset → NothingIsAtFront MayFollowItem spells bytes.now };
 }
 
-impl Item for Literal {
+impl Item for PresetValue {
     ghost use Rattle.ctd_program.specs.Presets.{IsPresetValue};
 
     ghost spells = { IsPresetValue };
 
-    fn item_at(alloc: Global, bytes: &[u8]) -> Result<(Literal, usize), PresetFault> {
+    fn item_at(alloc: Global, bytes: &[u8]) -> Result<(PresetValue, usize), PresetFault> {
         literal_at(alloc, bytes)
     }
 }
@@ -46,7 +46,7 @@ impl Item for Preset {
 }
 
 // The number behind a minus and its length with the minus.
-fn negative_at(alloc: Global, bytes: &[u8]) -> Result<(Literal, usize), PresetFault>
+fn negative_at(alloc: Global, bytes: &[u8]) -> Result<(PresetValue, usize), PresetFault>
     ensures value { IsFound result (negative_literal (token_at bytes.now)) }
     ensures within { IfOk result (λ x. x.1 ≤ 1 + length bytes.now) }
 {
@@ -55,13 +55,13 @@ fn negative_at(alloc: Global, bytes: &[u8]) -> Result<(Literal, usize), PresetFa
     }
     let (kind, len) = token_at(alloc, bytes)?;
     match kind {
-        TokenKind::Numeral(n) => Ok((Literal::Int(-n), 1 + len)),
+        TokenKind::Numeral(n) => Ok((PresetValue::Int(-n), 1 + len)),
         _ => Err(PresetFault::BadPreset),
     }
 }
 
 // The literal at the front of some bytes and its length.
-fn literal_at(alloc: Global, bytes: &[u8]) -> Result<(Literal, usize), PresetFault>
+fn literal_at(alloc: Global, bytes: &[u8]) -> Result<(PresetValue, usize), PresetFault>
     ensures value { IsFound result (literal_at bytes.now) }
     ensures within { IfOk result (λ x. x.1 ≤ length bytes.now) }
 {
@@ -73,8 +73,8 @@ fn literal_at(alloc: Global, bytes: &[u8]) -> Result<(Literal, usize), PresetFau
     }
     let (kind, len) = token_at(alloc, bytes)?;
     match kind {
-        TokenKind::Numeral(n) => Ok((Literal::Int(n), len)),
-        TokenKind::Text(values) => Ok((Literal::Text(values), len)),
+        TokenKind::Numeral(n) => Ok((PresetValue::Int(n), len)),
+        TokenKind::Text(values) => Ok((PresetValue::Text(values), len)),
         _ => Err(PresetFault::BadPreset),
     }
 }

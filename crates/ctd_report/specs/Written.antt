@@ -65,16 +65,16 @@ pub record WritesAll {O E : Type 0} {G : Ghosts O} {H : Ghosts E} (out : BeforeA
   pub err_text : TakesAll err report.err
 
 -- one stream failed while it was given its text, and the other was not touched
-abbrev pub BreaksOff : {O E : Type 0} {G : Ghosts O} {H : Ghosts E} → BeforeAfter G → BeforeAfter H → Report → Type 0
-BreaksOff out err report = (FailsIn out report.out × IsUntouched err) ⊎ (FailsIn err report.err × IsUntouched out)
+abbrev pub FailsMidway : {O E : Type 0} {G : Ghosts O} {H : Ghosts E} → BeforeAfter G → BeforeAfter H → Report → Type 0
+FailsMidway out err report = (FailsIn out report.out × IsUntouched err) ⊎ (FailsIn err report.err × IsUntouched out)
 
 -- what a call leaves that writes one of these reports; where memory ran out, nothing is said of the report
-abbrev pub LeavesOneOf : {O E : Type 0} {G : Ghosts O} {H : Ghosts E} → BeforeAfter G → BeforeAfter H → (Report → Type 0) → Result ℕ ToolFault → Type 0
-LeavesOneOf out err IsReport (Ok status) = (report : Report) × IsReport report × WritesAll out err report status
-LeavesOneOf out err IsReport (Err Write) = (report : Report) × IsReport report × BreaksOff out err report
-LeavesOneOf out err IsReport (Err Memory) = IsUntouched out × IsUntouched err
+abbrev pub WritesOneOf : {O E : Type 0} {G : Ghosts O} {H : Ghosts E} → BeforeAfter G → BeforeAfter H → (Report → Type 0) → Result ℕ ToolFault → Type 0
+WritesOneOf out err IsReport (Ok status) = (report : Report) × IsReport report × WritesAll out err report status
+WritesOneOf out err IsReport (Err Write) = (report : Report) × IsReport report × FailsMidway out err report
+WritesOneOf out err IsReport (Err Memory) = IsUntouched out × IsUntouched err
 
 -- one of these reports was written whole, and the status is its own; or a stream failed in it, and the status is 2
 pub data EndsWithReport {O E : Type 0} {G : Ghosts O} {H : Ghosts E} (out : BeforeAfter G) (err : BeforeAfter H) (Reports : Report → Type 0) (status : ℕ) : Type 0 where
   whole : (report : Report) → Reports report → WritesAll out err report status → EndsWithReport out err Reports status
-  broken_off : (report : Report) → Reports report → BreaksOff out err report → status ≡ 2 → EndsWithReport out err Reports status
+  broken_off : (report : Report) → Reports report → FailsMidway out err report → status ≡ 2 → EndsWithReport out err Reports status

@@ -9,7 +9,7 @@ use Rattle.ctd_source.specs.declared.spot.LookFault.{LookFault}
 use Rattle.ctd_source.specs.TestData.{TestData, look, first_of, next_byte}
 use Rattle.ctd_source.specs.Agreement.{Agrees}
 use Rattle.ctd_source.specs.calls.Consistency.{CursorState, IsConsistentWith}
-use Rattle.ctd_source.specs.calls.CursorCalls.{state_of, ReadsOn, MovesPast}
+use Rattle.ctd_source.specs.calls.SourceReads.{state_of, ReadsOn, MovesPast}
 use Rattle.ctd_source.specs.calls.Received.{HasReceived, AdvancesSuchThat}
 use Rattle.ctd_source.proofs.Agreeing.{reading_follows, moving_follows, agreeing_stands}
 

@@ -9,8 +9,8 @@ use Rattle.ctd_source.specs.TestData.{TestData, spot_at}
 use Rattle.ctd_source.specs.Agreement.{Agrees}
 use Rattle.ctd_source.specs.calls.Agreement.{is_broken, known}
 use Rattle.ctd_source.specs.calls.Consistency.{CursorState, IsConsistentWith, IsAtStart}
-use Rattle.ctd_source.specs.calls.CursorCalls.{state_of, source, ReadsOn, MovesPast}
-use Rattle.ctd_source.specs.CursorCalls.{Gave}
+use Rattle.ctd_source.specs.calls.SourceReads.{state_of, source, ReadsOn, MovesPast}
+use Rattle.ctd_source.specs.SourceReads.{GaveBytes}
 use Rattle.ctd_source.specs.calls.Received.{HasReceived}
 use Rattle.ctd_source.specs.inner.ReadingOn.{gave_nothing, gave_both}
 
@@ -100,7 +100,7 @@ module _ {R : Type 0} {G : Ghosts R} where
 
   pub moving_follows : (first : R) (given : List ℕ) (n : ℕ) (old new : Cursor R G) → HasReceived first given old → MovesPast n old new → HasReceived first given new
   moving_follows first given n old new f m = record {
-    gave = let P : R → Type 0 = λ r. Gave G first r given in subst P (sym m.source_is) f.gave;
+    gave = let P : R → Type 0 = λ r. GaveBytes G first r given in subst P (sym m.source_is) f.gave;
     taken = m.taken ∙ f.taken;
     stands =
         let Q : Seen → Type 0 = λ seen. IsConsistentWith (known given seen (state_of new).limit) (state_of new) in

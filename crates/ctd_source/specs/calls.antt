@@ -4,5 +4,5 @@ pub mod Agreement
 pub mod PlainData
 pub mod Reader
 pub mod Consistency
-pub mod CursorCalls
+pub mod SourceReads
 pub mod Received

@@ -10,9 +10,9 @@ use std::alloc::{AllocError, Global};
 #[derive(Drop)]
 pub struct Buffers {
     pub(crate) window: Held,
-    pub(crate) room: Vec<u8>,
+    pub(crate) pull_buffer: Vec<u8>,
     ghost empty: { window.items ≡ [] },
-    ghost room_len: { vec_len room ≡ PULL },
+    ghost pull_buffer_len: { vec_len pull_buffer ≡ PULL },
 }
 
 impl Buffers {
@@ -20,7 +20,7 @@ impl Buffers {
     pub fn new(alloc: Global) -> Result<Self, AllocError> {
         Ok(Buffers {
             window: Held::new(alloc)?,
-            room: vec![in alloc; 0; PULL]?,
+            pull_buffer: vec![in alloc; 0; PULL]?,
         })
     }
 }

@@ -3,10 +3,10 @@
 ghost use Rattle.std.specs.Prelude.{◌≡◌, ◌+◌, ◌^◌, ◌<◌, ◌≤◌, [], ◌++◌, length, take, drop, slice_get, fold, IfOk};
 ghost use Rattle.circular_buffer.specs.Buffer.{buffer};
 ghost use Rattle.ctd_source.specs.inner.TestData.{spot_after};
-ghost use Rattle.ctd_source.specs.declared.limits.TheConstants.{WINDOW, PULL, ROOM};
+ghost use Rattle.ctd_source.specs.declared.limits.TheConstants.{WINDOW, PULL, PIECE_CAPACITY};
 
-use crate::limits::{PULL, ROOM, WINDOW};
-use crate::piece::Piece;
+use crate::limits::{PIECE_CAPACITY, PULL, WINDOW};
+use crate::piece::LentBuffer;
 use crate::running_spot::RunningSpot;
 use circular_buffer::HeapCircularBuffer;
 use std::alloc::{AllocError, Global};
@@ -21,20 +21,20 @@ use std::marker::Model;
 #[derive(Drop)]
 pub struct Held {
     ring: HeapCircularBuffer<u8>,
-    piece: Piece,
+    piece: LentBuffer,
     passed: usize,
 }
 
 impl Model for Held {
     ghost use Rattle.std.specs.Prelude.{◌≡◌, ◌+◌, ◌≤◌, ◌⊎◌, [], ◌++◌, length, drop};
-    ghost use Rattle.ctd_source.specs.declared.limits.TheConstants.{WINDOW, PULL, ROOM};
+    ghost use Rattle.ctd_source.specs.declared.limits.TheConstants.{WINDOW, PULL, PIECE_CAPACITY};
     ghost use Rattle.ctd_source.specs.calls.Holding.{Holding};
 
     ghost Value = { Holding };
 
     ghost view = { λ h. record { items = drop h.passed (h.piece ++ h.ring.items); to_gather = length h.ring.items } };
 
-    ghost invariant = { λ h. (h.passed ≤ length h.piece + length h.ring.items) × (length h.piece + length h.ring.items ≤ h.passed + WINDOW) × (length h.piece ≤ ROOM) × (length h.ring.items ≤ PULL) × (h.ring.capacity ≡ PULL) × ((h.piece ≡ []) ⊎ (h.ring.items ≡ [])) };
+    ghost invariant = { λ h. (h.passed ≤ length h.piece + length h.ring.items) × (length h.piece + length h.ring.items ≤ h.passed + WINDOW) × (length h.piece ≤ PIECE_CAPACITY) × (length h.ring.items ≤ PULL) × (h.ring.capacity ≡ PULL) × ((h.piece ≡ []) ⊎ (h.ring.items ≡ [])) };
 }
 
 /// The first bytes of a ring behind those that were passed, as many as lie in one piece: some, where there are any.
@@ -70,7 +70,7 @@ fn second_run_in(ring: &HeapCircularBuffer<u8>, passed: usize) -> &[u8]
 /// Puts the bytes of a ring in one piece.
 #[cold]
 #[inline(never)]
-fn gather_from(ring: &mut HeapCircularBuffer<u8>, piece: &mut Piece)
+fn gather_from(ring: &mut HeapCircularBuffer<u8>, piece: &mut LentBuffer)
     requires fits { length ring.old.items ≤ PULL }
     requires empty { piece.old ≡ [] }
     ensures piece { piece.new ≡ ring.old.items }
@@ -84,16 +84,16 @@ fn gather_from(ring: &mut HeapCircularBuffer<u8>, piece: &mut Piece)
 
 /// Adds bytes to a piece of which the first `passed` were passed, and makes room for them where there is too little. Returns how many of
 /// the bytes in the piece are passed ones then.
-fn add_to_piece(piece: &mut Piece, passed: usize, bytes: &[u8]) -> usize
+fn add_to_piece(piece: &mut LentBuffer, passed: usize, bytes: &[u8]) -> usize
     requires passed { passed ≤ length piece.old }
     requires fits { length piece.old + length bytes.now ≤ passed + WINDOW }
     ensures passed { result ≤ length piece.new }
     ensures fits { length piece.new ≤ result + WINDOW }
-    ensures room { length piece.new ≤ ROOM }
+    ensures room { length piece.new ≤ PIECE_CAPACITY }
     ensures kept { drop result piece.new ≡ drop passed piece.old ++ bytes.now }
 {
     let mut passed = passed;
-    if piece.len() + bytes.len() > ROOM {
+    if piece.len() + bytes.len() > PIECE_CAPACITY {
         piece.remove_front(passed);
         passed = 0;
     }
@@ -108,7 +108,7 @@ impl Held {
     {
         Ok(Held {
             ring: HeapCircularBuffer::with_capacity(alloc, PULL)?,
-            piece: Piece::new(alloc)?,
+            piece: LentBuffer::new(alloc)?,
             passed: 0,
         })
     }

@@ -1,35 +1,35 @@
 //! Bytes in one piece.
 ghost use Rattle.std.specs.Prelude.{◌≡◌, ◌+◌, ◌≤◌, [], ◌++◌, length, drop, vec_len, vec_capacity, IfOk};
-ghost use Rattle.ctd_source.specs.declared.limits.TheConstants.{ROOM};
+ghost use Rattle.ctd_source.specs.declared.limits.TheConstants.{PIECE_CAPACITY};
 
-use crate::limits::ROOM;
+use crate::limits::PIECE_CAPACITY;
 use std::alloc::{AllocError, Global};
 use std::marker::Model;
 
-/// Bytes in one piece, with room for `ROOM` of them. Room that was never needed is never touched.
+/// Bytes in one piece, with room for `PIECE_CAPACITY` of them. Room that was never needed is never touched.
 #[derive(Drop)]
-pub struct Piece {
+pub struct LentBuffer {
     room: Vec<u8>,
 }
 
-impl Model for Piece {
+impl Model for LentBuffer {
     ghost use Rattle.std.specs.Prelude.{◌≤◌, ℕ, List, vec_len, vec_capacity};
-    ghost use Rattle.ctd_source.specs.declared.limits.TheConstants.{ROOM};
+    ghost use Rattle.ctd_source.specs.declared.limits.TheConstants.{PIECE_CAPACITY};
 
     ghost Value = { List ℕ };
 
     ghost view = { λ p. p.room.items };
 
-    ghost invariant = { λ p. (vec_len p.room ≤ ROOM) × (ROOM ≤ vec_capacity p.room) };
+    ghost invariant = { λ p. (vec_len p.room ≤ PIECE_CAPACITY) × (PIECE_CAPACITY ≤ vec_capacity p.room) };
 }
 
-impl Piece {
+impl LentBuffer {
     /// No bytes.
     pub(crate) fn new(alloc: Global) -> Result<Self, AllocError>
         ensures { IfOk result (λ piece. piece ≡ []) }
     {
-        Ok(Piece {
-            room: Vec::with_capacity(alloc, ROOM)?,
+        Ok(LentBuffer {
+            room: Vec::with_capacity(alloc, PIECE_CAPACITY)?,
         })
     }
 
@@ -37,7 +37,7 @@ impl Piece {
     #[inline(always)]
     pub(crate) fn len(&self) -> usize
         ensures len { result ≡ length self.now }
-        ensures within { result ≤ ROOM }
+        ensures within { result ≤ PIECE_CAPACITY }
     {
         self.room.len()
     }
@@ -53,7 +53,7 @@ impl Piece {
     /// Adds bytes behind them.
     #[inline(always)]
     pub(crate) fn add(&mut self, bytes: &[u8])
-        requires { length self.old + length bytes.now ≤ ROOM }
+        requires { length self.old + length bytes.now ≤ PIECE_CAPACITY }
         ensures { self.new ≡ self.old ++ bytes.now }
     {
         if self.room.extend_from_slice(bytes).is_err() {

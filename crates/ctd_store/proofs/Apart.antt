@@ -7,7 +7,7 @@ use Rattle.std.specs.declared.cmp.Ordering.TheVariants.{Less, Equal, Greater}
 use Rattle.ctd_store.specs.declared.value.Value.{Value}
 use Rattle.ctd_store.specs.Order.{values_cmp}
 use Rattle.ctd_store.specs.inner.OrderLaws.{values_total}
-use Rattle.ctd_store.specs.Store.{Array, History, array_of, values_of, has_indices, first_of_each}
+use Rattle.ctd_store.specs.Store.{Array, Bindings, array_of, values_of, has_indices, first_of_each}
 use Rattle.ctd_store.specs.inner.Store.{are_apart}
 use Rattle.ctd_store.specs.inner.Reading.{visible_entries}
 use Rattle.ctd_store.proofs.Firsts.{one_hides, sorted_each_once}
@@ -76,7 +76,7 @@ all_first_apart p vs h =
     sym (one_hides p vs (sorted_each_once p (pins_sorted p vs h)) (sorted_each_once vs (values_sorted p vs h))) ∙ ap (λ r. p ++ r) (all_visible p vs (none_pinned p vs h))
 
 -- the values of a name are what is pinned and then what is assigned
-pub values_apart : (h : History) (name : List _) (p vs pins values : Array) → p ≡ pins → vs ≡ values → p ≡ array_of name h.pins → vs ≡ array_of name h.assigned → IsTrue (are_apart pins values) → values_of h name ≡ p ++ vs
+pub values_apart : (h : Bindings) (name : List _) (p vs pins values : Array) → p ≡ pins → vs ≡ values → p ≡ array_of name h.pins → vs ≡ array_of name h.assigned → IsTrue (are_apart pins values) → values_of h name ≡ p ++ vs
 values_apart h name p vs pins values same same_too pinned assigned apart =
     (λ i. first_of_each (sym pinned i ++ sym assigned i))
     ∙ all_first_apart p vs (holds _ (subst (λ (q : Array × Array). IsTrue (are_apart q.0 q.1)) (λ i. (sym same i, sym same_too i)) apart))

@@ -17,7 +17,7 @@ use Rattle.ctd_store.specs.declared.places.Places.{Places}
 use Rattle.ctd_store.specs.declared.value.Value.{Value}
 use Rattle.ctd_store.specs.Order.{same_value, same_values, value_cmp, values_cmp}
 use Rattle.ctd_store.specs.inner.OrderLaws.{exact_lists}
-use Rattle.ctd_store.specs.calls.Places.{listed, placed}
+use Rattle.ctd_store.specs.calls.Places.{listed, place_entries}
 use Rattle.ctd_store.specs.inner.Reading.{visible_entries, ReadsAs}
 use Rattle.ctd_store.specs.Store.{Array, first_of_each}
 use Rattle.ctd_store.specs.calls.Store.{by_indices, index_lists}
@@ -33,11 +33,11 @@ pub found_second : (q : List Value) (a b whole : Array) → by_indices (a ++ b) 
 found_second q a b whole view none = ap (find values_cmp q) (sym view) ∙ found_by_indices q (a ++ b) ∙ in_both q a b ∙ ap (λ o. option_or o (find values_cmp q b)) none
 
 -- where the map has no value without indices
-pub scalar_found : (p : Places) (b whole : Array) → by_indices (placed p ++ b) ≡ whole → find values_cmp [] b ≡ None → find values_cmp [] whole ≡ p.scalar
+pub scalar_found : (p : Places) (b whole : Array) → by_indices (place_entries p ++ b) ≡ whole → find values_cmp [] b ≡ None → find values_cmp [] whole ≡ p.scalar
 scalar_found p b whole view none =
     ap (find values_cmp []) (sym view)
-    ∙ found_by_indices [] (placed p ++ b)
-    ∙ in_both [] (placed p) b
+    ∙ found_by_indices [] (place_entries p ++ b)
+    ∙ in_both [] (place_entries p) b
     ∙ (λ i. option_or (found_scalar p i) (none i))
     ∙ nothing_more p.scalar
   where

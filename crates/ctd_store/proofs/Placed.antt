@@ -11,7 +11,7 @@ use Rattle.ctd_store.specs.declared.line.Line.{Line}
 use Rattle.ctd_store.specs.declared.places.Places.{Places}
 use Rattle.ctd_store.specs.declared.value.Value.{Value}
 use Rattle.ctd_store.specs.Order.{values_cmp}
-use Rattle.ctd_store.specs.calls.Places.{along, cells, grid, placed, scalar_entry}
+use Rattle.ctd_store.specs.calls.Places.{along, cells, grid, place_entries, scalar_entry}
 use Rattle.ctd_store.specs.inner.Reading.{ReadsAs}
 use Rattle.ctd_store.specs.Store.{Array, has_indices}
 use Rattle.ctd_store.specs.calls.Store.{cell}
@@ -31,10 +31,10 @@ none_scalar x xs None = refl
 none_scalar x xs (Some w) = refl
 
 -- what is found in the three, one after the other
-in_three : (q : List Value) (p : Places) → find values_cmp q (placed p) ≡ option_or (find values_cmp q (scalar_entry p.scalar)) (option_or (find values_cmp q (along [] p.row)) (find values_cmp q (cells p.grid)))
+in_three : (q : List Value) (p : Places) → find values_cmp q (place_entries p) ≡ option_or (find values_cmp q (scalar_entry p.scalar)) (option_or (find values_cmp q (along [] p.row)) (find values_cmp q (cells p.grid)))
 in_three q p = in_both q (scalar_entry p.scalar) (along [] p.row ++ cells p.grid) ∙ ap (option_or (find values_cmp q (scalar_entry p.scalar))) (in_both q (along [] p.row) (cells p.grid))
 
-pub found_scalar : (p : Places) → find values_cmp [] (placed p) ≡ p.scalar
+pub found_scalar : (p : Places) → find values_cmp [] (place_entries p) ≡ p.scalar
 found_scalar p =
     in_three [] p
     ∙ (λ k. option_or (find values_cmp [] (scalar_entry p.scalar)) (option_or (none_in_row [] p.row (λ x e. cc) k) (none_in_cells [] p.grid (λ x y e. cc) k)))
@@ -44,7 +44,7 @@ found_scalar p =
     alone None = refl
     alone (Some x) = refl
 
-pub found_in_row : (x : Value) (p : Places) → find values_cmp (x ∷ []) (placed p) ≡ find values_cmp (x ∷ []) (along [] p.row)
+pub found_in_row : (x : Value) (p : Places) → find values_cmp (x ∷ []) (place_entries p) ≡ find values_cmp (x ∷ []) (along [] p.row)
 found_in_row x p =
     in_three (x ∷ []) p
     ∙ (λ k. option_or (none_scalar x [] p.scalar k) (option_or (find values_cmp (x ∷ []) (along [] p.row)) (none_in_cells (x ∷ []) p.grid (λ y z e. cc) k)))
@@ -54,12 +54,12 @@ found_in_row x p =
     alone None = refl
     alone (Some w) = refl
 
-pub found_in_cells : (x y : Value) (p : Places) → find values_cmp (pair x y) (placed p) ≡ find values_cmp (pair x y) (cells p.grid)
+pub found_in_cells : (x y : Value) (p : Places) → find values_cmp (pair x y) (place_entries p) ≡ find values_cmp (pair x y) (cells p.grid)
 found_in_cells x y p =
     in_three (pair x y) p
     ∙ (λ k. option_or (none_scalar x (y ∷ []) p.scalar k) (option_or (none_in_row (pair x y) p.row (λ z e. cc) k) (find values_cmp (pair x y) (cells p.grid))))
 
-pub none_placed : (q : List Value) (p : Places) → 3 ≤ length q → find values_cmp q (placed p) ≡ None
+pub none_placed : (q : List Value) (p : Places) → 3 ≤ length q → find values_cmp q (place_entries p) ≡ None
 none_placed [] p long = absurd (omega (arith, long))
 none_placed (x ∷ []) p long = absurd (omega (arith, long))
 none_placed (x ∷ y ∷ []) p long = absurd (omega (arith, long))
@@ -97,7 +97,7 @@ written_cells x y v s r new old written =
     read_behind (pair x y) v (scalar_entry s) (along [] r ++ new) (along [] r ++ old) (none_scalar x (y ∷ []) s)
     (read_behind (pair x y) v (along [] r) new old (none_in_row (pair x y) r (λ z e. cc)) written)
 
-pub any_placed : (F : Value → Bool) (p : Places) → list_any (λ e. F e.1) (placed p) ≡ (list_any (λ e. F e.1) (scalar_entry p.scalar) || (list_any F p.row.values.items || list_any (λ e. F e.1) (cells p.grid)))
+pub any_placed : (F : Value → Bool) (p : Places) → list_any (λ e. F e.1) (place_entries p) ≡ (list_any (λ e. F e.1) (scalar_entry p.scalar) || (list_any F p.row.values.items || list_any (λ e. F e.1) (cells p.grid)))
 any_placed F p =
     list_any-append (λ e. F e.1) (scalar_entry p.scalar) (along [] p.row ++ cells p.grid)
     ∙ ap (λ t. list_any (λ e. F e.1) (scalar_entry p.scalar) || t)
@@ -109,7 +109,7 @@ once_scalar None = tt
 once_scalar (Some x) = (tt, tt)
 
 -- no index list comes twice
-pub once_placed : (p : Places) → HasEachOnce (placed p)
+pub once_placed : (p : Places) → HasEachOnce (place_entries p)
 once_placed p =
     let row = along [] p.row in
     once_in_both (scalar_entry p.scalar) (row ++ cells p.grid) (once_scalar p.scalar)
@@ -121,7 +121,7 @@ once_placed p =
     ++ visible_cells (scalar_entry p.scalar) p.grid.base p.grid.rows.items (λ m n _. none_scalar (at_number m) (at_number n ∷ []) p.scalar) i))
 
 -- a row and nothing else
-pub row_alone : (p : Places) → is_some p.scalar ≡ false → length p.grid.rows.items ≡ 0 → placed p ≡ along [] p.row
+pub row_alone : (p : Places) → is_some p.scalar ≡ false → length p.grid.rows.items ≡ 0 → place_entries p ≡ along [] p.row
 row_alone p none empty = (λ i. scalar_entry (nothing p.scalar none i) ++ (along [] p.row ++ no_rows p.grid.base p.grid.rows.items empty i)) ∙ append-nil (along [] p.row)
   where
     nothing : (s : Option Value) → is_some s ≡ false → s ≡ None

@@ -8,7 +8,7 @@ use Rattle.ctd_store.specs.declared.value.Value.{Value}
 use Rattle.ctd_store.specs.Order.{bytes_cmp, same_bytes, values_cmp}
 use Rattle.ctd_store.specs.calls.Slot.{arrays_by, pins_in, values_in}
 use Rattle.ctd_store.specs.inner.Slot.{name_in}
-use Rattle.ctd_store.specs.Store.{Array, Variables, History, array_of, with_value, has_indices, is_pinned, assign, unset}
+use Rattle.ctd_store.specs.Store.{Array, Variables, Bindings, array_of, with_value, has_indices, is_pinned, assign, unset}
 use Rattle.ctd_store.specs.calls.Store.{Positions, in_order, have_positions}
 use Rattle.ctd_store.specs.inner.Store.{name_at, with_unpinned}
 use Rattle.ctd_store.proofs.Lookups.{put_in}
@@ -144,11 +144,11 @@ lent_value None o e = tt
 lent_value (Some x) o e = sym e
 
 -- the variables that slots are
-abbrev pub history_of : List Slot → History
+abbrev pub history_of : List Slot → Bindings
 history_of items = record { pins = in_order (arrays_by pins_in items); assigned = in_order (arrays_by values_in items) }
 
 -- nothing is pinned of a name that has no position
-pub none_pinned : (lent items : List Slot) (ps : Positions) (q : List ℕ) (h : History) (is : List Value) → T (have_positions 0 (arrays_by pins_in items) ps) → lent ≡ items → Unknown lent ps q → history_of items ≡ h
+pub none_pinned : (lent items : List Slot) (ps : Positions) (q : List ℕ) (h : Bindings) (is : List Value) → T (have_positions 0 (arrays_by pins_in items) ps) → lent ≡ items → Unknown lent ps q → history_of items ≡ h
     → IsTrue (is_pinned h (record { name = q; indices = is })) → ⊥
 none_pinned lent items ps q h is placed same unknown view pinned =
     none_in_none (subst (λ a. IsTrue (has_indices a is)) (missing_in pins_in items ps q h.pins placed (subst (λ l. Unknown l ps q) same unknown) (ap (λ h. h.pins) view)) pinned)
@@ -157,14 +157,14 @@ none_pinned lent items ps q h is placed same unknown view pinned =
     none_in_none h = cc
 
 -- what they are where a slot keeps its arrays
-pub kept_here : (items : List Slot) (at : ℕ) (q : List ℕ) (x y : Slot) (h : History) → name_in items at ≡ Some q → x ≡ get_or items at x → y.name ≡ x.name → pins_in y ≡ pins_in x → history_of items ≡ h → y.values ≡ x.values → history_of (slice_set items at y) ≡ h
+pub kept_here : (items : List Slot) (at : ℕ) (q : List ℕ) (x y : Slot) (h : Bindings) → name_in items at ≡ Some q → x ≡ get_or items at x → y.name ≡ x.name → pins_in y ≡ pins_in x → history_of items ≡ h → y.values ≡ x.values → history_of (slice_set items at y) ≡ h
 kept_here items at q x y h name there same kept view e = λ i. record {
   pins = unwritten pins_in items at q x y h.pins name there same kept (ap (λ h. h.pins) view) i;
   assigned = unwritten values_in items at q x y h.assigned name there same e (ap (λ h. h.assigned) view) i;
 }
 
 -- where one gets a value
-pub assigned_here : (items : List Slot) (ps : Positions) (at : ℕ) (q : List ℕ) (x y : Slot) (h : History) (is : List Value) (v : Value) → T (have_positions 0 (arrays_by pins_in items) ps) → T (have_positions 0 (arrays_by values_in items) ps) → name_in items at ≡ Some q
+pub assigned_here : (items : List Slot) (ps : Positions) (at : ℕ) (q : List ℕ) (x y : Slot) (h : Bindings) (is : List Value) (v : Value) → T (have_positions 0 (arrays_by pins_in items) ps) → T (have_positions 0 (arrays_by values_in items) ps) → name_in items at ≡ Some q
     → x ≡ get_or items at x → y.name ≡ x.name → pins_in y ≡ pins_in x → history_of items ≡ h → y.values ≡ with_unpinned (pins_in x) is v x.values → history_of (slice_set items at y) ≡ assign h (record { name = q; indices = is }) v
 assigned_here items ps at q x y h is v placed placed_too name there same kept view e =
     by_pin (has_indices (pins_in x) is) e
@@ -179,7 +179,7 @@ assigned_here items ps at q x y h is v placed placed_too name there same kept vi
     }
 
 -- and where one with the value is put behind the others
-pub assigned_behind : (items new : List Slot) (ps : Positions) (y : Slot) (q : List ℕ) (h : History) (is : List Value) (v : Value) → y.name ≡ q → pins_in y ≡ [] → y.values ≡ (is, v) ∷ [] → T (have_positions 0 (arrays_by pins_in items) ps) → T (have_positions 0 (arrays_by values_in items) ps)
+pub assigned_behind : (items new : List Slot) (ps : Positions) (y : Slot) (q : List ℕ) (h : Bindings) (is : List Value) (v : Value) → y.name ≡ q → pins_in y ≡ [] → y.values ≡ (is, v) ∷ [] → T (have_positions 0 (arrays_by pins_in items) ps) → T (have_positions 0 (arrays_by values_in items) ps)
     → Unknown items ps q → history_of items ≡ h → new ≡ items ++ y ∷ [] → history_of new ≡ assign h (record { name = q; indices = is }) v
 assigned_behind items new ps y q h is v same none one placed placed_too unknown view e =
     let here = subst (Unknown items ps) (sym same) unknown in
@@ -192,7 +192,7 @@ assigned_behind items new ps y q h is v same none one placed placed_too unknown 
     ∙ ap (λ a. if has_indices a is then h else record { pins = h.pins; assigned = with_value (record { name = y.name; indices = is }) v h.assigned }) (sym (missing_in pins_in items ps y.name h.pins placed here (ap (λ h. h.pins) view))))
 
 -- what they are where a slot gets a pin
-pub pinned_here : (items : List Slot) (ps : Positions) (at : ℕ) (q : List ℕ) (x y : Slot) (h : History) (is : List Value) (v : Value) → T (have_positions 0 (arrays_by pins_in items) ps) → T (have_positions 0 (arrays_by values_in items) ps) → name_in items at ≡ Some q
+pub pinned_here : (items : List Slot) (ps : Positions) (at : ℕ) (q : List ℕ) (x y : Slot) (h : Bindings) (is : List Value) (v : Value) → T (have_positions 0 (arrays_by pins_in items) ps) → T (have_positions 0 (arrays_by values_in items) ps) → name_in items at ≡ Some q
     → x ≡ get_or items at x → y.name ≡ x.name → y.values ≡ [] → history_of items ≡ h → pins_in y ≡ put values_cmp is v (pins_in x)
     → history_of (slice_set items at y) ≡ unset (record { pins = with_value (record { name = q; indices = is }) v h.pins; assigned = h.assigned }) q
 pinned_here items ps at q x y h is v placed placed_too name there same none view e = λ i. record {
@@ -201,7 +201,7 @@ pinned_here items ps at q x y h is v placed placed_too name there same none view
 }
 
 -- and where one with the pin is put behind the others
-pub pinned_behind : (items new : List Slot) (ps : Positions) (y : Slot) (q : List ℕ) (h : History) (is : List Value) (v : Value) → y.name ≡ q → pins_in y ≡ (is, v) ∷ [] → y.values ≡ [] → T (have_positions 0 (arrays_by pins_in items) ps) → T (have_positions 0 (arrays_by values_in items) ps)
+pub pinned_behind : (items new : List Slot) (ps : Positions) (y : Slot) (q : List ℕ) (h : Bindings) (is : List Value) (v : Value) → y.name ≡ q → pins_in y ≡ (is, v) ∷ [] → y.values ≡ [] → T (have_positions 0 (arrays_by pins_in items) ps) → T (have_positions 0 (arrays_by values_in items) ps)
     → Unknown items ps q → history_of items ≡ h → new ≡ items ++ y ∷ []
     → history_of new ≡ unset (record { pins = with_value (record { name = q; indices = is }) v h.pins; assigned = h.assigned }) q
 pinned_behind items new ps y q h is v same one none placed placed_too unknown view e =

@@ -6,7 +6,7 @@ ghost use Rattle.std.specs.Option.{option_copied, unwrap_or};
 ghost use Rattle.std.specs.FinMap.{find, put};
 ghost use Rattle.ctd_store.specs.calls.Index.{indices_at, indices_of};
 ghost use Rattle.ctd_store.specs.calls.ValueRef.{value_of_ref};
-ghost use Rattle.ctd_store.specs.calls.Places.{placed, listed};
+ghost use Rattle.ctd_store.specs.calls.Places.{place_entries, listed};
 ghost use Rattle.ctd_store.specs.inner.Reading.{visible_entries};
 ghost use Rattle.ctd_store.specs.Order.{values_cmp, same_value};
 ghost use Rattle.ctd_store.specs.calls.Showing.{entry};
@@ -40,11 +40,11 @@ impl Model for Array {
     ghost use Rattle.ctd_store.specs.Order.{values_cmp};
     ghost use Rattle.ctd_store.specs.Store.{Array};
     ghost use Rattle.ctd_store.specs.calls.Store.{by_indices};
-    ghost use Rattle.ctd_store.specs.calls.Places.{placed, listed};
+    ghost use Rattle.ctd_store.specs.calls.Places.{place_entries, listed};
 
     ghost Value = { Array };
 
-    ghost view = { λ a. by_indices (placed a.places ++ listed a.rest.entries) };
+    ghost view = { λ a. by_indices (place_entries a.places ++ listed a.rest.entries) };
 
     ghost invariant = { λ a. find values_cmp [] (listed a.rest.entries) ≡ None };
 }
@@ -240,7 +240,7 @@ fn add_rest<'s>(
     places: &Places,
     entries: &mut Vec<EntryRef<'s>>,
 ) -> Result<(), AllocError>
-    ensures added { OnOk result (map entry entries.new.items ≡ map entry entries.old.items ++ visible_entries (placed places.now) (first_of_each (listed rest.now.entries))) }
+    ensures added { OnOk result (map entry entries.new.items ≡ map entry entries.old.items ++ visible_entries (place_entries places.now) (first_of_each (listed rest.now.entries))) }
 {
     for (indices, value) in rest {
         add_beside(places, indices.as_slice(), value, entries)?;
@@ -255,7 +255,7 @@ fn add_beside<'s>(
     value: &'s Value,
     entries: &mut Vec<EntryRef<'s>>,
 ) -> Result<(), AllocError>
-    ensures added { OnOk result (map entry entries.new.items ≡ map entry entries.old.items ++ visible_entries (placed places.now) ((indices.now, value.now) ∷ [])) }
+    ensures added { OnOk result (map entry entries.new.items ≡ map entry entries.old.items ++ visible_entries (place_entries places.now) ((indices.now, value.now) ∷ [])) }
 {
     if places.get(indices).is_some() {
         return Ok(());
@@ -265,10 +265,7 @@ fn add_beside<'s>(
 
 /// The value at an index list in a map. Out of line: keeps the caller small.
 #[inline(never)]
-fn value_in_rest<'a>(
-    rest: &'a IndexMap<Vec<Value>, Value>,
-    indices: &[Value],
-) -> Option<&'a Value>
+fn value_in_rest<'a>(rest: &'a IndexMap<Vec<Value>, Value>, indices: &[Value]) -> Option<&'a Value>
     ensures value { option_copied result ≡ find values_cmp indices.now (listed rest.now.entries) }
 {
     rest.get(indices)
@@ -276,7 +273,7 @@ fn value_in_rest<'a>(
 
 /// Whether a value stands in a map, at an index list that has no place. Allocates nothing.
 fn rest_has_value(rest: &IndexMap<Vec<Value>, Value>, places: &Places, value: ValueRef<'_>) -> bool
-    ensures value { result ≡ list_any (λ e. same_value (value_of_ref value.entry) e.1) (visible_entries (placed places.now) (first_of_each (listed rest.now.entries))) }
+    ensures value { result ≡ list_any (λ e. same_value (value_of_ref value.entry) e.1) (visible_entries (place_entries places.now) (first_of_each (listed rest.now.entries))) }
 {
     for (indices, stored) in rest {
         if value.is_same(stored) && places.get(indices.as_slice()).is_none() {

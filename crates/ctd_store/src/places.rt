@@ -8,7 +8,7 @@ ghost use Rattle.ctd_store.specs.calls.Index.{indices_at};
 ghost use Rattle.ctd_store.specs.calls.Showing.{entry};
 ghost use Rattle.ctd_store.specs.calls.Store.{numbered};
 ghost use Rattle.ctd_store.specs.calls.ValueRef.{value_of_ref};
-ghost use Rattle.ctd_store.specs.calls.Places.{placed, scalar_entry};
+ghost use Rattle.ctd_store.specs.calls.Places.{place_entries, scalar_entry};
 ghost use Rattle.ctd_store.specs.inner.Reading.{ReadsAs};
 ghost use Rattle.ctd_store.specs.Order.{values_cmp, same_value};
 
@@ -35,7 +35,7 @@ pub(crate) struct Places {
 impl Places {
     /// No values; takes no memory.
     pub(crate) fn new(alloc: Global) -> Places
-        ensures empty { placed result ≡ [] }
+        ensures empty { place_entries result ≡ [] }
     {
         Places {
             scalar: None,
@@ -47,7 +47,7 @@ impl Places {
     /// The value at an index whose numbers stand as such. `None` means: take the general path. Allocates nothing.
     #[inline(always)]
     pub(crate) fn at(&self, index: Index<'_>) -> Option<&Value>
-        ensures value { IfSome result (λ value. find values_cmp (indices_at index.entry) (placed self.now) ≡ Some value.now) }
+        ensures value { IfSome result (λ value. find values_cmp (indices_at index.entry) (place_entries self.now) ≡ Some value.now) }
     {
         match index {
             Index::Scalar => self.scalar.as_ref(),
@@ -59,7 +59,7 @@ impl Places {
 
     /// The value at an index list. Allocates nothing.
     pub(crate) fn get(&self, indices: &[Value]) -> Option<&Value>
-        ensures value { option_copied result ≡ find values_cmp indices.now (placed self.now) }
+        ensures value { option_copied result ≡ find values_cmp indices.now (place_entries self.now) }
     {
         match indices {
             [] => self.scalar.as_ref(),
@@ -71,7 +71,7 @@ impl Places {
 
     /// The row, where there is nothing else.
     pub(crate) fn row_alone(&self) -> Option<Row<'_>>
-        ensures value { IfSome result (λ row. placed self.now ≡ numbered [] row.base row.values.now) }
+        ensures value { IfSome result (λ row. place_entries self.now ≡ numbered [] row.base row.values.now) }
     {
         if self.scalar.is_some() {
             return None;
@@ -94,9 +94,9 @@ impl Places {
         index: Index<'_>,
         value: ValueRef<'_>,
     ) -> Result<bool, AllocError>
-        ensures done { result ≡ Ok true → ReadsAs (placed self.new) ((indices_at index.entry, value_of_ref value.entry) ∷ placed self.old) }
-        ensures stays { result ≡ Ok false → placed self.new ≡ placed self.old }
-        ensures err { OnErr result (placed self.new ≡ placed self.old) }
+        ensures done { result ≡ Ok true → ReadsAs (place_entries self.new) ((indices_at index.entry, value_of_ref value.entry) ∷ place_entries self.old) }
+        ensures stays { result ≡ Ok false → place_entries self.new ≡ place_entries self.old }
+        ensures err { OnErr result (place_entries self.new ≡ place_entries self.old) }
     {
         match index {
             Index::Scalar => write_scalar(alloc, &mut self.scalar, value),
@@ -114,11 +114,11 @@ impl Places {
         indices: &[Value],
         value: ValueRef<'_>,
     ) -> Result<bool, AllocError>
-        ensures done { result ≡ Ok true → ReadsAs (placed self.new) ((indices.now, value_of_ref value.entry) ∷ placed self.old) }
-        ensures stays { result ≡ Ok false → placed self.new ≡ placed self.old }
-        ensures elsewhere { result ≡ Ok false → find values_cmp indices.now (placed self.old) ≡ None }
+        ensures done { result ≡ Ok true → ReadsAs (place_entries self.new) ((indices.now, value_of_ref value.entry) ∷ place_entries self.old) }
+        ensures stays { result ≡ Ok false → place_entries self.new ≡ place_entries self.old }
+        ensures elsewhere { result ≡ Ok false → find values_cmp indices.now (place_entries self.old) ≡ None }
         ensures indexed { result ≡ Ok false → indices.now ≢ [] }
-        ensures err { OnErr result (placed self.new ≡ placed self.old) }
+        ensures err { OnErr result (place_entries self.new ≡ place_entries self.old) }
     {
         match indices {
             [] => {
@@ -133,7 +133,7 @@ impl Places {
 
     /// Removes all values; a short row keeps its room for the next ones.
     pub(crate) fn clear(&mut self)
-        ensures empty { placed self.new ≡ [] }
+        ensures empty { place_entries self.new ≡ [] }
     {
         drop(replace(&mut self.scalar, None));
         self.row.clear();
@@ -145,7 +145,7 @@ impl Places {
         &'s self,
         entries: &mut Vec<EntryRef<'s>>,
     ) -> Result<(), AllocError>
-        ensures added { OnOk result (map entry entries.new.items ≡ map entry entries.old.items ++ placed self.now) }
+        ensures added { OnOk result (map entry entries.new.items ≡ map entry entries.old.items ++ place_entries self.now) }
     {
         add_scalar(&self.scalar, entries)?;
         self.row.add_entries(None, entries)?;
@@ -154,7 +154,7 @@ impl Places {
 
     /// Whether a value is among these. Allocates nothing.
     pub(crate) fn has_value(&self, value: ValueRef<'_>) -> bool
-        ensures value { result ≡ list_any (λ e. same_value (value_of_ref value.entry) e.1) (placed self.now) }
+        ensures value { result ≡ list_any (λ e. same_value (value_of_ref value.entry) e.1) (place_entries self.now) }
     {
         if is_scalar(&self.scalar, value) {
             return true;

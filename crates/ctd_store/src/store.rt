@@ -19,7 +19,7 @@ use crate::positions::Positions;
 use crate::slot::Slot;
 use crate::value::{Key, Value};
 use crate::value_ref::ValueRef;
-use ctd_program::{Literal, Preset, Presets};
+use ctd_program::{Preset, PresetValue, Presets};
 use ctd_token::Name;
 use std::alloc::{AllocError, Global};
 use std::marker::Model;
@@ -36,10 +36,10 @@ pub struct Store {
 impl Model for Store {
     ghost use Rattle.std.specs.Prelude.{T};
     ghost use Rattle.ctd_store.specs.calls.Slot.{arrays_by, pins_in, values_in};
-    ghost use Rattle.ctd_store.specs.Store.{History};
+    ghost use Rattle.ctd_store.specs.Store.{Bindings};
     ghost use Rattle.ctd_store.specs.calls.Store.{in_order, have_positions};
 
-    ghost Value = { History };
+    ghost Value = { Bindings };
 
     ghost view = { λ s. record { pins = in_order (arrays_by pins_in s.slots.items); assigned = in_order (arrays_by values_in s.slots.items) } };
 
@@ -348,17 +348,17 @@ fn add_slot(
 }
 
 /// The value that a literal is, where it stands.
-fn literal_ref(literal: &Literal) -> ValueRef<'_>
+fn literal_ref(literal: &PresetValue) -> ValueRef<'_>
     ensures value { value_of_ref result ≡ value_of literal.now }
 {
     match literal {
-        Literal::Int(n) => ValueRef::Int(*n),
-        Literal::Text(bytes) => ValueRef::Text(bytes.as_slice()),
+        PresetValue::Int(n) => ValueRef::Int(*n),
+        PresetValue::Text(bytes) => ValueRef::Text(bytes.as_slice()),
     }
 }
 
 /// The values that literals are.
-fn literal_values(alloc: Global, literals: &[Literal]) -> Result<Vec<Value>, AllocError>
+fn literal_values(alloc: Global, literals: &[PresetValue]) -> Result<Vec<Value>, AllocError>
     ensures values { IfOk result (λ values. values.items ≡ map value_of literals.now) }
 {
     let mut values = Vec::new(alloc);

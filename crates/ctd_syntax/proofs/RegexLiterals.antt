@@ -9,8 +9,8 @@ use Rattle.ctd_syntax.specs.declared.keyword.Keyword.TheVariants as words
 use Rattle.ctd_syntax.specs.Lexeme.{Lexeme, mark, keyword}
 use Rattle.ctd_syntax.specs.Grammar
 use Rattle.ctd_syntax.specs.Grammar.{IsTargetEnd, IsCommand, IsRepeated, IsBranches, IsCommands}
-use Rattle.ctd_syntax.specs.RegexNumbers.{pattern_literals}
-use Rattle.ctd_syntax.specs.calls.RegexNumbers.{command_literals, separator_literals, literals}
+use Rattle.ctd_syntax.specs.PatternLiterals.{pattern_literals}
+use Rattle.ctd_syntax.specs.calls.PatternLiterals.{command_literals, separator_literals, literals}
 use Rattle.ctd_syntax.proofs.Balanced.{Balanced, word_number, token_number, expr_balanced, variable_balanced, names_balanced, test_balanced, assignments_balanced, target_balanced}
 
 -- no literal is among these tokens, whatever follows

@@ -11,7 +11,7 @@ use Rattle.ctd_syntax.specs.Lexeme.{Lexeme, mark, keyword, lexeme_of, with_numbe
 use Rattle.ctd_program.specs.Tree.{VarTree, CommandTree, CommandList, Separator}
 use Rattle.ctd_syntax.specs.Grammar
 use Rattle.ctd_syntax.specs.Grammar.{IsTargetEnd, IsCommand, IsRepeated, IsBranches, IsCommands}
-use Rattle.ctd_syntax.specs.calls.RegexNumbers.{IsNumbered, command_literals, literals, numbers_of, separator_literals}
+use Rattle.ctd_syntax.specs.calls.PatternLiterals.{IsNumbered, command_literals, literals, numbers_of, separator_literals}
 use Rattle.ctd_syntax.specs.Reading.{Reads, lexemes, lexemes_from}
 use Rattle.ctd_syntax.proofs.Balanced.{Balanced, word_number, token_number, expr_balanced, variable_balanced, names_balanced, test_balanced, assignments_balanced, target_balanced}
 

@@ -2,7 +2,7 @@
 pub mod Lexeme
 pub mod Grammar
 pub mod Nesting
-pub mod RegexNumbers
+pub mod PatternLiterals
 pub mod Reading
 -- what else the contracts of public calls say
 pub mod calls

@@ -1,3 +1,3 @@
 -- What else the contracts of public calls say.
-pub mod RegexNumbers
+pub mod PatternLiterals
 pub mod Reading

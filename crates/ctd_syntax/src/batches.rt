@@ -3,7 +3,7 @@
 ghost use Rattle.std.specs.Prelude.{◌≡◌, ◌<◌, [], None, length, map, true, IfOk, IfErr, IfSome, IsErrAnd, OnOk};
 ghost use Rattle.ctd_token.specs.calls.Lexing.{IsLexFault};
 ghost use Rattle.ctd_syntax.specs.inner.Front.{lexeme};
-ghost use Rattle.ctd_syntax.specs.calls.RegexNumbers.{IsNumbered};
+ghost use Rattle.ctd_syntax.specs.calls.PatternLiterals.{IsNumbered};
 ghost use Rattle.ctd_syntax.specs.Reading.{Parses};
 ghost use Rattle.ctd_syntax.specs.inner.Batches.{ReadsOff};
 ghost use Rattle.ctd_program.specs.calls.View.{command_trees};

@@ -2,7 +2,7 @@
 
 ghost use Rattle.std.specs.Prelude.{◌≡◌, ◌≤◌, ◌<◌, None, length, map, IfOk, IfErr, IsErrAnd};
 ghost use Rattle.ctd_syntax.specs.inner.Front.{lexeme, AreLexemes, NestsTooDeep, SpellsNone};
-ghost use Rattle.ctd_syntax.specs.calls.RegexNumbers.{IsNumbered};
+ghost use Rattle.ctd_syntax.specs.calls.PatternLiterals.{IsNumbered};
 ghost use Rattle.ctd_syntax.specs.calls.Reading.{IsFault};
 ghost use Rattle.ctd_syntax.specs.Reading.{Parses};
 ghost use Rattle.ctd_program.specs.calls.View.{command_trees};

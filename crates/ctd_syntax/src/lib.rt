@@ -17,8 +17,8 @@ mod target;
 
 pub use ctd_program::{
     Action, Assignment, Assignments, Choice, Command, Commands, Compare, Element, Expr, Exprs,
-    IntArguments, Literal, Literals, Loop, LoopGuard, Names, Numeral, PatternLiteral, Preset,
-    PresetFault, Presets, Program, RegexArguments, Test, Var,
+    IntArguments, Literals, Loop, LoopGuard, Names, Numeral, PatternLiteral, Preset, PresetFault,
+    PresetValue, Presets, Program, RegexArguments, Test, Var,
 };
 pub use ctd_token::{
     Bytes, LoadFault, LoadKind, Mark, NESTING_LIMIT, Name, PROGRAM_LIMIT, Place, Token, TokenKind,

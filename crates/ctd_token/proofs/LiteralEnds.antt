@@ -5,8 +5,8 @@ use Rattle.std.specs.List.{prefix_len}
 use Rattle.std.proofs.lemmas.List.{take-append-le, take-append-drop}
 use Rattle.std.proofs.lemmas.Bool.{cases_lt}
 use Rattle.std.proofs.lemmas.List.Sums.{prefix_len-le-length}
-use Rattle.ctd_token.specs.Literal.{literal_part, is_octal, octal_len, octal, octal_escape, escape, after_backslash, part_at, WholeLiteral, one_later, with_part, literal}
-use Rattle.ctd_token.specs.inner.Literal.{closing_quote}
+use Rattle.ctd_token.specs.StringLiteral.{literal_part, is_octal, octal_len, octal, octal_escape, escape, after_backslash, part_at, WholeLiteral, one_later, with_part, literal}
+use Rattle.ctd_token.specs.inner.StringLiteral.{closing_quote}
 
 -- what stands behind a prefix does not change the row at its front, unless the row is the whole prefix
 row_by : (b : Bool) (more less : ℕ) (k : ℕ) → (less < k → more ≡ less) → (k ≤ less → less ≤ more) → cond b (1 + less) 0 < suc k → cond b (1 + more) 0 ≡ cond b (1 + less) 0

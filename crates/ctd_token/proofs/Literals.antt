@@ -7,8 +7,8 @@ use Rattle.std.proofs.lemmas.List.Sums.{prefix_len-le-length}
 use Rattle.std.proofs.lemmas.Bool.{le-ltb, lt-ltb}
 use Rattle.ctd_token.specs.declared.fault.LoadKind.TheVariants.{UnfinishedString, BadOctal}
 use Rattle.ctd_token.specs.declared.token.TokenKind.TheVariants as tokens
-use Rattle.ctd_token.specs.Literal.{LiteralPart, literal_part, after_backslash, part_at, WholeLiteral, one_later, with_part, literal}
-use Rattle.ctd_token.specs.inner.Literal.{closing_quote, is_plain}
+use Rattle.ctd_token.specs.StringLiteral.{LiteralPart, literal_part, after_backslash, part_at, WholeLiteral, one_later, with_part, literal}
+use Rattle.ctd_token.specs.inner.StringLiteral.{closing_quote, is_plain}
 use Rattle.ctd_token.specs.Cut.{TokenOrFault, text_at}
 use Rattle.ctd_token.specs.calls.Scanning.{wrong}
 use Rattle.ctd_token.specs.inner.Scanning.{closed_text}

@@ -10,9 +10,9 @@ use Rattle.ctd_token.specs.declared.fault.LoadKind.TheVariants.{BadByte, NotInPr
 use Rattle.ctd_token.specs.declared.token.TokenKind.{TokenKind}
 use Rattle.ctd_token.specs.declared.token.TokenKind.TheVariants as tokens
 use Rattle.ctd_token.specs.declared.token.Mark.{Mark}
-use Rattle.ctd_token.specs.Literal.{WholeLiteral, literal}
+use Rattle.ctd_token.specs.StringLiteral.{WholeLiteral, literal}
 use Rattle.std.specs.Char.{is_ascii_uppercase, is_ascii_lowercase, is_ascii_digit}
-use Rattle.ctd_token.specs.Cut.{TokenOrFault, at_first_byte, is_left_out_word, word_at, name_len, decimal, has_leading_zero, fraction_begins, numeral_at, single_mark, double_mark, mark_at, text_at, token_at}
+use Rattle.ctd_token.specs.Cut.{TokenOrFault, at_first_byte, is_left_out_word, word_at, name_len, digits_value, has_leading_zero, fraction_begins, numeral_at, single_mark, double_mark, mark_at, text_at, token_at}
 use Rattle.ctd_token.specs.inner.Scanning.{mark_or, closed_text}
 use Rattle.ctd_token.specs.calls.Form.{Form, word, name, numeral, text, mark, form_of, mark_of, IsLiteral, IsRow, HasForm, IsLongestPrefix}
 use Rattle.ctd_token.proofs.LiteralEnds.{closes_within, literal-append, literal-take}
@@ -200,7 +200,7 @@ digit_or_more : (b : ℕ) (bs : List ℕ) (k : TokenKind) (n : ℕ) (digit : Boo
     → cond digit (at_first_byte (numeral_at (prefix_len is_ascii_digit (b ∷ bs)) (b ∷ bs))) (cond (nat_eq b 34) (text_at (literal 0 bs)) (at_first_byte (mark_at b bs))) ≡ a_token k n → IsLongestPrefix (form_of k) n (b ∷ bs)
 digit_or_more b bs k n true is e =
     let digits = take (prefix_len is_ascii_digit (b ∷ bs)) (b ∷ bs) in
-    numeral_found b bs k n (decimal digits) is (has_leading_zero digits || fraction_begins (drop (prefix_len is_ascii_digit (b ∷ bs)) (b ∷ bs))) (nat_le (2 ^ 127) (decimal digits)) e
+    numeral_found b bs k n (digits_value digits) is (has_leading_zero digits || fraction_begins (drop (prefix_len is_ascii_digit (b ∷ bs)) (b ∷ bs))) (nat_le (2 ^ 127) (digits_value digits)) e
 digit_or_more b bs k n false is e = quote_or_mark b bs k n (nat_eq b 34) refl e
 
 lower_or_more : (b : ℕ) (bs : List ℕ) (k : TokenKind) (n : ℕ) (lower : Bool) → is_ascii_lowercase b ≡ lower

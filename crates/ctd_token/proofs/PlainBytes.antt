@@ -4,7 +4,7 @@ use Rattle.std.specs.Prelude.{unwrap_or}
 use Rattle.std.specs.List.{prefix_len}
 use Rattle.std.proofs.lemmas.List.Sums.{prefix_len_is}
 use Rattle.memchr.specs.Find.{is_byte2, IsFirstByte}
-use Rattle.ctd_token.specs.inner.Literal.{is_plain}
+use Rattle.ctd_token.specs.inner.StringLiteral.{is_plain}
 
 plain_byte : (b : ℕ) → ¬ (is_byte2 34 92 b ≡ true) → is_plain b ≡ true
 plain_byte b other = grind arith

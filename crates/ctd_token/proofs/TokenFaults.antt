@@ -9,9 +9,9 @@ use Rattle.ctd_token.specs.declared.token.TokenKind.TheVariants as tokens
 use Rattle.ctd_token.specs.declared.token.Token.{Token}
 use Rattle.ctd_token.specs.declared.fault.LoadKind.{LoadKind}
 use Rattle.ctd_token.specs.declared.fault.LoadKind.TheVariants.{ProgramTooLong, BadByte, UnfinishedString, BadOctal, NumberTooLarge, NotInProfile, TooDeep, Syntax, BadPattern, Read, Memory}
-use Rattle.ctd_token.specs.Literal.{WholeLiteral, literal}
+use Rattle.ctd_token.specs.StringLiteral.{WholeLiteral, literal}
 use Rattle.std.specs.Char.{is_ascii_uppercase, is_ascii_lowercase, is_ascii_digit}
-use Rattle.ctd_token.specs.Cut.{Judgement, TokenOrFault, at_first_byte, is_left_out_word, word_at, name_len, decimal, has_leading_zero, fraction_begins, numeral_at, mark_at, single_mark, double_mark, text_at, skip_gap, token_at, next_token, place_at}
+use Rattle.ctd_token.specs.Cut.{Judgement, TokenOrFault, at_first_byte, is_left_out_word, word_at, name_len, digits_value, has_leading_zero, fraction_begins, numeral_at, mark_at, single_mark, double_mark, text_at, skip_gap, token_at, next_token, place_at}
 use Rattle.ctd_token.specs.calls.Scanning.{wrong}
 use Rattle.ctd_token.specs.inner.Scanning.{mark_or, closed_text}
 use Rattle.ctd_token.specs.calls.Lexing.{Uncut, left, IsNextFault, IsLexFault}
@@ -81,9 +81,9 @@ numeral_well : (b : ℕ) (bs : List ℕ) → is_ascii_digit b ≡ true → Judge
 numeral_well b bs is =
     let n : ℕ = prefix_len is_ascii_digit (b ∷ bs) in
     let digits : List ℕ = take n (b ∷ bs) in
-    let fits : Judgement = Ok (tokens.Numeral (pos (decimal digits)), n) in
-    let judged : Judgement = cond (nat_le (2 ^ 127) (decimal digits)) (Err NumberTooLarge) fits in
-    judged_if (has_leading_zero digits || fraction_begins (drop n (b ∷ bs))) (Err NotInProfile) judged tt (judged_if (nat_le (2 ^ 127) (decimal digits)) (Err NumberTooLarge) fits tt (run_some is_ascii_digit b bs is))
+    let fits : Judgement = Ok (tokens.Numeral (pos (digits_value digits)), n) in
+    let judged : Judgement = cond (nat_le (2 ^ 127) (digits_value digits)) (Err NumberTooLarge) fits in
+    judged_if (has_leading_zero digits || fraction_begins (drop n (b ∷ bs))) (Err NotInProfile) judged tt (judged_if (nat_le (2 ^ 127) (digits_value digits)) (Err NumberTooLarge) fits tt (run_some is_ascii_digit b bs is))
 
 pub token_well : (bytes : List ℕ) → FoundWell (token_at bytes)
 token_well [] = tt

@@ -12,7 +12,7 @@ use Rattle.ctd_token.specs.declared.fault.LoadKind.{LoadKind}
 use Rattle.ctd_token.specs.declared.fault.LoadKind.TheVariants.{BadByte, UnfinishedString, BadOctal, NumberTooLarge, NotInProfile}
 use Rattle.ctd_token.specs.declared.token.Mark.{Mark}
 use Rattle.ctd_token.specs.declared.token.Mark.TheVariants.{Open, Close, OpenIndex, CloseIndex, Comma, Assign, Plus, Minus, Times, Divide, Percent, Caret, Bang, Less, Greater, AtMost, AtLeast, Equal, Unequal, AndAnd, OrOr}
-use Rattle.ctd_token.specs.Literal.{WholeLiteral, literal}
+use Rattle.ctd_token.specs.StringLiteral.{WholeLiteral, literal}
 
 -- the place of an offset of a text: 1 plus the line feeds before it, and 1 plus the bytes since the last of them
 abbrev pub place_at : List ℕ → ℕ → Place
@@ -78,9 +78,9 @@ abbrev pub name_len : List ℕ → ℕ
 name_len bytes = prefix_len (λ b. is_ascii_lowercase b || is_ascii_digit b) bytes
 
 -- the number that digits spell: the sum of the digits times powers of ten
-abbrev pub decimal : List ℕ → ℕ
-decimal [] = 0
-decimal (b ∷ bs) = (b - 48) * 10 ^ length bs + decimal bs
+abbrev pub digits_value : List ℕ → ℕ
+digits_value [] = 0
+digits_value (b ∷ bs) = (b - 48) * 10 ^ length bs + digits_value bs
 
 -- two or more digits, of which the first is `0`
 abbrev pub has_leading_zero : List ℕ → Bool
@@ -95,8 +95,8 @@ fraction_begins (b ∷ bs) = nat_eq b 46 || nat_eq b 101 || nat_eq b 69
 abbrev pub numeral_at : ℕ → List ℕ → Judgement
 numeral_at n bytes =
     if has_leading_zero (take n bytes) || fraction_begins (drop n bytes) then Err NotInProfile
-    else if nat_le (2 ^ 127) (decimal (take n bytes)) then Err NumberTooLarge
-    else Ok (tokens.Numeral (pos (decimal (take n bytes))), n)
+    else if nat_le (2 ^ 127) (digits_value (take n bytes)) then Err NumberTooLarge
+    else Ok (tokens.Numeral (pos (digits_value (take n bytes))), n)
 
 -- a mark of two bytes, or else of one; any other byte begins no token
 abbrev pub mark_at : ℕ → List ℕ → Judgement

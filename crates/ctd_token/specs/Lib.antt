@@ -1,5 +1,5 @@
 -- what the theorem of the tool reaches: to be believed
-pub mod Literal
+pub mod StringLiteral
 pub mod Cut
 pub mod FaultText
 pub mod Lexing

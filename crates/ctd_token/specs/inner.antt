@@ -1,3 +1,3 @@
 -- What only the proofs of this crate use.
-pub mod Literal
+pub mod StringLiteral
 pub mod Scanning

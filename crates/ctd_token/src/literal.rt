@@ -2,8 +2,8 @@
 
 ghost use Rattle.std.specs.Prelude.{◌≡◌, ◌+◌, ◌<◌, ◌≤◌, drop, IfOk, IfErr, length, slice_index, option_to_list};
 ghost use Rattle.std.specs.List.{prefix_len};
-ghost use Rattle.ctd_token.specs.Literal.{is_octal, octal_escape, escape, after_backslash, literal};
-ghost use Rattle.ctd_token.specs.inner.Literal.{is_plain};
+ghost use Rattle.ctd_token.specs.StringLiteral.{is_octal, octal_escape, escape, after_backslash, literal};
+ghost use Rattle.ctd_token.specs.inner.StringLiteral.{is_plain};
 ghost use Rattle.ctd_token.specs.Cut.{text_at};
 ghost use Rattle.ctd_token.specs.calls.Scanning.{Scans, FaultWithin};
 

@@ -4,7 +4,7 @@
 ghost use Rattle.std.specs.Prelude.{◌≡◌, ◌≤◌, ◌<◌, ◌^◌, drop, take, false, true, slice_index, length, All, IfOk, IfErr, IfSome, MatchOption};
 ghost use Rattle.std.specs.List.{prefix_len};
 ghost use Rattle.std.specs.Char.{is_ascii_uppercase, is_ascii_digit};
-ghost use Rattle.ctd_token.specs.Cut.{is_whitespace, skip_gap, single_mark, double_mark, is_left_out_word, name_len, decimal, word_at, numeral_at, mark_at, token_at};
+ghost use Rattle.ctd_token.specs.Cut.{is_whitespace, skip_gap, single_mark, double_mark, is_left_out_word, name_len, digits_value, word_at, numeral_at, mark_at, token_at};
 ghost use Rattle.ctd_token.specs.calls.Scanning.{Scans, FaultWithin};
 ghost use Rattle.ctd_token.specs.inner.Scanning.{mark_judgement};
 
@@ -87,9 +87,9 @@ fn word_at(bytes: &[u8]) -> Result<(TokenKind, usize), LoadKind>
 }
 
 // The number that the digits spell, where it is below 2^127.
-fn decimal(digits: &[u8]) -> Option<u128>
+fn digits_value(digits: &[u8]) -> Option<u128>
     requires { All (λ b. is_ascii_digit b ≡ true) digits.now }
-    ensures { MatchOption result (2 ^ 127 ≤ decimal digits.now) (λ n. (n ≡ decimal digits.now) × (n < 2 ^ 127)) }
+    ensures { MatchOption result (2 ^ 127 ≤ digits_value digits.now) (λ n. (n ≡ digits_value digits.now) × (n < 2 ^ 127)) }
 {
     let mut value: u128 = 0;
     for b in digits {
@@ -116,7 +116,7 @@ fn numeral_at(bytes: &[u8]) -> Result<(TokenKind, usize), LoadKind>
     if fraction_begins || (n >= 2 && bytes[0] == b'0') {
         return Err(LoadKind::NotInProfile);
     }
-    match decimal(&bytes[..n]) {
+    match digits_value(&bytes[..n]) {
         Some(value) => Ok((TokenKind::Numeral(value as i128), n)),
         None => Err(LoadKind::NumberTooLarge),
     }

@@ -11,7 +11,7 @@ use Rattle.ctd_source.specs.declared.source.Source as sources
 use Rattle.ctd_source.specs.declared.limits.TheConstants.{WINDOW}
 use Rattle.ctd_source.specs.TestData.{TestData}
 use Rattle.ctd_source.specs.Agreement.{Agrees}
-use Rattle.ctd_source.specs.CursorCalls.{Gave}
+use Rattle.ctd_source.specs.SourceReads.{GaveBytes}
 use Rattle.ctd_token.specs.declared.fault.LoadFault.{LoadFault}
 use Rattle.ctd_token.specs.declared.limits.TheConstants.{PROGRAM_LIMIT}
 use Rattle.ctd_program.specs.Tree.{CommandList}
@@ -52,10 +52,10 @@ pub record ReportsRun (quiet : Bool) (given : ℕ) (report : Report) (m : Meanin
 pub record ReportsMeaning {P D : Type 0} {G : sources.Ghosts P} {H : sources.Ghosts D} (s : Setup) (program : Call G) (testdata : Call H) (report : Report) : Type 0 where
   pub tree : CommandList
   pub text : List ℕ
-  pub gave_text : Gave G program.old program.new text
+  pub gave_text : GaveBytes G program.old program.new text
   pub loads : Loads text (G.seen program.new) tree
   pub bytes : List ℕ
-  pub gave : Gave H testdata.old testdata.new bytes
+  pub gave : GaveBytes H testdata.old testdata.new bytes
   pub within : length bytes ≤ s.limits.bytes + 1
   pub means : (d : TestData) → d.limit ≡ s.limits.bytes → Agrees bytes (H.seen testdata.new) d → ReportsRun s.quiet (length bytes) report (meaning s.mode tree s.presets d s.limits.steps)
 
@@ -63,7 +63,7 @@ pub record ReportsMeaning {P D : Type 0} {G : sources.Ghosts P} {H : sources.Gho
 pub record ReportsFault {P D : Type 0} {G : sources.Ghosts P} {H : sources.Ghosts D} (program : Call G) (testdata : Call H) (report : Report) : Type 0 where
   pub fault : LoadFault
   pub text : List ℕ
-  pub gave_text : Gave G program.old program.new text
+  pub gave_text : GaveBytes G program.old program.new text
   pub within : length text ≤ PROGRAM_LIMIT + 1
   pub fails : MayFail text (G.seen program.new) fault
   pub untouched : testdata.new ≡ testdata.old

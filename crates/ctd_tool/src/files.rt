@@ -3,7 +3,7 @@
 ghost use Rattle.std.specs.Prelude.{◌≡◌, ◌≤◌, ◌^◌, Some, false, IfOk};
 ghost use Rattle.ctd_tool.specs.Theorem.{IsFilesReport, IsRunReport, Visits};
 ghost use Rattle.ctd_process.specs.Process.{StartsOn, visit};
-ghost use Rattle.ctd_report.specs.Written.{LeavesOneOf, before_after};
+ghost use Rattle.ctd_report.specs.Written.{WritesOneOf, before_after};
 
 use crate::tool::run_tool;
 use ctd_arguments::Setup;
@@ -54,7 +54,7 @@ fn run_on<R: Read + Drop, O: Sink, E: Sink>(
     requires bytes { setup.now.limits.bytes ≤ 2 ^ 62 }
     requires out_works { O.has_failed out.old ≡ false }
     requires err_works { E.has_failed err.old ≡ false }
-    ensures written { LeavesOneOf (before_after O.Sink out.old out.new) (before_after E.Sink err.old err.new)
+    ensures written { WritesOneOf (before_after O.Sink out.old out.new) (before_after E.Sink err.old err.new)
         (IsRunReport R.remaining ⟦<FromRead<BufReader<R>> as Source>⟧ setup.now program testdata result.sources) result.answer }
 {
     match sources_on(alloc, program, testdata) {
@@ -90,7 +90,7 @@ pub fn check_files<F: Files, O: Sink, E: Sink>(
     requires bytes { setup.now.limits.bytes ≤ 2 ^ 62 }
     requires out_works { O.has_failed out.old ≡ false }
     requires err_works { E.has_failed err.old ≡ false }
-    ensures written { LeavesOneOf (before_after O.Sink out.old out.new) (before_after E.Sink err.old err.new)
+    ensures written { WritesOneOf (before_after O.Sink out.old out.new) (before_after E.Sink err.old err.new)
         (IsFilesReport F.File.remaining ⟦<FromRead<BufReader<F::File>> as Source>⟧ setup.now
         (visit F.opens F.takes_input files.old files.new) result.sources) result.answer }
     // also where memory ran out

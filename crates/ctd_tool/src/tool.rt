@@ -1,11 +1,11 @@
 //! A program and data, read and checked, and the report of it.
 
 ghost use Rattle.std.specs.Prelude.{◌≡◌, ◌+◌, ◌≤◌, ◌^◌, false};
-ghost use Rattle.ctd_source.specs.CursorCalls.{GaveAtMost};
+ghost use Rattle.ctd_source.specs.SourceReads.{GaveAtMost};
 ghost use Rattle.ctd_source.specs.declared.source.Seen.TheVariants.{Going};
 ghost use Rattle.ctd_token.specs.declared.limits.TheConstants.{PROGRAM_LIMIT};
 ghost use Rattle.ctd_tool.specs.Theorem.{IsReport, call};
-ghost use Rattle.ctd_report.specs.Written.{LeavesOneOf, before_after};
+ghost use Rattle.ctd_report.specs.Written.{WritesOneOf, before_after};
 
 use ctd_arguments::Setup;
 use ctd_check::{LoadKind, Plan, Source, check};
@@ -30,7 +30,7 @@ pub fn run_tool<P: Source, D: Source, O: Sink, E: Sink>(
     requires bytes { setup.now.limits.bytes ≤ 2 ^ 62 }
     requires out_works { O.has_failed out.old ≡ false }
     requires err_works { E.has_failed err.old ≡ false }
-    ensures written { LeavesOneOf (before_after O.Sink out.old out.new) (before_after E.Sink err.old err.new)
+    ensures written { WritesOneOf (before_after O.Sink out.old out.new) (before_after E.Sink err.old err.new)
         (IsReport setup.now (call P.Source program.old program.new) (call D.Source testdata.old testdata.new)) result }
     // whatever it answers, of each source no more is read than its limit and one byte
     ensures reads_program { GaveAtMost P.Source (PROGRAM_LIMIT + 1) program.old program.new }

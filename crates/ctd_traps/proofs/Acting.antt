@@ -11,7 +11,7 @@ use Rattle.ctd_program.specs.declared.tree.Expr.{Expr}
 use Rattle.ctd_program.specs.calls.View.{expr_list, expr_tree, exprs_of, var_tree}
 use Rattle.ctd_store.specs.declared.value.Value.{Value}
 use Rattle.ctd_store.specs.declared.value.Value.TheVariants as values
-use Rattle.ctd_store.specs.Store.{History, Key, Variables, assign, unset}
+use Rattle.ctd_store.specs.Store.{Bindings, Key, Variables, assign, unset}
 use Rattle.ctd_store.proofs.StoreLaws.{assignment_keeps_pins}
 use Rattle.ctd_value.specs.Fault.{ValueFault, TruthFault, with_fault, ◌>>=◌}
 use Rattle.ctd_value.specs.Fault as faults
@@ -80,7 +80,7 @@ pub alone_assigns : (pinned known after : List Known) (name : List ℕ) (es : Li
 alone_assigns pinned known after name [] kinds f none alone pins n h v stand same each may = alone pins n h v stand same each may
 alone_assigns pinned known after name (e ∷ es) kinds f none alone pins n h v stand same each may = absurd (cc none)
 
-element_key : (after : List Known) (f : Faults) (n : ℕ) (h : History) (v : Value) (name : List ℕ) (r : Result Value ValueFault) (rs : Result (List Value) ValueFault) → FailsBy f (r >>= (λ i. rs >>= (λ is. Ok (i ∷ is)))) → ((i : Value) (is : List Value) → EachStands after n (assign h (at_key name (i ∷ is)) v))
+element_key : (after : List Known) (f : Faults) (n : ℕ) (h : Bindings) (v : Value) (name : List ℕ) (r : Result Value ValueFault) (rs : Result (List Value) ValueFault) → FailsBy f (r >>= (λ i. rs >>= (λ is. Ok (i ∷ is)))) → ((i : Value) (is : List Value) → EachStands after n (assign h (at_key name (i ∷ is)) v))
     → IsAssigned after f n h v ((r >>= (λ i. rs >>= (λ is. Ok (i ∷ is)))) >>= (λ is. Ok (record { name = name; indices = is })))
 element_key after f n h v name (Ok i) (Ok is) fails each = each i is
 element_key after f n h v name (Ok i) (Err why) fails each = fails
@@ -178,7 +178,7 @@ pub nothing_set : (pinned known : List Known) (f : Faults) → Acts pinned known
 nothing_set pinned known f pins d n s stand stays = stays
 
 -- UNSET
-fold_pins : (names : List (List ℕ)) (h : History) → (fold unset h names).pins ≡ h.pins
+fold_pins : (names : List (List ℕ)) (h : Bindings) → (fold unset h names).pins ≡ h.pins
 fold_pins [] h = refl
 fold_pins (name ∷ names) h = fold_pins names (unset h name)
 

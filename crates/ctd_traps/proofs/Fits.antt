@@ -11,7 +11,7 @@ use Rattle.ctd_source.specs.declared.limits.TheConstants.{WINDOW}
 use Rattle.ctd_program.specs.declared.mode.Mode.{Mode}
 use Rattle.ctd_program.specs.declared.mode.Mode.TheVariants.{Exact, BlanksOk}
 use Rattle.ctd_pattern.specs.Pattern.{length_at_start}
-use Rattle.ctd_store.specs.Store.{History}
+use Rattle.ctd_store.specs.Store.{Bindings}
 use Rattle.ctd_value.specs.Fault.{ValueFault, TruthFault, with_fault}
 use Rattle.ctd_value.specs.Fault as faults
 use Rattle.ctd_value.specs.inner.Truth.{is_end}
@@ -21,7 +21,7 @@ use Rattle.ctd_outcome.specs.declared.reason.Fault.{Fault}
 use Rattle.ctd_outcome.specs.declared.reason.Fault.TheVariants.{StepLimit, Read, DataTooLong, MatchTooLong}
 use Rattle.ctd_command.specs.State.{State, Effect, done, rejected, faulty, proceed, lift, return, reject, pass, stop, see_next, fault_of_value, fault_of_look}
 use Rattle.ctd_command.specs.Commands.{one_byte, eof, decide, integer, match_bytes}
-use Rattle.ctd_command.specs.Integer.{decimal, digits_of, in_interval, is_minus, judge, prefix_len_of, with_sign, is_zero_first}
+use Rattle.ctd_command.specs.Integer.{digits_value, digits_of, in_interval, is_minus, judge, prefix_len_of, with_sign, is_zero_first}
 use Rattle.ctd_command.specs.Blanks.{end, is_blank, newline, skip_blanks, some_blanks, space}
 use Rattle.ctd_command.specs.inner.Blanks.{blank_next, end_in, newline_in, space_in}
 use Rattle.ctd_command.specs.Regex.{leading_match, shorter_match}
@@ -94,7 +94,7 @@ weaker_fits f g P Q (rejected reason consumed) more weaker fits = tt
 weaker_fits f g P Q (faulty fault consumed) more weaker fits = λ why is. more why (fits why is)
 
 -- the variables are as they were
-abbrev pub Same : History → {A : Type 0} → A → State → Type 0
+abbrev pub Same : Bindings → {A : Type 0} → A → State → Type 0
 Same h x t = t.store ≡ h
 
 -- a look leaves all as it is
@@ -107,7 +107,7 @@ byte_fits : (f : Faults) (b : Bool) (reason : Reason) (d : TestData) (s : State)
 byte_fits f true reason d s = refl
 byte_fits f false reason d s = tt
 
-same_on : {A : Type 0} (f : Faults) (g h : History) (a : Effect A) → g ≡ h → Fits f (Same g) a → Fits f (Same h) a
+same_on : {A : Type 0} (f : Faults) (g h : Bindings) (a : Effect A) → g ≡ h → Fits f (Same g) a → Fits f (Same h) a
 same_on f g h a same fits = subst (λ k. Fits f (Same k) a) same fits
 
 one_byte_fits : (f : Faults) (c : ℕ) (reason : Reason) (d : TestData) (s : State) → Fits f (Same s.store) (one_byte c reason d s)
@@ -170,7 +170,7 @@ match_fits f [] d s = refl
 match_fits f (b ∷ rest) d s = then_fits f (Same s.store) (Same s.store) (one_byte b StringMismatch d s) (λ _ u. match_bytes rest d u) (one_byte_fits f b StringMismatch d s) (λ _ u same. same_on f u.store s.store _ same (match_fits f rest d u))
 
 -- an integer between two others
-abbrev pub Between : ℤ → ℤ → History → ℤ → State → Type 0
+abbrev pub Between : ℤ → ℤ → Bindings → ℤ → State → Type 0
 Between least most h z t = (least ≤ℤ z) × (z ≤ℤ most) × (t.store ≡ h)
 
 is_between : (least most z w : ℤ) (b c : Bool) → int_le least z ≡ b → int_le z most ≡ c → (if b && c then Some z else None) ≡ Some w → (least ≤ℤ w) × (w ≤ℤ most)
@@ -198,10 +198,10 @@ integer_fits f least most d s =
     let u : State = record { offset = s.offset + prefix_len_of rest; store = s.store; mode = s.mode } in
     then_fits f (Same s.store) (Between least most s.store) (see_next d u) (λ _ t. decide (judge least most (is_minus rest) (digits_of rest)) d t) (look_fits f (next_byte d u.offset) u)
     (λ _ t same. subst (λ h. Fits f (Between least most h) (decide (judge least most (is_minus rest) (digits_of rest)) d t)) same
-    (decided_fits f least most (judge least most (is_minus rest) (digits_of rest)) d t (λ z is. judged least most z (is_minus rest) (digits_of rest) (nat_eq (length (digits_of rest)) 0) (is_zero_first (digits_of rest) && not (is_minus rest) && nat_lt 1 (length (digits_of rest))) (is_zero_first (digits_of rest) && is_minus rest) (with_sign (is_minus rest) (decimal (digits_of rest))) is)))
+    (decided_fits f least most (judge least most (is_minus rest) (digits_of rest)) d t (λ z is. judged least most z (is_minus rest) (digits_of rest) (nat_eq (length (digits_of rest)) 0) (is_zero_first (digits_of rest) && not (is_minus rest) && nat_lt 1 (length (digits_of rest))) (is_zero_first (digits_of rest) && is_minus rest) (with_sign (is_minus rest) (digits_value (digits_of rest))) is)))
 
 -- a match in the window
-abbrev pub Short : History → List ℕ → State → Type 0
+abbrev pub Short : Bindings → List ℕ → State → Type 0
 Short h bytes t = (length bytes ≤ WINDOW) × (t.store ≡ h)
 
 found_fits : (f : Faults) (b : Bool) (n : ℕ) (window : List ℕ) (d : TestData) (s : State) → length window ≤ WINDOW → Fits f (Short s.store) (proceed ((if b then stop MatchTooLong else return n) d s) (λ k t. return (take k window) d t))

@@ -3,7 +3,7 @@ use Rattle.std.proofs.Common.{◌≡◌, ◌<◌, ◌≤◌, ◌+◌, ◌++◌, 
 use Rattle.std.proofs.lemmas.List.{at_drop_more, drop_all}
 use Rattle.ctd_source.specs.TestData.{TestData}
 use Rattle.ctd_program.specs.Tree.{TestTree}
-use Rattle.ctd_store.specs.Store.{History}
+use Rattle.ctd_store.specs.Store.{Bindings}
 use Rattle.ctd_value.specs.Fault.{TruthFault}
 use Rattle.ctd_value.specs.Fault as faults
 use Rattle.ctd_value.specs.Truth.{truth}
@@ -16,7 +16,7 @@ use Rattle.ctd_traps.specs.declared.cases.Case.{Case}
 use Rattle.ctd_traps.specs.inner.Cases.{Divides, DividesTo, OneStands, TellsCase, TellsCases}
 
 -- a case of a list
-pub case_at : (cs : List Case) (i : ℕ) (c : Case) (n : ℕ) (h : History) → i < length cs → EachStands (get_or cs i c).known.items n h → OneStands cs n h
+pub case_at : (cs : List Case) (i : ℕ) (c : Case) (n : ℕ) (h : Bindings) → i < length cs → EachStands (get_or cs i c).known.items n h → OneStands cs n h
 case_at [] i c n h inside each = absurd (omega (arith, inside))
 case_at (x ∷ cs) zero c n h inside each = inl each
 case_at (x ∷ cs) (suc i) c n h inside each = inr (case_at cs i c n h (omega (arith, inside)) each)
@@ -36,7 +36,7 @@ past : {A B X : Type 0} → A ⊎ B → A ⊎ (X ⊎ B)
 past (inl a) = inl a
 past (inr b) = inr (inr b)
 
-pub taken_or_left : (cs : List Case) (i : ℕ) (c : Case) (n : ℕ) (h : History) → i < length cs → OneStands cs n h → EachStands (get_or cs i c).known.items n h ⊎ OneStands (remove cs i) n h
+pub taken_or_left : (cs : List Case) (i : ℕ) (c : Case) (n : ℕ) (h : Bindings) → i < length cs → OneStands cs n h → EachStands (get_or cs i c).known.items n h ⊎ OneStands (remove cs i) n h
 taken_or_left [] i c n h inside one = absurd one
 taken_or_left (x ∷ cs) zero c n h inside (inl each) = inl each
 taken_or_left (x ∷ cs) zero c n h inside (inr one) = inr one
@@ -53,40 +53,40 @@ rejoined cs rest all i c both inside is left joined others added n h one =
     either_of (λ each. added n h (joined n h (subst (λ (x : Case). EachStands x.known.items n h) (sym is) each))) (λ still. others n h (subst (λ l. OneStands l n h) (sym left) still)) (taken_or_left cs i c n h inside one)
 
 -- cases from their front: where a run is in one of them, it is in one of the rest, or this holds
-abbrev pub RestOr : (rest whole : List Case) → (ℕ → History → Type 0) → Type 0
-RestOr rest whole done = (n : ℕ) (h : History) → OneStands whole n h → OneStands rest n h ⊎ done n h
+abbrev pub RestOr : (rest whole : List Case) → (ℕ → Bindings → Type 0) → Type 0
+RestOr rest whole done = (n : ℕ) (h : Bindings) → OneStands whole n h → OneStands rest n h ⊎ done n h
 
 case_first : (cs : List Case) (i : ℕ) (c : Case) → i < length cs → c ≡ get_or cs i c → drop i cs ≡ c ∷ drop (i + 1) cs
 case_first cs i c inside is = at_drop_more (λ l. l) cs i c inside ∙ ap (λ (x : Case). x ∷ drop (i + 1) cs) (sym is)
 
-next_case : (c : Case) (rest : List Case) (n : ℕ) (h : History) (X Y : Type 0) → (X → Y) → (EachStands c.known.items n h → Y) → OneStands (c ∷ rest) n h ⊎ X → OneStands rest n h ⊎ Y
+next_case : (c : Case) (rest : List Case) (n : ℕ) (h : Bindings) (X Y : Type 0) → (X → Y) → (EachStands c.known.items n h → Y) → OneStands (c ∷ rest) n h ⊎ X → OneStands rest n h ⊎ Y
 next_case c rest n h X Y more new (inl (inl each)) = inr (new each)
 next_case c rest n h X Y more new (inl (inr one)) = inl one
 next_case c rest n h X Y more new (inr x) = inr (more x)
 
-pub case_done : (cs : List Case) (i : ℕ) (c : Case) (X Y : ℕ → History → Type 0) → i < length cs → c ≡ get_or cs i c → ((n : ℕ) (h : History) → X n h → Y n h) → ((n : ℕ) (h : History) → EachStands c.known.items n h → Y n h)
+pub case_done : (cs : List Case) (i : ℕ) (c : Case) (X Y : ℕ → Bindings → Type 0) → i < length cs → c ≡ get_or cs i c → ((n : ℕ) (h : Bindings) → X n h → Y n h) → ((n : ℕ) (h : Bindings) → EachStands c.known.items n h → Y n h)
     → RestOr (drop i cs) cs X → RestOr (drop (i + 1) cs) cs Y
 case_done cs i c X Y inside is more new so_far n h one =
     next_case c (drop (i + 1) cs) n h (X n h) (Y n h) (more n h) (new n h) (subst (λ l. OneStands l n h ⊎ X n h) (case_first cs i c inside is) (so_far n h one))
 
-none_left : (n : ℕ) (h : History) (X : Type 0) → OneStands [] n h ⊎ X → X
+none_left : (n : ℕ) (h : Bindings) (X : Type 0) → OneStands [] n h ⊎ X → X
 none_left n h X (inl one) = absurd one
 none_left n h X (inr x) = x
 
-pub cases_done : (cs : List Case) (i : ℕ) (X : ℕ → History → Type 0) → length cs ≤ i → RestOr (drop i cs) cs X → (n : ℕ) (h : History) → OneStands cs n h → X n h
+pub cases_done : (cs : List Case) (i : ℕ) (X : ℕ → Bindings → Type 0) → length cs ≤ i → RestOr (drop i cs) cs X → (n : ℕ) (h : Bindings) → OneStands cs n h → X n h
 cases_done cs i X all so_far n h one = none_left n h (X n h) (subst (λ l. OneStands l n h ⊎ X n h) (drop_all i cs all) (so_far n h one))
 
 -- tests
-abbrev pub DividesSo : TestTree → (if_true if_false : List Case) → Faults → ℕ → History → Type 0
+abbrev pub DividesSo : TestTree → (if_true if_false : List Case) → Faults → ℕ → Bindings → Type 0
 DividesSo t if_true if_false f n h = (d : TestData) (p : ℕ) → DividesTo if_true if_false f n h (truth t h d p)
 
-divides_more : (a b c d : List Case) (f g : Faults) (n : ℕ) (h : History) (r : Result Bool TruthFault) → TellsCases a c → TellsCases b d → AreFaults f g → DividesTo a b f n h r → DividesTo c d g n h r
+divides_more : (a b c d : List Case) (f g : Faults) (n : ℕ) (h : Bindings) (r : Result Bool TruthFault) → TellsCases a c → TellsCases b d → AreFaults f g → DividesTo a b f n h r → DividesTo c d g n h r
 divides_more a b c d f g n h (Ok true) on_true on_false more divides = on_true n h divides
 divides_more a b c d f g n h (Ok false) on_true on_false more divides = on_false n h divides
 divides_more a b c d f g n h (Err (faults.Value why)) on_true on_false more divides = more why divides
 divides_more a b c d f g n h (Err (faults.Look why)) on_true on_false more divides = tt
 
-one_divides : (a b : List Known) (c d : List Case) (f g : Faults) (n : ℕ) (h : History) (r : Result Bool TruthFault) → TellsCase a c → TellsCase b d → AreFaults f g → Decides a b f n h r → DividesTo c d g n h r
+one_divides : (a b : List Known) (c d : List Case) (f g : Faults) (n : ℕ) (h : Bindings) (r : Result Bool TruthFault) → TellsCase a c → TellsCase b d → AreFaults f g → Decides a b f n h r → DividesTo c d g n h r
 one_divides a b c d f g n h (Ok true) on_true on_false more decides = on_true n h decides
 one_divides a b c d f g n h (Ok false) on_true on_false more decides = on_false n h decides
 one_divides a b c d f g n h (Err (faults.Value why)) on_true on_false more decides = more why decides

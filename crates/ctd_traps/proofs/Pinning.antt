@@ -2,7 +2,7 @@
 use Rattle.std.proofs.Common.{◌≡◌, ◌≢◌, ◌<◌, ◌≤◌, ◌+◌, ◌++◌, ◌==◌, ℕ, true, false, List, [], ◌∷◌, map, fold, length, get_or, drop, refl, ap, sym, subst, arith, ◌∙◌}
 use Rattle.std.proofs.lemmas.Bool.Decides.{nat_tests}
 use Rattle.std.proofs.lemmas.List.{at_drop_more, drop_all}
-use Rattle.ctd_program.specs.declared.preset.Literal.{Literal}
+use Rattle.ctd_program.specs.declared.preset.PresetValue.{PresetValue}
 use Rattle.ctd_program.specs.declared.preset.Preset.{Preset}
 use Rattle.ctd_store.specs.declared.value.Value.{Value}
 use Rattle.ctd_store.specs.Store.{Variables, assign, value_of, with_pin}
@@ -22,7 +22,7 @@ pub pin_alone : (nothing known after : List Known) (kinds : Kinds) (p : Preset) 
 pin_alone nothing known after kinds p none assigns may empty pins stand n few =
     subst (λ h. EachStands after n h) (pin_is pins p.name [] (value_of p.value) p refl (sym (ap (map value_of) none)) refl) (assigns [] n (pins_alone pins) (value_of p.value) empty refl (stand n few) (may n))
 
-element_pin : (known after : List Known) (kinds : Kinds) (p : Preset) (is : List Literal) → p.indices ≡ is → is ≢ [] → AssignsElements known p.name kinds after → ((n : ℕ) → MayBe kinds n (value_of p.value)) → (pins : Variables) → PinsStand known pins → PinsStand after (with_pin pins p)
+element_pin : (known after : List Known) (kinds : Kinds) (p : Preset) (is : List PresetValue) → p.indices ≡ is → is ≢ [] → AssignsElements known p.name kinds after → ((n : ℕ) → MayBe kinds n (value_of p.value)) → (pins : Variables) → PinsStand known pins → PinsStand after (with_pin pins p)
 element_pin known after kinds p [] same some assigns may pins stand n few = absurd (some refl)
 element_pin known after kinds p (i ∷ is) same some assigns may pins stand n few =
     subst (λ h. EachStands after n h) (pin_is pins p.name (value_of i ∷ map value_of is) (value_of p.value) p refl (sym (ap (map value_of) same)) refl) (assigns n (pins_alone pins) (value_of i) (map value_of is) (value_of p.value) (stand n few) (may n))
@@ -60,10 +60,10 @@ pub one_more_name : (xs : List Known) (x : Known) → x.facts.may_lack ≡ true 
 one_more_name xs x lacks stand n few = each_push xs x n (pins_alone []) (stand n few) (nothing_stands x.name.now x.facts n lacks)
 
 -- a list without elements, and one with some
-pub no_indices : (indices : List Literal) → true ≡ (length indices == 0) → indices ≡ []
+pub no_indices : (indices : List PresetValue) → true ≡ (length indices == 0) → indices ≡ []
 no_indices [] is = refl
 no_indices (i ∷ indices) is = absurd (grind (arith, nat_tests, is))
 
-pub some_indices : (indices : List Literal) → false ≡ (length indices == 0) → indices ≢ []
+pub some_indices : (indices : List PresetValue) → false ≡ (length indices == 0) → indices ≢ []
 some_indices [] is none = absurd (cc is)
 some_indices (i ∷ indices) is none = absurd (cc none)

@@ -8,7 +8,7 @@ use Rattle.ctd_program.specs.Tree
 use Rattle.ctd_program.specs.Tree.{ExprTree, VarTree, TestTree, GuardTree, CommandTree, CommandList, Separator}
 use Rattle.ctd_store.specs.declared.value.Value.{Value}
 use Rattle.ctd_store.specs.declared.value.Value.TheVariants as values
-use Rattle.ctd_store.specs.Store.{History, Variables, value_at}
+use Rattle.ctd_store.specs.Store.{Bindings, Variables, value_at}
 use Rattle.ctd_value.specs.Fault.{ValueFault}
 use Rattle.ctd_value.specs.Val.{count}
 use Rattle.ctd_outcome.specs.declared.outcome.Site.{Site}
@@ -65,7 +65,7 @@ pub in_counts : (most m n : ℕ) → m ≤ most → IsIn (record { low = pos 0; 
 in_counts most m n up = record { low = omega (arith, ints); high = omega (arith, ints, up) }
 
 -- the counter in each case
-abbrev pub CountsSo : (pinned : List Known) → Option VarTree → Range → List Case → Faults → ℕ → History → Type 0
+abbrev pub CountsSo : (pinned : List Known) → Option VarTree → Range → List Case → Faults → ℕ → Bindings → Type 0
 CountsSo pinned counter turn after f m h = (pins : Variables) (d : TestData) (k n : ℕ) (s : State) → m ≡ suc n → h ≡ s.store → IsIn turn n (pos k) → PinsStand pinned pins → s.store.pins ≡ pins → Fits f (λ _ t. StaysIn pins after n t) (count_turn counter k d s)
 
 fits_in : {A : Type 0} (f g : Faults) (P Q : A → State → Type 0) (a : Effect A) → AreFaults f g → ((x : A) (t : State) → P x t → Q x t) → Fits f P a → Fits g Q a
@@ -196,17 +196,17 @@ may_have_fewer : (known : NameFacts) (n : ℕ) (v : Option Value) → MayHave kn
 may_have_fewer known n None may = may
 may_have_fewer known n (Some v) may = may_be_fewer known.alone n v may
 
-name_fewer : (name : List ℕ) (f : NameFacts) (n : ℕ) (h : History) → NameStands name f (suc n) h → NameStands name f n h
+name_fewer : (name : List ℕ) (f : NameFacts) (n : ℕ) (h : Bindings) → NameStands name f (suc n) h → NameStands name f n h
 name_fewer name f n h stands = record {
   alone = may_have_fewer f n (value_at h (at_key name [])) stands.alone;
   elements = λ i is v has. may_be_fewer f.elements n v (stands.elements i is v has);
 }
 
-pub each_fewer : (known : List Known) (n : ℕ) (h : History) → EachStands known (suc n) h → EachStands known n h
+pub each_fewer : (known : List Known) (n : ℕ) (h : Bindings) → EachStands known (suc n) h → EachStands known n h
 each_fewer [] n h each = omega (arith, each)
 each_fewer (x ∷ xs) n h each = (name_fewer x.name.now x.facts n h each.0, each_fewer xs n h each.1)
 
-pub one_fewer : (cases : List Case) (n : ℕ) (h : History) → OneStands cases (suc n) h → OneStands cases n h
+pub one_fewer : (cases : List Case) (n : ℕ) (h : Bindings) → OneStands cases (suc n) h → OneStands cases n h
 one_fewer [] n h one = one
 one_fewer (x ∷ xs) n h (inl each) = inl (each_fewer x.known.items n h each)
 one_fewer (x ∷ xs) n h (inr one) = inr (one_fewer xs n h one)

@@ -16,7 +16,7 @@ use Rattle.ctd_known.specs.declared.faults.Faults.{Faults}
 use Rattle.ctd_known.specs.declared.facts.Known.{Known}
 use Rattle.ctd_known.specs.calls.Facts.{EachStands, PinsStand}
 use Rattle.ctd_known.proofs.Applying.{AreFaults}
-use Rattle.ctd_store.specs.Store.{History}
+use Rattle.ctd_store.specs.Store.{Bindings}
 use Rattle.ctd_traps.specs.declared.cases.Case.{Case}
 use Rattle.ctd_traps.specs.inner.Cases.{Divides, TellsCase, TellsCases}
 use Rattle.ctd_traps.proofs.Joining.{RestOr, case_done, cases_done}
@@ -65,7 +65,7 @@ simple_acts pinned known after f c m simple acts pins d all stand listed =
 as_case : (pins : Variables) (known : List Known) (cases : List Case) → TellsCase known cases → (n : ℕ) (s : State) → HoldsAlone pins known n s → Holds pins cases n s
 as_case pins known cases tells n s here = record { steps = here.steps; pinned = here.pinned; one = tells n s.store here.each }
 
-abbrev pub ActsSo : (pinned : List Known) → CommandTree → List Case → Faults → ℕ → History → Type 0
+abbrev pub ActsSo : (pinned : List Known) → CommandTree → List Case → Faults → ℕ → Bindings → Type 0
 ActsSo pinned c after f n h = (pins : Variables) (d : TestData) (all : List Trap) (s : State) (e : RunResult) → n < 2 ^ 64 → h ≡ s.store → s.store.pins ≡ pins → PinsStand pinned pins → AreListed all (place_of c) f → CommandEnds d c n s e → Ends (among all) n (Holds pins after) e
 
 pub act_step : (pinned : List Known) (cs : List Case) (i : ℕ) (x : Case) (c : CommandTree) (slice after : List Known) (own old new : Faults) (before next : List Case) → slice ≡ x.known.items → i < length cs → x ≡ get_or cs i x → ActKeeps pinned slice after own c →

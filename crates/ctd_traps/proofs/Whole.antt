@@ -10,7 +10,7 @@ use Rattle.ctd_program.specs.declared.mode.Mode.{Mode}
 use Rattle.ctd_program.specs.declared.mode.Mode.TheVariants.{Exact, BlanksOk}
 use Rattle.ctd_program.specs.Tree.{CommandList}
 use Rattle.ctd_store.specs.declared.value.Value.{Value}
-use Rattle.ctd_store.specs.Store.{History, Variables, initial, value_at, value_in}
+use Rattle.ctd_store.specs.Store.{Bindings, Variables, initial, value_at, value_under}
 use Rattle.ctd_store.specs.inner.Store.{pins_of}
 use Rattle.ctd_value.specs.Fault.{ValueFault, with_fault}
 use Rattle.ctd_value.specs.inner.Truth.{is_end}
@@ -113,7 +113,7 @@ program_owes d traps program n s pins first last e less pinned here same keeps (
 program_owes d traps program n s pins first last e less pinned here same keeps (end_fails {u} {fault} is list ends) = none_owes traps _ Finish fault (subst OnlyLooks ends (end_looks u.mode d u))
 
 -- the blanks before the first command change no variable
-abbrev Keeps_store : History → {A : Type 0} → Effect A → Type 0
+abbrev Keeps_store : Bindings → {A : Type 0} → Effect A → Type 0
 Keeps_store h (done x t) = t.store ≡ h
 Keeps_store h (rejected reason consumed) = Unit {0}
 Keeps_store h (faulty fault consumed) = Unit {0}
@@ -136,7 +136,7 @@ or_nothing None = refl
 or_nothing (Some v) = refl
 
 at_first : (presets : List Preset) (name : List ℕ) (is : List Value) → value_at (initial presets) (at_key name is) ≡ value_at (pins_alone (pins_of presets)) (at_key name is)
-at_first presets name is = or_nothing (value_in (at_key name is) (pins_of presets))
+at_first presets name is = or_nothing (value_under (at_key name is) (pins_of presets))
 
 pub traps_follow : BigStepsHold → (program : CommandList) (presets : List Preset) (traps : List Trap) (pinned : List Known) (first last : List Case) → PinsStand pinned (pins_of presets) → TellsCase pinned first →
     ((d : TestData) → Keeps d (among traps) (Holds (pins_of presets) first) program (Holds (pins_of presets) last)) → HasEachTrap program presets traps

@@ -8,7 +8,7 @@ ghost use Rattle.ctd_traps.specs.inner.Walk.{ActKeeps, ActsKeep};
 use crate::assign::{Acted, clear_all, set_all};
 use crate::cases::{Case, with_case};
 use crate::simple::{take_integer, take_match, take_string};
-use ctd_known::{Faults, Ground, Known, Stop, both, copied, no_faults};
+use ctd_known::{Faults, Ground, Known, Stop, both, copy_of, no_faults};
 use ctd_program::{Action, Command};
 
 /// The cases behind a command, and the faults that it may have.
@@ -27,9 +27,9 @@ fn act_without_fault<'p>(
     ensures { IfOk result (λ after. (f : Faults) → ActKeeps ground.entry.pinned.now known.now after.items f (command_tree command.now)) }
 {
     match &command.action {
-        Action::Space => Ok(copied(ground.alloc, known)?),
-        Action::Newline => Ok(copied(ground.alloc, known)?),
-        Action::Eof => Ok(copied(ground.alloc, known)?),
+        Action::Space => Ok(copy_of(ground.alloc, known)?),
+        Action::Newline => Ok(copy_of(ground.alloc, known)?),
+        Action::Eof => Ok(copy_of(ground.alloc, known)?),
         Action::Unset(names) => {
             let cleared = clear_all(ground, names.as_slice(), known)?;
             Ok(cleared)

@@ -6,7 +6,7 @@ ghost use Rattle.ctd_command.specs.Commands.{set};
 ghost use Rattle.ctd_traps.specs.inner.Walk.{Acts, Assigns, ClearsAll, KeepsValue};
 
 use ctd_known::{
-    Faults, Ground, Kinds, Known, Stop, assign_alone, assign_element, both, clear, copied,
+    Faults, Ground, Kinds, Known, Stop, assign_alone, assign_element, both, clear, copy_of,
     examine_indices, inspect, no_faults,
 };
 use ctd_program::{Assignment, Var};
@@ -61,7 +61,7 @@ pub(crate) fn keep<'p>(
             Ok(kept)
         }
         None => {
-            let after = copied(ground.alloc, known)?;
+            let after = copy_of(ground.alloc, known)?;
             Ok(Acted {
                 after,
                 faults: no_faults(),
@@ -78,7 +78,7 @@ pub(crate) fn set_all<'p>(
 ) -> Result<Acted<'p>, Stop>
     ensures { IfOk result (λ a. Acts ground.entry.pinned.now known.now a.after.items a.faults (set (map assignment assignments.now))) }
 {
-    let mut after = copied(ground.alloc, known)?;
+    let mut after = copy_of(ground.alloc, known)?;
     let mut faults = no_faults();
     for a in assignments {
         let value = inspect(&a.value, after.as_slice())?;
@@ -97,7 +97,7 @@ pub(crate) fn clear_all<'p>(
 ) -> Result<Vec<Known<'p>>, Stop>
     ensures { IfOk result (λ after. ClearsAll ground.entry.pinned.now known.now names.now after.items) }
 {
-    let mut after = copied(ground.alloc, known)?;
+    let mut after = copy_of(ground.alloc, known)?;
     for name in names {
         after = clear(ground, name.as_slice(), after.as_slice())?;
     }

@@ -4,7 +4,7 @@ ghost use Rattle.std.specs.Prelude.{◌≡◌, ◌<◌, true, length, IfOk, IfSo
 ghost use Rattle.ctd_traps.specs.inner.Cases.{TellsCase, TellsCases, TellsJoined};
 
 use ctd_known::{
-    Ground, Known, Stop, copied, is_unreachable, is_within, join, nowhere, pay, widened,
+    Ground, Known, Stop, copy_of, is_unreachable, is_within, join, nowhere, pay, widen,
 };
 
 /// How many cases there are at most.
@@ -44,7 +44,10 @@ fn same_case(cases: &[Case], known: &[Known]) -> Option<usize>
 }
 
 /// What is known in each of some cases.
-pub(crate) fn joined<'p>(ground: Ground<'_, 'p>, cases: &[Case<'p>]) -> Result<Vec<Known<'p>>, Stop>
+pub(crate) fn join_cases<'p>(
+    ground: Ground<'_, 'p>,
+    cases: &[Case<'p>],
+) -> Result<Vec<Known<'p>>, Stop>
     ensures { IfOk result (λ all. TellsJoined cases.now all.items) }
 {
     let mut all = nowhere(ground.alloc, ground.pinned)?;
@@ -64,13 +67,13 @@ fn with_pushed<'p>(mut cases: Vec<Case<'p>>, known: Vec<Known<'p>>) -> Result<Ve
 }
 
 /// The cases where they are few, and otherwise one in their place.
-fn limited<'p>(ground: Ground<'_, 'p>, cases: Vec<Case<'p>>) -> Result<Vec<Case<'p>>, Stop>
+fn limit_cases<'p>(ground: Ground<'_, 'p>, cases: Vec<Case<'p>>) -> Result<Vec<Case<'p>>, Stop>
     ensures { IfOk result (λ all. TellsCases cases.entry.items all.items) }
 {
     if cases.len() <= MOST {
         return Ok(cases);
     }
-    let all = joined(ground, cases.as_slice())?;
+    let all = join_cases(ground, cases.as_slice())?;
     let one = with_pushed(Vec::new(ground.alloc), all)?;
     Ok(one)
 }
@@ -96,7 +99,7 @@ pub(crate) fn with_case<'p>(
         }
         None => {
             let more = with_pushed(cases, known)?;
-            let few = limited(ground, more)?;
+            let few = limit_cases(ground, more)?;
             Ok(few)
         }
     }
@@ -113,7 +116,7 @@ pub(crate) fn with_all<'p>(
 {
     let mut all = cases;
     for other in others {
-        let known = copied(ground.alloc, other.known.as_slice())?;
+        let known = copy_of(ground.alloc, other.known.as_slice())?;
         all = with_case(ground, all, known)?;
     }
     Ok(all)
@@ -144,7 +147,7 @@ pub(crate) fn are_within(cases: &[Case], others: &[Case]) -> bool
 }
 
 /// A guess of the cases before a turn, by the last one and the cases at the end of a turn. No contract speaks of it: it is checked where it is used.
-pub(crate) fn widened_cases<'p>(
+pub(crate) fn widen_cases<'p>(
     ground: Ground<'_, 'p>,
     guess: &[Case<'p>],
     end: &[Case<'p>],
@@ -156,8 +159,8 @@ pub(crate) fn widened_cases<'p>(
     for case in grown.as_slice() {
         let known = case.known.as_slice();
         let wider = match same_case(guess, known) {
-            Some(i) => widened(ground.alloc, guess[i].known.as_slice(), known, round)?,
-            None => copied(ground.alloc, known)?,
+            Some(i) => widen(ground.alloc, guess[i].known.as_slice(), known, round)?,
+            None => copy_of(ground.alloc, known)?,
         };
         next = with_case(ground, next, wider)?;
     }

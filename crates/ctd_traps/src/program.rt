@@ -13,9 +13,9 @@ use crate::names::{Mentioned, mentioned_in};
 use crate::walk::walk;
 use ctd_check::big_steps_are_the_run;
 use ctd_known::{
-    Ground, Kinds, Known, Lengths, NameFacts, Stop, assign_alone, assign_element, copied,
+    Ground, Kinds, Known, Lengths, NameFacts, Stop, assign_alone, assign_element, copy_of,
 };
-use ctd_program::{Command, Literal, Preset, Presets};
+use ctd_program::{Command, Preset, PresetValue, Presets};
 use ctd_range::Range;
 use std::alloc::{AllocError, Global};
 
@@ -45,11 +45,11 @@ fn unset<'p>(alloc: Global, names: &[&'p [u8]]) -> Result<Vec<Known<'p>>, AllocE
 }
 
 /// The kinds of a literal.
-fn kinds_of(literal: &Literal) -> Kinds
+fn kinds_of(literal: &PresetValue) -> Kinds
     ensures { (n : ℕ) → MayBe result n (value_of literal.now) }
 {
     match literal {
-        Literal::Int(n) => Kinds {
+        PresetValue::Int(n) => Kinds {
             text: None,
             number: Some(Range {
                 low: *n,
@@ -58,7 +58,7 @@ fn kinds_of(literal: &Literal) -> Kinds
                 fall: 0,
             }),
         },
-        Literal::Text(bytes) => {
+        PresetValue::Text(bytes) => {
             let length = bytes.as_slice().len() as u64;
             Kinds {
                 text: Some(Lengths {
@@ -94,7 +94,7 @@ fn pin<'p>(
 fn pin_all<'p>(without: Ground<'_, 'p>, presets: &'p [Preset]) -> Result<Vec<Known<'p>>, Stop>
     ensures { IfOk result (λ known. PinsStand without.entry.pinned.now [] → PinsStand known.items (pins_of presets.now)) }
 {
-    let mut known = copied(without.alloc, without.pinned)?;
+    let mut known = copy_of(without.alloc, without.pinned)?;
     for preset in presets {
         known = pin(without, preset, known.as_slice())?;
     }
@@ -129,7 +129,7 @@ fn findings_of<'p>(
         alloc,
         pinned: pinned.as_slice(),
     };
-    let known = copied(alloc, pinned.as_slice())?;
+    let known = copy_of(alloc, pinned.as_slice())?;
     let first = with_case(ground, Vec::new(alloc), known)?;
     let mut findings = Vec::new(alloc);
     let mut budget = passes;

@@ -11,7 +11,7 @@ ghost use Rattle.ctd_traps.specs.inner.Walk.{Acts};
 
 use crate::assign::{Acted, keep};
 use ctd_known::{
-    Ground, Kinds, Known, Lengths, Stop, both, copied, inspect, number_faults, text_faults,
+    Ground, Kinds, Known, Lengths, Stop, both, copy_of, inspect, number_faults, text_faults,
 };
 use ctd_program::{Expr, IntArguments, RegexArguments};
 use ctd_range::Range;
@@ -65,7 +65,7 @@ pub(crate) fn take_string<'p>(
     ensures { IfOk result (λ a. Acts ground.entry.pinned.now known.now a.after.items a.faults (string (expr_tree e.now))) }
 {
     let faults = text_faults(inspect(e, known)?);
-    let after = copied(ground.alloc, known)?;
+    let after = copy_of(ground.alloc, known)?;
     Ok(Acted { after, faults })
 }
 

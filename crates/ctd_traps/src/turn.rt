@@ -11,10 +11,11 @@ ghost use Rattle.ctd_program.specs.declared.tree.Loop.{out-Loop};
 
 use crate::act::ActedCases;
 use crate::assign::{Acted, assign};
-use crate::cases::{Case, joined, with_case};
+use crate::cases::{Case, join_cases, with_case};
 use crate::divide::divide;
 use ctd_known::{
-    Faults, Ground, Kinds, Known, Stop, after_step, both, copied, inspect, no_faults, number_faults,
+    Faults, Ground, Kinds, Known, Stop, after_step, both, copy_of, inspect, no_faults,
+    number_faults,
 };
 use ctd_program::{Expr, Loop, LoopGuard, Var};
 use ctd_range::{Range, less};
@@ -113,7 +114,7 @@ fn start_each<'p>(
             most: 0,
         });
     }
-    let all = joined(ground, cases)?;
+    let all = join_cases(ground, cases)?;
     let turns = start(guard, all.as_slice())?;
     Ok(turns)
 }
@@ -150,7 +151,7 @@ fn count_turn<'p>(
             Ok(counted)
         }
         None => {
-            let after = copied(ground.alloc, known)?;
+            let after = copy_of(ground.alloc, known)?;
             Ok(Acted {
                 after,
                 faults: no_faults(),

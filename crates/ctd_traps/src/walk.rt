@@ -8,7 +8,7 @@ ghost use Rattle.ctd_traps.specs.inner.Holds.{ArePart};
 ghost use Rattle.ctd_traps.specs.inner.Walk.{RoundKeeps, SeparatorKeeps, StepKeeps, WalkKeeps, choice_at, loop_at};
 
 use crate::act::act_each;
-use crate::cases::{Case, are_within, pay_each, widened_cases, with_all};
+use crate::cases::{Case, are_within, pay_each, widen_cases, with_all};
 use crate::divide::divide;
 use crate::finding::{Finding, append, report};
 use crate::turn::{Begun, begin, enter};
@@ -223,7 +223,7 @@ fn repeat<'p>(
             append(findings, found)?;
             return Ok(after);
         }
-        guess = widened_cases(ground, guess.as_slice(), passed.end.as_slice(), round)?;
+        guess = widen_cases(ground, guess.as_slice(), passed.end.as_slice(), round)?;
     }
     Err(Stop::NotTold)
 }

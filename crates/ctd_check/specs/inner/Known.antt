@@ -1,7 +1,7 @@
 -- What is to be done finds its patterns by their numbers.
 use Rattle.std.specs.Prelude.{ℕ, List, [], ◌∷◌, ◌++◌, Option, Result, Ok, Err}
 use Rattle.ctd_program.specs.declared.tree.PatternLiteral.{PatternLiteral}
-use Rattle.ctd_syntax.specs.calls.RegexNumbers.{command_literals, separator_literals, literals}
+use Rattle.ctd_syntax.specs.calls.PatternLiterals.{command_literals, separator_literals, literals}
 use Rattle.ctd_loader.specs.calls.PatternTable.{AreAmong}
 use Rattle.ctd_command.specs.declared.failure.CommandFailure.{CommandFailure}
 use Rattle.ctd_check.specs.declared.frame.Frame.{Frame}

@@ -1,7 +1,7 @@
 -- What each method of a run ensures.
 use Rattle.std.specs.Prelude.{◌≡◌, None, Result, Ok, Err, OnOk}
 use Rattle.ctd_source.specs.declared.source.Source.{Ghosts}
-use Rattle.ctd_source.specs.calls.CursorCalls.{state_of}
+use Rattle.ctd_source.specs.calls.SourceReads.{state_of}
 use Rattle.ctd_source.specs.calls.Received.{AdvancesSuchThat}
 use Rattle.ctd_command.specs.declared.machine.Run.{Run}
 use Rattle.ctd_command.specs.declared.failure.CommandFailure.{CommandFailure}

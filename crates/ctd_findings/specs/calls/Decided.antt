@@ -7,11 +7,11 @@ use Rattle.std.specs.Option.{option_and_then, option_or, option_map}
 use Rattle.ctd_program.specs.declared.tree.Compare.{Compare}
 use Rattle.ctd_program.specs.Tree.{ExprTree, TestTree}
 use Rattle.ctd_store.specs.declared.value.Value.{Value}
-use Rattle.ctd_store.specs.Store.{History, value_at}
+use Rattle.ctd_store.specs.Store.{Bindings, value_at}
 use Rattle.ctd_value.specs.Fault.{TruthFault, Undefined, WrongType, Overflow, DivisionByZero, Exponent, Count, Shape, Look}
 use Rattle.ctd_value.specs.Fault as faults
 use Rattle.ctd_findings.specs.declared.ranges.Bounds.{Bounds}
-use Rattle.ctd_findings.specs.calls.Literal.{literal_number}
+use Rattle.ctd_findings.specs.calls.LiteralValues.{literal_number}
 use Rattle.ctd_findings.specs.calls.Ranges.{name_in}
 
 -- a number as a range
@@ -73,7 +73,7 @@ IsWithin b (values.Int n) = (b.low ≤ℤ n) × (n ≤ℤ b.high)
 IsWithin b (values.Text bytes) = ⊥
 
 -- each name that has a range has, without indices, a number of this range, if it has a value
-abbrev pub KeepsTo : (List ℕ → Option Bounds) → History → Type 0
+abbrev pub KeepsTo : (List ℕ → Option Bounds) → Bindings → Type 0
 KeepsTo range h = (name : List ℕ) (b : Bounds) (v : Value) → range name ≡ Some b → value_at h (record { name = name; indices = [] }) ≡ Some v → IsWithin b v
 
 -- a test has this answer, or a variable in it has no value

@@ -20,7 +20,7 @@ use Rattle.ctd_findings.specs.calls.Behind.{is_read_behind, repi_counter}
 use Rattle.ctd_findings.specs.calls.Cases.{all_arrays, all_unset, is_uncounted, loops_fill}
 use Rattle.ctd_findings.specs.calls.Loops.{counter_name, is_set_in, loop_body, some_set_fixed}
 use Rattle.ctd_findings.specs.calls.Names.{NameList, is_among, begins_with, reads, unsets, sets, preset_names}
-use Rattle.ctd_findings.specs.calls.Literal.{literal_truth, literal_number}
+use Rattle.ctd_findings.specs.calls.LiteralValues.{literal_truth, literal_number}
 use Rattle.ctd_outline.specs.calls.Alternatives.{hides_alternative}
 use Rattle.ctd_outline.specs.calls.LineFeeds.{matches_feed}
 use Rattle.ctd_outline.specs.calls.Outline.{telling_outline, has_wide_range, starts_with, ends_with, repeats_unbounded}

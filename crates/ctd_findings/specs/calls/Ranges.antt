@@ -7,7 +7,7 @@ use Rattle.ctd_program.specs.declared.preset.Preset.{Preset}
 use Rattle.ctd_program.specs.Tree.{ExprTree, ExprList, VarTree, CommandTree}
 use Rattle.ctd_findings.specs.declared.ranges.Bounds.{Bounds}
 use Rattle.ctd_findings.specs.calls.Block.{InBlock}
-use Rattle.ctd_findings.specs.calls.Literal.{literal_number}
+use Rattle.ctd_findings.specs.calls.LiteralValues.{literal_number}
 use Rattle.ctd_findings.specs.calls.Names.{NameList, counts, is_among, preset_names, sets}
 
 -- a name that has no indices

@@ -2,7 +2,7 @@
 use Rattle.std.specs.Prelude.{◌≡◌, ◌≤◌, ◌<◌, ◌^◌, ℕ, true, List, [], ◌∷◌, length, Option, Some, None}
 use Rattle.ctd_store.specs.declared.value.Value.{Value}
 use Rattle.ctd_store.specs.declared.value.Value.TheVariants as values
-use Rattle.ctd_store.specs.Store.{Key, History, Variables, value_at}
+use Rattle.ctd_store.specs.Store.{Key, Bindings, Variables, value_at}
 use Rattle.ctd_range.specs.declared.range.Range.{Range}
 use Rattle.ctd_range.specs.calls.Ranges.{IsIn}
 use Rattle.ctd_known.specs.declared.facts.Lengths.{Lengths}
@@ -25,17 +25,17 @@ abbrev pub at_key : List ℕ → List Value → Key
 at_key name indices = record { name = name; indices = indices }
 
 -- what is known of a name is so of some variables, where so many steps are left
-pub record NameStands (name : List ℕ) (facts : NameFacts) (n : ℕ) (h : History) : Type 0 where
+pub record NameStands (name : List ℕ) (facts : NameFacts) (n : ℕ) (h : Bindings) : Type 0 where
   pub alone : MayHave facts n (value_at h (at_key name []))
   pub elements : (i : Value) (is : List Value) (v : Value) → value_at h (at_key name (i ∷ is)) ≡ Some v → MayBe facts.elements n v
 
 -- all that is known is so, where no more steps are left than a run may have
-abbrev pub EachStands : List Known → ℕ → History → Type 0
+abbrev pub EachStands : List Known → ℕ → Bindings → Type 0
 EachStands [] n h = n < 2 ^ 64
 EachStands (x ∷ xs) n h = NameStands x.name.now x.facts n h × EachStands xs n h
 
 -- the pins alone
-abbrev pub pins_alone : Variables → History
+abbrev pub pins_alone : Variables → Bindings
 pins_alone pins = record { pins = []; assigned = pins }
 
 -- what is known of the pins is so, however many steps are left of those that a run may have
@@ -44,8 +44,8 @@ PinsStand known pins = (n : ℕ) → n < 2 ^ 64 → EachStands known n (pins_alo
 
 -- so does all that is known otherwise
 abbrev pub TellsAll : List Known → List Known → Type 0
-TellsAll known others = (n : ℕ) (h : History) → EachStands known n h → EachStands others n h
+TellsAll known others = (n : ℕ) (h : Bindings) → EachStands known n h → EachStands others n h
 
 -- no variables are so
 abbrev pub IsImpossible : List Known → Type 0
-IsImpossible known = (n : ℕ) (h : History) → EachStands known n h → ⊥
+IsImpossible known = (n : ℕ) (h : Bindings) → EachStands known n h → ⊥

@@ -3,7 +3,7 @@ use Rattle.std.specs.Prelude.{◌≡◌, ◌⊎◌, ℕ, true, false, Bool, List
 use Rattle.ctd_source.specs.TestData.{TestData}
 use Rattle.ctd_program.specs.Tree.{ExprTree, ExprList, TestTree}
 use Rattle.ctd_store.specs.declared.value.Value.{Value}
-use Rattle.ctd_store.specs.Store.{History}
+use Rattle.ctd_store.specs.Store.{Bindings}
 use Rattle.ctd_value.specs.Fault.{ValueFault, TruthFault, ◌>>=◌}
 use Rattle.ctd_value.specs.Fault as faults
 use Rattle.ctd_value.specs.Val.{val, vals, number, text}
@@ -35,14 +35,14 @@ FailsBy f (Err fault) = IsAmong f fault
 
 -- what an expression may give by what is known
 abbrev pub Gives : List Known → ExprTree → Found → Type 0
-Gives known e f = (k : ℕ) (h : History) → EachStands known k h → IsFound f k (val e h)
+Gives known e f = (k : ℕ) (h : Bindings) → EachStands known k h → IsFound f k (val e h)
 
 -- by which faults a list of expressions may fail
 abbrev pub AllFailBy : List Known → ExprList → Faults → Type 0
-AllFailBy known es f = (k : ℕ) (h : History) → EachStands known k h → FailsBy f (vals es h)
+AllFailBy known es f = (k : ℕ) (h : Bindings) → EachStands known k h → FailsBy f (vals es h)
 
 -- what is known where a test is true, and where it is false, and the faults that are listed
-abbrev pub Decides : (if_true if_false : List Known) → Faults → ℕ → History → Result Bool TruthFault → Type 0
+abbrev pub Decides : (if_true if_false : List Known) → Faults → ℕ → Bindings → Result Bool TruthFault → Type 0
 Decides if_true if_false f k h (Ok true) = EachStands if_true k h
 Decides if_true if_false f k h (Ok false) = EachStands if_false k h
 Decides if_true if_false f k h (Err (faults.Value why)) = IsAmong f why
@@ -50,7 +50,7 @@ Decides if_true if_false f k h (Err (faults.Look why)) = Unit {0}
 
 -- of a test by what is known
 abbrev pub SplitsBy : List Known → TestTree → (if_true if_false : List Known) → Faults → Type 0
-SplitsBy known t if_true if_false f = (k : ℕ) (h : History) (d : TestData) (p : ℕ) → EachStands known k h → Decides if_true if_false f k h (truth t h d p)
+SplitsBy known t if_true if_false f = (k : ℕ) (h : Bindings) (d : TestData) (p : ℕ) → EachStands known k h → Decides if_true if_false f k h (truth t h d p)
 
 -- a value that has to be a string
 abbrev pub as_text : Result Value ValueFault → Result (List ℕ) ValueFault

@@ -1,7 +1,7 @@
 -- How facts of one name follow from others.
 use Rattle.std.specs.Prelude.{◌<◌, ◌^◌, ℕ, suc, List, Option, bytes_eq, if◌then◌else◌}
 use Rattle.ctd_store.specs.declared.value.Value.{Value}
-use Rattle.ctd_store.specs.Store.{History}
+use Rattle.ctd_store.specs.Store.{Bindings}
 use Rattle.ctd_known.specs.declared.facts.Kinds.{Kinds}
 use Rattle.ctd_known.specs.declared.facts.NameFacts.{NameFacts}
 use Rattle.ctd_known.specs.declared.facts.Known.{Known}
@@ -26,4 +26,4 @@ KindsPay a b = (n : ℕ) (v : Value) → MayBe a (suc n) v → MayBe b n v
 
 -- what is known of a name once a step is paid
 abbrev pub NamePays : NameFacts → NameFacts → Type 0
-NamePays a b = (name : List ℕ) (n : ℕ) (h : History) → NameStands name a (suc n) h → NameStands name b n h
+NamePays a b = (name : List ℕ) (n : ℕ) (h : Bindings) → NameStands name a (suc n) h → NameStands name b n h

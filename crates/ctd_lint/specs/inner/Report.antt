@@ -2,7 +2,7 @@
 use Rattle.ctd_findings.specs.declared.kind.Rank.TheVariants as ranks
 use Rattle.std.specs.Prelude.{◌≡◌, ◌⊎◌, ◌+◌, ◌≤◌, ◌++◌, ℕ, List, [], ◌∷◌, length, max, Option, Some, None}
 use Rattle.ctd_source.specs.declared.source.Source.{Ghosts}
-use Rattle.ctd_source.specs.CursorCalls.{Gave}
+use Rattle.ctd_source.specs.SourceReads.{GaveBytes}
 use Rattle.ctd_token.specs.declared.fault.LoadFault.{LoadFault}
 use Rattle.ctd_token.specs.declared.limits.TheConstants.{PROGRAM_LIMIT}
 use Rattle.ctd_program.specs.Tree.{CommandList}
@@ -17,7 +17,7 @@ use Rattle.ctd_traps.specs.declared.finding.Finding.{Finding as Trap}
 use Rattle.ctd_traps.specs.declared.program.TrapList.{TrapList}
 use Rattle.ctd_lint.specs.inner.Kinds.{trap_rank}
 use Rattle.ctd_lint.specs.inner.Text.{error_line, findings_lines, kept}
-use Rattle.ctd_lint.specs.inner.Traps.{AreTraps, kept_traps, told_lines}
+use Rattle.ctd_lint.specs.inner.Traps.{AreTraps, kept_traps, verdict_lines}
 
 -- a source as a call begins and as it ends
 pub record Call {S : Type 0} (G : Ghosts S) : Type 0 where
@@ -44,17 +44,17 @@ traps_status [] = 0
 traps_status (t ∷ rest) = status_with (trap_rank t.kind) (traps_status rest)
 
 -- the status for the traps of a program that are shown
-abbrev pub told_status : LintSetup → Option TrapList → ℕ
-told_status setup None = 0
-told_status setup (Some list) = traps_status (kept_traps setup list.findings.items)
+abbrev pub verdict_status : LintSetup → Option TrapList → ℕ
+verdict_status setup None = 0
+verdict_status setup (Some list) = traps_status (kept_traps setup list.findings.items)
 
 -- the status for findings and traps: the greater one
 abbrev pub program_status : LintSetup → List Finding → Option TrapList → ℕ
-program_status setup found told = max (findings_status (kept setup.ignored.items found)) (told_status setup told)
+program_status setup found told = max (findings_status (kept setup.ignored.items found)) (verdict_status setup told)
 
 -- The lines of the findings, then those of the traps, and then the one that tells of verdicts, if it is asked for.
 abbrev pub program_lines : List ℕ → LintSetup → List Finding → Option TrapList → List ℕ
-program_lines file setup found told = findings_lines file (kept setup.ignored.items found) ++ told_lines file setup told
+program_lines file setup found told = findings_lines file (kept setup.ignored.items found) ++ verdict_lines file setup told
 
 -- the report of the findings and traps in a file
 abbrev pub program_report : List ℕ → LintSetup → List Finding → Option TrapList → Report
@@ -64,7 +64,7 @@ program_report file setup found told = on_out (program_lines file setup found to
 pub record ReportsFindings {P : Type 0} {G : Ghosts P} (file : List ℕ) (setup : LintSetup) (program : Call G) (report : Report) : Type 0 where
   pub tree : CommandList
   pub text : List ℕ
-  pub gave_text : Gave G program.old program.new text
+  pub gave_text : GaveBytes G program.old program.new text
   pub loads : Loads text (G.seen program.new) tree
   pub told : Option TrapList
   pub traps : AreTraps tree setup.presets told
@@ -74,7 +74,7 @@ pub record ReportsFindings {P : Type 0} {G : Ghosts P} (file : List ℕ) (setup 
 pub record ReportsRefusal {P : Type 0} {G : Ghosts P} (file : List ℕ) (program : Call G) (report : Report) : Type 0 where
   pub fault : LoadFault
   pub text : List ℕ
-  pub gave_text : Gave G program.old program.new text
+  pub gave_text : GaveBytes G program.old program.new text
   pub within : length text ≤ PROGRAM_LIMIT + 1
   pub fails : MayFail text (G.seen program.new) fault
   pub report_is : report ≡ on_err (error_line file fault)

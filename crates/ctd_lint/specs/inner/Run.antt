@@ -13,7 +13,7 @@ use Rattle.ctd_report.specs.declared.written.ToolFault.{ToolFault}
 use Rattle.ctd_report.specs.declared.written.ToolFault.TheVariants.{Memory, Write}
 use Rattle.ctd_report.specs.Report.{Report}
 use Rattle.ctd_report.specs.Writer.{new_sink}
-use Rattle.ctd_report.specs.Written.{BreaksOff, EndsWithReport, WritesAll, before_after}
+use Rattle.ctd_report.specs.Written.{FailsMidway, EndsWithReport, WritesAll, before_after}
 use Rattle.ctd_process.specs.Process.{Args, Begins, Gives, words_in}
 use Rattle.ctd_lint.specs.declared.command_line.LintFault.{LintFault}
 use Rattle.ctd_lint.specs.declared.command_line.LintSetup.{LintSetup}
@@ -63,7 +63,7 @@ pub record LintsOne {F S O E : Type 0} (m : Means F S O E) (setup : LintSetup) (
 pub record BreaksOffIn {F S O E : Type 0} (m : Means F S O E) (setup : LintSetup) (name : List ℕ) (old new : Stand F O E) : Type 0 where
   pub report : Report
   pub is : IsReportOf m setup name old new report
-  pub part : BreaksOff (before_after m.out old.out new.out) (before_after m.err old.err new.err) report
+  pub part : FailsMidway (before_after m.out old.out new.out) (before_after m.err old.err new.err) report
 
 -- the programs of these names were linted, one after the other, but for the last of them, which are still to come; the status is the greatest of theirs
 pub data Lints {F S O E : Type 0} (m : Means F S O E) (setup : LintSetup) (names : List (List ℕ)) (first : Stand F O E) : List (List ℕ) → ℕ → Stand F O E → Type 0 where

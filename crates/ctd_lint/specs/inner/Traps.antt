@@ -80,11 +80,11 @@ abbrev pub outlook_line : List ℕ → List Trap → List ℕ
 outlook_line file traps = file ++ codes ": " ++ outlook_text traps ++ codes "\n"
 
 -- the line where it cannot be told
-abbrev pub untold_line : List ℕ → List ℕ
-untold_line file = file ++ codes ": too large to tell\n"
+abbrev pub too_large_line : List ℕ → List ℕ
+too_large_line file = file ++ codes ": too large to tell\n"
 
 -- what is written of the traps of a program: a line for each that is shown, and the last line, if it is asked for
-abbrev pub told_lines : List ℕ → LintSetup → Option TrapList → List ℕ
-told_lines file setup None = if setup.verdicts then untold_line file else []
-told_lines file setup (Some list) =
+abbrev pub verdict_lines : List ℕ → LintSetup → Option TrapList → List ℕ
+verdict_lines file setup None = if setup.verdicts then too_large_line file else []
+verdict_lines file setup (Some list) =
     traps_lines file list.names.items (kept_traps setup list.findings.items) ++ (if setup.verdicts then outlook_line file list.findings.items else [])

@@ -1,12 +1,12 @@
 -- What stands at the front of a text of presets, and its length.
-use Rattle.ctd_program.specs.declared.preset.Literal.TheVariants as literals
+use Rattle.ctd_program.specs.declared.preset.PresetValue.TheVariants as literals
 use Rattle.ctd_token.specs.declared.token.TokenKind.TheVariants as tokens
 use Rattle.std.specs.Prelude.{◌≡◌, ℕ, ◌+◌, ◌≤◌, ◌⊎◌, nat_eq, if◌then◌else◌, List, [], ◌∷◌, ◌++◌, length, take, neg_ℤ, Option, Some, None, Result, Ok, Err}
-use Rattle.ctd_program.specs.declared.preset.Literal.{Literal}
+use Rattle.ctd_program.specs.declared.preset.PresetValue.{PresetValue}
 use Rattle.ctd_program.specs.declared.preset.PresetFault.{PresetFault}
 use Rattle.ctd_program.specs.declared.preset.PresetFault.TheVariants.{BadPreset, Memory}
 use Rattle.ctd_token.specs.Cut.{TokenOrFault, token_at}
-use Rattle.ctd_program.specs.Presets.{AreSeparated, IsPresetValue, IsTarget}
+use Rattle.ctd_program.specs.Presets.{AreSeparated, IsPresetValue, IsPresetTarget}
 
 -- what is found, unless no memory was left
 abbrev pub IsFound : {T : Type 0} → Result T PresetFault → Option T → Type 0
@@ -15,18 +15,18 @@ IsFound (Err BadPreset) found = found ≡ None
 IsFound (Err Memory) found = Unit {0}
 
 -- a token that is a literal
-abbrev pub plain_literal : TokenOrFault → Option (Literal × ℕ)
+abbrev pub plain_literal : TokenOrFault → Option (PresetValue × ℕ)
 plain_literal (Ok (tokens.Numeral n, len)) = Some (literals.Int n, len)
 plain_literal (Ok (tokens.Text values, len)) = Some (literals.Text values, len)
 plain_literal _ = None
 
 -- a numeral behind a minus
-abbrev pub negative_literal : TokenOrFault → Option (Literal × ℕ)
+abbrev pub negative_literal : TokenOrFault → Option (PresetValue × ℕ)
 negative_literal (Ok (tokens.Numeral n, len)) = Some (literals.Int (neg_ℤ n), 1 + len)
 negative_literal _ = None
 
 -- the literal at the front of some bytes
-abbrev pub literal_at : List ℕ → Option (Literal × ℕ)
+abbrev pub literal_at : List ℕ → Option (PresetValue × ℕ)
 literal_at [] = None
 literal_at (b ∷ bs) = if nat_eq b 45 then negative_literal (token_at bs) else plain_literal (token_at (b ∷ bs))
 
@@ -56,10 +56,10 @@ abbrev pub NothingIsAtFront : {T : Type 0} → (MayFollow : List ℕ → Type 0)
 NothingIsAtFront {T} MayFollow Spells bytes = (text rest : List ℕ) (x : T) → bytes ≡ text ++ rest → MayFollow rest → Spells text x → ⊥
 
 -- what stands behind the name of a target: nothing, or indices between brackets
-pub data AreIndices : List ℕ → List Literal → Type 0 where
+pub data AreIndices : List ℕ → List PresetValue → Type 0 where
   none : AreIndices [] []
-  some : (values : List ℕ) {indices : List Literal} → AreSeparated IsPresetValue values indices → AreIndices (91 ∷ (values ++ 93 ∷ [])) indices
+  some : (values : List ℕ) {indices : List PresetValue} → AreSeparated IsPresetValue values indices → AreIndices (91 ∷ (values ++ 93 ∷ [])) indices
 
 -- a target, with its name and its indices in one
-abbrev pub SpellsTarget : List ℕ → List ℕ × List Literal → Type 0
-SpellsTarget text target = IsTarget text target.0 target.1
+abbrev pub SpellsTarget : List ℕ → List ℕ × List PresetValue → Type 0
+SpellsTarget text target = IsPresetTarget text target.0 target.1

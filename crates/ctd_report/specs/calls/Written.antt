@@ -5,10 +5,10 @@ use Rattle.ctd_report.specs.declared.sink.Sink.{Ghosts}
 use Rattle.ctd_report.specs.declared.written.ToolFault.{ToolFault}
 use Rattle.ctd_report.specs.declared.written.ToolFault.TheVariants.{Memory, Write}
 use Rattle.ctd_report.specs.Report.{Report}
-use Rattle.ctd_report.specs.Written.{BeforeAfter, IsUntouched, WritesAll, BreaksOff}
+use Rattle.ctd_report.specs.Written.{BeforeAfter, IsUntouched, WritesAll, FailsMidway}
 
 -- what a call leaves that writes this report: all of it, a part where a stream failed, and nothing where memory ran out
 abbrev pub Leaves : {O E : Type 0} {G : Ghosts O} {H : Ghosts E} → BeforeAfter G → BeforeAfter H → Report → Result ℕ ToolFault → Type 0
 Leaves out err report (Ok status) = WritesAll out err report status
-Leaves out err report (Err Write) = BreaksOff out err report
+Leaves out err report (Err Write) = FailsMidway out err report
 Leaves out err report (Err Memory) = IsUntouched out × IsUntouched err

@@ -7,13 +7,13 @@ use Rattle.ctd_source.specs.TestData.{TestData}
 use Rattle.ctd_source.specs.Agreement.{Agrees}
 use Rattle.ctd_source.specs.calls.Agreement.{known}
 use Rattle.ctd_source.specs.calls.Consistency.{IsConsistentWith, IsAtStart}
-use Rattle.ctd_source.specs.calls.CursorCalls.{state_of, source, BorrowSame, ReadsOn, MovesPast}
-use Rattle.ctd_source.specs.CursorCalls.{Gave}
+use Rattle.ctd_source.specs.calls.SourceReads.{state_of, source, BorrowSame, ReadsOn, MovesPast}
+use Rattle.ctd_source.specs.SourceReads.{GaveBytes}
 
 module _ {R : Type 0} {G : Ghosts R} where
   -- since it was at first, the source of a cursor gave these bytes; the cursor took them all, and is consistent with them
   pub record HasReceived (first : R) (given : List ℕ) (c : Cursor R G) : Type 0 where
-    pub gave : Gave G first (source c) given
+    pub gave : GaveBytes G first (source c) given
     pub taken : (state_of c).taken ≡ length given
     pub stands : IsConsistentWith (known given (state_of c).seen (state_of c).limit) (state_of c)
 

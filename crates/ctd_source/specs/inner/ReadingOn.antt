@@ -10,8 +10,8 @@ use Rattle.ctd_source.specs.declared.source.Seen.TheVariants.{Going, Ended, Brok
 use Rattle.ctd_source.specs.declared.spot.LookFault.{LookFault}
 use Rattle.ctd_source.specs.declared.spot.LookFault.TheVariants.{Read}
 use Rattle.ctd_source.specs.calls.Consistency.{CursorState, is_going, has_to_read, fault_after}
-use Rattle.ctd_source.specs.calls.CursorCalls.{state_of, source, ReadsOn, Peeks, MovesPast, GivesByte}
-use Rattle.ctd_source.specs.CursorCalls.{Gave}
+use Rattle.ctd_source.specs.calls.SourceReads.{state_of, source, ReadsOn, Peeks, MovesPast, GivesByte}
+use Rattle.ctd_source.specs.SourceReads.{GaveBytes}
 
 -- nothing is consumed of what stays
 pub consumes_nothing : (known : Option (List ℕ)) → Consumes known known []
@@ -67,7 +67,7 @@ faulty (Err f) is = let same : f ≡ Read = cc in ap Err same
 
 module _ {R : Type 0} {G : Ghosts R} where
   -- a source that was left alone gave no bytes
-  pub gave_nothing : (s : R) → Gave G s s []
+  pub gave_nothing : (s : R) → GaveBytes G s s []
   gave_nothing s =
       record {
         count = omega arith;
@@ -82,7 +82,7 @@ module _ {R : Type 0} {G : Ghosts R} where
 
   -- two calls give their bytes one after the other, if no read failed between them
   gave_sound : (a b c : R) (xs ys : List ℕ) → G.seen b ≢ Broken → (G.seen a ≡ Going → G.seen c ≡ Ended → IfSome (G.left a) (λ all. xs ++ ys ≡ all))
-      → Gave G a b xs → Gave G b c ys → Gave G a c (xs ++ ys)
+      → GaveBytes G a b xs → GaveBytes G b c ys → GaveBytes G a c (xs ++ ys)
   gave_sound a b c xs ys sound whole f s =
       record {
         count = omega (arith, f.count, s.count, length-append xs ys);
@@ -96,7 +96,7 @@ module _ {R : Type 0} {G : Ghosts R} where
       }
 
   -- a call after a failed read gives nothing more
-  gave_broken : (a b c : R) (xs ys : List ℕ) → G.seen b ≡ Broken → Gave G a b xs → Gave G b c ys → Gave G a c (xs ++ ys)
+  gave_broken : (a b c : R) (xs ys : List ℕ) → G.seen b ≡ Broken → GaveBytes G a b xs → GaveBytes G b c ys → GaveBytes G a c (xs ++ ys)
   gave_broken a b c xs ys broken f s =
       let end : (ys ≡ []) × (G.seen c ≡ G.seen b) = s.end.final (λ e. cc) in
       let same : xs ++ ys ≡ xs = ap (λ zs. xs ++ zs) end.0 ∙ append-nil xs in
@@ -112,7 +112,7 @@ module _ {R : Type 0} {G : Ghosts R} where
       }
 
   -- what a source gave, and then gave
-  pub gave_both : (seen : Seen) (a b c : R) (xs ys : List ℕ) → G.seen b ≡ seen → Gave G a b xs → Gave G b c ys → Gave G a c (xs ++ ys)
+  pub gave_both : (seen : Seen) (a b c : R) (xs ys : List ℕ) → G.seen b ≡ seen → GaveBytes G a b xs → GaveBytes G b c ys → GaveBytes G a c (xs ++ ys)
   gave_both Going a b c xs ys is f s =
       let sound : G.seen b ≢ Broken = λ e. cc in
       gave_sound a b c xs ys sound (λ going ended. consumed_all (G.left a) f.rest xs ys f.first (subst (λ known. IfSome known (λ all. ys ≡ all)) (f.left sound) (s.end.all is ended))) f s

@@ -7,7 +7,7 @@ use crate::source::{Seen, Source};
 use crate::spot::Spot;
 
 impl<'d, R: Source> Cursor<'d, R> {
-    ghost use Rattle.ctd_source.specs.calls.CursorCalls.{state_of, source as source_now};
+    ghost use Rattle.ctd_source.specs.calls.SourceReads.{state_of, source as source_now};
 
     /// The first of the bytes that are held, as many as lie in one piece and before the limit: these may be looked at
     /// one after the other with no read. There are some, where any is held and the next one lies before the limit.

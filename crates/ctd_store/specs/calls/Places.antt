@@ -27,8 +27,8 @@ abbrev pub cells : Grid → Array
 cells g = grid g.base g.rows.items
 
 -- the values that have a place
-abbrev pub placed : Places → Array
-placed p = scalar_entry p.scalar ++ (along [] p.row ++ cells p.grid)
+abbrev pub place_entries : Places → Array
+place_entries p = scalar_entry p.scalar ++ (along [] p.row ++ cells p.grid)
 
 -- the entries of a map
 abbrev pub listed : {A : Type 0} → List (Vec Value A × Value) → Array

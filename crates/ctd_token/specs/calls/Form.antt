@@ -5,7 +5,7 @@ use Rattle.ctd_token.specs.declared.token.TokenKind.{TokenKind}
 use Rattle.ctd_token.specs.declared.token.Mark.{Mark}
 use Rattle.std.specs.Char.{is_ascii_uppercase, is_ascii_lowercase, is_ascii_digit}
 use Rattle.ctd_token.specs.Cut.{single_mark, double_mark}
-use Rattle.ctd_token.specs.Literal.{WholeLiteral, literal}
+use Rattle.ctd_token.specs.StringLiteral.{WholeLiteral, literal}
 
 -- the five forms
 pub data Form : Type 0 where

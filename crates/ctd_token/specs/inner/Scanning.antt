@@ -7,7 +7,7 @@ use Rattle.ctd_token.specs.declared.fault.TokenFault.{TokenFault}
 use Rattle.ctd_token.specs.declared.fault.TokenFault.TheVariants.{Wrong, Memory}
 use Rattle.ctd_token.specs.declared.fault.LoadFault.{LoadFault}
 use Rattle.ctd_token.specs.declared.token.Mark.{Mark}
-use Rattle.ctd_token.specs.Literal.{WholeLiteral}
+use Rattle.ctd_token.specs.StringLiteral.{WholeLiteral}
 use Rattle.ctd_token.specs.Cut.{Judgement, TokenOrFault, place_at}
 use Rattle.ctd_token.specs.calls.Scanning.{wrong}
 

@@ -2,7 +2,7 @@
 use Rattle.std.specs.Prelude.{◌⊎◌, ℕ, true, false, Bool, List, [], ◌∷◌, Result, Ok, Err}
 use Rattle.ctd_source.specs.TestData.{TestData}
 use Rattle.ctd_program.specs.Tree.{TestTree}
-use Rattle.ctd_store.specs.Store.{History}
+use Rattle.ctd_store.specs.Store.{Bindings}
 use Rattle.ctd_value.specs.Fault.{TruthFault}
 use Rattle.ctd_value.specs.Fault as faults
 use Rattle.ctd_value.specs.Truth.{truth}
@@ -13,24 +13,24 @@ use Rattle.ctd_known.specs.calls.Found.{IsAmong}
 use Rattle.ctd_traps.specs.declared.cases.Case.{Case}
 
 -- all that is known in one of the cases is so of some variables, where so many steps are left
-abbrev pub OneStands : List Case → ℕ → History → Type 0
+abbrev pub OneStands : List Case → ℕ → Bindings → Type 0
 OneStands [] n h = ⊥
 OneStands (x ∷ xs) n h = EachStands x.known.items n h ⊎ OneStands xs n h
 
 -- where this is known, a run is in one of the cases
 abbrev pub TellsCase : List Known → List Case → Type 0
-TellsCase known cases = (n : ℕ) (h : History) → EachStands known n h → OneStands cases n h
+TellsCase known cases = (n : ℕ) (h : Bindings) → EachStands known n h → OneStands cases n h
 
 -- where a run is in one of some cases, it is in one of others
 abbrev pub TellsCases : List Case → List Case → Type 0
-TellsCases cases others = (n : ℕ) (h : History) → OneStands cases n h → OneStands others n h
+TellsCases cases others = (n : ℕ) (h : Bindings) → OneStands cases n h → OneStands others n h
 
 -- this is known in each of the cases
 abbrev pub TellsJoined : List Case → List Known → Type 0
-TellsJoined cases known = (n : ℕ) (h : History) → OneStands cases n h → EachStands known n h
+TellsJoined cases known = (n : ℕ) (h : Bindings) → OneStands cases n h → EachStands known n h
 
 -- the cases where a test is true, and those where it is false, and the faults that are listed
-abbrev pub DividesTo : (if_true if_false : List Case) → Faults → ℕ → History → Result Bool TruthFault → Type 0
+abbrev pub DividesTo : (if_true if_false : List Case) → Faults → ℕ → Bindings → Result Bool TruthFault → Type 0
 DividesTo if_true if_false f k h (Ok true) = OneStands if_true k h
 DividesTo if_true if_false f k h (Ok false) = OneStands if_false k h
 DividesTo if_true if_false f k h (Err (faults.Value why)) = IsAmong f why
@@ -38,4 +38,4 @@ DividesTo if_true if_false f k h (Err (faults.Look why)) = Unit {0}
 
 -- of a test by the cases in which it is asked
 abbrev pub Divides : List Case → TestTree → (if_true if_false : List Case) → Faults → Type 0
-Divides cases t if_true if_false f = (k : ℕ) (h : History) (d : TestData) (p : ℕ) → OneStands cases k h → DividesTo if_true if_false f k h (truth t h d p)
+Divides cases t if_true if_false f = (k : ℕ) (h : Bindings) (d : TestData) (p : ℕ) → OneStands cases k h → DividesTo if_true if_false f k h (truth t h d p)

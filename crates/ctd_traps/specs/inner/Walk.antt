@@ -10,7 +10,7 @@ use Rattle.ctd_program.specs.declared.tree.Choice.{Choice, out-Choice}
 use Rattle.ctd_program.specs.calls.View.{boxed_target, command_list, guard_tree, test_tree}
 use Rattle.ctd_program.specs.inner.View.{boxed_separator}
 use Rattle.ctd_store.specs.declared.value.Value.{Value}
-use Rattle.ctd_store.specs.Store.{Key, History, Variables, assign, unset}
+use Rattle.ctd_store.specs.Store.{Key, Bindings, Variables, assign, unset}
 use Rattle.ctd_value.specs.Fault.{ValueFault}
 use Rattle.ctd_value.specs.Val.{count, key}
 use Rattle.ctd_outcome.specs.declared.reason.Fault.{Fault}
@@ -58,13 +58,13 @@ abbrev pub Acts : (pinned known after : List Known) → Faults → Act ⊤ → T
 Acts pinned known after f m = (pins : Variables) (d : TestData) (n : ℕ) (s : State) → PinsStand pinned pins → Stays pins known n s → Fits f (λ _ t. Stays pins after n t) (m d s)
 
 -- what is known once a key was given a value, or a fault of its indices
-abbrev pub IsAssigned : List Known → Faults → ℕ → History → Value → Result Key ValueFault → Type 0
+abbrev pub IsAssigned : List Known → Faults → ℕ → Bindings → Value → Result Key ValueFault → Type 0
 IsAssigned after f n h v (Ok k) = EachStands after n (assign h k v)
 IsAssigned after f n h v (Err why) = IsAmong f why
 
 -- of a variable that gets one of some values
 abbrev pub Assigns : (pinned known : List Known) → VarTree → Kinds → List Known → Faults → Type 0
-Assigns pinned known target kinds after f = (pins : Variables) (n : ℕ) (h : History) (v : Value) → PinsStand pinned pins → h.pins ≡ pins → EachStands known n h → MayBe kinds n v
+Assigns pinned known target kinds after f = (pins : Variables) (n : ℕ) (h : Bindings) (v : Value) → PinsStand pinned pins → h.pins ≡ pins → EachStands known n h → MayBe kinds n v
     → IsAssigned after f n h v (key target h)
 
 -- of a target, if there is one
@@ -73,7 +73,7 @@ KeepsValue pinned known target kinds after f = (pins : Variables) (d : TestData)
 
 -- of several names
 abbrev pub ClearsAll : (pinned known : List Known) → List (List ℕ) → List Known → Type 0
-ClearsAll pinned known names after = (pins : Variables) (n : ℕ) (h : History) → PinsStand pinned pins → h.pins ≡ pins → EachStands known n h → EachStands after n (fold unset h names)
+ClearsAll pinned known names after = (pins : Variables) (n : ℕ) (h : Bindings) → PinsStand pinned pins → h.pins ≡ pins → EachStands known n h → EachStands after n (fold unset h names)
 
 -- a command keeps what is known, or stops by one of these faults
 abbrev pub ActKeeps : (pinned known after : List Known) → Faults → CommandTree → Type 0
@@ -127,7 +127,7 @@ IsCounted turns (Err why) = IsAmong turns.faults why
 
 -- how many turns a loop has
 abbrev pub Counts : List Known → ExprTree → Turns → Type 0
-Counts known e turns = (n : ℕ) (h : History) → EachStands known n h → IsCounted turns (count e h)
+Counts known e turns = (n : ℕ) (h : Bindings) → EachStands known n h → IsCounted turns (count e h)
 
 -- the counter of a loop, if there is one, gets the number of a turn of a range
 abbrev pub CountsTurn : (pinned known : List Known) → Option VarTree → Range → List Known → Faults → Type 0

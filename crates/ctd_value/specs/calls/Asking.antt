@@ -3,7 +3,7 @@ use Rattle.ctd_program.specs.Tree
 use Rattle.std.specs.Prelude.{ℕ, Bool, true, false, not, ◌&&◌, ◌||◌, is_ok, Result, Ok, Err}
 use Rattle.ctd_source.specs.TestData.{TestData}
 use Rattle.ctd_program.specs.Tree.{ExprTree, TestTree}
-use Rattle.ctd_store.specs.Store.{History}
+use Rattle.ctd_store.specs.Store.{Bindings}
 use Rattle.ctd_value.specs.Fault.{TruthFault}
 use Rattle.ctd_value.specs.Truth.{truth}
 use Rattle.ctd_value.specs.Val.{text_of}
@@ -15,7 +15,7 @@ is_answer false (Ok b) = not b
 is_answer wanted (Err fault) = false
 
 -- whether its evaluation, from left to right, reaches an ISEOF or the byte of a MATCH
-abbrev pub asks : TestTree → History → TestData → ℕ → Bool
+abbrev pub asks : TestTree → Bindings → TestData → ℕ → Bool
 asks (Tree.or s t) h d p = asks s h d p || (is_answer false (truth s h d p) && asks t h d p)
 asks (Tree.and s t) h d p = asks s h d p || (is_answer true (truth s h d p) && asks t h d p)
 asks (Tree.not t) h d p = asks t h d p

@@ -1,5 +1,5 @@
 -- Small expressions and tests, and what they give.
-use Rattle.ctd_program.specs.declared.preset.Literal.TheVariants as literals
+use Rattle.ctd_program.specs.declared.preset.PresetValue.TheVariants as literals
 use Rattle.ctd_program.specs.Tree
 use Rattle.ctd_store.specs.declared.value.Value.TheVariants as values
 use Rattle.ctd_value.specs.Fault as faults
@@ -9,13 +9,13 @@ use Rattle.ctd_source.specs.TestData.{TestData}
 use Rattle.ctd_program.specs.declared.preset.Preset.{Preset}
 use Rattle.ctd_program.specs.declared.tree.Compare.TheVariants.{Equal, Less}
 use Rattle.ctd_program.specs.Tree.{ExprTree, TestTree}
-use Rattle.ctd_store.specs.Store.{Key, History, initial, assign, unset, value_at, values_of}
+use Rattle.ctd_store.specs.Store.{Key, Bindings, initial, assign, unset, value_at, values_of}
 use Rattle.ctd_value.specs.Fault.{Overflow, Exponent, DivisionByZero, WrongType, Count, Look}
 use Rattle.ctd_value.specs.Val.{val, key, count}
 use Rattle.ctd_value.specs.Truth.{truth}
 
 -- no variable has a value
-abbrev pub nothing : History
+abbrev pub nothing : Bindings
 nothing = initial []
 
 -- a numeral
@@ -108,7 +108,7 @@ abbrev pub element : ℤ → Key
 element n = record { name = codes "a"; indices = values.Int n ∷ [] }
 
 -- two elements that were set, the first of which is a preset
-abbrev pub set_elements : History
+abbrev pub set_elements : Bindings
 set_elements = assign (assign (initial (a_preset ∷ [])) (element (pos 1)) (values.Int (pos 9))) (element (pos 2)) (values.Int (pos 9))
 
 -- the preset keeps its value
@@ -132,7 +132,7 @@ pub last_counts : value_at (initial (record { name = codes "n"; indices = []; va
 last_counts = refl
 
 -- one entry of a, and none once a is unset
-abbrev pub one_entry : History
+abbrev pub one_entry : Bindings
 one_entry = assign nothing (record { name = codes "a"; indices = values.Int (pos 1) ∷ [] }) (values.Text (codes "x"))
 
 -- the entries of a, where one element was set
@@ -144,7 +144,7 @@ pub unset_one : value_at (unset one_entry (codes "a")) (record { name = codes "a
 unset_one = refl
 
 -- b alone stays once a is unset
-abbrev pub two_names : History
+abbrev pub two_names : Bindings
 two_names = assign (assign (assign nothing (record { name = codes "a"; indices = [] }) (values.Int (pos 7))) (record { name = codes "b"; indices = [] }) (values.Int (pos 8))) (record { name = codes "a"; indices = values.Int (pos 1) ∷ [] }) (values.Int (pos 9))
 
 -- UNSET takes all of a name, and leaves other names alone

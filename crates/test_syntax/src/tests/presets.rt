@@ -3,15 +3,15 @@
 use super::answers::{Asked, answer, judged, unfold};
 use super::shown::Shown;
 use super::tree_text::write_text;
-use ctd_syntax::{Literal, Presets};
+use ctd_syntax::{PresetValue, Presets};
 use std::alloc::Global;
 use std::test::Fail;
 
 /// A number, or a string between quotes.
-fn write_literal(out: &mut Shown, literal: &Literal) {
+fn write_literal(out: &mut Shown, literal: &PresetValue) {
     match literal {
-        Literal::Int(n) => out.put_form(format_args!("{n}")),
-        Literal::Text(bytes) => write_text(out, bytes.as_slice()),
+        PresetValue::Int(n) => out.put_form(format_args!("{n}")),
+        PresetValue::Text(bytes) => write_text(out, bytes.as_slice()),
     }
 }
 

@@ -2,7 +2,7 @@
 
 use crate::tests::same;
 use ctd_check::{Bytes, Limits, Mode};
-use ctd_syntax::{Literal, Preset};
+use ctd_syntax::{Preset, PresetValue};
 use ctd_tool::{Setup, UsageFault, settings};
 use std::alloc::{AllocError, Global};
 use std::process::Abort;
@@ -61,7 +61,7 @@ fn says(setup: &Setup, facts: Facts<'_>) -> bool {
 /// Whether a preset has no indices, and these three bytes as its value.
 fn is_string(preset: &Preset) -> bool {
     match (preset.indices.as_slice(), &preset.value) {
-        ([], Literal::Text(text)) => text.as_slice() == b"a,b".as_slice(),
+        ([], PresetValue::Text(text)) => text.as_slice() == b"a,b".as_slice(),
         _ => false,
     }
 }
@@ -69,7 +69,7 @@ fn is_string(preset: &Preset) -> bool {
 /// Whether a preset has the indices 1 and 2, and -3 as its value.
 fn is_element(preset: &Preset) -> bool {
     match (preset.indices.as_slice(), &preset.value) {
-        ([Literal::Int(row), Literal::Int(column)], Literal::Int(n)) => {
+        ([PresetValue::Int(row), PresetValue::Int(column)], PresetValue::Int(n)) => {
             (*row, *column, *n) == (1, 2, -3)
         }
         _ => false,

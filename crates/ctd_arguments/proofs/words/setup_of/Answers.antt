@@ -2,7 +2,7 @@ use Rattle.std.proofs.Common.{◌≡◌, ◌∙◌, ap, sym, option_map, Option,
 use Rattle.std.specs.Borrow.{Bor}
 use Rattle.clap.specs.Words.{Text, first_of, found_of}
 use Rattle.clap.proofs.WalkLemmas.{first_value-rows}
-use Rattle.ctd_arguments.specs.Usage.{ArePresetsOf, IsStepLimitOf, generates, no_memory, value_in}
+use Rattle.ctd_arguments.specs.Usage.{ArePresetsOf, IsStepLimitOf, generates, no_memory, option_value}
 use Rattle.ctd_arguments.specs.declared.setup.UsageFault.TheVariants.{Memory}
 use Rattle.ctd_arguments.specs.inner.Usage.{file_of, is_on, mode_by}
 use Rattle.ctd_arguments.proofs.UsageFaults.{holds_on_return, no_presets, no_steps}
@@ -38,12 +38,12 @@ returns-in_err-file_named-clause-fault c = holds_on_return _ Memory c.from_resid
 pub returns-clause-setup : goal.returns-clause-setup
 returns-clause-setup c = λ words found.
     let rows = found.1 in
-    let named : is_some (value_in words (codes "PROGRAM")) ≡ true =
+    let named : is_some (option_value words (codes "PROGRAM")) ≡ true =
     ap is_some (sym (first_value-rows (found_of c.args.matches.now) (codes "PROGRAM") ∙ ap (first_of (codes "PROGRAM")) rows)) ∙ c.requires.named in
     let copied = c.in_ok-copy.ensures.equal ∙ c.as_bytes.ensures.value ∙ ap (λ (t : Bor (List ℕ)). t.now) c.unwrap_or-program.ensures in
     record {
       asks = (found.0, sym (c.is_set.ensures ∙ ap (is_on (codes "generate")) rows) ∙ c.if-is_set.false);
-      program = subst (λ name. value_in words (codes "PROGRAM") ≡ Some name) (sym copied)
+      program = subst (λ name. option_value words (codes "PROGRAM") ≡ Some name) (sym copied)
           (lent c.value_of-3.result _ _ (c.value_of-3.ensures ∙ ap (first_of (codes "PROGRAM")) rows) named);
       testdata = c.in_ok-file_named.ensures ∙ ap file_of (c.value_of-4.ensures ∙ ap (first_of (codes "TESTDATA")) rows);
       presets = subst (λ v. ArePresetsOf v c.in_ok-presets.presets) (c.value_of.ensures ∙ ap (first_of (codes "define")) rows) c.in_ok-presets.ensures;

@@ -1,7 +1,7 @@
 use Rattle.std.proofs.Common.{max, arith, refl}
 use Rattle.ctd_program.specs.calls.Blocks.{list_blocks}
 use Rattle.ctd_program.specs.calls.View.{command_list}
-use Rattle.ctd_syntax.specs.calls.RegexNumbers.{literals}
+use Rattle.ctd_syntax.specs.calls.PatternLiterals.{literals}
 use Rattle.ctd_command.proofs.Acts.{and_then, early_map_ok, given_as}
 use Rattle.ctd_check.specs.inner.FrameTasks.{left_tasks}
 use Rattle.ctd_check.proofs.Knowing.{among_front, among_back, known_tasks, known_as}

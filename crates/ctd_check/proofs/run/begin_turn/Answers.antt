@@ -1,5 +1,5 @@
 use Rattle.std.proofs.Common.{◌+◌, ◌++◌, [], ap, sym, ◌∙◌, add-one, refl, Ok, Err, if◌then◌else◌}
-use Rattle.ctd_syntax.specs.calls.RegexNumbers.{literals, separator_literals}
+use Rattle.ctd_syntax.specs.calls.PatternLiterals.{literals, separator_literals}
 use Rattle.ctd_command.proofs.Acts.{answers_as, performs_map_ok}
 use Rattle.ctd_outcome.specs.declared.outcome.Site.TheVariants.{At}
 use Rattle.ctd_check.specs.inner.Halts.{halt_of}

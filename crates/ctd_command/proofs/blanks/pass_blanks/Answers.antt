@@ -2,7 +2,7 @@ use Rattle.std.proofs.Common.{◌≡◌, ℕ, ◌+◌, ◌<◌, ◌≤◌, lengt
 use Rattle.std.specs.Prelude.{slice_get}
 use Rattle.std.specs.List.{prefix_len}
 use Rattle.std.proofs.lemmas.List.Sums.{prefix_len-le-length}
-use Rattle.ctd_source.specs.calls.CursorCalls.{state_of}
+use Rattle.ctd_source.specs.calls.SourceReads.{state_of}
 use Rattle.ctd_source.proofs.AdvanceLemmas.{advances_so, advances_both, advances_looking, advances_moving, advances_nowhere, advances_reading}
 use Rattle.ctd_command.specs.Blanks.{is_blank}
 use Rattle.ctd_command.proofs.DigitRuns.{some_held, fewer}

@@ -1,7 +1,7 @@
 use Rattle.std.proofs.Common.{◌≡◌, None, length}
-use Rattle.ctd_source.specs.calls.CursorCalls.{state_of}
+use Rattle.ctd_source.specs.calls.SourceReads.{state_of}
 use Rattle.ctd_source.specs.calls.Received.{AdvancesSuchThat}
-use Rattle.ctd_store.specs.Store.{History}
+use Rattle.ctd_store.specs.Store.{Bindings}
 use Rattle.ctd_program.specs.declared.mode.Mode.{Mode}
 use Rattle.ctd_command.specs.Commands.{match_bytes}
 use Rattle.ctd_command.proofs.Strings.{at_offset}
@@ -12,7 +12,7 @@ abbrev pub invariant-loop-rest : goal.invariant-loop-rest
 invariant-loop-rest g l = record {
   sound : (state_of l.cursor).fault ≡ None;
   goes : AdvancesSuchThat l.initial.cursor l.cursor
-      (λ d. (store : History) (mode : Mode) → match_bytes l.bytes d (at_offset l.initial.cursor.spot.offset store mode) ≡ match_bytes l.rest d (at_offset l.cursor.spot.offset store mode));
+      (λ d. (store : Bindings) (mode : Mode) → match_bytes l.bytes d (at_offset l.initial.cursor.spot.offset store mode) ≡ match_bytes l.rest d (at_offset l.cursor.spot.offset store mode));
 }
 
 abbrev pub decreases-loop-rest : goal.decreases-loop-rest

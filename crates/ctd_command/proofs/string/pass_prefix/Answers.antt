@@ -3,7 +3,7 @@ use Rattle.std.specs.Prelude.{slice_get, count_by}
 use Rattle.std.specs.List.{common_prefix_len}
 use Rattle.std.proofs.lemmas.List.{take-take}
 use Rattle.std.proofs.lemmas.List.Sums.{common_prefix_len-le}
-use Rattle.ctd_source.specs.calls.CursorCalls.{state_of}
+use Rattle.ctd_source.specs.calls.SourceReads.{state_of}
 use Rattle.ctd_source.specs.TestData.{visible, is_newline}
 use Rattle.ctd_source.proofs.AdvanceLemmas.{advances_so, advances_both, advances_looking, advances_moving}
 use Rattle.ctd_source.proofs.Visible.{seen_byte}

@@ -1,7 +1,7 @@
 use Rattle.std.proofs.Common.{drop}
 use Rattle.ctd_findings.specs.inner.Listed.{assigned_trees}
 use Rattle.ctd_findings.specs.calls.Assigned.{assigned_not_texts}
-use Rattle.ctd_findings.specs.inner.Found.{names_in}
+use Rattle.ctd_findings.specs.inner.Collector.{names_in}
 use Rattle.ctd_findings.proofs.Additions.{Leads}
 use Rattle.ctd_findings.proofs.assigned.list_assigned_not_texts.Given as goal
 

@@ -1,7 +1,7 @@
 use Rattle.std.proofs.Common.{drop, None}
 use Rattle.ctd_program.specs.calls.View.{command_trees}
 use Rattle.ctd_findings.specs.calls.Block.{commands_behind}
-use Rattle.ctd_findings.specs.inner.Found.{blocks_in}
+use Rattle.ctd_findings.specs.inner.Collector.{blocks_in}
 use Rattle.ctd_findings.specs.inner.Listed.{command_at}
 use Rattle.ctd_findings.proofs.Additions.{Leads}
 use Rattle.ctd_findings.proofs.block.+block.Given as goal

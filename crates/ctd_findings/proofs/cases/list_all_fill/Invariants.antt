@@ -1,7 +1,7 @@
 use Rattle.std.proofs.Common.{drop}
 use Rattle.ctd_program.specs.calls.View.{command_trees}
 use Rattle.ctd_findings.specs.calls.Cases.{all_fill}
-use Rattle.ctd_findings.specs.inner.Found.{names_in}
+use Rattle.ctd_findings.specs.inner.Collector.{names_in}
 use Rattle.ctd_findings.proofs.Additions.{Leads}
 use Rattle.ctd_findings.proofs.cases.list_all_fill.Given as goal
 

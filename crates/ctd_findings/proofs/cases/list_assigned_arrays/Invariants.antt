@@ -1,7 +1,7 @@
 use Rattle.std.proofs.Common.{drop}
 use Rattle.ctd_findings.specs.inner.Listed.{assigned_trees}
 use Rattle.ctd_findings.specs.calls.Cases.{assigned_arrays}
-use Rattle.ctd_findings.specs.inner.Found.{names_in}
+use Rattle.ctd_findings.specs.inner.Collector.{names_in}
 use Rattle.ctd_findings.proofs.Additions.{Leads}
 use Rattle.ctd_findings.proofs.cases.list_assigned_arrays.Given as goal
 

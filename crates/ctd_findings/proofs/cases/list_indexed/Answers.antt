@@ -2,7 +2,7 @@ use Rattle.std.proofs.Common.{◌≡◌, ◌≤◌, ℕ, List, [], ◌∷◌, le
 use Rattle.ctd_program.specs.declared.tree.Expr.{Expr}
 use Rattle.ctd_program.specs.calls.View.{expr_list}
 use Rattle.ctd_findings.specs.calls.Cases.{indexed}
-use Rattle.ctd_findings.specs.inner.Found.{Adds, names_in}
+use Rattle.ctd_findings.specs.inner.Collector.{Adds, names_in}
 use Rattle.ctd_findings.proofs.cases.list_indexed.Goals as goal
 
 has_indices : (name : List ℕ) (es : List Expr) → 1 ≤ length es → name ∷ [] ≡ indexed name (expr_list es)

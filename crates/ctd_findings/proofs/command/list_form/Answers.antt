@@ -5,7 +5,7 @@ use Rattle.ctd_outline.specs.calls.Outline.{ends_with, repeats_unbounded, starts
 use Rattle.ctd_findings.specs.declared.finding.Remark.{Remark}
 use Rattle.ctd_findings.specs.declared.kind.Kind.{Kind}
 use Rattle.ctd_findings.specs.calls.Findings.{remark_if}
-use Rattle.ctd_findings.specs.inner.Found.{Adds}
+use Rattle.ctd_findings.specs.inner.Collector.{Adds}
 use Rattle.ctd_findings.proofs.Additions.{adds_both}
 use Rattle.ctd_findings.proofs.command.list_form.Goals as goal
 

@@ -1,6 +1,6 @@
 use Rattle.std.proofs.Common.{drop}
 use Rattle.ctd_findings.specs.calls.Findings.{remark_unread}
-use Rattle.ctd_findings.specs.inner.Found.{items_in}
+use Rattle.ctd_findings.specs.inner.Collector.{items_in}
 use Rattle.ctd_findings.specs.inner.Listed.{facts_known, names_at}
 use Rattle.ctd_findings.proofs.Additions.{Leads}
 use Rattle.ctd_findings.proofs.command.list_unread_among.Given as goal

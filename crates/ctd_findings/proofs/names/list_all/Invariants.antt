@@ -1,5 +1,5 @@
 use Rattle.std.proofs.Common.{drop}
-use Rattle.ctd_findings.specs.inner.Found.{names_in}
+use Rattle.ctd_findings.specs.inner.Collector.{names_in}
 use Rattle.ctd_findings.proofs.Additions.{Leads}
 use Rattle.ctd_findings.proofs.names.list_all.Given as goal
 

@@ -1,6 +1,6 @@
 use Rattle.std.proofs.Common.{drop}
 use Rattle.ctd_findings.specs.calls.Names.{others}
-use Rattle.ctd_findings.specs.inner.Found.{names_in}
+use Rattle.ctd_findings.specs.inner.Collector.{names_in}
 use Rattle.ctd_findings.specs.inner.Listed.{names_at}
 use Rattle.ctd_findings.proofs.Additions.{Leads}
 use Rattle.ctd_findings.proofs.names.list_others.Given as goal

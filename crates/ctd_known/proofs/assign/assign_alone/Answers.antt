@@ -4,7 +4,7 @@ use Rattle.ctd_known.proofs.Assigning.{assign_free, assign_pinned}
 use Rattle.ctd_known.proofs.assign.assign_alone.Goals as goal
 
 pub returns-then-not-pin : goal.returns-then-not-pin
-returns-then-not-pin c = subst (λ k. AssignsAlone c.args.ground.pinned.now c.args.known.now c.args.name.now c.args.kinds k) (sym c.in_ok-copied.ensures)
+returns-then-not-pin c = subst (λ k. AssignsAlone c.args.ground.pinned.now c.args.known.now c.args.name.now c.args.kinds k) (sym c.in_ok-copy_of.ensures)
     (assign_pinned c.args.ground.pinned.now c.args.known.now c.args.name.now c.args.kinds c.in_ok-pin.pin c.in_ok-pin.ensures c.if-not-pin.true)
 
 pub returns : goal.returns

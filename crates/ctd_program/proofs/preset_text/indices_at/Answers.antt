@@ -1,7 +1,7 @@
 use Rattle.std.proofs.Common.{◌≡◌, ℕ, ◌+◌, ◌<◌, List, Err, length, get_or, sym, ap, ◌∙◌, subst, arith, length-drop}
 use Rattle.std.proofs.lemmas.Grind.{common_steps}
 use Rattle.std.proofs.lemmas.List.{take_rest}
-use Rattle.ctd_program.specs.declared.preset.Literal.{Literal}
+use Rattle.ctd_program.specs.declared.preset.PresetValue.{PresetValue}
 use Rattle.ctd_program.specs.declared.preset.PresetFault.TheVariants.{BadPreset}
 use Rattle.ctd_program.specs.Presets.{AreSeparated, IsPresetValue}
 use Rattle.ctd_program.specs.inner.PresetFront.{MayFollowList, MayFollowTarget, IsAtFront, NothingIsAtFront, AreIndices}
@@ -26,7 +26,7 @@ returns-in_err-values-clause-refused c is =
 pub returns-then-close-bytes-clause-refused : goal.returns-then-close-bytes-clause-refused
 returns-then-close-bytes-clause-refused c is =
     let bytes : List ℕ = c.args.bytes.now in
-    let values : List Literal = c.in_ok-values.values.items in
+    let values : List PresetValue = c.in_ok-values.values.items in
     let len : ℕ = c.in_ok-values.len in
     let there = subst (λ l. IsAtFront MayFollowList (AreSeparated IsPresetValue) l (values, len)) (take_rest bytes 1) c.in_ok-values.ensures.read in
     let open_end : 1 + len < length bytes → get_or bytes (1 + len) 0 ≡ 93 → ⊥ = elim c.then-close-bytes.branch [
@@ -38,7 +38,7 @@ returns-then-close-bytes-clause-refused c is =
 pub returns-clause-read : goal.returns-clause-read
 returns-clause-read c =
     let bytes : List ℕ = c.args.bytes.now in
-    let values : List Literal = c.in_ok-values.values.items in
+    let values : List PresetValue = c.in_ok-values.values.items in
     let len : ℕ = c.in_ok-values.len in
     let there = subst (λ l. IsAtFront MayFollowList (AreSeparated IsPresetValue) l (values, len)) (take_rest bytes 1) c.in_ok-values.ensures.read in
     let some : 0 < length bytes = grind (arith, common_steps, c.if-is_empty.false, c.is_empty.ensures) in

@@ -1,6 +1,6 @@
 use Rattle.std.proofs.Common.{◌≡◌, ℕ, ◌+◌, List, Ok, Some, ap, ◌∙◌, sym, subst}
 use Rattle.ctd_token.specs.declared.token.TokenKind.TheVariants as tokens
-use Rattle.ctd_program.specs.declared.preset.Literal.TheVariants as literals
+use Rattle.ctd_program.specs.declared.preset.PresetValue.TheVariants as literals
 use Rattle.ctd_token.specs.Cut.{token_at}
 use Rattle.ctd_program.specs.inner.PresetFront.{IsFound, negative_literal}
 use Rattle.ctd_program.proofs.TokenFronts.{numeral_value, negative_fits, negative_is, not_negated}

@@ -1,6 +1,6 @@
 use Rattle.std.proofs.Common.{sym, ◌∙◌, subst}
 use Rattle.ctd_program.specs.calls.View.{command_trees}
-use Rattle.ctd_syntax.specs.calls.RegexNumbers.{IsNumbered}
+use Rattle.ctd_syntax.specs.calls.PatternLiterals.{IsNumbered}
 use Rattle.ctd_syntax.proofs.RegexNumberLemmas.{reads_numbered}
 use Rattle.ctd_syntax.proofs.batches.program_in_batches.Goals as goal
 

@@ -1,6 +1,6 @@
 use Rattle.std.proofs.Common.{◌≡◌, ◌≤◌, ◌+◌, ◌-◌, length, drop, take}
 use Rattle.std.specs.List.{prefix_len}
-use Rattle.ctd_token.specs.Literal.{is_octal, octal}
+use Rattle.ctd_token.specs.StringLiteral.{is_octal, octal}
 use Rattle.ctd_token.proofs.literal.octal_escape.Given as goal
 
 abbrev pub invariant-loop-n : goal.invariant-loop-n

@@ -3,8 +3,8 @@ use Rattle.std.proofs.lemmas.Grind.{common_steps}
 use Rattle.std.specs.Option.{option_to_list, option_or}
 use Rattle.std.proofs.lemmas.List.{take_rest}
 use Rattle.std.specs.List.{prefix_len}
-use Rattle.ctd_token.specs.inner.Literal.{is_plain}
-use Rattle.ctd_token.specs.Literal.{after_backslash}
+use Rattle.ctd_token.specs.inner.StringLiteral.{is_plain}
+use Rattle.ctd_token.specs.StringLiteral.{after_backslash}
 use Rattle.ctd_token.proofs.Literals.{Reading, plain_on, escape_on, bad_on}
 use Rattle.ctd_token.proofs.literal.text_at.Goals.{in-Some-value, in-Some-2+in_ok-push-in-Some-2, in-None-value}
 use Rattle.ctd_token.proofs.literal.text_at.Goals as goal

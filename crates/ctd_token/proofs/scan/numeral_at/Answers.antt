@@ -3,8 +3,8 @@ use Rattle.std.proofs.lemmas.Grind.{common_steps}
 use Rattle.ctd_token.proofs.Numerals.{digits_alone}
 use Rattle.ctd_token.proofs.scan.numeral_at.Goals as goal
 
-pub decimal-requires : goal.decimal-requires
-decimal-requires c k d lt = digits_alone c.digits_len-n.result c.args.bytes.now c.digits_len-n.ensures.value k d lt
+pub digits_value-requires : goal.digits_value-requires
+digits_value-requires c k d lt = digits_alone c.digits_len-n.result c.args.bytes.now c.digits_len-n.ensures.value k d lt
 
 pub returns-then-fraction_begins-clause-token : goal.returns-then-fraction_begins-clause-token
 returns-then-fraction_begins-clause-token c = grind (arith, common_steps)

@@ -1,5 +1,5 @@
 use Rattle.std.proofs.Common.{◌≡◌, Err, refl, rules}
-use Rattle.ctd_report.proofs.EndLemmas.{EndsWithReport-weaker, LeavesOneOf-EndsWithReport, BreaksOff-EndsWithReport, Memory-untouched}
+use Rattle.ctd_report.proofs.EndLemmas.{EndsWithReport-weaker, WritesOneOf-EndsWithReport, FailsMidway-EndsWithReport, Memory-untouched}
 use Rattle.ctd_report.specs.Written.{before_after}
 use Rattle.ctd_report.specs.declared.written.ToolFault.TheVariants.{Memory, Write}
 use Rattle.ctd_tool.specs.Theorem.{of_files, of_words, no_memory}
@@ -12,7 +12,7 @@ returns g c =
     let written = c.check_files-answer.ensures.written in
     elim c.match-answer.branch [
       | in-Ok-answer w ↦ rw (w.out-is, w.err-is, w.status-is)
-          (EndsWithReport-weaker _ _ _ _ _ (λ report files. of_files c.in-Ok.setup setup_is files) (LeavesOneOf-EndsWithReport _ _ _ _ (rw w.in-Ok-answer.is at written)))
+          (EndsWithReport-weaker _ _ _ _ _ (λ report files. of_files c.in-Ok.setup setup_is files) (WritesOneOf-EndsWithReport _ _ _ _ (rw w.in-Ok-answer.is at written)))
       | in-Err-Memory w ↦ rw (w.out-is, w.err-is, w.status-is)
           (let fault_is : c.check_files-answer.result.answer ≡ Err Memory = search rules in
           let untouched = Memory-untouched
@@ -22,7 +22,7 @@ returns g c =
           EndsWithReport-weaker _ _ _ _ _ (λ report is. no_memory c.in-Ok.setup setup_is c.check_files-answer.ensures.visits is) (rw (untouched.0, untouched.1) at w.usage_status-status.ensures))
       | in-Err-Write w ↦ rw (w.out-is, w.err-is, w.status-is)
           (let fault_is : c.check_files-answer.result.answer ≡ Err Write = search rules in
-          EndsWithReport-weaker _ _ _ _ _ (λ report files. of_files c.in-Ok.setup setup_is files) (BreaksOff-EndsWithReport _ _ _ (rw fault_is at written)))
+          EndsWithReport-weaker _ _ _ _ _ (λ report files. of_files c.in-Ok.setup setup_is files) (FailsMidway-EndsWithReport _ _ _ (rw fault_is at written)))
     ]
 
 pub returns-in-Err : goal.returns-in-Err

@@ -1,7 +1,7 @@
 use Rattle.std.proofs.Common.{◌<◌, length, refl, ◌∙◌, arith}
 use Rattle.std.specs.List.{prefix_len}
 use Rattle.std.proofs.lemmas.List.Sums.{prefix_len-le-length}
-use Rattle.ctd_source.specs.calls.CursorCalls.{state_of}
+use Rattle.ctd_source.specs.calls.SourceReads.{state_of}
 use Rattle.ctd_source.proofs.AdvanceLemmas.{advances_so, advances_moving}
 use Rattle.ctd_command.specs.Blanks.{is_blank}
 use Rattle.ctd_command.specs.calls.Performs.{state}

@@ -2,7 +2,7 @@ use Rattle.std.proofs.Common.{rules, refl, ◌∙◌, Ok}
 use Rattle.std.proofs.lemmas.Int.{to_z-of_z}
 use Rattle.std.specs.Int.{w128}
 use Rattle.ctd_source.proofs.AdvanceLemmas.{advances_so, advances_moving}
-use Rattle.ctd_source.specs.calls.CursorCalls.{state_of}
+use Rattle.ctd_source.specs.calls.SourceReads.{state_of}
 use Rattle.ctd_command.specs.Commands.{integer}
 use Rattle.ctd_command.specs.calls.Performs.{Performs, state}
 use Rattle.ctd_command.proofs.Acts.{and_then, with_cursor}

@@ -1,5 +1,5 @@
 use Rattle.std.proofs.Common.{ap, subst, Ok, Err}
-use Rattle.ctd_source.specs.calls.CursorCalls.{PassesIfEqual}
+use Rattle.ctd_source.specs.calls.SourceReads.{PassesIfEqual}
 use Rattle.ctd_command.proofs.Acts.{answers_as, wanted_passed, other_rejected, byte_unseen}
 use Rattle.ctd_command.proofs.machine.Run.one_byte.Goals as goal
 

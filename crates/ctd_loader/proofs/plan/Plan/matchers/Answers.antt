@@ -1,6 +1,6 @@
 use Rattle.std.proofs.Common.{◌∙◌, Result, Ok, Err, IfOk}
 use Rattle.ctd_program.specs.calls.View.{command_trees}
-use Rattle.ctd_syntax.specs.calls.RegexNumbers.{literals}
+use Rattle.ctd_syntax.specs.calls.PatternLiterals.{literals}
 use Rattle.ctd_loader.proofs.PatternNumberLemmas.{numbered_among}
 use Rattle.ctd_loader.proofs.plan.Plan.matchers.Goals as goal
 

@@ -1,6 +1,6 @@
 use Rattle.std.proofs.Common.{◌≡◌, inr, subst}
 use Rattle.ctd_program.specs.calls.View.{command_trees}
-use Rattle.ctd_syntax.specs.calls.RegexNumbers.{literals}
+use Rattle.ctd_syntax.specs.calls.PatternLiterals.{literals}
 use Rattle.ctd_syntax.proofs.Weights.{few_blocks}
 use Rattle.ctd_loader.specs.calls.PatternTable.{texts_of}
 use Rattle.ctd_loader.specs.Loading.{ArePatterns, IsBadPattern}

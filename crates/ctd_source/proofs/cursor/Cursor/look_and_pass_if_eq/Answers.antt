@@ -1,5 +1,5 @@
 use Rattle.std.proofs.Common.{refl, subst, Ok, Err, None}
-use Rattle.ctd_source.specs.calls.CursorCalls.{GivesByte}
+use Rattle.ctd_source.specs.calls.SourceReads.{GivesByte}
 use Rattle.ctd_source.proofs.BufferedByte.{passes_wanted, keeps_other}
 use Rattle.ctd_source.proofs.cursor.Cursor.look_and_pass_if_eq.Goals as goal
 

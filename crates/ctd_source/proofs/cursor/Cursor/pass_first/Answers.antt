@@ -1,5 +1,5 @@
 use Rattle.std.proofs.Common.{refl, ap, ◌∙◌}
-use Rattle.ctd_source.specs.calls.CursorCalls.{state_of}
+use Rattle.ctd_source.specs.calls.SourceReads.{state_of}
 use Rattle.ctd_source.proofs.BufferedByte.{holds_one}
 use Rattle.ctd_source.proofs.Moving.{stands_past, offset_after}
 use Rattle.ctd_source.proofs.cursor.Cursor.pass_first.Goals as goal

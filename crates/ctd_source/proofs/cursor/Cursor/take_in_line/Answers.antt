@@ -1,6 +1,6 @@
 use Rattle.std.proofs.Common.{◌≡◌, take, refl, arith, length-take}
 use Rattle.std.specs.List.{fold}
-use Rattle.ctd_source.specs.calls.CursorCalls.{state_of}
+use Rattle.ctd_source.specs.calls.SourceReads.{state_of}
 use Rattle.ctd_source.specs.inner.TestData.{spot_after}
 use Rattle.ctd_source.proofs.Moving.{stands_past_many}
 use Rattle.ctd_source.proofs.cursor.Cursor.take_in_line.Goals as goal

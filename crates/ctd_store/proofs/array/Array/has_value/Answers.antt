@@ -1,7 +1,7 @@
 use Rattle.std.proofs.Common.{◌||◌, ap, sym, ◌∙◌}
 use Rattle.std.specs.List.{list_any}
 use Rattle.ctd_store.specs.calls.ValueRef.{value_of_ref}
-use Rattle.ctd_store.specs.calls.Places.{listed, placed}
+use Rattle.ctd_store.specs.calls.Places.{listed, place_entries}
 use Rattle.ctd_store.specs.inner.Reading.{visible_entries}
 use Rattle.ctd_store.specs.Order.{same_value}
 use Rattle.ctd_store.specs.Store.{first_of_each}
@@ -12,7 +12,7 @@ use Rattle.ctd_store.proofs.array.Array.has_value.Goals as goal
 pub returns-then-has_value : goal.returns-then-has_value
 returns-then-has_value c =
     let F = λ (e : _ × _). same_value (value_of_ref c.args.value) e.1 in
-    let a = placed c.self.inside.places in
+    let a = place_entries c.self.inside.places in
     let b = listed c.self.inside.rest.entries in
     record {
       value = c.if-has_value.true
@@ -22,7 +22,7 @@ returns-then-has_value c =
 pub returns-else-has_value : goal.returns-else-has_value
 returns-else-has_value c =
     let F = λ (e : _ × _). same_value (value_of_ref c.args.value) e.1 in
-    let a = placed c.self.inside.places in
+    let a = place_entries c.self.inside.places in
     let b = listed c.self.inside.rest.entries in
     record {
       value = c.rest_has_value.ensures.value

@@ -1,7 +1,7 @@
 use Rattle.std.proofs.Common.{ap, sym, ◌∙◌}
 use Rattle.std.specs.FinMap.{find}
 use Rattle.ctd_store.specs.calls.Index.{indices_at}
-use Rattle.ctd_store.specs.calls.Places.{listed, placed}
+use Rattle.ctd_store.specs.calls.Places.{listed, place_entries}
 use Rattle.ctd_store.specs.Order.{values_cmp}
 use Rattle.ctd_store.proofs.Listed.{found_first, scalar_found}
 use Rattle.ctd_store.proofs.array.Array.value.Goals as goal
@@ -13,4 +13,4 @@ returns-in-Scalar c = record {
 }
 
 pub returns-in-Some : goal.returns-in-Some
-returns-in-Some c = record { value = sym (found_first (indices_at c.args.index) c.in-Some.value.now (placed c.self.inside.places) (listed c.self.inside.rest.entries) c.args.self.now c.self.view_is c.in-Some.ensures.value) }
+returns-in-Some c = record { value = sym (found_first (indices_at c.args.index) c.in-Some.value.now (place_entries c.self.inside.places) (listed c.self.inside.rest.entries) c.args.self.now c.self.view_is c.in-Some.ensures.value) }

@@ -1,7 +1,7 @@
 use Rattle.std.proofs.Common.{[], ◌∷◌, length, ap, sym, ◌∙◌, arith}
 use Rattle.std.specs.FinMap.{find}
 use Rattle.ctd_store.specs.calls.ValueRef.{value_of_ref}
-use Rattle.ctd_store.specs.calls.Places.{along, cells, placed}
+use Rattle.ctd_store.specs.calls.Places.{along, cells, place_entries}
 use Rattle.ctd_store.specs.Order.{values_cmp}
 use Rattle.ctd_store.proofs.Placed.{found_in_row, found_in_cells, none_placed, one_of, two_of, written_row, written_cells}
 use Rattle.ctd_store.proofs.places.Places.insert.Goals as goal
@@ -10,11 +10,11 @@ pub returns-in-len1-clause-done : goal.returns-in-len1-clause-done
 returns-in-len1-clause-done c done q =
     let self = c.args.self.now in
     written_row c.index-item.result (value_of_ref c.args.value) self.scalar (along [] c.insert.new.self) (along [] self.row) (cells self.grid) (c.insert.ensures.done done []) q
-    ∙ ap (λ k. find values_cmp q ((k, value_of_ref c.args.value) ∷ placed self)) (sym (one_of c.args.indices.now c.index-item.result c.in-len1.len_at_least c.in-len1.len_below c.index-item.is))
+    ∙ ap (λ k. find values_cmp q ((k, value_of_ref c.args.value) ∷ place_entries self)) (sym (one_of c.args.indices.now c.index-item.result c.in-len1.len_at_least c.in-len1.len_below c.index-item.is))
 
 pub returns-in-len1-clause-elsewhere : goal.returns-in-len1-clause-elsewhere
 returns-in-len1-clause-elsewhere c stays =
-    ap (λ q. find values_cmp q (placed c.args.self.now)) (one_of c.args.indices.now c.index-item.result c.in-len1.len_at_least c.in-len1.len_below c.index-item.is)
+    ap (λ q. find values_cmp q (place_entries c.args.self.now)) (one_of c.args.indices.now c.index-item.result c.in-len1.len_at_least c.in-len1.len_below c.index-item.is)
     ∙ found_in_row c.index-item.result c.args.self.now
     ∙ c.insert.ensures.elsewhere stays []
 
@@ -22,11 +22,11 @@ pub returns-in-len2-clause-done : goal.returns-in-len2-clause-done
 returns-in-len2-clause-done c done q =
     let self = c.args.self.now in
     written_cells c.row-item.result c.column-item.result (value_of_ref c.args.value) self.scalar self.row (cells c.insert-in-len2.new.self) (cells self.grid) (c.insert-in-len2.ensures.done done) q
-    ∙ ap (λ k. find values_cmp q ((k, value_of_ref c.args.value) ∷ placed self)) (sym (two_of c.args.indices.now c.row-item.result c.column-item.result c.in-len2.len_at_least c.in-len2.len_below c.row-item.is c.column-item.is))
+    ∙ ap (λ k. find values_cmp q ((k, value_of_ref c.args.value) ∷ place_entries self)) (sym (two_of c.args.indices.now c.row-item.result c.column-item.result c.in-len2.len_at_least c.in-len2.len_below c.row-item.is c.column-item.is))
 
 pub returns-in-len2-clause-elsewhere : goal.returns-in-len2-clause-elsewhere
 returns-in-len2-clause-elsewhere c stays =
-    ap (λ q. find values_cmp q (placed c.args.self.now)) (two_of c.args.indices.now c.row-item.result c.column-item.result c.in-len2.len_at_least c.in-len2.len_below c.row-item.is c.column-item.is)
+    ap (λ q. find values_cmp q (place_entries c.args.self.now)) (two_of c.args.indices.now c.row-item.result c.column-item.result c.in-len2.len_at_least c.in-len2.len_below c.row-item.is c.column-item.is)
     ∙ found_in_cells c.row-item.result c.column-item.result c.args.self.now
     ∙ c.insert-in-len2.ensures.elsewhere stays
 

@@ -1,7 +1,7 @@
 use Rattle.std.proofs.Common.{take, length, ap, sym, ◌∙◌}
 use Rattle.std.specs.Prelude.{count_by}
 use Rattle.std.proofs.lemmas.List.{take-take}
-use Rattle.ctd_source.specs.calls.CursorCalls.{state_of}
+use Rattle.ctd_source.specs.calls.SourceReads.{state_of}
 use Rattle.ctd_source.specs.TestData.{is_newline}
 use Rattle.test_value.proofs.tests.cursors.pass_in_line.Goals as goal
 

@@ -1,7 +1,7 @@
 use Rattle.std.proofs.Common.{subst, sym}
 use Rattle.ctd_known.specs.calls.Facts.{EachStands}
 use Rattle.ctd_traps.proofs.Joining.{case_done, cases_done}
-use Rattle.ctd_traps.proofs.cases.joined.Goals as goal
+use Rattle.ctd_traps.proofs.cases.join_cases.Goals as goal
 
 pub loop-case-preserved : goal.loop-case-preserved
 loop-case-preserved c = case_done c.args.cases.now c.loop-case.case-index c.case-item.result (λ n h. EachStands c.loop-case.all.items n h) (λ n h. EachStands c.in_ok-all-2.all.items n h) c.loop-case-test.true c.case-item.is

@@ -1,5 +1,5 @@
 use Rattle.ctd_program.proofs.PresetValues.{value_read, no_value_read}
-use Rattle.ctd_program.proofs.preset_text.LiteralItem.item_at.Goals as goal
+use Rattle.ctd_program.proofs.preset_text.PresetValueItem.item_at.Goals as goal
 
 pub returns-clause-read : goal.returns-clause-read
 returns-clause-read c = value_read c.args.bytes.now c.literal_at.result c.literal_at.ensures.value c.literal_at.ensures.within

@@ -9,7 +9,7 @@ use Rattle.ctd_source.specs.declared.source.Seen.TheVariants.{Going, Broken}
 use Rattle.ctd_source.specs.declared.limits.TheConstants.{WINDOW}
 use Rattle.ctd_source.specs.calls.Consistency.{CursorState, IsConsistentWith, IsBounded, has_to_read, fault_after, known_answer}
 use Rattle.ctd_source.specs.TestData.{TestData, look, first_of, is_byte}
-use Rattle.ctd_source.specs.CursorCalls.{Gave}
+use Rattle.ctd_source.specs.SourceReads.{GaveBytes}
 use denote.Ref.{Bor, MutBor}
 
 -- the bytes that are lent
@@ -44,7 +44,7 @@ module _ {R : Type 0} {G : Ghosts R} where
     pub more : List ℕ
     pub held : (state_of new).held ≡ (state_of old).held ++ more
     pub taken : (state_of new).taken ≡ (state_of old).taken + length more
-    pub gave : Gave G (source old) (source new) more
+    pub gave : GaveBytes G (source old) (source new) more
     pub spot : (state_of new).spot ≡ (state_of old).spot
     pub limit : (state_of new).limit ≡ (state_of old).limit
     pub same_reference : BorrowSame old new

@@ -1,16 +1,16 @@
 use Rattle.std.proofs.Common.{◌≡◌, Err, inl, inr, rules}
 use Rattle.ctd_report.specs.declared.written.ToolFault.TheVariants.{Memory, Write}
 use Rattle.ctd_report.specs.Written.{before_after}
-use Rattle.ctd_report.proofs.EndLemmas.{EndsWithReport-weaker, LeavesOneOf-EndsWithReport, BreaksOff-EndsWithReport, Memory-untouched}
+use Rattle.ctd_report.proofs.EndLemmas.{EndsWithReport-weaker, WritesOneOf-EndsWithReport, FailsMidway-EndsWithReport, Memory-untouched}
 use Rattle.ctd_buffers.proofs.SourceLemmas.{report_in_memory}
-use Rattle.ctd_buffers.proofs.run.run_words.Goals as goal
+use Rattle.ctd_buffers.proofs.run.answer_words.Goals as goal
 
 pub returns-in-Ok-run_tool : goal.returns-in-Ok-run_tool
 returns-in-Ok-run_tool g c =
     let s = c.in-Ok.setup in
     EndsWithReport-weaker _ _ _ _ _
     (λ report is. inl (s, c.in-Ok.ensures.setup, report_in_memory s c.args.program.now c.args.testdata.now _ _ report c.new-program.ensures c.new-testdata.ensures is))
-    (LeavesOneOf-EndsWithReport _ _ _ _ (rw c.in-Ok-run_tool.is at c.run_tool.ensures.written))
+    (WritesOneOf-EndsWithReport _ _ _ _ (rw c.in-Ok-run_tool.is at c.run_tool.ensures.written))
 
 pub returns-in-Err : goal.returns-in-Err
 returns-in-Err g c = EndsWithReport-weaker _ _ _ _ _ (λ report is. inr (inl (c.in-Err.fault, c.in-Err.ensures.fault, is))) c.usage_status.ensures
@@ -27,4 +27,4 @@ returns g c =
     let fault_is : c.run_tool.result ≡ Err Write = search rules in
     EndsWithReport-weaker _ _ _ _ _
     (λ report is. inl (s, c.in-Ok.ensures.setup, report_in_memory s c.args.program.now c.args.testdata.now _ _ report c.new-program.ensures c.new-testdata.ensures is))
-    (BreaksOff-EndsWithReport _ _ _ (rw fault_is at c.run_tool.ensures.written))
+    (FailsMidway-EndsWithReport _ _ _ (rw fault_is at c.run_tool.ensures.written))

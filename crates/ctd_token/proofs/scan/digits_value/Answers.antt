@@ -1,6 +1,6 @@
 use Rattle.std.proofs.Common.{arith}
 use Rattle.ctd_token.proofs.Numerals.{decimal_more, decimal_more_le}
-use Rattle.ctd_token.proofs.scan.decimal.Goals as goal
+use Rattle.ctd_token.proofs.scan.digits_value.Goals as goal
 
 pub returns-then-value : goal.returns-then-value
 returns-then-value c = omega (arith, c.if-value.true, c.loop-b.invariant.read, decimal_more_le c.args.digits.now c.loop-b.b-index c.loop-b-test.true)

@@ -1,26 +1,26 @@
 -- What is found piece by piece, as long as there is memory for it.
 use Rattle.std.specs.Prelude.{◌≡◌, ◌++◌, ℕ, List, Option, Some, None, if◌then◌else◌}
 use Rattle.std.specs.Borrow.{Bor}
-use Rattle.ctd_findings.specs.declared.found.Found.{Found}
+use Rattle.ctd_findings.specs.declared.found.Collector.{Collector}
 use Rattle.ctd_findings.specs.declared.block.CommandInBlock.{CommandInBlock}
 use Rattle.ctd_findings.specs.calls.Block.{InBlock}
 use Rattle.ctd_findings.specs.calls.Names.{NameList}
 use Rattle.ctd_findings.specs.inner.Listed.{in_blocks, names_at}
 
 -- what was found, as a view of the items has it; nothing once memory ran out for one
-abbrev pub seen_in : {T U : Type 0} → (List T → List U) → Found T → Option (List U)
+abbrev pub seen_in : {T U : Type 0} → (List T → List U) → Collector T → Option (List U)
 seen_in view found = if found.is_complete then Some (view found.items.items) else None
 
 -- the items themselves
-abbrev pub items_in : {T : Type 0} → Found T → Option (List T)
+abbrev pub items_in : {T : Type 0} → Collector T → Option (List T)
 items_in found = seen_in (λ items. items) found
 
 -- the names behind references
-abbrev pub names_in : Found (Bor (List ℕ)) → Option NameList
+abbrev pub names_in : Collector (Bor (List ℕ)) → Option NameList
 names_in found = seen_in names_at found
 
 -- the commands behind references
-abbrev pub blocks_in : Found CommandInBlock → Option (List InBlock)
+abbrev pub blocks_in : Collector CommandInBlock → Option (List InBlock)
 blocks_in found = seen_in in_blocks found
 
 -- more is found, unless memory runs out

@@ -4,12 +4,12 @@ use Rattle.std.specs.Prelude.{ℤ, Bool, true, false, ◌&&◌, [], Option, None
 use Rattle.std.specs.Result.{result_ok}
 use Rattle.ctd_source.specs.TestData.{TestData}
 use Rattle.ctd_program.specs.Tree.{ExprTree, TestTree}
-use Rattle.ctd_store.specs.Store.{History, initial}
+use Rattle.ctd_store.specs.Store.{Bindings, initial}
 use Rattle.ctd_value.specs.Truth.{truth}
 use Rattle.ctd_value.specs.Val.{number_of}
 
 -- the variables before anything is assigned
-abbrev pub no_variables : History
+abbrev pub no_variables : Bindings
 no_variables = initial []
 
 -- data of no bytes

@@ -1,7 +1,7 @@
 -- What stands between the quotes of a string literal.
 -- Used only by the proofs of this crate.
 use Rattle.std.specs.Prelude.{ℕ, ◌&&◌, Bool, not, nat_eq, [], None}
-use Rattle.ctd_token.specs.Literal.{WholeLiteral}
+use Rattle.ctd_token.specs.StringLiteral.{WholeLiteral}
 
 -- neither a quote nor a backslash
 abbrev pub is_plain : ℕ → Bool
