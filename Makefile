@@ -47,7 +47,7 @@ missing = $(shell scripts/missing_toolchain.sh)
 packed := portable/checktestdata.c.xz
 is_current = $(shell portable/is_current.sh 2>/dev/null && echo yes)
 by_c := compiling $(packed), made of these sources: the Rattle toolchain, which proves them, is not here
-embedded := crates/ctd_embed/out/build/libctd_embed.a
+embedded := crates/ctd_capi/out/build/libctd_capi.a
 lint_module := crates/ctd_lint/out/build/ctd_lint.bc
 strip := $(if $(shell command -v strip),-s)
 
@@ -80,7 +80,7 @@ portable:
 # The programs come first, since all are made over the same libraries. Both rules keep the LLVM module of the crate, for the page.
 $(embedded): $(sources) | build
 	$(need_toolchain)
-	+@scripts/keep_module.sh ctd_embed $(@F)
+	+@scripts/keep_module.sh ctd_capi $(@F)
 	@touch $@
 
 $(lint_module): $(sources) | build

@@ -9,7 +9,7 @@ objects=$(mktemp -d)
 trap 'rm -rf "$objects"' EXIT
 mkdir -p "$out"
 cd "$objects"
-ar x "$top/crates/ctd_embed/out/build/libctd_embed.a"
+ar x "$top/crates/ctd_capi/out/build/libctd_capi.a"
 ar x "$kit/c/liblibc_c.a"
 rm -f "$out/libchecktestdata.a"
 ar rcsD "$out/libchecktestdata.a" ./*.o

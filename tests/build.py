@@ -15,7 +15,7 @@ from results import TOP, run_unit_tests
 
 OUT_OF_TIME = 60
 PROGRAM = "crates/checktestdata/out/checktestdata"
-LIBRARY = "crates/ctd_embed/out/build/libctd_embed.a"
+LIBRARY = "crates/ctd_capi/out/build/libctd_capi.a"
 
 STUB = """#!/usr/bin/env bash
 [ "$2" != --help ] || { echo '  --statements'; exit; }

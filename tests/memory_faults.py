@@ -24,7 +24,7 @@ CONVERSION = re.compile(r"\bimpl(?:<T: Drop>)? From<Alloc(?:Error|Failed<T>)> fo
 # The function, by its file, and why its answer comes after a failed allocation alone.
 ELSEWHERE = {
     ("ctd_arguments/src/words.rt", "texts_of"): "a push failed",
-    ("ctd_buffers/src/run.rt", "run_in_memory"): "the words could not be split, which only memory can prevent",
+    ("ctd_in_memory/src/run.rt", "run_in_memory"): "the words could not be split, which only memory can prevent",
     ("ctd_findings/src/found.rt", "finish"): "a push failed before",
     ("ctd_lint/src/command_line.rt", "copies_of"): "a push failed",
     ("ctd_lint/src/command_line.rt", "kinds_named"): "a push failed",

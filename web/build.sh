@@ -30,6 +30,6 @@ make_module() {
     python3 "$top/web/strip_table.py" "$work/linked.wasm" "$out/$result"
 }
 
-make_module ctd_embed checktestdata_run checktestdata.wasm heap.c
+make_module ctd_capi checktestdata_run checktestdata.wasm heap.c
 make_module ctd_lint main ctd-lint.wasm heap.c system.c
 "$top/web/files.sh" "$out"

@@ -6,8 +6,8 @@ use Rattle.ctd_report.specs.Written.{BeforeAfter, before_after, EndsWithReport, 
 use Rattle.ctd_report.proofs.EndLemmas.{EndsWithReport-weaker}
 use Rattle.ctd_arguments.specs.declared.setup.UsageFault.TheVariants.{Memory}
 use Rattle.ctd_report.specs.Report.{Report, usage_report}
-use Rattle.ctd_buffers.specs.calls.Buffers.{HoldReport}
-use Rattle.ctd_buffers.specs.calls.InMemory.{IsAnswerTo}
+use Rattle.ctd_in_memory.specs.calls.Buffers.{HoldReport}
+use Rattle.ctd_in_memory.specs.calls.InMemory.{IsAnswerTo}
 
 -- the stream was empty, and holds this text
 record Holds {S : Type 0} {G : Ghosts S} (stream : BeforeAfter G) (text : List ℕ) : Type 0 where

@@ -1,5 +1,5 @@
 use Rattle.std.proofs.Common.{◌≡◌, map, take}
-use Rattle.ctd_buffers.proofs.words.split_words.Given as goal
+use Rattle.ctd_in_memory.proofs.words.split_words.Given as goal
 
 abbrev pub invariant-loop-piece : goal.invariant-loop-piece
 invariant-loop-piece l = record {

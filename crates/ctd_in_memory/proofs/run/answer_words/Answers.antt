@@ -2,8 +2,8 @@ use Rattle.std.proofs.Common.{◌≡◌, Err, inl, inr, rules}
 use Rattle.ctd_report.specs.declared.written.ToolFault.TheVariants.{Memory, Write}
 use Rattle.ctd_report.specs.Written.{before_after}
 use Rattle.ctd_report.proofs.EndLemmas.{EndsWithReport-weaker, WritesOneOf-EndsWithReport, FailsMidway-EndsWithReport, Memory-untouched}
-use Rattle.ctd_buffers.proofs.SourceLemmas.{report_in_memory}
-use Rattle.ctd_buffers.proofs.run.answer_words.Goals as goal
+use Rattle.ctd_in_memory.proofs.SourceLemmas.{report_in_memory}
+use Rattle.ctd_in_memory.proofs.run.answer_words.Goals as goal
 
 pub returns-in-Ok-run_tool : goal.returns-in-Ok-run_tool
 returns-in-Ok-run_tool g c =

@@ -12,8 +12,8 @@ use Rattle.ctd_loader.specs.Loading.{IsReady, Loads, MayFail, TextHasFault, of_t
 use Rattle.ctd_arguments.specs.declared.setup.Setup.{Setup}
 use Rattle.ctd_report.specs.Report.{Report}
 use Rattle.ctd_tool.specs.Theorem.{Call, IsReport, of_meaning, of_program_fault}
-use Rattle.ctd_buffers.specs.inner.MemorySource.{HoldsBytes}
-use Rattle.ctd_buffers.specs.calls.InMemory.{data_of, IsReportBy}
+use Rattle.ctd_in_memory.specs.inner.MemorySource.{HoldsBytes}
+use Rattle.ctd_in_memory.specs.calls.InMemory.{data_of, IsReportBy}
 
 -- the bytes that a source in memory gave, beside all of its bytes
 record GivenOf (seen : Seen) (text bytes : List ℕ) : Type 0 where

@@ -13,7 +13,7 @@ pub(crate) struct MemorySource<'m> {
 }
 
 impl<'m> MemorySource<'m> {
-    ghost use Rattle.ctd_buffers.specs.inner.MemorySource.{HoldsBytes};
+    ghost use Rattle.ctd_in_memory.specs.inner.MemorySource.{HoldsBytes};
 
     /// A source that has these bytes left to give.
     pub(crate) fn new(bytes: &'m [u8]) -> Self

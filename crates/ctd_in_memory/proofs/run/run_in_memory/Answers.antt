@@ -1,8 +1,8 @@
 use Rattle.std.proofs.Common.{◌≡◌, ◌==◌, refl, ap, Some, rules}
 use Rattle.std.specs.List.{slice_split}
-use Rattle.ctd_buffers.proofs.TextLemmas.{hold_answer, hold_memory}
-use Rattle.ctd_buffers.proofs.run.run_in_memory.Goals as goal
-use Rattle.ctd_buffers.proofs.run.run_in_memory.Goals.{in-Ok, in-Err}
+use Rattle.ctd_in_memory.proofs.TextLemmas.{hold_answer, hold_memory}
+use Rattle.ctd_in_memory.proofs.run.run_in_memory.Goals as goal
+use Rattle.ctd_in_memory.proofs.run.run_in_memory.Goals.{in-Ok, in-Err}
 
 pub returns : goal.returns
 returns c = elim c.match-split_words.branch [

@@ -3,8 +3,8 @@
 ghost use Rattle.std.specs.Prelude.{◌≡◌, ◌==◌, false};
 ghost use Rattle.std.specs.List.{slice_split};
 ghost use Rattle.ctd_report.specs.Written.{EndsWithReport, before_after};
-ghost use Rattle.ctd_buffers.specs.calls.Buffers.{HoldReport};
-ghost use Rattle.ctd_buffers.specs.calls.InMemory.{IsAnswerTo};
+ghost use Rattle.ctd_in_memory.specs.calls.Buffers.{HoldReport};
+ghost use Rattle.ctd_in_memory.specs.calls.InMemory.{IsAnswerTo};
 
 use crate::memory_source::MemorySource;
 use crate::text_sink::TextSink;
