@@ -8,7 +8,7 @@ ghost use Rattle.clap.specs.Words.{Text, first_of, found_of, kind_of, rows_of};
 ghost use Rattle.ctd_arguments.specs.Settings.{IsSetup};
 ghost use Rattle.ctd_arguments.specs.inner.Usage.{file_of, mode_by};
 ghost use Rattle.ctd_arguments.specs.Usage.{ArePresetsOf, IsStepLimitOf, IsStepNumber, IsUsageFault, fault_by_kind};
-ghost use Rattle.ctd_arguments.specs.inner.Usage.{is_on};
+ghost use Rattle.ctd_arguments.specs.calls.Usage.{is_on};
 ghost use Rattle.ctd_arguments.specs.inner.Usage.{HasNoPresets, HasNoStepLimit, IsFoundIn};
 
 use crate::command_line::matches_in;

@@ -1,18 +1,13 @@
 -- Which fault the words have.
 -- Used only by the proofs of this crate.
-use Rattle.std.specs.Prelude.{◌≡◌, ℕ, Bool, List, Option, None, Some, codes, false, option_and_then, if◌then◌else◌}
-use Rattle.std.specs.Option.{option_map_or}
+use Rattle.std.specs.Prelude.{◌≡◌, ℕ, Bool, List, Option, None, Some, codes, option_and_then, if◌then◌else◌}
 use Rattle.std.specs.Str.{bytes_eq}
-use Rattle.clap.specs.Words.{Row, Text, first_of, matches_of}
+use Rattle.clap.specs.Words.{Row, Text, matches_of}
 use Rattle.ctd_program.specs.declared.mode.Mode.{Mode}
 use Rattle.ctd_program.specs.declared.mode.Mode.TheVariants.{Exact, BlanksOk}
 use Rattle.ctd_program.specs.declared.preset.Preset.{Preset}
 use Rattle.ctd_arguments.specs.CommandLine.{checker}
 use Rattle.ctd_arguments.specs.Usage.{ArePresetsOf, IsStepLimitOf, IsTaken}
-
--- a flag is on in what clap found
-abbrev pub is_on : Text → List Row → Bool
-is_on name rows = option_map_or (λ value. bytes_eq value (codes "true")) (first_of name rows) false
 
 -- clap takes the words, and finds these values in them
 abbrev pub IsFoundIn : List Text → List Row → Type 0

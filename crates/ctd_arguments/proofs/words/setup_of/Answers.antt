@@ -4,7 +4,8 @@ use Rattle.clap.specs.Words.{Text, first_of, found_of}
 use Rattle.clap.proofs.WalkLemmas.{first_value-rows}
 use Rattle.ctd_arguments.specs.Usage.{ArePresetsOf, IsStepLimitOf, generates, no_memory, option_value}
 use Rattle.ctd_arguments.specs.declared.setup.UsageFault.TheVariants.{Memory}
-use Rattle.ctd_arguments.specs.inner.Usage.{file_of, is_on, mode_by}
+use Rattle.ctd_arguments.specs.calls.Usage.{is_on}
+use Rattle.ctd_arguments.specs.inner.Usage.{file_of, mode_by}
 use Rattle.ctd_arguments.proofs.UsageFaults.{holds_on_return, no_presets, no_steps}
 use Rattle.ctd_arguments.proofs.words.setup_of.Goals as goal
 

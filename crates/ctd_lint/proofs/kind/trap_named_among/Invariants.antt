@@ -1,6 +1,0 @@
-use Rattle.std.proofs.Common.{◌≡◌, drop}
-use Rattle.ctd_lint.specs.inner.Kinds.{trap_named_among}
-use Rattle.ctd_lint.proofs.kind.trap_named_among.Given as goal
-
-abbrev pub invariant-loop-kind : goal.invariant-loop-kind
-invariant-loop-kind l = trap_named_among (drop l.kind-index l.kinds) l.name ≡ trap_named_among l.kinds l.name

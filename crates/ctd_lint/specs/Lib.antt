@@ -1,2 +1,0 @@
--- what only the proofs of this crate use
-pub mod inner

@@ -1,0 +1,306 @@
+//! The words of the command line.
+
+ghost use Rattle.std.specs.Prelude.{◌≡◌, ◌⊎◌, All, IfErr, IfOk, IsUtf8, List, MatchResult, None, Some, codes, map, option_map};
+ghost use Rattle.clap.specs.Words.{FailsBy, Text, all_of, app_of, fault_of, first_of, found_of, kind_of, matches_of, rows_of, rule_of};
+ghost use Rattle.ctd_arguments.specs.inner.RequiredProgram.{IsLocal};
+ghost use Rattle.ctd_arguments.specs.Usage.{ArePresetsOf};
+ghost use Rattle.ctd_arguments.specs.calls.Usage.{is_on};
+ghost use Rattle.ctd_lint_tool.specs.calls.CommandLine.{AreKindsOf, IsLintSetup, define_rule, elements_rule, ignore_rule, linter, parts, programs_rule, verdicts_rule};
+ghost use Rattle.ctd_lint_tool.specs.calls.Kinds.{lint_kind_named};
+ghost use Rattle.ctd_lint_tool.specs.calls.Usage.{IsBadPreset, IsLintFault, TellsUnknown, fault_by_kind, first_unknown, unknown_in};
+ghost use Rattle.ctd_lint_tool.specs.inner.Usage.{IsFoundIn};
+
+use crate::kind::LintKind;
+use crate::words::spelled_out;
+use clap::error::ErrorKind;
+use clap::{Arg, ArgAction, ArgMatches, Command, Error};
+use ctd_program::{PresetFault, Presets};
+use ctd_token::Bytes;
+use std::alloc::{AllocError, Global};
+use std::str::from_utf8;
+
+/// What the command line asks for.
+#[derive(Drop)]
+pub(crate) struct LintSetup {
+    /// The names of the programs' files.
+    pub(crate) programs: Vec<Bytes>,
+    /// The names that presets give values.
+    pub(crate) presets: Presets,
+    /// The kinds that are left out.
+    pub(crate) ignored: Vec<LintKind>,
+    /// Whether a line tells of verdicts.
+    pub(crate) verdicts: bool,
+    /// Whether the traps of elements and of arrays in UNIQUE are shown too.
+    pub(crate) elements: bool,
+}
+
+/// Why the words ask for no program.
+#[derive(Drop)]
+pub(crate) enum LintFault {
+    /// The words are not those of a command line of this program.
+    Words,
+    /// The text of the presets spells none.
+    BadPreset,
+    /// There is no kind of this name.
+    UnknownKind(Bytes),
+    /// The help is asked for.
+    Help,
+    /// The version is asked for.
+    Version,
+    /// No memory was left for the words.
+    Memory,
+}
+
+impl From<AllocError> for LintFault {
+    ghost use Rattle.ctd_lint_tool.specs.declared.command_line.LintFault.TheVariants.{Memory};
+
+    ghost from_gives = { λ _ fault. fault ≡ Memory };
+
+    fn from(_: AllocError) -> LintFault {
+        LintFault::Memory
+    }
+}
+
+/// The option of the presets.
+fn define_option<'a>(alloc: Global) -> Arg<'a>
+    ensures rule { rule_of result ≡ define_rule }
+    ensures local { IsLocal result }
+{
+    Arg::new(alloc, "define")
+        .long("define")
+        .action(ArgAction::Set)
+        .short('D')
+}
+
+/// The option of the kinds that are left out.
+fn ignore_option<'a>(alloc: Global) -> Arg<'a>
+    ensures rule { rule_of result ≡ ignore_rule }
+    ensures local { IsLocal result }
+{
+    Arg::new(alloc, "ignore")
+        .long("ignore")
+        .action(ArgAction::Set)
+}
+
+/// The flag that asks for the line about verdicts.
+fn verdicts_flag<'a>(alloc: Global) -> Arg<'a>
+    ensures rule { rule_of result ≡ verdicts_rule }
+    ensures local { IsLocal result }
+{
+    Arg::new(alloc, "verdicts")
+        .long("verdicts")
+        .action(ArgAction::SetTrue)
+}
+
+/// The flag that asks for elements and arrays in UNIQUE.
+fn elements_flag<'a>(alloc: Global) -> Arg<'a>
+    ensures rule { rule_of result ≡ elements_rule }
+    ensures local { IsLocal result }
+{
+    Arg::new(alloc, "elements")
+        .long("elements")
+        .action(ArgAction::SetTrue)
+}
+
+/// The names of the programs' files, of which one has to be there.
+fn program_names<'a>(alloc: Global) -> Arg<'a>
+    ensures rule { rule_of result ≡ programs_rule }
+    ensures local { IsLocal result }
+{
+    Arg::new(alloc, "PROGRAM")
+        .required(true)
+        .action(ArgAction::Append)
+}
+
+/// The command line of ctd-lint.
+fn command<'a>(alloc: Global) -> Result<Command<'a>, AllocError>
+    ensures linter { IfOk result (λ c. app_of c ≡ linter) }
+{
+    let arguments = vec![in alloc;
+        define_option(alloc),
+        ignore_option(alloc),
+        verdicts_flag(alloc),
+        elements_flag(alloc),
+        program_names(alloc),
+    ]?;
+    Command::new(alloc, "ctd-lint")
+        .version("1.0")
+        .args(arguments)
+}
+
+/// What clap finds in the words, the program's own name first.
+fn matches_in<'a>(alloc: Global, words: &'a [&'a str]) -> Result<ArgMatches<'a>, Error>
+    ensures found { IfOk result (λ m. rows_of (found_of m) ≡ matches_of linter (map (λ w. w.now) words.entry.now)) }
+    ensures fault { FailsBy (fault_of linter (map (λ w. w.now) words.entry.now)) result }
+{
+    command(alloc)?.try_get_matches_from(words)
+}
+
+/// The words as texts.
+fn texts_of<'w>(alloc: Global, words: &'w [Bytes]) -> Result<Vec<&'w str>, LintFault>
+    ensures ok { IfOk result (λ texts. map (λ text. text.now) texts.items ≡ words.now) }
+    ensures text { IfOk result (λ _. All IsUtf8 words.now) }
+    ensures refused { result ≡ Err LintFault.Words → ¬ (All IsUtf8 words.now) }
+    ensures faults { IfErr result (λ fault. (fault ≡ LintFault.Words) ⊎ (fault ≡ LintFault.Memory)) }
+{
+    let mut texts = Vec::new(alloc);
+    for word in words {
+        let Ok(text) = from_utf8(word.as_slice()) else {
+            return Err(LintFault::Words);
+        };
+        let Ok(()) = texts.push(text) else {
+            return Err(LintFault::Memory);
+        };
+    }
+    Ok(texts)
+}
+
+/// The fault for an error of clap.
+fn fault_for(error: &Error) -> LintFault
+    ensures { result ≡ fault_by_kind (kind_of error.now) }
+{
+    match error.kind() {
+        ErrorKind::DisplayHelp => LintFault::Help,
+        ErrorKind::DisplayVersion => LintFault::Version,
+        ErrorKind::OutOfMemory => LintFault::Memory,
+        _ => LintFault::Words,
+    }
+}
+
+/// The value that the words give to an option or an argument.
+fn value_of<'a>(matches: &ArgMatches<'a>, name: &str) -> Option<&'a str>
+    ensures { option_map (λ v. v.now) result ≡ first_of name.now (rows_of (found_of matches.now)) }
+{
+    matches.get_str(name)
+}
+
+/// Whether the words give a flag.
+fn is_set(matches: &ArgMatches<'_>, name: &str) -> bool
+    ensures { result ≡ is_on name.now (rows_of (found_of matches.now)) }
+{
+    match value_of(matches, name) {
+        Some(value) => value == "true",
+        None => false,
+    }
+}
+
+/// The values that the words give to an option or an argument, if it is there.
+fn values_of<'m, 'a>(matches: &'m ArgMatches<'a>, name: &str) -> Option<&'m [&'a str]>
+    ensures { option_map (λ vs. map (λ v. v.now) vs.now) result ≡ all_of name.now (rows_of (found_of matches.now)) }
+{
+    matches.get_strs(name)
+}
+
+/// The presets.
+fn presets_of(alloc: Global, text: Option<&str>) -> Result<Presets, LintFault>
+    ensures { let given = option_map (λ t. t.now) text.entry in
+        MatchResult result (ArePresetsOf given)
+        (λ f. (f ≡ LintFault.Memory) ⊎ ((f ≡ LintFault.BadPreset) × IsBadPreset given)) }
+{
+    match text {
+        None => Ok(Presets::none(alloc)),
+        Some(text) => match Presets::read(alloc, text) {
+            Ok(presets) => Ok(presets),
+            Err(PresetFault::BadPreset) => Err(LintFault::BadPreset),
+            Err(PresetFault::Memory) => Err(LintFault::Memory),
+        },
+    }
+}
+
+/// The parts of a text between commas.
+fn parts_of<'t>(alloc: Global, text: &'t str) -> Result<Vec<&'t str>, AllocError>
+    ensures { IfOk result (λ found. map (λ part. part.now) found.items ≡ parts text.now) }
+{
+    text.split(',').collect(alloc)
+}
+
+/// The kinds of some names.
+fn kinds_named(alloc: Global, names: &[&str]) -> Result<Vec<LintKind>, LintFault>
+    ensures kinds { IfOk result (λ kinds. map Some kinds.items ≡ map lint_kind_named (map (λ name. name.now) names.now)) }
+    ensures fault { IfErr result (λ f. (f ≡ LintFault.Memory) ⊎ TellsUnknown (first_unknown (map (λ name. name.now) names.now)) f) }
+{
+    let mut kinds = Vec::new(alloc);
+    for name in names {
+        let Some(kind) = LintKind::named(name) else {
+            return Err(LintFault::UnknownKind(Bytes::copy(alloc, name.as_bytes())?));
+        };
+        let Ok(()) = kinds.push(kind) else {
+            return Err(LintFault::Memory);
+        };
+    }
+    Ok(kinds)
+}
+
+/// The kinds that are left out.
+fn kinds_of(alloc: Global, text: Option<&str>) -> Result<Vec<LintKind>, LintFault>
+    ensures kinds { IfOk result (λ kinds. AreKindsOf (option_map (λ t. t.now) text.entry) kinds.items) }
+    ensures fault { IfErr result (λ f. (f ≡ LintFault.Memory) ⊎ TellsUnknown (unknown_in (option_map (λ t. t.now) text.entry)) f) }
+{
+    match text {
+        None => Ok(Vec::new(alloc)),
+        Some(text) => {
+            let parts = parts_of(alloc, text)?;
+            kinds_named(alloc, parts.as_slice())
+        }
+    }
+}
+
+/// Copies of some names.
+fn copies_of(alloc: Global, names: &[&str]) -> Result<Vec<Bytes>, LintFault>
+    ensures copies { IfOk result (λ copies. copies.items ≡ map (λ name. name.now) names.now) }
+    ensures fault { IfErr result (λ f. f ≡ LintFault.Memory) }
+{
+    let mut copies = Vec::new(alloc);
+    for name in names {
+        let copy = Bytes::copy(alloc, name.as_bytes())?;
+        let Ok(()) = copies.push(copy) else {
+            return Err(LintFault::Memory);
+        };
+    }
+    Ok(copies)
+}
+
+/// The names of the programs' files.
+fn programs_of(alloc: Global, matches: &ArgMatches<'_>) -> Result<Vec<Bytes>, LintFault>
+    ensures { let names = all_of (codes "PROGRAM") (rows_of (found_of matches.now)) in
+        MatchResult result (λ programs. names ≡ Some programs.items)
+        (λ f. (f ≡ LintFault.Memory) ⊎ ((f ≡ LintFault.Words) × (names ≡ None))) }
+{
+    match values_of(matches, "PROGRAM") {
+        Some(names) => copies_of(alloc, names),
+        None => Err(LintFault::Words),
+    }
+}
+
+/// What is asked for by the values that clap found.
+fn setup_of(alloc: Global, matches: &ArgMatches<'_>) -> Result<LintSetup, LintFault>
+    ensures setup { IfOk result (λ s. (words : List Text) → IsFoundIn words (rows_of (found_of matches.now)) → IsLintSetup words s) }
+    ensures fault { IfErr result (λ f. (words : List Text) → IsFoundIn words (rows_of (found_of matches.now)) → IsLintFault words f) }
+{
+    let programs = programs_of(alloc, matches)?;
+    let presets = presets_of(alloc, value_of(matches, "define"))?;
+    let ignored = kinds_of(alloc, value_of(matches, "ignore"))?;
+    Ok(LintSetup {
+        programs,
+        presets,
+        ignored,
+        verdicts: is_set(matches, "verdicts"),
+        elements: is_set(matches, "elements"),
+    })
+}
+
+/// What the words ask for: after the program's own name the options and flags, and PROGRAM once or more. `--verdicts=all` stands for both flags.
+///
+/// The first of these that applies is the fault: a word that is not UTF-8 (Words); what clap refuses, or answers with the
+/// help or the version (Words, Help, Version); BadPreset; UnknownKind. Memory may come at any of them.
+pub(crate) fn settings(alloc: Global, words: &[Bytes]) -> Result<LintSetup, LintFault>
+    ensures setup { IfOk result (IsLintSetup words.now) }
+    ensures fault { IfErr result (IsLintFault words.now) }
+{
+    let texts = texts_of(alloc, words)?;
+    let spelled = spelled_out(alloc, texts.as_slice())?;
+    match matches_in(alloc, spelled.as_slice()) {
+        Ok(matches) => setup_of(alloc, &matches),
+        Err(error) => Err(fault_for(&error)),
+    }
+}

@@ -1,0 +1,81 @@
+//! The programs, opened and linted one after the other.
+
+ghost use Rattle.std.specs.Prelude.{◌≡◌, ◌≢◌, Err, false};
+ghost use Rattle.ctd_report.specs.Report.{on_err};
+ghost use Rattle.ctd_report.specs.calls.Written.{Leaves};
+ghost use Rattle.ctd_report.specs.Written.{WritesOneOf, before_after};
+ghost use Rattle.ctd_lint_tool.specs.calls.FileReport.{IsNamedReport};
+ghost use Rattle.ctd_lint_tool.specs.calls.Run.{stand};
+ghost use Rattle.ctd_lint_tool.specs.inner.Run.{LeavesRun};
+ghost use Rattle.ctd_lint_tool.specs.calls.Text.{open_line};
+
+use crate::command_line::LintSetup;
+use crate::lint::{NO_WARNINGS, lint};
+use crate::programs::Programs;
+use crate::text::open_text;
+use ctd_report::{NO_VERDICT, Sink, ToolFault, write_report};
+use ctd_source::Source;
+use ctd_token::Bytes;
+use std::alloc::Global;
+
+/// Writes that a file cannot be opened, and returns the status.
+fn write_unopened<O: Sink, E: Sink>(
+    alloc: Global,
+    name: &Bytes,
+    out: &mut O,
+    err: &mut E,
+) -> Result<u8, ToolFault>
+    requires out_works { O.has_failed out.old ≡ false }
+    requires err_works { E.has_failed err.old ≡ false }
+    ensures written { Leaves (before_after O.Sink out.old out.new) (before_after E.Sink err.old err.new) (on_err (open_line name.now)) result }
+{
+    let text = open_text(alloc, name.as_slice())?;
+    write_report(&[], text.as_slice(), NO_VERDICT, out, err)
+}
+
+/// Opens a program, writes its findings, and returns the status.
+fn lint_named<P: Programs, O: Sink, E: Sink>(
+    alloc: Global,
+    setup: &LintSetup,
+    name: &Bytes,
+    programs: &mut P,
+    out: &mut O,
+    err: &mut E,
+) -> Result<u8, ToolFault>
+    requires out_works { O.has_failed out.old ≡ false }
+    requires err_works { E.has_failed err.old ≡ false }
+    ensures written { WritesOneOf (before_after O.Sink out.old out.new) (before_after E.Sink err.old err.new)
+        (IsNamedReport P.opens_program P.Program.Source name.now setup.now programs.old programs.new) result }
+    // also where memory ran out
+    ensures asked { P.asks_for programs.old name.now programs.new }
+{
+    match programs.open_program(alloc, name.as_slice())? {
+        Some(mut program) => lint(alloc, setup, name, &mut program, out, err),
+        None => write_unopened(alloc, name, out, err),
+    }
+}
+
+/// Lints the programs of these names one after the other, and returns the greatest status. A stream that fails, or memory that runs out, ends it.
+pub(crate) fn lint_all<P: Programs, O: Sink, E: Sink>(
+    alloc: Global,
+    setup: &LintSetup,
+    names: &[Bytes],
+    programs: &mut P,
+    out: &mut O,
+    err: &mut E,
+) -> Result<u8, ToolFault>
+    requires out_works { O.has_failed out.old ≡ false }
+    requires err_works { E.has_failed err.old ≡ false }
+    ensures run { LeavesRun
+        (record { opens = P.opens_program; asks = P.asks_for; source = P.Program.Source; out = O.Sink; err = E.Sink })
+        setup.now names.now (stand programs.old out.old err.old) (stand programs.new out.new err.new) result }
+    ensures out_works { result ≢ Err ToolFault.Write → O.has_failed out.new ≡ false }
+    ensures err_works { result ≢ Err ToolFault.Write → E.has_failed err.new ≡ false }
+{
+    let mut status = NO_WARNINGS;
+    for name in names {
+        let own = lint_named(alloc, setup, name, programs, out, err)?;
+        status = status.max(own);
+    }
+    Ok(status)
+}

@@ -1,0 +1,17 @@
+//! What the command line ctd-lint does: it reads programs of the checktestdata language, and tells of each what it cannot mean, and where it may stop
+//! without a verdict.
+#![tactic(auto)]
+
+mod command_line;
+mod files;
+mod kind;
+mod lint;
+mod process;
+mod programs;
+mod text;
+mod traps;
+mod usage;
+mod words;
+
+pub use ctd_process::System;
+pub use process::{Answered, answer};
