@@ -1,5 +1,5 @@
 -- Faults of values and tests, as what they mean for a run.
-use Rattle.std.proofs.Common.{◌≡◌, ◌<◌, ◌≤◌, ℕ, ◌+◌, Bool, true, false, List, length, take, refl, ap, sym, ◌∙◌, subst, arith, Result, Ok, Err, Some, None}
+use Rattle.std.proofs.Common.{◌≡◌, ◌<◌, ◌≤◌, ℕ, ◌+◌, Bool, true, false, List, length, take, ap, sym, ◌∙◌, subst, arith, Result, Ok, Err, Some, None}
 use Rattle.std.specs.Prelude.{slice_get}
 use Rattle.std.specs.Result.{IsErr, IsErrAnd}
 use Rattle.ctd_source.specs.declared.source.Source.{Ghosts}
@@ -19,7 +19,7 @@ use Rattle.ctd_value.specs.Truth.{truth}
 use Rattle.ctd_command.specs.declared.failure.CommandFailure.{CommandFailure}
 use Rattle.ctd_command.specs.declared.machine.Run.{Run}
 use Rattle.ctd_outcome.specs.declared.reason.Fault.{Fault}
-use Rattle.ctd_command.specs.State.{State, done, faulty, lift, evaluate}
+use Rattle.ctd_command.specs.State.{State, done, lift, evaluate}
 use Rattle.ctd_command.specs.Commands.{answer}
 use Rattle.ctd_command.specs.calls.Failures.{test_failure, failure_of}
 use Rattle.ctd_command.specs.calls.Performs.{Does, state, IsSound, Performs}
