@@ -16,6 +16,7 @@ use Rattle.ctd_value.specs.Fault.{with_fault, fault_of_look}
 use Rattle.ctd_value.specs.inner.Truth.{is_end}
 use Rattle.ctd_outcome.specs.declared.reason.Reason.{Reason}
 use Rattle.ctd_outcome.specs.declared.reason.Reason.TheVariants.{ExpectedSpace, ExpectedNewline, ExpectedEof, ExpectedInt, LeadingZero, MinusZero, StringMismatch, OutOfRange}
+use Rattle.ctd_outcome.specs.declared.reason.Fault.{Fault}
 use Rattle.ctd_outcome.specs.declared.reason.Fault.TheVariants.{MatchTooLong}
 use Rattle.ctd_command.specs.State.{State, Effect, done, rejected, faulty, proceed, lift, return, reject, pass, stop, see_next}
 use Rattle.ctd_command.specs.Commands.{one_byte, eof, decide, integer, match_bytes}
