@@ -8,13 +8,13 @@ use Rattle.ctd_source.specs.TestData.{TestData, next_byte, look, visible}
 use Rattle.ctd_program.specs.Tree.{TestTree}
 use Rattle.ctd_store.specs.declared.value.Value.{Value}
 use Rattle.ctd_store.specs.Store.{Bindings, Key}
-use Rattle.ctd_value.specs.Fault.{ValueFault, TruthFault, with_fault}
-use Rattle.ctd_value.specs.Fault as faults
+use Rattle.ctd_value.specs.Fault.{with_fault, fault_of_look}
+use Rattle.ctd_value.proofs.Ordinary.{HasSteps, look_has_steps, truth_has_steps}
 use Rattle.ctd_value.specs.Truth.{truth}
 use Rattle.ctd_outcome.specs.declared.reason.Reason.{Reason}
 use Rattle.ctd_outcome.specs.declared.reason.Fault.{Fault}
 use Rattle.ctd_outcome.specs.declared.reason.Fault.TheVariants.{StepLimit, Read}
-use Rattle.ctd_command.specs.State.{State, Effect, done, rejected, faulty, Act, proceed, ◌>>=◌, return, reject, stop, lift, fault_of_look, fault_of_value, fault_of_truth, evaluate, see_next, see_window}
+use Rattle.ctd_command.specs.State.{State, Effect, done, rejected, faulty, Act, proceed, ◌>>=◌, return, reject, stop, lift, evaluate, see_next, see_window}
 use Rattle.ctd_command.specs.Commands.{assign_key, answer, unset_all}
 use Rattle.ctd_check.proofs.LongerData.{Extends, SameOrRead, longer_look, longer_byte, longer_truth, longer_visible, visible_within, begins}
 
@@ -120,42 +120,27 @@ assigning k value = record { forward = λ d s. le_refl s.offset; inside = λ d s
 pub unsetting : (names : List (List ℕ)) → IsLocal (unset_all names)
 unsetting names = record { forward = λ d s. le_refl s.offset; inside = λ d s within. within; longer = λ d e s x within. same refl }
 
--- The faults of looks, values and tests.
-of_look : (fault : LookFault) → fault_of_look fault ≢ StepLimit
-of_look looks.Read = λ e. cc
-of_look looks.DataTooLong = λ e. cc
-
-of_value : (fault : ValueFault) → fault_of_value fault ≢ StepLimit
-of_value faults.Undefined = λ e. cc
-of_value faults.WrongType = λ e. cc
-of_value faults.Overflow = λ e. cc
-of_value faults.DivisionByZero = λ e. cc
-of_value faults.Exponent = λ e. cc
-of_value faults.Count = λ e. cc
-of_value faults.Shape = λ e. cc
-
-of_truth : (fault : TruthFault) → fault_of_truth fault ≢ StepLimit
-of_truth (faults.Value fault) = of_value fault
-of_truth (faults.Look fault) = of_look fault
-
-lift_forward : {A E : Type 0} (as_fault : E → Fault) (r : Result A E) (s : State) → ((e : E) → as_fault e ≢ StepLimit) → Forward s.offset (lift (with_fault as_fault r) s)
-lift_forward as_fault (Ok x) s other = le_refl s.offset
-lift_forward as_fault (Err e) s other = (le_refl s.offset, other e)
+-- Values, tests and looks, none of which reaches the limit of steps.
+lift_forward : {A : Type 0} (r : Result A Fault) (s : State) → HasSteps r → Forward s.offset (lift r s)
+lift_forward (Ok x) s other = le_refl s.offset
+lift_forward (Err fault) s other = (le_refl s.offset, other)
 
 lift_inside : {A : Type 0} (size : ℕ) (r : Result A Fault) (s : State) → s.offset ≤ size → Inside size (lift r s)
 lift_inside size (Ok x) s within = within
 lift_inside size (Err fault) s within = tt
 
-lift_longer : {A E : Type 0} (size n : ℕ) (as_fault : E → Fault) (read : E) (short long : Result A E) (s : State) → as_fault read ≡ Read → ((e : E) → as_fault e ≢ StepLimit) → n ≤ WINDOW
-    → SameOrRead read (size < s.offset + n) short long → SameOrCut size (lift (with_fault as_fault short) s) (lift (with_fault as_fault long) s)
-lift_longer size n as_fault read short long s is other few (inl h) = same (ap (λ r. lift (with_fault as_fault r) s) h)
-lift_longer size n as_fault read short long s is other few (inr h) =
-    cut s.offset (ap (λ r. lift (with_fault as_fault r) s) h.0 ∙ ap (λ fault. faulty fault s.offset) is) (ends_after s.offset (lift (with_fault as_fault long) s) (lift_forward as_fault long s other)) (omega (arith, h.1, few))
+lift_longer : {A : Type 0} (size n : ℕ) (short long : Result A Fault) (s : State) → HasSteps long → n ≤ WINDOW → SameOrRead Read (size < s.offset + n) short long → SameOrCut size (lift short s) (lift long s)
+lift_longer size n short long s other few (inl h) = same (ap (λ r. lift r s) h)
+lift_longer size n short long s other few (inr h) = cut s.offset (ap (λ r. lift r s) h.0) (ends_after s.offset (lift long s) (lift_forward long s other)) (omega (arith, h.1, few))
 
-pub evaluating : {A : Type 0} (f : Bindings → Result A ValueFault) → IsLocal (evaluate f)
-evaluating f = record {
-  forward = λ d s. lift_forward fault_of_value (f s.store) s of_value;
-  inside = λ d s within. lift_inside (length d.bytes) (with_fault fault_of_value (f s.store)) s within;
+look_longer : {A : Type 0} (Early : Type 0) (short long : Result A LookFault) → SameOrRead looks.Read Early short long → SameOrRead Read Early (with_fault fault_of_look short) (with_fault fault_of_look long)
+look_longer Early short long (inl h) = inl (ap (with_fault fault_of_look) h)
+look_longer Early short long (inr h) = inr (ap (with_fault fault_of_look) h.0, h.1)
+
+pub evaluating : {A : Type 0} (f : Bindings → Result A Fault) → ((h : Bindings) → HasSteps (f h)) → IsLocal (evaluate f)
+evaluating f steps = record {
+  forward = λ d s. lift_forward (f s.store) s (steps s.store);
+  inside = λ d s within. lift_inside (length d.bytes) (f s.store) s within;
   longer = λ d e s x within. same refl;
 }
 
@@ -164,23 +149,25 @@ one = omega arith
 
 pub seeing : IsLocal see_next
 seeing = record {
-  forward = λ d s. lift_forward fault_of_look (next_byte d s.offset) s of_look;
+  forward = λ d s. lift_forward (with_fault fault_of_look (next_byte d s.offset)) s (look_has_steps (next_byte d s.offset));
   inside = λ d s within. lift_inside (length d.bytes) (with_fault fault_of_look (next_byte d s.offset)) s within;
-  longer = λ d e s x within. lift_longer (length d.bytes) 1 fault_of_look looks.Read (next_byte d s.offset) (next_byte e s.offset) s refl of_look one (longer_byte d e s.offset x);
+  longer = λ d e s x within. lift_longer (length d.bytes) 1 (with_fault fault_of_look (next_byte d s.offset)) (with_fault fault_of_look (next_byte e s.offset)) s (look_has_steps (next_byte e s.offset)) one
+      (look_longer (length d.bytes < s.offset + 1) (next_byte d s.offset) (next_byte e s.offset) (longer_byte d e s.offset x));
 }
 
 pub windowing : IsLocal see_window
 windowing = record {
-  forward = λ d s. lift_forward fault_of_look (look d s.offset WINDOW) s of_look;
+  forward = λ d s. lift_forward (with_fault fault_of_look (look d s.offset WINDOW)) s (look_has_steps (look d s.offset WINDOW));
   inside = λ d s within. lift_inside (length d.bytes) (with_fault fault_of_look (look d s.offset WINDOW)) s within;
-  longer = λ d e s x within. lift_longer (length d.bytes) WINDOW fault_of_look looks.Read (look d s.offset WINDOW) (look e s.offset WINDOW) s refl of_look (le_refl WINDOW) (longer_look d e s.offset WINDOW x);
+  longer = λ d e s x within. lift_longer (length d.bytes) WINDOW (with_fault fault_of_look (look d s.offset WINDOW)) (with_fault fault_of_look (look e s.offset WINDOW)) s (look_has_steps (look e s.offset WINDOW)) (le_refl WINDOW)
+      (look_longer (length d.bytes < s.offset + WINDOW) (look d s.offset WINDOW) (look e s.offset WINDOW) (longer_look d e s.offset WINDOW x));
 }
 
 pub answering : (t : TestTree) → IsLocal (answer t)
 answering t = record {
-  forward = λ d s. lift_forward fault_of_truth (truth t s.store d s.offset) s of_truth;
-  inside = λ d s within. lift_inside (length d.bytes) (with_fault fault_of_truth (truth t s.store d s.offset)) s within;
-  longer = λ d e s x within. lift_longer (length d.bytes) 1 fault_of_truth (faults.Look looks.Read) (truth t s.store d s.offset) (truth t s.store e s.offset) s refl of_truth one (longer_truth t s.store d e s.offset x);
+  forward = λ d s. lift_forward (truth t s.store d s.offset) s (truth_has_steps t s.store d s.offset);
+  inside = λ d s within. lift_inside (length d.bytes) (truth t s.store d s.offset) s within;
+  longer = λ d e s x within. lift_longer (length d.bytes) 1 (truth t s.store d s.offset) (truth t s.store e s.offset) s (truth_has_steps t s.store e s.offset) one (longer_truth t s.store d e s.offset x);
 }
 
 -- Acts that pass bytes.

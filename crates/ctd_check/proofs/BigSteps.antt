@@ -11,13 +11,13 @@ use Rattle.ctd_program.specs.Tree
 use Rattle.ctd_program.specs.Tree.{ExprTree, VarTree, TestTree, GuardTree, CommandTree, CommandList, Separator}
 use Rattle.ctd_check.specs.calls.Run.{place_of}
 use Rattle.ctd_store.specs.declared.value.Value.TheVariants as values
-use Rattle.ctd_value.specs.Fault.{ValueFault, TruthFault, with_fault}
+use Rattle.ctd_value.specs.Fault.{with_fault, fault_of_look}
 use Rattle.ctd_value.specs.Truth.{truth}
 use Rattle.ctd_value.specs.Val.{key, count}
 use Rattle.ctd_outcome.specs.declared.reason.Fault.{Fault}
 use Rattle.ctd_outcome.specs.declared.outcome.Site.{Site}
 use Rattle.ctd_outcome.specs.declared.outcome.Site.TheVariants.{Start, At, Finish}
-use Rattle.ctd_command.specs.State.{State, Effect, done, rejected, faulty, Act, proceed, lift, fault_of_value, fault_of_truth, fault_of_look, evaluate, see_next}
+use Rattle.ctd_command.specs.State.{State, Effect, done, rejected, faulty, Act, proceed, lift, evaluate, see_next}
 use Rattle.ctd_command.specs.Commands.{answer, assign_key}
 use Rattle.ctd_command.specs.Blanks.{is_blank, end, first_skip}
 use Rattle.ctd_command.specs.inner.Blanks.{start_in}
@@ -66,11 +66,11 @@ lift_never (Err fault) s = tt
 
 count_never : (counter : Option VarTree) (k : ℕ) (d : TestData) (s : State) → NeverRejects (count_turn counter k d s)
 count_never None k d s = tt
-count_never (Some v) k d s = next_never (evaluate (key v) d s) (λ x u. assign_key x (values.Int (pos k)) d u) (lift_never (with_fault fault_of_value (key v s.store)) s) (λ x u. tt)
+count_never (Some v) k d s = next_never (evaluate (key v) d s) (λ x u. assign_key x (values.Int (pos k)) d u) (lift_never (key v s.store) s) (λ x u. tt)
 
 goes_on_never : (guard : Guard) (k : ℕ) (d : TestData) (s : State) → NeverRejects (goes_on guard k d s)
 goes_on_never (times turns) k d s = tt
-goes_on_never (while_true t) k d s = lift_never (with_fault fault_of_truth (truth t s.store d s.offset)) s
+goes_on_never (while_true t) k d s = lift_never (truth t s.store d s.offset) s
 
 turn_never : (loop : Loop) (k : ℕ) (d : TestData) (s : State) → NeverRejects (take_turn loop k d s)
 turn_never loop k d s = next_never (count_turn loop.counter k d s) (λ _ u. goes_on loop.guard k d u) (count_never loop.counter k d s) (λ _ u. goes_on_never loop.guard k d u)
@@ -177,18 +177,18 @@ module _ (d : TestData) where
   simple_ends c m n s (rejected reason consumed) h is = command_rejects h is
   simple_ends c m n s (faulty fault consumed) h is = command_fails h is
 
-  if_ends : (most : ℕ) (place : Place) (test : TestTree) (then_do else_do : CommandList) (n : ℕ) (s : State) (r : Result Bool TruthFault) → ListsEnd most → n ≤ most → answer test d s ≡ lift (with_fault fault_of_truth r) s
-      → CommandEnds d (Tree.choice place test then_do else_do) (suc n) s (after_act (At place) s.offset n (proceed (lift (with_fault fault_of_truth r) s) (λ b t. done (tasks (if b then then_do else else_do)) t)))
+  if_ends : (most : ℕ) (place : Place) (test : TestTree) (then_do else_do : CommandList) (n : ℕ) (s : State) (r : Result Bool Fault) → ListsEnd most → n ≤ most → answer test d s ≡ lift r s
+      → CommandEnds d (Tree.choice place test then_do else_do) (suc n) s (after_act (At place) s.offset n (proceed (lift r s) (λ b t. done (tasks (if b then then_do else else_do)) t)))
   if_ends most place test then_do else_do n s (Ok true) lists less is = if_is_true is (subst (λ ts. ListEnds d then_do n s (run d n ts s)) (sym (append-nil (tasks then_do))) (lists then_do n s less))
   if_ends most place test then_do else_do n s (Ok false) lists less is = if_is_false is (subst (λ ts. ListEnds d else_do n s (run d n ts s)) (sym (append-nil (tasks else_do))) (lists else_do n s less))
   if_ends most place test then_do else_do n s (Err fault) lists less is = if_fails is
 
-  repeat_ends : (most : ℕ) (place : Place) (e : ExprTree) (counter : Option VarTree) (sep : Separator) (body : CommandList) (n : ℕ) (s : State) (r : Result ℕ ValueFault) → TurnsEnd most → n ≤ most → count e s.store ≡ r
+  repeat_ends : (most : ℕ) (place : Place) (e : ExprTree) (counter : Option VarTree) (sep : Separator) (body : CommandList) (n : ℕ) (s : State) (r : Result ℕ Fault) → TurnsEnd most → n ≤ most → count e s.store ≡ r
       → CommandEnds d (Tree.loop place (Tree.turns e) counter sep body) (suc n) s
-      (after_act (At place) s.offset n (proceed (proceed (lift (with_fault fault_of_value r) s) (λ turns t. done (times turns) t)) (λ g t. done (turn (loop_of place g counter sep body) 0 ∷ []) t)))
+      (after_act (At place) s.offset n (proceed (proceed (lift r s) (λ turns t. done (times turns) t)) (λ g t. done (turn (loop_of place g counter sep body) 0 ∷ []) t)))
   repeat_ends most place e counter sep body n s (Ok turns) all less is =
-      loop_starts (ap (λ r. proceed (lift (with_fault fault_of_value r) s) (λ k t. done (times k) t)) is) (all (loop_of place (times turns) counter sep body) 0 n s less)
-  repeat_ends most place e counter sep body n s (Err fault) all less is = loop_fails (ap (λ r. proceed (lift (with_fault fault_of_value r) s) (λ k t. done (times k) t)) is)
+      loop_starts (ap (λ r. proceed (lift r s) (λ k t. done (times k) t)) is) (all (loop_of place (times turns) counter sep body) 0 n s less)
+  repeat_ends most place e counter sep body n s (Err fault) all less is = loop_fails (ap (λ r. proceed (lift r s) (λ k t. done (times k) t)) is)
 
   loop_ends : (most : ℕ) (place : Place) (of : GuardTree) (counter : Option VarTree) (sep : Separator) (body : CommandList) (n : ℕ) (s : State) → TurnsEnd most → n ≤ most
       → CommandEnds d (Tree.loop place of counter sep body) (suc n) s (run d (suc n) (start (Tree.loop place of counter sep body) ∷ []) s)

@@ -9,10 +9,10 @@ use Rattle.std.proofs.lemmas.List.Sums.{take_while-cons}
 use Rattle.ctd_source.specs.declared.spot.LookFault.{LookFault}
 use Rattle.ctd_source.specs.TestData.{TestData, next_byte, visible, is_byte}
 use Rattle.ctd_source.proofs.Visible.{seen_byte, seen_end, seen_fault}
-use Rattle.ctd_value.specs.Fault.{with_fault}
+use Rattle.ctd_value.specs.Fault.{with_fault, fault_of_look}
 use Rattle.ctd_outcome.specs.declared.reason.Fault.{Fault}
 use Rattle.ctd_outcome.specs.declared.reason.Reason.TheVariants.{StringMismatch}
-use Rattle.ctd_command.specs.State.{State, Effect, done, rejected, faulty, Act, proceed, ◌>>=◌, return, reject, pass, lift, see_next, fault_of_look}
+use Rattle.ctd_command.specs.State.{State, Effect, done, rejected, faulty, Act, proceed, ◌>>=◌, return, reject, pass, lift, see_next}
 use Rattle.ctd_command.specs.Integer.{judge, is_minus, digits_of}
 use Rattle.ctd_command.specs.Commands.{decide, integer, match_bytes}
 use Rattle.ctd_command.specs.Blanks.{is_blank, skip_blanks}

@@ -14,13 +14,14 @@ use Rattle.ctd_pattern.specs.Pattern.{length_at_start}
 use Rattle.ctd_store.specs.declared.value.Value.{Value}
 use Rattle.ctd_store.specs.declared.value.Value.TheVariants as values
 use Rattle.ctd_token.specs.declared.text.Place.{Place}
-use Rattle.ctd_value.specs.Fault.{with_fault}
+use Rattle.ctd_value.specs.Fault.{with_fault, fault_of_look}
+use Rattle.ctd_value.proofs.Ordinary.{count_has_steps, key_is_ordinary, number_is_ordinary, ordinary_has_steps, text_is_ordinary, value_is}
 use Rattle.ctd_value.specs.inner.Truth.{is_end}
 use Rattle.ctd_value.specs.Val.{val, key, number_of, text_of, count}
 use Rattle.ctd_outcome.specs.declared.reason.Reason.{Reason}
 use Rattle.ctd_outcome.specs.declared.reason.Reason.TheVariants.{ExpectedSpace, ExpectedNewline, ExpectedEof, StringMismatch, AssertFailed, RegexMismatch}
 use Rattle.ctd_outcome.specs.declared.reason.Fault.TheVariants.{MatchTooLong}
-use Rattle.ctd_command.specs.State.{State, done, Act, proceed, return, reject, stop, pass, lift, fault_of_look, evaluate, see_next, see_window}
+use Rattle.ctd_command.specs.State.{State, done, Act, proceed, return, reject, stop, pass, lift, evaluate, see_next, see_window}
 use Rattle.ctd_command.specs.Integer.{judge, is_minus, digits_of, prefix_len_of}
 use Rattle.ctd_command.specs.Commands.{one_byte, eof, set_to, keep, decide, integer, int, match_bytes, string, answer, assert, give_value, set, unset_all}
 use Rattle.ctd_command.specs.Blanks.{is_blank, skip_blanks, some_blanks, newline_between_blanks, end_behind_blanks, space, newline, end, first_skip}
@@ -65,7 +66,7 @@ of_eof : IsLocal eof
 of_eof = both see_next _ seeing (λ next. either (is_end next) (return tt) (reject ExpectedEof) idle (rejecting ExpectedEof))
 
 setting : (v : VarTree) (value : Value) → IsLocal (set_to v value)
-setting v value = both (evaluate (key v)) _ (evaluating (key v)) (λ k. assigning k value)
+setting v value = both (evaluate (key v)) _ (evaluating (key v) (λ h. ordinary_has_steps (key v h) (key_is_ordinary v h))) (λ k. assigning k value)
 
 keeping : (target : Option VarTree) (value : Value) → IsLocal (keep target value)
 keeping None value = idle
@@ -90,7 +91,7 @@ of_integer least most =
     passing parts parts_len (λ x _. decide (judge least most x.0 x.1)) integer_within less_integer same_parts (λ x. both see_next _ seeing (λ _. deciding (judge least most x.0 x.1)))
 
 of_int : (low high : ExprTree) (target : Option VarTree) → IsLocal (int low high target)
-of_int low high target = both (evaluate (number_of low)) _ (evaluating (number_of low)) (λ least. both (evaluate (number_of high)) _ (evaluating (number_of high)) (λ most. both (integer least most) _ (of_integer least most) (λ z. keeping target (values.Int z))))
+of_int low high target = both (evaluate (number_of low)) _ (evaluating (number_of low) (λ h. ordinary_has_steps (number_of low h) (number_is_ordinary low h))) (λ least. both (evaluate (number_of high)) _ (evaluating (number_of high) (λ h. ordinary_has_steps (number_of high h) (number_is_ordinary high h))) (λ most. both (integer least most) _ (of_integer least most) (λ z. keeping target (values.Int z))))
 
 -- a string: one byte after the other
 matching : (wanted : List ℕ) → IsLocal (match_bytes wanted)
@@ -98,7 +99,7 @@ matching [] = idle
 matching (b ∷ rest) = both (one_byte b StringMismatch) _ (of_byte b StringMismatch) (λ _. matching rest)
 
 of_string : (e : ExprTree) → IsLocal (string e)
-of_string e = both (evaluate (text_of e)) _ (evaluating (text_of e)) (λ wanted. matching wanted)
+of_string e = both (evaluate (text_of e)) _ (evaluating (text_of e) (λ h. ordinary_has_steps (text_of e h) (text_is_ordinary e h))) (λ wanted. matching wanted)
 
 -- a match: what a window begins with
 of_match : (n : Option ℕ) → IsLocal (shorter_match n)
@@ -188,7 +189,7 @@ of_assert : (t : TestTree) → IsLocal (assert t)
 of_assert t = both (answer t) _ (answering t) (λ b. either b (return tt) (reject AssertFailed) idle (rejecting AssertFailed))
 
 giving_value : (a : VarTree × ExprTree) → IsLocal (give_value a)
-giving_value a = both (evaluate (val a.1)) _ (evaluating (val a.1)) (λ value. setting a.0 value)
+giving_value a = both (evaluate (val a.1)) _ (evaluating (val a.1) (λ h. ordinary_has_steps (val a.1 h) (value_is a.1 h))) (λ value. setting a.0 value)
 
 of_set : (assignments : List (VarTree × ExprTree)) → IsLocal (set assignments)
 of_set [] = idle
@@ -207,7 +208,7 @@ of_turn : (loop : Loop) (k : ℕ) → IsLocal (run_turn loop k)
 of_turn loop k = both (take_turn loop k) _ (both (count_turn loop.counter k) _ (counting loop.counter k) (λ _. going_on loop.guard k)) (λ b. given (if b then turn_tasks loop k else []))
 
 of_guard : (guard : GuardTree) → IsLocal (guard_of guard)
-of_guard (Tree.turns e) = both (evaluate (count e)) _ (evaluating (count e)) (λ turns. given (times turns))
+of_guard (Tree.turns e) = both (evaluate (count e)) _ (evaluating (count e) (count_has_steps e)) (λ turns. given (times turns))
 of_guard (Tree.while t) = given (while_true t)
 
 of_repeat : (place : Place) (guard : GuardTree) (counter : Option VarTree) (sep : Separator) (body : CommandList) → IsLocal (repeat place guard counter sep body)

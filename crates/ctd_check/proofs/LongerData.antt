@@ -11,9 +11,11 @@ use Rattle.ctd_source.proofs.Visible.{seen_byte}
 use Rattle.ctd_program.specs.Tree
 use Rattle.ctd_program.specs.Tree.{TestTree}
 use Rattle.ctd_store.specs.Store.{Bindings}
-use Rattle.ctd_value.specs.Fault.{TruthFault, ◌>>=◌, with_fault, Look}
+use Rattle.ctd_outcome.specs.declared.reason.Fault.{Fault}
+use Rattle.ctd_outcome.specs.declared.reason.Fault.TheVariants as faults
+use Rattle.ctd_value.specs.Fault.{◌>>=◌, with_fault, fault_of_look}
 use Rattle.ctd_value.specs.Truth.{truth}
-use Rattle.ctd_value.specs.inner.Truth.{is_end, is_one_of, as_test}
+use Rattle.ctd_value.specs.inner.Truth.{is_end, is_one_of}
 use Rattle.ctd_value.specs.Val.{text_of}
 
 -- data that broke off, and others under the same limit that begin with them
@@ -114,29 +116,29 @@ pub longer_byte : (d e : TestData) (p : ℕ) → Extends d e → SameOrRead Read
 longer_byte d e p x = first_by_case (length d.bytes < p + 1) (look d p 1) (look e p 1) (longer_look d e p 1 x)
 
 -- Tests.
-go_on : {A B : Type 0} (Early : Type 0) (r : Result A TruthFault) (f g : A → Result B TruthFault) → ((x : A) → SameOrRead (Look Read) Early (f x) (g x)) → SameOrRead (Look Read) Early (r >>= f) (r >>= g)
+go_on : {A B : Type 0} (Early : Type 0) (r : Result A Fault) (f g : A → Result B Fault) → ((x : A) → SameOrRead faults.Read Early (f x) (g x)) → SameOrRead faults.Read Early (r >>= f) (r >>= g)
 go_on Early (Ok x) f g next = next x
 go_on Early (Err fault) f g next = inl refl
 
-chain : {A B : Type 0} (Early : Type 0) (short long : Result A TruthFault) (f g : A → Result B TruthFault) → SameOrRead (Look Read) Early short long → ((x : A) → SameOrRead (Look Read) Early (f x) (g x))
-    → SameOrRead (Look Read) Early (short >>= f) (long >>= g)
-chain Early short long f g (inl is) next = subst (λ r. SameOrRead (Look Read) Early (short >>= f) (r >>= g)) (sym is) (go_on Early short f g next)
+chain : {A B : Type 0} (Early : Type 0) (short long : Result A Fault) (f g : A → Result B Fault) → SameOrRead faults.Read Early short long → ((x : A) → SameOrRead faults.Read Early (f x) (g x))
+    → SameOrRead faults.Read Early (short >>= f) (long >>= g)
+chain Early short long f g (inl is) next = subst (λ r. SameOrRead faults.Read Early (short >>= f) (r >>= g)) (sym is) (go_on Early short f g next)
 chain Early short long f g (inr early) next = inr (ap (λ r. r >>= f) early.0, early.1)
 
 seen : (Early : Type 0) (short long : Result (Option ℕ) LookFault) (f : Option ℕ → Bool) → SameOrRead Read Early short long
-    → SameOrRead (Look Read) Early (with_fault Look short >>= λ next. Ok (f next)) (with_fault Look long >>= λ next. Ok (f next))
-seen Early short long f (inl is) = inl (ap (λ r. with_fault Look r >>= λ next. Ok (f next)) is)
-seen Early short long f (inr early) = inr (ap (λ r. with_fault Look r >>= λ next. Ok (f next)) early.0, early.1)
+    → SameOrRead faults.Read Early (with_fault fault_of_look short >>= λ next. Ok (f next)) (with_fault fault_of_look long >>= λ next. Ok (f next))
+seen Early short long f (inl is) = inl (ap (λ r. with_fault fault_of_look r >>= λ next. Ok (f next)) is)
+seen Early short long f (inr early) = inr (ap (λ r. with_fault fault_of_look r >>= λ next. Ok (f next)) early.0, early.1)
 
-unless : (Early : Type 0) (b : Bool) (short long : Result Bool TruthFault) → SameOrRead (Look Read) Early short long → SameOrRead (Look Read) Early (if b then Ok true else short) (if b then Ok true else long)
+unless : (Early : Type 0) (b : Bool) (short long : Result Bool Fault) → SameOrRead faults.Read Early short long → SameOrRead faults.Read Early (if b then Ok true else short) (if b then Ok true else long)
 unless Early true short long same = inl refl
 unless Early false short long same = same
 
-when : (Early : Type 0) (b : Bool) (short long : Result Bool TruthFault) → SameOrRead (Look Read) Early short long → SameOrRead (Look Read) Early (if b then short else Ok false) (if b then long else Ok false)
+when : (Early : Type 0) (b : Bool) (short long : Result Bool Fault) → SameOrRead faults.Read Early short long → SameOrRead faults.Read Early (if b then short else Ok false) (if b then long else Ok false)
 when Early true short long same = same
 when Early false short long same = inl refl
 
-pub longer_truth : (t : TestTree) (h : Bindings) (d e : TestData) (p : ℕ) → Extends d e → SameOrRead (Look Read) (length d.bytes < p + 1) (truth t h d p) (truth t h e p)
+pub longer_truth : (t : TestTree) (h : Bindings) (d e : TestData) (p : ℕ) → Extends d e → SameOrRead faults.Read (length d.bytes < p + 1) (truth t h d p) (truth t h e p)
 longer_truth (Tree.or a b) h d e p x =
     chain (length d.bytes < p + 1) (truth a h d p) (truth a h e p) (λ y. if y then Ok true else truth b h d p) (λ y. if y then Ok true else truth b h e p) (longer_truth a h d e p x)
     (λ y. unless (length d.bytes < p + 1) y (truth b h d p) (truth b h e p) (longer_truth b h d e p x))
@@ -146,7 +148,7 @@ longer_truth (Tree.and a b) h d e p x =
 longer_truth (Tree.not a) h d e p x = chain (length d.bytes < p + 1) (truth a h d p) (truth a h e p) (λ y. Ok (not y)) (λ y. Ok (not y)) (longer_truth a h d e p x) (λ y. inl refl)
 longer_truth (Tree.compare by a b) h d e p x = inl refl
 longer_truth (Tree.matches w) h d e p x =
-    go_on (length d.bytes < p + 1) (as_test (text_of w h)) (λ bytes. with_fault Look (next_byte d p) >>= λ next. Ok (is_one_of bytes next)) (λ bytes. with_fault Look (next_byte e p) >>= λ next. Ok (is_one_of bytes next))
+    go_on (length d.bytes < p + 1) (text_of w h) (λ bytes. with_fault fault_of_look (next_byte d p) >>= λ next. Ok (is_one_of bytes next)) (λ bytes. with_fault fault_of_look (next_byte e p) >>= λ next. Ok (is_one_of bytes next))
     (λ bytes. seen (length d.bytes < p + 1) (next_byte d p) (next_byte e p) (is_one_of bytes) (longer_byte d e p x))
 longer_truth Tree.at_end h d e p x = seen (length d.bytes < p + 1) (next_byte d p) (next_byte e p) is_end (longer_byte d e p x)
 longer_truth (Tree.unique names) h d e p x = inl refl

@@ -11,7 +11,7 @@ use Rattle.ctd_source.specs.calls.SourceReads.{state_of, ReadsOn, MovesPast, Giv
 use Rattle.ctd_source.specs.calls.Received.{AdvancesSuchThat}
 use Rattle.ctd_source.proofs.AdvanceLemmas.{advances_so, advances_both, advances_nowhere, advances_looking, advances_moving}
 use Rattle.ctd_store.specs.Store.{Bindings}
-use Rattle.ctd_value.specs.Fault.{ValueFault, with_fault}
+use Rattle.ctd_value.specs.Fault.{with_fault, fault_of_look}
 use Rattle.ctd_value.specs.calls.Lending.{map_ok}
 use Rattle.ctd_command.specs.Commands.{one_byte}
 use Rattle.ctd_command.specs.declared.machine.Run.{Run}
@@ -19,7 +19,7 @@ use Rattle.ctd_outcome.specs.declared.reason.Reason.{Reason}
 use Rattle.ctd_outcome.specs.declared.reason.Fault.{Fault}
 use Rattle.ctd_command.specs.declared.failure.CommandFailure.{CommandFailure}
 use Rattle.ctd_command.specs.declared.failure.Failure.TheVariants.{Rejected, Stopped, Memory}
-use Rattle.ctd_command.specs.State.{State, Effect, Act, done, faulty, proceed, ◌>>=◌, return, reject, lift, evaluate, fault_of_value, fault_of_look, see_next, pass}
+use Rattle.ctd_command.specs.State.{State, Effect, Act, done, faulty, proceed, ◌>>=◌, return, reject, lift, evaluate, see_next, pass}
 use Rattle.ctd_command.specs.calls.Performs.{Does, state, IsSound, Performs}
 use Rattle.ctd_command.specs.inner.Performs.{Tells}
 
@@ -135,8 +135,8 @@ module _ {R : Type 0} {G : Ghosts R} where
   given_as a x y same sound = answers_as (ap Ok same) (given a y sound)
 
   -- a value
-  pub evaluated : {A : Type 0} (a : Run R G) (r : Result A CommandFailure) (f : Bindings → Result A ValueFault) → IsSound a → Tells r (with_fault fault_of_value (f a.store)) → Performs a a r (evaluate f)
-  evaluated a r f sound is = record { sound = always r sound; goes = advances_so (advances_nowhere a.cursor) (λ d _ _. does_lift r (with_fault fault_of_value (f a.store)) (state a) is) }
+  pub evaluated : {A : Type 0} (a : Run R G) (r : Result A CommandFailure) (f : Bindings → Result A Fault) → IsSound a → Tells r (f a.store) → Performs a a r (evaluate f)
+  evaluated a r f sound is = record { sound = always r sound; goes = advances_so (advances_nowhere a.cursor) (λ d _ _. does_lift r (f a.store) (state a) is) }
 
   -- the same run over another cursor
   abbrev pub with_cursor : Run R G → Cursor R G → Run R G

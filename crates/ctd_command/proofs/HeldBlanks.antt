@@ -8,11 +8,11 @@ use Rattle.ctd_source.specs.TestData.{TestData, next_byte, visible, is_newline}
 use Rattle.ctd_source.specs.declared.spot.LookFault.{LookFault}
 use Rattle.ctd_source.specs.calls.Consistency.{CursorState, IsConsistentWith}
 use Rattle.ctd_source.proofs.Visible.{seen_run}
-use Rattle.ctd_value.specs.Fault.{with_fault}
+use Rattle.ctd_value.specs.Fault.{with_fault, fault_of_look}
 use Rattle.ctd_outcome.specs.declared.reason.Reason.TheVariants.{ExpectedSpace}
 use Rattle.ctd_command.specs.Blanks.{is_blank, skip_blanks, some_blanks}
 use Rattle.ctd_command.specs.inner.Blanks.{blank_next}
-use Rattle.ctd_command.specs.State.{State, done, proceed, lift, reject, fault_of_look}
+use Rattle.ctd_command.specs.State.{State, done, proceed, lift, reject}
 use Rattle.ctd_command.proofs.HeldRuns.{stops_within, front_in_line, run_front, held_next}
 use Rattle.ctd_command.proofs.Skipping.{skips}
 

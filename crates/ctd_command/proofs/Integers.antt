@@ -10,13 +10,13 @@ use Rattle.ctd_source.specs.declared.spot.LookFault.{LookFault}
 use Rattle.ctd_source.specs.TestData.{TestData, next_byte, visible}
 use Rattle.ctd_source.specs.calls.Consistency.{CursorState, IsConsistentWith}
 use Rattle.ctd_source.proofs.Visible.{seen_byte, seen_end, seen_fault, seen_run}
-use Rattle.ctd_value.specs.Fault.{with_fault}
+use Rattle.ctd_value.specs.Fault.{with_fault, fault_of_look}
 use Rattle.ctd_command.proofs.DigitRuns.{run_held}
 use Rattle.ctd_command.specs.declared.digits.DigitSummary.{DigitSummary}
 use Rattle.ctd_command.specs.Integer.{is_minus, sign_len, digits_of, prefix_len_of, judge}
 use Rattle.ctd_command.specs.inner.Summaries.{Summarizes}
 use Rattle.ctd_command.specs.inner.Passing.{PassesMinus, PassesRow, PassesDigits, IsPast, StopsAt}
-use Rattle.ctd_command.specs.State.{State, Effect, faulty, proceed, lift, fault_of_look}
+use Rattle.ctd_command.specs.State.{State, Effect, faulty, proceed, lift}
 use Rattle.ctd_command.specs.Commands.{decide, integer}
 
 -- no digit comes first

@@ -7,10 +7,10 @@ use Rattle.std.proofs.lemmas.List.{at_drop_more}
 use Rattle.ctd_source.specs.declared.spot.LookFault.{LookFault}
 use Rattle.ctd_source.specs.TestData.{TestData, next_byte, visible}
 use Rattle.ctd_source.proofs.Visible.{seen_byte, seen_end, seen_fault}
-use Rattle.ctd_value.specs.Fault.{with_fault}
+use Rattle.ctd_value.specs.Fault.{with_fault, fault_of_look}
 use Rattle.ctd_command.specs.Blanks.{is_blank, skip_blanks}
 use Rattle.ctd_command.specs.inner.Passing.{PassesBlanks, PassesSomeBlanks}
-use Rattle.ctd_command.specs.State.{State, done, faulty, proceed, lift, fault_of_look}
+use Rattle.ctd_command.specs.State.{State, done, faulty, proceed, lift}
 use Rattle.ctd_command.proofs.DigitRuns.{front_passes}
 
 -- how many blanks come next

@@ -14,12 +14,12 @@ use Rattle.ctd_source.proofs.AdvanceLemmas.{advances_so}
 use Rattle.ctd_source.specs.TestData.{TestData, next_byte, visible, is_byte}
 use Rattle.ctd_source.proofs.Visible.{seen_byte, seen_end, seen_fault}
 use Rattle.ctd_store.specs.Store.{Bindings}
-use Rattle.ctd_value.specs.Fault.{with_fault}
+use Rattle.ctd_value.specs.Fault.{with_fault, fault_of_look}
 use Rattle.ctd_command.specs.declared.failure.CommandFailure.{CommandFailure}
 use Rattle.ctd_command.specs.declared.failure.Failure.TheVariants.{Stopped}
 use Rattle.ctd_program.specs.declared.mode.Mode.{Mode}
 use Rattle.ctd_outcome.specs.declared.reason.Reason.TheVariants.{StringMismatch}
-use Rattle.ctd_command.specs.State.{State, Effect, Act, rejected, faulty, proceed, reject, pass, lift, fault_of_look}
+use Rattle.ctd_command.specs.State.{State, Effect, Act, rejected, faulty, proceed, reject, pass, lift}
 use Rattle.ctd_command.specs.Commands.{match_bytes}
 use Rattle.ctd_command.specs.inner.Passing.{PassesPrefix, PassesSome}
 use Rattle.ctd_command.specs.inner.Alone.{DoesAlone}

@@ -1,5 +1,5 @@
 -- Faults of values and tests, as what they mean for a run.
-use Rattle.std.proofs.Common.{◌≡◌, ◌<◌, ◌≤◌, ℕ, ◌+◌, Bool, true, false, List, length, take, refl, ap, sym, ◌∙◌, subst, arith, Result, Ok, Err, Some, None}
+use Rattle.std.proofs.Common.{◌≡◌, ◌<◌, ◌≤◌, ℕ, ◌+◌, Bool, true, false, List, length, take, ap, sym, ◌∙◌, subst, arith, Result, Ok, Err, Some, None}
 use Rattle.std.specs.Prelude.{slice_get}
 use Rattle.std.specs.Result.{IsErr, IsErrAnd}
 use Rattle.ctd_source.specs.declared.source.Source.{Ghosts}
@@ -14,15 +14,12 @@ use Rattle.ctd_value.specs.declared.fault.EvalFault.{EvalFault}
 use Rattle.ctd_value.specs.declared.fault.EvalFault.TheVariants as evals
 use Rattle.ctd_value.specs.declared.fault.TestFault.{TestFault}
 use Rattle.ctd_value.specs.declared.fault.TestFault.TheVariants as tests
-use Rattle.ctd_value.specs.Fault.{ValueFault, TruthFault, with_fault}
-use Rattle.ctd_value.specs.calls.Fault.{eval_fault, test_fault, Answers, Gives}
-use Rattle.ctd_value.specs.Fault as faults
+use Rattle.ctd_value.specs.calls.Fault.{Answers, Gives}
 use Rattle.ctd_value.specs.Truth.{truth}
 use Rattle.ctd_command.specs.declared.failure.CommandFailure.{CommandFailure}
 use Rattle.ctd_command.specs.declared.machine.Run.{Run}
 use Rattle.ctd_outcome.specs.declared.reason.Fault.{Fault}
-use Rattle.ctd_outcome.specs.declared.reason.Fault.TheVariants.{Undefined, WrongType, Overflow, DivisionByZero, Exponent, Count, Shape, StepLimit}
-use Rattle.ctd_command.specs.State.{State, done, faulty, lift, evaluate, fault_of_value, fault_of_truth, fault_of_look}
+use Rattle.ctd_command.specs.State.{State, done, lift, evaluate}
 use Rattle.ctd_command.specs.Commands.{answer}
 use Rattle.ctd_command.specs.calls.Failures.{test_failure, failure_of}
 use Rattle.ctd_command.specs.calls.Performs.{Does, state, IsSound, Performs}
@@ -31,87 +28,36 @@ use Rattle.ctd_command.proofs.Acts.{with_cursor, answers_as, evaluated}
 use Rattle.ctd_command.proofs.DigitRuns.{some_held}
 use Rattle.ctd_command.proofs.HeldRuns.{first_held, held_next}
 
--- the fault of a test that had one, other than that memory ran out
-fault_in : TestFault → Fault
-fault_in (tests.Eval evals.Undefined) = Undefined
-fault_in (tests.Eval evals.WrongType) = WrongType
-fault_in (tests.Eval evals.Overflow) = Overflow
-fault_in (tests.Eval evals.DivisionByZero) = DivisionByZero
-fault_in (tests.Eval evals.Exponent) = Exponent
-fault_in (tests.Eval evals.Count) = Count
-fault_in (tests.Eval evals.Shape) = Shape
-fault_in (tests.Eval evals.Memory) = StepLimit
-fault_in (tests.Look fault) = fault_of_look fault
-
-same_fault : (r : Result Bool TruthFault) → with_fault fault_of_truth r ≡ with_fault fault_in (with_fault test_fault r)
-unfolding fault_in
-same_fault (Ok b) = refl
-same_fault (Err (faults.Value faults.Undefined)) = refl
-same_fault (Err (faults.Value faults.WrongType)) = refl
-same_fault (Err (faults.Value faults.Overflow)) = refl
-same_fault (Err (faults.Value faults.DivisionByZero)) = refl
-same_fault (Err (faults.Value faults.Exponent)) = refl
-same_fault (Err (faults.Value faults.Count)) = refl
-same_fault (Err (faults.Value faults.Shape)) = refl
-same_fault (Err (faults.Look fault)) = refl
-
-lift_fault : (fault : TestFault) (meant : Result Bool TruthFault) (s : State) → with_fault test_fault meant ≡ Err fault → lift (with_fault fault_of_truth meant) s ≡ faulty (fault_in fault) s.offset
-lift_fault fault meant s is = ap (λ m. lift m s) (same_fault meant ∙ ap (with_fault fault_in) is)
-
-does_fault : (fault : TestFault) (meant : Result Bool TruthFault) (s : State) → Answers {X = Bool} (Err fault) meant → Does {A = Bool} (Err (test_failure fault)) s (lift (with_fault fault_of_truth meant) s)
-unfolding fault_in
-does_fault (tests.Eval evals.Undefined) meant s is = lift_fault (tests.Eval evals.Undefined) meant s is
-does_fault (tests.Eval evals.WrongType) meant s is = lift_fault (tests.Eval evals.WrongType) meant s is
-does_fault (tests.Eval evals.Overflow) meant s is = lift_fault (tests.Eval evals.Overflow) meant s is
-does_fault (tests.Eval evals.DivisionByZero) meant s is = lift_fault (tests.Eval evals.DivisionByZero) meant s is
-does_fault (tests.Eval evals.Exponent) meant s is = lift_fault (tests.Eval evals.Exponent) meant s is
-does_fault (tests.Eval evals.Count) meant s is = lift_fault (tests.Eval evals.Count) meant s is
-does_fault (tests.Eval evals.Shape) meant s is = lift_fault (tests.Eval evals.Shape) meant s is
+does_fault : (fault : TestFault) (meant : Result Bool Fault) (s : State) → Answers {X = Bool} (Err fault) meant → Does {A = Bool} (Err (test_failure fault)) s (lift meant s)
+does_fault (tests.Eval evals.Undefined) meant s is = ap (λ m. lift m s) is
+does_fault (tests.Eval evals.WrongType) meant s is = ap (λ m. lift m s) is
+does_fault (tests.Eval evals.Overflow) meant s is = ap (λ m. lift m s) is
+does_fault (tests.Eval evals.DivisionByZero) meant s is = ap (λ m. lift m s) is
+does_fault (tests.Eval evals.Exponent) meant s is = ap (λ m. lift m s) is
+does_fault (tests.Eval evals.Count) meant s is = ap (λ m. lift m s) is
+does_fault (tests.Eval evals.Shape) meant s is = ap (λ m. lift m s) is
 does_fault (tests.Eval evals.Memory) meant s is = tt
-does_fault (tests.Look fault) meant s is = lift_fault (tests.Look fault) meant s is
+does_fault (tests.Look fault) meant s is = ap (λ m. lift m s) is
 
--- the fault of an expression that had one, other than that memory ran out
-value_fault_in : EvalFault → Fault
-value_fault_in evals.Undefined = Undefined
-value_fault_in evals.WrongType = WrongType
-value_fault_in evals.Overflow = Overflow
-value_fault_in evals.DivisionByZero = DivisionByZero
-value_fault_in evals.Exponent = Exponent
-value_fault_in evals.Count = Count
-value_fault_in evals.Shape = Shape
-value_fault_in evals.Memory = StepLimit
-
-same_value_fault : {A : Type 0} (r : Result A ValueFault) → with_fault fault_of_value r ≡ with_fault value_fault_in (with_fault eval_fault r)
-unfolding value_fault_in
-same_value_fault (Ok x) = refl
-same_value_fault (Err faults.Undefined) = refl
-same_value_fault (Err faults.WrongType) = refl
-same_value_fault (Err faults.Overflow) = refl
-same_value_fault (Err faults.DivisionByZero) = refl
-same_value_fault (Err faults.Exponent) = refl
-same_value_fault (Err faults.Count) = refl
-same_value_fault (Err faults.Shape) = refl
-
-pub tells_fault : {A : Type 0} (fault : EvalFault) (meant : Result A ValueFault) → Gives {X = A} (Err fault) meant → Tells {A = A} (Err (failure_of fault)) (with_fault fault_of_value meant)
-unfolding value_fault_in
-tells_fault evals.Undefined meant is = same_value_fault meant ∙ ap (with_fault value_fault_in) is
-tells_fault evals.WrongType meant is = same_value_fault meant ∙ ap (with_fault value_fault_in) is
-tells_fault evals.Overflow meant is = same_value_fault meant ∙ ap (with_fault value_fault_in) is
-tells_fault evals.DivisionByZero meant is = same_value_fault meant ∙ ap (with_fault value_fault_in) is
-tells_fault evals.Exponent meant is = same_value_fault meant ∙ ap (with_fault value_fault_in) is
-tells_fault evals.Count meant is = same_value_fault meant ∙ ap (with_fault value_fault_in) is
-tells_fault evals.Shape meant is = same_value_fault meant ∙ ap (with_fault value_fault_in) is
+pub tells_fault : {A : Type 0} (fault : EvalFault) (meant : Result A Fault) → Gives {X = A} (Err fault) meant → Tells {A = A} (Err (failure_of fault)) meant
+tells_fault evals.Undefined meant is = is
+tells_fault evals.WrongType meant is = is
+tells_fault evals.Overflow meant is = is
+tells_fault evals.DivisionByZero meant is = is
+tells_fault evals.Exponent meant is = is
+tells_fault evals.Count meant is = is
+tells_fault evals.Shape meant is = is
 tells_fault evals.Memory meant is = tt
 
 module _ {R : Type 0} {G : Ghosts R} where
   -- what `?` gives where an expression had a fault
-  pub unvalued : {A : Type 0} (a : Run R G) (fault : EvalFault) (q : Result A CommandFailure) (f : Bindings → Result A ValueFault) → IsSound a → IsErr q × IsErrAnd q (λ e. e ≡ failure_of fault) → Gives {X = A} (Err fault) (f a.store) → Performs a a q (evaluate f)
+  pub unvalued : {A : Type 0} (a : Run R G) (fault : EvalFault) (q : Result A CommandFailure) (f : Bindings → Result A Fault) → IsSound a → IsErr q × IsErrAnd q (λ e. e ≡ failure_of fault) → Gives {X = A} (Err fault) (f a.store) → Performs a a q (evaluate f)
   unvalued a fault (Ok x) f sound is gives = let e : true ≡ false = sym is.0 in cc
   unvalued a fault (Err e) f sound is gives = answers_as (ap Err is.1) (evaluated a (Err (failure_of fault)) f sound (tells_fault fault (f a.store) gives))
 
   -- a test whose answer no data change
   pub answered_at_once : (a : Run R G) (t : TestTree) (b : Bool) → IsSound a → ((d : TestData) (p : ℕ) → truth t a.store d p ≡ Ok b) → Performs a a (Ok b) (answer t)
-  answered_at_once a t b sound known = record { sound = sound; goes = advances_so (advances_nowhere a.cursor) (λ d _ _. ap (λ r. lift (with_fault fault_of_truth r) (state a)) (known d (state a).offset)) }
+  answered_at_once a t b sound known = record { sound = sound; goes = advances_so (advances_nowhere a.cursor) (λ d _ _. ap (λ r. lift r (state a)) (known d (state a).offset)) }
 
   -- a test whose answer the first byte of a run that is held tells
   pub answered_in_front : (a : Run R G) (t : TestTree) (b : Bool) (byte : ℕ) (run : List ℕ) → IsSound a → slice_get run 0 ≡ Some byte → take (length run) (state_of a.cursor).held ≡ run
@@ -123,7 +69,7 @@ module _ {R : Type 0} {G : Ghosts R} where
         sound = sound;
         goes = advances_so (advances_nowhere a.cursor) (λ d stand _.
             let next = held_next d (state_of a.cursor) stand.before a.cursor.counted (omega (arith, some, held)) (omega (arith, some, within some)) in
-            ap (λ r. lift (with_fault fault_of_truth r) (state a)) (known a.store d (state a).offset (next ∙ ap Ok (first_held run (state_of a.cursor).held byte front first))));
+            ap (λ r. lift r (state a)) (known a.store d (state a).offset (next ∙ ap Ok (first_held run (state_of a.cursor).held byte front first))));
       }
 
   -- a test that was answered
@@ -132,8 +78,8 @@ module _ {R : Type 0} {G : Ghosts R} where
   answered a now t b r sound is = record {
     sound = sound;
     goes = advances_so (advances_reading a.cursor now r) (λ d stand _.
-        let P : _ → Type 0 = λ s. lift (with_fault fault_of_truth (truth t a.store d s.offset)) (record { offset = s.offset; store = a.store; mode = a.mode }) ≡ done b (state (with_cursor a now)) in
-        subst P r.spot (ap (λ m. lift (with_fault fault_of_truth m) (state (with_cursor a now))) (is d stand.after)));
+        let P : _ → Type 0 = λ s. lift (truth t a.store d s.offset) (record { offset = s.offset; store = a.store; mode = a.mode }) ≡ done b (state (with_cursor a now)) in
+        subst P r.spot (ap (λ m. lift m (state (with_cursor a now))) (is d stand.after)));
   }
 
   -- one that was not
@@ -142,6 +88,6 @@ module _ {R : Type 0} {G : Ghosts R} where
   unanswered a now t fault r is = record {
     sound = tt;
     goes = advances_so (advances_reading a.cursor now r) (λ d stand _.
-        let P : _ → Type 0 = λ s. Does {A = Bool} (Err (test_failure fault)) (state (with_cursor a now)) (lift (with_fault fault_of_truth (truth t a.store d s.offset)) (record { offset = s.offset; store = a.store; mode = a.mode })) in
+        let P : _ → Type 0 = λ s. Does {A = Bool} (Err (test_failure fault)) (state (with_cursor a now)) (lift (truth t a.store d s.offset) (record { offset = s.offset; store = a.store; mode = a.mode })) in
         subst P r.spot (does_fault fault (truth t a.store d now.spot.offset) (state (with_cursor a now)) (is d stand.after)));
   }

@@ -10,10 +10,10 @@ use Rattle.ctd_source.specs.calls.SourceReads.{GivesWindow, MovesPast}
 use Rattle.ctd_source.specs.TestData.{TestData, look}
 use Rattle.ctd_source.proofs.AdvanceLemmas.{advances_so, advances_nowhere, advances_reading}
 use Rattle.ctd_pattern.specs.Pattern.{length_at_start}
-use Rattle.ctd_value.specs.Fault.{with_fault}
+use Rattle.ctd_value.specs.Fault.{with_fault, fault_of_look}
 use Rattle.ctd_command.specs.declared.machine.Run.{Run}
 use Rattle.ctd_command.specs.declared.failure.CommandFailure.{CommandFailure}
-use Rattle.ctd_command.specs.State.{State, Effect, Act, done, rejected, faulty, proceed, ◌>>=◌, return, pass, lift, fault_of_look, see_window}
+use Rattle.ctd_command.specs.State.{State, Effect, Act, done, rejected, faulty, proceed, ◌>>=◌, return, pass, lift, see_window}
 use Rattle.ctd_command.specs.calls.Performs.{Does, state, IsSound, Performs}
 use Rattle.ctd_command.specs.inner.Performs.{AlwaysDoes}
 use Rattle.ctd_command.specs.Regex.{shorter_match, leading_match, regex}

@@ -5,13 +5,12 @@ use Rattle.ctd_program.specs.Tree.{ExprTree, VarTree, TestTree}
 use Rattle.ctd_store.specs.declared.value.Value.{Value}
 use Rattle.ctd_store.specs.declared.value.Value.TheVariants as values
 use Rattle.ctd_store.specs.Store.{Key, assign, unset}
-use Rattle.ctd_value.specs.Fault.{with_fault}
 use Rattle.ctd_value.specs.Truth.{truth}
 use Rattle.ctd_value.specs.Val.{val, key, number_of, text_of}
 use Rattle.ctd_outcome.specs.declared.reason.Reason.{Reason}
 use Rattle.ctd_outcome.specs.declared.reason.Reason.TheVariants.{ExpectedEof, StringMismatch, AssertFailed}
 use Rattle.ctd_command.specs.Integer.{prefix_len_of, judge, is_minus, digits_of}
-use Rattle.ctd_command.specs.State.{Act, done, ◌>>=◌, return, reject, pass, lift, evaluate, see_next, pass_longest, fault_of_truth}
+use Rattle.ctd_command.specs.State.{Act, done, ◌>>=◌, return, reject, pass, lift, evaluate, see_next, pass_longest}
 
 -- this byte, and else the reason
 abbrev pub one_byte : ℕ → Reason → Act ⊤
@@ -70,7 +69,7 @@ string e = evaluate (text_of e) >>= match_bytes
 
 -- a test's answer
 abbrev pub answer : TestTree → Act Bool
-answer t d s = lift (with_fault fault_of_truth (truth t s.store d s.offset)) s
+answer t d s = lift (truth t s.store d s.offset) s
 
 -- a test that is false rejects the data
 abbrev pub assert : TestTree → Act ⊤

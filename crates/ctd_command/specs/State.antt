@@ -1,16 +1,12 @@
 -- Where a run stands, and what is done to that.
 use Rattle.std.specs.Prelude.{ℕ, ◌+◌, ⊤, List, Option, Result, Ok, Err}
 use Rattle.ctd_source.specs.declared.limits.TheConstants.{WINDOW}
-use Rattle.ctd_source.specs.declared.spot.LookFault.{LookFault}
-use Rattle.ctd_source.specs.declared.spot.LookFault.TheVariants as looks
 use Rattle.ctd_source.specs.TestData.{TestData, next_byte, look, visible}
 use Rattle.ctd_store.specs.Store.{Bindings}
-use Rattle.ctd_value.specs.Fault.{ValueFault, TruthFault}
-use Rattle.ctd_value.specs.Fault as faults
+use Rattle.ctd_value.specs.Fault.{with_fault, fault_of_look}
 use Rattle.ctd_program.specs.declared.mode.Mode.{Mode}
 use Rattle.ctd_outcome.specs.declared.reason.Reason.{Reason}
 use Rattle.ctd_outcome.specs.declared.reason.Fault.{Fault}
-use Rattle.ctd_outcome.specs.declared.reason.Fault.TheVariants.{Undefined, WrongType, Overflow, DivisionByZero, Exponent, Count, Shape, DataTooLong, Read}
 
 -- the offset of the next byte, the variables, and how blanks are matched, which nothing changes
 pub record State : Type 0 where
@@ -60,33 +56,13 @@ abbrev pub lift : {A : Type 0} → Result A Fault → State → Effect A
 lift (Ok x) s = done x s
 lift (Err fault) s = faulty fault s.offset
 
--- the fault of a check for each fault of a look
-abbrev pub fault_of_look : LookFault → Fault
-fault_of_look looks.Read = Read
-fault_of_look looks.DataTooLong = DataTooLong
-
--- the fault of a check for each fault of a value
-abbrev pub fault_of_value : ValueFault → Fault
-fault_of_value faults.Undefined = Undefined
-fault_of_value faults.WrongType = WrongType
-fault_of_value faults.Overflow = Overflow
-fault_of_value faults.DivisionByZero = DivisionByZero
-fault_of_value faults.Exponent = Exponent
-fault_of_value faults.Count = Count
-fault_of_value faults.Shape = Shape
-
--- the fault of a check for each fault of a test
-abbrev pub fault_of_truth : TruthFault → Fault
-fault_of_truth (faults.Value fault) = fault_of_value fault
-fault_of_truth (faults.Look fault) = fault_of_look fault
-
 -- a value of the variables, or its fault
-abbrev pub evaluate : {A : Type 0} → (Bindings → Result A ValueFault) → Act A
-evaluate f d s = lift (faults.with_fault fault_of_value (f s.store)) s
+abbrev pub evaluate : {A : Type 0} → (Bindings → Result A Fault) → Act A
+evaluate f d s = lift (f s.store) s
 
 -- the next byte, or none at the end
 abbrev pub see_next : Act (Option ℕ)
-see_next d s = lift (faults.with_fault fault_of_look (next_byte d s.offset)) s
+see_next d s = lift (with_fault fault_of_look (next_byte d s.offset)) s
 
 -- the bytes to come that are visible: up to the end, the limit or a failed read
 abbrev pub see_visible : Act (List ℕ)
@@ -102,4 +78,4 @@ pass_longest prefix_len next = do
 
 -- the window: as many of the bytes to come as it has, or all of them
 abbrev pub see_window : Act (List ℕ)
-see_window d s = lift (faults.with_fault fault_of_look (look d s.offset WINDOW)) s
+see_window d s = lift (with_fault fault_of_look (look d s.offset WINDOW)) s

@@ -66,7 +66,7 @@ impl Model for CommandFailure {
 
 impl From<LookFault> for CommandFailure {
     ghost use Rattle.std.specs.Prelude.{◌≡◌};
-    ghost use Rattle.ctd_command.specs.State.{fault_of_look};
+    ghost use Rattle.ctd_value.specs.Fault.{fault_of_look};
     ghost use Rattle.ctd_command.specs.declared.failure.Failure.TheVariants.{Stopped};
 
     ghost from_gives = { λ fault failure. failure ≡ Stopped (fault_of_look fault) };

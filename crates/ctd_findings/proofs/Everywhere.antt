@@ -6,7 +6,9 @@ use Rattle.ctd_program.specs.Tree
 use Rattle.ctd_program.specs.Tree.{ExprTree, ExprList, TestTree}
 use Rattle.ctd_store.specs.declared.value.Value.{Value}
 use Rattle.ctd_store.specs.Store.{Bindings}
-use Rattle.ctd_value.specs.Fault.{ValueFault, Undefined, TruthFault, with_fault, ◌>>=◌}
+use Rattle.ctd_outcome.specs.declared.reason.Fault.{Fault}
+use Rattle.ctd_outcome.specs.declared.reason.Fault.TheVariants.{Undefined}
+use Rattle.ctd_value.specs.Fault.{◌>>=◌}
 use Rattle.ctd_value.specs.Val.{val, vals, number_of, arithmetic}
 use Rattle.ctd_value.specs.Truth.{truth}
 use Rattle.ctd_findings.specs.calls.LiteralValues.{no_variables, no_data, compares_only, literal_truth, literal_number}
@@ -25,15 +27,11 @@ then (Err e) s f g first second x is = absurd (no_ok e x is)
 same : {A E : Type 0} (r : Result A E) → Follows r r
 same r a is = is
 
-lifted : {A E F : Type 0} (to : E → F) (r s : Result A E) → Follows r s → Follows (with_fault to r) (with_fault to s)
-lifted to (Ok a) s first x is = ap (with_fault to) (first a refl) ∙ is
-lifted to (Err e) s first x is = absurd (no_ok (to e) x is)
-
-undefined : {A : Type 0} (r : Result A ValueFault) (f : A → Result Value ValueFault) (s : Result Value ValueFault) → ((a : A) → f a ≡ Err Undefined) → Follows (r >>= f) s
+undefined : {A : Type 0} (r : Result A Fault) (f : A → Result Value Fault) (s : Result Value Fault) → ((a : A) → f a ≡ Err Undefined) → Follows (r >>= f) s
 undefined (Ok a) f s none x is = absurd (no_ok Undefined x (sym (none a) ∙ is))
 undefined (Err e) f s none x is = absurd (no_ok e x is)
 
-computed : (operate : ℤ → ℤ → Result ℤ ValueFault) (a b c d : Result Value ValueFault) → Follows a c → Follows b d → Follows (arithmetic operate a b) (arithmetic operate c d)
+computed : (operate : ℤ → ℤ → Result ℤ Fault) (a b c d : Result Value Fault) → Follows a c → Follows b d → Follows (arithmetic operate a b) (arithmetic operate c d)
 computed operate a b c d left right = then a c _ _ left (λ v. then b d _ _ right (λ w. same _))
 
 val_everywhere : (e : ExprTree) (h : Bindings) → Follows (val e no_variables) (val e h)
@@ -50,7 +48,7 @@ val_everywhere (Tree.remainder a b) h = computed _ _ _ _ _ (val_everywhere a h) 
 val_everywhere (Tree.power a b) h = computed _ _ _ _ _ (val_everywhere a h) (val_everywhere b h)
 
 -- a number that follows from literals is the number everywhere
-known_number : (r s : Result ℤ ValueFault) (n : ℤ) → Follows r s → result_ok r ≡ Some n → s ≡ Ok n
+known_number : (r s : Result ℤ Fault) (n : ℤ) → Follows r s → result_ok r ≡ Some n → s ≡ Ok n
 known_number (Ok m) s n first is = first m refl ∙ ap Ok (cc)
 known_number (Err e) s n first is = absurd (cc)
 
@@ -65,11 +63,11 @@ right_true : (a b : Bool) → (a && b) ≡ true → b ≡ true
 right_true true b is = is
 right_true false b is = absurd (cc)
 
-after : (b : Bool) (r s q : Result Bool TruthFault) → Follows r s → Follows (cond b q r) (cond b q s)
+after : (b : Bool) (r s q : Result Bool Fault) → Follows r s → Follows (cond b q r) (cond b q s)
 after true r s q h = same q
 after false r s q h = h
 
-before : (b : Bool) (r s q : Result Bool TruthFault) → Follows r s → Follows (cond b r q) (cond b s q)
+before : (b : Bool) (r s q : Result Bool Fault) → Follows r s → Follows (cond b r q) (cond b s q)
 before true r s q h = h
 before false r s q h = same q
 
@@ -77,13 +75,13 @@ truth_everywhere : (t : TestTree) → compares_only t ≡ true → (h : Bindings
 truth_everywhere (Tree.or s t) is h d p = then _ _ _ _ (truth_everywhere s (left_true _ _ is) h d p) (λ b. after b _ _ _ (truth_everywhere t (right_true _ _ is) h d p))
 truth_everywhere (Tree.and s t) is h d p = then _ _ _ _ (truth_everywhere s (left_true _ _ is) h d p) (λ b. before b _ _ _ (truth_everywhere t (right_true _ _ is) h d p))
 truth_everywhere (Tree.not t) is h d p = then _ _ _ _ (truth_everywhere t is h d p) (λ b. same _)
-truth_everywhere (Tree.compare by a b) is h d p = lifted _ _ _ (then _ _ _ _ (val_everywhere a h) (λ v. then _ _ _ _ (val_everywhere b h) (λ w. same _)))
+truth_everywhere (Tree.compare by a b) is h d p = then _ _ _ _ (val_everywhere a h) (λ v. then _ _ _ _ (val_everywhere b h) (λ w. same _))
 truth_everywhere (Tree.matches e) is h d p = absurd (cc)
 truth_everywhere Tree.at_end is h d p = absurd (cc)
 truth_everywhere (Tree.unique names) is h d p = absurd (cc)
 truth_everywhere (Tree.in_array e name) is h d p = absurd (cc)
 
-known_truth : (c : Bool) (r s : Result Bool TruthFault) (b : Bool) → (c ≡ true → Follows r s) → cond c (result_ok r) None ≡ Some b → s ≡ Ok b
+known_truth : (c : Bool) (r s : Result Bool Fault) (b : Bool) → (c ≡ true → Follows r s) → cond c (result_ok r) None ≡ Some b → s ≡ Ok b
 known_truth true (Ok a) s b first is = first refl a refl ∙ ap Ok (cc)
 known_truth true (Err e) s b first is = absurd (cc)
 known_truth false r s b first is = absurd (cc)

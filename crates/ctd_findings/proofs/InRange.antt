@@ -14,11 +14,11 @@ use Rattle.ctd_program.specs.declared.tree.Compare.TheVariants as comparisons
 use Rattle.ctd_store.specs.declared.value.Value.{Value}
 use Rattle.ctd_store.specs.declared.value.Value.TheVariants as values
 use Rattle.ctd_store.specs.Store.{Bindings, value_at}
-use Rattle.ctd_value.specs.Fault.{ValueFault, TruthFault, Undefined, WrongType, Overflow, DivisionByZero, Exponent, Count, Shape, Look, ◌>>=◌}
-use Rattle.ctd_value.specs.Fault as faults
+use Rattle.ctd_outcome.specs.declared.reason.Fault.{Fault}
+use Rattle.ctd_outcome.specs.declared.reason.Fault.TheVariants.{Undefined}
+use Rattle.ctd_value.specs.Fault.{◌>>=◌}
 use Rattle.ctd_value.specs.Val.{number, val}
 use Rattle.ctd_value.specs.Truth.{compares, holds_by, truth}
-use Rattle.ctd_value.specs.inner.Truth.{as_test}
 use Rattle.ctd_value.specs.inner.Val.{value_or_undefined}
 use Rattle.ctd_findings.specs.declared.ranges.Bounds.{Bounds}
 use Rattle.ctd_findings.specs.calls.Decided.{IsOrUndefined, IsWithin, KeepsTo, holds_of_all, known_and, known_or, one_answer, only, opposite, range_truth, side_range}
@@ -27,18 +27,12 @@ use Rattle.ctd_findings.specs.calls.Ranges.{name_in}
 use Rattle.ctd_findings.proofs.Everywhere.{number_everywhere}
 
 -- a side of a comparison has a number of the range, or a variable without a value
-abbrev HasSide : Bounds → Result Value ValueFault → Type 0
+abbrev HasSide : Bounds → Result Value Fault → Type 0
 HasSide b (Ok v) = IsWithin b v
-HasSide b (Err Undefined) = Unit {0}
-HasSide b (Err WrongType) = ⊥
-HasSide b (Err Overflow) = ⊥
-HasSide b (Err DivisionByZero) = ⊥
-HasSide b (Err Exponent) = ⊥
-HasSide b (Err Count) = ⊥
-HasSide b (Err Shape) = ⊥
+HasSide b (Err fault) = fault ≡ Undefined
 
 -- a value that is this number
-is_number : (b : Bounds) (n : ℤ) (r : Result Value ValueFault) → (r >>= number) ≡ Ok n → only n ≡ b → HasSide b r
+is_number : (b : Bounds) (n : ℤ) (r : Result Value Fault) → (r >>= number) ≡ Ok n → only n ≡ b → HasSide b r
 is_number b n (Ok (values.Int m)) is same =
     let e : m ≡ n = cc in
     subst (λ c. IsWithin c (values.Int m)) same (omega (arith, ints, e), omega (arith, ints, e))
@@ -47,7 +41,7 @@ is_number b n (Err e) is same = absurd (cc is)
 
 -- the value of a name
 of_name : (b : Bounds) (o : Option Value) → ((v : Value) → o ≡ Some v → IsWithin b v) → HasSide b (value_or_undefined o)
-of_name b None keeps = tt
+of_name b None keeps = refl
 of_name b (Some v) keeps = keeps v refl
 
 named : (range : List ℕ → Option Bounds) (e : ExprTree) (b : Bounds) (h : Bindings) → KeepsTo range h → option_and_then range (name_in e) ≡ Some b → HasSide b (val e h)
@@ -122,65 +116,42 @@ decided_by by a b x y true second answer one other is in_a in_b = holds by a b x
 decided_by by a b x y false true answer one other is in_a in_b = turned by (int_cmp x y) (holds (opposite by) a b x y in_a in_b other) ∙ cc
 decided_by by a b x y false false answer one other is in_a in_b = absurd (cc is)
 
-compared : (by : Compare) (a b : Bounds) (answer : Bool) (r s : Result Value ValueFault) → one_answer by (Some a) (Some b) ≡ Some answer → HasSide a r → HasSide b s → IsOrUndefined answer (as_test (compares by r s))
+compared : (by : Compare) (a b : Bounds) (answer : Bool) (r s : Result Value Fault) → one_answer by (Some a) (Some b) ≡ Some answer → HasSide a r → HasSide b s → IsOrUndefined answer (compares by r s)
 compared by a b answer (Ok (values.Int x)) (Ok (values.Int y)) is in_a in_b = decided_by by a b x y _ _ answer refl refl is in_a in_b
 compared by a b answer (Ok (values.Int x)) (Ok (values.Text bytes)) is in_a in_b = absurd in_b
 compared by a b answer (Ok (values.Text bytes)) s is in_a in_b = absurd in_a
-compared by a b answer (Ok (values.Int x)) (Err Undefined) is in_a in_b = tt
-compared by a b answer (Ok (values.Int x)) (Err WrongType) is in_a in_b = absurd in_b
-compared by a b answer (Ok (values.Int x)) (Err Overflow) is in_a in_b = absurd in_b
-compared by a b answer (Ok (values.Int x)) (Err DivisionByZero) is in_a in_b = absurd in_b
-compared by a b answer (Ok (values.Int x)) (Err Exponent) is in_a in_b = absurd in_b
-compared by a b answer (Ok (values.Int x)) (Err Count) is in_a in_b = absurd in_b
-compared by a b answer (Ok (values.Int x)) (Err Shape) is in_a in_b = absurd in_b
-compared by a b answer (Err Undefined) s is in_a in_b = tt
-compared by a b answer (Err WrongType) s is in_a in_b = absurd in_a
-compared by a b answer (Err Overflow) s is in_a in_b = absurd in_a
-compared by a b answer (Err DivisionByZero) s is in_a in_b = absurd in_a
-compared by a b answer (Err Exponent) s is in_a in_b = absurd in_a
-compared by a b answer (Err Count) s is in_a in_b = absurd in_a
-compared by a b answer (Err Shape) s is in_a in_b = absurd in_a
+compared by a b answer (Ok (values.Int x)) (Err fault) is in_a in_b = in_b
+compared by a b answer (Err fault) s is in_a in_b = in_a
 
-compared_sides : (by : Compare) (o p : Option Bounds) (answer : Bool) (r s : Result Value ValueFault) → one_answer by o p ≡ Some answer → ((a : Bounds) → o ≡ Some a → HasSide a r) → ((b : Bounds) → p ≡ Some b → HasSide b s) → IsOrUndefined answer (as_test (compares by r s))
+compared_sides : (by : Compare) (o p : Option Bounds) (answer : Bool) (r s : Result Value Fault) → one_answer by o p ≡ Some answer → ((a : Bounds) → o ≡ Some a → HasSide a r) → ((b : Bounds) → p ≡ Some b → HasSide b s) → IsOrUndefined answer (compares by r s)
 compared_sides by None p answer r s is left right = absurd (cc is)
 compared_sides by (Some a) None answer r s is left right = absurd (cc is)
 compared_sides by (Some a) (Some b) answer r s is left right = compared by a b answer r s is (left a refl) (right b refl)
 
 -- a test that is known, if any, has its answer
-abbrev IsAsKnown : Option Bool → Result Bool TruthFault → Type 0
+abbrev IsAsKnown : Option Bool → Result Bool Fault → Type 0
 IsAsKnown o r = (b : Bool) → o ≡ Some b → IsOrUndefined b r
 
--- a fault of a first test is that of the whole
-passed_on : (b c : Bool) (e : TruthFault) → IsOrUndefined b (Err e) → IsOrUndefined c (Err e)
-passed_on b c (faults.Value Undefined) is = tt
-passed_on b c (faults.Value WrongType) is = absurd is
-passed_on b c (faults.Value Overflow) is = absurd is
-passed_on b c (faults.Value DivisionByZero) is = absurd is
-passed_on b c (faults.Value Exponent) is = absurd is
-passed_on b c (faults.Value Count) is = absurd is
-passed_on b c (faults.Value Shape) is = absurd is
-passed_on b c (Look fault) is = absurd is
-
-either : (o p : Option Bool) (r s : Result Bool TruthFault) → IsAsKnown o r → IsAsKnown p s → IsAsKnown (known_or o p) (r >>= (λ b. cond b (Ok true) s))
+either : (o p : Option Bool) (r s : Result Bool Fault) → IsAsKnown o r → IsAsKnown p s → IsAsKnown (known_or o p) (r >>= (λ b. cond b (Ok true) s))
 either None p r s first second b is = absurd (cc is)
 either (Some true) p (Ok true) s first second b is = cc is
 either (Some true) p (Ok false) s first second b is = absurd (cc (first true refl))
 either (Some false) p (Ok true) s first second b is = absurd (cc (first false refl))
 either (Some false) p (Ok false) s first second b is = second b is
-either (Some c) p (Err e) s first second b is = passed_on c b e (first c refl)
+either (Some c) p (Err e) s first second b is = first c refl
 
-both : (o p : Option Bool) (r s : Result Bool TruthFault) → IsAsKnown o r → IsAsKnown p s → IsAsKnown (known_and o p) (r >>= (λ b. cond b s (Ok false)))
+both : (o p : Option Bool) (r s : Result Bool Fault) → IsAsKnown o r → IsAsKnown p s → IsAsKnown (known_and o p) (r >>= (λ b. cond b s (Ok false)))
 both None p r s first second b is = absurd (cc is)
 both (Some false) p (Ok false) s first second b is = cc is
 both (Some false) p (Ok true) s first second b is = absurd (cc (first false refl))
 both (Some true) p (Ok false) s first second b is = absurd (cc (first true refl))
 both (Some true) p (Ok true) s first second b is = second b is
-both (Some c) p (Err e) s first second b is = passed_on c b e (first c refl)
+both (Some c) p (Err e) s first second b is = first c refl
 
-negated : (o : Option Bool) (r : Result Bool TruthFault) → IsAsKnown o r → IsAsKnown (option_map not o) (r >>= (λ b. Ok (not b)))
+negated : (o : Option Bool) (r : Result Bool Fault) → IsAsKnown o r → IsAsKnown (option_map not o) (r >>= (λ b. Ok (not b)))
 negated None r first b is = absurd (cc is)
 negated (Some c) (Ok d) first b is = ap not (first c refl) ∙ cc is
-negated (Some c) (Err e) first b is = passed_on c b e (first c refl)
+negated (Some c) (Err e) first b is = first c refl
 
 known_truth : (range : List ℕ → Option Bounds) (t : TestTree) (h : Bindings) (d : TestData) (p : ℕ) → KeepsTo range h → IsAsKnown (range_truth range t) (truth t h d p)
 known_truth range (Tree.or s t) h d p keeps = either _ _ _ _ (known_truth range s h d p keeps) (known_truth range t h d p keeps)

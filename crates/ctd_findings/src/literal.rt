@@ -3,7 +3,7 @@
 ghost use Rattle.std.specs.Prelude.{◌≡◌, ℤ, Bool, Result, IfOk};
 ghost use Rattle.std.specs.Result.{result_ok};
 ghost use Rattle.ctd_program.specs.calls.View.{expr_tree, test_tree};
-ghost use Rattle.ctd_value.specs.Fault.{TruthFault, ValueFault};
+ghost use Rattle.ctd_outcome.specs.declared.reason.Fault.{Fault};
 ghost use Rattle.ctd_value.specs.Truth.{truth};
 ghost use Rattle.ctd_value.specs.calls.Fault.{Answers, Gives};
 ghost use Rattle.ctd_findings.specs.calls.LiteralValues.{compares_only, literal_number, literal_truth, no_data, no_variables};
@@ -35,7 +35,7 @@ fn truth_without_data(alloc: Global, t: &Test, store: &Store) -> Result<bool, Te
 
 /// A truth, or none where there is a fault. It is not known where memory ran out.
 fn known_truth(answer: Result<bool, TestFault>) -> Result<Option<bool>, AllocError>
-    ensures { (meant : Result Bool TruthFault) → Answers answer meant → IfOk result (λ truth. truth ≡ result_ok meant) }
+    ensures { (meant : Result Bool Fault) → Answers answer meant → IfOk result (λ truth. truth ≡ result_ok meant) }
 {
     match answer {
         Ok(truth) => Ok(Some(truth)),
@@ -61,7 +61,7 @@ pub(crate) fn literal_truth(
 
 /// A number, or none where there is a fault. It is not known where memory ran out.
 fn known_number(answer: Result<i128, EvalFault>) -> Result<Option<i128>, AllocError>
-    ensures { (meant : Result ℤ ValueFault) → Gives answer meant → IfOk result (λ number. number ≡ result_ok meant) }
+    ensures { (meant : Result ℤ Fault) → Gives answer meant → IfOk result (λ number. number ≡ result_ok meant) }
 {
     match answer {
         Ok(number) => Ok(Some(number)),

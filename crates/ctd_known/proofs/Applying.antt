@@ -12,8 +12,9 @@ use Rattle.ctd_program.specs.calls.View.{expr_list, expr_tree, exprs_of}
 use Rattle.ctd_store.specs.declared.value.Value.{Value}
 use Rattle.ctd_store.specs.declared.value.Value.TheVariants as values
 use Rattle.ctd_store.specs.Store.{Bindings, value_at}
-use Rattle.ctd_value.specs.Fault.{ValueFault, ◌>>=◌}
-use Rattle.ctd_value.specs.Fault as faults
+use Rattle.ctd_outcome.specs.declared.reason.Fault.{Fault}
+use Rattle.ctd_value.specs.Fault.{◌>>=◌}
+use Rattle.ctd_outcome.specs.declared.reason.Fault.TheVariants as faults
 use Rattle.ctd_value.specs.Arithmetic.{in_range}
 use Rattle.ctd_value.specs.Val.{arithmetic, val, vals}
 use Rattle.ctd_value.specs.inner.Val.{value_or_undefined}
@@ -31,13 +32,13 @@ use Rattle.ctd_known.specs.inner.Found.{AreOperands, IsComputed, Operates, measu
 
 -- some faults are among others
 abbrev pub AreFaults : Faults → Faults → Type 0
-AreFaults some all = (x : ValueFault) → IsAmong some x → IsAmong all x
+AreFaults some all = (x : Fault) → IsAmong some x → IsAmong all x
 
-computed_found : (f g : Found) (k : ℕ) (r : Result ℤ ValueFault) → g.kinds ≡ f.kinds → AreFaults f.faults g.faults → IsComputed f k r → IsFound g k (r >>= (λ z. Ok (values.Int z)))
+computed_found : (f g : Found) (k : ℕ) (r : Result ℤ Fault) → g.kinds ≡ f.kinds → AreFaults f.faults g.faults → IsComputed f k r → IsFound g k (r >>= (λ z. Ok (values.Int z)))
 computed_found f g k (Ok z) kinds more h = subst (λ ks. MayBe ks k (values.Int z)) (sym kinds) h
 computed_found f g k (Err e) kinds more h = more e h
 
-pub applied : (o : Operator) (a b f g : Found) (types : Option (Range × Range) × Bool) (k : ℕ) (left right : Result Value ValueFault) → AreOperands a.kinds b.kinds types → Operates o types.0 f → g.kinds ≡ f.kinds →
+pub applied : (o : Operator) (a b f g : Found) (types : Option (Range × Range) × Bool) (k : ℕ) (left right : Result Value Fault) → AreOperands a.kinds b.kinds types → Operates o types.0 f → g.kinds ≡ f.kinds →
     AreFaults a.faults g.faults → AreFaults b.faults g.faults → (types.1 ≡ true → IsAmong g.faults faults.WrongType) → AreFaults f.faults g.faults →
     IsFound a k left → IsFound b k right → IsFound g k (arithmetic (operate o) left right)
 applied o a b f g types k (Err e) right operands operates kinds by_a by_b by_types by_f l r = by_a e l
@@ -48,24 +49,24 @@ applied o a b f g types k (Ok (values.Int x)) (Ok (values.Int y)) operands opera
     let found : (q : Range × Range) × (types.0 ≡ Some q) × IsIn q.0 k x × IsIn q.1 k y = operands.numbers x y k l r in
     computed_found f g k (operate o x y) kinds by_f (operates found.0 found.1 k x y found.2 found.3)
 
-pub negates : (a f g : Found) (text : Bool) (k : ℕ) (r : Result Value ValueFault) → ((x : ℤ) → MayBe a.kinds k (values.Int x) → IsComputed f k (in_range (neg_ℤ x))) → ((bytes : List ℕ) → MayBe a.kinds k (values.Text bytes) → text ≡ true) →
+pub negates : (a f g : Found) (text : Bool) (k : ℕ) (r : Result Value Fault) → ((x : ℤ) → MayBe a.kinds k (values.Int x) → IsComputed f k (in_range (neg_ℤ x))) → ((bytes : List ℕ) → MayBe a.kinds k (values.Text bytes) → text ≡ true) →
     g.kinds ≡ f.kinds → (text ≡ true → IsAmong g.faults faults.WrongType) → AreFaults f.faults g.faults → AreFaults a.faults g.faults → IsFound a k r → IsFound g k (negated r)
 negates a f g text k (Err e) numbers texts kinds wrong by_f by_a may = by_a e may
 negates a f g text k (Ok (values.Text bytes)) numbers texts kinds wrong by_f by_a may = wrong (texts bytes may)
 negates a f g text k (Ok (values.Int x)) numbers texts kinds wrong by_f by_a may = computed_found f g k (in_range (neg_ℤ x)) kinds by_f (numbers x may)
 
-pub measures : (a f g : Found) (number : Bool) (k : ℕ) (r : Result Value ValueFault) → ((bytes : List ℕ) → MayBe a.kinds k (values.Text bytes) → IsFound f k (Ok (values.Int (pos (length bytes))))) → ((x : ℤ) → MayBe a.kinds k (values.Int x) → number ≡ true) →
+pub measures : (a f g : Found) (number : Bool) (k : ℕ) (r : Result Value Fault) → ((bytes : List ℕ) → MayBe a.kinds k (values.Text bytes) → IsFound f k (Ok (values.Int (pos (length bytes))))) → ((x : ℤ) → MayBe a.kinds k (values.Int x) → number ≡ true) →
     g.kinds ≡ f.kinds → (number ≡ true → IsAmong g.faults faults.WrongType) → AreFaults a.faults g.faults → IsFound a k r → IsFound g k (measured r)
 measures a f g number k (Err e) texts numbers kinds wrong by_a may = by_a e may
 measures a f g number k (Ok (values.Text bytes)) texts numbers kinds wrong by_a may = subst (λ ks. MayBe ks k (values.Int (pos (length bytes)))) (sym kinds) (texts bytes may)
 measures a f g number k (Ok (values.Int x)) texts numbers kinds wrong by_a may = wrong (numbers x may)
 
-pub texts_only : (a : Found) (f : Faults) (number : Bool) (k : ℕ) (r : Result Value ValueFault) → ((x : ℤ) → MayBe a.kinds k (values.Int x) → number ≡ true) → (number ≡ true → IsAmong f faults.WrongType) → AreFaults a.faults f → IsFound a k r → FailsBy f (as_text r)
+pub texts_only : (a : Found) (f : Faults) (number : Bool) (k : ℕ) (r : Result Value Fault) → ((x : ℤ) → MayBe a.kinds k (values.Int x) → number ≡ true) → (number ≡ true → IsAmong f faults.WrongType) → AreFaults a.faults f → IsFound a k r → FailsBy f (as_text r)
 texts_only a f number k (Err e) numbers wrong by_a may = by_a e may
 texts_only a f number k (Ok (values.Text bytes)) numbers wrong by_a may = tt
 texts_only a f number k (Ok (values.Int x)) numbers wrong by_a may = wrong (numbers x may)
 
-pub numbers_only : (a : Found) (f : Faults) (text : Bool) (k : ℕ) (r : Result Value ValueFault) → ((bytes : List ℕ) → MayBe a.kinds k (values.Text bytes) → text ≡ true) → (text ≡ true → IsAmong f faults.WrongType) → AreFaults a.faults f → IsFound a k r → FailsBy f (as_number r)
+pub numbers_only : (a : Found) (f : Faults) (text : Bool) (k : ℕ) (r : Result Value Fault) → ((bytes : List ℕ) → MayBe a.kinds k (values.Text bytes) → text ≡ true) → (text ≡ true → IsAmong f faults.WrongType) → AreFaults a.faults f → IsFound a k r → FailsBy f (as_number r)
 numbers_only a f text k (Err e) texts wrong by_a may = by_a e may
 numbers_only a f text k (Ok (values.Text bytes)) texts wrong by_a may = wrong (texts bytes may)
 numbers_only a f text k (Ok (values.Int x)) texts wrong by_a may = tt
@@ -74,7 +75,7 @@ numbers_only a f text k (Ok (values.Int x)) texts wrong by_a may = tt
 abbrev pub Leads : List Known → Faults → ExprList → ExprList → Type 0
 Leads known so_far rest whole = (all : Faults) → AreFaults so_far all → AllFailBy known rest all → AllFailBy known whole all
 
-first_fails : (f : Faults) (k : ℕ) (g : Found) (r : Result Value ValueFault) (vs : Result (List Value) ValueFault) → AreFaults g.faults f → IsFound g k r → FailsBy f vs → FailsBy f (r >>= (λ v. vs >>= (λ l. Ok (v ∷ l))))
+first_fails : (f : Faults) (k : ℕ) (g : Found) (r : Result Value Fault) (vs : Result (List Value) Fault) → AreFaults g.faults f → IsFound g k r → FailsBy f vs → FailsBy f (r >>= (λ v. vs >>= (λ l. Ok (v ∷ l))))
 first_fails f k g (Err e) vs by_g may fails = by_g e may
 first_fails f k g (Ok v) (Ok l) by_g may fails = tt
 first_fails f k g (Ok v) (Err e) by_g may fails = fails
@@ -90,7 +91,7 @@ looked_up : (f : Found) (facts : NameFacts) (indices : Faults) (k : ℕ) (h : Bi
     → IsFound f k (value_or_undefined (value_at h (at_key name (i ∷ is))))
 looked_up f facts indices k h name i is stands value = value (value_at h (at_key name (i ∷ is))) (λ v has. stands.elements i is v has)
 
-at_indices : (f : Found) (facts : NameFacts) (indices : Faults) (k : ℕ) (h : Bindings) (name : List ℕ) (e : Result Value ValueFault) (es : Result (List Value) ValueFault) → NameStands name facts k h → ((o : Option Value) → ((v : Value) → o ≡ Some v → MayBe facts.elements k v) → IsFound f k (value_or_undefined o))
+at_indices : (f : Found) (facts : NameFacts) (indices : Faults) (k : ℕ) (h : Bindings) (name : List ℕ) (e : Result Value Fault) (es : Result (List Value) Fault) → NameStands name facts k h → ((o : Option Value) → ((v : Value) → o ≡ Some v → MayBe facts.elements k v) → IsFound f k (value_or_undefined o))
     → AreFaults indices f.faults → FailsBy indices (e >>= (λ v. es >>= (λ l. Ok (v ∷ l)))) → IsFound f k ((e >>= (λ v. es >>= (λ l. Ok (v ∷ l)))) >>= (λ l. value_or_undefined (value_at h (at_key name l))))
 at_indices f facts indices k h name (Err x) es stands value more fails = more x fails
 at_indices f facts indices k h name (Ok v) (Err x) stands value more fails = more x fails

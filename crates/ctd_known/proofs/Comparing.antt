@@ -14,11 +14,10 @@ use Rattle.ctd_store.specs.declared.value.Value.TheVariants as values
 use Rattle.ctd_store.specs.Store.{Bindings, value_at}
 use Rattle.ctd_range.specs.declared.range.Range.{Range}
 use Rattle.ctd_range.specs.calls.Ranges.{IsIn}
-use Rattle.ctd_value.specs.Fault.{ValueFault}
+use Rattle.ctd_outcome.specs.declared.reason.Fault.{Fault}
 use Rattle.ctd_value.specs.Val.{val}
 use Rattle.ctd_value.specs.inner.Val.{value_or_undefined}
 use Rattle.ctd_value.specs.Truth.{compares, holds_by}
-use Rattle.ctd_value.specs.inner.Truth.{as_test}
 use Rattle.ctd_known.specs.declared.expression.Found.{Found}
 use Rattle.ctd_known.specs.declared.faults.Faults.{Faults}
 use Rattle.ctd_known.specs.declared.facts.Lengths.{Lengths}
@@ -107,8 +106,8 @@ texts_decided : (if_true if_false : List Known) (f : Faults) (k : ℕ) (h : Bind
 texts_decided if_true if_false f k h true on_true on_false = on_true
 texts_decided if_true if_false f k h false on_true on_false = on_false
 
-compare_values : (known if_true if_false : List Known) (by other : Compare) (a b : ExprTree) (f g : Found) (all : Faults) (k : ℕ) (h : Bindings) (l r : Result Value ValueFault) → CutsBoth known by a b f.kinds g.kinds if_true → CutsBoth known other a b f.kinds g.kinds if_false →
-    ((o : Ordering) → holds_by by o ≡ false → holds_by other o ≡ true) → EachStands known k h → val a h ≡ l → val b h ≡ r → IsFound f k l → IsFound g k r → FailsBy all (compares by l r) → Decides if_true if_false all k h (as_test (compares by l r))
+compare_values : (known if_true if_false : List Known) (by other : Compare) (a b : ExprTree) (f g : Found) (all : Faults) (k : ℕ) (h : Bindings) (l r : Result Value Fault) → CutsBoth known by a b f.kinds g.kinds if_true → CutsBoth known other a b f.kinds g.kinds if_false →
+    ((o : Ordering) → holds_by by o ≡ false → holds_by other o ≡ true) → EachStands known k h → val a h ≡ l → val b h ≡ r → IsFound f k l → IsFound g k r → FailsBy all (compares by l r) → Decides if_true if_false all k h (compares by l r)
 compare_values known if_true if_false by other a b f g all k h (Err e) r on_true on_false opposite each is_l is_r may_l may_r fails = fails
 compare_values known if_true if_false by other a b f g all k h (Ok v) (Err e) on_true on_false opposite each is_l is_r may_l may_r fails = fails
 compare_values known if_true if_false by other a b f g all k h (Ok (values.Int x)) (Ok (values.Int y)) on_true on_false opposite each is_l is_r may_l may_r fails =
@@ -118,7 +117,7 @@ compare_values known if_true if_false by other a b f g all k h (Ok (values.Text 
 compare_values known if_true if_false by other a b f g all k h (Ok (values.Text bytes)) (Ok (values.Text others)) on_true on_false opposite each is_l is_r may_l may_r fails =
     texts_decided if_true if_false all k h _ (on_true k h (values.Text bytes) (values.Text others) each is_l is_r may_l may_r tt) (on_false k h (values.Text bytes) (values.Text others) each is_l is_r may_l may_r tt)
 
-pub compare_cuts : (known if_true if_false : List Known) (by other : Compare) (a b : ExprTree) (f g : Found) (all : Faults) → Gives known a f → Gives known b g → ((by : Compare) (k : ℕ) (left right : Result Value ValueFault) → IsFound f k left → IsFound g k right → FailsBy all (compares by left right)) →
+pub compare_cuts : (known if_true if_false : List Known) (by other : Compare) (a b : ExprTree) (f g : Found) (all : Faults) → Gives known a f → Gives known b g → ((by : Compare) (k : ℕ) (left right : Result Value Fault) → IsFound f k left → IsFound g k right → FailsBy all (compares by left right)) →
     CutsBoth known by a b f.kinds g.kinds if_true → CutsBoth known other a b f.kinds g.kinds if_false → ((o : Ordering) → holds_by by o ≡ false → holds_by other o ≡ true) → SplitsBy known (Tree.compare by a b) if_true if_false all
 compare_cuts known if_true if_false by other a b f g all left right fails on_true on_false opposite k h d p each =
     compare_values known if_true if_false by other a b f g all k h (val a h) (val b h) on_true on_false opposite each refl refl (left k h each) (right k h each) (fails by k (val a h) (val b h) (left k h each) (right k h each))

@@ -2,17 +2,19 @@
 use Rattle.std.proofs.Common.{◌≡◌, ◌≤◌, ◌⊎◌, inl, inr, ℕ, Bool, true, false, List, [], ◌∷◌, length, map, Option, Result, Ok, Err, arith, if◌then◌else◌}
 use Rattle.ctd_source.specs.TestData.{next_byte}
 use Rattle.ctd_source.specs.declared.spot.LookFault.{LookFault}
+use Rattle.ctd_source.specs.declared.spot.LookFault.TheVariants as looks
 use Rattle.ctd_program.specs.Tree
 use Rattle.ctd_program.specs.Tree.{ExprTree, TestTree}
 use Rattle.ctd_program.specs.declared.tree.Compare.{Compare}
 use Rattle.ctd_store.specs.declared.value.Value.{Value}
 use Rattle.ctd_store.specs.declared.value.Value.TheVariants as values
 use Rattle.ctd_store.specs.Store.{Array, Bindings, values_of}
-use Rattle.ctd_value.specs.Fault.{ValueFault, TruthFault, with_fault, ◌>>=◌}
-use Rattle.ctd_value.specs.Fault as faults
+use Rattle.ctd_outcome.specs.declared.reason.Fault.{Fault}
+use Rattle.ctd_value.specs.Fault.{with_fault, ◌>>=◌, fault_of_look}
+use Rattle.ctd_outcome.specs.declared.reason.Fault.TheVariants as faults
 use Rattle.ctd_value.specs.Val.{val}
 use Rattle.ctd_value.specs.Truth.{compares, value_in_array, uniqueness}
-use Rattle.ctd_value.specs.inner.Truth.{as_test, is_end, is_one_of}
+use Rattle.ctd_value.specs.inner.Truth.{is_end, is_one_of}
 use Rattle.ctd_known.specs.declared.expression.Found.{Found}
 use Rattle.ctd_known.specs.declared.faults.Faults.{Faults}
 use Rattle.ctd_known.specs.declared.facts.Known.{Known}
@@ -25,30 +27,31 @@ both_decided : (known : List Known) (f : Faults) (k : ℕ) (h : Bindings) (b : B
 both_decided known f k h true each = each
 both_decided known f k h false each = each
 
-value_decides : (known : List Known) (f : Faults) (k : ℕ) (h : Bindings) (r : Result Bool ValueFault) → EachStands known k h → FailsBy f r → Decides known known f k h (as_test r)
+value_decides : (known : List Known) (f : Faults) (k : ℕ) (h : Bindings) (r : Result Bool Fault) → EachStands known k h → FailsBy f r → Decides known known f k h r
 value_decides known f k h (Ok b) each fails = both_decided known f k h b each
 value_decides known f k h (Err why) each fails = fails
 
-look_decides : (known : List Known) (f : Faults) (k : ℕ) (h : Bindings) (r : Result (Option ℕ) LookFault) (test : Option ℕ → Bool) → EachStands known k h → Decides known known f k h ((with_fault faults.Look r) >>= (λ next. Ok (test next)))
+look_decides : (known : List Known) (f : Faults) (k : ℕ) (h : Bindings) (r : Result (Option ℕ) LookFault) (test : Option ℕ → Bool) → EachStands known k h → Decides known known f k h (with_fault fault_of_look r >>= (λ next. Ok (test next)))
 look_decides known f k h (Ok next) test each = both_decided known f k h (test next) each
-look_decides known f k h (Err why) test each = tt
+look_decides known f k h (Err looks.Read) test each = tt
+look_decides known f k h (Err looks.DataTooLong) test each = tt
 
-match_decides : (known : List Known) (f : Faults) (k : ℕ) (h : Bindings) (r : Result (List ℕ) ValueFault) (next : Result (Option ℕ) LookFault) → EachStands known k h → FailsBy f r
-    → Decides known known f k h ((as_test r) >>= (λ bytes. (with_fault faults.Look next) >>= (λ seen. Ok (is_one_of bytes seen))))
+match_decides : (known : List Known) (f : Faults) (k : ℕ) (h : Bindings) (r : Result (List ℕ) Fault) (next : Result (Option ℕ) LookFault) → EachStands known k h → FailsBy f r
+    → Decides known known f k h (r >>= (λ bytes. with_fault fault_of_look next >>= (λ seen. Ok (is_one_of bytes seen))))
 match_decides known f k h (Ok bytes) next each fails = look_decides known f k h next (is_one_of bytes) each
 match_decides known f k h (Err why) next each fails = fails
 
 pub end_splits : (known : List Known) (f : Faults) → SplitsBy known Tree.at_end known known f
 end_splits known f k h d p each = look_decides known f k h (next_byte d p) is_end each
 
-pub compare_splits : (known : List Known) (by : Compare) (a b : ExprTree) (f g : Found) (all : Faults) → Gives known a f → Gives known b g → ((by : Compare) (k : ℕ) (left right : Result Value ValueFault) → IsFound f k left → IsFound g k right → FailsBy all (compares by left right))
+pub compare_splits : (known : List Known) (by : Compare) (a b : ExprTree) (f g : Found) (all : Faults) → Gives known a f → Gives known b g → ((by : Compare) (k : ℕ) (left right : Result Value Fault) → IsFound f k left → IsFound g k right → FailsBy all (compares by left right))
     → SplitsBy known (Tree.compare by a b) known known all
 compare_splits known by a b f g all left right fails k h d p each = value_decides known all k h (compares by (val a h) (val b h)) each (fails by k (val a h) (val b h) (left k h each) (right k h each))
 
-pub match_splits : (known : List Known) (e : ExprTree) (f : Found) (all : Faults) → Gives known e f → ((k : ℕ) (r : Result Value ValueFault) → IsFound f k r → FailsBy all (as_text r)) → SplitsBy known (Tree.matches e) known known all
+pub match_splits : (known : List Known) (e : ExprTree) (f : Found) (all : Faults) → Gives known e f → ((k : ℕ) (r : Result Value Fault) → IsFound f k r → FailsBy all (as_text r)) → SplitsBy known (Tree.matches e) known known all
 match_splits known e f all gives fails k h d p each = match_decides known all k h (as_text (val e h)) (next_byte d p) each (fails k (val e h) (gives k h each))
 
-among_fails : (f : Found) (k : ℕ) (r : Result Value ValueFault) (array : Array) → IsFound f k r → FailsBy f.faults (value_in_array r array)
+among_fails : (f : Found) (k : ℕ) (r : Result Value Fault) (array : Array) → IsFound f k r → FailsBy f.faults (value_in_array r array)
 among_fails f k (Ok v) array may = tt
 among_fails f k (Err why) array may = may
 
@@ -72,7 +75,7 @@ unique_splits known names f shape k h d p each = value_decides known f k h (uniq
 -- the faults of a comparison
 pub compare_fails : (f g : Found) (all : Faults) (mixed : Bool) → AreFaults f.faults all → AreFaults g.faults all → (mixed ≡ true → IsAmong all faults.WrongType)
     → ((k : ℕ) (x : _) (bytes : List ℕ) → MayBe f.kinds k (values.Int x) → MayBe g.kinds k (values.Text bytes) → mixed ≡ true) → ((k : ℕ) (bytes : List ℕ) (x : _) → MayBe f.kinds k (values.Text bytes) → MayBe g.kinds k (values.Int x) → mixed ≡ true)
-    → (by : Compare) (k : ℕ) (left right : Result Value ValueFault) → IsFound f k left → IsFound g k right → FailsBy all (compares by left right)
+    → (by : Compare) (k : ℕ) (left right : Result Value Fault) → IsFound f k left → IsFound g k right → FailsBy all (compares by left right)
 compare_fails f g all mixed by_f by_g wrong one other by k (Err e) right l r = by_f e l
 compare_fails f g all mixed by_f by_g wrong one other by k (Ok v) (Err e) l r = by_g e r
 compare_fails f g all mixed by_f by_g wrong one other by k (Ok (values.Int x)) (Ok (values.Int y)) l r = tt

@@ -4,7 +4,8 @@ ghost use Rattle.std.specs.Prelude.{◌≡◌, ◌≤◌, ◌⊎◌, length, Lis
 ghost use Rattle.ctd_program.specs.calls.View.{expr_tree, test_tree};
 ghost use Rattle.ctd_program.specs.declared.tree.Compare.{Compare};
 ghost use Rattle.ctd_store.specs.declared.value.Value.{Value};
-ghost use Rattle.ctd_value.specs.Fault.{ValueFault, Shape};
+ghost use Rattle.ctd_outcome.specs.declared.reason.Fault.{Fault};
+ghost use Rattle.ctd_outcome.specs.declared.reason.Fault.TheVariants.{Shape};
 ghost use Rattle.std.specs.declared.cmp.Ordering.{Ordering};
 ghost use Rattle.ctd_value.specs.Truth.{compares, holds_by};
 ghost use Rattle.ctd_program.specs.Tree;
@@ -97,7 +98,7 @@ fn may_mix(a: Kinds, b: Kinds) -> bool
 
 /// The faults of a comparison of what two expressions may give.
 fn compare_faults(a: Found, b: Found) -> Faults
-    ensures { (by : Compare) (k : ℕ) (left right : Result Value ValueFault) → IsFound a k left → IsFound b k right → FailsBy result (compares by left right) }
+    ensures { (by : Compare) (k : ℕ) (left right : Result Value Fault) → IsFound a k left → IsFound b k right → FailsBy result (compares by left right) }
 {
     let mixed = Faults {
         wrong_type: may_mix(a.kinds, b.kinds),
@@ -125,7 +126,7 @@ fn either<'p>(
     ensures left { IfOk result (λ s. TellsAll first.entry.if_true.items s.if_true.items) }
     ensures right { IfOk result (λ s. TellsAll second.entry.if_true.items s.if_true.items) }
     ensures neither { IfOk result (λ s. s.if_false.items ≡ second.entry.if_false.items) }
-    ensures faults { IfOk result (λ s. ((f : ValueFault) → IsAmong first.entry.faults f → IsAmong s.faults f) × ((f : ValueFault) → IsAmong second.entry.faults f → IsAmong s.faults f)) }
+    ensures faults { IfOk result (λ s. ((f : Fault) → IsAmong first.entry.faults f → IsAmong s.faults f) × ((f : Fault) → IsAmong second.entry.faults f → IsAmong s.faults f)) }
 {
     let if_true = join(alloc, first.if_true.as_slice(), second.if_true.as_slice())?;
     Ok(Branches {

@@ -4,7 +4,8 @@ ghost use Rattle.std.specs.Prelude.{◌≡◌, ◌≢◌, ◌≤◌, ℕ, ℤ, L
 ghost use Rattle.ctd_program.specs.calls.View.{expr_tree, expr_list};
 ghost use Rattle.ctd_store.specs.declared.value.Value.{Value};
 ghost use Rattle.ctd_store.specs.declared.value.Value.TheVariants as values;
-ghost use Rattle.ctd_value.specs.Fault.{ValueFault, WrongType};
+ghost use Rattle.ctd_outcome.specs.declared.reason.Fault.{Fault};
+ghost use Rattle.ctd_outcome.specs.declared.reason.Fault.TheVariants.{WrongType};
 ghost use Rattle.ctd_range.specs.calls.Ranges.{Covers};
 ghost use Rattle.ctd_value.specs.Arithmetic.{in_range};
 ghost use Rattle.ctd_value.specs.Val.{arithmetic};
@@ -79,7 +80,7 @@ fn of_name(index: Option<usize>, facts: NameFacts) -> Found
 /// The value of a name at indices, of which these faults are known.
 fn of_element(index: Option<usize>, facts: NameFacts, indices: Faults) -> Found
     ensures value { (k : ℕ) (value : Option Value) → ((v : Value) → value ≡ Some v → MayBe facts.elements k v) → IsFound result k (value_or_undefined value) }
-    ensures indices { (f : ValueFault) → IsAmong indices f → IsAmong result.faults f }
+    ensures indices { (f : Fault) → IsAmong indices f → IsAmong result.faults f }
 {
     let lacks = Faults {
         no_element: true,
@@ -141,7 +142,7 @@ fn no_value() -> Found {
 
 /// The numbers and the faults of a computation.
 fn of_computed(computed: Computed) -> Found
-    ensures { (k : ℕ) (r : Result ℤ ValueFault) → Covers computed k r → IsComputed result k r }
+    ensures { (k : ℕ) (r : Result ℤ Fault) → Covers computed k r → IsComputed result k r }
 {
     Found {
         kinds: Kinds {
@@ -170,8 +171,8 @@ fn operate(operator: Operator, operands: Option<(Range, Range)>) -> Found
 /// The same, with these faults too.
 fn with_faults(found: Found, faults: Faults) -> Found
     ensures kinds { result.kinds ≡ found.kinds }
-    ensures own { (f : ValueFault) → IsAmong found.faults f → IsAmong result.faults f }
-    ensures others { (f : ValueFault) → IsAmong faults f → IsAmong result.faults f }
+    ensures own { (f : Fault) → IsAmong found.faults f → IsAmong result.faults f }
+    ensures others { (f : Fault) → IsAmong faults f → IsAmong result.faults f }
 {
     Found {
         kinds: found.kinds,
@@ -182,7 +183,7 @@ fn with_faults(found: Found, faults: Faults) -> Found
 /// The same, with the fault of a wrong type where this is so.
 fn with_type_fault(found: Found, wrong_type: bool) -> Found
     ensures kinds { result.kinds ≡ found.kinds }
-    ensures own { (f : ValueFault) → IsAmong found.faults f → IsAmong result.faults f }
+    ensures own { (f : Fault) → IsAmong found.faults f → IsAmong result.faults f }
     ensures wrong_type { wrong_type ≡ true → IsAmong result.faults WrongType }
 {
     let faults = Faults {
@@ -194,7 +195,7 @@ fn with_type_fault(found: Found, wrong_type: bool) -> Found
 
 /// What an operator gives of what its operands may give.
 fn apply(operator: Operator, a: Found, b: Found) -> Found
-    ensures { (k : ℕ) (left right : Result Value ValueFault) → IsFound a k left → IsFound b k right → IsFound result k (arithmetic (operate operator) left right) }
+    ensures { (k : ℕ) (left right : Result Value Fault) → IsFound a k left → IsFound b k right → IsFound result k (arithmetic (operate operator) left right) }
 {
     let (numbers, wrong_type) = operands(a.kinds, b.kinds);
     let own = with_type_fault(operate(operator, numbers), wrong_type);
@@ -227,7 +228,7 @@ fn negate_number(kinds: Kinds) -> Found
 
 /// The negation of what an expression may give.
 fn negate(a: Found) -> Found
-    ensures { (k : ℕ) (r : Result Value ValueFault) → IsFound a k r → IsFound result k (negated r) }
+    ensures { (k : ℕ) (r : Result Value Fault) → IsFound a k r → IsFound result k (negated r) }
 {
     let own = with_type_fault(negate_number(a.kinds), may_be_text(a.kinds));
     with_faults(own, a.faults)
@@ -264,7 +265,7 @@ fn measure_text(kinds: Kinds) -> Found
 
 /// The length of what an expression may give.
 fn measure(a: Found) -> Found
-    ensures { (k : ℕ) (r : Result Value ValueFault) → IsFound a k r → IsFound result k (measured r) }
+    ensures { (k : ℕ) (r : Result Value Fault) → IsFound a k r → IsFound result k (measured r) }
 {
     let own = with_type_fault(measure_text(a.kinds), may_be_number(a.kinds));
     with_faults(own, a.faults)
@@ -272,14 +273,14 @@ fn measure(a: Found) -> Found
 
 /// The faults of an expression that has to be a string.
 pub fn text_faults(a: Found) -> Faults
-    ensures { (k : ℕ) (r : Result Value ValueFault) → IsFound a k r → FailsBy result (as_text r) }
+    ensures { (k : ℕ) (r : Result Value Fault) → IsFound a k r → FailsBy result (as_text r) }
 {
     with_type_fault(a, may_be_number(a.kinds)).faults
 }
 
 /// The faults of an expression that has to be a number.
 pub fn number_faults(a: Found) -> Faults
-    ensures { (k : ℕ) (r : Result Value ValueFault) → IsFound a k r → FailsBy result (as_number r) }
+    ensures { (k : ℕ) (r : Result Value Fault) → IsFound a k r → FailsBy result (as_number r) }
 {
     with_type_fault(a, may_be_text(a.kinds)).faults
 }

@@ -1,7 +1,7 @@
 //! The faults of a value that there may be.
 
 ghost use Rattle.std.specs.Prelude.{◌≡◌};
-ghost use Rattle.ctd_value.specs.Fault.{ValueFault};
+ghost use Rattle.ctd_outcome.specs.declared.reason.Fault.{Fault};
 ghost use Rattle.ctd_known.specs.calls.Found.{IsAmong};
 
 /// Which faults of a value there may be, and the indices of the first names, alone and of an array, that may have no value, where there are any.
@@ -37,8 +37,8 @@ pub fn no_faults() -> Faults {
 
 /// The faults of two lists.
 pub fn both(a: Faults, b: Faults) -> Faults
-    ensures first { (f : ValueFault) → IsAmong a f → IsAmong result f }
-    ensures second { (f : ValueFault) → IsAmong b f → IsAmong result f }
+    ensures first { (f : Fault) → IsAmong a f → IsAmong result f }
+    ensures second { (f : Fault) → IsAmong b f → IsAmong result f }
 {
     Faults {
         no_value: a.no_value | b.no_value,

@@ -4,7 +4,7 @@ use Rattle.std.proofs.lemmas.Int.{ints}
 use Rattle.std.proofs.lemmas.Bool.Decides.{nat_tests}
 use Rattle.std.proofs.Math.Nat.{mul-le-mul_right}
 use Rattle.std.specs.Int.{int_pow}
-use Rattle.ctd_value.specs.Fault.{Overflow, Exponent}
+use Rattle.ctd_outcome.specs.declared.reason.Fault.TheVariants.{Overflow, Exponent}
 use Rattle.ctd_value.specs.Arithmetic.{is_value, in_range, checked_divide, power}
 use Rattle.ctd_range.specs.declared.range.Range.{Range}
 use Rattle.ctd_range.specs.declared.arithmetic.Computed.{Computed}

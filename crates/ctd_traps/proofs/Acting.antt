@@ -13,12 +13,13 @@ use Rattle.ctd_store.specs.declared.value.Value.{Value}
 use Rattle.ctd_store.specs.declared.value.Value.TheVariants as values
 use Rattle.ctd_store.specs.Store.{Bindings, Key, Variables, assign, unset}
 use Rattle.ctd_store.proofs.StoreLaws.{assignment_keeps_pins}
-use Rattle.ctd_value.specs.Fault.{ValueFault, TruthFault, with_fault, ◌>>=◌}
-use Rattle.ctd_value.specs.Fault as faults
+use Rattle.ctd_outcome.specs.declared.reason.Fault.{Fault}
+use Rattle.ctd_value.specs.Fault.{◌>>=◌}
+use Rattle.ctd_outcome.specs.declared.reason.Fault.TheVariants as faults
 use Rattle.ctd_value.specs.Val.{in_count, key, number_of, text_of, val, vals}
 use Rattle.ctd_value.specs.Truth.{truth}
 use Rattle.ctd_outcome.specs.declared.reason.Reason.TheVariants.{AssertFailed}
-use Rattle.ctd_command.specs.State.{State, Effect, done, rejected, faulty, Act, evaluate, proceed, lift, return, reject, fault_of_value, fault_of_truth}
+use Rattle.ctd_command.specs.State.{State, Effect, done, rejected, faulty, Act, evaluate, proceed, lift, return, reject}
 use Rattle.ctd_command.specs.Commands.{answer, assert, assign_key, give_value, int, integer, keep, match_bytes, set, set_to, string, unset_all}
 use Rattle.ctd_command.specs.Regex.{leading_match, regex}
 use Rattle.ctd_range.specs.declared.range.Range.{Range}
@@ -35,12 +36,8 @@ use Rattle.ctd_known.proofs.Applying.{AreFaults}
 use Rattle.ctd_traps.specs.declared.cases.Case.{Case}
 use Rattle.ctd_traps.specs.declared.turn.Turns.{Turns}
 use Rattle.ctd_traps.specs.inner.Cases.{Divides, DividesTo}
-use Rattle.ctd_traps.specs.inner.Walk.{IsCounted, Acts, Assigns, ByTurn, ClearsAll, Fits, IsAssigned, IsExpected, KeepsValue, Stays, StaysIn}
-use Rattle.ctd_traps.proofs.SimpleCommands.{same_why}
-use Rattle.ctd_traps.proofs.Fits.{Between, Same, Short, integer_fits, leading_fits, look_is_none, match_fits, then_fits}
-
-expected : (f : Faults) (why : ValueFault) → IsAmong f why → IsExpected f (fault_of_value why)
-expected f why among other same = subst (λ w. IsAmong f w) (same_why why other same) among
+use Rattle.ctd_traps.specs.inner.Walk.{IsCounted, Acts, Assigns, ByTurn, ClearsAll, Fits, IsAssigned, KeepsValue, Stays, StaysIn}
+use Rattle.ctd_traps.proofs.Fits.{Between, Same, Short, integer_fits, leading_fits, match_fits, then_fits}
 
 -- what is known stays so where the variables are as they were
 pub stays_same : (pins : Variables) (known : List Known) (n : ℕ) (s t : State) → t.store ≡ s.store → Stays pins known n s → Stays pins known n t
@@ -50,27 +47,27 @@ stays_same pins known n s t same stays = subst (λ h. (h.pins ≡ pins) × EachS
 abbrev ValueAt : Found → ℕ → State → Value → State → Type 0
 ValueAt g n s v t = (t ≡ s) × MayBe g.kinds n v
 
-value_fits : (f : Faults) (g : Found) (n : ℕ) (s : State) (r : Result Value ValueFault) → IsFound g n r → AreFaults g.faults f → Fits f (ValueAt g n s) (lift (with_fault fault_of_value r) s)
+value_fits : (f : Faults) (g : Found) (n : ℕ) (s : State) (r : Result Value Fault) → IsFound g n r → AreFaults g.faults f → Fits f (ValueAt g n s) (lift r s)
 value_fits f g n s (Ok v) may more = (refl, may)
-value_fits f g n s (Err why) may more = expected f why (more why may)
+value_fits f g n s (Err why) may more = more why may
 
 abbrev NumberAt : Found → ℕ → State → ℤ → State → Type 0
 NumberAt g n s x t = (t ≡ s) × MayBe g.kinds n (values.Int x)
 
-number_fits : (f own : Faults) (g : Found) (n : ℕ) (s : State) (r : Result Value ValueFault) → IsFound g n r → FailsBy own (as_number r) → AreFaults own f → Fits f (NumberAt g n s) (lift (with_fault fault_of_value (as_number r)) s)
+number_fits : (f own : Faults) (g : Found) (n : ℕ) (s : State) (r : Result Value Fault) → IsFound g n r → FailsBy own (as_number r) → AreFaults own f → Fits f (NumberAt g n s) (lift (as_number r) s)
 number_fits f own g n s (Ok (values.Int x)) may fails more = (refl, may)
-number_fits f own g n s (Ok (values.Text bytes)) may fails more = expected f faults.WrongType (more faults.WrongType fails)
-number_fits f own g n s (Err why) may fails more = expected f why (more why fails)
+number_fits f own g n s (Ok (values.Text bytes)) may fails more = more faults.WrongType fails
+number_fits f own g n s (Err why) may fails more = more why fails
 
-text_fits : (f : Faults) (s : State) (r : Result (List ℕ) ValueFault) → FailsBy f r → Fits f (λ _ t. t ≡ s) (lift (with_fault fault_of_value r) s)
+text_fits : (f : Faults) (s : State) (r : Result (List ℕ) Fault) → FailsBy f r → Fits f (λ _ t. t ≡ s) (lift r s)
 text_fits f s (Ok bytes) fails = refl
-text_fits f s (Err why) fails = expected f why fails
+text_fits f s (Err why) fails = fails
 
 -- a variable gets a value
-key_fits : (pins : Variables) (after : List Known) (f : Faults) (n : ℕ) (d : TestData) (s : State) (v : Value) (r : Result Key ValueFault) → s.store.pins ≡ pins → IsAssigned after f n s.store v r
-    → Fits f (λ _ t. Stays pins after n t) (proceed (lift (with_fault fault_of_value r) s) (λ k t. assign_key k v d t))
+key_fits : (pins : Variables) (after : List Known) (f : Faults) (n : ℕ) (d : TestData) (s : State) (v : Value) (r : Result Key Fault) → s.store.pins ≡ pins → IsAssigned after f n s.store v r
+    → Fits f (λ _ t. Stays pins after n t) (proceed (lift r s) (λ k t. assign_key k v d t))
 key_fits pins after f n d s v (Ok k) pinned each = (assignment_keeps_pins s.store k v ∙ pinned, each)
-key_fits pins after f n d s v (Err why) pinned among = expected f why among
+key_fits pins after f n d s v (Err why) pinned among = among
 
 pub set_fits : (pinned known after : List Known) (target : VarTree) (kinds : Kinds) (f : Faults) → Assigns pinned known target kinds after f → (pins : Variables) (d : TestData) (n : ℕ) (s : State) (v : Value) → PinsStand pinned pins → Stays pins known n s → MayBe kinds n v
     → Fits f (λ _ t. Stays pins after n t) (set_to target v d s)
@@ -80,7 +77,7 @@ pub alone_assigns : (pinned known after : List Known) (name : List ℕ) (es : Li
 alone_assigns pinned known after name [] kinds f none alone pins n h v stand same each may = alone pins n h v stand same each may
 alone_assigns pinned known after name (e ∷ es) kinds f none alone pins n h v stand same each may = absurd (cc none)
 
-element_key : (after : List Known) (f : Faults) (n : ℕ) (h : Bindings) (v : Value) (name : List ℕ) (r : Result Value ValueFault) (rs : Result (List Value) ValueFault) → FailsBy f (r >>= (λ i. rs >>= (λ is. Ok (i ∷ is)))) → ((i : Value) (is : List Value) → EachStands after n (assign h (at_key name (i ∷ is)) v))
+element_key : (after : List Known) (f : Faults) (n : ℕ) (h : Bindings) (v : Value) (name : List ℕ) (r : Result Value Fault) (rs : Result (List Value) Fault) → FailsBy f (r >>= (λ i. rs >>= (λ is. Ok (i ∷ is)))) → ((i : Value) (is : List Value) → EachStands after n (assign h (at_key name (i ∷ is)) v))
     → IsAssigned after f n h v ((r >>= (λ i. rs >>= (λ is. Ok (i ∷ is)))) >>= (λ is. Ok (record { name = name; indices = is })))
 element_key after f n h v name (Ok i) (Ok is) fails each = each i is
 element_key after f n h v name (Ok i) (Err why) fails each = fails
@@ -100,11 +97,11 @@ keeps_none pinned known kinds f pins d n s v stand stays may = stays
 more_faults : {A : Type 0} (f g : Faults) (P : A → State → Type 0) (a : Effect A) → AreFaults f g → Fits f P a → Fits g P a
 more_faults f g P (done x t) more fits = fits
 more_faults f g P (rejected reason consumed) more fits = tt
-more_faults f g P (faulty fault consumed) more fits = λ why is. more why (fits why is)
+more_faults f g P (faulty fault consumed) more fits = more fault fits
 
 -- INT
-pub int_acts : (pinned known after : List Known) (low high : ExprTree) (target : Option VarTree) (a b : Found) (kinds : Kinds) (own_a own_b kept f : Faults) → Gives known low a → Gives known high b → ((k : ℕ) (r : Result Value ValueFault) → IsFound a k r → FailsBy own_a (as_number r)) →
-    ((k : ℕ) (r : Result Value ValueFault) → IsFound b k r → FailsBy own_b (as_number r)) → ((k : ℕ) (x y z : ℤ) → MayBe a.kinds k (values.Int x) → MayBe b.kinds k (values.Int y) → x ≤ℤ z → z ≤ℤ y → MayBe kinds k (values.Int z)) →
+pub int_acts : (pinned known after : List Known) (low high : ExprTree) (target : Option VarTree) (a b : Found) (kinds : Kinds) (own_a own_b kept f : Faults) → Gives known low a → Gives known high b → ((k : ℕ) (r : Result Value Fault) → IsFound a k r → FailsBy own_a (as_number r)) →
+    ((k : ℕ) (r : Result Value Fault) → IsFound b k r → FailsBy own_b (as_number r)) → ((k : ℕ) (x y z : ℤ) → MayBe a.kinds k (values.Int x) → MayBe b.kinds k (values.Int y) → x ≤ℤ z → z ≤ℤ y → MayBe kinds k (values.Int z)) →
     KeepsValue pinned known target kinds after kept → AreFaults own_a f → AreFaults own_b f → AreFaults kept f → Acts pinned known after f (int low high target)
 int_acts pinned known after low high target a b kinds own_a own_b kept f gives_a gives_b fails_a fails_b between keeps more_a more_b more pins d n s stand stays =
     then_fits f (NumberAt a n s) (λ _ t. Stays pins after n t) (evaluate (number_of low) d s) (λ x t. proceed (evaluate (number_of high) d t) (λ y u. proceed (integer x y d u) (λ z v. keep target (values.Int z) d v)))
@@ -126,7 +123,7 @@ pub same_acts : (pinned known : List Known) (f : Faults) (m : Act ⊤) → ((d :
 same_acts pinned known f m fits pins d n s stand stays = same_stays f pins known n s (m d s) stays (fits d s)
 
 -- STRING
-pub string_acts : (pinned known : List Known) (e : ExprTree) (a : Found) (f : Faults) → Gives known e a → ((k : ℕ) (r : Result Value ValueFault) → IsFound a k r → FailsBy f (as_text r)) → Acts pinned known known f (string e)
+pub string_acts : (pinned known : List Known) (e : ExprTree) (a : Found) (f : Faults) → Gives known e a → ((k : ℕ) (r : Result Value Fault) → IsFound a k r → FailsBy f (as_text r)) → Acts pinned known known f (string e)
 string_acts pinned known e a f gives fails pins d n s stand stays =
     then_fits f (λ _ t. t ≡ s) (λ _ t. Stays pins known n t) (evaluate (text_of e) d s) (λ bytes t. match_bytes bytes d t) (text_fits f s (as_text (val e s.store)) (fails n (val e s.store) (gives n s.store stays.1)))
     (λ bytes t at. subst (λ (w : State). Fits f (λ _ t. Stays pins known n t) (match_bytes bytes d w)) (sym at) (same_stays f pins known n s (match_bytes bytes d s) stays (match_fits f bytes d s)))
@@ -138,11 +135,10 @@ regex_acts pinned known after literal target kinds f short keeps pins d n s stan
     (λ bytes t read. keeps pins d n (record { offset = t.offset + length bytes; store = t.store; mode = t.mode }) (values.Text bytes) stand (stays_same pins known n s (record { offset = t.offset + length bytes; store = t.store; mode = t.mode }) read.1 stays) (short n bytes read.0))
 
 -- a test
-answer_fits_in : (pins : Variables) (on_true others : List Case) (f : Faults) (n : ℕ) (s : State) (r : Result Bool TruthFault) → s.store.pins ≡ pins → DividesTo on_true others f n s.store r → Fits f (λ b t. ByTurn (StaysIn pins on_true n) (StaysIn pins others n) b t) (lift (with_fault fault_of_truth r) s)
+answer_fits_in : (pins : Variables) (on_true others : List Case) (f : Faults) (n : ℕ) (s : State) (r : Result Bool Fault) → s.store.pins ≡ pins → DividesTo on_true others f n s.store r → Fits f (λ b t. ByTurn (StaysIn pins on_true n) (StaysIn pins others n) b t) (lift r s)
 answer_fits_in pins on_true others f n s (Ok true) pinned one = (pinned, one)
 answer_fits_in pins on_true others f n s (Ok false) pinned one = (pinned, one)
-answer_fits_in pins on_true others f n s (Err (faults.Value why)) pinned among = expected f why among
-answer_fits_in pins on_true others f n s (Err (faults.Look why)) pinned unit = λ other same. absurd (look_is_none why other same)
+answer_fits_in pins on_true others f n s (Err why) pinned among = among
 
 pub answer_fits : (pins : Variables) (cases on_true others : List Case) (f : Faults) (t : TestTree) (d : TestData) (n : ℕ) (s : State) → Divides cases t on_true others f → StaysIn pins cases n s → Fits f (λ b u. ByTurn (StaysIn pins on_true n) (StaysIn pins others n) b u) (answer t d s)
 answer_fits pins cases on_true others f t d n s divides stays = answer_fits_in pins on_true others f n s (truth t s.store d s.offset) stays.0 (divides n s.store d s.offset stays.1)
@@ -208,7 +204,7 @@ counted (pos n) own f false wrong good = let on_true : nat_lt n (2 ^ 64) ≡ tru
 counted (negsuc n) own f true wrong good = wrong refl
 counted (negsuc n) own f false wrong good = absurd (good refl)
 
-pub count_fails : (g : Found) (own f : Faults) (bad : Bool) (k : ℕ) (r : Result Value ValueFault) → IsFound g k r → FailsBy own (as_number r) → AreFaults own f → (bad ≡ true → IsAmong f faults.Count) → (bad ≡ false → (x : ℤ) → MayBe g.kinds k (values.Int x) → IsCount x)
+pub count_fails : (g : Found) (own f : Faults) (bad : Bool) (k : ℕ) (r : Result Value Fault) → IsFound g k r → FailsBy own (as_number r) → AreFaults own f → (bad ≡ true → IsAmong f faults.Count) → (bad ≡ false → (x : ℤ) → MayBe g.kinds k (values.Int x) → IsCount x)
     → FailsBy f ((as_number r) >>= (λ x. in_count x))
 count_fails g own f bad k (Ok (values.Int x)) may fails more wrong good = counted x own f bad wrong (λ is. good is x may)
 count_fails g own f bad k (Ok (values.Text bytes)) may fails more wrong good = more faults.WrongType fails
@@ -218,7 +214,7 @@ in_turns : (turns : Turns) (n : ℕ) (b : Bool) → nat_lt n (2 ^ 64) ≡ b → 
 in_turns turns n true is down up fails = (down (grind (arith, nat_tests, is)), up (grind (arith, nat_tests, is)))
 in_turns turns n false is down up fails = fails
 
-pub turns_counted : (g : Found) (turns : Turns) (k : ℕ) (r : Result Value ValueFault) → IsFound g k r → ((n : ℕ) → n < 2 ^ 64 → MayBe g.kinds k (values.Int (pos n)) → turns.least ≤ n) → ((n : ℕ) → n < 2 ^ 64 → MayBe g.kinds k (values.Int (pos n)) → n ≤ turns.most)
+pub turns_counted : (g : Found) (turns : Turns) (k : ℕ) (r : Result Value Fault) → IsFound g k r → ((n : ℕ) → n < 2 ^ 64 → MayBe g.kinds k (values.Int (pos n)) → turns.least ≤ n) → ((n : ℕ) → n < 2 ^ 64 → MayBe g.kinds k (values.Int (pos n)) → n ≤ turns.most)
     → FailsBy turns.faults ((as_number r) >>= (λ x. in_count x)) → IsCounted turns ((as_number r) >>= (λ x. in_count x))
 turns_counted g turns k (Ok (values.Int (pos n))) may down up fails = in_turns turns n (nat_lt n (2 ^ 64)) refl (λ few. down n few may) (λ few. up n few may) fails
 turns_counted g turns k (Ok (values.Int (negsuc n))) may down up fails = fails

@@ -12,14 +12,13 @@ use Rattle.ctd_program.specs.declared.mode.Mode.{Mode}
 use Rattle.ctd_program.specs.declared.mode.Mode.TheVariants.{Exact, BlanksOk}
 use Rattle.ctd_pattern.specs.Pattern.{length_at_start}
 use Rattle.ctd_store.specs.Store.{Bindings}
-use Rattle.ctd_value.specs.Fault.{ValueFault, TruthFault, with_fault}
-use Rattle.ctd_value.specs.Fault as faults
+use Rattle.ctd_value.specs.Fault.{with_fault, fault_of_look}
 use Rattle.ctd_value.specs.inner.Truth.{is_end}
 use Rattle.ctd_outcome.specs.declared.reason.Reason.{Reason}
 use Rattle.ctd_outcome.specs.declared.reason.Reason.TheVariants.{ExpectedSpace, ExpectedNewline, ExpectedEof, ExpectedInt, LeadingZero, MinusZero, StringMismatch, OutOfRange}
 use Rattle.ctd_outcome.specs.declared.reason.Fault.{Fault}
-use Rattle.ctd_outcome.specs.declared.reason.Fault.TheVariants.{StepLimit, Read, DataTooLong, MatchTooLong}
-use Rattle.ctd_command.specs.State.{State, Effect, done, rejected, faulty, proceed, lift, return, reject, pass, stop, see_next, fault_of_value, fault_of_look}
+use Rattle.ctd_outcome.specs.declared.reason.Fault.TheVariants.{MatchTooLong}
+use Rattle.ctd_command.specs.State.{State, Effect, done, rejected, faulty, proceed, lift, return, reject, pass, stop, see_next}
 use Rattle.ctd_command.specs.Commands.{one_byte, eof, decide, integer, match_bytes}
 use Rattle.ctd_command.specs.Integer.{digits_value, digits_of, in_interval, is_minus, judge, prefix_len_of, with_sign, is_zero_first}
 use Rattle.ctd_command.specs.Blanks.{end, is_blank, newline, skip_blanks, some_blanks, space}
@@ -28,55 +27,12 @@ use Rattle.ctd_command.specs.Regex.{leading_match, shorter_match}
 use Rattle.ctd_known.specs.declared.faults.Faults.{Faults}
 use Rattle.ctd_known.specs.calls.Found.{FailsBy, IsAmong}
 use Rattle.ctd_known.proofs.Applying.{AreFaults}
-use Rattle.ctd_traps.specs.inner.Walk.{Fits, IsExpected}
-use Rattle.ctd_traps.proofs.SimpleCommands.{same_why}
+use Rattle.ctd_traps.specs.inner.Walk.{Fits}
 
--- a fault that is none of a value
-abbrev pub IsNoValue : Fault → Type 0
-IsNoValue fault = (why : ValueFault) → fault_of_value why ≡ fault → ⊥
-
-read_is_none : IsNoValue Read
-read_is_none faults.Undefined is = absurd (cc)
-read_is_none faults.WrongType is = absurd (cc)
-read_is_none faults.Overflow is = absurd (cc)
-read_is_none faults.DivisionByZero is = absurd (cc)
-read_is_none faults.Exponent is = absurd (cc)
-read_is_none faults.Count is = absurd (cc)
-read_is_none faults.Shape is = absurd (cc)
-
-long_is_none : IsNoValue DataTooLong
-long_is_none faults.Undefined is = absurd (cc)
-long_is_none faults.WrongType is = absurd (cc)
-long_is_none faults.Overflow is = absurd (cc)
-long_is_none faults.DivisionByZero is = absurd (cc)
-long_is_none faults.Exponent is = absurd (cc)
-long_is_none faults.Count is = absurd (cc)
-long_is_none faults.Shape is = absurd (cc)
-
-pub steps_are_none : IsNoValue StepLimit
-steps_are_none faults.Undefined is = absurd (cc)
-steps_are_none faults.WrongType is = absurd (cc)
-steps_are_none faults.Overflow is = absurd (cc)
-steps_are_none faults.DivisionByZero is = absurd (cc)
-steps_are_none faults.Exponent is = absurd (cc)
-steps_are_none faults.Count is = absurd (cc)
-steps_are_none faults.Shape is = absurd (cc)
-
-match_is_none : IsNoValue MatchTooLong
-match_is_none faults.Undefined is = absurd (cc)
-match_is_none faults.WrongType is = absurd (cc)
-match_is_none faults.Overflow is = absurd (cc)
-match_is_none faults.DivisionByZero is = absurd (cc)
-match_is_none faults.Exponent is = absurd (cc)
-match_is_none faults.Count is = absurd (cc)
-match_is_none faults.Shape is = absurd (cc)
-
-pub look_is_none : (f : LookFault) → IsNoValue (fault_of_look f)
-look_is_none looks.Read = read_is_none
-look_is_none looks.DataTooLong = long_is_none
-
-never : (f : Faults) (fault : Fault) → IsNoValue fault → IsExpected f fault
-never f fault none why is = absurd (none why is)
+-- nothing is said of the faults of looks
+look_is_among : (f : Faults) (fault : LookFault) → IsAmong f (fault_of_look fault)
+look_is_among f looks.Read = tt
+look_is_among f looks.DataTooLong = tt
 
 le_of : (a b : ℤ) → int_le a b ≡ true → a ≤ℤ b
 le_of a b is = grind (arith, ints)
@@ -91,7 +47,7 @@ then_fits f middle after (faulty fault consumed) next first second = first
 pub weaker_fits : {A : Type 0} (f g : Faults) (P Q : A → State → Type 0) (a : Effect A) → AreFaults f g → ((x : A) (t : State) → P x t → Q x t) → Fits f P a → Fits g Q a
 weaker_fits f g P Q (done x t) more weaker fits = weaker x t fits
 weaker_fits f g P Q (rejected reason consumed) more weaker fits = tt
-weaker_fits f g P Q (faulty fault consumed) more weaker fits = λ why is. more why (fits why is)
+weaker_fits f g P Q (faulty fault consumed) more weaker fits = more fault fits
 
 -- the variables are as they were
 abbrev pub Same : Bindings → {A : Type 0} → A → State → Type 0
@@ -100,7 +56,7 @@ Same h x t = t.store ≡ h
 -- a look leaves all as it is
 look_fits : {A : Type 0} (f : Faults) (r : Result A LookFault) (s : State) → Fits f (Same s.store) (lift (with_fault fault_of_look r) s)
 look_fits f (Ok x) s = refl
-look_fits f (Err why) s = never f (fault_of_look why) (look_is_none why)
+look_fits f (Err why) s = look_is_among f why
 
 -- one byte, or a reason
 byte_fits : (f : Faults) (b : Bool) (reason : Reason) (d : TestData) (s : State) → Fits {A = ⊤} f (Same s.store) ((if b then pass 1 else reject reason) d s)
@@ -160,9 +116,9 @@ pub end_fits : (f : Faults) (d : TestData) (s : State) → Fits f (Same s.store)
 end_fits f d s = end_fits_in f s.mode d s
 
 -- a value of the variables
-pub evaluation_fits : {A : Type 0} (f : Faults) (r : Result A ValueFault) (s : State) → FailsBy f r → Fits f (λ x t. (r ≡ Ok x) × (t ≡ s)) (lift (with_fault fault_of_value r) s)
+pub evaluation_fits : {A : Type 0} (f : Faults) (r : Result A Fault) (s : State) → FailsBy f r → Fits f (λ x t. (r ≡ Ok x) × (t ≡ s)) (lift r s)
 evaluation_fits f (Ok x) s fails = (refl, refl)
-evaluation_fits f (Err why) s fails = λ other same. subst (λ w. IsAmong f w) (same_why why other same) fails
+evaluation_fits f (Err why) s fails = fails
 
 -- the bytes of a string
 pub match_fits : (f : Faults) (bytes : List ℕ) (d : TestData) (s : State) → Fits f (Same s.store) (match_bytes bytes d s)
@@ -205,7 +161,7 @@ abbrev pub Short : Bindings → List ℕ → State → Type 0
 Short h bytes t = (length bytes ≤ WINDOW) × (t.store ≡ h)
 
 found_fits : (f : Faults) (b : Bool) (n : ℕ) (window : List ℕ) (d : TestData) (s : State) → length window ≤ WINDOW → Fits f (Short s.store) (proceed ((if b then stop MatchTooLong else return n) d s) (λ k t. return (take k window) d t))
-found_fits f true n window d s short = never f MatchTooLong match_is_none
+found_fits f true n window d s short = tt
 found_fits f false n window d s short = (omega (arith, length-take n window, short), refl)
 
 matched_fits : (f : Faults) (n : Option ℕ) (window : List ℕ) (d : TestData) (s : State) → length window ≤ WINDOW → Fits f (Short s.store) (proceed (shorter_match n d s) (λ k t. return (take k window) d t))
@@ -223,7 +179,7 @@ looked_short d p bytes is = short_look WINDOW d p (nat_lt d.limit (p + WINDOW) &
 window_fits : (f : Faults) (literal : List ℕ) (d : TestData) (s : State) (r : Result (List ℕ) LookFault) → ((bytes : List ℕ) → r ≡ Ok bytes → length bytes ≤ WINDOW)
     → Fits f (Short s.store) (proceed (lift (with_fault fault_of_look r) s) (λ window u. proceed (shorter_match (length_at_start literal window) d u) (λ k t. return (take k window) d t)))
 window_fits f literal d s (Ok window) short = matched_fits f (length_at_start literal window) window d s (short window refl)
-window_fits f literal d s (Err why) short = never f (fault_of_look why) (look_is_none why)
+window_fits f literal d s (Err why) short = look_is_among f why
 
 pub leading_fits : (f : Faults) (literal : List ℕ) (d : TestData) (s : State) → Fits f (Short s.store) (leading_match literal d s)
 leading_fits f literal d s = window_fits f literal d s (look d s.offset WINDOW) (looked_short d s.offset)

@@ -4,8 +4,7 @@ use Rattle.std.proofs.lemmas.List.{at_drop_more, drop_all}
 use Rattle.ctd_source.specs.TestData.{TestData}
 use Rattle.ctd_program.specs.Tree.{TestTree}
 use Rattle.ctd_store.specs.Store.{Bindings}
-use Rattle.ctd_value.specs.Fault.{TruthFault}
-use Rattle.ctd_value.specs.Fault as faults
+use Rattle.ctd_outcome.specs.declared.reason.Fault.{Fault}
 use Rattle.ctd_value.specs.Truth.{truth}
 use Rattle.ctd_known.specs.declared.faults.Faults.{Faults}
 use Rattle.ctd_known.specs.declared.facts.Known.{Known}
@@ -80,17 +79,15 @@ cases_done cs i X all so_far n h one = none_left n h (X n h) (subst (λ l. OneSt
 abbrev pub DividesSo : TestTree → (if_true if_false : List Case) → Faults → ℕ → Bindings → Type 0
 DividesSo t if_true if_false f n h = (d : TestData) (p : ℕ) → DividesTo if_true if_false f n h (truth t h d p)
 
-divides_more : (a b c d : List Case) (f g : Faults) (n : ℕ) (h : Bindings) (r : Result Bool TruthFault) → TellsCases a c → TellsCases b d → AreFaults f g → DividesTo a b f n h r → DividesTo c d g n h r
+divides_more : (a b c d : List Case) (f g : Faults) (n : ℕ) (h : Bindings) (r : Result Bool Fault) → TellsCases a c → TellsCases b d → AreFaults f g → DividesTo a b f n h r → DividesTo c d g n h r
 divides_more a b c d f g n h (Ok true) on_true on_false more divides = on_true n h divides
 divides_more a b c d f g n h (Ok false) on_true on_false more divides = on_false n h divides
-divides_more a b c d f g n h (Err (faults.Value why)) on_true on_false more divides = more why divides
-divides_more a b c d f g n h (Err (faults.Look why)) on_true on_false more divides = tt
+divides_more a b c d f g n h (Err why) on_true on_false more divides = more why divides
 
-one_divides : (a b : List Known) (c d : List Case) (f g : Faults) (n : ℕ) (h : Bindings) (r : Result Bool TruthFault) → TellsCase a c → TellsCase b d → AreFaults f g → Decides a b f n h r → DividesTo c d g n h r
+one_divides : (a b : List Known) (c d : List Case) (f g : Faults) (n : ℕ) (h : Bindings) (r : Result Bool Fault) → TellsCase a c → TellsCase b d → AreFaults f g → Decides a b f n h r → DividesTo c d g n h r
 one_divides a b c d f g n h (Ok true) on_true on_false more decides = on_true n h decides
 one_divides a b c d f g n h (Ok false) on_true on_false more decides = on_false n h decides
-one_divides a b c d f g n h (Err (faults.Value why)) on_true on_false more decides = more why decides
-one_divides a b c d f g n h (Err (faults.Look why)) on_true on_false more decides = tt
+one_divides a b c d f g n h (Err why) on_true on_false more decides = more why decides
 
 pub divide_step : (cs : List Case) (i : ℕ) (c : Case) (t : TestTree) (slice a b : List Known) (own old new : Faults) (on_true on_false wider_true wider_false : List Case) → slice ≡ c.known.items → i < length cs → c ≡ get_or cs i c → SplitsBy slice t a b own →
     TellsCases on_true wider_true → TellsCase a wider_true → TellsCases on_false wider_false → TellsCase b wider_false → AreFaults old new → AreFaults own new → RestOr (drop i cs) cs (DividesSo t on_true on_false old) → RestOr (drop (i + 1) cs) cs (DividesSo t wider_true wider_false new)

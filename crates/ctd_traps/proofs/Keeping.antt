@@ -4,8 +4,6 @@ use Rattle.std.proofs.Common.{ℕ, suc, subst}
 use Rattle.ctd_token.specs.declared.text.Place.{Place}
 use Rattle.ctd_source.specs.TestData.{TestData}
 use Rattle.ctd_program.specs.Tree.{TestTree, CommandTree, CommandList}
-use Rattle.ctd_value.specs.Fault.{ValueFault}
-use Rattle.ctd_value.specs.Fault as faults
 use Rattle.ctd_outcome.specs.declared.reason.Fault.TheVariants.{StepLimit}
 use Rattle.ctd_outcome.specs.declared.outcome.Site.{Site}
 use Rattle.ctd_outcome.specs.declared.outcome.Site.TheVariants.{At}
@@ -20,13 +18,7 @@ use Rattle.ctd_traps.specs.inner.Triples.{Before, Listing, IsListed, Ends, Keeps
 
 -- the limit of steps is no fault of a value
 pub no_steps : (traps : Listing) (site : Site) → IsListed traps site StepLimit
-no_steps traps site faults.Undefined is = absurd (cc)
-no_steps traps site faults.WrongType is = absurd (cc)
-no_steps traps site faults.Overflow is = absurd (cc)
-no_steps traps site faults.DivisionByZero is = absurd (cc)
-no_steps traps site faults.Exponent is = absurd (cc)
-no_steps traps site faults.Count is = absurd (cc)
-no_steps traps site faults.Shape is = absurd (cc)
+no_steps traps site of_value = absurd of_value
 
 -- fewer steps left
 fewer : (traps : Listing) (m n : ℕ) (after : Before) (e : RunResult) → m ≤ n → Ends traps m after e → Ends traps n after e

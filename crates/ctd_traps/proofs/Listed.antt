@@ -2,8 +2,7 @@
 use Rattle.std.proofs.Common.{◌≡◌, ◌++◌, true, List, [], ◌∷◌, Contains, refl, ap, sym, subst, ◌∙◌, inl, inr}
 use Rattle.std.proofs.lemmas.List.Elements.{Contains-append_left, Contains-append_right, Contains-push}
 use Rattle.ctd_token.specs.declared.text.Place.{Place}
-use Rattle.ctd_value.specs.Fault.{ValueFault}
-use Rattle.ctd_value.specs.Fault as faults
+use Rattle.ctd_outcome.specs.declared.reason.Fault.TheVariants as faults
 use Rattle.ctd_known.specs.declared.faults.Faults.{Faults}
 use Rattle.ctd_traps.specs.declared.finding.Finding.{Finding}
 use Rattle.ctd_traps.specs.calls.Traps.{Trap, trap_of, traps_of}
@@ -27,11 +26,15 @@ pub all_listed : (traps : List Trap) (place : Place) (f : Faults) → (f.no_valu
     (f.wrong_type ≡ true → Contains traps (record { place = place; fault = faults.WrongType })) → (f.overflow ≡ true → Contains traps (record { place = place; fault = faults.Overflow })) →
     (f.division_by_zero ≡ true → Contains traps (record { place = place; fault = faults.DivisionByZero })) → (f.exponent ≡ true → Contains traps (record { place = place; fault = faults.Exponent })) →
     (f.count ≡ true → Contains traps (record { place = place; fault = faults.Count })) → (f.shape ≡ true → Contains traps (record { place = place; fault = faults.Shape })) → AreListed traps place f
-all_listed traps place f a b c d e g h i faults.Undefined (inl is) = a is
-all_listed traps place f a b c d e g h i faults.Undefined (inr is) = b is
-all_listed traps place f a b c d e g h i faults.WrongType is = c is
-all_listed traps place f a b c d e g h i faults.Overflow is = d is
-all_listed traps place f a b c d e g h i faults.DivisionByZero is = e is
-all_listed traps place f a b c d e g h i faults.Exponent is = g is
-all_listed traps place f a b c d e g h i faults.Count is = h is
-all_listed traps place f a b c d e g h i faults.Shape is = i is
+all_listed traps place f a b c d e g h i faults.Undefined of_value (inl is) = a is
+all_listed traps place f a b c d e g h i faults.Undefined of_value (inr is) = b is
+all_listed traps place f a b c d e g h i faults.WrongType of_value is = c is
+all_listed traps place f a b c d e g h i faults.Overflow of_value is = d is
+all_listed traps place f a b c d e g h i faults.DivisionByZero of_value is = e is
+all_listed traps place f a b c d e g h i faults.Exponent of_value is = g is
+all_listed traps place f a b c d e g h i faults.Count of_value is = h is
+all_listed traps place f a b c d e g h i faults.Shape of_value is = i is
+all_listed traps place f a b c d e g h i faults.StepLimit of_value is = absurd of_value
+all_listed traps place f a b c d e g h i faults.MatchTooLong of_value is = absurd of_value
+all_listed traps place f a b c d e g h i faults.DataTooLong of_value is = absurd of_value
+all_listed traps place f a b c d e g h i faults.Read of_value is = absurd of_value

@@ -4,11 +4,9 @@ use Rattle.std.specs.Prelude.{⊤}
 use Rattle.ctd_source.specs.TestData.{TestData}
 use Rattle.ctd_program.specs.Tree.{CommandTree}
 use Rattle.ctd_check.specs.calls.Run.{place_of}
-use Rattle.ctd_value.specs.Fault.{ValueFault, with_fault}
-use Rattle.ctd_value.specs.Fault as faults
 use Rattle.ctd_outcome.specs.declared.outcome.Site.{Site}
 use Rattle.ctd_outcome.specs.declared.outcome.Site.TheVariants.{At}
-use Rattle.ctd_command.specs.State.{State, Effect, done, rejected, faulty, Act, proceed, fault_of_value}
+use Rattle.ctd_command.specs.State.{State, Effect, done, rejected, faulty, Act, proceed}
 use Rattle.ctd_check.specs.calls.BigSteps.{IsSimple, is_space, is_newline, is_eof, is_int, is_string, is_regex, is_assert, is_set, is_unset, command_has_no_step, command_is_done, command_rejects, command_fails, if_is_true, if_is_false, if_fails, loop_starts, loop_fails}
 use Rattle.ctd_traps.specs.inner.Triples.{Before, Listing, IsListed, CommandKeeps}
 use Rattle.ctd_traps.proofs.Keeping.{no_steps}
@@ -24,58 +22,6 @@ pub then_leaves : {A B : Type 0} (traps : Listing) (site : Site) (middle : A →
 then_leaves traps site middle after (done x t) next first second = second x t first
 then_leaves traps site middle after (rejected reason consumed) next first second = tt
 then_leaves traps site middle after (faulty fault consumed) next first second = first
-
--- faults of values are different faults
-pub same_why : (why other : ValueFault) → fault_of_value other ≡ fault_of_value why → why ≡ other
-same_why faults.Undefined faults.Undefined same = refl
-same_why faults.Undefined faults.WrongType same = absurd (cc)
-same_why faults.Undefined faults.Overflow same = absurd (cc)
-same_why faults.Undefined faults.DivisionByZero same = absurd (cc)
-same_why faults.Undefined faults.Exponent same = absurd (cc)
-same_why faults.Undefined faults.Count same = absurd (cc)
-same_why faults.Undefined faults.Shape same = absurd (cc)
-same_why faults.WrongType faults.Undefined same = absurd (cc)
-same_why faults.WrongType faults.WrongType same = refl
-same_why faults.WrongType faults.Overflow same = absurd (cc)
-same_why faults.WrongType faults.DivisionByZero same = absurd (cc)
-same_why faults.WrongType faults.Exponent same = absurd (cc)
-same_why faults.WrongType faults.Count same = absurd (cc)
-same_why faults.WrongType faults.Shape same = absurd (cc)
-same_why faults.Overflow faults.Undefined same = absurd (cc)
-same_why faults.Overflow faults.WrongType same = absurd (cc)
-same_why faults.Overflow faults.Overflow same = refl
-same_why faults.Overflow faults.DivisionByZero same = absurd (cc)
-same_why faults.Overflow faults.Exponent same = absurd (cc)
-same_why faults.Overflow faults.Count same = absurd (cc)
-same_why faults.Overflow faults.Shape same = absurd (cc)
-same_why faults.DivisionByZero faults.Undefined same = absurd (cc)
-same_why faults.DivisionByZero faults.WrongType same = absurd (cc)
-same_why faults.DivisionByZero faults.Overflow same = absurd (cc)
-same_why faults.DivisionByZero faults.DivisionByZero same = refl
-same_why faults.DivisionByZero faults.Exponent same = absurd (cc)
-same_why faults.DivisionByZero faults.Count same = absurd (cc)
-same_why faults.DivisionByZero faults.Shape same = absurd (cc)
-same_why faults.Exponent faults.Undefined same = absurd (cc)
-same_why faults.Exponent faults.WrongType same = absurd (cc)
-same_why faults.Exponent faults.Overflow same = absurd (cc)
-same_why faults.Exponent faults.DivisionByZero same = absurd (cc)
-same_why faults.Exponent faults.Exponent same = refl
-same_why faults.Exponent faults.Count same = absurd (cc)
-same_why faults.Exponent faults.Shape same = absurd (cc)
-same_why faults.Count faults.Undefined same = absurd (cc)
-same_why faults.Count faults.WrongType same = absurd (cc)
-same_why faults.Count faults.Overflow same = absurd (cc)
-same_why faults.Count faults.DivisionByZero same = absurd (cc)
-same_why faults.Count faults.Exponent same = absurd (cc)
-same_why faults.Count faults.Count same = refl
-same_why faults.Count faults.Shape same = absurd (cc)
-same_why faults.Shape faults.Undefined same = absurd (cc)
-same_why faults.Shape faults.WrongType same = absurd (cc)
-same_why faults.Shape faults.Overflow same = absurd (cc)
-same_why faults.Shape faults.DivisionByZero same = absurd (cc)
-same_why faults.Shape faults.Exponent same = absurd (cc)
-same_why faults.Shape faults.Count same = absurd (cc)
-same_why faults.Shape faults.Shape same = refl
 
 -- a command is simple in one way
 same_act : (c : CommandTree) (m k : Act ⊤) → IsSimple c m → IsSimple c k → m ≡ k

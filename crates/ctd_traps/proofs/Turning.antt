@@ -9,7 +9,7 @@ use Rattle.ctd_program.specs.Tree.{ExprTree, VarTree, TestTree, GuardTree, Comma
 use Rattle.ctd_store.specs.declared.value.Value.{Value}
 use Rattle.ctd_store.specs.declared.value.Value.TheVariants as values
 use Rattle.ctd_store.specs.Store.{Bindings, Variables, value_at}
-use Rattle.ctd_value.specs.Fault.{ValueFault}
+use Rattle.ctd_outcome.specs.declared.reason.Fault.{Fault}
 use Rattle.ctd_value.specs.Val.{count}
 use Rattle.ctd_outcome.specs.declared.outcome.Site.{Site}
 use Rattle.ctd_outcome.specs.declared.outcome.Site.TheVariants.{At}
@@ -30,7 +30,7 @@ use Rattle.ctd_known.specs.calls.Facts.{EachStands, MayBe, MayHave, NameStands, 
 use Rattle.ctd_known.specs.calls.Found.{FailsBy, IsAmong}
 use Rattle.ctd_known.specs.calls.Changed.{PaysStep}
 use Rattle.ctd_known.proofs.Applying.{AreFaults}
-use Rattle.ctd_traps.specs.calls.Traps.{Trap}
+use Rattle.ctd_traps.specs.calls.Traps.{IsOfValue, Trap}
 use Rattle.ctd_traps.specs.declared.cases.Case.{Case}
 use Rattle.ctd_traps.specs.declared.turn.Turns.{Turns}
 use Rattle.ctd_traps.specs.inner.Cases.{Divides, OneStands, TellsCase, TellsCases, TellsJoined}
@@ -56,7 +56,7 @@ counts_none pinned known turn f pins d k n s inside stand stays = stays
 more_fits : {A : Type 0} (f g : Faults) (P : A → State → Type 0) (a : Effect A) → AreFaults f g → Fits f P a → Fits g P a
 more_fits f g P (done x t) more fits = fits
 more_fits f g P (rejected reason consumed) more fits = tt
-more_fits f g P (faulty fault consumed) more fits = λ why is. more why (fits why is)
+more_fits f g P (faulty fault consumed) more fits = more fault fits
 
 pub before_count : (k m : ℕ) → k < m → pos k <ℤ pos m
 before_count k m less = omega (arith, ints, less)
@@ -71,7 +71,7 @@ CountsSo pinned counter turn after f m h = (pins : Variables) (d : TestData) (k 
 fits_in : {A : Type 0} (f g : Faults) (P Q : A → State → Type 0) (a : Effect A) → AreFaults f g → ((x : A) (t : State) → P x t → Q x t) → Fits f P a → Fits g Q a
 fits_in f g P Q (done x t) more wider fits = wider x t fits
 fits_in f g P Q (rejected reason consumed) more wider fits = tt
-fits_in f g P Q (faulty fault consumed) more wider fits = λ why is. more why (fits why is)
+fits_in f g P Q (faulty fault consumed) more wider fits = more fault fits
 
 pub count_step : (pinned : List Known) (cs : List Case) (i : ℕ) (c : Case) (counter : Option VarTree) (turn : Range) (slice paid lent after : List Known) (own old new : Faults) (before next : List Case) → slice ≡ c.known.items → i < length cs → c ≡ get_or cs i c → PaysStep slice paid → lent ≡ paid →
     CountsTurn pinned lent counter turn after own → TellsCases before next → TellsCase after next → AreFaults old new → AreFaults own new → RestOr (drop i cs) cs (CountsSo pinned counter turn before old) → RestOr (drop (i + 1) cs) cs (CountsSo pinned counter turn next new)
@@ -132,7 +132,7 @@ enters_while pinned cases after on_true others t counter turn turns f g all coun
     (λ _ u here. more_fits g all (λ b v. ByTurn (StaysIn pins on_true n) (StaysIn pins others n) b v) (goes_on loop.guard k d u) more_g (while_goes pins after on_true others g t d k n turns loop.guard u divides guard here))
 
 -- a loop starts
-counted_fails : (turns : Turns) (r : Result ℕ ValueFault) → IsCounted turns r → FailsBy turns.faults r
+counted_fails : (turns : Turns) (r : Result ℕ Fault) → IsCounted turns r → FailsBy turns.faults r
 counted_fails turns (Ok n) counted = tt
 counted_fails turns (Err why) counted = counted
 
@@ -151,14 +151,14 @@ pub starts_nowhere : (cases : List Case) (guard : GuardTree) (turns : Turns) →
 starts_nowhere cases guard turns is d n s one = absurd (subst (λ l. OneStands l n s.store) is one)
 
 -- faults that are listed
-pub listed_fault : (traps : List Trap) (place : Place) (f : Faults) (why : ValueFault) → AreListed traps place f → IsAmong f why → among traps (At place) why
-listed_fault traps place f why listed is = (place, refl, listed why is)
+pub listed_fault : (traps : List Trap) (place : Place) (f : Faults) (why : Fault) → AreListed traps place f → IsOfValue why → IsAmong f why → among traps (At place) why
+listed_fault traps place f why listed of_value is = (place, refl, listed why of_value is)
 
 pub splits_in : (traps : List Trap) (place : Place) (f : Faults) (inside outside : State → Type 0) (a : Effect Bool) → AreListed traps place f → Fits f (λ b t. ByTurn inside outside b t) a → Splits (among traps) (At place) inside outside a
 splits_in traps place f inside outside (done true t) listed fits = fits
 splits_in traps place f inside outside (done false t) listed fits = fits
 splits_in traps place f inside outside (rejected reason consumed) listed fits = tt
-splits_in traps place f inside outside (faulty fault consumed) listed fits = λ why is. listed_fault traps place f why listed (fits why is)
+splits_in traps place f inside outside (faulty fault consumed) listed fits = λ of_value. listed_fault traps place f fault listed of_value fits
 
 pub weaker_splits : (traps : List Trap) (site : Site) (P Q P' Q' : State → Type 0) (a : Effect Bool) → ((t : State) → P t → P' t) → ((t : State) → Q t → Q' t) → Splits (among traps) site P Q a → Splits (among traps) site P' Q' a
 weaker_splits traps site P Q P' Q' (done true t) p q splits = p t splits
@@ -258,7 +258,7 @@ guard_done : (cases : List Case) (guard : GuardTree) (turns : Turns) (d : TestDa
 guard_done cases guard turns d n s g starts each is = (subst (Fits turns.faults (λ g t. IsGuard guard turns g × (t ≡ s))) is (starts d n s each)).0
 
 guard_fails : (cases : List Case) (guard : GuardTree) (turns : Turns) (place : Place) (traps : List Trap) (d : TestData) (n : ℕ) (s : State) (fault : _) (consumed : ℕ) → StartsIn cases guard turns → OneStands cases n s.store → AreListed traps place turns.faults → guard_of guard d s ≡ faulty fault consumed → IsListed (among traps) (At place) fault
-guard_fails cases guard turns place traps d n s fault consumed starts each listed is why same = listed_fault traps place turns.faults why listed (subst (Fits turns.faults (λ g t. IsGuard guard turns g × (t ≡ s))) is (starts d n s each) why same)
+guard_fails cases guard turns place traps d n s fault consumed starts each listed is of_value = listed_fault traps place turns.faults fault listed of_value (subst (Fits turns.faults (λ g t. IsGuard guard turns g × (t ≡ s))) is (starts d n s each))
 
 fewer_ends : (traps : Listing) (m n : ℕ) (after : Before) (e : RunResult) → m ≤ n → Ends traps m after e → Ends traps n after e
 fewer_ends traps m n after (all_done t l) less ends = (le_trans ends.0 less, ends.1)

@@ -39,7 +39,7 @@ pub part_trans : (a b c : List Trap) → ArePart a b → ArePart b c → ArePart
 part_trans a b c first second t is = second t (first t is)
 
 pub listed_more : (a b : List Trap) (place : Place) (f : Faults) → AreListed a place f → ArePart a b → AreListed b place f
-listed_more a b place f listed part why is = part (record { place = place; fault = why }) (listed why is)
+listed_more a b place f listed part why of_value is = part (record { place = place; fault = why }) (listed why of_value is)
 
 -- what is known behind commands is more than is wanted
 weaker_ends : (traps : Listing) (n : ℕ) (P Q : Before) (e : RunResult) → ((m : ℕ) (t : State) → P m t → Q m t) → Ends traps n P e → Ends traps n Q e
@@ -53,7 +53,7 @@ weaker_keeps d traps before P Q cs more keeps n s e here run = weaker_ends traps
 leaves : (traps : List Trap) (place : Place) (f : Faults) (P Q : State → Type 0) (a : Effect ⊤) → ((t : State) → P t → Q t) → AreListed traps place f → Fits f (λ _ t. P t) a → Leaves (among traps) (At place) (λ _ t. Q t) a
 leaves traps place f P Q (done x t) wider listed fits = wider t fits
 leaves traps place f P Q (rejected reason consumed) wider listed fits = tt
-leaves traps place f P Q (faulty fault consumed) wider listed fits = λ why is. listed_fault traps place f why listed (fits why is)
+leaves traps place f P Q (faulty fault consumed) wider listed fits = λ of_value. listed_fault traps place f fault listed of_value fits
 
 pub simple_acts : (pinned known after : List Known) (f : Faults) (c : CommandTree) (m : Act ⊤) → IsSimple c m → Acts pinned known after f m → ActKeeps pinned known after f c
 simple_acts pinned known after f c m simple acts pins d all stand listed =
@@ -72,9 +72,9 @@ pub act_step : (pinned : List Known) (cs : List Case) (i : ℕ) (x : Case) (c : 
     TellsCases before next → TellsCase after next → AreFaults old new → AreFaults own new → RestOr (drop i cs) cs (ActsSo pinned c before old) → RestOr (drop (i + 1) cs) cs (ActsSo pinned c next new)
 act_step pinned cs i x c slice after own old new before next lent inside is keeps others added more_old more_own so_far =
     case_done cs i x (ActsSo pinned c before old) (ActsSo pinned c next new) inside is
-    (λ n h so pins d all s e less is_h same stand listed ends. weaker_ends (among all) n (Holds pins before) (Holds pins next) e (tells_holds pins before next others) (so pins d all s e less is_h same stand (λ why among. listed why (more_old why among)) ends))
+    (λ n h so pins d all s e less is_h same stand listed ends. weaker_ends (among all) n (Holds pins before) (Holds pins next) e (tells_holds pins before next others) (so pins d all s e less is_h same stand (λ why of_value among. listed why of_value (more_old why among)) ends))
     (λ n h each pins d all s e less is_h same stand listed ends. weaker_ends (among all) n (HoldsAlone pins after) (Holds pins next) e (as_case pins after next added)
-    (keeps pins d all stand (λ why among. listed why (more_own why among)) n s e (record { steps = less; pinned = same; each = subst (λ k. EachStands k n s.store) (sym lent) (subst (λ g. EachStands x.known.items n g) is_h each) }) ends))
+    (keeps pins d all stand (λ why of_value among. listed why of_value (more_own why among)) n s e (record { steps = less; pinned = same; each = subst (λ k. EachStands k n s.store) (sym lent) (subst (λ g. EachStands x.known.items n g) is_h each) }) ends))
     so_far
 
 pub act_done : (pinned : List Known) (cs : List Case) (i : ℕ) (c : CommandTree) (after : List Case) (f : Faults) → length cs ≤ i → RestOr (drop i cs) cs (ActsSo pinned c after f) → ActsKeep pinned cs after f c

@@ -6,13 +6,14 @@ use Rattle.std.specs.Option.{option_or}
 use Rattle.ctd_source.specs.TestData.{TestData, next_byte, visible}
 use Rattle.ctd_source.specs.declared.spot.Spot.{Spot}
 use Rattle.ctd_source.specs.declared.spot.LookFault.{LookFault}
+use Rattle.ctd_source.specs.declared.spot.LookFault.TheVariants as looks
 use Rattle.ctd_program.specs.declared.mode.Mode.{Mode}
 use Rattle.ctd_program.specs.declared.mode.Mode.TheVariants.{Exact, BlanksOk}
 use Rattle.ctd_program.specs.Tree.{CommandList}
 use Rattle.ctd_store.specs.declared.value.Value.{Value}
 use Rattle.ctd_store.specs.Store.{Bindings, Variables, initial, value_at, value_under}
 use Rattle.ctd_store.specs.inner.Store.{pins_of}
-use Rattle.ctd_value.specs.Fault.{ValueFault, with_fault}
+use Rattle.ctd_value.specs.Fault.{with_fault, fault_of_look}
 use Rattle.ctd_value.specs.inner.Truth.{is_end}
 use Rattle.ctd_outcome.specs.declared.reason.Fault.{Fault}
 use Rattle.ctd_outcome.specs.declared.reason.Fault.TheVariants.{StepLimit}
@@ -21,14 +22,14 @@ use Rattle.ctd_outcome.specs.declared.outcome.Site.{Site}
 use Rattle.ctd_outcome.specs.declared.outcome.Site.TheVariants.{Start, Finish}
 use Rattle.ctd_outcome.specs.declared.outcome.Outcome.{Outcome}
 use Rattle.ctd_outcome.specs.declared.outcome.Outcome.TheVariants.{Accepted, Rejected, Stopped}
-use Rattle.ctd_command.specs.State.{State, Effect, done, rejected, faulty, proceed, lift, see_next, fault_of_value, fault_of_look, return, reject}
+use Rattle.ctd_command.specs.State.{State, Effect, done, rejected, faulty, proceed, lift, see_next, return, reject}
 use Rattle.ctd_command.specs.Commands.{eof}
 use Rattle.ctd_command.specs.Blanks.{is_blank, first_skip, skip_blanks}
 use Rattle.ctd_command.specs.inner.Blanks.{start_in, end_in}
 use Rattle.ctd_check.specs.Loops.{finish, tasks}
 use Rattle.ctd_check.specs.Run.{RunResult, all_done, stopped, run_from, with_steps, at_start}
 use Rattle.ctd_check.specs.calls.BigSteps.{ProgramEnds, start_fails, commands_stop, end_has_no_step, data_are_accepted, end_rejects, end_fails, BigStepsHold}
-use Rattle.ctd_traps.specs.calls.Traps.{HasEachTrap, Trap}
+use Rattle.ctd_traps.specs.calls.Traps.{HasEachTrap, IsOfValue, Trap}
 use Rattle.ctd_program.specs.declared.preset.Preset.{Preset}
 use Rattle.ctd_known.specs.declared.facts.Known.{Known}
 use Rattle.ctd_known.proofs.Standing.{each_same}
@@ -38,13 +39,12 @@ use Rattle.ctd_traps.specs.inner.Cases.{OneStands, TellsCase}
 use Rattle.ctd_traps.specs.inner.Holds.{Holds}
 use Rattle.ctd_traps.specs.inner.Triples.{Keeps, IsListedOutcome}
 use Rattle.ctd_traps.specs.inner.PostFixpoint.{among}
-use Rattle.ctd_traps.proofs.Fits.{IsNoValue, look_is_none, steps_are_none}
 
 -- an effect with no fault of a value
 abbrev OnlyLooks : {A : Type 0} → Effect A → Type 0
 OnlyLooks (done x after) = Unit {0}
 OnlyLooks (rejected reason consumed) = Unit {0}
-OnlyLooks (faulty fault consumed) = IsNoValue fault
+OnlyLooks (faulty fault consumed) = IsOfValue fault → ⊥
 
 next_looks : {A B : Type 0} (a : Effect A) (next : A → State → Effect B) → OnlyLooks a → ((x : A) (u : State) → OnlyLooks (next x u)) → OnlyLooks (proceed a next)
 next_looks (done x after) next h second = second x after
@@ -53,7 +53,8 @@ next_looks (faulty fault consumed) next h second = h
 
 look_looks : {A : Type 0} (r : Result A LookFault) (s : State) → OnlyLooks (lift (with_fault fault_of_look r) s)
 look_looks (Ok x) s = tt
-look_looks (Err f) s = look_is_none f
+look_looks (Err looks.Read) s = λ of_value. of_value
+look_looks (Err looks.DataTooLong) s = λ of_value. of_value
 
 -- nothing more is done
 abbrev finished : State → Effect ⊤
@@ -82,32 +83,32 @@ end_looks BlanksOk d s = next_looks (skip_blanks d s) (λ _ u. eof d u) (skip_lo
 
 -- what an outcome of a program owes
 abbrev Owes : List Trap → Outcome → Type 0
-Owes traps o = (spot : Spot) (site : Site) (fault : ValueFault) → o ≡ Stopped spot site (fault_of_value fault) → among traps site fault
+Owes traps o = (spot : Spot) (site : Site) (fault : Fault) → IsOfValue fault → o ≡ Stopped spot site fault → among traps site fault
 
 abbrev outcome_of : RunResult → Outcome
 outcome_of (all_done after left) = Accepted
 outcome_of (stopped outcome consumed left) = outcome
 
 listed_owes : (traps : List Trap) (o : Outcome) → IsListedOutcome (among traps) o → Owes traps o
-listed_owes traps Accepted listed spot site fault is = absurd (cc)
-listed_owes traps (Rejected sp si reason) listed spot site fault is = absurd (cc)
-listed_owes traps (Stopped sp si f) listed spot site fault is =
-    let same_fault : fault_of_value fault ≡ f = cc in
+listed_owes traps Accepted listed spot site fault of_value is = absurd (cc)
+listed_owes traps (Rejected sp si reason) listed spot site fault of_value is = absurd (cc)
+listed_owes traps (Stopped sp si f) listed spot site fault of_value is =
+    let same_fault : f ≡ fault = cc in
     let same_site : si ≡ site = cc in
-    subst (λ x. among traps x fault) same_site (listed fault same_fault)
+    subst (λ x. among traps x fault) same_site (subst (λ x. IsOfValue x → among traps si x) same_fault listed of_value)
 
-none_owes : (traps : List Trap) (sp : Spot) (si : Site) (f : Fault) → IsNoValue f → Owes traps (Stopped sp si f)
-none_owes traps sp si f none spot site fault is = let same : fault_of_value fault ≡ f = cc in absurd (none fault same)
+none_owes : (traps : List Trap) (sp : Spot) (si : Site) (f : Fault) → (IsOfValue f → ⊥) → Owes traps (Stopped sp si f)
+none_owes traps sp si f none spot site fault of_value is = let same : fault ≡ f = cc in absurd (none (subst IsOfValue same of_value))
 
 accepted_owes : (traps : List Trap) → Owes traps Accepted
-accepted_owes traps spot site fault is = absurd (cc)
+accepted_owes traps spot site fault of_value is = absurd (cc)
 
 program_owes : (d : TestData) (traps : List Trap) (program : CommandList) (n : ℕ) (s : State) (pins : Variables) (first last : List Case) (e : RunResult) → n < 2 ^ 64 → s.store.pins ≡ pins → ((m : ℕ) → m < 2 ^ 64 → OneStands first m s.store) →
     ((t : State) → first_skip d s ≡ done tt t → t.store ≡ s.store) → Keeps d (among traps) (Holds pins first) program (Holds pins last) → ProgramEnds d program n s e → Owes traps (outcome_of e)
 program_owes d traps program n s pins first last e less pinned here same keeps (start_fails {consumed} {fault} is) = none_owes traps _ Start fault (subst OnlyLooks is (start_looks s.mode d s))
 program_owes d traps program n s pins first last e less pinned here same keeps (commands_stop {m} {consumed} {t} {o} is list) =
     listed_owes traps o (keeps n t (stopped o consumed m) (record { steps = less; pinned = ap (λ h. h.pins) (same t is) ∙ pinned; one = subst (λ h. OneStands first n h) (sym (same t is)) (here n less) }) list)
-program_owes d traps program n s pins first last e less pinned here same keeps (end_has_no_step is list) = none_owes traps _ Finish StepLimit steps_are_none
+program_owes d traps program n s pins first last e less pinned here same keeps (end_has_no_step is list) = none_owes traps _ Finish StepLimit (λ of_value. of_value)
 program_owes d traps program n s pins first last e less pinned here same keeps (data_are_accepted is list ends) = accepted_owes traps
 program_owes d traps program n s pins first last e less pinned here same keeps (end_rejects is list ends) = listed_owes traps _ tt
 program_owes d traps program n s pins first last e less pinned here same keeps (end_fails {u} {fault} is list ends) = none_owes traps _ Finish fault (subst OnlyLooks ends (end_looks u.mode d u))
@@ -140,7 +141,7 @@ at_first presets name is = or_nothing (value_under (at_key name is) (pins_of pre
 
 pub traps_follow : BigStepsHold → (program : CommandList) (presets : List Preset) (traps : List Trap) (pinned : List Known) (first last : List Case) → PinsStand pinned (pins_of presets) → TellsCase pinned first →
     ((d : TestData) → Keeps d (among traps) (Holds (pins_of presets) first) program (Holds (pins_of presets) last)) → HasEachTrap program presets traps
-traps_follow big program presets traps pinned first last stand tells keeps mode d steps spot site fault less is =
+traps_follow big program presets traps pinned first last stand tells keeps mode d steps spot site fault less of_value is =
     let s : State = at_start mode presets in
     let e : RunResult = run_from d steps (tasks program ++ finish ∷ []) s in
-    program_owes d traps program steps s (pins_of presets) first last e less refl (λ m few. tells m (initial presets) (each_same pinned m (pins_alone (pins_of presets)) (initial presets) (at_first presets) (stand m few))) (λ t is. subst (Keeps_store s.store) is (start_same mode d s)) (keeps d) (big d program steps s) spot site fault (sym (outcome_is steps e) ∙ is)
+    program_owes d traps program steps s (pins_of presets) first last e less refl (λ m few. tells m (initial presets) (each_same pinned m (pins_alone (pins_of presets)) (initial presets) (at_first presets) (stand m few))) (λ t is. subst (Keeps_store s.store) is (start_same mode d s)) (keeps d) (big d program steps s) spot site fault of_value (sym (outcome_is steps e) ∙ is)

@@ -2,7 +2,7 @@
 
 ghost use Rattle.std.specs.Prelude.{◌≡◌, IfOk};
 ghost use Rattle.ctd_program.specs.calls.View.{test_tree};
-ghost use Rattle.ctd_value.specs.Fault.{ValueFault};
+ghost use Rattle.ctd_outcome.specs.declared.reason.Fault.{Fault};
 ghost use Rattle.ctd_known.specs.calls.Found.{IsAmong};
 ghost use Rattle.ctd_traps.specs.inner.Cases.{Divides, TellsCases};
 
@@ -51,7 +51,7 @@ fn either<'p>(
     ensures left { IfOk result (λ s. TellsCases first.entry.if_true.items s.if_true.items) }
     ensures right { IfOk result (λ s. TellsCases second.entry.if_true.items s.if_true.items) }
     ensures neither { IfOk result (λ s. s.if_false.items ≡ second.entry.if_false.items) }
-    ensures faults { IfOk result (λ s. ((f : ValueFault) → IsAmong first.entry.faults f → IsAmong s.faults f) × ((f : ValueFault) → IsAmong second.entry.faults f → IsAmong s.faults f)) }
+    ensures faults { IfOk result (λ s. ((f : Fault) → IsAmong first.entry.faults f → IsAmong s.faults f) × ((f : Fault) → IsAmong second.entry.faults f → IsAmong s.faults f)) }
 {
     let if_true = with_all(ground, first.if_true, second.if_true.as_slice())?;
     Ok(Divided {

@@ -1,7 +1,7 @@
 //! A finding: where a run may stop, and by which fault.
 
 ghost use Rattle.std.specs.Prelude.{◌≡◌, true, OnOk, Contains};
-ghost use Rattle.ctd_value.specs.Fault.{ValueFault, Undefined, WrongType, Overflow, DivisionByZero, Exponent, Count, Shape};
+ghost use Rattle.ctd_outcome.specs.declared.reason.Fault.TheVariants.{Undefined, WrongType, Overflow, DivisionByZero, Exponent, Count, Shape};
 ghost use Rattle.ctd_traps.specs.calls.Traps.{traps_of, trap_of};
 ghost use Rattle.ctd_traps.specs.inner.Holds.{AreListed, ArePart};
 

@@ -2,7 +2,7 @@
 use Rattle.std.proofs.Common.{◌≡◌, ◌<◌, ℕ, zero, suc, ◌%◌, true, false, ℤ, pos, negsuc, neg_ℤ, ◌<ℤ◌, Ok, Err, if◌then◌else◌, sym, subst, arith, unsigned_abs}
 use Rattle.std.specs.Prelude.{int_div, int_rem}
 use Rattle.std.proofs.lemmas.Int.{ints, quot-rem, rem_below}
-use Rattle.ctd_value.specs.Fault.{Overflow}
+use Rattle.ctd_outcome.specs.declared.reason.Fault.TheVariants.{Overflow}
 use Rattle.ctd_value.specs.calls.Laws.{IsRemainder}
 use Rattle.ctd_value.specs.Arithmetic.{is_value, in_range, remainder}
 

@@ -1,6 +1,6 @@
 //! Values for variables (docs/LANGUAGE.md, SET).
 
-ghost use Rattle.std.specs.Prelude.{◌≡◌, ◌≢◌, Err, OnErr};
+ghost use Rattle.std.specs.Prelude.{◌≡◌, OnErr};
 ghost use Rattle.ctd_program.specs.calls.View.{expr_tree, var_tree};
 ghost use Rattle.ctd_store.specs.calls.ValueRef.{value_of_ref};
 ghost use Rattle.ctd_store.specs.declared.value.Value.TheVariants as values;
@@ -20,8 +20,6 @@ use std::alloc::Global;
 pub fn set_number(alloc: Global, v: &Var, n: i128, store: &mut Store) -> Result<(), EvalFault>
     ensures value { Gives (map_ok (λ _. store.new) result) (with_variable (var_tree v.now) (values.Int n) store.old) }
     ensures err { OnErr result (store.new ≡ store.old) }
-    ensures no_count { result ≢ Err EvalFault.Count }
-    ensures no_shape { result ≢ Err EvalFault.Shape }
 {
     if v.indices.as_slice().is_empty() {
         store.assign_at(alloc, &v.name, Index::Scalar, ValueRef::Int(n))?;
@@ -35,8 +33,6 @@ pub fn set_number(alloc: Global, v: &Var, n: i128, store: &mut Store) -> Result<
 pub fn set_text(alloc: Global, v: &Var, bytes: &[u8], store: &mut Store) -> Result<(), EvalFault>
     ensures value { Gives (map_ok (λ _. store.new) result) (with_variable (var_tree v.now) (values.Text bytes.now) store.old) }
     ensures err { OnErr result (store.new ≡ store.old) }
-    ensures no_count { result ≢ Err EvalFault.Count }
-    ensures no_shape { result ≢ Err EvalFault.Shape }
 {
     set_variable(alloc, v, ValueRef::Text(bytes), store)
 }
@@ -46,8 +42,6 @@ pub fn set_text(alloc: Global, v: &Var, bytes: &[u8], store: &mut Store) -> Resu
 pub fn set_expression(alloc: Global, v: &Var, e: &Expr, store: &mut Store) -> Result<(), EvalFault>
     ensures value { Gives (map_ok (λ _. store.new) result) (with_expression (var_tree v.now) (expr_tree e.now) store.old) }
     ensures err { OnErr result (store.new ≡ store.old) }
-    ensures no_count { result ≢ Err EvalFault.Count }
-    ensures no_shape { result ≢ Err EvalFault.Shape }
 {
     match fast_i64(e, store) {
         Some(n) => set_number(alloc, v, n as i128, store),
@@ -65,8 +59,6 @@ fn set_to_any_expression(
 ) -> Result<(), EvalFault>
     ensures value { Gives (map_ok (λ _. store.new) result) (with_expression (var_tree v.now) (expr_tree e.now) store.old) }
     ensures err { OnErr result (store.new ≡ store.old) }
-    ensures no_count { result ≢ Err EvalFault.Count }
-    ensures no_shape { result ≢ Err EvalFault.Shape }
 {
     let value = eval(alloc, e, store)?;
     set_variable(alloc, v, ValueRef::of(&value), store)
@@ -83,8 +75,6 @@ fn set_element_to_number(
 ) -> Result<(), EvalFault>
     ensures value { Gives (map_ok (λ _. store.new) result) (with_variable (var_tree v.now) (values.Int n) store.old) }
     ensures err { OnErr result (store.new ≡ store.old) }
-    ensures no_count { result ≢ Err EvalFault.Count }
-    ensures no_shape { result ≢ Err EvalFault.Shape }
 {
     match v.indices.as_slice() {
         [index] => match fast_name_index(index, store) {
@@ -100,8 +90,6 @@ fn set_element_to_number(
 fn set_cell_to_number(alloc: Global, v: &Var, n: i128, store: &mut Store) -> Result<(), EvalFault>
     ensures value { Gives (map_ok (λ _. store.new) result) (with_variable (var_tree v.now) (values.Int n) store.old) }
     ensures err { OnErr result (store.new ≡ store.old) }
-    ensures no_count { result ≢ Err EvalFault.Count }
-    ensures no_shape { result ≢ Err EvalFault.Shape }
 {
     match v.indices.as_slice() {
         [row, column] => match (fast_name_index(row, store), fast_name_index(column, store)) {
@@ -119,8 +107,6 @@ fn set_cell_to_number(alloc: Global, v: &Var, n: i128, store: &mut Store) -> Res
 fn set_number_at_any(alloc: Global, v: &Var, n: i128, store: &mut Store) -> Result<(), EvalFault>
     ensures value { Gives (map_ok (λ _. store.new) result) (with_variable (var_tree v.now) (values.Int n) store.old) }
     ensures err { OnErr result (store.new ≡ store.old) }
-    ensures no_count { result ≢ Err EvalFault.Count }
-    ensures no_shape { result ≢ Err EvalFault.Shape }
 {
     set_variable(alloc, v, ValueRef::Int(n), store)
 }
@@ -135,8 +121,6 @@ fn set_variable(
 ) -> Result<(), EvalFault>
     ensures value { Gives (map_ok (λ _. store.new) result) (with_variable (var_tree v.now) (value_of_ref value.entry) store.old) }
     ensures err { OnErr result (store.new ≡ store.old) }
-    ensures no_count { result ≢ Err EvalFault.Count }
-    ensures no_shape { result ≢ Err EvalFault.Shape }
 {
     match v.indices.as_slice() {
         [] => Ok(store.assign_at(alloc, &v.name, Index::Scalar, value)?),
@@ -163,8 +147,6 @@ fn set_out_of_line(
 ) -> Result<(), EvalFault>
     ensures value { Gives (map_ok (λ _. store.new) result) (with_variable (var_tree v.now) (value_of_ref value.entry) store.old) }
     ensures err { OnErr result (store.new ≡ store.old) }
-    ensures no_count { result ≢ Err EvalFault.Count }
-    ensures no_shape { result ≢ Err EvalFault.Shape }
 {
     set_by_list(alloc, v, value, store)
 }
@@ -180,8 +162,6 @@ fn set_by_list(
 ) -> Result<(), EvalFault>
     ensures value { Gives (map_ok (λ _. store.new) result) (with_variable (var_tree v.now) (value_of_ref value.entry) store.old) }
     ensures err { OnErr result (store.new ≡ store.old) }
-    ensures no_count { result ≢ Err EvalFault.Count }
-    ensures no_shape { result ≢ Err EvalFault.Shape }
 {
     let indices = index_values(alloc, v, store)?;
     store.assign_at(alloc, &v.name, Index::List(&indices), value)?;

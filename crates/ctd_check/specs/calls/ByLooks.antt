@@ -5,7 +5,8 @@ use Rattle.std.specs.List.{common_prefix_len, take_while}
 use Rattle.ctd_source.specs.declared.spot.LookFault.{LookFault}
 use Rattle.ctd_source.specs.TestData.{TestData, next_byte, is_byte}
 use Rattle.ctd_outcome.specs.declared.reason.Reason.TheVariants.{StringMismatch}
-use Rattle.ctd_command.specs.State.{State, Effect, done, rejected, faulty, Act, ◌>>=◌, return, reject, pass, see_next, see_visible, pass_longest, fault_of_look}
+use Rattle.ctd_value.specs.Fault.{fault_of_look}
+use Rattle.ctd_command.specs.State.{State, Effect, done, rejected, faulty, Act, ◌>>=◌, return, reject, pass, see_next, see_visible, pass_longest}
 use Rattle.ctd_command.specs.Integer.{judge}
 use Rattle.ctd_command.specs.Commands.{decide, integer, match_bytes}
 use Rattle.ctd_command.specs.Blanks.{is_blank, skip_blanks}

@@ -3,21 +3,15 @@ use Rattle.ctd_value.specs.declared.fault.EvalFault.TheVariants as evals
 use Rattle.ctd_value.specs.declared.fault.TestFault.TheVariants as tests
 use Rattle.ctd_value.specs.declared.fault.EvalFault.{EvalFault}
 use Rattle.ctd_value.specs.declared.fault.TestFault.{TestFault}
-use Rattle.ctd_outcome.specs.declared.reason.Fault.TheVariants.{Undefined, WrongType, Overflow, DivisionByZero, Exponent, Count, Shape}
+use Rattle.ctd_value.specs.Fault.{fault_of_look}
+use Rattle.ctd_value.specs.calls.Fault.{meant_by}
 use Rattle.ctd_command.specs.declared.failure.CommandFailure.{CommandFailure}
 use Rattle.ctd_command.specs.declared.failure.Failure.TheVariants.{Stopped, Memory}
-use Rattle.ctd_command.specs.State.{fault_of_look}
 
 -- how a command fails when an expression does
 abbrev pub failure_of : EvalFault → CommandFailure
-failure_of evals.Undefined = Stopped Undefined
-failure_of evals.WrongType = Stopped WrongType
-failure_of evals.Overflow = Stopped Overflow
-failure_of evals.DivisionByZero = Stopped DivisionByZero
-failure_of evals.Exponent = Stopped Exponent
-failure_of evals.Count = Stopped Count
-failure_of evals.Shape = Stopped Shape
 failure_of evals.Memory = Memory
+failure_of fault = Stopped (meant_by fault)
 
 -- how a command fails when a test does
 abbrev pub test_failure : TestFault → CommandFailure

@@ -8,8 +8,8 @@ use Rattle.ctd_program.specs.declared.tree.Compare.{Compare}
 use Rattle.ctd_program.specs.Tree.{ExprTree, TestTree}
 use Rattle.ctd_store.specs.declared.value.Value.{Value}
 use Rattle.ctd_store.specs.Store.{Bindings, value_at}
-use Rattle.ctd_value.specs.Fault.{TruthFault, Undefined, WrongType, Overflow, DivisionByZero, Exponent, Count, Shape, Look}
-use Rattle.ctd_value.specs.Fault as faults
+use Rattle.ctd_outcome.specs.declared.reason.Fault.{Fault}
+use Rattle.ctd_outcome.specs.declared.reason.Fault.TheVariants.{Undefined}
 use Rattle.ctd_findings.specs.declared.ranges.Bounds.{Bounds}
 use Rattle.ctd_findings.specs.calls.LiteralValues.{literal_number}
 use Rattle.ctd_findings.specs.calls.Ranges.{name_in}
@@ -77,13 +77,6 @@ abbrev pub KeepsTo : (List ℕ → Option Bounds) → Bindings → Type 0
 KeepsTo range h = (name : List ℕ) (b : Bounds) (v : Value) → range name ≡ Some b → value_at h (record { name = name; indices = [] }) ≡ Some v → IsWithin b v
 
 -- a test has this answer, or a variable in it has no value
-abbrev pub IsOrUndefined : Bool → Result Bool TruthFault → Type 0
+abbrev pub IsOrUndefined : Bool → Result Bool Fault → Type 0
 IsOrUndefined b (Ok c) = c ≡ b
-IsOrUndefined b (Err (faults.Value Undefined)) = Unit {0}
-IsOrUndefined b (Err (faults.Value WrongType)) = ⊥
-IsOrUndefined b (Err (faults.Value Overflow)) = ⊥
-IsOrUndefined b (Err (faults.Value DivisionByZero)) = ⊥
-IsOrUndefined b (Err (faults.Value Exponent)) = ⊥
-IsOrUndefined b (Err (faults.Value Count)) = ⊥
-IsOrUndefined b (Err (faults.Value Shape)) = ⊥
-IsOrUndefined b (Err (Look fault)) = ⊥
+IsOrUndefined b (Err fault) = fault ≡ Undefined

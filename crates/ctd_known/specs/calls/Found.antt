@@ -4,8 +4,9 @@ use Rattle.ctd_source.specs.TestData.{TestData}
 use Rattle.ctd_program.specs.Tree.{ExprTree, ExprList, TestTree}
 use Rattle.ctd_store.specs.declared.value.Value.{Value}
 use Rattle.ctd_store.specs.Store.{Bindings}
-use Rattle.ctd_value.specs.Fault.{ValueFault, TruthFault, ◌>>=◌}
-use Rattle.ctd_value.specs.Fault as faults
+use Rattle.ctd_outcome.specs.declared.reason.Fault.{Fault}
+use Rattle.ctd_value.specs.Fault.{◌>>=◌}
+use Rattle.ctd_outcome.specs.declared.reason.Fault.TheVariants as faults
 use Rattle.ctd_value.specs.Val.{val, vals, number, text}
 use Rattle.ctd_value.specs.Truth.{truth}
 use Rattle.ctd_known.specs.declared.facts.Known.{Known}
@@ -13,8 +14,8 @@ use Rattle.ctd_known.specs.declared.faults.Faults.{Faults}
 use Rattle.ctd_known.specs.declared.expression.Found.{Found}
 use Rattle.ctd_known.specs.calls.Facts.{MayBe, EachStands}
 
--- a fault is among these
-abbrev pub IsAmong : Faults → ValueFault → Type 0
+-- a fault of a value is among these; nothing is said of others
+abbrev pub IsAmong : Faults → Fault → Type 0
 IsAmong f faults.Undefined = (f.no_value ≡ true) ⊎ (f.no_element ≡ true)
 IsAmong f faults.WrongType = f.wrong_type ≡ true
 IsAmong f faults.Overflow = f.overflow ≡ true
@@ -22,14 +23,15 @@ IsAmong f faults.DivisionByZero = f.division_by_zero ≡ true
 IsAmong f faults.Exponent = f.exponent ≡ true
 IsAmong f faults.Count = f.count ≡ true
 IsAmong f faults.Shape = f.shape ≡ true
+IsAmong f other = Unit {0}
 
 -- a value or a fault is among those that were found, where so many steps are left
-abbrev pub IsFound : Found → ℕ → Result Value ValueFault → Type 0
+abbrev pub IsFound : Found → ℕ → Result Value Fault → Type 0
 IsFound f k (Ok v) = MayBe f.kinds k v
 IsFound f k (Err fault) = IsAmong f.faults fault
 
 -- a fault is among these, if there is one
-abbrev pub FailsBy : {A : Type 0} → Faults → Result A ValueFault → Type 0
+abbrev pub FailsBy : {A : Type 0} → Faults → Result A Fault → Type 0
 FailsBy f (Ok x) = Unit {0}
 FailsBy f (Err fault) = IsAmong f fault
 
@@ -42,24 +44,23 @@ abbrev pub AllFailBy : List Known → ExprList → Faults → Type 0
 AllFailBy known es f = (k : ℕ) (h : Bindings) → EachStands known k h → FailsBy f (vals es h)
 
 -- what is known where a test is true, and where it is false, and the faults that are listed
-abbrev pub Decides : (if_true if_false : List Known) → Faults → ℕ → Bindings → Result Bool TruthFault → Type 0
+abbrev pub Decides : (if_true if_false : List Known) → Faults → ℕ → Bindings → Result Bool Fault → Type 0
 Decides if_true if_false f k h (Ok true) = EachStands if_true k h
 Decides if_true if_false f k h (Ok false) = EachStands if_false k h
-Decides if_true if_false f k h (Err (faults.Value why)) = IsAmong f why
-Decides if_true if_false f k h (Err (faults.Look why)) = Unit {0}
+Decides if_true if_false f k h (Err fault) = IsAmong f fault
 
 -- of a test by what is known
 abbrev pub SplitsBy : List Known → TestTree → (if_true if_false : List Known) → Faults → Type 0
 SplitsBy known t if_true if_false f = (k : ℕ) (h : Bindings) (d : TestData) (p : ℕ) → EachStands known k h → Decides if_true if_false f k h (truth t h d p)
 
 -- a value that has to be a string
-abbrev pub as_text : Result Value ValueFault → Result (List ℕ) ValueFault
+abbrev pub as_text : Result Value Fault → Result (List ℕ) Fault
 as_text r = do
   v ← r
   text v
 
 -- a value that has to be a number
-abbrev pub as_number : Result Value ValueFault → Result ℤ ValueFault
+abbrev pub as_number : Result Value Fault → Result ℤ Fault
 as_number r = do
   v ← r
   number v

@@ -2,7 +2,8 @@
 use Rattle.std.specs.Prelude.{◌≡◌, ℕ, true, Bool, List, Option, Some, ℤ, ◌+ℤ◌, ◌-ℤ◌, ◌*ℤ◌, pos, neg_ℤ, length, Result, Ok, Err}
 use Rattle.ctd_store.specs.declared.value.Value.{Value}
 use Rattle.ctd_store.specs.declared.value.Value.TheVariants as values
-use Rattle.ctd_value.specs.Fault.{ValueFault, ◌>>=◌}
+use Rattle.ctd_outcome.specs.declared.reason.Fault.{Fault}
+use Rattle.ctd_value.specs.Fault.{◌>>=◌}
 use Rattle.ctd_value.specs.Arithmetic.{in_range, quotient, remainder, power}
 use Rattle.ctd_value.specs.Val.{number, text}
 use Rattle.ctd_range.specs.declared.range.Range.{Range}
@@ -16,12 +17,12 @@ use Rattle.ctd_known.specs.calls.Facts.{MayBe}
 use Rattle.ctd_known.specs.calls.Found.{IsAmong}
 
 -- the same of numbers
-abbrev pub IsComputed : Found → ℕ → Result ℤ ValueFault → Type 0
+abbrev pub IsComputed : Found → ℕ → Result ℤ Fault → Type 0
 IsComputed f k (Ok z) = MayBe f.kinds k (values.Int z)
 IsComputed f k (Err fault) = IsAmong f.faults fault
 
 -- the operation
-abbrev pub operate : Operator → ℤ → ℤ → Result ℤ ValueFault
+abbrev pub operate : Operator → ℤ → ℤ → Result ℤ Fault
 operate operators.Sum x y = in_range (x +ℤ y)
 operate operators.Difference x y = in_range (x -ℤ y)
 operate operators.Product x y = in_range (x *ℤ y)
@@ -44,7 +45,7 @@ abbrev pub Operates : Operator → Option (Range × Range) → Found → Type 0
 Operates o numbers f = (r : Range × Range) → numbers ≡ Some r → (k : ℕ) (x y : ℤ) → IsIn r.0 k x → IsIn r.1 k y → IsComputed f k (operate o x y)
 
 -- a value that has to be a number, negated
-abbrev pub negated : Result Value ValueFault → Result Value ValueFault
+abbrev pub negated : Result Value Fault → Result Value Fault
 negated r = do
   v ← r
   x ← number v
@@ -52,7 +53,7 @@ negated r = do
   Ok (values.Int z)
 
 -- the length of a value that has to be a string
-abbrev pub measured : Result Value ValueFault → Result Value ValueFault
+abbrev pub measured : Result Value Fault → Result Value Fault
 measured r = do
   v ← r
   bytes ← text v

@@ -1,6 +1,7 @@
 -- Which integers a range stands for.
 use Rattle.std.specs.Prelude.{ℕ, ◌*◌, IsTrue, ℤ, pos, ◌+ℤ◌, ◌≤ℤ◌, Result, Ok, Err}
-use Rattle.ctd_value.specs.Fault.{ValueFault, Undefined, WrongType, Overflow, DivisionByZero, Exponent, Count, Shape}
+use Rattle.ctd_outcome.specs.declared.reason.Fault.{Fault}
+use Rattle.ctd_outcome.specs.declared.reason.Fault.TheVariants.{Overflow, DivisionByZero, Exponent}
 use Rattle.ctd_range.specs.declared.range.Range.{Range}
 use Rattle.ctd_range.specs.declared.arithmetic.Computed.{Computed}
 
@@ -10,12 +11,9 @@ pub record IsIn (r : Range) (n : ℕ) (x : ℤ) : Type 0 where
   pub high : (x +ℤ pos (r.fall * n)) ≤ℤ r.high
 
 -- a result of an operation is among those that were found
-abbrev pub Covers : Computed → ℕ → Result ℤ ValueFault → Type 0
+abbrev pub Covers : Computed → ℕ → Result ℤ Fault → Type 0
 Covers c n (Ok z) = IsIn c.range n z
 Covers c n (Err Overflow) = IsTrue c.overflows
 Covers c n (Err DivisionByZero) = IsTrue c.divides_by_zero
-Covers c n (Err Undefined) = ⊥
-Covers c n (Err WrongType) = ⊥
 Covers c n (Err Exponent) = IsTrue c.has_bad_exponent
-Covers c n (Err Count) = ⊥
-Covers c n (Err Shape) = ⊥
+Covers c n (Err fault) = ⊥

@@ -6,30 +6,37 @@ use Rattle.ctd_source.specs.declared.spot.Spot.{Spot}
 use Rattle.ctd_program.specs.declared.mode.Mode.{Mode}
 use Rattle.ctd_program.specs.declared.preset.Preset.{Preset}
 use Rattle.ctd_program.specs.Tree.{CommandList}
-use Rattle.ctd_value.specs.Fault.{ValueFault}
-use Rattle.ctd_value.specs.Fault as faults
+use Rattle.ctd_outcome.specs.declared.reason.Fault.{Fault}
+use Rattle.ctd_outcome.specs.declared.reason.Fault.TheVariants as faults
 use Rattle.ctd_outcome.specs.declared.outcome.Site.{Site}
 use Rattle.ctd_outcome.specs.declared.outcome.Site.TheVariants.{At}
 use Rattle.ctd_outcome.specs.declared.outcome.Outcome.TheVariants.{Stopped}
-use Rattle.ctd_command.specs.State.{fault_of_value}
 use Rattle.ctd_check.specs.Run.{meaning}
 use Rattle.ctd_traps.specs.declared.finding.TrapKind.{TrapKind}
 use Rattle.ctd_traps.specs.declared.finding.TrapKind.TheVariants as kinds
 use Rattle.ctd_traps.specs.declared.finding.Finding.{Finding}
 
+-- a fault of a value, and none of a look, of a match or of the limit of steps
+abbrev pub IsOfValue : Fault → Type 0
+IsOfValue faults.StepLimit = ⊥
+IsOfValue faults.MatchTooLong = ⊥
+IsOfValue faults.DataTooLong = ⊥
+IsOfValue faults.Read = ⊥
+IsOfValue fault = Unit {0}
+
 -- a command, or a turn of a loop, may stop the run by this fault of a value
 pub record Trap : Type 0 where
   pub place : Place
-  pub fault : ValueFault
+  pub fault : Fault
 
 -- Whatever the data, the mode and the limit of steps: a run that stops by a fault of a value stops at a trap that is listed.
 abbrev pub HasEachTrap : CommandList → List Preset → List Trap → Type 0
-HasEachTrap program presets traps = (mode : Mode) (d : TestData) (steps : ℕ) (spot : Spot) (site : Site) (fault : ValueFault) → steps < 2 ^ 64 →
-    (meaning mode program presets d steps).outcome ≡ Stopped spot site (fault_of_value fault) →
+HasEachTrap program presets traps = (mode : Mode) (d : TestData) (steps : ℕ) (spot : Spot) (site : Site) (fault : Fault) → steps < 2 ^ 64 → IsOfValue fault →
+    (meaning mode program presets d steps).outcome ≡ Stopped spot site fault →
     (place : Place) × (site ≡ At place) × Contains traps (record { place = place; fault = fault })
 
 -- the fault by which a run stops at a trap of a kind
-abbrev pub fault_of_kind : TrapKind → ValueFault
+abbrev pub fault_of_kind : TrapKind → Fault
 fault_of_kind kinds.NoValue = faults.Undefined
 fault_of_kind kinds.NoElement = faults.Undefined
 fault_of_kind kinds.WrongType = faults.WrongType

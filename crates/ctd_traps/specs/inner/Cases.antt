@@ -3,8 +3,7 @@ use Rattle.std.specs.Prelude.{◌⊎◌, ℕ, true, false, Bool, List, [], ◌�
 use Rattle.ctd_source.specs.TestData.{TestData}
 use Rattle.ctd_program.specs.Tree.{TestTree}
 use Rattle.ctd_store.specs.Store.{Bindings}
-use Rattle.ctd_value.specs.Fault.{TruthFault}
-use Rattle.ctd_value.specs.Fault as faults
+use Rattle.ctd_outcome.specs.declared.reason.Fault.{Fault}
 use Rattle.ctd_value.specs.Truth.{truth}
 use Rattle.ctd_known.specs.declared.faults.Faults.{Faults}
 use Rattle.ctd_known.specs.declared.facts.Known.{Known}
@@ -30,11 +29,10 @@ abbrev pub TellsJoined : List Case → List Known → Type 0
 TellsJoined cases known = (n : ℕ) (h : Bindings) → OneStands cases n h → EachStands known n h
 
 -- the cases where a test is true, and those where it is false, and the faults that are listed
-abbrev pub DividesTo : (if_true if_false : List Case) → Faults → ℕ → Bindings → Result Bool TruthFault → Type 0
+abbrev pub DividesTo : (if_true if_false : List Case) → Faults → ℕ → Bindings → Result Bool Fault → Type 0
 DividesTo if_true if_false f k h (Ok true) = OneStands if_true k h
 DividesTo if_true if_false f k h (Ok false) = OneStands if_false k h
-DividesTo if_true if_false f k h (Err (faults.Value why)) = IsAmong f why
-DividesTo if_true if_false f k h (Err (faults.Look why)) = Unit {0}
+DividesTo if_true if_false f k h (Err fault) = IsAmong f fault
 
 -- of a test by the cases in which it is asked
 abbrev pub Divides : List Case → TestTree → (if_true if_false : List Case) → Faults → Type 0

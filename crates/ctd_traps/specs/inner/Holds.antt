@@ -2,7 +2,7 @@
 use Rattle.std.specs.Prelude.{◌≡◌, ◌<◌, ◌^◌, ℕ, List, Contains}
 use Rattle.ctd_token.specs.declared.text.Place.{Place}
 use Rattle.ctd_store.specs.Store.{Variables}
-use Rattle.ctd_value.specs.Fault.{ValueFault}
+use Rattle.ctd_outcome.specs.declared.reason.Fault.{Fault}
 use Rattle.ctd_command.specs.State.{State}
 use Rattle.ctd_known.specs.declared.faults.Faults.{Faults}
 use Rattle.ctd_known.specs.declared.facts.Known.{Known}
@@ -10,7 +10,7 @@ use Rattle.ctd_known.specs.calls.Facts.{EachStands}
 use Rattle.ctd_known.specs.calls.Found.{IsAmong}
 use Rattle.ctd_traps.specs.declared.cases.Case.{Case}
 use Rattle.ctd_traps.specs.inner.Cases.{OneStands}
-use Rattle.ctd_traps.specs.calls.Traps.{Trap}
+use Rattle.ctd_traps.specs.calls.Traps.{Trap, IsOfValue}
 
 -- all that is known is so of a state with these pins, where so many steps are left
 pub record HoldsAlone (pins : Variables) (known : List Known) (n : ℕ) (s : State) : Type 0 where
@@ -30,4 +30,4 @@ ArePart some all = (t : Trap) → Contains some t → Contains all t
 
 -- each of these faults is listed at a place
 abbrev pub AreListed : List Trap → Place → Faults → Type 0
-AreListed traps place f = (why : ValueFault) → IsAmong f why → Contains traps (record { place = place; fault = why })
+AreListed traps place f = (why : Fault) → IsOfValue why → IsAmong f why → Contains traps (record { place = place; fault = why })

@@ -1,7 +1,7 @@
 -- What the analysis of a loop has found out by its parts.
 use Rattle.std.specs.Prelude.{◌≡◌, ◌<◌, ◌+◌, ◌^◌, ℕ, suc, List, Contains}
 use Rattle.ctd_source.specs.TestData.{TestData}
-use Rattle.ctd_value.specs.Fault.{ValueFault}
+use Rattle.ctd_outcome.specs.declared.reason.Fault.{Fault}
 use Rattle.ctd_outcome.specs.declared.outcome.Site.{Site}
 use Rattle.ctd_outcome.specs.declared.outcome.Site.TheVariants.{At}
 use Rattle.ctd_token.specs.declared.text.Place.{Place}
@@ -15,7 +15,7 @@ use Rattle.ctd_traps.specs.inner.Holds.{Holds}
 use Rattle.ctd_traps.specs.inner.Triples.{Keeps, Splits}
 
 -- the traps of a list
-abbrev pub among : List Trap → Site → ValueFault → Type 0
+abbrev pub among : List Trap → Site → Fault → Type 0
 among traps site fault = (place : Place) × (site ≡ At place) × Contains traps (record { place = place; fault = fault })
 
 -- the cases before turn 0 and before each later turn; behind the begin of each; before the body, behind it, and behind the loop

@@ -11,10 +11,9 @@ use Rattle.ctd_program.specs.calls.View.{boxed_target, command_list, guard_tree,
 use Rattle.ctd_program.specs.inner.View.{boxed_separator}
 use Rattle.ctd_store.specs.declared.value.Value.{Value}
 use Rattle.ctd_store.specs.Store.{Key, Bindings, Variables, assign, unset}
-use Rattle.ctd_value.specs.Fault.{ValueFault}
 use Rattle.ctd_value.specs.Val.{count, key}
 use Rattle.ctd_outcome.specs.declared.reason.Fault.{Fault}
-use Rattle.ctd_command.specs.State.{State, Effect, done, rejected, faulty, Act, fault_of_value}
+use Rattle.ctd_command.specs.State.{State, Effect, done, rejected, faulty, Act}
 use Rattle.ctd_command.specs.Commands.{keep}
 use Rattle.ctd_check.specs.Loops.{Guard, Loop as Started, while_true, times, take_turn, guard_of}
 use Rattle.ctd_check.specs.inner.Loops.{count_turn}
@@ -43,22 +42,18 @@ Stays pins known n s = (s.store.pins ≡ pins) × EachStands known n s.store
 abbrev pub StaysIn : Variables → List Case → ℕ → State → Type 0
 StaysIn pins cases n s = (s.store.pins ≡ pins) × OneStands cases n s.store
 
--- a fault of a value is among these
-abbrev pub IsExpected : Faults → Fault → Type 0
-IsExpected f fault = (why : ValueFault) → fault_of_value why ≡ fault → IsAmong f why
-
 -- an effect leaves an answer and a state of which this holds, or it has a fault of these
 abbrev pub Fits : {A : Type 0} → Faults → (A → State → Type 0) → Effect A → Type 0
 Fits f after (done x t) = after x t
 Fits f after (rejected reason consumed) = Unit {0}
-Fits f after (faulty fault consumed) = IsExpected f fault
+Fits f after (faulty fault consumed) = IsAmong f fault
 
 -- a simple command keeps what is known so
 abbrev pub Acts : (pinned known after : List Known) → Faults → Act ⊤ → Type 0
 Acts pinned known after f m = (pins : Variables) (d : TestData) (n : ℕ) (s : State) → PinsStand pinned pins → Stays pins known n s → Fits f (λ _ t. Stays pins after n t) (m d s)
 
 -- what is known once a key was given a value, or a fault of its indices
-abbrev pub IsAssigned : List Known → Faults → ℕ → Bindings → Value → Result Key ValueFault → Type 0
+abbrev pub IsAssigned : List Known → Faults → ℕ → Bindings → Value → Result Key Fault → Type 0
 IsAssigned after f n h v (Ok k) = EachStands after n (assign h k v)
 IsAssigned after f n h v (Err why) = IsAmong f why
 
@@ -121,7 +116,7 @@ abbrev pub StartsIn : List Case → GuardTree → Turns → Type 0
 StartsIn cases guard turns = (d : TestData) (n : ℕ) (s : State) → OneStands cases n s.store → Fits turns.faults (λ g t. IsGuard guard turns g × (t ≡ s)) (guard_of guard d s)
 
 -- a count of turns is at least and at most so large, or has a fault of these
-abbrev pub IsCounted : Turns → Result ℕ ValueFault → Type 0
+abbrev pub IsCounted : Turns → Result ℕ Fault → Type 0
 IsCounted turns (Ok n) = (turns.least ≤ n) × (n ≤ turns.most)
 IsCounted turns (Err why) = IsAmong turns.faults why
 

@@ -4,12 +4,12 @@ use Rattle.std.specs.Prelude.{ℕ, Bool, true, false, not, ◌&&◌, ◌||◌, i
 use Rattle.ctd_source.specs.TestData.{TestData}
 use Rattle.ctd_program.specs.Tree.{ExprTree, TestTree}
 use Rattle.ctd_store.specs.Store.{Bindings}
-use Rattle.ctd_value.specs.Fault.{TruthFault}
+use Rattle.ctd_outcome.specs.declared.reason.Fault.{Fault}
 use Rattle.ctd_value.specs.Truth.{truth}
 use Rattle.ctd_value.specs.Val.{text_of}
 
 -- whether a test is known to be true, or to be false
-abbrev pub is_answer : Bool → Result Bool TruthFault → Bool
+abbrev pub is_answer : Bool → Result Bool Fault → Bool
 is_answer true (Ok b) = b
 is_answer false (Ok b) = not b
 is_answer wanted (Err fault) = false

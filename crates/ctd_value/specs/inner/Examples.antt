@@ -2,15 +2,13 @@
 use Rattle.ctd_program.specs.declared.preset.PresetValue.TheVariants as literals
 use Rattle.ctd_program.specs.Tree
 use Rattle.ctd_store.specs.declared.value.Value.TheVariants as values
-use Rattle.ctd_value.specs.Fault as faults
 use Rattle.std.specs.Prelude.{◌≡◌, refl, ℤ, [], ◌∷◌, pos, negsuc, codes, true, false, Some, None, Ok, Err}
-use Rattle.ctd_source.specs.declared.spot.LookFault.TheVariants.{Read}
 use Rattle.ctd_source.specs.TestData.{TestData}
 use Rattle.ctd_program.specs.declared.preset.Preset.{Preset}
 use Rattle.ctd_program.specs.declared.tree.Compare.TheVariants.{Equal, Less}
 use Rattle.ctd_program.specs.Tree.{ExprTree, TestTree}
 use Rattle.ctd_store.specs.Store.{Key, Bindings, initial, assign, unset, value_at, values_of}
-use Rattle.ctd_value.specs.Fault.{Overflow, Exponent, DivisionByZero, WrongType, Count, Look}
+use Rattle.ctd_outcome.specs.declared.reason.Fault.TheVariants.{Overflow, Exponent, DivisionByZero, WrongType, Count, Read}
 use Rattle.ctd_value.specs.Val.{val, key, count}
 use Rattle.ctd_value.specs.Truth.{truth}
 
@@ -88,11 +86,11 @@ pub short_cut : truth (Tree.or one_is_one by_zero) nothing no_bytes 0 ≡ Ok tru
 short_cut = refl
 
 -- a fault of the left side is a fault of the whole
-pub no_short_cut : truth (Tree.or by_zero one_is_one) nothing no_bytes 0 ≡ Err (faults.Value DivisionByZero)
+pub no_short_cut : truth (Tree.or by_zero one_is_one) nothing no_bytes 0 ≡ Err DivisionByZero
 no_short_cut = refl
 
 -- a number and a string are not compared
-pub apart : truth (Tree.compare Equal (num (pos 1)) (Tree.text (codes "1"))) nothing no_bytes 0 ≡ Err (faults.Value WrongType)
+pub apart : truth (Tree.compare Equal (num (pos 1)) (Tree.text (codes "1"))) nothing no_bytes 0 ≡ Err WrongType
 apart = refl
 
 -- a pin stays, whatever is assigned or unset
@@ -181,7 +179,7 @@ pub match_at_end : truth (Tree.matches (Tree.text (codes "ab"))) nothing no_byte
 match_at_end = refl
 
 -- MATCH has the fault of the look where the read fails
-pub match_failing : truth (Tree.matches (Tree.text (codes "ab"))) nothing failing 0 ≡ Err (Look Read)
+pub match_failing : truth (Tree.matches (Tree.text (codes "ab"))) nothing failing 0 ≡ Err Read
 match_failing = refl
 
 -- the look is not asked where the first part is false

@@ -1,4 +1,4 @@
-use Rattle.ctd_value.specs.Fault.{WrongType}
+use Rattle.ctd_outcome.specs.declared.reason.Fault.TheVariants.{WrongType}
 use Rattle.ctd_known.proofs.Deciding.{compare_fails}
 use Rattle.ctd_known.proofs.condition.compare_faults.Goals as goal
 

@@ -1,5 +1,5 @@
 use Rattle.std.proofs.Common.{◌∙◌}
-use Rattle.ctd_value.specs.Fault.{WrongType}
+use Rattle.ctd_outcome.specs.declared.reason.Fault.TheVariants.{WrongType}
 use Rattle.ctd_known.proofs.Applying.{measures}
 use Rattle.ctd_known.proofs.expression.measure.Goals as goal
 

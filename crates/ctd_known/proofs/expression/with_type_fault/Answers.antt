@@ -1,4 +1,4 @@
-use Rattle.ctd_value.specs.Fault.{WrongType}
+use Rattle.ctd_outcome.specs.declared.reason.Fault.TheVariants.{WrongType}
 use Rattle.ctd_known.proofs.expression.with_type_fault.Goals as goal
 
 pub returns-clause-wrong_type : goal.returns-clause-wrong_type

@@ -1,4 +1,4 @@
-use Rattle.ctd_value.specs.Fault.{Overflow, Undefined, WrongType}
+use Rattle.ctd_outcome.specs.declared.reason.Fault.TheVariants.{Overflow, Undefined, WrongType}
 use Rattle.ctd_traps.specs.calls.Traps.{Trap, traps_of}
 use Rattle.ctd_traps.proofs.Listed.{all_listed}
 use Rattle.ctd_traps.proofs.finding.report.Goals as goal

@@ -1,5 +1,5 @@
 use Rattle.ctd_program.specs.calls.View.{expr_tree}
-use Rattle.ctd_value.specs.Fault.{Count}
+use Rattle.ctd_outcome.specs.declared.reason.Fault.TheVariants.{Count}
 use Rattle.ctd_value.specs.Val.{val}
 use Rattle.ctd_traps.proofs.Acting.{count_fails, turns_counted}
 use Rattle.ctd_traps.proofs.turn.count_turns.Goals as goal

@@ -1,14 +1,13 @@
 use Rattle.std.proofs.Common.{Ok, ap}
 use Rattle.std.proofs.lemmas.Option.{IfSome_then}
 use Rattle.ctd_program.specs.calls.View.{expr_tree}
-use Rattle.ctd_value.specs.Fault.{◌>>=◌, with_fault}
+use Rattle.ctd_value.specs.Fault.{◌>>=◌}
 use Rattle.ctd_value.specs.Val.{number, number_of}
-use Rattle.ctd_command.specs.State.{fault_of_value}
 use Rattle.ctd_command.proofs.Acts.{evaluated}
 use Rattle.ctd_command.proofs.machine.Run.fast_number.Goals as goal
 
 pub returns : goal.returns
 returns g c = record {
   performs = IfSome_then c.fast_number.result c.fast_number.ensures.value
-      (λ n is. evaluated c.args.self.now (Ok n) (number_of (expr_tree c.args.e.now)) c.requires.sound (ap (λ m. with_fault fault_of_value (m >>= number)) is));
+      (λ n is. evaluated c.args.self.now (Ok n) (number_of (expr_tree c.args.e.now)) c.requires.sound (ap (λ m. m >>= number) is));
 }

@@ -1,10 +1,8 @@
-use Rattle.std.proofs.Common.{Ok, Err, ap}
+use Rattle.std.proofs.Common.{Ok, Err}
 use Rattle.ctd_program.specs.calls.View.{expr_tree}
-use Rattle.ctd_value.specs.Fault.{with_fault}
 use Rattle.ctd_value.specs.Val.{text_of}
 use Rattle.ctd_command.specs.Commands.{match_bytes}
 use Rattle.ctd_command.specs.calls.Failures.{failure_of}
-use Rattle.ctd_command.specs.State.{fault_of_value}
 use Rattle.ctd_command.proofs.Acts.{and_then, early_by, evaluated}
 use Rattle.ctd_command.proofs.Telling.{tells_fault}
 use Rattle.ctd_command.proofs.Strings.{done_alone}
@@ -21,6 +19,6 @@ returns g c =
     let a = c.args.self.now in
     let bytes = c.in_ok-bytes.bytes.now in
     record {
-      performs = and_then match_bytes (evaluated a (Ok bytes) (text_of (expr_tree c.args.e.now)) c.requires.sound (ap (with_fault fault_of_value) c.in_ok-bytes.ensures.value))
+      performs = and_then match_bytes (evaluated a (Ok bytes) (text_of (expr_tree c.args.e.now)) c.requires.sound c.in_ok-bytes.ensures.value)
           (done_alone a c.match_bytes.new.cursor c.match_bytes.result (match_bytes bytes) c.match_bytes.ensures.sound c.match_bytes.ensures.matches);
     }
