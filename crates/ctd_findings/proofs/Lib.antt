@@ -8,3 +8,4 @@ pub mod RangeMaps
 pub mod SameNames
 pub mod Additions
 pub mod OneTree
+pub mod Roles

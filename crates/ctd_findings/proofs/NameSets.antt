@@ -1,8 +1,13 @@
 -- A set of names, and the list that it was made of.
-use Rattle.std.proofs.Common.{◌≡◌, ℕ, ◌+◌, ◌<◌, List, [], ◌∷◌, ◌||◌, true, false, refl, sym, ap, ◌∙◌, Bool, length, drop, get_or}
-use Rattle.std.proofs.lemmas.List.{at_drop_more}
+use Rattle.std.proofs.Common.{◌≡◌, ℕ, ◌+◌, ◌<◌, List, [], ◌∷◌, ◌||◌, true, false, refl, sym, ap, ◌∙◌, Bool, length, drop, get_or, ◌≤◌, Some, None, if◌then◌else◌}
+use Rattle.std.proofs.lemmas.List.{at_drop_more, drop_all}
 use Rattle.std.specs.Borrow.{Bor}
-use Rattle.ctd_findings.specs.inner.Listed.{names_at}
+use Rattle.ctd_findings.specs.declared.found.Collector.{Collector}
+use Rattle.ctd_findings.specs.declared.name_set.NameSet.{NameSet}
+use Rattle.ctd_findings.specs.calls.Names.{is_among}
+use Rattle.ctd_findings.specs.inner.Collector.{names_in}
+use Rattle.ctd_findings.specs.inner.Listed.{has_name, names_at}
+use Rattle.ctd_findings.specs.inner.Sets.{IsSetOf}
 use Rattle.std.specs.List.{list_any}
 use Rattle.std.specs.declared.cmp.Ordering.{Ordering}
 use Rattle.std.specs.declared.cmp.Ordering.TheVariants.{Less, Equal, Greater}
@@ -29,11 +34,6 @@ module _ {K : Type 0} (part : K → List ℕ) (q : List ℕ) where
   swapped false true r s e = e
   swapped false false r s e = e
 
-  exchanged : (a b r : Bool) → ((a || b) || r) ≡ (b || (a || r))
-  exchanged true true r = refl
-  exchanged true false r = refl
-  exchanged false b r = refl
-
   one_more : (o : Ordering) (k x : K) (xs ys : List K) → names_cmp k x ≡ o → list_any is_name ys ≡ (is_name k || list_any is_name xs)
       → list_any is_name (match_ordering o (k ∷ x ∷ xs) (x ∷ xs) (x ∷ ys)) ≡ (is_name k || list_any is_name (x ∷ xs))
   one_more Less k x xs ys is h = refl
@@ -45,16 +45,34 @@ module _ {K : Type 0} (part : K → List ℕ) (q : List ℕ) where
   any_inserted [] k = refl
   any_inserted (x ∷ xs) k = one_more (names_cmp k x) k x xs (insert_key names_cmp xs k) refl (any_inserted xs k)
 
-  -- a name is moved from the front of a list to a set
-  pub any_moved : (inside after : List K) (k : K) (rest all : List (List ℕ)) → after ≡ insert_key names_cmp inside k
-      → (list_any is_name inside || list_any (same_bytes q) (part k ∷ rest)) ≡ list_any (same_bytes q) all
-      → (list_any is_name after || list_any (same_bytes q) rest) ≡ list_any (same_bytes q) all
-  any_moved inside after k rest all is h =
-      ap (λ ks. list_any is_name ks || list_any (same_bytes q) rest) is
-      ∙ ap (λ b. b || list_any (same_bytes q) rest) (any_inserted inside k)
-      ∙ exchanged (is_name k) (list_any is_name inside) (list_any (same_bytes q) rest)
-      ∙ h
-
 -- the first of the names that are left
 pub name_first : (names : List (Bor (List ℕ))) (i : ℕ) (name : Bor (List ℕ)) → i < length names → name ≡ get_or names i name → names_at (drop i names) ≡ name.now ∷ names_at (drop (i + 1) names)
 name_first names i name inside is = at_drop_more names_at names i name inside ∙ ap (λ (n : Bor (List ℕ)). n.now ∷ names_at (drop (i + 1) names)) (sym is)
+
+exchanged : (a b r : Bool) → ((a || b) || r) ≡ (b || (a || r))
+exchanged true true r = refl
+exchanged true false r = refl
+exchanged false b r = refl
+
+-- the next name is taken into a set
+pub one_moved : (names : List (Bor (List ℕ))) (i : ℕ) (x : Bor (List ℕ)) (q : List ℕ) (old new all : Bool) → i < length names → x ≡ get_or names i x → new ≡ (same_bytes q x.now || old)
+    → (old || is_among q (names_at (drop i names))) ≡ all → (new || is_among q (names_at (drop (i + 1) names))) ≡ all
+one_moved names i x q old new all inside is more so_far =
+    let rest = is_among q (names_at (drop (i + 1) names)) in
+    ap (λ b. b || rest) more ∙ exchanged (same_bytes q x.now) old rest ∙ ap (λ l. old || is_among q l) (sym (name_first names i x inside is)) ∙ so_far
+
+or_false : (b : Bool) → (b || false) ≡ b
+or_false true = refl
+or_false false = refl
+
+-- a set that all names were taken into
+pub whole_set : (set : NameSet) (found : Collector (Bor (List ℕ))) (names : List (Bor (List ℕ))) (i : ℕ) → names ≡ found.items.items → length names ≤ i
+    → (set.is_complete ≡ true → (found.is_complete ≡ true) × ((q : List ℕ) → (has_name q set || is_among q (names_at (drop i names))) ≡ is_among q (names_at names))) → IsSetOf set (names_in found)
+whole_set set found names i is end so_far = of_complete found.is_complete refl
+  where
+    taken : set.is_complete ≡ true → (q : List ℕ) → has_name q set ≡ is_among q (names_at found.items.items)
+    taken complete q = sym (or_false (has_name q set)) ∙ ap (λ l. has_name q set || is_among q (names_at l)) (sym (drop_all i names end)) ∙ (so_far complete).1 q ∙ ap (λ l. is_among q (names_at l)) is
+
+    of_complete : (b : Bool) → found.is_complete ≡ b → IsSetOf set (if b then Some (names_at found.items.items) else None)
+    of_complete true e = taken
+    of_complete false e = λ complete. absurd (cc (so_far complete).0)

@@ -1,3 +1,5 @@
 -- What only the proofs of this crate use.
 pub mod Listed
 pub mod Collector
+pub mod Sets
+pub mod Roles

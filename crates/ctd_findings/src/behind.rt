@@ -1,6 +1,6 @@
 //! Counters that are read behind their loops.
 
-ghost use Rattle.std.specs.Prelude.{◌≡◌, IfOk, OnOk};
+ghost use Rattle.std.specs.Prelude.{◌≡◌, IfOk};
 ghost use Rattle.ctd_program.specs.calls.View.{boxed_target, command_tree, command_trees, guard_tree};
 ghost use Rattle.ctd_findings.specs.inner.Collector.{Adds, items_in};
 ghost use Rattle.ctd_findings.specs.inner.Listed.{in_block, name_at, names_at};
@@ -13,7 +13,7 @@ use crate::command::remark_about_if;
 use crate::finding::Remark;
 use crate::found::Collector;
 use crate::kind::Kind;
-use crate::known::list_all_reads;
+use crate::known::{Role, list_all_in_role};
 use crate::loops::{boxed_name, is_set_by};
 use crate::names::{list_reads, list_unsets};
 use ctd_program::{Action, Command, LoopGuard, Var};
@@ -75,7 +75,7 @@ fn is_read_by(alloc: Global, name: &Name, command: &Command) -> Result<bool, All
     let within = within.finish()?;
     let mut names = Collector::new(alloc);
     list_reads(command, &mut names);
-    list_all_reads(within.as_slice(), &mut names);
+    list_all_in_role(alloc, Role::Reads, within.as_slice(), &mut names);
     Ok(is_among(name, names.finish()?.as_slice()))
 }
 
@@ -111,12 +111,14 @@ pub(crate) fn list_behind<'p>(
     alloc: Global,
     entry: &CommandInBlock<'p>,
     found: &mut Collector<Remark>,
-) -> Result<(), AllocError>
-    ensures adds { OnOk result (Adds (items_in found.old) (behind_remarks (in_block entry.now)) (items_in found.new)) }
+)
+    ensures adds { Adds (items_in found.old) (behind_remarks (in_block entry.now)) (items_in found.new) }
 {
     let Some(name) = repi_counter(entry.command) else {
-        return Ok(());
+        return;
     };
-    let is_read = is_read_behind(alloc, name, entry.behind)?;
-    remark_about_if(alloc, is_read, Kind::CounterBehind, name, found)
+    match is_read_behind(alloc, name, entry.behind) {
+        Ok(is_read) => remark_about_if(alloc, is_read, Kind::CounterBehind, name, found),
+        Err(_) => found.fail(),
+    }
 }

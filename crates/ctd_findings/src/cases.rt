@@ -1,12 +1,13 @@
 //! Arrays that each turn of a loop fills, and in which what the turns before put may still stand.
 
-ghost use Rattle.std.specs.Prelude.{◌≡◌, ℕ, List, IfOk, OnOk};
+ghost use Rattle.std.specs.Prelude.{◌≡◌};
 ghost use Rattle.ctd_program.specs.calls.View.{command_tree, command_trees, expr_list, target, test_tree};
 ghost use Rattle.ctd_findings.specs.calls.Cases.{all_arrays, all_fill, all_unset, arrays, assigned_arrays, fills, indexed, indexed_name, is_uncounted, loops_fill, test_arrays};
 ghost use Rattle.ctd_findings.specs.calls.Findings.{array_remarks, kept_remarks, remark_kept};
 ghost use Rattle.ctd_findings.specs.calls.Names.{is_among};
 ghost use Rattle.ctd_findings.specs.inner.Collector.{Adds, items_in, names_in};
 ghost use Rattle.ctd_findings.specs.inner.Listed.{assigned_trees, facts_known, has_name, name_at, names_at};
+ghost use Rattle.ctd_findings.specs.inner.Sets.{HasNames};
 
 use crate::command::remark_about_if;
 use crate::finding::Remark;
@@ -18,7 +19,7 @@ use crate::name_set::NameSet;
 use crate::names::{list_all, list_name, list_unsets};
 use ctd_program::{Action, Assignment, Command, Expr, Test, Var};
 use ctd_token::Name;
-use std::alloc::{AllocError, Global};
+use std::alloc::Global;
 
 /// Adds a name where it has indices.
 fn list_indexed<'p>(name: &'p Name, indices: &[Expr], found: &mut Collector<&'p Name>)
@@ -138,21 +139,21 @@ fn is_uncounted<'p>(counter: Option<&'p Name>, known: &Known<'p>) -> bool
 }
 
 /// The arrays that the loops among some commands fill.
-fn names_filled<'p>(alloc: Global, body: &'p [Command]) -> Result<NameSet<'p>, AllocError>
-    ensures members { IfOk result (λ set. (name : List ℕ) → has_name name set ≡ is_among name (loops_fill (command_trees body.now))) }
+fn names_filled<'p>(alloc: Global, body: &'p [Command]) -> NameSet<'p>
+    ensures members { HasNames result (loops_fill (command_trees body.now)) }
 {
     let mut names = Collector::new(alloc);
     list_loops_fill(body, &mut names);
-    NameSet::of(alloc, names.finish()?.as_slice())
+    NameSet::of(alloc, names)
 }
 
 /// The names that UNSET among some commands forgets.
-fn names_unset<'p>(alloc: Global, body: &'p [Command]) -> Result<NameSet<'p>, AllocError>
-    ensures members { IfOk result (λ set. (name : List ℕ) → has_name name set ≡ is_among name (all_unset (command_trees body.now))) }
+fn names_unset<'p>(alloc: Global, body: &'p [Command]) -> NameSet<'p>
+    ensures members { HasNames result (all_unset (command_trees body.now)) }
 {
     let mut names = Collector::new(alloc);
     list_all_unset(body, &mut names);
-    NameSet::of(alloc, names.finish()?.as_slice())
+    NameSet::of(alloc, names)
 }
 
 /// Adds a remark for each of the arrays that is filled and not forgotten.
@@ -162,33 +163,43 @@ fn list_kept_among<'p>(
     filled: &NameSet<'p>,
     unset: &NameSet<'p>,
     found: &mut Collector<Remark>,
-) -> Result<(), AllocError>
-    ensures adds { OnOk result (Adds (items_in found.old) (remark_kept (λ name. has_name name filled.now) (λ name. has_name name unset.now) (names_at arrays.now)) (items_in found.new)) }
+)
+    ensures adds { Adds (items_in found.old) (remark_kept (λ name. has_name name filled.now) (λ name. has_name name unset.now) (names_at arrays.now)) (items_in found.new) }
 {
     for name in arrays {
         let is_kept = filled.contains(name) && !unset.contains(name);
-        remark_about_if(alloc, is_kept, Kind::KeptArray, name, found)?;
+        remark_about_if(alloc, is_kept, Kind::KeptArray, name, found);
     }
-    Ok(())
+}
+
+/// Adds the remarks on those of some arrays that the body of a loop fills and does not forget.
+fn list_kept_in<'p>(
+    alloc: Global,
+    arrays: &[&'p Name],
+    body: &'p [Command],
+    found: &mut Collector<Remark>,
+)
+    ensures adds { Adds (items_in found.old) (remark_kept (λ name. is_among name (loops_fill (command_trees body.now))) (λ name. is_among name (all_unset (command_trees body.now))) (names_at arrays.now)) (items_in found.new) }
+{
+    let filled = names_filled(alloc, body);
+    let unset = names_unset(alloc, body);
+    if filled.is_complete && unset.is_complete {
+        list_kept_among(alloc, arrays, &filled, &unset, found)
+    } else {
+        found.fail()
+    }
 }
 
 /// Adds the remarks on the arrays at which the commands of a loop look as a whole.
-fn list_array_remarks<'p>(
-    alloc: Global,
-    body: &'p [Command],
-    found: &mut Collector<Remark>,
-) -> Result<(), AllocError>
-    ensures adds { OnOk result (Adds (items_in found.old) (array_remarks (command_trees body.now)) (items_in found.new)) }
+fn list_array_remarks<'p>(alloc: Global, body: &'p [Command], found: &mut Collector<Remark>)
+    ensures adds { Adds (items_in found.old) (array_remarks (command_trees body.now)) (items_in found.new) }
 {
     let mut names = Collector::new(alloc);
     list_all_arrays(body, &mut names);
-    let arrays = names.finish()?;
-    if arrays.is_empty() {
-        return Ok(());
+    match names.finish() {
+        Ok(arrays) => list_kept_in(alloc, arrays.as_slice(), body, found),
+        Err(_) => found.fail(),
     }
-    let filled = names_filled(alloc, body)?;
-    let unset = names_unset(alloc, body)?;
-    list_kept_among(alloc, arrays.as_slice(), &filled, &unset, found)
 }
 
 /// Adds the remarks on the arrays of a loop whose counter nothing reads.
@@ -197,11 +208,10 @@ pub(crate) fn list_kept<'p>(
     command: &'p Command,
     known: &Known<'p>,
     found: &mut Collector<Remark>,
-) -> Result<(), AllocError>
-    ensures adds { OnOk result (Adds (items_in found.old) (kept_remarks (facts_known known.now) (command_tree command.now)) (items_in found.new)) }
+)
+    ensures adds { Adds (items_in found.old) (kept_remarks (facts_known known.now) (command_tree command.now)) (items_in found.new) }
 {
-    if !is_uncounted(counter_name(command), known) {
-        return Ok(());
+    if is_uncounted(counter_name(command), known) {
+        list_array_remarks(alloc, loop_body(command), found)
     }
-    list_array_remarks(alloc, loop_body(command), found)
 }

@@ -1,11 +1,12 @@
 //! The remarks on a command.
 
-ghost use Rattle.std.specs.Prelude.{◌≡◌, ◌++◌, ◌∷◌, [], OnOk, IfOk};
+ghost use Rattle.std.specs.Prelude.{◌≡◌, ◌++◌, ◌∷◌, [], IfOk};
 ghost use Rattle.ctd_program.specs.calls.View.{command_tree, expr_tree, guard_tree, test_tree};
 ghost use Rattle.ctd_findings.specs.calls.Findings.{about, about_if, command_remarks, content_remarks, follows_endless, follows_eof, form_remarks, guard_test, is_above, is_empty_text, is_endless, is_eof, is_known_true, is_set_aside, loop_remarks, loop_test, own_remarks, pattern_remarks, place_remarks, remark_if, remark_unknown, remark_unread, takes_bytes, test_remarks, truth_remarks, unread_kind};
 ghost use Rattle.ctd_findings.specs.inner.Collector.{Adds, items_in};
 ghost use Rattle.ctd_findings.specs.inner.Listed.{command_at, facts_known, has_name, in_block, names_at, test_at};
 ghost use Rattle.ctd_findings.specs.calls.Names.{reads, sets, unsets};
+ghost use Rattle.ctd_findings.specs.declared.kind.Kind.TheVariants.{EmptyRange, Unreachable};
 ghost use Rattle.ctd_findings.specs.calls.LiteralValues.{literal_number, literal_truth, no_variables};
 ghost use Rattle.ctd_outline.specs.calls.Alternatives.{hides_alternative};
 ghost use Rattle.ctd_outline.specs.calls.LineFeeds.{matches_feed};
@@ -27,7 +28,7 @@ use crate::names::{list_reads, list_sets, list_unsets};
 use crate::sides::{has_same_names, has_same_sides};
 use crate::sort::has_wrong_sort;
 use ctd_outline::{Form, form_of};
-use ctd_program::{Action, Command, Expr, LoopGuard, Test};
+use ctd_program::{Action, Command, Expr, IntArguments, LoopGuard, Test};
 use ctd_token::{Bytes, Name};
 use ctd_value::Store;
 use std::alloc::{AllocError, Global};
@@ -42,17 +43,16 @@ pub(crate) fn remark_if(is_so: bool, kind: Kind, found: &mut Collector<Remark>)
 }
 
 /// Adds a remark about a name.
-fn remark_about(
-    alloc: Global,
-    kind: Kind,
-    name: &Name,
-    found: &mut Collector<Remark>,
-) -> Result<(), AllocError>
-    ensures adds { OnOk result (Adds (items_in found.old) (about kind name.now ∷ []) (items_in found.new)) }
+fn remark_about(alloc: Global, kind: Kind, name: &Name, found: &mut Collector<Remark>)
+    ensures adds { Adds (items_in found.old) (about kind name.now ∷ []) (items_in found.new) }
 {
-    let name = Some(Bytes::copy(alloc, name.as_slice())?);
-    found.add(Remark { kind, name });
-    Ok(())
+    match Bytes::copy(alloc, name.as_slice()) {
+        Ok(bytes) => found.add(Remark {
+            kind,
+            name: Some(bytes),
+        }),
+        Err(_) => found.fail(),
+    }
 }
 
 /// Adds a remark for each name that is not known.
@@ -62,15 +62,14 @@ pub(crate) fn list_unknown<'p>(
     names: &[&'p Name],
     known: &NameSet<'p>,
     found: &mut Collector<Remark>,
-) -> Result<(), AllocError>
-    ensures adds { OnOk result (Adds (items_in found.old) (remark_unknown kind (λ name. has_name name known.now) (names_at names.now)) (items_in found.new)) }
+)
+    ensures adds { Adds (items_in found.old) (remark_unknown kind (λ name. has_name name known.now) (names_at names.now)) (items_in found.new) }
 {
     for name in names {
         if !known.contains(name) {
-            remark_about(alloc, kind, name, found)?;
+            remark_about(alloc, kind, name, found);
         }
     }
-    Ok(())
 }
 
 /// Whether a name says that nothing reads it.
@@ -98,15 +97,14 @@ fn list_unread_among<'p>(
     names: &[&'p Name],
     known: &Known<'p>,
     found: &mut Collector<Remark>,
-) -> Result<(), AllocError>
-    ensures adds { OnOk result (Adds (items_in found.old) (remark_unread (facts_known known.now) (names_at names.now)) (items_in found.new)) }
+)
+    ensures adds { Adds (items_in found.old) (remark_unread (facts_known known.now) (names_at names.now)) (items_in found.new) }
 {
     for name in names {
         if !(known.read_elsewhere.contains(name) || is_set_aside(name)) {
-            remark_about(alloc, unread_kind(known.read.contains(name)), name, found)?;
+            remark_about(alloc, unread_kind(known.read.contains(name)), name, found);
         }
     }
-    Ok(())
 }
 
 /// The test of a loop.
@@ -158,40 +156,29 @@ fn follows_endless(
 }
 
 /// Adds a remark where the truth of a test follows from its literals.
-fn list_truth(
-    alloc: Global,
-    t: &Test,
-    nothing: &Store,
-    found: &mut Collector<Remark>,
-) -> Result<(), AllocError>
+fn list_truth(alloc: Global, t: &Test, nothing: &Store, found: &mut Collector<Remark>)
     requires { nothing.now ≡ no_variables }
-    ensures adds { OnOk result (Adds (items_in found.old) (truth_remarks (literal_truth (test_tree t.now))) (items_in found.new)) }
+    ensures adds { Adds (items_in found.old) (truth_remarks (literal_truth (test_tree t.now))) (items_in found.new) }
 {
-    match literal_truth(alloc, t, nothing)? {
-        Some(true) => remark_if(true, Kind::AlwaysTrue, found),
-        Some(false) => remark_if(true, Kind::AlwaysFalse, found),
-        None => (),
+    match literal_truth(alloc, t, nothing) {
+        Ok(Some(true)) => remark_if(true, Kind::AlwaysTrue, found),
+        Ok(Some(false)) => remark_if(true, Kind::AlwaysFalse, found),
+        Ok(None) => (),
+        Err(_) => found.fail(),
     }
-    Ok(())
 }
 
 /// Adds the remarks on a test, if there is one.
-fn list_test(
-    alloc: Global,
-    t: Option<&Test>,
-    nothing: &Store,
-    found: &mut Collector<Remark>,
-) -> Result<(), AllocError>
+fn list_test(alloc: Global, t: Option<&Test>, nothing: &Store, found: &mut Collector<Remark>)
     requires { nothing.now ≡ no_variables }
-    ensures adds { OnOk result (Adds (items_in found.old) (test_remarks (test_at t.entry)) (items_in found.new)) }
+    ensures adds { Adds (items_in found.old) (test_remarks (test_at t.entry)) (items_in found.new) }
 {
     let Some(t) = t else {
-        return Ok(());
+        return;
     };
-    list_truth(alloc, t, nothing, found)?;
+    list_truth(alloc, t, nothing, found);
     remark_if(has_same_sides(t), Kind::SameSides, found);
-    remark_if(has_same_names(t), Kind::SameNames, found);
-    Ok(())
+    remark_if(has_same_names(t), Kind::SameNames, found)
 }
 
 /// Whether two expressions have numbers by their literals and the first is above the second.
@@ -245,41 +232,39 @@ fn list_form(pattern: &[u8], form: Form, found: &mut Collector<Remark>)
 }
 
 /// Adds the remarks on a pattern.
-fn list_pattern(
-    alloc: Global,
-    pattern: &[u8],
-    found: &mut Collector<Remark>,
-) -> Result<(), AllocError>
-    ensures adds { OnOk result (Adds (items_in found.old) (pattern_remarks pattern.now) (items_in found.new)) }
+fn list_pattern(alloc: Global, pattern: &[u8], found: &mut Collector<Remark>)
+    ensures adds { Adds (items_in found.old) (pattern_remarks pattern.now) (items_in found.new) }
 {
-    let form = form_of(alloc, pattern)?;
-    list_content(pattern, form, found);
-    list_form(pattern, form, found);
-    Ok(())
+    match form_of(alloc, pattern) {
+        Ok(form) => {
+            list_content(pattern, form, found);
+            list_form(pattern, form, found)
+        }
+        Err(_) => found.fail(),
+    }
+}
+
+/// Adds the remark on the bounds of INT.
+fn list_bounds(alloc: Global, int: &IntArguments, nothing: &Store, found: &mut Collector<Remark>)
+    requires { nothing.now ≡ no_variables }
+    ensures adds { Adds (items_in found.old) (remark_if (is_above (literal_number (expr_tree int.now.low)) (literal_number (expr_tree int.now.high))) EmptyRange) (items_in found.new) }
+{
+    match is_above(alloc, &int.low, &int.high, nothing) {
+        Ok(is_empty) => remark_if(is_empty, Kind::EmptyRange, found),
+        Err(_) => found.fail(),
+    }
 }
 
 /// Adds the remarks that follow from a command alone.
-fn list_own(
-    alloc: Global,
-    command: &Command,
-    nothing: &Store,
-    found: &mut Collector<Remark>,
-) -> Result<(), AllocError>
+fn list_own(alloc: Global, command: &Command, nothing: &Store, found: &mut Collector<Remark>)
     requires { nothing.now ≡ no_variables }
-    ensures adds { OnOk result (Adds (items_in found.old) (own_remarks (command_tree command.now)) (items_in found.new)) }
+    ensures adds { Adds (items_in found.old) (own_remarks (command_tree command.now)) (items_in found.new) }
 {
     match &command.action {
-        Action::Space | Action::Newline | Action::Eof => Ok(()),
-        Action::Set(_) | Action::Unset(_) => Ok(()),
-        Action::Int(int) => {
-            let is_empty = is_above(alloc, &int.low, &int.high, nothing)?;
-            remark_if(is_empty, Kind::EmptyRange, found);
-            Ok(())
-        }
-        Action::String(e) => {
-            remark_if(is_empty_text(e), Kind::EmptyString, found);
-            Ok(())
-        }
+        Action::Space | Action::Newline | Action::Eof => (),
+        Action::Set(_) | Action::Unset(_) => (),
+        Action::Int(int) => list_bounds(alloc, int, nothing, found),
+        Action::String(e) => remark_if(is_empty_text(e), Kind::EmptyString, found),
         Action::Regex(regex) => list_pattern(alloc, regex.literal.bytes.as_slice(), found),
         Action::Assert(t) => list_test(alloc, Some(t), nothing, found),
         Action::Loop(repeated) => list_test(alloc, guard_test(&repeated.guard), nothing, found),
@@ -293,14 +278,16 @@ fn list_without_value<'p>(
     command: &'p Command,
     given: &NameSet<'p>,
     found: &mut Collector<Remark>,
-) -> Result<(), AllocError>
-    ensures adds { OnOk result (Adds (items_in found.old) (remark_unknown Kind.NoValue (λ name. has_name name given.now) (reads (command_tree command.now) ++ unsets (command_tree command.now))) (items_in found.new)) }
+)
+    ensures adds { Adds (items_in found.old) (remark_unknown Kind.NoValue (λ name. has_name name given.now) (reads (command_tree command.now) ++ unsets (command_tree command.now))) (items_in found.new) }
 {
     let mut names = Collector::new(alloc);
     list_reads(command, &mut names);
     list_unsets(command, &mut names);
-    let names = names.finish()?;
-    list_unknown(alloc, Kind::NoValue, names.as_slice(), given, found)
+    match names.finish() {
+        Ok(names) => list_unknown(alloc, Kind::NoValue, names.as_slice(), given, found),
+        Err(_) => found.fail(),
+    }
 }
 
 /// Adds a remark for each name to which a command gives a value and that nothing else reads.
@@ -309,13 +296,15 @@ fn list_unread<'p>(
     command: &'p Command,
     known: &Known<'p>,
     found: &mut Collector<Remark>,
-) -> Result<(), AllocError>
-    ensures adds { OnOk result (Adds (items_in found.old) (remark_unread (facts_known known.now) (sets (command_tree command.now))) (items_in found.new)) }
+)
+    ensures adds { Adds (items_in found.old) (remark_unread (facts_known known.now) (sets (command_tree command.now))) (items_in found.new) }
 {
     let mut names = Collector::new(alloc);
     list_sets(command, &mut names);
-    let names = names.finish()?;
-    list_unread_among(alloc, names.as_slice(), known, found)
+    match names.finish() {
+        Ok(names) => list_unread_among(alloc, names.as_slice(), known, found),
+        Err(_) => found.fail(),
+    }
 }
 
 /// Whether a command is there and is EOF.
@@ -351,21 +340,35 @@ fn takes_bytes(command: &Command) -> bool
     }
 }
 
+/// Adds a remark where the command before cannot end.
+fn list_unreachable(
+    alloc: Global,
+    previous: Option<&Command>,
+    nothing: &Store,
+    found: &mut Collector<Remark>,
+)
+    requires { nothing.now ≡ no_variables }
+    ensures adds { Adds (items_in found.old) (remark_if (follows_endless (command_at previous.entry)) Unreachable) (items_in found.new) }
+{
+    match follows_endless(alloc, previous, nothing) {
+        Ok(is_unreachable) => remark_if(is_unreachable, Kind::Unreachable, found),
+        Err(_) => found.fail(),
+    }
+}
+
 /// Adds the remarks that follow from where a command stands.
 fn list_place<'p>(
     alloc: Global,
     entry: &CommandInBlock<'p>,
     nothing: &Store,
     found: &mut Collector<Remark>,
-) -> Result<(), AllocError>
+)
     requires { nothing.now ≡ no_variables }
-    ensures adds { OnOk result (Adds (items_in found.old) (place_remarks (in_block entry.now)) (items_in found.new)) }
+    ensures adds { Adds (items_in found.old) (place_remarks (in_block entry.now)) (items_in found.new) }
 {
-    let is_unreachable = follows_endless(alloc, entry.previous, nothing)?;
-    remark_if(is_unreachable, Kind::Unreachable, found);
+    list_unreachable(alloc, entry.previous, nothing, found);
     let is_behind = follows_eof(entry.previous) && takes_bytes(entry.command);
-    remark_if(is_behind, Kind::AfterEof, found);
-    Ok(())
+    remark_if(is_behind, Kind::AfterEof, found)
 }
 
 /// Adds a remark about a name where this is so.
@@ -375,13 +378,12 @@ pub(crate) fn remark_about_if(
     kind: Kind,
     name: &Name,
     found: &mut Collector<Remark>,
-) -> Result<(), AllocError>
-    ensures adds { OnOk result (Adds (items_in found.old) (about_if is_so kind name.now) (items_in found.new)) }
+)
+    ensures adds { Adds (items_in found.old) (about_if is_so kind name.now) (items_in found.new) }
 {
     if is_so {
-        remark_about(alloc, kind, name, found)?;
+        remark_about(alloc, kind, name, found)
     }
-    Ok(())
 }
 
 /// Adds the remarks on the counter of a loop.
@@ -390,15 +392,15 @@ fn list_counter<'p>(
     command: &'p Command,
     known: &Known<'p>,
     found: &mut Collector<Remark>,
-) -> Result<(), AllocError>
-    ensures adds { OnOk result (Adds (items_in found.old) (loop_remarks (facts_known known.now) (command_tree command.now)) (items_in found.new)) }
+)
+    ensures adds { Adds (items_in found.old) (loop_remarks (facts_known known.now) (command_tree command.now)) (items_in found.new) }
 {
     let Some(name) = counter_name(command) else {
-        return Ok(());
+        return;
     };
     let body = loop_body(command);
     let is_fixed = !known.read.contains(name) && some_set_fixed(body);
-    remark_about_if(alloc, is_fixed, Kind::LiteralIndex, name, found)?;
+    remark_about_if(alloc, is_fixed, Kind::LiteralIndex, name, found);
     let is_set = is_set_in(name, body);
     remark_about_if(alloc, is_set, Kind::CounterSet, name, found)
 }
@@ -413,18 +415,18 @@ pub(crate) fn command_remarks<'p>(
     ensures { IfOk result (λ found. found.items ≡ command_remarks (facts_known known.now) (in_block entry.now)) }
 {
     let mut found = Collector::new(alloc);
-    list_place(alloc, entry, &known.nothing, &mut found)?;
-    list_without_value(alloc, entry.command, &known.given, &mut found)?;
-    list_unread(alloc, entry.command, known, &mut found)?;
+    list_place(alloc, entry, &known.nothing, &mut found);
+    list_without_value(alloc, entry.command, &known.given, &mut found);
+    list_unread(alloc, entry.command, known, &mut found);
     remark_if(
         has_wrong_sort(entry.command, known),
         Kind::WrongSort,
         &mut found,
     );
-    list_counter(alloc, entry.command, known, &mut found)?;
-    list_behind(alloc, entry, &mut found)?;
-    list_test_range(alloc, entry.command, known, &mut found)?;
-    list_kept(alloc, entry.command, known, &mut found)?;
-    list_own(alloc, entry.command, &known.nothing, &mut found)?;
+    list_counter(alloc, entry.command, known, &mut found);
+    list_behind(alloc, entry, &mut found);
+    list_test_range(alloc, entry.command, known, &mut found);
+    list_kept(alloc, entry.command, known, &mut found);
+    list_own(alloc, entry.command, &known.nothing, &mut found);
     found.finish()
 }

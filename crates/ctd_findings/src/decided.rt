@@ -1,13 +1,13 @@
 //! Tests that the ranges of their variables decide.
 
-ghost use Rattle.std.specs.Prelude.{◌≡◌, IfOk, OnOk, not};
+ghost use Rattle.std.specs.Prelude.{◌≡◌, IfOk, None, is_some, if◌then◌else◌, not};
 ghost use Rattle.std.specs.Option.{option_and_then, option_map};
 ghost use Rattle.ctd_program.specs.calls.View.{command_tree, expr_tree, guard_tree, test_tree};
 ghost use Rattle.ctd_findings.specs.inner.Collector.{Adds, items_in};
 ghost use Rattle.ctd_findings.specs.inner.Listed.{facts_known, range_known};
 ghost use Rattle.ctd_findings.specs.calls.Decided.{holds_of_all, one_answer, opposite, range_truth, side_range};
 ghost use Rattle.ctd_findings.specs.calls.Findings.{decided_remarks, guard_range_remarks, range_remarks, test_range_remarks};
-ghost use Rattle.ctd_findings.specs.calls.LiteralValues.{no_variables};
+ghost use Rattle.ctd_findings.specs.calls.LiteralValues.{literal_truth, no_variables};
 ghost use Rattle.ctd_findings.specs.calls.Ranges.{name_in};
 
 use crate::command::remark_if;
@@ -134,6 +134,21 @@ fn list_decided(if_true: Kind, truth: Option<bool>, found: &mut Collector<Remark
     }
 }
 
+/// The truth of a test by the ranges of its variables, if they decide it and its literals alone do not.
+fn undecided_truth<'p>(
+    alloc: Global,
+    t: &'p Test,
+    known: &Known<'p>,
+) -> Result<Option<bool>, AllocError>
+    requires { known.now.nothing ≡ no_variables }
+    ensures { IfOk result (λ truth. truth ≡ (if is_some (literal_truth (test_tree t.now)) then None else range_truth (range_known known.now.ranges) (test_tree t.now))) }
+{
+    if literal_truth(alloc, t, &known.nothing)?.is_some() {
+        return Ok(None);
+    }
+    range_truth(alloc, t, known)
+}
+
 /// Adds a remark on a test that the ranges of its variables decide, and its literals alone do not.
 fn list_range<'p>(
     alloc: Global,
@@ -141,14 +156,14 @@ fn list_range<'p>(
     t: &'p Test,
     known: &Known<'p>,
     found: &mut Collector<Remark>,
-) -> Result<(), AllocError>
+)
     requires { known.now.nothing ≡ no_variables }
-    ensures adds { OnOk result (Adds (items_in found.old) (range_remarks (facts_known known.now) if_true (test_tree t.now)) (items_in found.new)) }
+    ensures adds { Adds (items_in found.old) (range_remarks (facts_known known.now) if_true (test_tree t.now)) (items_in found.new) }
 {
-    if literal_truth(alloc, t, &known.nothing)?.is_none() {
-        list_decided(if_true, range_truth(alloc, t, known)?, found);
+    match undecided_truth(alloc, t, known) {
+        Ok(truth) => list_decided(if_true, truth, found),
+        Err(_) => found.fail(),
     }
-    Ok(())
 }
 
 /// Adds the remark on the test of WHILE.
@@ -157,12 +172,12 @@ fn list_guard_range<'p>(
     guard: &'p LoopGuard,
     known: &Known<'p>,
     found: &mut Collector<Remark>,
-) -> Result<(), AllocError>
+)
     requires { known.now.nothing ≡ no_variables }
-    ensures adds { OnOk result (Adds (items_in found.old) (guard_range_remarks (facts_known known.now) (guard_tree guard.now)) (items_in found.new)) }
+    ensures adds { Adds (items_in found.old) (guard_range_remarks (facts_known known.now) (guard_tree guard.now)) (items_in found.new) }
 {
     match guard {
-        LoopGuard::Times(_) => Ok(()),
+        LoopGuard::Times(_) => (),
         LoopGuard::While(t) => list_range(alloc, Kind::RangeTrue, t, known, found),
     }
 }
@@ -173,14 +188,14 @@ pub(crate) fn list_test_range<'p>(
     command: &'p Command,
     known: &Known<'p>,
     found: &mut Collector<Remark>,
-) -> Result<(), AllocError>
+)
     requires { known.now.nothing ≡ no_variables }
-    ensures adds { OnOk result (Adds (items_in found.old) (test_range_remarks (facts_known known.now) (command_tree command.now)) (items_in found.new)) }
+    ensures adds { Adds (items_in found.old) (test_range_remarks (facts_known known.now) (command_tree command.now)) (items_in found.new) }
 {
     match &command.action {
-        Action::Space | Action::Newline | Action::Eof => Ok(()),
-        Action::Int(_) | Action::String(_) | Action::Regex(_) => Ok(()),
-        Action::Set(_) | Action::Unset(_) => Ok(()),
+        Action::Space | Action::Newline | Action::Eof => (),
+        Action::Int(_) | Action::String(_) | Action::Regex(_) => (),
+        Action::Set(_) | Action::Unset(_) => (),
         Action::Assert(t) => list_range(alloc, Kind::RepeatsBounds, t, known, found),
         Action::Loop(repeated) => list_guard_range(alloc, &repeated.guard, known, found),
         Action::If(choice) => list_range(alloc, Kind::RangeTrue, &choice.condition, known, found),

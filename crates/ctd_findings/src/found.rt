@@ -1,6 +1,6 @@
 //! What is found piece by piece.
 
-ghost use Rattle.std.specs.Prelude.{◌≡◌, ◌∷◌, [], IfOk, Some};
+ghost use Rattle.std.specs.Prelude.{◌≡◌, ◌∷◌, [], IfOk, None, Some};
 ghost use Rattle.ctd_findings.specs.inner.Collector.{Adds, items_in};
 
 use std::alloc::{AllocError, Global};
@@ -8,8 +8,8 @@ use std::alloc::{AllocError, Global};
 /// Items that are found one after the other. Once memory ran out for one, they are not complete, and `finish` says so.
 #[derive(Drop)]
 pub(crate) struct Collector<T> {
-    items: Vec<T>,
-    is_complete: bool,
+    pub(crate) items: Vec<T>,
+    pub(crate) is_complete: bool,
 }
 
 impl<T: Drop> Collector<T> {
@@ -30,6 +30,13 @@ impl<T: Drop> Collector<T> {
         if self.items.push(item).is_err() {
             self.is_complete = false;
         }
+    }
+
+    /// Says that memory ran out for an item.
+    pub(crate) fn fail(&mut self)
+        ensures incomplete { items_in self.new ≡ None }
+    {
+        self.is_complete = false;
     }
 
     /// The items; an error where memory ran out for one.

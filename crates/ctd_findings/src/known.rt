@@ -1,13 +1,14 @@
 //! What is known of a program as a whole.
 
-ghost use Rattle.std.specs.Prelude.{◌≡◌, ◌++◌, ℕ, List, OnOk, IfOk};
+ghost use Rattle.std.specs.Prelude.{◌≡◌, ◌++◌, Some, IfOk};
+ghost use Rattle.ctd_program.specs.calls.View.{command_tree};
 ghost use Rattle.ctd_findings.specs.inner.Collector.{Adds, names_in};
-ghost use Rattle.ctd_findings.specs.inner.Listed.{has_name, in_blocks, range_known};
+ghost use Rattle.ctd_findings.specs.inner.Listed.{facts_known, in_blocks};
+ghost use Rattle.ctd_findings.specs.inner.Roles.{all_of, has_all, role_names};
+ghost use Rattle.ctd_findings.specs.inner.Sets.{HasNames};
 ghost use Rattle.ctd_findings.specs.calls.LiteralValues.{no_variables};
-ghost use Rattle.ctd_findings.specs.calls.Assigned.{all_not_numbers, all_not_texts};
-ghost use Rattle.ctd_findings.specs.calls.Ranges.{range_in};
-ghost use Rattle.ctd_findings.specs.calls.Facts.{is_given_in, is_read_elsewhere_in, is_read_in};
-ghost use Rattle.ctd_findings.specs.calls.Names.{all_given, all_mentioned, all_reads, all_reads_elsewhere, is_among, preset_names};
+ghost use Rattle.ctd_findings.specs.calls.Facts.{facts_of};
+ghost use Rattle.ctd_findings.specs.calls.Names.{preset_names};
 
 use crate::assigned::{list_not_numbers, list_not_texts};
 use crate::block::CommandInBlock;
@@ -17,10 +18,27 @@ use crate::names::{
     list_counts, list_name, list_reads, list_reads_elsewhere, list_sets, list_unsets,
 };
 use crate::ranges::Ranges;
-use ctd_program::Presets;
+use ctd_program::{Command, Preset, Presets};
 use ctd_token::Name;
 use ctd_value::Store;
 use std::alloc::{AllocError, Global};
+
+/// What a command does with names.
+#[derive(Clone, Copy)]
+pub(crate) enum Role {
+    /// It gives them values.
+    Gives,
+    /// It reads them.
+    Reads,
+    /// It reads them elsewhere than in their own assignments.
+    ReadsElsewhere,
+    /// It gives them what may be no number.
+    GivesNoNumber,
+    /// It gives them what may be no string.
+    GivesNoText,
+    /// It mentions them.
+    Mentions,
+}
 
 /// What is known of a program.
 #[derive(Drop)]
@@ -41,151 +59,64 @@ pub(crate) struct Known<'p> {
     pub(crate) nothing: Store,
 }
 
-/// Adds the names that some commands read.
-pub(crate) fn list_all_reads<'p>(commands: &[CommandInBlock<'p>], names: &mut Collector<&'p Name>)
-    ensures adds { Adds (names_in names.old) (all_reads (in_blocks commands.now)) (names_in names.new) }
+/// Adds the names of a command that have a role in it.
+fn list_role<'p>(alloc: Global, role: Role, command: &'p Command, found: &mut Collector<&'p Name>)
+    ensures adds { Adds (names_in found.old) (role_names role (command_tree command.now)) (names_in found.new) }
 {
-    for entry in commands {
-        list_reads(entry.command, names);
+    match role {
+        Role::Gives => {
+            list_sets(command, found);
+            list_counts(command, found)
+        }
+        Role::Reads => list_reads(command, found),
+        Role::ReadsElsewhere => list_reads_elsewhere(alloc, command, found),
+        Role::GivesNoNumber => list_not_numbers(command, found),
+        Role::GivesNoText => list_not_texts(command, found),
+        Role::Mentions => {
+            list_reads(command, found);
+            list_unsets(command, found);
+            list_sets(command, found);
+            list_counts(command, found)
+        }
     }
 }
 
-/// The names that some commands read.
-fn read_names<'p>(alloc: Global, commands: &[CommandInBlock<'p>]) -> Result<NameSet<'p>, AllocError>
-    ensures members { IfOk result (λ set. (name : List ℕ) → has_name name set ≡ is_among name (all_reads (in_blocks commands.now))) }
-{
-    let mut names = Collector::new(alloc);
-    list_all_reads(commands, &mut names);
-    NameSet::of(alloc, names.finish()?.as_slice())
-}
-
-/// Adds the names to which some commands give a value.
-fn list_given<'p>(commands: &[CommandInBlock<'p>], names: &mut Collector<&'p Name>)
-    ensures adds { Adds (names_in names.old) (all_given (in_blocks commands.now)) (names_in names.new) }
+/// Adds those of some commands.
+pub(crate) fn list_all_in_role<'p>(
+    alloc: Global,
+    role: Role,
+    commands: &[CommandInBlock<'p>],
+    found: &mut Collector<&'p Name>,
+)
+    ensures adds { Adds (names_in found.old) (all_of role (in_blocks commands.now)) (names_in found.new) }
 {
     for entry in commands {
-        list_sets(entry.command, names);
-        list_counts(entry.command, names);
+        list_role(alloc, role, entry.command, found);
     }
 }
 
 /// Adds the names of presets.
-pub(crate) fn list_presets<'p>(presets: &'p Presets, names: &mut Collector<&'p Name>)
-    ensures adds { Adds (names_in names.old) (preset_names presets.now) (names_in names.new) }
+pub(crate) fn list_presets<'p>(presets: &'p [Preset], found: &mut Collector<&'p Name>)
+    ensures adds { Adds (names_in found.old) (preset_names presets.now) (names_in found.new) }
 {
-    for preset in presets.pins() {
-        list_name(&preset.name, names);
+    for preset in presets {
+        list_name(&preset.name, found);
     }
 }
 
-/// The names to which some commands, or presets, give a value.
-fn given_names<'p>(
+/// The names that have a role in some commands, and those of these presets.
+pub(crate) fn names_in_role<'p>(
     alloc: Global,
+    role: Role,
     commands: &[CommandInBlock<'p>],
-    presets: &'p Presets,
-) -> Result<NameSet<'p>, AllocError>
-    ensures members { IfOk result (λ set. (name : List ℕ) → has_name name set ≡ is_among name (all_given (in_blocks commands.now) ++ preset_names presets.now)) }
+    presets: &'p [Preset],
+) -> NameSet<'p>
+    ensures members { HasNames result (all_of role (in_blocks commands.now) ++ preset_names presets.now) }
 {
-    let mut names = Collector::new(alloc);
-    list_given(commands, &mut names);
-    list_presets(presets, &mut names);
-    NameSet::of(alloc, names.finish()?.as_slice())
-}
-
-/// Adds the names that some commands read elsewhere than in their own assignments.
-fn list_all_reads_elsewhere<'p>(
-    alloc: Global,
-    commands: &[CommandInBlock<'p>],
-    names: &mut Collector<&'p Name>,
-) -> Result<(), AllocError>
-    ensures adds { OnOk result (Adds (names_in names.old) (all_reads_elsewhere (in_blocks commands.now)) (names_in names.new)) }
-{
-    for entry in commands {
-        list_reads_elsewhere(alloc, entry.command, names)?;
-    }
-    Ok(())
-}
-
-/// The names that some commands read elsewhere than in their own assignments.
-fn names_read_elsewhere<'p>(
-    alloc: Global,
-    commands: &[CommandInBlock<'p>],
-) -> Result<NameSet<'p>, AllocError>
-    ensures members { IfOk result (λ set. (name : List ℕ) → has_name name set ≡ is_among name (all_reads_elsewhere (in_blocks commands.now))) }
-{
-    let mut names = Collector::new(alloc);
-    list_all_reads_elsewhere(alloc, commands, &mut names)?;
-    NameSet::of(alloc, names.finish()?.as_slice())
-}
-
-/// Adds the names to which some commands give what may be no number.
-fn list_all_not_numbers<'p>(commands: &[CommandInBlock<'p>], names: &mut Collector<&'p Name>)
-    ensures adds { Adds (names_in names.old) (all_not_numbers (in_blocks commands.now)) (names_in names.new) }
-{
-    for entry in commands {
-        list_not_numbers(entry.command, names);
-    }
-}
-
-/// The names to which some commands, or presets, give what may be no number.
-fn names_not_numbers<'p>(
-    alloc: Global,
-    commands: &[CommandInBlock<'p>],
-    presets: &'p Presets,
-) -> Result<NameSet<'p>, AllocError>
-    ensures members { IfOk result (λ set. (name : List ℕ) → has_name name set ≡ is_among name (all_not_numbers (in_blocks commands.now) ++ preset_names presets.now)) }
-{
-    let mut names = Collector::new(alloc);
-    list_all_not_numbers(commands, &mut names);
-    list_presets(presets, &mut names);
-    NameSet::of(alloc, names.finish()?.as_slice())
-}
-
-/// Adds the names to which some commands give what may be no string.
-fn list_all_not_texts<'p>(commands: &[CommandInBlock<'p>], names: &mut Collector<&'p Name>)
-    ensures adds { Adds (names_in names.old) (all_not_texts (in_blocks commands.now)) (names_in names.new) }
-{
-    for entry in commands {
-        list_not_texts(entry.command, names);
-    }
-}
-
-/// The names to which some commands, or presets, give what may be no string.
-fn names_not_texts<'p>(
-    alloc: Global,
-    commands: &[CommandInBlock<'p>],
-    presets: &'p Presets,
-) -> Result<NameSet<'p>, AllocError>
-    ensures members { IfOk result (λ set. (name : List ℕ) → has_name name set ≡ is_among name (all_not_texts (in_blocks commands.now) ++ preset_names presets.now)) }
-{
-    let mut names = Collector::new(alloc);
-    list_all_not_texts(commands, &mut names);
-    list_presets(presets, &mut names);
-    NameSet::of(alloc, names.finish()?.as_slice())
-}
-
-/// Adds the names that some commands mention.
-fn list_mentioned<'p>(commands: &[CommandInBlock<'p>], names: &mut Collector<&'p Name>)
-    ensures adds { Adds (names_in names.old) (all_mentioned (in_blocks commands.now)) (names_in names.new) }
-{
-    for entry in commands {
-        list_reads(entry.command, names);
-        list_unsets(entry.command, names);
-        list_sets(entry.command, names);
-        list_counts(entry.command, names);
-    }
-}
-
-/// The names that some commands mention.
-pub(crate) fn mentioned_names<'p>(
-    alloc: Global,
-    commands: &[CommandInBlock<'p>],
-) -> Result<NameSet<'p>, AllocError>
-    ensures members { IfOk result (λ set. (name : List ℕ) → has_name name set ≡ is_among name (all_mentioned (in_blocks commands.now))) }
-{
-    let mut names = Collector::new(alloc);
-    list_mentioned(commands, &mut names);
-    NameSet::of(alloc, names.finish()?.as_slice())
+    let mut found = Collector::new(alloc);
+    list_all_in_role(alloc, role, commands, &mut found);
+    list_presets(presets, &mut found);
+    NameSet::of(alloc, found)
 }
 
 /// A store that has no variables.
@@ -195,28 +126,41 @@ fn empty_store(alloc: Global) -> Result<Store, AllocError>
     Store::new(alloc, &Presets::none(alloc))
 }
 
+/// Whether memory was enough for all that is known.
+fn has_all(known: &Known) -> bool
+    ensures { result ≡ has_all known.now }
+{
+    known.given.is_complete
+        && known.read.is_complete
+        && known.read_elsewhere.is_complete
+        && known.not_numbers.is_complete
+        && known.not_texts.is_complete
+}
+
 /// What is known of some commands, where these presets are given.
 pub(crate) fn known_of<'p>(
     alloc: Global,
     commands: &[CommandInBlock<'p>],
     presets: &'p Presets,
 ) -> Result<Known<'p>, AllocError>
-    ensures given { IfOk result (λ known. (name : List ℕ) → has_name name known.given ≡ is_given_in (in_blocks commands.now) presets.now name) }
-    ensures read { IfOk result (λ known. (name : List ℕ) → has_name name known.read ≡ is_read_in (in_blocks commands.now) name) }
-    ensures elsewhere { IfOk result (λ known. (name : List ℕ) → has_name name known.read_elsewhere ≡ is_read_elsewhere_in (in_blocks commands.now) name) }
-    ensures numbers { IfOk result (λ known. (name : List ℕ) → has_name name known.not_numbers ≡ is_among name (all_not_numbers (in_blocks commands.now) ++ preset_names presets.now)) }
-    ensures texts { IfOk result (λ known. (name : List ℕ) → has_name name known.not_texts ≡ is_among name (all_not_texts (in_blocks commands.now) ++ preset_names presets.now)) }
-    ensures ranges { IfOk result (λ known. (name : List ℕ) → range_known known.ranges name ≡ range_in (in_blocks commands.now) presets.now name) }
+    ensures facts { IfOk result (λ known. facts_known known ≡ facts_of (in_blocks commands.now) presets.now) }
     ensures nothing { IfOk result (λ known. known.nothing ≡ no_variables) }
 {
     let nothing = empty_store(alloc)?;
-    Ok(Known {
-        given: given_names(alloc, commands, presets)?,
-        read: read_names(alloc, commands)?,
-        read_elsewhere: names_read_elsewhere(alloc, commands)?,
-        not_numbers: names_not_numbers(alloc, commands, presets)?,
-        not_texts: names_not_texts(alloc, commands, presets)?,
-        ranges: Ranges::of(alloc, commands, presets, &nothing)?,
+    let ranges = Ranges::of(alloc, commands, presets, &nothing)?;
+    let pins = presets.pins();
+    let known = Known {
+        given: names_in_role(alloc, Role::Gives, commands, pins),
+        read: names_in_role(alloc, Role::Reads, commands, &[]),
+        read_elsewhere: names_in_role(alloc, Role::ReadsElsewhere, commands, &[]),
+        not_numbers: names_in_role(alloc, Role::GivesNoNumber, commands, pins),
+        not_texts: names_in_role(alloc, Role::GivesNoText, commands, pins),
+        ranges,
         nothing,
-    })
+    };
+    if has_all(&known) {
+        Ok(known)
+    } else {
+        Err(AllocError)
+    }
 }

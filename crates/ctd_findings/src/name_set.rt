@@ -1,29 +1,46 @@
 //! A set of names.
 
-ghost use Rattle.std.specs.Prelude.{◌≡◌, ℕ, List, IfOk, OnOk};
-ghost use Rattle.ctd_findings.specs.inner.Listed.{has_name, names_at};
-ghost use Rattle.ctd_findings.specs.calls.Names.{is_among};
+ghost use Rattle.std.specs.Prelude.{◌≡◌};
+ghost use Rattle.ctd_findings.specs.inner.Collector.{names_in};
+ghost use Rattle.ctd_findings.specs.inner.Listed.{has_name};
+ghost use Rattle.ctd_findings.specs.inner.Sets.{HasMore, IsSetOf};
 
+use crate::found::Collector;
 use ctd_token::Name;
-use std::alloc::{AllocError, Global};
+use std::alloc::Global;
 use std::collections::BTreeSet;
 
-/// A set of names. It borrows their bytes.
+/// A set of names. It borrows their bytes. Once memory ran out for one, it is not complete.
 #[derive(Drop)]
 pub(crate) struct NameSet<'p> {
     names: BTreeSet<&'p [u8]>,
+    pub(crate) is_complete: bool,
 }
 
 impl<'p> NameSet<'p> {
-    /// The set of these names.
-    pub(crate) fn of(alloc: Global, names: &[&'p Name]) -> Result<NameSet<'p>, AllocError>
-        ensures members { IfOk result (λ set. (name : List ℕ) → has_name name set ≡ is_among name (names_at names.now)) }
+    /// Takes in a name.
+    fn insert(&mut self, name: &'p Name)
+        ensures more { HasMore self.old name.now self.new }
     {
-        let mut set = BTreeSet::new(alloc);
-        for name in names {
-            set.insert(name.as_slice())?;
+        match self.names.insert(name.as_slice()) {
+            Ok(_) => (),
+            Err(_) => self.is_complete = false,
         }
-        Ok(NameSet { names: set })
+    }
+
+    /// The set of the names that were found.
+    pub(crate) fn of(alloc: Global, found: Collector<&'p Name>) -> NameSet<'p>
+        ensures members { IsSetOf result (names_in found.entry) }
+    {
+        let mut set = NameSet {
+            names: BTreeSet::new(alloc),
+            is_complete: found.is_complete,
+        };
+        let names = found.items.as_slice();
+        for name in names {
+            set.insert(name);
+        }
+        set
     }
 
     /// Whether it has a name.

@@ -1,6 +1,6 @@
 //! The names in expressions and tests, and those that a command reads or gives a value.
 
-ghost use Rattle.std.specs.Prelude.{◌++◌, ◌∷◌, [], OnOk};
+ghost use Rattle.std.specs.Prelude.{◌++◌, ◌∷◌, []};
 ghost use Rattle.ctd_program.specs.calls.View.{boxed_target, command_tree, expr_list, expr_tree, exprs_of, guard_tree, target, test_tree};
 ghost use Rattle.ctd_findings.specs.inner.Collector.{Adds, names_in};
 ghost use Rattle.ctd_findings.specs.inner.Listed.{assigned_trees, names_at};
@@ -9,7 +9,7 @@ ghost use Rattle.ctd_findings.specs.calls.Names.{assignment_names, assignment_re
 use crate::found::Collector;
 use ctd_program::{Action, Assignment, Command, Expr, IntArguments, LoopGuard, Test, Var};
 use ctd_token::Name;
-use std::alloc::{AllocError, Global};
+use std::alloc::Global;
 
 /// Adds a name.
 pub(crate) fn list_name<'p>(name: &'p Name, found: &mut Collector<&'p Name>)
@@ -203,15 +203,16 @@ fn list_assignment_reads_elsewhere<'p>(
     alloc: Global,
     assignment: &'p Assignment,
     found: &mut Collector<&'p Name>,
-) -> Result<(), AllocError>
-    ensures adds { OnOk result (Adds (names_in found.old) (others assignment.now.target.name (index_names (expr_list (exprs_of assignment.now.target.indices)) ++ expr_names (expr_tree assignment.now.value))) (names_in found.new)) }
+)
+    ensures adds { Adds (names_in found.old) (others assignment.now.target.name (index_names (expr_list (exprs_of assignment.now.target.indices)) ++ expr_names (expr_tree assignment.now.value))) (names_in found.new) }
 {
     let mut names = Collector::new(alloc);
     list_indices(assignment.target.indices.as_slice(), &mut names);
     list_expr(&assignment.value, &mut names);
-    let names = names.finish()?;
-    list_others(&assignment.target.name, names.as_slice(), found);
-    Ok(())
+    match names.finish() {
+        Ok(names) => list_others(&assignment.target.name, names.as_slice(), found),
+        Err(_) => found.fail(),
+    }
 }
 
 /// Adds the names that assignments read, but for those of their own variables.
@@ -219,13 +220,12 @@ fn list_all_assignment_reads_elsewhere<'p>(
     alloc: Global,
     assignments: &'p [Assignment],
     found: &mut Collector<&'p Name>,
-) -> Result<(), AllocError>
-    ensures adds { OnOk result (Adds (names_in found.old) (assignment_reads_elsewhere (assigned_trees assignments.now)) (names_in found.new)) }
+)
+    ensures adds { Adds (names_in found.old) (assignment_reads_elsewhere (assigned_trees assignments.now)) (names_in found.new) }
 {
     for a in assignments {
-        list_assignment_reads_elsewhere(alloc, a, found)?;
+        list_assignment_reads_elsewhere(alloc, a, found);
     }
-    Ok(())
 }
 
 /// Adds the names that a command reads, but for those that an assignment reads for its own variable.
@@ -233,18 +233,17 @@ pub(crate) fn list_reads_elsewhere<'p>(
     alloc: Global,
     command: &'p Command,
     found: &mut Collector<&'p Name>,
-) -> Result<(), AllocError>
-    ensures adds { OnOk result (Adds (names_in found.old) (reads_elsewhere (command_tree command.now)) (names_in found.new)) }
+)
+    ensures adds { Adds (names_in found.old) (reads_elsewhere (command_tree command.now)) (names_in found.new) }
 {
     match &command.action {
         Action::Set(assignments) => {
-            list_all_assignment_reads_elsewhere(alloc, assignments.as_slice(), found)?
+            list_all_assignment_reads_elsewhere(alloc, assignments.as_slice(), found)
         }
         Action::Space | Action::Newline | Action::Eof | Action::Unset(_) => (),
         Action::Int(_) | Action::String(_) | Action::Regex(_) => list_reads(command, found),
         Action::Assert(_) | Action::Loop(_) | Action::If(_) => list_reads(command, found),
     }
-    Ok(())
 }
 
 /// Adds the names of UNSET.

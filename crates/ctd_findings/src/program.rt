@@ -1,9 +1,12 @@
 //! The findings of a program.
 
-ghost use Rattle.std.specs.Prelude.{◌≡◌, ◌++◌, OnOk, IfOk};
-ghost use Rattle.ctd_program.specs.calls.View.{command_trees};
-ghost use Rattle.ctd_findings.specs.calls.Findings.{findings_among, findings_at, findings_in, findings_of, remark_unknown};
-ghost use Rattle.ctd_findings.specs.inner.Listed.{facts_known, has_name, in_blocks, names_at};
+ghost use Rattle.std.specs.Prelude.{◌≡◌, IfOk};
+ghost use Rattle.ctd_program.specs.calls.Places.{place_of};
+ghost use Rattle.ctd_program.specs.calls.View.{command_tree, command_trees};
+ghost use Rattle.ctd_findings.specs.calls.Facts.{facts_of, is_mentioned_in};
+ghost use Rattle.ctd_findings.specs.calls.Findings.{command_remarks, findings_among, findings_at, findings_in, findings_of, preset_findings, remark_unknown};
+ghost use Rattle.ctd_findings.specs.inner.Collector.{Adds, items_in};
+ghost use Rattle.ctd_findings.specs.inner.Listed.{facts_known, has_name, in_block, in_blocks, names_at};
 ghost use Rattle.ctd_findings.specs.calls.LiteralValues.{no_variables};
 ghost use Rattle.ctd_findings.specs.calls.Names.{preset_names};
 ghost use Rattle.ctd_findings.specs.declared.kind.Kind.TheVariants.{UnknownPreset};
@@ -13,27 +16,26 @@ use crate::command::{command_remarks, list_unknown};
 use crate::finding::{Finding, Remark};
 use crate::found::Collector;
 use crate::kind::Kind;
-use crate::known::{Known, known_of, list_presets, mentioned_names};
+use crate::known::{Known, Role, known_of, list_presets, names_in_role};
 use crate::name_set::NameSet;
-use ctd_program::{Command, Presets};
+use ctd_program::{Command, Preset, Presets};
 use ctd_token::{Name, Place};
 use std::alloc::{AllocError, Global};
 
 /// Where a program starts.
 const START: Place = Place { line: 1, column: 1 };
 
-/// Appends remarks at a place.
-fn place_all(place: Place, remarks: Vec<Remark>, found: &mut Vec<Finding>) -> Result<(), AllocError>
-    ensures lists { OnOk result (found.new.items ≡ found.old.items ++ findings_at place remarks.items) }
+/// Adds remarks at a place.
+fn place_all(place: Place, remarks: Vec<Remark>, found: &mut Collector<Finding>)
+    ensures adds { Adds (items_in found.old) (findings_at place remarks.items) (items_in found.new) }
 {
     for remark in remarks {
-        found.push(Finding { place, remark })?;
+        found.add(Finding { place, remark });
     }
-    Ok(())
 }
 
 /// The names of presets.
-fn names_of<'p>(alloc: Global, presets: &'p Presets) -> Result<Vec<&'p Name>, AllocError>
+fn names_of<'p>(alloc: Global, presets: &'p [Preset]) -> Result<Vec<&'p Name>, AllocError>
     ensures { IfOk result (λ names. names_at names.items ≡ preset_names presets.now) }
 {
     let mut names = Collector::new(alloc);
@@ -41,10 +43,10 @@ fn names_of<'p>(alloc: Global, presets: &'p Presets) -> Result<Vec<&'p Name>, Al
     names.finish()
 }
 
-/// The remarks on presets with names that the program nowhere mentions.
+/// The remarks on presets with names that are not among those that a program mentions.
 fn preset_remarks<'p>(
     alloc: Global,
-    presets: &'p Presets,
+    presets: &'p [Preset],
     mentioned: &NameSet<'p>,
 ) -> Result<Vec<Remark>, AllocError>
     ensures { IfOk result (λ found. found.items ≡ remark_unknown UnknownPreset (λ name. has_name name mentioned.now) (preset_names presets.now)) }
@@ -57,25 +59,85 @@ fn preset_remarks<'p>(
         names.as_slice(),
         mentioned,
         &mut found,
-    )?;
+    );
     found.finish()
 }
 
-/// Appends the findings of some commands.
+/// The remarks on presets with names that some commands nowhere mention.
+fn unknown_presets<'p>(
+    alloc: Global,
+    commands: &[CommandInBlock<'p>],
+    presets: &'p [Preset],
+) -> Result<Vec<Remark>, AllocError>
+    ensures { IfOk result (λ found. found.items ≡ remark_unknown UnknownPreset (is_mentioned_in (in_blocks commands.now)) (preset_names presets.now)) }
+{
+    let mentioned = names_in_role(alloc, Role::Mentions, commands, &[]);
+    if mentioned.is_complete {
+        preset_remarks(alloc, presets, &mentioned)
+    } else {
+        Err(AllocError)
+    }
+}
+
+/// Adds the findings of presets.
+fn list_presets_unknown<'p>(
+    alloc: Global,
+    commands: &[CommandInBlock<'p>],
+    presets: &'p [Preset],
+    found: &mut Collector<Finding>,
+)
+    ensures adds { Adds (items_in found.old) (preset_findings (in_blocks commands.now) presets.now) (items_in found.new) }
+{
+    match unknown_presets(alloc, commands, presets) {
+        Ok(remarks) => place_all(START, remarks, found),
+        Err(_) => found.fail(),
+    }
+}
+
+/// Adds the findings of a command.
+fn list_entry<'p>(
+    alloc: Global,
+    entry: &CommandInBlock<'p>,
+    known: &Known<'p>,
+    found: &mut Collector<Finding>,
+)
+    requires { known.now.nothing ≡ no_variables }
+    ensures adds { Adds (items_in found.old) (findings_at (place_of (command_tree entry.now.command.now)) (command_remarks (facts_known known.now) (in_block entry.now))) (items_in found.new) }
+{
+    match command_remarks(alloc, entry, known) {
+        Ok(remarks) => place_all(entry.command.place, remarks, found),
+        Err(_) => found.fail(),
+    }
+}
+
+/// Adds the findings of some commands.
 fn list_among<'p>(
     alloc: Global,
     commands: &[CommandInBlock<'p>],
     known: &Known<'p>,
-    found: &mut Vec<Finding>,
-) -> Result<(), AllocError>
+    found: &mut Collector<Finding>,
+)
     requires { known.now.nothing ≡ no_variables }
-    ensures lists { OnOk result (found.new.items ≡ found.old.items ++ findings_among (facts_known known.now) (in_blocks commands.now)) }
+    ensures adds { Adds (items_in found.old) (findings_among (facts_known known.now) (in_blocks commands.now)) (items_in found.new) }
 {
     for entry in commands {
-        let remarks = command_remarks(alloc, entry, known)?;
-        place_all(entry.command.place, remarks, found)?;
+        list_entry(alloc, entry, known, found);
     }
-    Ok(())
+}
+
+/// Adds the findings of all commands, where these presets are given.
+fn list_commands<'p>(
+    alloc: Global,
+    commands: &[CommandInBlock<'p>],
+    presets: &'p Presets,
+    found: &mut Collector<Finding>,
+)
+    ensures adds { Adds (items_in found.old) (findings_among (facts_of (in_blocks commands.now) presets.now) (in_blocks commands.now)) (items_in found.new) }
+{
+    match known_of(alloc, commands, presets) {
+        Ok(known) => list_among(alloc, commands, &known, found),
+        Err(_) => found.fail(),
+    }
 }
 
 /// The findings of commands, where these presets are given.
@@ -86,13 +148,10 @@ fn findings_in<'p>(
 ) -> Result<Vec<Finding>, AllocError>
     ensures { IfOk result (λ found. found.items ≡ findings_in (in_blocks commands.now) presets.now) }
 {
-    let mentioned = mentioned_names(alloc, commands)?;
-    let remarks = preset_remarks(alloc, presets, &mentioned)?;
-    let mut found = Vec::new(alloc);
-    place_all(START, remarks, &mut found)?;
-    let known = known_of(alloc, commands, presets)?;
-    list_among(alloc, commands, &known, &mut found)?;
-    Ok(found)
+    let mut found = Collector::new(alloc);
+    list_presets_unknown(alloc, commands, presets.pins(), &mut found);
+    list_commands(alloc, commands, presets, &mut found);
+    found.finish()
 }
 
 /// The findings of a program, where these presets are given: those of the presets, and then those of the commands in the order of the text.

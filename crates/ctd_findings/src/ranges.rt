@@ -134,15 +134,18 @@ fn list_given_otherwise<'p>(
     command: &'p Command,
     nothing: &Store,
     names: &mut Collector<&'p Name>,
-) -> Result<(), AllocError>
+)
     requires { nothing.now ≡ no_variables }
-    ensures adds { OnOk result (Adds (names_in names.old) (gives_otherwise (command_tree command.now)) (names_in names.new)) }
+    ensures adds { Adds (names_in names.old) (gives_otherwise (command_tree command.now)) (names_in names.new) }
 {
-    if range_given(alloc, command, nothing)?.is_none() {
-        list_sets(command, names);
-        list_counts(command, names);
+    match range_given(alloc, command, nothing) {
+        Ok(Some(_)) => (),
+        Ok(None) => {
+            list_sets(command, names);
+            list_counts(command, names)
+        }
+        Err(_) => names.fail(),
     }
-    Ok(())
 }
 
 /// Adds those of some commands.
@@ -151,14 +154,13 @@ fn list_all_given_otherwise<'p>(
     commands: &[CommandInBlock<'p>],
     nothing: &Store,
     names: &mut Collector<&'p Name>,
-) -> Result<(), AllocError>
+)
     requires { nothing.now ≡ no_variables }
-    ensures adds { OnOk result (Adds (names_in names.old) (all_given_otherwise (in_blocks commands.now)) (names_in names.new)) }
+    ensures adds { Adds (names_in names.old) (all_given_otherwise (in_blocks commands.now)) (names_in names.new) }
 {
     for entry in commands {
-        list_given_otherwise(alloc, entry.command, nothing, names)?;
+        list_given_otherwise(alloc, entry.command, nothing, names);
     }
-    Ok(())
 }
 
 /// The names to which more than INT with such bounds gives a value, or a preset.
@@ -172,9 +174,14 @@ fn names_given_otherwise<'p>(
     ensures members { IfOk result (λ set. (name : List ℕ) → has_name name set ≡ is_among name (all_given_otherwise (in_blocks commands.now) ++ preset_names presets.now)) }
 {
     let mut names = Collector::new(alloc);
-    list_all_given_otherwise(alloc, commands, nothing, &mut names)?;
-    list_presets(presets, &mut names);
-    NameSet::of(alloc, names.finish()?.as_slice())
+    list_all_given_otherwise(alloc, commands, nothing, &mut names);
+    list_presets(presets.pins(), &mut names);
+    let set = NameSet::of(alloc, names);
+    if set.is_complete {
+        Ok(set)
+    } else {
+        Err(AllocError)
+    }
 }
 
 /// A range so far, and one more.

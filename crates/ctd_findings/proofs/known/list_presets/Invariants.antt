@@ -5,4 +5,4 @@ use Rattle.ctd_findings.proofs.Additions.{Leads}
 use Rattle.ctd_findings.proofs.known.list_presets.Given as goal
 
 abbrev pub invariant-loop-preset : goal.invariant-loop-preset
-invariant-loop-preset l = Leads (names_in l.initial.names) (preset_names l.preset-items) (names_in l.names) (preset_names (drop l.preset-index l.preset-items))
+invariant-loop-preset l = Leads (names_in l.initial.found) (preset_names l.presets) (names_in l.found) (preset_names (drop l.preset-index l.presets))
