@@ -3,7 +3,7 @@ use Rattle.std.specs.Prelude.{◌⊎◌, ℕ, true, false, Bool, List, [], ◌�
 use Rattle.ctd_source.specs.TestData.{TestData}
 use Rattle.ctd_program.specs.Tree.{TestTree}
 use Rattle.ctd_store.specs.Store.{Bindings}
-use Rattle.ctd_value.specs.Fault.{TruthFault}
+use Rattle.ctd_value.specs.Fault.{ValueFault, TruthFault}
 use Rattle.ctd_value.specs.Fault as faults
 use Rattle.ctd_value.specs.Truth.{truth}
 use Rattle.ctd_known.specs.declared.faults.Faults.{Faults}
@@ -11,6 +11,7 @@ use Rattle.ctd_known.specs.declared.facts.Known.{Known}
 use Rattle.ctd_known.specs.calls.Facts.{EachStands}
 use Rattle.ctd_known.specs.calls.Found.{IsAmong}
 use Rattle.ctd_traps.specs.declared.cases.Case.{Case}
+use Rattle.ctd_traps.specs.declared.divide.Divided.{Divided}
 
 -- all that is known in one of the cases is so of some variables, where so many steps are left
 abbrev pub OneStands : List Case → ℕ → Bindings → Type 0
@@ -39,3 +40,15 @@ DividesTo if_true if_false f k h (Err (faults.Look why)) = Unit {0}
 -- of a test by the cases in which it is asked
 abbrev pub Divides : List Case → TestTree → (if_true if_false : List Case) → Faults → Type 0
 Divides cases t if_true if_false f = (k : ℕ) (h : Bindings) (d : TestData) (p : ℕ) → OneStands cases k h → DividesTo if_true if_false f k h (truth t h d p)
+
+-- the opposite of a test
+abbrev pub opposite : Divided → Divided
+opposite s = record { if_true = s.if_false; if_false = s.if_true; faults = s.faults }
+
+-- one test or another, of which the other is asked where the first is false
+pub record IsEither (first second all : Divided) : Type 0 where
+  pub left : TellsCases first.if_true.items all.if_true.items
+  pub right : TellsCases second.if_true.items all.if_true.items
+  pub neither : TellsCases second.if_false.items all.if_false.items
+  pub by_first : (f : ValueFault) → IsAmong first.faults f → IsAmong all.faults f
+  pub by_second : (f : ValueFault) → IsAmong second.faults f → IsAmong all.faults f
