@@ -1,5 +1,5 @@
 -- What operators give of what their operands may give.
-use Rattle.std.proofs.Common.{◌≡◌, ◌≢◌, ◌<◌, ◌≤◌, ◌+◌, ◌∙◌, ap, get_or, drop, ℕ, pos, neg_ℤ, List, [], ◌∷◌, length, Option, Some, None, ℤ, Bool, true, Result, Ok, Err, refl, sym, subst}
+use Rattle.std.proofs.Common.{IfSome, ◌⊎◌, inl, inr, ◌≡◌, ◌≢◌, ◌<◌, ◌≤◌, ◌+◌, ◌∙◌, ap, get_or, drop, ℕ, pos, neg_ℤ, List, [], ◌∷◌, length, Option, Some, None, ℤ, Bool, true, Result, Ok, Err, refl, sym, subst}
 use Rattle.std.proofs.lemmas.List.{at_drop_more, drop_all}
 use Rattle.std.specs.Global.{Box}
 use Rattle.ctd_program.proofs.Trees.{boxed_element}
@@ -23,12 +23,13 @@ use Rattle.ctd_range.specs.declared.range.Range.{Range}
 use Rattle.ctd_known.specs.declared.expression.Found.{Found}
 use Rattle.ctd_known.specs.declared.faults.Faults.{Faults}
 use Rattle.ctd_known.specs.declared.expression.Operator.{Operator}
+use Rattle.ctd_known.specs.declared.expression.Operator.TheVariants as operators
 use Rattle.ctd_known.specs.declared.facts.Known.{Known}
 use Rattle.ctd_known.specs.declared.facts.NameFacts.{NameFacts}
 use Rattle.ctd_known.specs.calls.Facts.{MayBe, NameStands, at_key}
 use Rattle.ctd_known.specs.inner.Facts.{Tells}
 use Rattle.ctd_known.specs.calls.Found.{AllFailBy, FailsBy, Gives, IsAmong, IsFound, as_number, as_text}
-use Rattle.ctd_known.specs.inner.Found.{AreOperands, IsComputed, Operates, measured, negated, operate}
+use Rattle.ctd_known.specs.inner.Found.{AreOperands, HasOperator, IsComputed, Operates, measured, negated, operate}
 
 -- some faults are among others
 abbrev pub AreFaults : Faults → Faults → Type 0
@@ -48,6 +49,23 @@ applied o a b f g types k (Ok (values.Int x)) (Ok (values.Text bytes)) operands 
 applied o a b f g types k (Ok (values.Int x)) (Ok (values.Int y)) operands operates kinds by_a by_b by_types by_f l r =
     let found : (q : Range × Range) × (types.0 ≡ Some q) × IsIn q.0 k x × IsIn q.1 k y = operands.numbers x y k l r in
     computed_found f g k (operate o x y) kinds by_f (operates found.0 found.1 k x y found.2 found.3)
+
+-- an expression with an operator between two others
+abbrev pub HasOperands : Expr → (a b : Box Expr) → Type 0
+HasOperands e a b = (e ≡ variants.Add a b) ⊎ ((e ≡ variants.Sub a b) ⊎ ((e ≡ variants.Mul a b) ⊎ ((e ≡ variants.Div a b) ⊎ ((e ≡ variants.Rem a b) ⊎ (e ≡ variants.Pow a b)))))
+
+applied_tree : (known : List Known) (x y t : ExprTree) (o p : Operator) (f g r : Found) → ((h : Bindings) → val t h ≡ arithmetic (operate p) (val x h) (val y h)) → o ≡ p → Gives known x f → Gives known y g
+    → ((k : ℕ) (left right : Result Value Fault) → IsFound f k left → IsFound g k right → IsFound r k (arithmetic (operate o) left right)) → Gives known t r
+applied_tree known x y t o p f g r means same left right applies k h each = rw (means h, sym same) (applies k (val x h) (val y h) (left k h each) (right k h each))
+
+pub operands_give : (known : List Known) (e : Expr) (a b : Box Expr) (o : Operator) (f g r : Found) → HasOperands e a b → HasOperator o e → Gives known (expr_tree a.value) f → Gives known (expr_tree b.value) g
+    → ((k : ℕ) (left right : Result Value Fault) → IsFound f k left → IsFound g k right → IsFound r k (arithmetic (operate o) left right)) → Gives known (expr_tree e) r
+operands_give known e a b o f g r (inl is) has left right applies = subst (λ x. Gives known (expr_tree x) r) (sym is) (applied_tree known (expr_tree a.value) (expr_tree b.value) (expr_tree (variants.Add a b)) o operators.Sum f g r (λ h. refl) (subst (λ x. HasOperator o x) is has) left right applies)
+operands_give known e a b o f g r (inr (inl is)) has left right applies = subst (λ x. Gives known (expr_tree x) r) (sym is) (applied_tree known (expr_tree a.value) (expr_tree b.value) (expr_tree (variants.Sub a b)) o operators.Difference f g r (λ h. refl) (subst (λ x. HasOperator o x) is has) left right applies)
+operands_give known e a b o f g r (inr (inr (inl is))) has left right applies = subst (λ x. Gives known (expr_tree x) r) (sym is) (applied_tree known (expr_tree a.value) (expr_tree b.value) (expr_tree (variants.Mul a b)) o operators.Product f g r (λ h. refl) (subst (λ x. HasOperator o x) is has) left right applies)
+operands_give known e a b o f g r (inr (inr (inr (inl is)))) has left right applies = subst (λ x. Gives known (expr_tree x) r) (sym is) (applied_tree known (expr_tree a.value) (expr_tree b.value) (expr_tree (variants.Div a b)) o operators.Quotient f g r (λ h. refl) (subst (λ x. HasOperator o x) is has) left right applies)
+operands_give known e a b o f g r (inr (inr (inr (inr (inl is))))) has left right applies = subst (λ x. Gives known (expr_tree x) r) (sym is) (applied_tree known (expr_tree a.value) (expr_tree b.value) (expr_tree (variants.Rem a b)) o operators.Remainder f g r (λ h. refl) (subst (λ x. HasOperator o x) is has) left right applies)
+operands_give known e a b o f g r (inr (inr (inr (inr (inr is))))) has left right applies = subst (λ x. Gives known (expr_tree x) r) (sym is) (applied_tree known (expr_tree a.value) (expr_tree b.value) (expr_tree (variants.Pow a b)) o operators.Power f g r (λ h. refl) (subst (λ x. HasOperator o x) is has) left right applies)
 
 pub negates : (a f g : Found) (text : Bool) (k : ℕ) (r : Result Value Fault) → ((x : ℤ) → MayBe a.kinds k (values.Int x) → IsComputed f k (in_range (neg_ℤ x))) → ((bytes : List ℕ) → MayBe a.kinds k (values.Text bytes) → text ≡ true) →
     g.kinds ≡ f.kinds → (text ≡ true → IsAmong g.faults faults.WrongType) → AreFaults f.faults g.faults → AreFaults a.faults g.faults → IsFound a k r → IsFound g k (negated r)
@@ -101,6 +119,11 @@ pub element_gives : (known : List Known) (name : List ℕ) (es : List Expr) (fac
     ((k : ℕ) (o : Option Value) → ((v : Value) → o ≡ Some v → MayBe facts.elements k v) → IsFound f k (value_or_undefined o)) → AreFaults indices f.faults → Gives known (Tree.variable name (expr_list es)) f
 element_gives known name [] facts indices f some fail tells value more k h each = absurd (some refl)
 element_gives known name (e ∷ es) facts indices f some fail tells value more k h each = at_indices f facts indices k h name (val (expr_tree e) h) (vals (expr_list es) h) (tells k h each) (value k) more (fail k h each)
+
+pub element_found : (known : List Known) (e : Expr) (name : List ℕ) (es : List Expr) (indices : Faults) (found : Option Found) → expr_tree e ≡ Tree.variable name (expr_list es) → es ≢ [] → AllFailBy known (expr_list es) indices
+    → IfSome found (λ f. (all : List Expr) → all ≢ [] → AllFailBy known (expr_list all) indices → Gives known (Tree.variable name (expr_list all)) f) → IfSome found (λ f. Gives known (expr_tree e) f)
+element_found known e name es indices None is some fail gives = tt
+element_found known e name es indices (Some f) is some fail gives = subst (λ t. Gives known t f) (sym is) (gives es some fail)
 
 -- an element that has a value or none
 pub element_value : (f : Found) (k : ℕ) (o : Option Value) → IsAmong f.faults faults.Undefined → ((v : Value) → o ≡ Some v → MayBe f.kinds k v) → IsFound f k (value_or_undefined o)

@@ -117,38 +117,6 @@ fn shape_faults(names: &[Name]) -> Faults
     }
 }
 
-/// One test or another, of which the other is asked where the first is false.
-fn either<'p>(
-    alloc: Global,
-    first: Branches<'p>,
-    second: Branches<'p>,
-) -> Result<Branches<'p>, Stop>
-    ensures left { IfOk result (λ s. TellsAll first.entry.if_true.items s.if_true.items) }
-    ensures right { IfOk result (λ s. TellsAll second.entry.if_true.items s.if_true.items) }
-    ensures neither { IfOk result (λ s. s.if_false.items ≡ second.entry.if_false.items) }
-    ensures faults { IfOk result (λ s. ((f : Fault) → IsAmong first.entry.faults f → IsAmong s.faults f) × ((f : Fault) → IsAmong second.entry.faults f → IsAmong s.faults f)) }
-{
-    let if_true = join(alloc, first.if_true.as_slice(), second.if_true.as_slice())?;
-    Ok(Branches {
-        if_true,
-        if_false: second.if_false,
-        faults: both(first.faults, second.faults),
-    })
-}
-
-/// The opposite of a test.
-fn opposite<'p>(s: Branches<'p>) -> Branches<'p>
-    ensures if_true { result.if_true.items ≡ s.entry.if_false.items }
-    ensures if_false { result.if_false.items ≡ s.entry.if_true.items }
-    ensures faults { result.faults ≡ s.entry.faults }
-{
-    Branches {
-        if_true: s.if_false,
-        if_false: s.if_true,
-        faults: s.faults,
-    }
-}
-
 /// The comparison that holds where one does not.
 fn opposite_of(by: Compare) -> Compare
     ensures { (o : Ordering) → holds_by by o ≡ false → holds_by result o ≡ true }
@@ -184,36 +152,22 @@ fn compare<'p>(
     })
 }
 
-/// What is known where a test is true, and where it is false.
+/// What is known where an expression matches the data, and where it does not.
+fn split_match<'p>(alloc: Global, e: &Expr, known: &[Known<'p>]) -> Result<Branches<'p>, Stop>
+    ensures { IfOk result (λ s. SplitsBy known.now (Tree.matches (expr_tree e.now)) s.if_true.items s.if_false.items s.faults) }
+{
+    let text = inspect(e, known)?;
+    let matched = same(alloc, known, text_faults(text))?;
+    Ok(matched)
+}
+
+/// What is known where a test of one question is true, and where it is false. Of a test that is made of others nothing is told: its parts are asked.
 pub fn split<'p>(alloc: Global, t: &'p Test, known: &[Known<'p>]) -> Result<Branches<'p>, Stop>
     ensures { IfOk result (λ s. SplitsBy known.now (test_tree t.now) s.if_true.items s.if_false.items s.faults) }
 {
     match t {
-        Test::Or(a, b) => {
-            let first = split(alloc, a, known)?;
-            let second = split(alloc, b, first.if_false.as_slice())?;
-            let all = either(alloc, first, second)?;
-            Ok(all)
-        }
-        Test::And(a, b) => {
-            let left = split(alloc, a, known)?;
-            let right = split(alloc, b, left.if_true.as_slice())?;
-            let none = either(alloc, opposite(left), opposite(right))?;
-            Ok(opposite(none))
-        }
-        Test::Not(a) => {
-            let turned = split(alloc, a, known)?;
-            Ok(opposite(turned))
-        }
-        Test::Compare(by, a, b) => {
-            let compared = compare(alloc, *by, a, b, known)?;
-            Ok(compared)
-        }
-        Test::Match(e) => {
-            let text = inspect(e, known)?;
-            let matched = same(alloc, known, text_faults(text))?;
-            Ok(matched)
-        }
+        Test::Compare(by, a, b) => compare(alloc, *by, a, b, known),
+        Test::Match(e) => split_match(alloc, e, known),
         Test::IsEof => {
             let ended = same(alloc, known, no_faults())?;
             Ok(ended)
@@ -227,5 +181,6 @@ pub fn split<'p>(alloc: Global, t: &'p Test, known: &[Known<'p>]) -> Result<Bran
             let listed = same(alloc, known, wanted.faults)?;
             Ok(listed)
         }
+        Test::Or(_, _) | Test::And(_, _) | Test::Not(_) => Err(Stop::NotTold),
     }
 }

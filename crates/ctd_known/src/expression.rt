@@ -1,6 +1,8 @@
 //! What an expression may give, by what is known of the variables.
 
 ghost use Rattle.std.specs.Prelude.{◌≡◌, ◌≢◌, ◌≤◌, ℕ, ℤ, List, length, neg_ℤ, pos, true, [], Result, Ok, Option, IfSome};
+ghost use Rattle.ctd_program.specs.Tree;
+ghost use Rattle.ctd_program.specs.declared.tree.Expr.{Expr};
 ghost use Rattle.ctd_program.specs.calls.View.{expr_tree, expr_list};
 ghost use Rattle.ctd_store.specs.declared.value.Value.{Value};
 ghost use Rattle.ctd_store.specs.declared.value.Value.TheVariants as values;
@@ -12,12 +14,13 @@ ghost use Rattle.ctd_value.specs.Val.{arithmetic};
 ghost use Rattle.ctd_value.specs.inner.Val.{value_or_undefined};
 ghost use Rattle.ctd_known.specs.calls.Facts.{MayBe, MayHave};
 ghost use Rattle.ctd_known.specs.calls.Found.{IsFound, IsAmong, Gives, AllFailBy, FailsBy, as_number, as_text};
-ghost use Rattle.ctd_known.specs.inner.Found.{IsComputed, AreOperands, Operates, IsWithinRanges, operate, measured, negated};
+ghost use Rattle.ctd_known.specs.inner.Found.{IsComputed, AreOperands, HasOperator, Operates, IsWithinRanges, operate, measured, negated};
 
 use crate::facts::{Kinds, Known, Lengths, NameFacts, facts_of, index_of};
 use crate::faults::{Faults, both, no_faults};
 use ctd_program::Expr;
 use ctd_range::{Computed, Range};
+use ctd_token::Name;
 
 /// What an expression may give: values, and faults.
 #[derive(Clone, Copy)]
@@ -77,6 +80,15 @@ fn of_name(index: Option<usize>, facts: NameFacts) -> Found
     }
 }
 
+/// What a name without indices may give; none where it is not listed.
+fn examine_name(name: &Name, known: &[Known]) -> Option<Found>
+    ensures { IfSome result (λ f. Gives known.now (Tree.variable name.now Tree.none) f) }
+{
+    let word = name.as_slice();
+    let facts = facts_of(known, word)?;
+    Some(of_name(index_of(known, word), facts))
+}
+
 /// The value of a name at indices, of which these faults are known.
 fn of_element(index: Option<usize>, facts: NameFacts, indices: Faults) -> Found
     ensures value { (k : ℕ) (value : Option Value) → ((v : Value) → value ≡ Some v → MayBe facts.elements k v) → IsFound result k (value_or_undefined value) }
@@ -93,6 +105,15 @@ fn of_element(index: Option<usize>, facts: NameFacts, indices: Faults) -> Found
     }
 }
 
+/// What a name may give at indices, which may fail by these faults; none where it is not listed.
+fn examine_element(name: &Name, indices: Faults, known: &[Known]) -> Option<Found>
+    ensures { IfSome result (λ f. (es : List Expr) → es ≢ [] → AllFailBy known.now (expr_list es) indices → Gives known.now (Tree.variable name.now (expr_list es)) f) }
+{
+    let word = name.as_slice();
+    let facts = facts_of(known, word)?;
+    Some(of_element(index_of(known, word), facts, indices))
+}
+
 /// An operator between two numbers.
 #[derive(Clone, Copy)]
 enum Operator {
@@ -102,6 +123,26 @@ enum Operator {
     Quotient,
     Remainder,
     Power,
+}
+
+/// The operator between the two operands of an expression that has two.
+fn operator_of(e: &Expr) -> Operator
+    ensures { HasOperator result e.now }
+{
+    match e {
+        Expr::Sub(_, _) => Operator::Difference,
+        Expr::Mul(_, _) => Operator::Product,
+        Expr::Div(_, _) => Operator::Quotient,
+        Expr::Rem(_, _) => Operator::Remainder,
+        Expr::Pow(_, _) => Operator::Power,
+        Expr::Add(_, _)
+        | Expr::Numeral(_)
+        | Expr::Text(_)
+        | Expr::Name(_)
+        | Expr::Element(_)
+        | Expr::Strlen(_)
+        | Expr::Minus(_) => Operator::Sum,
+    }
 }
 
 /// What an operator gives of numbers of two ranges.
@@ -293,27 +334,23 @@ pub fn examine(e: &Expr, known: &[Known]) -> Option<Found>
     match e {
         Expr::Numeral(n) => Some(of_number(n.value())),
         Expr::Text(bytes) => Some(of_text(bytes.as_slice())),
-        Expr::Name(name) => {
-            let facts = facts_of(known, name.as_slice())?;
-            Some(of_name(index_of(known, name.as_slice()), facts))
-        }
+        Expr::Name(name) => examine_name(name, known),
         Expr::Element(element) => {
             let indices = examine_indices(element.indices.as_slice(), known)?;
-            let facts = facts_of(known, element.name.as_slice())?;
-            Some(of_element(index_of(known, element.name.as_slice()), facts, indices))
+            examine_element(&element.name, indices, known)
         }
         Expr::Strlen(text) => Some(measure(examine(text, known)?)),
         Expr::Minus(a) => Some(negate(examine(a, known)?)),
-        Expr::Add(a, b) => Some(apply(Operator::Sum, examine(a, known)?, examine(b, known)?)),
-        Expr::Sub(a, b) => Some(apply(
-            Operator::Difference,
-            examine(a, known)?,
-            examine(b, known)?,
-        )),
-        Expr::Mul(a, b) => Some(apply(Operator::Product, examine(a, known)?, examine(b, known)?)),
-        Expr::Div(a, b) => Some(apply(Operator::Quotient, examine(a, known)?, examine(b, known)?)),
-        Expr::Rem(a, b) => Some(apply(Operator::Remainder, examine(a, known)?, examine(b, known)?)),
-        Expr::Pow(a, b) => Some(apply(Operator::Power, examine(a, known)?, examine(b, known)?)),
+        Expr::Add(a, b)
+        | Expr::Sub(a, b)
+        | Expr::Mul(a, b)
+        | Expr::Div(a, b)
+        | Expr::Rem(a, b)
+        | Expr::Pow(a, b) => {
+            let left = examine(a, known)?;
+            let right = examine(b, known)?;
+            Some(apply(operator_of(e), left, right))
+        }
     }
 }
 

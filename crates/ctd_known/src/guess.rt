@@ -81,55 +81,6 @@ fn join_names(a: NameFacts, b: NameFacts) -> NameFacts {
     }
 }
 
-/// What is known where either is known, of the names of the first.
-pub fn merge<'p>(
-    alloc: Global,
-    a: &[Known<'p>],
-    b: &[Known<'p>],
-) -> Result<Vec<Known<'p>>, AllocError> {
-    if is_unreachable(a) {
-        return b.to_vec(alloc);
-    }
-    if is_unreachable(b) {
-        return a.to_vec(alloc);
-    }
-    let mut all = Vec::new(alloc);
-    for entry in a {
-        let facts = match facts_of(b, entry.name) {
-            Some(other) => join_names(entry.facts, other),
-            None => entry.facts,
-        };
-        all.push(Known {
-            name: entry.name,
-            facts,
-        })?;
-    }
-    Ok(all)
-}
-
-/// No values.
-const NONE: Kinds = Kinds {
-    text: None,
-    number: None,
-};
-
-/// What is known where no run comes, of the names that are listed.
-pub fn nowhere<'p>(alloc: Global, known: &[Known<'p>]) -> Result<Vec<Known<'p>>, AllocError> {
-    let facts = NameFacts {
-        may_lack: false,
-        alone: NONE,
-        elements: NONE,
-    };
-    let mut all = Vec::new(alloc);
-    for entry in known {
-        all.push(Known {
-            name: entry.name,
-            facts,
-        })?;
-    }
-    Ok(all)
-}
-
 /// In which rounds ends that move get a slope, are given up, and a guess is of all values.
 const SLOPES: usize = 2;
 
@@ -279,4 +230,19 @@ pub fn widen<'p>(
         })?;
     }
     Ok(all)
+}
+
+/// What is known where either is known, of the names of the first.
+pub fn merge<'p>(
+    alloc: Global,
+    a: &[Known<'p>],
+    b: &[Known<'p>],
+) -> Result<Vec<Known<'p>>, AllocError> {
+    if is_unreachable(a) {
+        return b.to_vec(alloc);
+    }
+    if is_unreachable(b) {
+        return a.to_vec(alloc);
+    }
+    widen(alloc, a, b, 0)
 }

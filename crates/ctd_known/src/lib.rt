@@ -16,6 +16,6 @@ pub use condition::{Branches, inspect, join, split};
 pub use expression::{Found, examine, examine_indices, number_faults, text_faults};
 pub use facts::{Kinds, Known, Lengths, NameFacts, copy_of, is_unreachable, is_within};
 pub use faults::{Faults, both, no_faults};
-pub use guess::{nowhere, widen};
+pub use guess::widen;
 pub use steps::after_step;
 pub use stop::{Stop, pay};

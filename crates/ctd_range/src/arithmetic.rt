@@ -10,7 +10,7 @@ use crate::order::less;
 use crate::range::{Range, every_value};
 
 /// Where the result lies, and which faults the operation may have.
-#[derive(Clone, Copy, PartialEq, Eq, Debug)]
+#[derive(Clone, Copy)]
 pub struct Computed {
     pub range: Range,
     pub overflows: bool,
@@ -19,7 +19,7 @@ pub struct Computed {
 }
 
 /// An end of a range, and whether it would lie outside the range of values.
-#[derive(Clone, Copy, PartialEq, Eq, Debug)]
+#[derive(Clone, Copy)]
 struct End {
     at: i128,
     slope: u64,
@@ -82,7 +82,7 @@ pub fn sum(a: Range, b: Range) -> Computed
             rise: low.slope,
             fall: high.slope,
         },
-        overflows: low.passes || high.passes,
+        overflows: low.passes | high.passes,
         divides_by_zero: false,
         has_bad_exponent: false,
     }
@@ -101,14 +101,14 @@ pub fn difference(a: Range, b: Range) -> Computed
             rise: low.slope,
             fall: high.slope,
         },
-        overflows: low.passes || high.passes,
+        overflows: low.passes | high.passes,
         divides_by_zero: false,
         has_bad_exponent: false,
     }
 }
 
 /// The product of two ends, or the end of the range of values on its side.
-#[derive(Clone, Copy, PartialEq, Eq, Debug)]
+#[derive(Clone, Copy)]
 struct Corner {
     at: i128,
     passes: bool,
@@ -144,6 +144,13 @@ fn greatest(p: i128, q: i128, r: i128, s: i128) -> i128
     p.max(q).max(r.max(s))
 }
 
+/// Whether one of four corners passes.
+fn one_passes(p: Corner, q: Corner, r: Corner, s: Corner) -> bool
+    ensures { result ≡ p.passes || q.passes || r.passes || s.passes }
+{
+    p.passes | (q.passes | (r.passes | s.passes))
+}
+
 /// The range of products with these corners.
 fn between_corners(p: Corner, q: Corner, r: Corner, s: Corner) -> Computed
     ensures low { IsLeastOf p q r s result.range.low }
@@ -157,10 +164,9 @@ fn between_corners(p: Corner, q: Corner, r: Corner, s: Corner) -> Computed
         rise: 0,
         fall: 0,
     };
-    let overflows = p.passes || q.passes || r.passes || s.passes;
     Computed {
         range,
-        overflows,
+        overflows: one_passes(p, q, r, s),
         divides_by_zero: false,
         has_bad_exponent: false,
     }

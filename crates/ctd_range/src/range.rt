@@ -6,7 +6,7 @@ ghost use Rattle.ctd_range.specs.calls.Ranges.{IsIn};
 
 /// The integers from `low + rise * n` to `high - fall * n`, where `n` steps are left. So the ends move apart as steps are paid, and never lie
 /// outside `low..=high`.
-#[derive(Clone, Copy, PartialEq, Eq, Debug)]
+#[derive(Clone, Copy)]
 pub struct Range {
     pub low: i128,
     pub high: i128,

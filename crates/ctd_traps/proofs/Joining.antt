@@ -1,10 +1,12 @@
 -- Cases side by side, and what is done in each.
-use Rattle.std.proofs.Common.{◌≡◌, ◌<◌, ◌≤◌, ◌+◌, ◌++◌, ◌⊎◌, inl, inr, ℕ, zero, suc, Bool, true, false, List, [], ◌∷◌, length, get_or, drop, remove, Result, Ok, Err, ap, sym, subst, ◌∙◌, arith}
+use Rattle.std.proofs.Common.{if◌then◌else◌, not, ◌≡◌, ◌<◌, ◌≤◌, ◌+◌, ◌++◌, ◌⊎◌, inl, inr, ℕ, zero, suc, Bool, true, false, List, [], ◌∷◌, length, get_or, drop, remove, Result, Ok, Err, ap, sym, subst, ◌∙◌, arith}
 use Rattle.std.proofs.lemmas.List.{at_drop_more, drop_all}
 use Rattle.ctd_source.specs.TestData.{TestData}
+use Rattle.ctd_program.specs.Tree
 use Rattle.ctd_program.specs.Tree.{TestTree}
 use Rattle.ctd_store.specs.Store.{Bindings}
 use Rattle.ctd_outcome.specs.declared.reason.Fault.{Fault}
+use Rattle.ctd_value.specs.Fault.{◌>>=◌}
 use Rattle.ctd_value.specs.Truth.{truth}
 use Rattle.ctd_known.specs.declared.faults.Faults.{Faults}
 use Rattle.ctd_known.specs.declared.facts.Known.{Known}
@@ -12,7 +14,8 @@ use Rattle.ctd_known.specs.calls.Facts.{EachStands, TellsAll}
 use Rattle.ctd_known.specs.calls.Found.{Decides, SplitsBy}
 use Rattle.ctd_known.proofs.Applying.{AreFaults}
 use Rattle.ctd_traps.specs.declared.cases.Case.{Case}
-use Rattle.ctd_traps.specs.inner.Cases.{Divides, DividesTo, OneStands, TellsCase, TellsCases}
+use Rattle.ctd_traps.specs.declared.divide.Divided.{Divided}
+use Rattle.ctd_traps.specs.inner.Cases.{Divides, DividesTo, IsEither, OneStands, TellsCase, TellsCases, opposite}
 
 -- a case of a list
 pub case_at : (cs : List Case) (i : ℕ) (c : Case) (n : ℕ) (h : Bindings) → i < length cs → EachStands (get_or cs i c).known.items n h → OneStands cs n h
@@ -88,6 +91,37 @@ one_divides : (a b : List Known) (c d : List Case) (f g : Faults) (n : ℕ) (h :
 one_divides a b c d f g n h (Ok true) on_true on_false more decides = on_true n h decides
 one_divides a b c d f g n h (Ok false) on_true on_false more decides = on_false n h decides
 one_divides a b c d f g n h (Err why) on_true on_false more decides = more why decides
+
+either_divides : (first second all : Divided) (k : ℕ) (h : Bindings) (r next : Result Bool Fault) → IsEither first second all → DividesTo first.if_true.items first.if_false.items first.faults k h r →
+    (OneStands first.if_false.items k h → DividesTo second.if_true.items second.if_false.items second.faults k h next) → DividesTo all.if_true.items all.if_false.items all.faults k h (r >>= (λ b. if b then Ok true else next))
+either_divides first second all k h (Ok true) next is one other = is.left k h one
+either_divides first second all k h (Ok false) next is one other = divides_more second.if_true.items second.if_false.items all.if_true.items all.if_false.items second.faults all.faults k h next is.right is.neither is.by_second (other one)
+either_divides first second all k h (Err why) next is one other = is.by_first why one
+
+each_divides : (first second all : Divided) (k : ℕ) (h : Bindings) (r next : Result Bool Fault) → IsEither (opposite first) (opposite second) (opposite all) → DividesTo first.if_true.items first.if_false.items first.faults k h r →
+    (OneStands first.if_true.items k h → DividesTo second.if_true.items second.if_false.items second.faults k h next) → DividesTo all.if_true.items all.if_false.items all.faults k h (r >>= (λ b. if b then next else Ok false))
+each_divides first second all k h (Ok true) next is one other = divides_more second.if_true.items second.if_false.items all.if_true.items all.if_false.items second.faults all.faults k h next is.neither is.right is.by_second (other one)
+each_divides first second all k h (Ok false) next is one other = is.left k h one
+each_divides first second all k h (Err why) next is one other = is.by_first why one
+
+turned_divides : (on_true on_false : List Case) (f : Faults) (k : ℕ) (h : Bindings) (r : Result Bool Fault) → DividesTo on_true on_false f k h r → DividesTo on_false on_true f k h (r >>= (λ b. Ok (not b)))
+turned_divides on_true on_false f k h (Ok true) one = one
+turned_divides on_true on_false f k h (Ok false) one = one
+turned_divides on_true on_false f k h (Err why) one = one
+
+abbrev pub DividesBy : List Case → TestTree → Divided → Type 0
+DividesBy cases t s = Divides cases t s.if_true.items s.if_false.items s.faults
+
+pub or_divides : (cases slice : List Case) (a b : TestTree) (first second all : Divided) → slice ≡ first.if_false.items → DividesBy cases a first → DividesBy slice b second → IsEither first second all → DividesBy cases (Tree.or a b) all
+or_divides cases slice a b first second all lent left right is k h d p one =
+    either_divides first second all k h (truth a h d p) (truth b h d p) is (left k h d p one) (λ other. right k h d p (subst (λ l. OneStands l k h) (sym lent) other))
+
+pub and_divides : (cases slice : List Case) (a b : TestTree) (first second all : Divided) → slice ≡ first.if_true.items → DividesBy cases a first → DividesBy slice b second → IsEither (opposite first) (opposite second) (opposite all) → DividesBy cases (Tree.and a b) all
+and_divides cases slice a b first second all lent left right is k h d p one =
+    each_divides first second all k h (truth a h d p) (truth b h d p) is (left k h d p one) (λ other. right k h d p (subst (λ l. OneStands l k h) (sym lent) other))
+
+pub not_divides : (cases on_true on_false : List Case) (f : Faults) (t : TestTree) → Divides cases t on_true on_false f → Divides cases (Tree.not t) on_false on_true f
+not_divides cases on_true on_false f t divides k h d p one = turned_divides on_true on_false f k h (truth t h d p) (divides k h d p one)
 
 pub divide_step : (cs : List Case) (i : ℕ) (c : Case) (t : TestTree) (slice a b : List Known) (own old new : Faults) (on_true on_false wider_true wider_false : List Case) → slice ≡ c.known.items → i < length cs → c ≡ get_or cs i c → SplitsBy slice t a b own →
     TellsCases on_true wider_true → TellsCase a wider_true → TellsCases on_false wider_false → TellsCase b wider_false → AreFaults old new → AreFaults own new → RestOr (drop i cs) cs (DividesSo t on_true on_false old) → RestOr (drop (i + 1) cs) cs (DividesSo t wider_true wider_false new)

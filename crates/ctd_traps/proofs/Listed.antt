@@ -1,12 +1,14 @@
 -- Findings that are added to others.
-use Rattle.std.proofs.Common.{◌≡◌, ◌++◌, true, List, [], ◌∷◌, Contains, refl, ap, sym, subst, ◌∙◌, inl, inr}
+use borrow.Author.Count.{below_more}
+use Rattle.std.proofs.Common.{◌≡◌, ◌<◌, ◌+◌, ℕ, get_or, ◌++◌, true, List, [], ◌∷◌, Contains, refl, ap, sym, subst, ◌∙◌, inl, inr}
 use Rattle.std.proofs.lemmas.List.Elements.{Contains-append_left, Contains-append_right, Contains-push}
 use Rattle.ctd_token.specs.declared.text.Place.{Place}
 use Rattle.ctd_outcome.specs.declared.reason.Fault.TheVariants as faults
 use Rattle.ctd_known.specs.declared.faults.Faults.{Faults}
 use Rattle.ctd_traps.specs.declared.finding.Finding.{Finding}
-use Rattle.ctd_traps.specs.calls.Traps.{Trap, trap_of, traps_of}
-use Rattle.ctd_traps.specs.inner.Holds.{AreListed, ArePart}
+use Rattle.ctd_traps.specs.declared.finding.TrapKind.{TrapKind}
+use Rattle.ctd_traps.specs.calls.Traps.{Trap, fault_of_kind, trap_of, traps_of}
+use Rattle.ctd_traps.specs.inner.Holds.{AreListed, ArePart, IsOfKind}
 
 traps_both : (a b : List Finding) → traps_of (a ++ b) ≡ traps_of a ++ traps_of b
 traps_both [] b = refl
@@ -38,3 +40,9 @@ all_listed traps place f a b c d e g h i faults.StepLimit of_value is = absurd o
 all_listed traps place f a b c d e g h i faults.MatchTooLong of_value is = absurd of_value
 all_listed traps place f a b c d e g h i faults.DataTooLong of_value is = absurd of_value
 all_listed traps place f a b c d e g h i faults.Read of_value is = absurd of_value
+
+-- the faults of one more kind are listed
+pub next_listed : (kinds : List TrapKind) (i : ℕ) (d : TrapKind) (place : Place) (f : Faults) (old new : List Trap) → ArePart old new → ((k : ℕ) → k < i → IsOfKind f (get_or kinds k d) → Contains old (record { place = place; fault = fault_of_kind (get_or kinds k d) })) →
+    (IsOfKind f (get_or kinds i d) → Contains new (record { place = place; fault = fault_of_kind (get_or kinds i d) })) → (k : ℕ) → k < i + 1 → IsOfKind f (get_or kinds k d) → Contains new (record { place = place; fault = fault_of_kind (get_or kinds k d) })
+next_listed kinds i d place f old new more so_far here =
+    below_more (λ k. IsOfKind f (get_or kinds k d) → Contains new (record { place = place; fault = fault_of_kind (get_or kinds k d) })) i (λ k less is. more (record { place = place; fault = fault_of_kind (get_or kinds k d) }) (so_far k less is)) here

@@ -1,5 +1,5 @@
 -- The commands of the code, one by one.
-use Rattle.std.proofs.Common.{◌≡◌, ◌<◌, ◌≤◌, ◌+◌, ℕ, suc, List, map, length, get_or, drop, ap, sym, subst, ◌∙◌}
+use Rattle.std.proofs.Common.{◌⊎◌, inl, inr, ◌≡◌, ◌<◌, ◌≤◌, ◌+◌, ℕ, suc, List, map, length, get_or, drop, ap, sym, subst, ◌∙◌}
 use Rattle.std.specs.Global.{Box}
 use Rattle.std.proofs.lemmas.List.{at_drop_more, drop_all}
 use Rattle.ctd_token.specs.declared.text.Place.{Place}
@@ -36,7 +36,7 @@ use Rattle.ctd_traps.specs.inner.PostFixpoint.{among}
 use Rattle.ctd_program.specs.inner.View.{boxed_separator}
 use Rattle.ctd_traps.proofs.Fits.{end_fits, newline_fits, space_fits}
 use Rattle.ctd_traps.proofs.Acting.{clear_acts, same_acts}
-use Rattle.ctd_traps.proofs.Walking.{WalkLeads, assert_steps, listed_more, nothing_walked, part_refl, part_trans, simple_acts, walk_leads_on, weaker_keeps}
+use Rattle.ctd_traps.proofs.Walking.{WalkLeads, listed_more, nothing_walked, part_refl, part_trans, simple_acts, walk_leads_on, weaker_keeps}
 use Rattle.ctd_traps.proofs.Turning.{loop_command, tells_holds}
 
 -- simple commands, by the code
@@ -46,17 +46,22 @@ ActsAt pinned known after f place a = ActKeeps pinned known after f (action_tree
 as_action : (pinned known after : List Known) (f : Faults) (place : Place) (a b : Action) → a ≡ b → ActsAt pinned known after f place b → ActsAt pinned known after f place a
 as_action pinned known after f place a b is acts = subst (ActsAt pinned known after f place) (sym is) acts
 
-pub space_step : (pinned known after : List Known) (f : Faults) (a : Action) (place : Place) → a ≡ actions.Space → after ≡ known → ActsAt pinned known after f place a
+space_step : (pinned known after : List Known) (f : Faults) (a : Action) (place : Place) → a ≡ actions.Space → after ≡ known → ActsAt pinned known after f place a
 space_step pinned known after f a place is same = as_action pinned known after f place a actions.Space is (subst (λ k. ActsAt pinned known k f place actions.Space) (sym same)
     (simple_acts pinned known known f (Tree.space place) space is_space (same_acts pinned known f space (space_fits f))))
 
-pub newline_step : (pinned known after : List Known) (f : Faults) (a : Action) (place : Place) → a ≡ actions.Newline → after ≡ known → ActsAt pinned known after f place a
+newline_step : (pinned known after : List Known) (f : Faults) (a : Action) (place : Place) → a ≡ actions.Newline → after ≡ known → ActsAt pinned known after f place a
 newline_step pinned known after f a place is same = as_action pinned known after f place a actions.Newline is (subst (λ k. ActsAt pinned known k f place actions.Newline) (sym same)
     (simple_acts pinned known known f (Tree.newline place) newline is_newline (same_acts pinned known f newline (newline_fits f))))
 
-pub eof_step : (pinned known after : List Known) (f : Faults) (a : Action) (place : Place) → a ≡ actions.Eof → after ≡ known → ActsAt pinned known after f place a
+eof_step : (pinned known after : List Known) (f : Faults) (a : Action) (place : Place) → a ≡ actions.Eof → after ≡ known → ActsAt pinned known after f place a
 eof_step pinned known after f a place is same = as_action pinned known after f place a actions.Eof is (subst (λ k. ActsAt pinned known k f place actions.Eof) (sym same)
     (simple_acts pinned known known f (Tree.eof place) end is_eof (same_acts pinned known f end (end_fits f))))
+
+pub blank_step : (pinned known after : List Known) (f : Faults) (a : Action) (place : Place) → (a ≡ actions.Space) ⊎ ((a ≡ actions.Newline) ⊎ (a ≡ actions.Eof)) → after ≡ known → ActsAt pinned known after f place a
+blank_step pinned known after f a place (inl is) same = space_step pinned known after f a place is same
+blank_step pinned known after f a place (inr (inl is)) same = newline_step pinned known after f a place is same
+blank_step pinned known after f a place (inr (inr is)) same = eof_step pinned known after f a place is same
 
 pub int_step : (pinned known after : List Known) (f : Faults) (a : Action) (x : Box IntArguments) (y : IntArguments) (place : Place) → a ≡ actions.Int x → y ≡ x.value → Acts pinned known after f (int (expr_tree y.low) (expr_tree y.high) (target y.target)) → ActsAt pinned known after f place a
 int_step pinned known after f a x y place is held acts = as_action pinned known after f place a (actions.Int x) is
@@ -83,10 +88,6 @@ unset_step pinned known after f a x names place is held clears = as_action pinne
 -- commands of cases, by the code
 abbrev Steps : (pinned : List Known) (cases after : List Case) → List Finding → Place → Action → Type 0
 Steps pinned cases after found place a = StepKeeps pinned cases after found (action_tree a place)
-
-pub assert_step : (pinned : List Known) (cases on_true others : List Case) (f : Faults) (found : List Finding) (a : Action) (x : Box Test) (y : Test) (place : Place) → a ≡ actions.Assert x → y ≡ x.value → Divides cases (test_tree y) on_true others f → AreListed (traps_of found) place f → Steps pinned cases on_true found place a
-assert_step pinned cases on_true others f found a x y place is held divides listed =
-    subst (Steps pinned cases on_true found place) (sym is) (assert_steps pinned cases on_true others f place (test_tree x.value) found (subst (λ z. Divides cases (test_tree z) on_true others f) held divides) listed)
 
 -- a list of commands from its front
 pub command_first : (cs : List Command) (i : ℕ) (c : Command) → i < length cs → c ≡ get_or cs i c → command_trees (drop i cs) ≡ Tree.then (command_tree c) (command_trees (drop (i + 1) cs))

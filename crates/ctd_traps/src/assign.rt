@@ -19,6 +19,17 @@ pub(crate) struct Acted<'p> {
     pub(crate) faults: Faults,
 }
 
+/// What was known is known still, and there are no faults.
+pub(crate) fn unchanged<'p>(ground: Ground<'_, 'p>, known: &[Known<'p>]) -> Result<Acted<'p>, Stop>
+    ensures { IfOk result (λ a. a.after.items ≡ known.now) }
+{
+    let after = copy_of(ground.alloc, known)?;
+    Ok(Acted {
+        after,
+        faults: no_faults(),
+    })
+}
+
 /// What is known once a variable got one of some values, and the faults of its indices.
 pub(crate) fn assign<'p>(
     ground: Ground<'_, 'p>,
@@ -56,17 +67,8 @@ pub(crate) fn keep<'p>(
     ensures { IfOk result (λ a. KeepsValue ground.entry.pinned.now known.now (target variable.now) kinds a.after.items a.faults) }
 {
     match variable {
-        Some(variable) => {
-            let kept = assign(ground, variable, kinds, known)?;
-            Ok(kept)
-        }
-        None => {
-            let after = copy_of(ground.alloc, known)?;
-            Ok(Acted {
-                after,
-                faults: no_faults(),
-            })
-        }
+        Some(variable) => assign(ground, variable, kinds, known),
+        None => unchanged(ground, known),
     }
 }
 
@@ -94,12 +96,15 @@ pub(crate) fn clear_all<'p>(
     ground: Ground<'_, 'p>,
     names: &'p [Name],
     known: &[Known<'p>],
-) -> Result<Vec<Known<'p>>, Stop>
-    ensures { IfOk result (λ after. ClearsAll ground.entry.pinned.now known.now names.now after.items) }
+) -> Result<Acted<'p>, Stop>
+    ensures { IfOk result (λ a. ClearsAll ground.entry.pinned.now known.now names.now a.after.items) }
 {
     let mut after = copy_of(ground.alloc, known)?;
     for name in names {
         after = clear(ground, name.as_slice(), after.as_slice())?;
     }
-    Ok(after)
+    Ok(Acted {
+        after,
+        faults: no_faults(),
+    })
 }

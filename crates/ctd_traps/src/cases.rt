@@ -3,9 +3,7 @@
 ghost use Rattle.std.specs.Prelude.{◌≡◌, ◌<◌, true, length, IfOk, IfSome};
 ghost use Rattle.ctd_traps.specs.inner.Cases.{TellsCase, TellsCases, TellsJoined};
 
-use ctd_known::{
-    Ground, Known, Stop, copy_of, is_unreachable, is_within, join, nowhere, pay, widen,
-};
+use ctd_known::{Ground, Known, Stop, copy_of, is_unreachable, is_within, join, pay, widen};
 
 /// How many cases there are at most.
 const MOST: usize = 4;
@@ -50,7 +48,10 @@ pub(crate) fn join_cases<'p>(
 ) -> Result<Vec<Known<'p>>, Stop>
     ensures { IfOk result (λ all. TellsJoined cases.now all.items) }
 {
-    let mut all = nowhere(ground.alloc, ground.pinned)?;
+    let mut all = match cases.first() {
+        Some(case) => copy_of(ground.alloc, case.known.as_slice())?,
+        None => Vec::new(ground.alloc),
+    };
     for case in cases {
         all = join(ground.alloc, all.as_slice(), case.known.as_slice())?;
     }
@@ -74,8 +75,7 @@ fn limit_cases<'p>(ground: Ground<'_, 'p>, cases: Vec<Case<'p>>) -> Result<Vec<C
         return Ok(cases);
     }
     let all = join_cases(ground, cases.as_slice())?;
-    let one = with_pushed(Vec::new(ground.alloc), all)?;
-    Ok(one)
+    with_pushed(Vec::new(ground.alloc), all)
 }
 
 /// Cases and one more, which is joined with that in which the same names are sure to have a value. A case in which no run is is left out.
@@ -99,8 +99,7 @@ pub(crate) fn with_case<'p>(
         }
         None => {
             let more = with_pushed(cases, known)?;
-            let few = limit_cases(ground, more)?;
-            Ok(few)
+            limit_cases(ground, more)
         }
     }
 }

@@ -1,10 +1,8 @@
 //! Cases where a test is true, and cases where it is false.
 
-ghost use Rattle.std.specs.Prelude.{◌≡◌, IfOk};
+ghost use Rattle.std.specs.Prelude.{IfOk};
 ghost use Rattle.ctd_program.specs.calls.View.{test_tree};
-ghost use Rattle.ctd_outcome.specs.declared.reason.Fault.{Fault};
-ghost use Rattle.ctd_known.specs.calls.Found.{IsAmong};
-ghost use Rattle.ctd_traps.specs.inner.Cases.{Divides, TellsCases};
+ghost use Rattle.ctd_traps.specs.inner.Cases.{Divides, IsEither, opposite};
 
 use crate::cases::{Case, with_all, with_case};
 use ctd_known::{Faults, Ground, Stop, both, no_faults, split};
@@ -48,10 +46,7 @@ fn either<'p>(
     first: Divided<'p>,
     second: Divided<'p>,
 ) -> Result<Divided<'p>, Stop>
-    ensures left { IfOk result (λ s. TellsCases first.entry.if_true.items s.if_true.items) }
-    ensures right { IfOk result (λ s. TellsCases second.entry.if_true.items s.if_true.items) }
-    ensures neither { IfOk result (λ s. s.if_false.items ≡ second.entry.if_false.items) }
-    ensures faults { IfOk result (λ s. ((f : Fault) → IsAmong first.entry.faults f → IsAmong s.faults f) × ((f : Fault) → IsAmong second.entry.faults f → IsAmong s.faults f)) }
+    ensures { IfOk result (λ all. IsEither first.entry second.entry all) }
 {
     let if_true = with_all(ground, first.if_true, second.if_true.as_slice())?;
     Ok(Divided {
@@ -61,17 +56,20 @@ fn either<'p>(
     })
 }
 
-/// The opposite of a test.
-fn opposite<'p>(s: Divided<'p>) -> Divided<'p>
-    ensures if_true { result.if_true.items ≡ s.entry.if_false.items }
-    ensures if_false { result.if_false.items ≡ s.entry.if_true.items }
-    ensures faults { result.faults ≡ s.entry.faults }
+/// One test and another, which is asked where the first is true.
+fn each<'p>(
+    ground: Ground<'_, 'p>,
+    first: Divided<'p>,
+    second: Divided<'p>,
+) -> Result<Divided<'p>, Stop>
+    ensures { IfOk result (λ all. IsEither (opposite first.entry) (opposite second.entry) (opposite all)) }
 {
-    Divided {
-        if_true: s.if_false,
-        if_false: s.if_true,
-        faults: s.faults,
-    }
+    let if_false = with_all(ground, first.if_false, second.if_false.as_slice())?;
+    Ok(Divided {
+        if_true: second.if_true,
+        if_false,
+        faults: both(first.faults, second.faults),
+    })
 }
 
 /// The cases where a test is true, and those where it is false. A test that is asked in no case has no faults.
@@ -86,26 +84,25 @@ pub(crate) fn divide<'p>(
         Test::Or(a, b) => {
             let first = divide(ground, a, cases)?;
             let second = divide(ground, b, first.if_false.as_slice())?;
-            let all = either(ground, first, second)?;
-            Ok(all)
+            either(ground, first, second)
         }
         Test::And(a, b) => {
-            let left = divide(ground, a, cases)?;
-            let right = divide(ground, b, left.if_true.as_slice())?;
-            let none = either(ground, opposite(left), opposite(right))?;
-            Ok(opposite(none))
+            let first = divide(ground, a, cases)?;
+            let second = divide(ground, b, first.if_true.as_slice())?;
+            each(ground, first, second)
         }
         Test::Not(a) => {
             let turned = divide(ground, a, cases)?;
-            Ok(opposite(turned))
+            Ok(Divided {
+                if_true: turned.if_false,
+                if_false: turned.if_true,
+                faults: turned.faults,
+            })
         }
         Test::Compare(_, _, _)
         | Test::Match(_)
         | Test::IsEof
         | Test::Unique(_)
-        | Test::InArray(_, _) => {
-            let divided = divide_each(ground, t, cases)?;
-            Ok(divided)
-        }
+        | Test::InArray(_, _) => divide_each(ground, t, cases),
     }
 }

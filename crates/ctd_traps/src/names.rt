@@ -1,214 +1,226 @@
 //! The names of a program. No contract speaks of them: of a name that is not listed nothing is known.
 
-use ctd_program::{Action, Assignment, Command, Expr, Loop, LoopGuard, Names, Presets, Test, Var};
+use ctd_program::{
+    Action, Assignment, Choice, Command, Expr, IntArguments, Loop, LoopGuard, Presets, Test, Var,
+};
+use ctd_token::Name;
 use std::alloc::{AllocError, Global};
 
-/// Names, which may come more than once.
-pub(crate) type List<'p> = Vec<&'p [u8]>;
+/// Names, which may come more than once, and in how many commands and blocks of a program they stand. Once memory ran out for a name, they are not
+/// complete.
+#[derive(Drop)]
+struct Gathered<'p> {
+    names: Vec<&'p [u8]>,
+    is_complete: bool,
+    commands: usize,
+    blocks: usize,
+}
+
+/// Adds a name.
+fn add_name<'p>(name: &'p Name, gathered: &mut Gathered<'p>) {
+    if gathered.names.push(name.as_slice()).is_err() {
+        gathered.is_complete = false;
+    }
+}
+
+/// Adds names.
+fn add_names<'p>(names: &'p [Name], gathered: &mut Gathered<'p>) {
+    for name in names {
+        add_name(name, gathered);
+    }
+}
 
 /// Adds the names in an expression.
 #[cycle(expr_names)]
-fn add_expr<'p>(e: &'p Expr, names: &mut List<'p>) -> Result<(), AllocError> {
+fn add_expr<'p>(e: &'p Expr, gathered: &mut Gathered<'p>) {
     match e {
-        Expr::Name(name) => names.push(name.as_slice())?,
+        Expr::Name(name) => add_name(name, gathered),
         Expr::Numeral(_) | Expr::Text(_) => (),
         Expr::Element(element) => {
-            names.push(element.name.as_slice())?;
-            add_indices(element.indices.as_slice(), names)?;
+            add_name(&element.name, gathered);
+            add_indices(element.indices.as_slice(), gathered)
         }
-        Expr::Strlen(a) | Expr::Minus(a) => add_expr(a, names)?,
+        Expr::Strlen(a) | Expr::Minus(a) => add_expr(a, gathered),
         Expr::Add(a, b)
         | Expr::Sub(a, b)
         | Expr::Mul(a, b)
         | Expr::Div(a, b)
         | Expr::Rem(a, b)
         | Expr::Pow(a, b) => {
-            add_expr(a, names)?;
-            add_expr(b, names)?;
+            add_expr(a, gathered);
+            add_expr(b, gathered)
         }
     }
-    Ok(())
 }
 
 /// Adds the names in indices.
 #[cycle(expr_names)]
-fn add_indices<'p>(indices: &'p [Expr], names: &mut List<'p>) -> Result<(), AllocError> {
+fn add_indices<'p>(indices: &'p [Expr], gathered: &mut Gathered<'p>) {
     for index in indices {
-        add_expr(index, names)?;
+        add_expr(index, gathered);
     }
-    Ok(())
+}
+
+/// Adds the names in two expressions.
+fn add_both<'p>(a: &'p Expr, b: &'p Expr, gathered: &mut Gathered<'p>) {
+    add_expr(a, gathered);
+    add_expr(b, gathered)
 }
 
 /// Adds the names in a test.
-fn add_test<'p>(t: &'p Test, names: &mut List<'p>) -> Result<(), AllocError> {
+fn add_test<'p>(t: &'p Test, gathered: &mut Gathered<'p>) {
     match t {
         Test::Or(a, b) | Test::And(a, b) => {
-            add_test(a, names)?;
-            add_test(b, names)?;
+            add_test(a, gathered);
+            add_test(b, gathered)
         }
-        Test::Not(a) => add_test(a, names)?,
-        Test::Compare(_, a, b) => {
-            add_expr(a, names)?;
-            add_expr(b, names)?;
-        }
-        Test::Match(e) | Test::InArray(e, _) => add_expr(e, names)?,
+        Test::Not(a) => add_test(a, gathered),
+        Test::Compare(_, a, b) => add_both(a, b, gathered),
+        Test::Match(e) | Test::InArray(e, _) => add_expr(e, gathered),
         Test::IsEof | Test::Unique(_) => (),
     }
-    Ok(())
 }
 
 /// Adds the names in a variable.
-fn add_variable<'p>(variable: &'p Var, names: &mut List<'p>) -> Result<(), AllocError> {
-    names.push(variable.name.as_slice())?;
-    add_indices(variable.indices.as_slice(), names)
+fn add_variable<'p>(variable: &'p Var, gathered: &mut Gathered<'p>) {
+    add_name(&variable.name, gathered);
+    add_indices(variable.indices.as_slice(), gathered)
 }
 
 /// Adds the names in a target, if there is one.
-fn add_target<'p>(variable: &'p Option<Var>, names: &mut List<'p>) -> Result<(), AllocError> {
+fn add_target<'p>(variable: &'p Option<Var>, gathered: &mut Gathered<'p>) {
     match variable {
-        Some(variable) => add_variable(variable, names),
-        None => Ok(()),
+        Some(variable) => add_variable(variable, gathered),
+        None => (),
     }
+}
+
+/// Adds the names in what INT takes.
+fn add_int<'p>(int: &'p IntArguments, gathered: &mut Gathered<'p>) {
+    add_both(&int.low, &int.high, gathered);
+    add_target(&int.target, gathered)
 }
 
 /// Adds the names in assignments.
-fn add_assignments<'p>(
-    assignments: &'p [Assignment],
-    names: &mut List<'p>,
-) -> Result<(), AllocError> {
+fn add_assignments<'p>(assignments: &'p [Assignment], gathered: &mut Gathered<'p>) {
     for a in assignments {
-        add_variable(&a.target, names)?;
-        add_expr(&a.value, names)?;
+        add_variable(&a.target, gathered);
+        add_expr(&a.value, gathered);
     }
-    Ok(())
-}
-
-/// Adds names of a list.
-fn add_list<'p>(list: &'p Names, names: &mut List<'p>) -> Result<(), AllocError> {
-    for name in list.as_slice() {
-        names.push(name.as_slice())?;
-    }
-    Ok(())
 }
 
 /// Adds the names of how long a loop goes on.
-fn add_guard<'p>(guard: &'p LoopGuard, names: &mut List<'p>) -> Result<(), AllocError> {
+fn add_guard<'p>(guard: &'p LoopGuard, gathered: &mut Gathered<'p>) {
     match guard {
-        LoopGuard::Times(e) => add_expr(e, names),
-        LoopGuard::While(t) => add_test(t, names),
+        LoopGuard::Times(e) => add_expr(e, gathered),
+        LoopGuard::While(t) => add_test(t, gathered),
     }
 }
 
 /// Adds the name of a counter, if there is one.
-fn add_counter<'p>(counter: &'p Option<Box<Var>>, names: &mut List<'p>) -> Result<(), AllocError> {
+fn add_counter<'p>(counter: &'p Option<Box<Var>>, gathered: &mut Gathered<'p>) {
     match counter {
-        Some(variable) => add_variable(variable, names),
-        None => Ok(()),
+        Some(variable) => add_variable(variable, gathered),
+        None => (),
     }
+}
+
+/// Counts one more.
+fn count(number: &mut usize) {
+    *number = number.saturating_add(1);
 }
 
 /// Adds the names in commands.
 #[cycle(command_names)]
-fn add_commands<'p>(commands: &'p [Command], names: &mut List<'p>) -> Result<(), AllocError> {
+fn add_commands<'p>(commands: &'p [Command], gathered: &mut Gathered<'p>) {
     for command in commands {
-        add_command(command, names)?;
+        count(&mut gathered.commands);
+        add_command(command, gathered);
     }
-    Ok(())
 }
 
 /// Adds the names in a command.
 #[cycle(command_names)]
-fn add_command<'p>(command: &'p Command, names: &mut List<'p>) -> Result<(), AllocError> {
+fn add_command<'p>(command: &'p Command, gathered: &mut Gathered<'p>) {
     match &command.action {
         Action::Space | Action::Newline | Action::Eof => (),
-        Action::Int(int) => {
-            add_expr(&int.low, names)?;
-            add_expr(&int.high, names)?;
-            add_target(&int.target, names)?;
-        }
-        Action::String(e) => add_expr(e, names)?,
-        Action::Regex(regex) => add_target(&regex.target, names)?,
-        Action::Assert(t) => add_test(t, names)?,
-        Action::Set(assignments) => add_assignments(assignments.as_slice(), names)?,
-        Action::Unset(list) => add_list(list, names)?,
-        Action::Loop(repeated) => add_loop(repeated, names)?,
-        Action::If(choice) => {
-            add_test(&choice.condition, names)?;
-            add_commands(choice.then_do.as_slice(), names)?;
-            add_commands(choice.else_do.as_slice(), names)?;
-        }
+        Action::Int(int) => add_int(int, gathered),
+        Action::String(e) => add_expr(e, gathered),
+        Action::Regex(regex) => add_target(&regex.target, gathered),
+        Action::Assert(t) => add_test(t, gathered),
+        Action::Set(assignments) => add_assignments(assignments.as_slice(), gathered),
+        Action::Unset(names) => add_names(names.as_slice(), gathered),
+        Action::Loop(repeated) => add_loop(repeated, gathered),
+        Action::If(choice) => add_choice(choice, gathered),
     }
-    Ok(())
+}
+
+/// Adds the names in IF.
+#[cycle(command_names)]
+fn add_choice<'p>(choice: &'p Choice, gathered: &mut Gathered<'p>) {
+    count(&mut gathered.blocks);
+    add_test(&choice.condition, gathered);
+    add_commands(choice.then_do.as_slice(), gathered);
+    add_commands(choice.else_do.as_slice(), gathered)
 }
 
 /// Adds the names in a loop.
 #[cycle(command_names)]
-fn add_loop<'p>(repeated: &'p Loop, names: &mut List<'p>) -> Result<(), AllocError> {
+fn add_loop<'p>(repeated: &'p Loop, gathered: &mut Gathered<'p>) {
     let Loop {
         guard,
         counter,
         between,
         body,
     } = repeated;
-    add_guard(guard, names)?;
-    add_counter(counter, names)?;
+    count(&mut gathered.blocks);
+    add_guard(guard, gathered);
+    add_counter(counter, gathered);
     match between {
-        Some(command) => add_command(command, names)?,
+        Some(command) => add_command(command, gathered),
         None => (),
     }
-    add_commands(body.as_slice(), names)
-}
-
-/// What one pass over commands costs for each name. Behind a block what is known of each name is compared with what is known of all: it costs `joined`.
-#[cycle(command_cost)]
-fn cost_of_commands(commands: &[Command], joined: usize) -> usize {
-    let mut cost: usize = 0;
-    for command in commands {
-        cost = cost.saturating_add(cost_of_command(command, joined));
-    }
-    cost
-}
-
-/// What one pass over a command costs for each name.
-#[cycle(command_cost)]
-fn cost_of_command(command: &Command, joined: usize) -> usize {
-    match &command.action {
-        Action::Loop(repeated) => {
-            joined.saturating_add(cost_of_commands(repeated.body.as_slice(), joined))
-        }
-        Action::If(choice) => {
-            let yes = cost_of_commands(choice.then_do.as_slice(), joined);
-            let no = cost_of_commands(choice.else_do.as_slice(), joined);
-            joined.saturating_add(yes.saturating_add(no))
-        }
-        _ => 1,
-    }
+    add_commands(body.as_slice(), gathered)
 }
 
 /// The names of a program and of presets, each once, and what one pass over the program costs.
 #[derive(Drop)]
 pub(crate) struct Mentioned<'p> {
-    pub(crate) names: List<'p>,
+    pub(crate) names: Vec<&'p [u8]>,
     pub(crate) cost: u64,
 }
 
 /// The names of a program and of presets, and the cost of a pass: that of a name for each command, for each place where one stands, and for each name
-/// behind each block.
+/// behind each block, where what is known of each name is compared with what is known of all.
 pub(crate) fn mentioned_in<'p>(
     alloc: Global,
     commands: &'p [Command],
     presets: &'p Presets,
 ) -> Result<Mentioned<'p>, AllocError> {
-    let mut names = Vec::new(alloc);
-    add_commands(commands, &mut names)?;
+    let mut gathered = Gathered {
+        names: Vec::new(alloc),
+        is_complete: true,
+        commands: 0,
+        blocks: 0,
+    };
+    add_commands(commands, &mut gathered);
     for preset in presets.pins() {
-        names.push(preset.name.as_slice())?;
+        add_name(&preset.name, &mut gathered);
     }
+    if !gathered.is_complete {
+        return Err(AllocError);
+    }
+    let Gathered {
+        mut names,
+        commands,
+        blocks,
+        ..
+    } = gathered;
     let places = names.len();
     names.sort()?;
     names.dedup();
-    let joined = names.len().saturating_add(1);
-    let for_each = places.saturating_add(cost_of_commands(commands, joined)) as u64;
+    let behind = blocks.saturating_mul(names.len());
+    let for_each = places.saturating_add(commands.saturating_add(behind)) as u64;
     let cost = for_each.saturating_mul(names.len() as u64);
     Ok(Mentioned { names, cost })
 }

@@ -90,6 +90,5 @@ pub(crate) fn take_match<'p>(
 ) -> Result<Acted<'p>, Stop>
     ensures { IfOk result (λ a. Acts ground.entry.pinned.now known.now a.after.items a.faults (regex arguments.now.literal.bytes (target arguments.now.target))) }
 {
-    let kept = keep(ground, &arguments.target, in_window(), known)?;
-    Ok(kept)
+    keep(ground, &arguments.target, in_window(), known)
 }

@@ -10,12 +10,11 @@ ghost use Rattle.ctd_traps.specs.inner.Walk.{Counts, CountsEach, CountsLast, Cou
 ghost use Rattle.ctd_program.specs.declared.tree.Loop.{out-Loop};
 
 use crate::act::ActedCases;
-use crate::assign::{Acted, assign};
+use crate::assign::{Acted, assign, unchanged};
 use crate::cases::{Case, join_cases, with_case};
 use crate::divide::divide;
 use ctd_known::{
-    Faults, Ground, Kinds, Known, Stop, after_step, both, copy_of, inspect, no_faults,
-    number_faults,
+    Faults, Ground, Kinds, Known, Stop, after_step, both, inspect, no_faults, number_faults,
 };
 use ctd_program::{Expr, Loop, LoopGuard, Var};
 use ctd_range::{Range, less};
@@ -87,10 +86,7 @@ fn start(guard: &LoopGuard, known: &[Known]) -> Result<Turns, Stop>
     ensures { IfOk result (λ t. Starts known.now (guard_tree guard.now) t) }
 {
     match guard {
-        LoopGuard::Times(e) => {
-            let turns = count_turns(e, known)?;
-            Ok(turns)
-        }
+        LoopGuard::Times(e) => count_turns(e, known),
         LoopGuard::While(_) => Ok(Turns {
             faults: no_faults(),
             least: 0,
@@ -146,17 +142,8 @@ fn count_turn<'p>(
         number: Some(turn),
     };
     match counter {
-        Some(variable) => {
-            let counted = assign(ground, variable, kinds, known)?;
-            Ok(counted)
-        }
-        None => {
-            let after = copy_of(ground.alloc, known)?;
-            Ok(Acted {
-                after,
-                faults: no_faults(),
-            })
-        }
+        Some(variable) => assign(ground, variable, kinds, known),
+        None => unchanged(ground, known),
     }
 }
 
@@ -203,8 +190,7 @@ fn count_last<'p>(
             faults: no_faults(),
         });
     }
-    let counted = count_each(counter, turn, ground, cases)?;
-    Ok(counted)
+    count_each(counter, turn, ground, cases)
 }
 
 /// The cases where a turn of a loop begins whose number is of a range, and those where the loop is over.

@@ -1,19 +1,21 @@
 //! A walk over the commands of a program.
 
-ghost use Rattle.std.specs.Prelude.{OnOk, IfOk};
-ghost use Rattle.ctd_program.specs.calls.View.{command_list, command_tree, command_trees};
+ghost use Rattle.std.specs.Prelude.{◌≡◌, true, OnOk, IfOk};
+ghost use Rattle.ctd_program.specs.Tree;
+ghost use Rattle.ctd_program.specs.calls.View.{command_list, command_tree, command_trees, test_tree};
 ghost use Rattle.ctd_program.specs.inner.View.{boxed_separator};
 ghost use Rattle.ctd_traps.specs.calls.Traps.{traps_of};
-ghost use Rattle.ctd_traps.specs.inner.Holds.{ArePart};
-ghost use Rattle.ctd_traps.specs.inner.Walk.{RoundKeeps, SeparatorKeeps, StepKeeps, WalkKeeps, choice_at, loop_at};
+ghost use Rattle.ctd_traps.specs.inner.Cases.{Divides, TellsCases};
+ghost use Rattle.ctd_traps.specs.inner.Holds.{AreListed, ArePart};
+ghost use Rattle.ctd_traps.specs.inner.Walk.{AreBranches, BeginsLater, Concludes, RoundKeeps, SeparatorKeeps, StepKeeps, WalkKeeps, choice_at, loop_at};
 
 use crate::act::act_each;
 use crate::cases::{Case, are_within, pay_each, widen_cases, with_all};
-use crate::divide::divide;
-use crate::finding::{Finding, append, report};
-use crate::turn::{Begun, begin, enter};
+use crate::divide::{Divided, divide};
+use crate::finding::{Finding, report};
+use crate::turn::{Begun, Entered, begin, enter};
 use ctd_known::{Ground, Stop, both};
-use ctd_program::{Action, Choice, Command, Commands, Loop};
+use ctd_program::{Action, Choice, Command, Commands, Loop, Test};
 use ctd_range::Range;
 use ctd_token::Place;
 
@@ -27,6 +29,114 @@ const LATER: Range = Range {
     rise: 0,
     fall: 1,
 };
+
+/// The cases behind a command in which no others stand.
+fn take<'p>(
+    command: &'p Command,
+    ground: Ground<'_, 'p>,
+    cases: &[Case<'p>],
+    findings: &mut Vec<Finding>,
+) -> Result<Vec<Case<'p>>, Stop>
+    ensures more { OnOk result (ArePart (traps_of findings.old.items) (traps_of findings.new.items)) }
+    ensures keeps { IfOk result (λ after. StepKeeps ground.entry.pinned.now cases.now after.items findings.new.items (command_tree command.now)) }
+{
+    let acted = act_each(command, ground, cases)?;
+    report(command.place, acted.faults, findings)?;
+    Ok(acted.after)
+}
+
+/// The cases where a test of a command is true, and those where it is false. The faults of the test are reported.
+fn ask<'p>(
+    t: &'p Test,
+    place: Place,
+    ground: Ground<'_, 'p>,
+    cases: &[Case<'p>],
+    findings: &mut Vec<Finding>,
+) -> Result<Divided<'p>, Stop>
+    ensures more { OnOk result (ArePart (traps_of findings.old.items) (traps_of findings.new.items)) }
+    ensures divides { IfOk result (λ s. Divides cases.now (test_tree t.now) s.if_true.items s.if_false.items s.faults) }
+    ensures listed { IfOk result (λ s. AreListed (traps_of findings.new.items) place s.faults) }
+{
+    let divided = divide(ground, t, cases)?;
+    report(place, divided.faults, findings)?;
+    Ok(divided)
+}
+
+/// The cases behind ASSERT.
+fn assert<'p>(
+    t: &'p Test,
+    place: Place,
+    ground: Ground<'_, 'p>,
+    cases: &[Case<'p>],
+    findings: &mut Vec<Finding>,
+) -> Result<Vec<Case<'p>>, Stop>
+    ensures more { OnOk result (ArePart (traps_of findings.old.items) (traps_of findings.new.items)) }
+    ensures keeps { IfOk result (λ after. StepKeeps ground.entry.pinned.now cases.now after.items findings.new.items (Tree.assert place (test_tree t.now))) }
+{
+    let asked = ask(t, place, ground, cases, findings)?;
+    Ok(asked.if_true)
+}
+
+/// The cases behind IF, by those behind each of its branches.
+fn join_branches<'p>(
+    ground: Ground<'_, 'p>,
+    yes: Vec<Case<'p>>,
+    no: Vec<Case<'p>>,
+) -> Result<Vec<Case<'p>>, Stop>
+    ensures { IfOk result (λ after. AreBranches yes.entry.items no.entry.items after.items) }
+{
+    let after = with_all(ground, yes, no.as_slice())?;
+    Ok(after)
+}
+
+/// How a turn of a loop but the first begins, by a guess of the cases before it. The faults of the loop are reported.
+fn begin_later<'p>(
+    repeated: &'p Loop,
+    place: Place,
+    ground: Ground<'_, 'p>,
+    begun: &Begun<'p>,
+    guess: &[Case<'p>],
+    findings: &mut Vec<Finding>,
+) -> Result<Entered<'p>, Stop>
+    ensures more { OnOk result (ArePart (traps_of findings.old.items) (traps_of findings.new.items)) }
+    ensures begins { IfOk result (λ e. BeginsLater ground.entry.pinned.now guess.now begun.now.turns begun.now.first.faults e.inside.items e.outside.items e.faults findings.new.items place repeated.now) }
+{
+    let Loop { guard, counter, .. } = repeated;
+    let later = enter(guard, counter, LATER, begun.turns, ground, guess)?;
+    let faults = both(begun.turns.faults, both(begun.first.faults, later.faults));
+    report(place, faults, findings)?;
+    Ok(later)
+}
+
+/// The cases behind a loop of those before each turn but the first, and the cases at the end of a turn.
+#[derive(Drop)]
+struct Round<'p> {
+    outside: Vec<Case<'p>>,
+    end: Vec<Case<'p>>,
+}
+
+/// Whether a guess of the cases before each turn but the first holds: whether the cases at the end of a turn follow from it.
+fn holds(guess: &[Case], passed: &Round) -> bool
+    ensures { result ≡ true → TellsCases passed.now.end.items guess.now }
+{
+    are_within(passed.end.as_slice(), guess)
+}
+
+/// The cases behind a loop: those behind its first turn and those behind later ones. What was found in it is added to the findings.
+fn conclude<'p>(
+    ground: Ground<'_, 'p>,
+    first: &[Case<'p>],
+    later: Vec<Case<'p>>,
+    found: Vec<Finding>,
+    findings: &mut Vec<Finding>,
+) -> Result<Vec<Case<'p>>, Stop>
+    ensures more { OnOk result (ArePart (traps_of findings.old.items) (traps_of findings.new.items)) }
+    ensures concludes { IfOk result (λ after. Concludes first.now later.entry.items found.items findings.new.items after.items) }
+{
+    findings.extend_from_slice(found.as_slice())?;
+    let after = with_all(ground, later, first)?;
+    Ok(after)
+}
 
 /// The cases behind some commands.
 #[cycle(walk)]
@@ -59,8 +169,7 @@ fn walk_block<'p>(
     ensures more { OnOk result (ArePart (traps_of findings.old.items) (traps_of findings.new.items)) }
     ensures keeps { IfOk result (λ after. WalkKeeps ground.entry.pinned.now cases.entry.items after.items findings.new.items (command_list block.now)) }
 {
-    let after = walk(block.as_slice(), ground, cases, findings, budget)?;
-    Ok(after)
+    walk(block.as_slice(), ground, cases, findings, budget)
 }
 
 /// The cases behind a command.
@@ -84,24 +193,10 @@ fn step<'p>(
         | Action::String(_)
         | Action::Regex(_)
         | Action::Set(_)
-        | Action::Unset(_) => {
-            let acted = act_each(command, ground, cases)?;
-            report(place, acted.faults, findings)?;
-            Ok(acted.after)
-        }
-        Action::Assert(t) => {
-            let asserted = divide(ground, t, cases)?;
-            report(place, asserted.faults, findings)?;
-            Ok(asserted.if_true)
-        }
-        Action::Loop(repeated) => {
-            let over = repeat(repeated, place, ground, cases, findings, budget)?;
-            Ok(over)
-        }
-        Action::If(choice) => {
-            let chosen = choose(choice, place, ground, cases, findings, budget)?;
-            Ok(chosen)
-        }
+        | Action::Unset(_) => take(command, ground, cases, findings),
+        Action::Assert(t) => assert(t, place, ground, cases, findings),
+        Action::Loop(repeated) => repeat(repeated, place, ground, cases, findings, budget),
+        Action::If(choice) => choose(choice, place, ground, cases, findings, budget),
     }
 }
 
@@ -123,12 +218,10 @@ fn choose<'p>(
         then_do,
         else_do,
     } = choice;
-    let divided = divide(ground, condition, cases)?;
-    report(place, divided.faults, findings)?;
-    let yes = walk_block(then_do, ground, divided.if_true, findings, budget)?;
-    let no = walk_block(else_do, ground, divided.if_false, findings, budget)?;
-    let after = with_all(ground, yes, no.as_slice())?;
-    Ok(after)
+    let asked = ask(condition, place, ground, cases, findings)?;
+    let yes = walk_block(then_do, ground, asked.if_true, findings, budget)?;
+    let no = walk_block(else_do, ground, asked.if_false, findings, budget)?;
+    join_branches(ground, yes, no)
 }
 
 /// The cases behind the separator of a loop, if there is one.
@@ -144,19 +237,9 @@ fn separate<'p>(
     ensures keeps { IfOk result (λ after. SeparatorKeeps ground.entry.pinned.now cases.entry.items after.items findings.new.items (boxed_separator between.now)) }
 {
     match between {
-        Some(command) => {
-            let separated = step(command, ground, cases.as_slice(), findings, budget)?;
-            Ok(separated)
-        }
+        Some(command) => step(command, ground, cases.as_slice(), findings, budget),
         None => Ok(cases),
     }
-}
-
-/// The cases behind a loop of those before each turn but the first, and the cases at the end of a turn.
-#[derive(Drop)]
-struct Round<'p> {
-    outside: Vec<Case<'p>>,
-    end: Vec<Case<'p>>,
 }
 
 /// One pass over a loop, by a guess of the cases before each turn but the first.
@@ -173,16 +256,9 @@ fn go_round<'p>(
     ensures more { OnOk result (ArePart (traps_of findings.old.items) (traps_of findings.new.items)) }
     ensures keeps { IfOk result (λ r. RoundKeeps ground.entry.pinned.now guess.now begun.now.turns begun.now.first.inside.items begun.now.first.faults r.outside.items r.end.items findings.new.items place repeated.now) }
 {
-    let Loop {
-        guard,
-        counter,
-        between,
-        body,
-    } = repeated;
+    let Loop { between, body, .. } = repeated;
     pay_each(budget, guess)?;
-    let later = enter(guard, counter, LATER, begun.turns, ground, guess)?;
-    let faults = both(begun.turns.faults, both(begun.first.faults, later.faults));
-    report(place, faults, findings)?;
+    let later = begin_later(repeated, place, ground, begun, guess, findings)?;
     let separated = separate(between, ground, later.inside, findings, budget)?;
     let before = with_all(ground, separated, begun.first.inside.as_slice())?;
     let end = walk_block(body, ground, before, findings, budget)?;
@@ -218,10 +294,14 @@ fn repeat<'p>(
             &mut found,
             budget,
         )?;
-        if are_within(passed.end.as_slice(), guess.as_slice()) {
-            let after = with_all(ground, passed.outside, begun.first.outside.as_slice())?;
-            append(findings, found)?;
-            return Ok(after);
+        if holds(guess.as_slice(), &passed) {
+            return conclude(
+                ground,
+                begun.first.outside.as_slice(),
+                passed.outside,
+                found,
+                findings,
+            );
         }
         guess = widen_cases(ground, guess.as_slice(), passed.end.as_slice(), round)?;
     }

@@ -1,5 +1,7 @@
 -- What operations give of numbers of two ranges.
 use Rattle.std.specs.Prelude.{◌≡◌, ℕ, true, Bool, List, Option, Some, ℤ, ◌+ℤ◌, ◌-ℤ◌, ◌*ℤ◌, pos, neg_ℤ, length, Result, Ok, Err}
+use Rattle.ctd_program.specs.declared.tree.Expr.{Expr}
+use Rattle.ctd_program.specs.declared.tree.Expr.TheVariants.{Numeral, Text, Name, Element', Strlen', Minus', Add', Sub', Mul', Div', Rem', Pow'}
 use Rattle.ctd_store.specs.declared.value.Value.{Value}
 use Rattle.ctd_store.specs.declared.value.Value.TheVariants as values
 use Rattle.ctd_outcome.specs.declared.reason.Fault.{Fault}
@@ -29,6 +31,21 @@ operate operators.Product x y = in_range (x *ℤ y)
 operate operators.Quotient x y = quotient x y
 operate operators.Remainder x y = remainder x y
 operate operators.Power x y = power x y
+
+-- the operator between the operands of an expression, if it has two
+abbrev pub HasOperator : Operator → Expr → Type 0
+HasOperator o (Add' p a q b) = o ≡ operators.Sum
+HasOperator o (Sub' p a q b) = o ≡ operators.Difference
+HasOperator o (Mul' p a q b) = o ≡ operators.Product
+HasOperator o (Div' p a q b) = o ≡ operators.Quotient
+HasOperator o (Rem' p a q b) = o ≡ operators.Remainder
+HasOperator o (Pow' p a q b) = o ≡ operators.Power
+HasOperator o (Numeral n) = Unit {0}
+HasOperator o (Text t) = Unit {0}
+HasOperator o (Name name) = Unit {0}
+HasOperator o (Element' p name shape row) = Unit {0}
+HasOperator o (Strlen' p e) = Unit {0}
+HasOperator o (Minus' p e) = Unit {0}
 
 -- what it gives of numbers of two ranges
 abbrev pub IsWithinRanges : Operator → Range → Range → Computed → Type 0

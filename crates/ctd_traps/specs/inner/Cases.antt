@@ -10,6 +10,7 @@ use Rattle.ctd_known.specs.declared.facts.Known.{Known}
 use Rattle.ctd_known.specs.calls.Facts.{EachStands}
 use Rattle.ctd_known.specs.calls.Found.{IsAmong}
 use Rattle.ctd_traps.specs.declared.cases.Case.{Case}
+use Rattle.ctd_traps.specs.declared.divide.Divided.{Divided}
 
 -- all that is known in one of the cases is so of some variables, where so many steps are left
 abbrev pub OneStands : List Case → ℕ → Bindings → Type 0
@@ -37,3 +38,15 @@ DividesTo if_true if_false f k h (Err fault) = IsAmong f fault
 -- of a test by the cases in which it is asked
 abbrev pub Divides : List Case → TestTree → (if_true if_false : List Case) → Faults → Type 0
 Divides cases t if_true if_false f = (k : ℕ) (h : Bindings) (d : TestData) (p : ℕ) → OneStands cases k h → DividesTo if_true if_false f k h (truth t h d p)
+
+-- the opposite of a test
+abbrev pub opposite : Divided → Divided
+opposite s = record { if_true = s.if_false; if_false = s.if_true; faults = s.faults }
+
+-- one test or another, of which the other is asked where the first is false
+pub record IsEither (first second all : Divided) : Type 0 where
+  pub left : TellsCases first.if_true.items all.if_true.items
+  pub right : TellsCases second.if_true.items all.if_true.items
+  pub neither : TellsCases second.if_false.items all.if_false.items
+  pub by_first : (f : Fault) → IsAmong first.faults f → IsAmong all.faults f
+  pub by_second : (f : Fault) → IsAmong second.faults f → IsAmong all.faults f

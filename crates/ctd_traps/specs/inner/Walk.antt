@@ -144,6 +144,24 @@ first_turn = record { low = pos 0; high = pos 0; rise = 0; fall = 0 }
 abbrev pub later_turn : Range
 later_turn = record { low = pos 1; high = pos (2 ^ 64 - 1); rise = 0; fall = 1 }
 
+-- how a later turn begins by a guess, and all faults of the loop are listed
+pub record BeginsLater (pinned : List Known) (guess : List Case) (turns : Turns) (first : Faults) (inside outside : List Case) (later : Faults) (found : List Finding) (place : Place) (l : Loop) : Type 0 where
+  pub enters : Enters pinned guess (guard_tree (out-Loop l).guard) turns (boxed_target (out-Loop l).counter) later_turn inside outside later
+  pub start_listed : AreListed (traps_of found) place turns.faults
+  pub first_listed : AreListed (traps_of found) place first
+  pub later_listed : AreListed (traps_of found) place later
+
+-- the cases behind IF, and those behind each of its branches
+pub record AreBranches (yes no after : List Case) : Type 0 where
+  pub yes_after : TellsCases yes after
+  pub no_after : TellsCases no after
+
+-- the cases behind a loop, with all that was found in it
+pub record Concludes (first later : List Case) (found all : List Finding) (after : List Case) : Type 0 where
+  pub first_after : TellsCases first after
+  pub later_after : TellsCases later after
+  pub listed : ArePart (traps_of found) (traps_of all)
+
 -- a later turn leads from a guess to the cases behind the loop, and each turn to the cases at its end
 pub record RoundKeeps (pinned : List Known) (guess : List Case) (turns : Turns) (first_inside : List Case) (first : Faults) (outside end : List Case) (found : List Finding) (place : Place) (l : Loop) : Type 0 where
   pub later_inside : List Case

@@ -1,10 +1,10 @@
-use Rattle.std.proofs.Common.{rules, ◌+◌, drop, sym, subst}
+use Rattle.std.proofs.Common.{rules, ◌+◌, drop, refl, sym, subst}
 use Rattle.std.specs.Int.RustNames.{FitsSigned}
 use Rattle.std.specs.Int.{w128}
 use Rattle.std.proofs.lemmas.Int.{to_z-of_z}
 use Rattle.ctd_program.specs.calls.View.{expr_list, expr_tree}
-use Rattle.ctd_known.specs.calls.Found.{AllFailBy, Gives}
-use Rattle.ctd_known.proofs.Applying.{Leads, element_gives, element_is, expr_first, expr_last, leads_on, none_fail}
+use Rattle.ctd_known.specs.calls.Found.{AllFailBy}
+use Rattle.ctd_known.proofs.Applying.{Leads, element_found, element_is, expr_first, expr_last, leads_on, none_fail, operands_give}
 use Rattle.ctd_known.proofs.expression.+examine.Goals as goal
 
 pub examine-returns-in-Numeral : goal.examine-returns-in-Numeral
@@ -15,16 +15,24 @@ examine-returns-in-Numeral t c = record {
       rw c.in-Numeral.is made;
 }
 
-pub examine-returns-in_ok-facts-in-Element : goal.examine-returns-in_ok-facts-in-Element
-examine-returns-in_ok-facts-in-Element t c =
-    let name = c.as_slice-in-Element-2.result.now in
+pub examine-returns-in-Name : goal.examine-returns-in-Name
+examine-returns-in-Name t c = record { gives = rw c.in-Name.is c.examine_name.ensures }
+
+pub examine-returns-in_ok-indices-in-Element : goal.examine-returns-in_ok-indices-in-Element
+examine-returns-in_ok-indices-in-Element t c =
+    let name = c.deref-in-Element.result.now.name in
     let es = c.as_slice-in-Element.result.now in
     record {
-      gives = subst (λ u. Gives c.args.known.now u c.of_element.result)
-          (sym (element_is c.args.e.now c.in-Element.element c.deref.result.now c.deref-in-Element.result.now name es c.in-Element.is c.deref.ensures c.as_slice-in-Element.ensures c.deref-in-Element.ensures c.as_slice-in-Element-2.ensures.whole))
-          (element_gives c.args.known.now name es c.in_ok-facts-in-Element.facts c.in_ok-indices-in-Element.indices c.of_element.result c.in_ok-indices-in-Element.ensures.some c.in_ok-indices-in-Element.ensures.fail c.in_ok-facts-in-Element.ensures.tells
-          c.of_element.ensures.value c.of_element.ensures.indices);
+      gives = element_found c.args.known.now c.args.e.now name es c.in_ok-indices-in-Element.indices c.examine_element.result
+          (element_is c.args.e.now c.in-Element.element c.deref.result.now c.deref-in-Element.result.now name es c.in-Element.is c.deref.ensures c.as_slice-in-Element.ensures c.deref-in-Element.ensures refl)
+          c.in_ok-indices-in-Element.ensures.some c.in_ok-indices-in-Element.ensures.fail c.examine_element.ensures;
     }
+
+pub examine-returns-in_ok-right-in-Add : goal.examine-returns-in_ok-right-in-Add
+examine-returns-in_ok-right-in-Add t c = record {
+  gives = operands_give c.args.known.now c.args.e.now c.in-Add.a c.in-Add.b c.operator_of.result c.in_ok-left-in-Add.left c.in_ok-right-in-Add.right c.apply.result c.in-Add.is c.operator_of.ensures
+      (rw c.deref-in-Add.ensures at c.in_ok-left-in-Add.ensures.gives) (rw c.deref-in-Add-2.ensures at c.in_ok-right-in-Add.ensures.gives) c.apply.ensures;
+}
 
 pub examine_indices-loop-index-preserved : goal.examine_indices-loop-index-preserved
 examine_indices-loop-index-preserved t c =

@@ -1,12 +1,13 @@
-use Rattle.std.proofs.Common.{rules, ◌≡◌, ◌-ℤ◌, arith, to_z, of_z}
+use Rattle.std.proofs.Common.{rules, ap, ◌≡◌, ◌∙◌, ◌||◌, ◌-ℤ◌, arith, to_z, of_z}
+use Rattle.std.proofs.Math.Bool.{or-true}
 use Rattle.std.specs.Int.RustNames.{FitsSigned}
 use Rattle.std.specs.Int.{w128}
 use Rattle.std.proofs.lemmas.Int.{ints, to_z-of_z}
 use Rattle.ctd_range.proofs.Ends.{ends_cover, difference_below, difference_above}
 use Rattle.ctd_range.proofs.arithmetic.difference.Goals as goal
 
-pub returns-then-low : goal.returns-then-low
-returns-then-low c =
+pub returns : goal.returns
+returns c =
     let fits_low : FitsSigned w128 c.end_difference-low.result.at = search rules in
     let fits_high : FitsSigned w128 c.end_difference-high.result.at = search rules in
     let same_1 : to_z w128 (of_z w128 c.args.a.low) ≡ c.args.a.low = to_z-of_z w128 c.args.a.low (search rules) in
@@ -17,28 +18,9 @@ returns-then-low c =
     let high = rw (same_3, same_4) at c.end_difference-high.ensures.end in
     rw (to_z-of_z w128 c.end_difference-low.result.at fits_low, to_z-of_z w128 c.end_difference-high.result.at fits_high) (record {
       covers = λ n x y p q.
-          ends_cover (x -ℤ y) (c.args.a.low -ℤ c.args.b.high) (c.args.a.high -ℤ c.args.b.low) c.slope_sum.result c.slope_sum-2.result n c.end_difference-low.result c.end_difference-high.result c.end_difference-low.result.passes
+          ends_cover (x -ℤ y) (c.args.a.low -ℤ c.args.b.high) (c.args.a.high -ℤ c.args.b.low) c.slope_sum.result c.slope_sum-2.result n c.end_difference-low.result c.end_difference-high.result (c.end_difference-low.result.passes || c.end_difference-high.result.passes)
           low high
           (difference_below c.args.a.low c.args.b.high x y c.args.a.rise c.args.b.fall c.slope_sum.result n c.slope_sum.ensures p.low q.high)
           (difference_above c.args.a.high c.args.b.low x y c.args.a.fall c.args.b.rise c.slope_sum-2.result n c.slope_sum-2.ensures p.high q.low)
-          (omega (arith, ints)) (omega (arith, ints)) (λ is. is) (λ is. c.if-low.true);
-    })
-
-pub returns-else-low : goal.returns-else-low
-returns-else-low c =
-    let fits_low : FitsSigned w128 c.end_difference-low.result.at = search rules in
-    let fits_high : FitsSigned w128 c.end_difference-high.result.at = search rules in
-    let same_1 : to_z w128 (of_z w128 c.args.a.low) ≡ c.args.a.low = to_z-of_z w128 c.args.a.low (search rules) in
-    let same_2 : to_z w128 (of_z w128 c.args.b.high) ≡ c.args.b.high = to_z-of_z w128 c.args.b.high (search rules) in
-    let same_3 : to_z w128 (of_z w128 c.args.a.high) ≡ c.args.a.high = to_z-of_z w128 c.args.a.high (search rules) in
-    let same_4 : to_z w128 (of_z w128 c.args.b.low) ≡ c.args.b.low = to_z-of_z w128 c.args.b.low (search rules) in
-    let low = rw (same_1, same_2) at c.end_difference-low.ensures.end in
-    let high = rw (same_3, same_4) at c.end_difference-high.ensures.end in
-    rw (to_z-of_z w128 c.end_difference-low.result.at fits_low, to_z-of_z w128 c.end_difference-high.result.at fits_high) (record {
-      covers = λ n x y p q.
-          ends_cover (x -ℤ y) (c.args.a.low -ℤ c.args.b.high) (c.args.a.high -ℤ c.args.b.low) c.slope_sum.result c.slope_sum-2.result n c.end_difference-low.result c.end_difference-high.result c.end_difference-high.result.passes
-          low high
-          (difference_below c.args.a.low c.args.b.high x y c.args.a.rise c.args.b.fall c.slope_sum.result n c.slope_sum.ensures p.low q.high)
-          (difference_above c.args.a.high c.args.b.low x y c.args.a.fall c.args.b.rise c.slope_sum-2.result n c.slope_sum-2.ensures p.high q.low)
-          (omega (arith, ints)) (omega (arith, ints)) (λ is. absurd (cc (is, c.if-low.false))) (λ is. is);
+          (omega (arith, ints)) (omega (arith, ints)) (λ is. ap (λ b. b || c.end_difference-high.result.passes) is) (λ is. ap (λ b. c.end_difference-low.result.passes || b) is ∙ or-true c.end_difference-low.result.passes);
     })

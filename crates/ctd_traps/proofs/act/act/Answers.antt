@@ -1,20 +1,33 @@
-use Rattle.std.proofs.Common.{ap, ◌∙◌}
-use Rattle.ctd_program.specs.calls.View.{assignments_of}
-use Rattle.ctd_traps.proofs.Steps.{int_step, regex_step, set_step, string_step}
+use Rattle.std.proofs.Common.{◌≡◌, ap, map, ◌∙◌}
+use Rattle.ctd_program.specs.calls.View.{assignment, assignments_of, command_tree, expr_tree, names_of, target}
+use Rattle.ctd_command.specs.Commands.{int, set, string}
+use Rattle.ctd_command.specs.Regex.{regex}
+use Rattle.ctd_traps.specs.declared.assign.Acted.{Acted}
+use Rattle.ctd_traps.specs.inner.Walk.{ActKeeps, Acts, ClearsAll}
+use Rattle.ctd_traps.proofs.Results.{if_ok_more}
+use Rattle.ctd_traps.proofs.Steps.{blank_step, int_step, regex_step, set_step, string_step, unset_step}
 use Rattle.ctd_traps.proofs.act.act.Goals as goal
 
-pub returns-in_ok-integer-in-Int : goal.returns-in_ok-integer-in-Int
-returns-in_ok-integer-in-Int c = int_step c.args.ground.pinned.now c.args.known.now c.in_ok-integer-in-Int.integer.after.items c.in_ok-integer-in-Int.integer.faults c.args.command.now.action c.in-Int.int c.deref.result.now c.args.command.now.place c.in-Int.is c.deref.ensures c.in_ok-integer-in-Int.ensures
+pub returns-in-Space : goal.returns-in-Space
+returns-in-Space c = if_ok_more (λ (a : Acted). a.after.items ≡ c.args.known.now) (λ (a : Acted). ActKeeps c.args.ground.pinned.now c.args.known.now a.after.items a.faults (command_tree c.args.command.now)) c.unchanged.result
+    (λ a so. blank_step c.args.ground.pinned.now c.args.known.now a.after.items a.faults c.args.command.now.action c.args.command.now.place c.in-Space.is so) c.unchanged.ensures
 
-pub returns-in_ok-string-in-String : goal.returns-in_ok-string-in-String
-returns-in_ok-string-in-String c = string_step c.args.ground.pinned.now c.args.known.now c.in_ok-string-in-String.string.after.items c.in_ok-string-in-String.string.faults c.args.command.now.action c.in-String.e c.deref-in-String.result.now c.args.command.now.place c.in-String.is c.deref-in-String.ensures c.in_ok-string-in-String.ensures
+pub returns-in-Int : goal.returns-in-Int
+returns-in-Int c = if_ok_more (λ (a : Acted). Acts c.args.ground.pinned.now c.args.known.now a.after.items a.faults (int (expr_tree c.deref.result.now.low) (expr_tree c.deref.result.now.high) (target c.deref.result.now.target))) (λ (a : Acted). ActKeeps c.args.ground.pinned.now c.args.known.now a.after.items a.faults (command_tree c.args.command.now)) c.take_integer.result
+    (λ a so. int_step c.args.ground.pinned.now c.args.known.now a.after.items a.faults c.args.command.now.action c.in-Int.int c.deref.result.now c.args.command.now.place c.in-Int.is c.deref.ensures so) c.take_integer.ensures
 
-pub returns-in_ok-matched-in-Regex : goal.returns-in_ok-matched-in-Regex
-returns-in_ok-matched-in-Regex c = regex_step c.args.ground.pinned.now c.args.known.now c.in_ok-matched-in-Regex.matched.after.items c.in_ok-matched-in-Regex.matched.faults c.args.command.now.action c.in-Regex.regex c.deref-in-Regex.result.now c.args.command.now.place c.in-Regex.is c.deref-in-Regex.ensures c.in_ok-matched-in-Regex.ensures
+pub returns-in-String : goal.returns-in-String
+returns-in-String c = if_ok_more (λ (a : Acted). Acts c.args.ground.pinned.now c.args.known.now a.after.items a.faults (string (expr_tree c.deref-in-String.result.now))) (λ (a : Acted). ActKeeps c.args.ground.pinned.now c.args.known.now a.after.items a.faults (command_tree c.args.command.now)) c.take_string.result
+    (λ a so. string_step c.args.ground.pinned.now c.args.known.now a.after.items a.faults c.args.command.now.action c.in-String.e c.deref-in-String.result.now c.args.command.now.place c.in-String.is c.deref-in-String.ensures so) c.take_string.ensures
 
-pub returns-in_ok-assigned-in-Set : goal.returns-in_ok-assigned-in-Set
-returns-in_ok-assigned-in-Set c = set_step c.args.ground.pinned.now c.args.known.now c.in_ok-assigned-in-Set.assigned.after.items c.in_ok-assigned-in-Set.assigned.faults c.args.command.now.action c.in-Set.assignments c.as_slice.result.now c.args.command.now.place c.in-Set.is
-    (c.as_slice.ensures ∙ ap assignments_of c.deref-in-Set.ensures) c.in_ok-assigned-in-Set.ensures
+pub returns-in-Regex : goal.returns-in-Regex
+returns-in-Regex c = if_ok_more (λ (a : Acted). Acts c.args.ground.pinned.now c.args.known.now a.after.items a.faults (regex c.deref-in-Regex.result.now.literal.bytes (target c.deref-in-Regex.result.now.target))) (λ (a : Acted). ActKeeps c.args.ground.pinned.now c.args.known.now a.after.items a.faults (command_tree c.args.command.now)) c.take_match.result
+    (λ a so. regex_step c.args.ground.pinned.now c.args.known.now a.after.items a.faults c.args.command.now.action c.in-Regex.regex c.deref-in-Regex.result.now c.args.command.now.place c.in-Regex.is c.deref-in-Regex.ensures so) c.take_match.ensures
 
-pub returns-in_ok-after-in-Space : goal.returns-in_ok-after-in-Space
-returns-in_ok-after-in-Space c = c.in_ok-after-in-Space.ensures c.no_faults.result
+pub returns-in-Set : goal.returns-in-Set
+returns-in-Set c = if_ok_more (λ (a : Acted). Acts c.args.ground.pinned.now c.args.known.now a.after.items a.faults (set (map assignment c.as_slice.result.now))) (λ (a : Acted). ActKeeps c.args.ground.pinned.now c.args.known.now a.after.items a.faults (command_tree c.args.command.now)) c.set_all.result
+    (λ a so. set_step c.args.ground.pinned.now c.args.known.now a.after.items a.faults c.args.command.now.action c.in-Set.assignments c.as_slice.result.now c.args.command.now.place c.in-Set.is (c.as_slice.ensures ∙ ap assignments_of c.deref-in-Set.ensures) so) c.set_all.ensures
+
+pub returns-in-Unset : goal.returns-in-Unset
+returns-in-Unset c = if_ok_more (λ (a : Acted). ClearsAll c.args.ground.pinned.now c.args.known.now c.as_slice-in-Unset.result.now a.after.items) (λ (a : Acted). ActKeeps c.args.ground.pinned.now c.args.known.now a.after.items a.faults (command_tree c.args.command.now)) c.clear_all.result
+    (λ a so. unset_step c.args.ground.pinned.now c.args.known.now a.after.items a.faults c.args.command.now.action c.in-Unset.names c.as_slice-in-Unset.result.now c.args.command.now.place c.in-Unset.is (c.as_slice-in-Unset.ensures ∙ ap names_of c.deref-in-Unset.ensures) so) c.clear_all.ensures

@@ -1,5 +1,9 @@
 use Rattle.std.proofs.Common.{◌<◌, length, sym, subst}
+use Rattle.std.specs.Global.{Vec}
 use Rattle.ctd_known.specs.calls.Facts.{EachStands, TellsAll}
+use Rattle.ctd_traps.specs.declared.cases.Case.{Case}
+use Rattle.ctd_traps.specs.inner.Cases.{TellsCase, TellsCases}
+use Rattle.ctd_traps.proofs.Results.{if_ok_more}
 use Rattle.ctd_traps.proofs.Joining.{rejoined}
 use Rattle.ctd_traps.proofs.cases.with_case.Goals as goal
 
@@ -10,10 +14,12 @@ returns-then-is_unreachable c = record {
 }
 
 pub returns : goal.returns
-returns c = record {
-  others = λ n h one. c.in_ok-few-in-None.ensures n h (c.in_ok-more-in-None.ensures.others n h one);
-  added = λ n h each. c.in_ok-few-in-None.ensures n h (c.in_ok-more-in-None.ensures.added n h each);
-}
+returns c =
+    let more = c.in_ok-more-in-None.more.items in
+    record {
+      others = if_ok_more (λ (v : Vec Case). TellsCases more v.items) (λ (v : Vec Case). TellsCases c.args.cases.items v.items) c.limit_cases.result (λ v so n h one. so n h (c.in_ok-more-in-None.ensures.others n h one)) c.limit_cases.ensures;
+      added = if_ok_more (λ (v : Vec Case). TellsCases more v.items) (λ (v : Vec Case). TellsCase c.args.known.items v.items) c.limit_cases.result (λ v so n h each. so n h (c.in_ok-more-in-None.ensures.added n h each)) c.limit_cases.ensures;
+    }
 
 pub returns-in-Some-clause-others : goal.returns-in-Some-clause-others
 returns-in-Some-clause-others c =

@@ -1,17 +1,25 @@
-use Rattle.ctd_outcome.specs.declared.reason.Fault.TheVariants.{Overflow, Undefined, WrongType}
-use Rattle.ctd_traps.specs.calls.Traps.{Trap, traps_of}
-use Rattle.ctd_traps.proofs.Listed.{all_listed}
+use Rattle.std.proofs.Common.{◌<◌, ℕ, [], ◌∷◌, arith}
+use Rattle.ctd_traps.specs.declared.finding.TrapKind.TheVariants as kinds
+use Rattle.ctd_traps.specs.calls.Traps.{traps_of}
+use Rattle.ctd_traps.proofs.Listed.{all_listed, next_listed}
 use Rattle.ctd_traps.proofs.finding.report.Goals as goal
+
+pub loop-kind-init : goal.loop-kind-init
+loop-kind-init c = record { more = λ t is. is; listed = λ k less. absurd (omega (arith, less)) }
+
+pub loop-kind-preserved : goal.loop-kind-preserved
+loop-kind-preserved c = record {
+  more = λ t is. c.in_ok-report_kind.ensures.more t (c.loop-kind.invariant.more t is);
+  listed = next_listed (kinds.NoValue ∷ kinds.NoElement ∷ kinds.WrongType ∷ kinds.Overflow ∷ kinds.DivisionByZero ∷ kinds.BadExponent ∷ kinds.BadCount ∷ kinds.OtherShape ∷ []) c.loop-kind.kind-index kinds.NoValue c.args.place c.args.faults
+      (traps_of c.loop-kind.findings.items) (traps_of c.report_kind.new.findings.items) c.in_ok-report_kind.ensures.more c.loop-kind.invariant.listed c.in_ok-report_kind.ensures.listed;
+}
 
 pub returns : goal.returns
 returns c =
-    let more = c.in_ok-report_others.ensures.more in
-    let first = c.in_ok-report_first.ensures in
-    let no_value : Trap = record { place = c.args.place; fault = Undefined } in
-    let wrong_type : Trap = record { place = c.args.place; fault = WrongType } in
-    let overflow : Trap = record { place = c.args.place; fault = Overflow } in
+    let done : (k : ℕ) → k < 8 → k < c.loop-kind.kind-index = λ k less. omega (arith, less) in
+    let listed = c.loop-kind.invariant.listed in
     record {
-      more = λ t h. more t (first.more t h);
-      listed = all_listed (traps_of c.report_others.new.findings.items) c.args.place c.args.faults (λ is. more no_value (first.no_value is)) (λ is. more no_value (first.no_element is)) (λ is. more wrong_type (first.wrong_type is))
-          (λ is. more overflow (first.overflow is)) c.in_ok-report_others.ensures.division c.in_ok-report_others.ensures.exponent c.in_ok-report_others.ensures.count c.in_ok-report_others.ensures.shape;
+      more = c.loop-kind.invariant.more;
+      listed = all_listed _ c.args.place c.args.faults (listed 0 (done 0 (omega arith))) (listed 1 (done 1 (omega arith))) (listed 2 (done 2 (omega arith))) (listed 3 (done 3 (omega arith))) (listed 4 (done 4 (omega arith)))
+          (listed 5 (done 5 (omega arith))) (listed 6 (done 6 (omega arith))) (listed 7 (done 7 (omega arith)));
     }

@@ -1,6 +1,14 @@
 use Rattle.ctd_program.specs.calls.View.{target}
+use Rattle.ctd_command.specs.Regex.{regex}
+use Rattle.ctd_traps.specs.declared.assign.Acted.{Acted}
+use Rattle.ctd_traps.specs.inner.Walk.{Acts, KeepsValue}
 use Rattle.ctd_traps.proofs.Acting.{regex_acts}
+use Rattle.ctd_traps.proofs.Results.{if_ok_more}
 use Rattle.ctd_traps.proofs.simple.take_match.Goals as goal
 
 pub returns : goal.returns
-returns c = regex_acts c.args.ground.pinned.now c.args.known.now c.in_ok-kept.kept.after.items c.args.arguments.now.literal.bytes (target c.args.arguments.now.target) c.in_window.result c.in_ok-kept.kept.faults c.in_window.ensures c.in_ok-kept.ensures
+returns c =
+    let literal = c.args.arguments.now.literal.bytes in
+    let kept = target c.args.arguments.now.target in
+    if_ok_more (λ (a : Acted). KeepsValue c.args.ground.pinned.now c.args.known.now kept c.in_window.result a.after.items a.faults) (λ (a : Acted). Acts c.args.ground.pinned.now c.args.known.now a.after.items a.faults (regex literal kept)) c.keep.result
+    (λ a so. regex_acts c.args.ground.pinned.now c.args.known.now a.after.items literal kept c.in_window.result a.faults c.in_window.ensures so) c.keep.ensures

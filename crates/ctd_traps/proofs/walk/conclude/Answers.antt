@@ -1,7 +1,7 @@
 use Rattle.std.proofs.Common.{Contains, sym, subst}
 use Rattle.ctd_traps.specs.calls.Traps.{traps_of}
 use Rattle.ctd_traps.proofs.Listed.{part_left, part_right}
-use Rattle.ctd_traps.proofs.finding.append.Goals as goal
+use Rattle.ctd_traps.proofs.walk.conclude.Goals as goal
 
 pub returns : goal.returns
 returns c =
@@ -10,5 +10,9 @@ returns c =
     let slice = c.as_slice.result.now in
     record {
       more = part_left old slice new c.in_ok-extend_from_slice.ensures.items;
-      found = λ t h. part_right old slice new c.in_ok-extend_from_slice.ensures.items t (subst (λ l. Contains (traps_of l) t) (sym c.as_slice.ensures.value) h);
+      concludes = record {
+        first_after = c.in_ok-after.ensures.second;
+        later_after = c.in_ok-after.ensures.first;
+        listed = λ t h. part_right old slice new c.in_ok-extend_from_slice.ensures.items t (subst (λ l. Contains (traps_of l) t) (sym c.as_slice.ensures.value) h);
+      };
     }

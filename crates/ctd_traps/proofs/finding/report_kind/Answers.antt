@@ -1,0 +1,15 @@
+use Rattle.std.proofs.Common.{[], ◌∷◌}
+use Rattle.ctd_traps.specs.declared.finding.Finding.{Finding}
+use Rattle.ctd_traps.proofs.Listed.{part_left, pushed}
+use Rattle.ctd_traps.proofs.finding.report_kind.Goals as goal
+
+pub returns-then-not-has : goal.returns-then-not-has
+returns-then-not-has c = record { more = λ t h. h; listed = λ is. absurd (cc (c.has.ensures is, c.if-not-has.true)) }
+
+pub returns : goal.returns
+returns c =
+    let finding : Finding = record { place = c.args.place; kind = c.args.kind; name = c.name_of.result } in
+    record {
+      more = part_left c.args.findings.now.items (finding ∷ []) c.push.new.self.items c.in_ok-push.ensures.items;
+      listed = λ is. pushed c.args.findings.now.items c.push.new.self.items finding c.in_ok-push.ensures.items;
+    }
