@@ -7,8 +7,8 @@ returns c =
       more = c.in_ok-report.ensures.more;
       begins = record {
         enters = c.in_ok-later.ensures;
-        start_listed = λ why is. every why (c.both-faults.ensures.first why is);
-        first_listed = λ why is. every why (c.both-faults.ensures.second why (c.both.ensures.first why is));
-        later_listed = λ why is. every why (c.both-faults.ensures.second why (c.both.ensures.second why is));
+        start_listed = λ why of_value is. every why of_value (c.both-faults.ensures.first why is);
+        first_listed = λ why of_value is. every why of_value (c.both-faults.ensures.second why (c.both.ensures.first why is));
+        later_listed = λ why of_value is. every why of_value (c.both-faults.ensures.second why (c.both.ensures.second why is));
       };
     }
