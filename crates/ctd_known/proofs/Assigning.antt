@@ -1,5 +1,5 @@
 -- What is known once variables got values, or lost them.
-use Rattle.std.proofs.Common.{◌≡◌, ◌≢◌, ◌<◌, ◌^◌, ℕ, Bool, true, false, List, [], ◌∷◌, map, is_some, Option, Some, None, Decides, refl, ap, sym, subst, ◌∙◌}
+use Rattle.std.proofs.Common.{not, ◌≡◌, ◌≢◌, ◌<◌, ◌^◌, ℕ, Bool, true, false, List, [], ◌∷◌, map, is_some, Option, Some, None, Decides, refl, ap, sym, subst, ◌∙◌}
 use Rattle.std.proofs.lemmas.Map.Views.{tells_apart}
 use Rattle.ctd_store.specs.declared.value.Value.{Value}
 use Rattle.ctd_store.specs.Order.{same_values}
@@ -43,6 +43,10 @@ sure_value f n (Some v) sure may = refl
 free_value : (f : NameFacts) (n : ℕ) (v : Option Value) → ((k : ℕ) (w : Value) → MayBe f.alone k w → ⊥) → MayHave f n v → is_some v ≡ false
 free_value f n None none may = refl
 free_value f n (Some v) none may = absurd (none n v may)
+
+pub not_true : (b : Bool) → not b ≡ true → b ≡ false
+not_true true is = absurd (cc is)
+not_true false is = refl
 
 pub assign_pinned : (pinned known : List Known) (name : List ℕ) (kinds : Kinds) (pin : NameFacts) → Tells pinned name pin → pin.may_lack ≡ false → AssignsAlone pinned known name kinds known
 assign_pinned pinned known name kinds pin tells sure pins n h v stand same each may =

@@ -3,3 +3,4 @@ pub mod Assigning
 pub mod Applying
 pub mod Deciding
 pub mod Comparing
+pub mod Results

@@ -66,7 +66,7 @@ pub fn assign_alone<'p>(
     let facts = listed(known, name)?;
     let pin = listed(ground.pinned, name)?;
     if !pin.may_lack {
-        return Ok(copy_of(ground.alloc, known)?);
+        return copy_of(ground.alloc, known);
     }
     if !is_none(pin.alone) {
         return Err(Stop::NotTold);
@@ -76,7 +76,7 @@ pub fn assign_alone<'p>(
         alone: kinds,
         elements: facts.elements,
     };
-    Ok(replace_facts(ground.alloc, known, name, facts)?)
+    replace_facts(ground.alloc, known, name, facts)
 }
 
 /// What is known once an element of a name got one of some values.
@@ -93,7 +93,7 @@ pub fn assign_element<'p>(
         elements: either_kinds(facts.elements, kinds)?,
         ..facts
     };
-    Ok(replace_facts(alloc, known, name, facts)?)
+    replace_facts(alloc, known, name, facts)
 }
 
 /// What is known once a name lost what was assigned to it.
@@ -105,5 +105,5 @@ pub fn clear<'p>(
     ensures { IfOk result (λ after. Clears ground.entry.pinned.now known.now name.now after.items) }
 {
     let facts = listed(ground.pinned, name)?;
-    Ok(replace_facts(ground.alloc, known, name, facts)?)
+    replace_facts(ground.alloc, known, name, facts)
 }

@@ -12,6 +12,7 @@ ghost use Rattle.ctd_program.specs.Tree;
 ghost use Rattle.ctd_store.specs.declared.value.Value.TheVariants as values;
 ghost use Rattle.ctd_known.specs.calls.Facts.{MayBe, TellsAll};
 ghost use Rattle.ctd_known.specs.calls.Found.{IsFound, IsAmong, FailsBy, Gives, SplitsBy};
+ghost use Rattle.ctd_known.specs.inner.Facts.{AreSame};
 
 use crate::cut::cut_both;
 use crate::expression::{Found, examine, may_be_number, may_be_text, text_faults};
@@ -58,9 +59,7 @@ pub fn join<'p>(alloc: Global, a: &[Known<'p>], b: &[Known<'p>]) -> Result<Vec<K
 
 /// What was known is known whatever a test gives.
 fn same<'p>(alloc: Global, known: &[Known<'p>], faults: Faults) -> Result<Branches<'p>, Stop>
-    ensures if_true { IfOk result (λ s. s.if_true.items ≡ known.now) }
-    ensures if_false { IfOk result (λ s. s.if_false.items ≡ known.now) }
-    ensures faults { IfOk result (λ s. s.faults ≡ faults) }
+    ensures { IfOk result (λ s. AreSame known.now faults s) }
 {
     let if_true = copy_of(alloc, known)?;
     let if_false = copy_of(alloc, known)?;
@@ -157,8 +156,7 @@ fn split_match<'p>(alloc: Global, e: &Expr, known: &[Known<'p>]) -> Result<Branc
     ensures { IfOk result (λ s. SplitsBy known.now (Tree.matches (expr_tree e.now)) s.if_true.items s.if_false.items s.faults) }
 {
     let text = inspect(e, known)?;
-    let matched = same(alloc, known, text_faults(text))?;
-    Ok(matched)
+    same(alloc, known, text_faults(text))
 }
 
 /// What is known where a test of one question is true, and where it is false. Of a test that is made of others nothing is told: its parts are asked.
@@ -168,18 +166,11 @@ pub fn split<'p>(alloc: Global, t: &'p Test, known: &[Known<'p>]) -> Result<Bran
     match t {
         Test::Compare(by, a, b) => compare(alloc, *by, a, b, known),
         Test::Match(e) => split_match(alloc, e, known),
-        Test::IsEof => {
-            let ended = same(alloc, known, no_faults())?;
-            Ok(ended)
-        }
-        Test::Unique(names) => {
-            let distinct = same(alloc, known, shape_faults(names.as_slice()))?;
-            Ok(distinct)
-        }
+        Test::IsEof => same(alloc, known, no_faults()),
+        Test::Unique(names) => same(alloc, known, shape_faults(names.as_slice())),
         Test::InArray(e, _) => {
             let wanted = inspect(e, known)?;
-            let listed = same(alloc, known, wanted.faults)?;
-            Ok(listed)
+            same(alloc, known, wanted.faults)
         }
         Test::Or(_, _) | Test::And(_, _) | Test::Not(_) => Err(Stop::NotTold),
     }

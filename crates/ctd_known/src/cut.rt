@@ -95,13 +95,9 @@ fn cut<'p>(
                 alone: cut_kinds(by, facts.alone, kinds),
                 elements: facts.elements,
             };
-            let named = replace_facts(alloc, known, name.as_slice(), narrowed)?;
-            Ok(named)
+            replace_facts(alloc, known, name.as_slice(), narrowed)
         }
-        _ => {
-            let others = copy_of(alloc, known)?;
-            Ok(others)
-        }
+        _ => copy_of(alloc, known),
     }
 }
 
@@ -118,6 +114,5 @@ pub(crate) fn cut_both<'p>(
     ensures { IfOk result (λ after. CutsBoth known.now by (expr_tree a.now) (expr_tree b.now) one other after.items) }
 {
     let first = cut(alloc, known, a, by, other)?;
-    let after = cut(alloc, first.as_slice(), b, turned(by), one)?;
-    Ok(after)
+    cut(alloc, first.as_slice(), b, turned(by), one)
 }

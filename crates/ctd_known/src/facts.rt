@@ -9,8 +9,9 @@ ghost use Rattle.ctd_known.specs.calls.Facts.{IsImpossible, MayBe, TellsAll};
 ghost use Rattle.ctd_known.specs.inner.Facts.{Tells};
 ghost use Rattle.ctd_known.specs.inner.Changed.{AreWithin, NameIsWithin, with_facts};
 
+use crate::stop::Stop;
 use ctd_range::Range;
-use std::alloc::{AllocError, Global};
+use std::alloc::Global;
 
 /// The lengths of strings, in bytes.
 #[derive(Clone, Copy)]
@@ -190,7 +191,7 @@ pub fn replace_facts<'p>(
     known: &[Known<'p>],
     name: &[u8],
     facts: NameFacts,
-) -> Result<Vec<Known<'p>>, AllocError>
+) -> Result<Vec<Known<'p>>, Stop>
     ensures { IfOk result (λ after. after.items ≡ map (with_facts name.now facts) known.now) }
 {
     let mut after = Vec::new(alloc);
@@ -201,8 +202,9 @@ pub fn replace_facts<'p>(
 }
 
 /// A copy of what is known.
-pub fn copy_of<'p>(alloc: Global, known: &[Known<'p>]) -> Result<Vec<Known<'p>>, AllocError>
+pub fn copy_of<'p>(alloc: Global, known: &[Known<'p>]) -> Result<Vec<Known<'p>>, Stop>
     ensures { IfOk result (λ after. after.items ≡ known.now) }
 {
-    known.to_vec(alloc)
+    let copy = known.to_vec(alloc)?;
+    Ok(copy)
 }

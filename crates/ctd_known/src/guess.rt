@@ -1,8 +1,9 @@
 //! Guesses of what is known. No contract speaks of them: each is checked where it is used.
 
-use crate::facts::{Kinds, Known, Lengths, NameFacts, facts_of, is_unreachable};
+use crate::facts::{Kinds, Known, Lengths, NameFacts, copy_of, facts_of, is_unreachable};
+use crate::stop::Stop;
 use ctd_range::Range;
-use std::alloc::{AllocError, Global};
+use std::alloc::Global;
 
 /// The lengths of two kinds of strings.
 fn join_lengths(a: Option<Lengths>, b: Option<Lengths>) -> Option<Lengths> {
@@ -217,7 +218,7 @@ pub fn widen<'p>(
     guess: &[Known<'p>],
     end: &[Known<'p>],
     round: usize,
-) -> Result<Vec<Known<'p>>, AllocError> {
+) -> Result<Vec<Known<'p>>, Stop> {
     let mut all = Vec::new(alloc);
     for entry in guess {
         let facts = match facts_of(end, entry.name) {
@@ -233,16 +234,12 @@ pub fn widen<'p>(
 }
 
 /// What is known where either is known, of the names of the first.
-pub fn merge<'p>(
-    alloc: Global,
-    a: &[Known<'p>],
-    b: &[Known<'p>],
-) -> Result<Vec<Known<'p>>, AllocError> {
+pub fn merge<'p>(alloc: Global, a: &[Known<'p>], b: &[Known<'p>]) -> Result<Vec<Known<'p>>, Stop> {
     if is_unreachable(a) {
-        return b.to_vec(alloc);
+        return copy_of(alloc, b);
     }
     if is_unreachable(b) {
-        return a.to_vec(alloc);
+        return copy_of(alloc, a);
     }
     widen(alloc, a, b, 0)
 }

@@ -11,4 +11,3 @@ pub mod Steps
 pub mod Whole
 pub mod Pinning
 pub mod Joining
-pub mod Results

@@ -10,14 +10,13 @@ use Rattle.ctd_program.specs.declared.tree.Action.TheVariants as actions
 use Rattle.ctd_program.specs.declared.tree.IntArguments.{IntArguments}
 use Rattle.ctd_program.specs.declared.tree.RegexArguments.{RegexArguments}
 use Rattle.ctd_program.specs.declared.tree.Expr.{Expr}
-use Rattle.ctd_program.specs.declared.tree.Test.{Test}
 use Rattle.ctd_program.specs.declared.tree.Names.{Names}
 use Rattle.ctd_program.specs.declared.tree.Assignment.{Assignment}
 use Rattle.ctd_program.specs.declared.tree.Assignments.{Assignments}
 use Rattle.ctd_program.specs.declared.tree.Command.{Command}
 use Rattle.ctd_program.specs.declared.tree.Choice.{Choice}
 use Rattle.ctd_program.specs.declared.tree.Loop.{Loop, out-Loop}
-use Rattle.ctd_program.specs.calls.View.{action_tree, assignment, assignments_of, boxed_target, guard_tree, command_list, command_tree, command_trees, expr_tree, names_of, target, test_tree}
+use Rattle.ctd_program.specs.calls.View.{action_tree, assignment, assignments_of, boxed_target, guard_tree, command_list, command_tree, command_trees, expr_tree, names_of, target}
 use Rattle.ctd_program.proofs.Trees.{choice_tree, loop_tree}
 use Rattle.ctd_command.specs.Commands.{int, set, string, unset_all}
 use Rattle.ctd_command.specs.Blanks.{end, newline, space}
@@ -27,10 +26,10 @@ use Rattle.ctd_known.specs.declared.faults.Faults.{Faults}
 use Rattle.ctd_known.specs.declared.facts.Known.{Known}
 use Rattle.ctd_traps.specs.declared.cases.Case.{Case}
 use Rattle.ctd_traps.specs.declared.turn.Turns.{Turns}
-use Rattle.ctd_traps.specs.inner.Cases.{Divides, TellsCases}
+use Rattle.ctd_traps.specs.inner.Cases.{TellsCases}
 use Rattle.ctd_traps.specs.declared.finding.Finding.{Finding}
 use Rattle.ctd_traps.specs.calls.Traps.{traps_of}
-use Rattle.ctd_traps.specs.inner.Holds.{AreListed, ArePart, Holds}
+use Rattle.ctd_traps.specs.inner.Holds.{ArePart, Holds}
 use Rattle.ctd_traps.specs.inner.Walk.{ActKeeps, Acts, ClearsAll, Enters, RoundKeeps, SeparatorKeeps, StartsIn, StepKeeps, WalkKeeps, choice_at, first_turn, loop_at}
 use Rattle.ctd_traps.specs.inner.PostFixpoint.{among}
 use Rattle.ctd_program.specs.inner.View.{boxed_separator}

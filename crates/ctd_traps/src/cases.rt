@@ -145,6 +145,19 @@ pub(crate) fn are_within(cases: &[Case], others: &[Case]) -> bool
     true
 }
 
+/// A guess of one case before a turn, by what is known in it, and by the case of the last guess in which the same names are sure to have a value.
+fn widen_case<'p>(
+    ground: Ground<'_, 'p>,
+    guess: &[Case<'p>],
+    known: &[Known<'p>],
+    round: usize,
+) -> Result<Vec<Known<'p>>, Stop> {
+    match same_case(guess, known) {
+        Some(i) => widen(ground.alloc, guess[i].known.as_slice(), known, round),
+        None => copy_of(ground.alloc, known),
+    }
+}
+
 /// A guess of the cases before a turn, by the last one and the cases at the end of a turn. No contract speaks of it: it is checked where it is used.
 pub(crate) fn widen_cases<'p>(
     ground: Ground<'_, 'p>,
@@ -156,11 +169,7 @@ pub(crate) fn widen_cases<'p>(
     let grown = with_all(ground, old, end)?;
     let mut next = Vec::new(ground.alloc);
     for case in grown.as_slice() {
-        let known = case.known.as_slice();
-        let wider = match same_case(guess, known) {
-            Some(i) => widen(ground.alloc, guess[i].known.as_slice(), known, round)?,
-            None => copy_of(ground.alloc, known)?,
-        };
+        let wider = widen_case(ground, guess, case.known.as_slice(), round)?;
         next = with_case(ground, next, wider)?;
     }
     Ok(next)

@@ -5,9 +5,10 @@ ghost use Rattle.ctd_program.specs.calls.View.{command_trees};
 ghost use Rattle.ctd_store.specs.Store.{Variables, value_of, with_pin};
 ghost use Rattle.ctd_store.specs.inner.Store.{pins_of};
 ghost use Rattle.ctd_traps.specs.calls.Traps.{HasEachTrap, traps_of};
+ghost use Rattle.ctd_traps.specs.inner.Cases.{TellsCase};
 ghost use Rattle.ctd_known.specs.calls.Facts.{MayBe, PinsStand};
 
-use crate::cases::with_case;
+use crate::cases::{Case, with_case};
 use crate::finding::Finding;
 use crate::names::{Mentioned, mentioned_in};
 use crate::walk::walk;
@@ -108,6 +109,32 @@ pub struct TrapList<'p> {
     pub names: Vec<&'p [u8]>,
 }
 
+/// What is known before the first command of a program with these names.
+fn known_before<'p>(
+    alloc: Global,
+    presets: &'p Presets,
+    names: &[&'p [u8]],
+) -> Result<Vec<Known<'p>>, Stop>
+    ensures { IfOk result (λ known. PinsStand known.items (pins_of presets.now)) }
+{
+    let nothing = unset(alloc, names)?;
+    let without = Ground {
+        alloc,
+        pinned: nothing.as_slice(),
+    };
+    let pinned = pin_all(without, presets.pins())?;
+    Ok(pinned)
+}
+
+/// The one case before the first command, in which just the pins are known.
+fn first_case<'p>(ground: Ground<'_, 'p>) -> Result<Vec<Case<'p>>, Stop>
+    ensures { IfOk result (λ first. TellsCase ground.entry.pinned.now first.items) }
+{
+    let known = copy_of(ground.alloc, ground.pinned)?;
+    let first = with_case(ground, Vec::new(ground.alloc), known)?;
+    Ok(first)
+}
+
 /// The places at which a run of some commands with these names may stop by a fault of a value.
 fn findings_of<'p>(
     alloc: Global,
@@ -119,18 +146,12 @@ fn findings_of<'p>(
     ensures { IfOk result (λ found. HasEachTrap (command_trees commands.now) presets.now (traps_of found.items)) }
 {
     big_steps_are_the_run();
-    let nothing = unset(alloc, names)?;
-    let without = Ground {
-        alloc,
-        pinned: nothing.as_slice(),
-    };
-    let pinned = pin_all(without, presets.pins())?;
+    let pinned = known_before(alloc, presets, names)?;
     let ground = Ground {
         alloc,
         pinned: pinned.as_slice(),
     };
-    let known = copy_of(alloc, pinned.as_slice())?;
-    let first = with_case(ground, Vec::new(alloc), known)?;
+    let first = first_case(ground)?;
     let mut findings = Vec::new(alloc);
     let mut budget = passes;
     walk(commands, ground, first, &mut findings, &mut budget)?;

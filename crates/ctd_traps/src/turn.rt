@@ -111,8 +111,7 @@ fn start_each<'p>(
         });
     }
     let all = join_cases(ground, cases)?;
-    let turns = start(guard, all.as_slice())?;
-    Ok(turns)
+    start(guard, all.as_slice())
 }
 
 /// The numbers of turns that are below a count.

@@ -4,7 +4,7 @@ use Rattle.ctd_command.specs.Commands.{int, set, string}
 use Rattle.ctd_command.specs.Regex.{regex}
 use Rattle.ctd_traps.specs.declared.assign.Acted.{Acted}
 use Rattle.ctd_traps.specs.inner.Walk.{ActKeeps, Acts, ClearsAll}
-use Rattle.ctd_traps.proofs.Results.{if_ok_more}
+use Rattle.ctd_known.proofs.Results.{if_ok_more}
 use Rattle.ctd_traps.proofs.Steps.{blank_step, int_step, regex_step, set_step, string_step, unset_step}
 use Rattle.ctd_traps.proofs.act.act.Goals as goal
 

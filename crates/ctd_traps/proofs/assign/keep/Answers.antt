@@ -3,7 +3,7 @@ use Rattle.ctd_program.specs.calls.View.{var_tree}
 use Rattle.ctd_traps.specs.declared.assign.Acted.{Acted}
 use Rattle.ctd_traps.specs.inner.Walk.{Assigns, KeepsValue}
 use Rattle.ctd_traps.proofs.Acting.{keeps_none, keeps_some}
-use Rattle.ctd_traps.proofs.Results.{if_ok_more}
+use Rattle.ctd_known.proofs.Results.{if_ok_more}
 use Rattle.ctd_traps.proofs.assign.keep.Goals as goal
 
 pub returns-in-Some : goal.returns-in-Some

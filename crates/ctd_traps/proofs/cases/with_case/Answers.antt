@@ -3,7 +3,7 @@ use Rattle.std.specs.Global.{Vec}
 use Rattle.ctd_known.specs.calls.Facts.{EachStands, TellsAll}
 use Rattle.ctd_traps.specs.declared.cases.Case.{Case}
 use Rattle.ctd_traps.specs.inner.Cases.{TellsCase, TellsCases}
-use Rattle.ctd_traps.proofs.Results.{if_ok_more}
+use Rattle.ctd_known.proofs.Results.{if_ok_more}
 use Rattle.ctd_traps.proofs.Joining.{rejoined}
 use Rattle.ctd_traps.proofs.cases.with_case.Goals as goal
 

@@ -3,7 +3,7 @@ use Rattle.ctd_program.specs.calls.View.{test_tree}
 use Rattle.ctd_traps.specs.declared.divide.Divided.{Divided}
 use Rattle.ctd_traps.specs.inner.Cases.{IsEither, opposite}
 use Rattle.ctd_traps.proofs.Joining.{DividesBy, and_divides, not_divides, or_divides}
-use Rattle.ctd_traps.proofs.Results.{if_ok_more}
+use Rattle.ctd_known.proofs.Results.{if_ok_more}
 use Rattle.ctd_traps.proofs.divide.+divide.Goals as goal
 
 pub returns-in_ok-second-in-Or : goal.returns-in_ok-second-in-Or

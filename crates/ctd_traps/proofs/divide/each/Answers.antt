@@ -1,4 +1,4 @@
-use Rattle.std.proofs.Common.{sym, subst}
+use Rattle.std.proofs.Common.{subst}
 use Rattle.ctd_traps.specs.inner.Cases.{TellsCases}
 use Rattle.ctd_traps.proofs.divide.each.Goals as goal
 

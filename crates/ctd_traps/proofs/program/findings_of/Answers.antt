@@ -1,7 +1,6 @@
-use Rattle.std.proofs.Common.{[], sym, subst}
+use Rattle.std.proofs.Common.{subst}
 use Rattle.ctd_store.specs.inner.Store.{pins_of}
 use Rattle.ctd_program.specs.calls.View.{command_trees}
-use Rattle.ctd_known.specs.calls.Facts.{PinsStand}
 use Rattle.ctd_traps.specs.calls.Traps.{traps_of}
 use Rattle.ctd_traps.specs.inner.Cases.{TellsCase}
 use Rattle.ctd_traps.specs.inner.Walk.{WalkKeeps}
@@ -14,9 +13,8 @@ returns c =
     let pinned = c.in_ok-pinned.pinned.items in
     let first = c.in_ok-first.first.items in
     let found = traps_of c.walk.new.findings.items in
-    let nothing : PinsStand c.as_slice.result.now [] = subst (λ l. PinsStand l []) (sym c.as_slice.ensures.value) c.in_ok-nothing.ensures in
-    let stand : PinsStand pinned (pins_of c.args.presets.now) = subst (λ p. PinsStand pinned (pins_of p)) c.pins.ensures.whole (c.in_ok-pinned.ensures nothing) in
-    let tells : TellsCase pinned first = rw (sym c.as_slice-3.ensures.value, sym c.in_ok-known.ensures) c.in_ok-first.ensures.added in
-    let keeps : WalkKeeps pinned first c.in_ok-walk.field-0.items c.walk.new.findings.items (command_trees c.args.commands.now) = rw c.as_slice-2.ensures.value at c.in_ok-walk.ensures.keeps in
+    let stand = c.in_ok-pinned.ensures in
+    let tells : TellsCase pinned first = subst (λ l. TellsCase l first) c.as_slice.ensures.value c.in_ok-first.ensures in
+    let keeps : WalkKeeps pinned first c.in_ok-walk.field-0.items c.walk.new.findings.items (command_trees c.args.commands.now) = rw c.as_slice.ensures.value at c.in_ok-walk.ensures.keeps in
     traps_follow c.big_steps_are_the_run.ensures.holds (command_trees c.args.commands.now) c.args.presets.now found pinned first c.in_ok-walk.field-0.items stand tells
     (λ d. keeps (pins_of c.args.presets.now) d found stand (part_refl found))

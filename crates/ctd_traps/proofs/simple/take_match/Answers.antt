@@ -3,7 +3,7 @@ use Rattle.ctd_command.specs.Regex.{regex}
 use Rattle.ctd_traps.specs.declared.assign.Acted.{Acted}
 use Rattle.ctd_traps.specs.inner.Walk.{Acts, KeepsValue}
 use Rattle.ctd_traps.proofs.Acting.{regex_acts}
-use Rattle.ctd_traps.proofs.Results.{if_ok_more}
+use Rattle.ctd_known.proofs.Results.{if_ok_more}
 use Rattle.ctd_traps.proofs.simple.take_match.Goals as goal
 
 pub returns : goal.returns

@@ -3,7 +3,7 @@ use Rattle.ctd_program.specs.calls.View.{var_tree}
 use Rattle.ctd_known.specs.declared.facts.Kinds.{Kinds}
 use Rattle.ctd_traps.specs.declared.assign.Acted.{Acted}
 use Rattle.ctd_traps.specs.inner.Walk.{Assigns, CountsTurn}
-use Rattle.ctd_traps.proofs.Results.{if_ok_more}
+use Rattle.ctd_known.proofs.Results.{if_ok_more}
 use Rattle.ctd_traps.proofs.Turning.{counts_none, counts_some}
 use Rattle.ctd_traps.proofs.turn.count_turn.Goals as goal
 

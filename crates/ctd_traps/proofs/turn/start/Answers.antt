@@ -2,7 +2,7 @@ use Rattle.ctd_program.specs.Tree
 use Rattle.ctd_program.specs.calls.View.{expr_tree}
 use Rattle.ctd_traps.specs.declared.turn.Turns.{Turns}
 use Rattle.ctd_traps.specs.inner.Walk.{Counts, Starts}
-use Rattle.ctd_traps.proofs.Results.{if_ok_more}
+use Rattle.ctd_known.proofs.Results.{if_ok_more}
 use Rattle.ctd_traps.proofs.Turning.{starts_times}
 use Rattle.ctd_traps.proofs.turn.start.Goals as goal
 

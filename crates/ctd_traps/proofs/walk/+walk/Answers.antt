@@ -2,7 +2,7 @@ use Rattle.std.proofs.Common.{IfOk, sym, subst}
 use Rattle.std.specs.Global.{Vec}
 use Rattle.ctd_program.specs.Tree
 use Rattle.ctd_program.proofs.Trees.{list_commands}
-use Rattle.ctd_program.specs.calls.View.{command_list, command_tree, command_trees, test_tree}
+use Rattle.ctd_program.specs.calls.View.{command_list, command_tree, test_tree}
 use Rattle.ctd_program.specs.inner.View.{boxed_separator}
 use Rattle.ctd_program.specs.declared.tree.Command.{Command}
 use Rattle.ctd_program.specs.declared.tree.Test.{Test}
@@ -13,7 +13,7 @@ use Rattle.ctd_traps.specs.calls.Traps.{traps_of}
 use Rattle.ctd_traps.specs.inner.Cases.{Divides, TellsCases}
 use Rattle.ctd_traps.specs.inner.Holds.{ArePart}
 use Rattle.ctd_traps.specs.inner.Walk.{AreBranches, Concludes, RoundKeeps, SeparatorKeeps, StepKeeps, choice_at, loop_at}
-use Rattle.ctd_traps.proofs.Results.{if_ok_more}
+use Rattle.ctd_known.proofs.Results.{if_ok_more}
 use Rattle.ctd_traps.proofs.Walking.{between_keeps, choice_steps, listed_more, part_refl, part_trans}
 use Rattle.ctd_traps.proofs.Steps.{choice_step, loop_step, repeat_keeps, separator_more, walk_done, walk_step}
 use Rattle.ctd_traps.proofs.walk.+walk.Goals as goal
