@@ -1,7 +1,7 @@
 use Rattle.ctd_program.specs.Tree
 use Rattle.std.proofs.Common.{◌≤◌, ◌⊎◌, length, subst}
 use Rattle.ctd_program.specs.calls.View.{expr_tree, names_of}
-use Rattle.ctd_value.specs.Fault.{Shape}
+use Rattle.ctd_outcome.specs.declared.reason.Fault.TheVariants.{Shape}
 use Rattle.ctd_known.specs.declared.condition.Branches.{Branches}
 use Rattle.ctd_known.specs.calls.Found.{IsAmong, SplitsBy}
 use Rattle.ctd_known.specs.inner.Facts.{AreSame}
