@@ -25,3 +25,6 @@ list_within-returns-in-If t c = record {
 
 pub list_block-loop-i-preserved : goal.list_block-loop-i-preserved
 list_block-loop-i-preserved t c = grind (arith, common_steps)
+
+pub list_separator-returns-in-Some : goal.list_separator-returns-in-Some
+list_separator-returns-in-Some t c = grind (arith, common_steps)

@@ -15,3 +15,6 @@ list_expr-returns-in-Element t c = record {
 
 pub list_indices-loop-index-preserved : goal.list_indices-loop-index-preserved
 list_indices-loop-index-preserved t c = grind (arith, common_steps)
+
+pub list_expr-returns-in-Add : goal.list_expr-returns-in-Add
+list_expr-returns-in-Add t c = grind (arith, common_steps)
