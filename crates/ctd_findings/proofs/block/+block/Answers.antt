@@ -1,4 +1,5 @@
-use Rattle.std.proofs.Common.{None}
+use Rattle.std.proofs.Common.{None, arith}
+use Rattle.std.proofs.lemmas.Grind.{common_steps}
 use Rattle.ctd_program.specs.inner.View.{boxed_separator}
 use Rattle.ctd_program.specs.calls.View.{command_trees}
 use Rattle.ctd_program.specs.declared.tree.Loop.{out-Loop}
@@ -21,3 +22,9 @@ list_within-returns-in-If t c = record {
       (within_choice _ c.in-If.choice c.deref-in-If.result.now c.args.command.now.place c.as_slice-in-If.result.now c.as_slice-in-If-2.result.now c.in-If.is c.deref-in-If.ensures
       c.as_slice-in-If.ensures c.as_slice-in-If-2.ensures);
 }
+
+pub list_block-loop-i-preserved : goal.list_block-loop-i-preserved
+list_block-loop-i-preserved t c = grind (arith, common_steps)
+
+pub list_separator-returns-in-Some : goal.list_separator-returns-in-Some
+list_separator-returns-in-Some t c = grind (arith, common_steps)

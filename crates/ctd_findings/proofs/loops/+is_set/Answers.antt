@@ -1,4 +1,5 @@
-use Rattle.std.proofs.Common.{◌≡◌, Bool, true, false, ◌||◌, refl, sym, ap, ap₂, ◌∙◌}
+use Rattle.std.proofs.Common.{◌≡◌, Bool, true, false, ◌||◌, refl, sym, ap, ap₂, ◌∙◌, arith}
+use Rattle.std.proofs.lemmas.Grind.{common_steps}
 use Rattle.ctd_program.specs.calls.View.{commands_of}
 use Rattle.ctd_program.specs.declared.tree.Choice.{out-Choice}
 use Rattle.ctd_findings.proofs.Bodies.{set_by_choice, set_by_loop}
@@ -35,3 +36,6 @@ is_set_by-returns-else-is_set_in t c =
     let whole = set_by_choice c.args.name.now _ c.in-If.choice c.deref-in-If.result.now c.args.command.now.place c.as_slice-in-If.result.now c.as_slice-else-is_set_in.result.now
     c.in-If.is c.deref-in-If.ensures c.as_slice-in-If.ensures c.as_slice-else-is_set_in.ensures in
     the_second _ _ _ (sym c.is_set_in-in-If.ensures ∙ c.if-is_set_in.false) c.is_set_in-else-is_set_in.ensures ∙ sym whole
+
+pub is_set_in-loop-command-preserved : goal.is_set_in-loop-command-preserved
+is_set_in-loop-command-preserved t c = grind (arith, common_steps)

@@ -1,4 +1,5 @@
-use Rattle.std.proofs.Common.{[], ◌∷◌}
+use Rattle.std.proofs.Common.{[], ◌∷◌, arith}
+use Rattle.std.proofs.lemmas.Grind.{common_steps}
 use Rattle.ctd_program.specs.calls.View.{expr_list}
 use Rattle.ctd_findings.specs.calls.Names.{index_names}
 use Rattle.ctd_findings.proofs.Additions.{adds_both}
@@ -11,3 +12,9 @@ list_expr-returns-in-Element t c = record {
       c.list_name-in-Element.ensures.adds c.list_indices.ensures.adds
       (element_names c.args.e.now c.in-Element.element c.deref.result.now c.deref-in-Element.result.now c.as_slice.result.now c.in-Element.is c.deref.ensures c.deref-in-Element.ensures c.as_slice.ensures);
 }
+
+pub list_indices-loop-index-preserved : goal.list_indices-loop-index-preserved
+list_indices-loop-index-preserved t c = grind (arith, common_steps)
+
+pub list_expr-returns-in-Add : goal.list_expr-returns-in-Add
+list_expr-returns-in-Add t c = grind (arith, common_steps)

@@ -1,5 +1,6 @@
 use Rattle.ctd_program.specs.Tree
-use Rattle.std.proofs.Common.{◌≡◌, ◌&&◌, ℕ, Bool, true, List, sym, ap, ◌∙◌}
+use Rattle.std.proofs.Common.{arith, ◌≡◌, ◌&&◌, ℕ, Bool, true, List, sym, ap, ◌∙◌}
+use Rattle.std.proofs.lemmas.Grind.{common_steps}
 use Rattle.ctd_program.specs.Tree.{ExprTree, ExprList}
 use Rattle.ctd_program.specs.calls.View.{expr_list, expr_tree}
 use Rattle.ctd_findings.specs.calls.Same.{indices_of, same, same_all, same_root}
@@ -19,3 +20,6 @@ is_same-returns-then-has_same_root-2 t c =
     (expr_list c.indices_of-then-has_same_root-2.result.now) c.has_same_root-in-Element.result c.are_same.result
     (element_tree c.args.a.now c.in-Element.element c.deref.result.now c.deref.result.now c.as_slice.result.now c.in-Element.is c.deref.ensures c.deref.ensures c.as_slice.ensures)
     c.has_same_root-in-Element.ensures c.if-has_same_root-2.true c.are_same.ensures c.indices_of-then-has_same_root-2.ensures
+
+pub are_same-loop-x-preserved : goal.are_same-loop-x-preserved
+are_same-loop-x-preserved t c = grind (arith, common_steps)
