@@ -181,6 +181,9 @@ fn list_kept_in<'p>(
 )
     ensures adds { Adds (items_in found.old) (remark_kept (λ name. is_among name (loops_fill (command_trees body.now))) (λ name. is_among name (all_unset (command_trees body.now))) (names_at arrays.now)) (items_in found.new) }
 {
+    if arrays.is_empty() {
+        return;
+    }
     let filled = names_filled(alloc, body);
     let unset = names_unset(alloc, body);
     if filled.is_complete && unset.is_complete {
