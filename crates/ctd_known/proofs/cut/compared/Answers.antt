@@ -3,9 +3,6 @@ use Rattle.ctd_range.specs.calls.Ranges.{IsIn}
 use Rattle.ctd_known.specs.inner.Compared.{Relates}
 use Rattle.ctd_known.proofs.cut.compared.Goals as goal
 
-pub returns-in-Less : goal.returns-in-Less
-returns-in-Less c = λ k x y so i j. c.less.ensures.refines k x y (subst (λ by. Relates by x y) c.in-Less.is so) i j
-
 pub returns-in-AtMost : goal.returns-in-AtMost
 returns-in-AtMost c = λ k x y so i j. c.at_most.ensures.refines k x y (subst (λ by. Relates by x y) c.in-AtMost.is so) i j
 
