@@ -15,9 +15,11 @@ from results import TOP, print_results
 sys.path.insert(0, str(TOP / "scripts"))
 from spec_reader import blanked, closing
 
-# An answer that memory ran out, or that a pattern is too large to be built, as code writes it.
-ANSWER = re.compile(r"\b\w+::(?:Memory|OutOfMemory|TooLarge)\b(?!::)|(?:\(|=>\s*|\|\s*|\breturn\s+|=\s*)AllocError\b(?!::|>)")
+# An answer that memory ran out, or that a pattern is too large to be built, as code writes it; and what says so in a list that is collected.
+ANSWER = re.compile(r"\b\w+::(?:Memory|OutOfMemory|TooLarge)\b(?!::)|(?:\(|=>\s*|\|\s*|\breturn\s+|=\s*)AllocError\b(?!::|>)|\.fail\(\)")
 HANDED_ON = re.compile(r"Memory|AllocError|CompiledTooBig|_memory")
+# Only the calls of ctd_findings are collected so, and their one error is that memory ran out.
+FAILED_CALL = re.compile(r"Err\(_\)\s*$")
 FUNCTION = re.compile(r"\bfn (\w+)")
 CONVERSION = re.compile(r"\bimpl(?:<T: Drop>)? From<Alloc(?:Error|Failed<T>)> for \w+")
 
@@ -25,6 +27,7 @@ CONVERSION = re.compile(r"\bimpl(?:<T: Drop>)? From<Alloc(?:Error|Failed<T>)> fo
 ELSEWHERE = {
     ("ctd_arguments/src/words.rt", "texts_of"): "a push failed",
     ("ctd_in_memory/src/run.rt", "run_in_memory"): "the words could not be split, which only memory can prevent",
+    ("ctd_findings/src/cases.rt", "list_kept_in"): "a set is not complete: an insertion failed before",
     ("ctd_findings/src/found.rt", "finish"): "a push failed before",
     ("ctd_findings/src/known.rt", "known_of"): "a set is not complete: an insertion failed before",
     ("ctd_findings/src/program.rt", "unknown_presets"): "a set is not complete: an insertion failed before",
@@ -90,7 +93,8 @@ def answers_in(place: str, text: str) -> Iterator[Written]:
         function = next((name for start, name in reversed(functions) if start < found.start()), "no function")
         pattern = pattern_before(code, found.start())
         is_converted = any(start < found.start() < end for start, end in conversions)
-        is_handed_on = is_converted or (pattern is not None and HANDED_ON.search(pattern) is not None)
+        fault = FAILED_CALL if found[0] == ".fail()" else HANDED_ON
+        is_handed_on = is_converted or (pattern is not None and fault.search(pattern) is not None)
         yield Written(place, code.count("\n", 0, found.start()) + 1, function, found[0].strip("(=>| "), is_handed_on)
 
 
@@ -102,6 +106,9 @@ EXAMPLES = [
     ("fn f() { match g() { Ok(x) if x > 9 => Err(AllocError), other => other } }", [False]),
     ("fn f() { match g() { Err(E::Memory) => { let _x = 1; return Err(AllocError); } Ok(x) => Ok(x) } }", [False]),
     ("fn f() { g().map_err(|_| AllocError) }", [False]),
+    ("fn f() { match g() { Ok(x) => found.add(x), Err(_) => found.fail(), } }", [True]),
+    ("fn f() { if n > 9 { found.fail() } else { found.add(n) } }", [False]),
+    ("fn f() { match g() { Ok(x) => found.fail(), Err(_) => found.fail(), } }", [False, True]),
     ("fn f() { if fault == LoadKind::Memory { g() } else { h() } }", []),
     ("impl From<AllocError> for X { fn from(_: AllocError) -> X { X::Memory } }", [True]),
     ('fn f() -> Result<u8, AllocError> { g("X::Memory") // X::Memory\n}', []),
