@@ -20,7 +20,6 @@ use std::alloc::{AllocError, Global};
 use std::str::from_utf8;
 
 /// What the command line asks for.
-#[derive(Drop)]
 pub(crate) struct LintSetup {
     /// The names of the programs' files.
     pub(crate) programs: Vec<Bytes>,
@@ -32,6 +31,18 @@ pub(crate) struct LintSetup {
     pub(crate) verdicts: bool,
     /// Whether the traps of elements and of arrays in UNIQUE are shown too.
     pub(crate) elements: bool,
+}
+
+impl Drop for LintSetup {
+    fn drop(self) {
+        let LintSetup {
+            programs: _,
+            presets: _,
+            ignored: _,
+            verdicts: _,
+            elements: _,
+        } = self;
+    }
 }
 
 /// Why the words ask for no program.

@@ -18,11 +18,20 @@ use std::env::Args;
 use std::io::{BufReader, ErrorKind};
 
 /// How a process ended: its status, and its streams as it left them.
-#[derive(Drop)]
 pub struct Answered<O, E> {
     pub status: u8,
     pub out: ToWrite<O>,
     pub err: ToWrite<E>,
+}
+
+impl<O: Drop, E: Drop> Drop for Answered<O, E> {
+    fn drop(self) {
+        let Answered {
+            status: _,
+            out: _,
+            err: _,
+        } = self;
+    }
 }
 
 /// Answers the words of a command line: lints the programs that they name, or tells why not, and gives the status.

@@ -18,7 +18,6 @@ use std::alloc::{AllocError, Global};
 use std::marker::Model;
 
 /// A program that was read, ready for any number of checks, which contracts see as the list of its commands.
-#[derive(Drop)]
 pub struct Plan {
     program: Program,
     /// The patterns of its literals, in the order of the text, so that each stands at its literal's number.
@@ -26,6 +25,15 @@ pub struct Plan {
     ghost shallow: { list_blocks (command_trees program) ≤ NESTING_LIMIT },
     ghost numbered: { IsNumbered (command_trees program) },
     ghost built: { patterns.items ≡ texts_of (literals (command_trees program)) },
+}
+
+impl Drop for Plan {
+    fn drop(self) {
+        let Plan {
+            program: _,
+            patterns: _,
+        } = self;
+    }
 }
 
 impl Model for Plan {
