@@ -9,7 +9,8 @@ use Rattle.clap.specs.declared.error.ErrorKind.TheVariants.{OutOfMemory}
 use Rattle.ctd_program.specs.declared.preset.Preset.{Preset}
 use Rattle.ctd_arguments.specs.CommandLine.{checker}
 use Rattle.ctd_arguments.specs.Usage.{ArePresetsOf, AsksForCheck, IsUsageFault, bad_preset, bad_steps, fault_by_kind, no_memory, no_text, not_taken, option_value}
-use Rattle.ctd_arguments.specs.inner.Usage.{HasNoPresets, HasNoStepLimit}
+use Rattle.ctd_arguments.specs.calls.Usage.{HasNoPresets}
+use Rattle.ctd_arguments.specs.inner.Usage.{HasNoStepLimit}
 use Rattle.ctd_arguments.specs.declared.setup.UsageFault.{UsageFault}
 use Rattle.ctd_arguments.specs.declared.setup.UsageFault.TheVariants as fault
 

@@ -11,20 +11,26 @@ ghost use Rattle.ctd_arguments.specs.inner.RequiredProgram.{IsLocal, RequiresPro
 use clap::{Arg, ArgAction, ArgMatches, Command, Error};
 use std::alloc::{AllocError, Global};
 
+/// A flag with a long name.
+pub fn flag<'a>(alloc: Global, name: &'a str) -> Arg<'a>
+    ensures rule { rule_of result ≡ option_rule name.entry.now None SetTrue }
+    ensures name { result.id.now ≡ name.entry.now }
+    ensures local { IsLocal result }
+{
+    Arg::new(alloc, name).long(name).action(ArgAction::SetTrue)
+}
+
 /// A flag with a long and a short name.
-fn flag<'a>(alloc: Global, name: &'a str, short: char) -> Arg<'a>
+fn short_flag<'a>(alloc: Global, name: &'a str, short: char) -> Arg<'a>
     ensures rule { rule_of result ≡ option_rule name.entry.now (Some short) SetTrue }
     ensures name { result.id.now ≡ name.entry.now }
     ensures local { IsLocal result }
 {
-    Arg::new(alloc, name)
-        .short(short)
-        .long(name)
-        .action(ArgAction::SetTrue)
+    flag(alloc, name).short(short)
 }
 
 /// An option with a long name, which takes a value.
-fn option<'a>(alloc: Global, name: &'a str) -> Arg<'a>
+pub fn option<'a>(alloc: Global, name: &'a str) -> Arg<'a>
     ensures rule { rule_of result ≡ option_rule name.entry.now None Set }
     ensures name { result.id.now ≡ name.entry.now }
     ensures local { IsLocal result }
@@ -33,7 +39,7 @@ fn option<'a>(alloc: Global, name: &'a str) -> Arg<'a>
 }
 
 /// The option of the presets.
-fn define_option<'a>(alloc: Global) -> Arg<'a>
+pub fn define_option<'a>(alloc: Global) -> Arg<'a>
     ensures rule { rule_of result ≡ option_rule (codes "define") (Some 68) Set }
     ensures name { result.id.now ≡ codes "define" }
     ensures local { IsLocal result }
@@ -59,10 +65,10 @@ fn command<'a>(alloc: Global) -> Result<Command<'a>, AllocError>
     ensures program { IfOk result RequiresProgram }
 {
     let arguments = vec![in alloc;
-        flag(alloc, "generate", 'g'),
+        short_flag(alloc, "generate", 'g'),
         define_option(alloc),
-        flag(alloc, "quiet", 'q'),
-        flag(alloc, "whitespace-ok", 'w'),
+        short_flag(alloc, "quiet", 'q'),
+        short_flag(alloc, "whitespace-ok", 'w'),
         option(alloc, "max-steps"),
         program_name(alloc),
         Arg::new(alloc, "TESTDATA"),

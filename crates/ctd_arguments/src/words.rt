@@ -8,8 +8,8 @@ ghost use Rattle.clap.specs.Words.{Text, first_of, found_of, kind_of, rows_of};
 ghost use Rattle.ctd_arguments.specs.Settings.{IsSetup};
 ghost use Rattle.ctd_arguments.specs.inner.Usage.{file_of, mode_by};
 ghost use Rattle.ctd_arguments.specs.Usage.{ArePresetsOf, IsStepLimitOf, IsStepNumber, IsUsageFault, fault_by_kind};
-ghost use Rattle.ctd_arguments.specs.calls.Usage.{is_on};
-ghost use Rattle.ctd_arguments.specs.inner.Usage.{HasNoPresets, HasNoStepLimit, IsFoundIn};
+ghost use Rattle.ctd_arguments.specs.calls.Usage.{HasNoPresets, is_on};
+ghost use Rattle.ctd_arguments.specs.inner.Usage.{HasNoStepLimit, IsFoundIn};
 
 use crate::command_line::matches_in;
 use crate::setup::{Setup, UsageFault};
@@ -37,7 +37,7 @@ impl From<AllocError> for UsageFault {
 }
 
 /// The words as texts.
-fn texts_of<'w>(alloc: Global, words: &'w [Bytes]) -> Result<Vec<&'w str>, UsageFault>
+pub fn texts_of<'w>(alloc: Global, words: &'w [Bytes]) -> Result<Vec<&'w str>, UsageFault>
     ensures ok { IfOk result (λ texts. map (λ text. text.now) texts.items ≡ words.now) }
     ensures text { IfOk result (λ _. All IsUtf8 words.now) }
     ensures refused { result ≡ Err UsageFault.Words → ¬ (All IsUtf8 words.now) }
@@ -56,7 +56,7 @@ fn texts_of<'w>(alloc: Global, words: &'w [Bytes]) -> Result<Vec<&'w str>, Usage
 }
 
 /// The fault for an error of clap.
-fn fault_for(error: &Error) -> UsageFault
+pub fn fault_for(error: &Error) -> UsageFault
     ensures { result ≡ fault_by_kind (kind_of error.now) }
 {
     match error.kind() {
@@ -68,14 +68,14 @@ fn fault_for(error: &Error) -> UsageFault
 }
 
 /// The value that the words give to an option or an argument.
-fn value_of<'a>(matches: &ArgMatches<'a>, name: &str) -> Option<&'a str>
+pub fn value_of<'a>(matches: &ArgMatches<'a>, name: &str) -> Option<&'a str>
     ensures { option_map (λ v. v.now) result ≡ first_of name.now (rows_of (found_of matches.now)) }
 {
     matches.get_str(name)
 }
 
 /// Whether the words give a flag.
-fn is_set(matches: &ArgMatches<'_>, name: &str) -> bool
+pub fn is_set(matches: &ArgMatches<'_>, name: &str) -> bool
     ensures { result ≡ is_on name.now (rows_of (found_of matches.now)) }
 {
     match value_of(matches, name) {
@@ -108,7 +108,7 @@ fn step_limit(text: Option<&str>) -> Result<u64, UsageFault>
 }
 
 /// The presets.
-fn presets_of(alloc: Global, text: Option<&str>) -> Result<Presets, UsageFault>
+pub fn presets_of(alloc: Global, text: Option<&str>) -> Result<Presets, UsageFault>
     ensures { let given = option_map (λ t. t.now) text.entry in
         MatchResult result (ArePresetsOf given)
         (λ f. (f ≡ UsageFault.Memory) ⊎ ((f ≡ UsageFault.BadPreset) × HasNoPresets given)) }

@@ -1,5 +1,5 @@
 -- What traps say of verdicts where none is covered.
-use Rattle.std.proofs.Common.{◌≡◌, ◌∙◌, ◌++◌, ℕ, List, Bool, true, false, length, OnOk, Result, ap, subst, sym, if◌then◌else◌}
+use Rattle.std.proofs.Common.{◌≡◌, ◌∙◌, ◌++◌, ℕ, List, Bool, false, length, OnOk, Result, ap, subst, sym, if◌then◌else◌}
 use Rattle.ctd_traps.specs.declared.finding.Finding.{Finding as Trap}
 use Rattle.ctd_lint_tool.specs.calls.Traps.{condition_text, every_text, outlook_text, places_text, some_covered, some_element, some_shape}
 

@@ -8,17 +8,15 @@ use Rattle.ctd_arguments.specs.Usage.{ArePresetsOf}
 use Rattle.ctd_lint_tool.specs.declared.command_line.LintFault.{LintFault}
 use Rattle.ctd_lint_tool.specs.declared.command_line.LintFault.TheVariants as faults
 use Rattle.ctd_lint_tool.specs.calls.CommandLine.{IsTaken, found_in}
-use Rattle.ctd_lint_tool.specs.calls.Usage.{IsBadPreset, IsGoodPreset, IsLintFault, TellsUnknown, unknown_in}
+use Rattle.ctd_arguments.specs.declared.setup.UsageFault.{UsageFault}
+use Rattle.ctd_arguments.specs.declared.setup.UsageFault.TheVariants as usage
+use Rattle.ctd_arguments.specs.calls.Usage.{HasNoPresets}
+use Rattle.ctd_lint_tool.specs.calls.Usage.{IsLintFault, TellsUnknown, lint_fault, unknown_in}
 
 -- what holds of a fault holds of what `?` returns for it
 pub holds_on_return : {T : Type 0} (P : LintFault → Type 0) (f : LintFault) (q : Result T LintFault) → IsErr q × IsErrAnd q (λ e. e ≡ f) → P f → IfErr q P
 holds_on_return P f (Ok x) is has = tt
 holds_on_return P f (Err e) is has = subst P (sym is.1) has
-
--- a text that spells presets is a good one, and so is none
-is_good : (given : Option Text) (presets : List Preset) → ArePresetsOf given presets → IsGoodPreset given
-is_good None presets are = tt
-is_good (Some text) presets are = (presets, are)
 
 -- a name that is there
 is_there : (found : Option Text) (name : Text) → found ≡ Some name → is_some found ≡ true
@@ -36,15 +34,15 @@ module _ (words : List Text) (taken : IsTaken words) where
 
   module _ (named : is_some (all_of (codes "PROGRAM") (found_in words)) ≡ true) where
     -- no presets, or memory ran out
-    pub no_presets : (f : LintFault) (given : Option Text) → given ≡ first_of (codes "define") (found_in words) → (f ≡ faults.Memory) ⊎ ((f ≡ faults.BadPreset) × IsBadPreset given) → IsLintFault words f
-    no_presets f given is (inl memory) = inr memory
-    no_presets f given is (inr bad) = inl (inr (taken.0, inr (taken.1, inr (named, inl (subst IsBadPreset is bad.1, bad.0)))))
+    pub no_presets : (u : UsageFault) (given : Option Text) → given ≡ first_of (codes "define") (found_in words) → (u ≡ usage.Memory) ⊎ ((u ≡ usage.BadPreset) × HasNoPresets given) → IsLintFault words (lint_fault u)
+    no_presets u given is (inl memory) = inr (ap lint_fault memory)
+    no_presets u given is (inr bad) = inl (inr (taken.0, inr (taken.1, inr (named, inl (subst HasNoPresets is bad.1, ap lint_fault bad.0)))))
 
     -- presets, and no kinds, or memory ran out
     pub no_kinds : (f : LintFault) (define given : Option Text) (presets : List Preset) → define ≡ first_of (codes "define") (found_in words) → given ≡ first_of (codes "ignore") (found_in words)
         → ArePresetsOf define presets → (f ≡ faults.Memory) ⊎ TellsUnknown (unknown_in given) f → IsLintFault words f
     no_kinds f define given presets defines is are (inl memory) = inr memory
     no_kinds f define given presets defines is are (inr bad) =
-        let presets_are = is_good _ presets (subst (λ v. ArePresetsOf v presets) defines are) in
+        let presets_are : (presets : List Preset) × ArePresetsOf (first_of (codes "define") (found_in words)) presets = (presets, subst (λ v. ArePresetsOf v presets) defines are) in
         let told = subst (λ v. TellsUnknown (unknown_in v) f) is bad in
         inl (inr (taken.0, inr (taken.1, inr (named, inr (presets_are, inl (is_there _ told.0 told.1, told))))))

@@ -1,23 +1,22 @@
 //! The words of the command line.
 
-ghost use Rattle.std.specs.Prelude.{◌≡◌, ◌⊎◌, All, IfErr, IfOk, IsUtf8, List, MatchResult, None, Some, codes, map, option_map};
-ghost use Rattle.clap.specs.Words.{FailsBy, Text, all_of, app_of, fault_of, first_of, found_of, kind_of, matches_of, rows_of, rule_of};
+ghost use Rattle.std.specs.Prelude.{◌≡◌, ◌⊎◌, IfErr, IfOk, List, MatchResult, None, Some, codes, map, option_map};
+ghost use Rattle.clap.specs.Words.{FailsBy, Text, all_of, app_of, fault_of, found_of, matches_of, rows_of, rule_of};
 ghost use Rattle.ctd_arguments.specs.inner.RequiredProgram.{IsLocal};
-ghost use Rattle.ctd_arguments.specs.Usage.{ArePresetsOf};
-ghost use Rattle.ctd_arguments.specs.calls.Usage.{is_on};
-ghost use Rattle.ctd_lint_tool.specs.calls.CommandLine.{AreKindsOf, IsLintSetup, define_rule, elements_rule, ignore_rule, linter, parts, programs_rule, verdicts_rule};
+ghost use Rattle.ctd_lint_tool.specs.calls.CommandLine.{AreKindsOf, IsLintSetup, linter, parts, programs_rule};
 ghost use Rattle.ctd_lint_tool.specs.calls.Kinds.{lint_kind_named};
-ghost use Rattle.ctd_lint_tool.specs.calls.Usage.{IsBadPreset, IsLintFault, TellsUnknown, fault_by_kind, first_unknown, unknown_in};
+ghost use Rattle.ctd_lint_tool.specs.calls.Usage.{IsLintFault, TellsUnknown, first_unknown, unknown_in};
 ghost use Rattle.ctd_lint_tool.specs.inner.Usage.{IsFoundIn};
 
 use crate::kind::LintKind;
 use crate::words::spelled_out;
-use clap::error::ErrorKind;
 use clap::{Arg, ArgAction, ArgMatches, Command, Error};
-use ctd_program::{PresetFault, Presets};
+use ctd_arguments::{
+    UsageFault, define_option, fault_for, flag, is_set, option, presets_of, texts_of, value_of,
+};
+use ctd_program::Presets;
 use ctd_token::Bytes;
 use std::alloc::{AllocError, Global};
-use std::str::from_utf8;
 
 /// What the command line asks for.
 pub(crate) struct LintSetup {
@@ -72,45 +71,20 @@ impl From<AllocError> for LintFault {
     }
 }
 
-/// The option of the presets.
-fn define_option<'a>(alloc: Global) -> Arg<'a>
-    ensures rule { rule_of result ≡ define_rule }
-    ensures local { IsLocal result }
-{
-    Arg::new(alloc, "define")
-        .long("define")
-        .action(ArgAction::Set)
-        .short('D')
-}
+impl From<UsageFault> for LintFault {
+    ghost use Rattle.ctd_lint_tool.specs.calls.Usage.{lint_fault};
 
-/// The option of the kinds that are left out.
-fn ignore_option<'a>(alloc: Global) -> Arg<'a>
-    ensures rule { rule_of result ≡ ignore_rule }
-    ensures local { IsLocal result }
-{
-    Arg::new(alloc, "ignore")
-        .long("ignore")
-        .action(ArgAction::Set)
-}
+    ghost from_gives = { λ usage fault. fault ≡ lint_fault usage };
 
-/// The flag that asks for the line about verdicts.
-fn verdicts_flag<'a>(alloc: Global) -> Arg<'a>
-    ensures rule { rule_of result ≡ verdicts_rule }
-    ensures local { IsLocal result }
-{
-    Arg::new(alloc, "verdicts")
-        .long("verdicts")
-        .action(ArgAction::SetTrue)
-}
-
-/// The flag that asks for elements and arrays in UNIQUE.
-fn elements_flag<'a>(alloc: Global) -> Arg<'a>
-    ensures rule { rule_of result ≡ elements_rule }
-    ensures local { IsLocal result }
-{
-    Arg::new(alloc, "elements")
-        .long("elements")
-        .action(ArgAction::SetTrue)
+    fn from(usage: UsageFault) -> LintFault {
+        match usage {
+            UsageFault::Help => LintFault::Help,
+            UsageFault::Version => LintFault::Version,
+            UsageFault::BadPreset => LintFault::BadPreset,
+            UsageFault::Memory => LintFault::Memory,
+            UsageFault::Words | UsageFault::BadSteps | UsageFault::Generate => LintFault::Words,
+        }
+    }
 }
 
 /// The names of the programs' files, of which one has to be there.
@@ -129,9 +103,9 @@ fn command<'a>(alloc: Global) -> Result<Command<'a>, AllocError>
 {
     let arguments = vec![in alloc;
         define_option(alloc),
-        ignore_option(alloc),
-        verdicts_flag(alloc),
-        elements_flag(alloc),
+        option(alloc, "ignore"),
+        flag(alloc, "verdicts"),
+        flag(alloc, "elements"),
         program_names(alloc),
     ]?;
     Command::new(alloc, "ctd-lint")
@@ -147,75 +121,11 @@ fn matches_in<'a>(alloc: Global, words: &'a [&'a str]) -> Result<ArgMatches<'a>,
     command(alloc)?.try_get_matches_from(words)
 }
 
-/// The words as texts.
-fn texts_of<'w>(alloc: Global, words: &'w [Bytes]) -> Result<Vec<&'w str>, LintFault>
-    ensures ok { IfOk result (λ texts. map (λ text. text.now) texts.items ≡ words.now) }
-    ensures text { IfOk result (λ _. All IsUtf8 words.now) }
-    ensures refused { result ≡ Err LintFault.Words → ¬ (All IsUtf8 words.now) }
-    ensures faults { IfErr result (λ fault. (fault ≡ LintFault.Words) ⊎ (fault ≡ LintFault.Memory)) }
-{
-    let mut texts = Vec::new(alloc);
-    for word in words {
-        let Ok(text) = from_utf8(word.as_slice()) else {
-            return Err(LintFault::Words);
-        };
-        let Ok(()) = texts.push(text) else {
-            return Err(LintFault::Memory);
-        };
-    }
-    Ok(texts)
-}
-
-/// The fault for an error of clap.
-fn fault_for(error: &Error) -> LintFault
-    ensures { result ≡ fault_by_kind (kind_of error.now) }
-{
-    match error.kind() {
-        ErrorKind::DisplayHelp => LintFault::Help,
-        ErrorKind::DisplayVersion => LintFault::Version,
-        ErrorKind::OutOfMemory => LintFault::Memory,
-        _ => LintFault::Words,
-    }
-}
-
-/// The value that the words give to an option or an argument.
-fn value_of<'a>(matches: &ArgMatches<'a>, name: &str) -> Option<&'a str>
-    ensures { option_map (λ v. v.now) result ≡ first_of name.now (rows_of (found_of matches.now)) }
-{
-    matches.get_str(name)
-}
-
-/// Whether the words give a flag.
-fn is_set(matches: &ArgMatches<'_>, name: &str) -> bool
-    ensures { result ≡ is_on name.now (rows_of (found_of matches.now)) }
-{
-    match value_of(matches, name) {
-        Some(value) => value == "true",
-        None => false,
-    }
-}
-
 /// The values that the words give to an option or an argument, if it is there.
 fn values_of<'m, 'a>(matches: &'m ArgMatches<'a>, name: &str) -> Option<&'m [&'a str]>
     ensures { option_map (λ vs. map (λ v. v.now) vs.now) result ≡ all_of name.now (rows_of (found_of matches.now)) }
 {
     matches.get_strs(name)
-}
-
-/// The presets.
-fn presets_of(alloc: Global, text: Option<&str>) -> Result<Presets, LintFault>
-    ensures { let given = option_map (λ t. t.now) text.entry in
-        MatchResult result (ArePresetsOf given)
-        (λ f. (f ≡ LintFault.Memory) ⊎ ((f ≡ LintFault.BadPreset) × IsBadPreset given)) }
-{
-    match text {
-        None => Ok(Presets::none(alloc)),
-        Some(text) => match Presets::read(alloc, text) {
-            Ok(presets) => Ok(presets),
-            Err(PresetFault::BadPreset) => Err(LintFault::BadPreset),
-            Err(PresetFault::Memory) => Err(LintFault::Memory),
-        },
-    }
 }
 
 /// The parts of a text between commas.
@@ -312,6 +222,6 @@ pub(crate) fn settings(alloc: Global, words: &[Bytes]) -> Result<LintSetup, Lint
     let spelled = spelled_out(alloc, texts.as_slice())?;
     match matches_in(alloc, spelled.as_slice()) {
         Ok(matches) => setup_of(alloc, &matches),
-        Err(error) => Err(fault_for(&error)),
+        Err(error) => Err(fault_for(&error).into()),
     }
 }

@@ -5,17 +5,12 @@ use Rattle.std.specs.Str.{bytes_eq}
 use Rattle.clap.specs.Words.{Row, Text, matches_of}
 use Rattle.ctd_program.specs.declared.mode.Mode.{Mode}
 use Rattle.ctd_program.specs.declared.mode.Mode.TheVariants.{Exact, BlanksOk}
-use Rattle.ctd_program.specs.declared.preset.Preset.{Preset}
 use Rattle.ctd_arguments.specs.CommandLine.{checker}
-use Rattle.ctd_arguments.specs.Usage.{ArePresetsOf, IsStepLimitOf, IsTaken}
+use Rattle.ctd_arguments.specs.Usage.{IsStepLimitOf, IsTaken}
 
 -- clap takes the words, and finds these values in them
 abbrev pub IsFoundIn : List Text → List Row → Type 0
 IsFoundIn words rows = IsTaken words × (rows ≡ matches_of checker words)
-
--- a text is given, and spells no presets
-abbrev pub HasNoPresets : Option Text → Type 0
-HasNoPresets given = (presets : List Preset) → ¬ (ArePresetsOf given presets)
 
 -- a text is given, and is no number of steps
 abbrev pub HasNoStepLimit : Option Text → Type 0

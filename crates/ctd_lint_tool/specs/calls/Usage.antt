@@ -3,23 +3,28 @@ use Rattle.ctd_lint_tool.specs.declared.command_line.LintFault.TheVariants as fa
 use Rattle.std.specs.Prelude.{◌≡◌, ◌⊎◌, true, List, [], ◌∷◌, Option, None, Some, All, IsUtf8, codes, find, is_none, is_some}
 use Rattle.clap.specs.Words.{IsAmong, Text, all_of, first_of}
 use Rattle.clap.specs.declared.error.ErrorKind.{ErrorKind}
-use Rattle.clap.specs.declared.error.ErrorKind.TheVariants.{DisplayHelp, DisplayVersion, OutOfMemory}
-use Rattle.ctd_program.specs.Presets.{ArePresets}
 use Rattle.ctd_program.specs.declared.preset.Preset.{Preset}
+use Rattle.ctd_arguments.specs.declared.setup.UsageFault.{UsageFault}
+use Rattle.ctd_arguments.specs.declared.setup.UsageFault.TheVariants as usage
+use Rattle.ctd_arguments.specs.Usage.{ArePresetsOf, fault_by_kind}
+use Rattle.ctd_arguments.specs.calls.Usage.{HasNoPresets}
 use Rattle.ctd_lint_tool.specs.declared.command_line.LintFault.{LintFault}
-use Rattle.ctd_lint_tool.specs.calls.CommandLine.{IsTaken, errors_in, found_in, parts}
+use Rattle.ctd_lint_tool.specs.calls.CommandLine.{errors_in, found_in, parts}
 use Rattle.ctd_lint_tool.specs.calls.Kinds.{lint_kind_named}
 
--- the fault for each kind of error of clap
-abbrev pub fault_by_kind : ErrorKind → LintFault
-fault_by_kind DisplayHelp = faults.Help
-fault_by_kind DisplayVersion = faults.Version
-fault_by_kind OutOfMemory = faults.Memory
-fault_by_kind _ = faults.Words
+-- the fault here that a fault of the checker's words is; this command line has neither steps nor a flag to generate
+abbrev pub lint_fault : UsageFault → LintFault
+lint_fault usage.Help = faults.Help
+lint_fault usage.Version = faults.Version
+lint_fault usage.BadPreset = faults.BadPreset
+lint_fault usage.Memory = faults.Memory
+lint_fault usage.Words = faults.Words
+lint_fault usage.BadSteps = faults.Words
+lint_fault usage.Generate = faults.Words
 
 -- this is the fault of a kind of error that clap finds in the words
 abbrev pub IsFaultOfClap : List Text → LintFault → Type 0
-IsFaultOfClap words f = (kind : ErrorKind) × IsAmong kind (errors_in words) × (fault_by_kind kind ≡ f)
+IsFaultOfClap words f = (kind : ErrorKind) × IsAmong kind (errors_in words) × (lint_fault (fault_by_kind kind) ≡ f)
 
 -- the first of some names that no kind of findings or traps has
 abbrev pub first_unknown : List Text → Option Text
@@ -33,16 +38,6 @@ unknown_in (Some text) = first_unknown (parts text)
 -- there is such a name, and the fault tells it
 abbrev pub TellsUnknown : Option Text → LintFault → Type 0
 TellsUnknown found f = (name : Text) × (found ≡ Some name) × (f ≡ faults.UnknownKind name)
-
--- no text is given, or it spells presets
-abbrev pub IsGoodPreset : Option Text → Type 0
-IsGoodPreset None = Unit {0}
-IsGoodPreset (Some text) = (presets : List Preset) × ArePresets text presets
-
--- a text is given, and spells no presets
-abbrev pub IsBadPreset : Option Text → Type 0
-IsBadPreset None = ⊥
-IsBadPreset (Some text) = (presets : List Preset) → ¬ (ArePresets text presets)
 
 -- a rule for the words, and the fault for breaking it
 pub record FaultRule : Type 1 where
@@ -73,7 +68,7 @@ program_rule words =
 abbrev pub preset_rule : List Text → FaultRule
 preset_rule words =
     let given = first_of (codes "define") (found_in words) in
-    record { IsKept = IsGoodPreset given; IsBroken = IsBadPreset given; Gives = λ f. f ≡ faults.BadPreset }
+    record { IsKept = (presets : List Preset) × ArePresetsOf given presets; IsBroken = HasNoPresets given; Gives = λ f. f ≡ faults.BadPreset }
 
 -- each kind that is left out is one; the first that is none is told
 abbrev pub kinds_rule : List Text → FaultRule

@@ -3,6 +3,7 @@ use Rattle.clap.specs.Words.{all_of, first_of}
 use Rattle.ctd_arguments.specs.Usage.{ArePresetsOf}
 use Rattle.ctd_arguments.specs.calls.Usage.{is_on}
 use Rattle.ctd_lint_tool.specs.calls.CommandLine.{AreKindsOf}
+use Rattle.ctd_lint_tool.specs.calls.Usage.{lint_fault}
 use Rattle.ctd_lint_tool.proofs.UsageFaults.{holds_on_return, named, no_kinds, no_presets, no_programs}
 use Rattle.ctd_lint_tool.proofs.command_line.setup_of.Goals as goal
 
@@ -13,7 +14,7 @@ returns-in_err-programs-clause-fault c =
 
 pub returns-in_err-presets-clause-fault : goal.returns-in_err-presets-clause-fault
 returns-in_err-presets-clause-fault c =
-    holds_on_return _ c.in_err-presets.field-0.0 c.from_residual-in_err-presets.result c.from_residual-in_err-presets.ensures (λ words found.
+    holds_on_return _ (lint_fault c.in_err-presets.field-0.0) c.from_residual-in_err-presets.result c.from_residual-in_err-presets.ensures (λ words found.
     no_presets words found.0 (named words _ _ found.1 c.in_ok-programs.ensures) _ _ (c.value_of.ensures ∙ ap (first_of (codes "define")) found.1) c.in_err-presets.ensures)
 
 pub returns-in_err-ignored-clause-fault : goal.returns-in_err-ignored-clause-fault
