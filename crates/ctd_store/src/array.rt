@@ -26,12 +26,18 @@ use std::marker::Model;
 use std::mem::replace;
 
 /// Index lists with their values, each index list once, which contracts see as the list of them in order.
-#[derive(Drop)]
 pub(crate) struct Array {
     // The values that are found without a map.
     places: Places,
     // All others, by a hash of their index lists, none of which is empty. A value at an index list that has a place since then is hidden by the one in that place.
     rest: IndexMap<Vec<Value>, Value>,
+}
+
+// Written out, and not derived, as that of `Value`.
+impl Drop for Array {
+    fn drop(self) {
+        let Array { places: _, rest: _ } = self;
+    }
 }
 
 impl Model for Array {

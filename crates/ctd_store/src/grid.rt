@@ -20,12 +20,18 @@ use crate::value_ref::ValueRef;
 use std::alloc::{AllocError, Global};
 
 /// Values at a row and a column.
-#[derive(Drop)]
 pub(crate) struct Grid {
     // The number of the first row.
     pub(crate) base: usize,
     // The values of each row, at the numbers of its columns.
     pub(crate) rows: Vec<Line>,
+}
+
+// Written out, and not derived, as that of `Value`.
+impl Drop for Grid {
+    fn drop(self) {
+        let Grid { base: _, rows: _ } = self;
+    }
 }
 
 impl Grid {
