@@ -26,12 +26,18 @@ use std::marker::Model;
 use std::mem::replace;
 
 /// Index lists with their values, each index list once, which contracts see as the list of them in order.
-#[derive(Drop)]
 pub(crate) struct Array {
     // The values that are found without a map.
     places: Places,
     // All others, by a hash of their index lists, none of which is empty. A value at an index list that has a place since then is hidden by the one in that place.
     rest: IndexMap<Vec<Value>, Value>,
+}
+
+// Written out, and not derived, as that of `Value`.
+impl Drop for Array {
+    fn drop(self) {
+        let Array { places: _, rest: _ } = self;
+    }
 }
 
 impl Model for Array {
@@ -148,8 +154,19 @@ impl Array {
         ensures ok { OnOk result (self.new ≡ put values_cmp (indices_at index.entry) (value_of_ref value.entry) self.old) }
         ensures err { OnErr result (self.new ≡ self.old) }
     {
-        let indices = index.to_indices();
-        let indices = indices.as_slice();
+        self.insert_at_list(alloc, index.to_indices().as_slice(), value)
+    }
+
+    /// Gives an index list a value; after an error all is as it was. Apart from `insert_by_list`, so that no way out of it drops its values.
+    fn insert_at_list(
+        &mut self,
+        alloc: Global,
+        indices: &[Value],
+        value: ValueRef<'_>,
+    ) -> Result<(), AllocError>
+        ensures ok { OnOk result (self.new ≡ put values_cmp indices.now (value_of_ref value.entry) self.old) }
+        ensures err { OnErr result (self.new ≡ self.old) }
+    {
         if self.places.insert(alloc, indices, value)? {
             return Ok(());
         }

@@ -1,6 +1,6 @@
 //! Values at two numbers: rows of values, whose numbers follow one another.
 
-ghost use Rattle.std.specs.Prelude.{◌≡◌, ◌+◌, ◌<◌, ℕ, pos, ◌∷◌, ◌++◌, [], map, length, true, false, None, Ok, OnOk, OnErr};
+ghost use Rattle.std.specs.Prelude.{◌≡◌, ◌+◌, ◌<◌, ℕ, pos, ◌∷◌, ◌++◌, [], map, length, true, false, None, Ok, IfOk, OnOk, OnErr};
 ghost use Rattle.std.specs.List.{list_any};
 ghost use Rattle.std.specs.Option.{option_copied, IfSome};
 ghost use Rattle.std.specs.FinMap.{find};
@@ -20,12 +20,18 @@ use crate::value_ref::ValueRef;
 use std::alloc::{AllocError, Global};
 
 /// Values at a row and a column.
-#[derive(Drop)]
 pub(crate) struct Grid {
     // The number of the first row.
     pub(crate) base: usize,
     // The values of each row, at the numbers of its columns.
     pub(crate) rows: Vec<Line>,
+}
+
+// Written out, and not derived, as that of `Value`.
+impl Drop for Grid {
+    fn drop(self) {
+        let Grid { base: _, rows: _ } = self;
+    }
 }
 
 impl Grid {
@@ -171,11 +177,20 @@ fn add_row(
     ensures err { OnErr result (rows.new.items ≡ rows.old.items) }
 {
     let room = rows.last().map_or(1, |row| row.values.len());
-    let mut values = Vec::with_capacity(alloc, room)?;
-    values.push(value.to_value(alloc)?)?;
-    rows.push(Line {
+    rows.reserve(1)?;
+    let values = list_of(alloc, room, value)?;
+    rows.push_reserved(Line {
         base: column,
         values,
-    })?;
+    });
     Ok(())
+}
+
+/// A list with a single value, with room for so many.
+fn list_of(alloc: Global, room: usize, value: ValueRef<'_>) -> Result<Vec<Value>, AllocError>
+    ensures value { IfOk result (λ list. list.items ≡ value_of_ref value.entry ∷ []) }
+{
+    let mut list = Vec::with_capacity(alloc, room)?;
+    list.push(value.to_value(alloc)?)?;
+    Ok(list)
 }

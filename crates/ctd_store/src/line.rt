@@ -22,10 +22,16 @@ use crate::value_ref::ValueRef;
 use std::alloc::{AllocError, Global};
 
 /// Values at the numbers from a base on. The numbers are the last index of index lists that all begin alike.
-#[derive(Drop)]
 pub(crate) struct Line {
     pub(crate) base: usize,
     pub(crate) values: Vec<Value>,
+}
+
+// Written out, and not derived, as that of `Value`.
+impl Drop for Line {
+    fn drop(self) {
+        let Line { base: _, values: _ } = self;
+    }
 }
 
 /// Values at the numbers from a base on, where they stand.

@@ -23,13 +23,23 @@ use std::alloc::{AllocError, Global};
 use std::mem::replace;
 
 /// Values at no index, at one number and at two numbers.
-#[derive(Drop)]
 pub(crate) struct Places {
     // The value without indices, which is asked for most.
     pub(crate) scalar: Option<Value>,
     // From 0, from 1 or from behind a pin on.
     pub(crate) row: Line,
     pub(crate) grid: Grid,
+}
+
+// Written out, and not derived, as that of `Value`.
+impl Drop for Places {
+    fn drop(self) {
+        let Places {
+            scalar: _,
+            row: _,
+            grid: _,
+        } = self;
+    }
 }
 
 impl Places {

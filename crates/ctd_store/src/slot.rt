@@ -19,12 +19,22 @@ use std::mem::replace;
 
 /// A name with the values that presets pin, if there are any, and those that were assigned, which are at other index lists. A name that
 /// lost all has no values.
-#[derive(Drop)]
 pub(crate) struct Slot {
     pub(crate) name: NameKey,
     pub(crate) pins: Option<Array>,
     pub(crate) values: Array,
     ghost apart: { IsTrue (are_apart (unwrap_or pins []) values) },
+}
+
+// Written out, and not derived, as that of `Value`.
+impl Drop for Slot {
+    fn drop(self) {
+        let Slot {
+            name: _,
+            pins: _,
+            values: _,
+        } = self;
+    }
 }
 
 impl Slot {

@@ -25,12 +25,21 @@ use std::alloc::{AllocError, Global};
 use std::marker::Model;
 
 /// The variables with their values. A pinned variable keeps the value of its preset.
-#[derive(Drop)]
 pub struct Store {
     // Each name once, in the order in which they came.
     slots: Vec<Slot>,
     // Where each name stands in the list.
     positions: Positions,
+}
+
+// Written out, and not derived, as that of `Value`.
+impl Drop for Store {
+    fn drop(self) {
+        let Store {
+            slots: _,
+            positions: _,
+        } = self;
+    }
 }
 
 impl Model for Store {
@@ -47,10 +56,19 @@ impl Model for Store {
 }
 
 /// The indices of an entry of a name, and its value.
-#[derive(Drop)]
 pub struct EntryRef<'s> {
     pub indices: Indices<'s>,
     pub value: &'s Value,
+}
+
+// Written out, and not derived, as that of `Value`.
+impl Drop for EntryRef<'_> {
+    fn drop(self) {
+        let EntryRef {
+            indices: _,
+            value: _,
+        } = self;
+    }
 }
 
 impl Store {

@@ -1,4 +1,4 @@
-use Rattle.std.proofs.Common.{ap, sym, ◌∙◌}
+use Rattle.std.proofs.Common.{rules, ap, sym, ◌∙◌}
 use Rattle.std.specs.FinMap.{find}
 use Rattle.ctd_store.specs.calls.Index.{indices_at}
 use Rattle.ctd_store.specs.calls.Places.{listed, place_entries}
@@ -14,3 +14,6 @@ returns-in-Scalar c = record {
 
 pub returns-in-Some : goal.returns-in-Some
 returns-in-Some c = record { value = sym (found_first (indices_at c.args.index) c.in-Some.value.now (place_entries c.self.inside.places) (listed c.self.inside.rest.entries) c.args.self.now c.self.view_is c.in-Some.ensures.value) }
+
+pub returns-in-None : goal.returns-in-None
+returns-in-None c = search rules

@@ -1,33 +1,29 @@
-use Rattle.std.proofs.Common.{[], ◌∷◌, ◌++◌, cond, Some, Ok, ap, subst, sym, ◌∙◌}
+use Rattle.std.proofs.Common.{[], ◌∷◌, ◌++◌, cond, Some, Ok, ap, sym, ◌∙◌}
 use Rattle.std.specs.FinMap.{find}
-use Rattle.ctd_store.specs.calls.Index.{indices_at}
 use Rattle.ctd_store.specs.calls.Store.{by_indices}
 use Rattle.ctd_store.specs.calls.ValueRef.{value_of_ref}
 use Rattle.ctd_store.specs.calls.Places.{listed, place_entries}
-use Rattle.ctd_store.specs.inner.Reading.{ReadsAs}
 use Rattle.ctd_store.specs.Order.{values_cmp}
 use Rattle.ctd_store.specs.inner.OrderLaws.{exact_lists}
 use Rattle.ctd_store.proofs.Reading.{differs}
 use Rattle.ctd_store.proofs.Listed.{inserted, put_first, put_second}
-use Rattle.ctd_store.proofs.array.Array.insert_by_list.Goals as goal
+use Rattle.ctd_store.proofs.array.Array.insert_at_list.Goals as goal
 
 pub returns-then-branch-clause-ok : goal.returns-then-branch-clause-ok
 returns-then-branch-clause-ok c =
-    let same = c.as_slice-indices.ensures.value ∙ c.to_indices-indices.ensures.same in
-    put_first (indices_at c.args.index) (value_of_ref c.args.value) (place_entries c.insert.new.self) (place_entries c.self.inside.places) (listed c.self.inside.rest.entries) c.args.self.now c.self.view_is
-    (subst (λ k. ReadsAs (place_entries c.insert.new.self) ((k, value_of_ref c.args.value) ∷ place_entries c.self.inside.places)) same (c.in_ok-insert.ensures.done (ap Ok c.if-branch.true)))
+    put_first c.args.indices.now (value_of_ref c.args.value) (place_entries c.insert.new.self) (place_entries c.self.inside.places) (listed c.self.inside.rest.entries) c.args.self.now c.self.view_is
+    (c.in_ok-insert.ensures.done (ap Ok c.if-branch.true))
 
 pub returns-clause-ok : goal.returns-clause-ok
 returns-clause-ok c =
-    let same = c.as_slice-indices.ensures.value ∙ c.to_indices-indices.ensures.same in
     let entries = c.self.inside.rest.entries in
     ap (λ a. by_indices (a ++ listed c.insert-2.new.self.entries)) (c.in_ok-insert.ensures.stays (ap Ok c.if-branch.false))
-    ∙ put_second (indices_at c.args.index) (value_of_ref c.args.value) (place_entries c.self.inside.places) (listed c.insert-2.new.self.entries) (listed entries) c.args.self.now c.self.view_is
-    (ap (λ q. find values_cmp q (place_entries c.self.inside.places)) (sym same) ∙ c.in_ok-insert.ensures.elsewhere (ap Ok c.if-branch.false))
+    ∙ put_second c.args.indices.now (value_of_ref c.args.value) (place_entries c.self.inside.places) (listed c.insert-2.new.self.entries) (listed entries) c.args.self.now c.self.view_is
+    (c.in_ok-insert.ensures.elsewhere (ap Ok c.if-branch.false))
     (λ q.
     ap (λ es. find values_cmp q (listed es)) c.in_ok-insert-2.ensures.entries
     ∙ inserted entries c.in_ok-list.list c.in_ok-value.value q
-    ∙ (λ i. find values_cmp q (((c.in_ok-list.ensures.same ∙ same) i, c.in_ok-value.ensures.same i) ∷ listed entries)))
+    ∙ (λ i. find values_cmp q ((c.in_ok-list.ensures.same i, c.in_ok-value.ensures.same i) ∷ listed entries)))
 
 pub invariant_of-self-2 : goal.invariant_of-self-2
 invariant_of-self-2 c =
