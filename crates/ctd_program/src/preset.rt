@@ -9,16 +9,28 @@ use std::alloc::{AllocError, AllocFailed, Global};
 use std::marker::Model;
 
 /// A number or a string, as written.
-#[derive(Drop)]
 pub enum PresetValue {
     Int(i128),
     Text(Bytes),
 }
 
+impl Drop for PresetValue {
+    fn drop(self) {
+        match self {
+            PresetValue::Int(_) | PresetValue::Text(_) => {}
+        }
+    }
+}
+
 /// The indices of a variable as written, which contracts see as the list of them.
-#[derive(Drop)]
 pub struct Literals {
     values: Vec<PresetValue>,
+}
+
+impl Drop for Literals {
+    fn drop(self) {
+        let Literals { values: _ } = self;
+    }
 }
 
 impl Model for Literals {
@@ -47,17 +59,31 @@ impl Literals {
 }
 
 /// The name and the indices of a variable, of which an unindexed one has none, and the value that stays with it.
-#[derive(Drop)]
 pub struct Preset {
     pub name: Name,
     pub indices: Literals,
     pub value: PresetValue,
 }
 
+impl Drop for Preset {
+    fn drop(self) {
+        let Preset {
+            name: _,
+            indices: _,
+            value: _,
+        } = self;
+    }
+}
+
 /// Presets in their order, which contracts see as the list of them; the last of a key, which is a name with its indices, counts.
-#[derive(Drop)]
 pub struct Presets {
     items: Vec<Preset>,
+}
+
+impl Drop for Presets {
+    fn drop(self) {
+        let Presets { items: _ } = self;
+    }
 }
 
 impl Model for Presets {

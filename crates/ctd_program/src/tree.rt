@@ -9,7 +9,6 @@ use ctd_token::{Bytes, Name, Place};
 use std::marker::Model;
 
 /// An expression.
-#[derive(Drop)]
 #[cycle(expr)]
 pub enum Expr {
     /// The value of a variable without indices.
@@ -38,19 +37,46 @@ pub enum Expr {
     Pow(Box<Expr>, Box<Expr>),
 }
 
+impl Drop for Expr {
+    #[cycle(expr)]
+    fn drop(self) {
+        match self {
+            Expr::Name(_) | Expr::Numeral(_) | Expr::Text(_) => {}
+            Expr::Element(_) | Expr::Strlen(_) | Expr::Minus(_) => {}
+            Expr::Add(_, _) | Expr::Sub(_, _) | Expr::Mul(_, _) => {}
+            Expr::Div(_, _) | Expr::Rem(_, _) | Expr::Pow(_, _) => {}
+        }
+    }
+}
+
 /// An element of an array: a name with its indices.
-#[derive(Drop)]
 #[cycle(expr)]
 pub struct Element {
     pub name: Name,
     pub indices: Exprs,
 }
 
+impl Drop for Element {
+    #[cycle(expr)]
+    fn drop(self) {
+        let Element {
+            name: _,
+            indices: _,
+        } = self;
+    }
+}
+
 /// A list of expressions.
-#[derive(Drop)]
 #[cycle(expr)]
 pub struct Exprs {
     items: Vec<Expr>,
+}
+
+impl Drop for Exprs {
+    #[cycle(expr)]
+    fn drop(self) {
+        let Exprs { items: _ } = self;
+    }
 }
 
 /// A variable that a command sets: a name with its indices, of which an unindexed variable has none.
@@ -72,13 +98,17 @@ pub enum Compare {
 }
 
 /// A list of names.
-#[derive(Drop)]
 pub struct Names {
     items: Vec<Name>,
 }
 
+impl Drop for Names {
+    fn drop(self) {
+        let Names { items: _ } = self;
+    }
+}
+
 /// A test.
-#[derive(Drop)]
 pub enum Test {
     /// `a || b`
     Or(Box<Test>, Box<Test>),
@@ -98,21 +128,43 @@ pub enum Test {
     InArray(Expr, Name),
 }
 
+impl Drop for Test {
+    fn drop(self) {
+        match self {
+            Test::IsEof | Test::Match(_) | Test::Unique(_) => {}
+            Test::Compare(_, _, _) | Test::InArray(_, _) => {}
+            Test::Or(_, _) | Test::And(_, _) | Test::Not(_) => {}
+        }
+    }
+}
+
 /// A variable and the expression whose value it gets.
-#[derive(Drop)]
 pub struct Assignment {
     pub target: Var,
     pub value: Expr,
 }
 
+impl Drop for Assignment {
+    fn drop(self) {
+        let Assignment {
+            target: _,
+            value: _,
+        } = self;
+    }
+}
+
 /// A list of assignments.
-#[derive(Drop)]
 pub struct Assignments {
     items: Vec<Assignment>,
 }
 
+impl Drop for Assignments {
+    fn drop(self) {
+        let Assignments { items: _ } = self;
+    }
+}
+
 /// The literal of a REGEX.
-#[derive(Drop)]
 pub struct PatternLiteral {
     /// How many commands REGEX stand before its own in the text, so that the literals of a program are 0, 1, 2, ..
     pub number: usize,
@@ -121,32 +173,67 @@ pub struct PatternLiteral {
     pub place: Place,
 }
 
+impl Drop for PatternLiteral {
+    fn drop(self) {
+        let PatternLiteral {
+            number: _,
+            bytes: _,
+            place: _,
+        } = self;
+    }
+}
+
 /// What INT takes: the least and the greatest integer, and the variable that gets what it reads, if there is one.
-#[derive(Drop)]
 pub struct IntArguments {
     pub low: Expr,
     pub high: Expr,
     pub target: Option<Var>,
 }
 
+impl Drop for IntArguments {
+    fn drop(self) {
+        let IntArguments {
+            low: _,
+            high: _,
+            target: _,
+        } = self;
+    }
+}
+
 /// What REGEX takes: its literal, and the variable that gets what it matches, if there is one.
-#[derive(Drop)]
 pub struct RegexArguments {
     pub literal: PatternLiteral,
     pub target: Option<Var>,
 }
 
+impl Drop for RegexArguments {
+    fn drop(self) {
+        let RegexArguments {
+            literal: _,
+            target: _,
+        } = self;
+    }
+}
+
 /// A command, with the place of its word.
-#[derive(Drop)]
 #[cycle(command)]
 pub struct Command {
     pub place: Place,
     pub action: Action,
 }
 
+impl Drop for Command {
+    #[cycle(command)]
+    fn drop(self) {
+        let Command {
+            place: _,
+            action: _,
+        } = self;
+    }
+}
+
 /// What a command does. The separator of a loop may be absent. What a command takes is boxed: an enum is as large as its largest
 /// variant.
-#[derive(Drop)]
 #[cycle(command)]
 pub enum Action {
     /// `SPACE`
@@ -174,8 +261,19 @@ pub enum Action {
     If(Box<Choice>),
 }
 
+impl Drop for Action {
+    #[cycle(command)]
+    fn drop(self) {
+        match self {
+            Action::Space | Action::Newline | Action::Eof => {}
+            Action::Int(_) | Action::String(_) | Action::Regex(_) => {}
+            Action::Assert(_) | Action::Set(_) | Action::Unset(_) => {}
+            Action::Loop(_) | Action::If(_) => {}
+        }
+    }
+}
+
 /// How long a loop goes on.
-#[derive(Drop)]
 pub enum LoopGuard {
     /// `REP`, `REPI`: for a number of turns.
     Times(Box<Expr>),
@@ -183,8 +281,15 @@ pub enum LoopGuard {
     While(Box<Test>),
 }
 
+impl Drop for LoopGuard {
+    fn drop(self) {
+        match self {
+            LoopGuard::Times(_) | LoopGuard::While(_) => {}
+        }
+    }
+}
+
 /// A loop.
-#[derive(Drop)]
 #[cycle(command)]
 pub struct Loop {
     /// How long it goes on.
@@ -197,8 +302,19 @@ pub struct Loop {
     pub body: Commands,
 }
 
+impl Drop for Loop {
+    #[cycle(command)]
+    fn drop(self) {
+        let Loop {
+            guard: _,
+            counter: _,
+            between: _,
+            body: _,
+        } = self;
+    }
+}
+
 /// A test with the commands that are done where it is true, and those where it is false; with no ELSE these are none.
-#[derive(Drop)]
 #[cycle(command)]
 pub struct Choice {
     pub condition: Box<Test>,
@@ -206,11 +322,28 @@ pub struct Choice {
     pub else_do: Commands,
 }
 
+impl Drop for Choice {
+    #[cycle(command)]
+    fn drop(self) {
+        let Choice {
+            condition: _,
+            then_do: _,
+            else_do: _,
+        } = self;
+    }
+}
+
 /// A list of commands.
-#[derive(Drop)]
 #[cycle(command)]
 pub struct Commands {
     items: Vec<Command>,
+}
+
+impl Drop for Commands {
+    #[cycle(command)]
+    fn drop(self) {
+        let Commands { items: _ } = self;
+    }
 }
 
 /// A program: a list of commands.

@@ -131,6 +131,15 @@ power_is_signed tokens none a after f = record {
 pub no_power_signed : (tokens : List Lexeme) → ((r : List Lexeme) → tokens ≡ mark Minus ∷ r → ⊥) → HasNoTree IsPower (ends 3) tokens → HasNoTree IsSigned (ends 3) tokens
 no_power_signed tokens none not ts us u split ends w = not ts us u split ends (signed_power tokens ts us u none split w)
 
+-- an exponent is what is signed
+exponent_of : {ts : List Lexeme} {a : ExprTree} → IsSigned ts a → IsExponent ts a
+exponent_of (unsigned p) = positive p
+exponent_of (minus i) = negative (exponent_of i)
+
+signed_of : {ts : List Lexeme} {a : ExprTree} → IsExponent ts a → IsSigned ts a
+signed_of (positive p) = unsigned p
+signed_of (negative i) = minus (signed_of i)
+
 -- what a power is once its base is read
 After : (rest : List Lexeme) (a : ExprTree) (us : List Lexeme) (u : ExprTree) → Type 0
 After rest a us u = ((u ≡ a) × (us ≡ rest)) ⊎ ((vs : List Lexeme) × (b : ExprTree) × (rest ≡ mark Caret ∷ (vs ++ us)) × (u ≡ Tree.power a b) × IsExponent vs b)
@@ -143,17 +152,17 @@ power_after tokens rest ts us a u f e ends (power {ts = vs} {us = ws} {a = c} {b
     let same = f.only vs (mark Caret ∷ (ws ++ us)) c (e ∙ append_assoc vs (mark Caret ∷ ws) us) ended i in
     inr (ws, b, sym same.1, ap (λ x. Tree.power x b) same.0, j)
 
-pub power_reads : (tokens rest r after : List Lexeme) (a b : ExprTree) → HasTree IsAtom (ends 4) tokens a rest → rest ≡ mark Caret ∷ r → HasTree IsExponent (ends 3) r b after → HasTree IsPower (ends 3) tokens (Tree.power a b) after
+pub power_reads : (tokens rest r after : List Lexeme) (a b : ExprTree) → HasTree IsAtom (ends 4) tokens a rest → rest ≡ mark Caret ∷ r → HasTree IsSigned (ends 3) r b after → HasTree IsPower (ends 3) tokens (Tree.power a b) after
 unfolding After
 power_reads tokens rest r after a b f e g = record {
   front = f.front ++ mark Caret ∷ g.front;
   split = f.split ∙ ap (λ l. f.front ++ l) (e ∙ ap (λ l. mark Caret ∷ l) g.split) ∙ sym (append_assoc f.front (mark Caret ∷ g.front) after);
-  spells = power f.spells g.spells;
+  spells = power f.spells (exponent_of g.spells);
   only = λ ts us u split h w. elim (power_after tokens rest ts us a u f split h w) [
     | inl same ↦ absurd (caret_goes_on us r h (same.1 ∙ e))
     | inr i ↦
         let k : r ≡ i.0 ++ us = tails e i.2 in
-        let same = g.only i.0 us i.1 k h i.4 in
+        let same = g.only i.0 us i.1 k h (signed_of i.4) in
         (i.3 ∙ ap (λ x. Tree.power a x) same.0, same.1)
   ];
 }
@@ -164,11 +173,11 @@ power_reads tokens rest r after a b f e g = record {
     tails : {rest r s : List Lexeme} → rest ≡ mark Caret ∷ r → rest ≡ mark Caret ∷ s → r ≡ s
     tails e f = cc
 
-pub power_none : (tokens rest r : List Lexeme) (a : ExprTree) → HasTree IsAtom (ends 4) tokens a rest → rest ≡ mark Caret ∷ r → HasNoTree IsExponent (ends 3) r → HasNoTree IsPower (ends 3) tokens
+pub power_none : (tokens rest r : List Lexeme) (a : ExprTree) → HasTree IsAtom (ends 4) tokens a rest → rest ≡ mark Caret ∷ r → HasNoTree IsSigned (ends 3) r → HasNoTree IsPower (ends 3) tokens
 unfolding After
 power_none tokens rest r a f e not ts us u split h w = elim (power_after tokens rest ts us a u f split h w) [
   | inl same ↦ (let lt : 3 < 3 = subst (ends 3) (same.1 ∙ e) h in omega (arith, lt))
-  | inr i ↦ (let k : r ≡ i.0 ++ us = cc in not i.0 us i.1 k h i.4)
+  | inr i ↦ (let k : r ≡ i.0 ++ us = cc in not i.0 us i.1 k h (signed_of i.4))
 ]
 
 pub atom_is_power : (tokens rest : List Lexeme) (a : ExprTree) → HasTree IsAtom (ends 4) tokens a rest → ((r : List Lexeme) → rest ≡ mark Caret ∷ r → ⊥) → HasTree IsPower (ends 3) tokens a rest
@@ -188,39 +197,6 @@ no_atom_power tokens not ts us u split h (atom i) = not ts us u split (ends_weak
 no_atom_power tokens not ts us u split h (power {ts = vs} {us = ws} {a = c} i j) =
     let ended : 3 < 4 = omega arith in
     not vs (mark Caret ∷ (ws ++ us)) c (split ∙ append_assoc vs (mark Caret ∷ ws) us) ended i
-
-exponent_minus : (ts us r : List Lexeme) (u : ExprTree) → mark Minus ∷ r ≡ ts ++ us → IsExponent ts u → (vs : List Lexeme) × (a : ExprTree) × (r ≡ vs ++ us) × (u ≡ Tree.minus a) × IsExponent vs a
-exponent_minus ts us r u e (positive p) = absurd (power_head ts us r u e p)
-exponent_minus ts us r u e (negative {ts = vs} {a} i) = let k : r ≡ vs ++ us = cc in (vs, a, k, refl, i)
-
-pub negative_reads : (tokens r after : List Lexeme) (a : ExprTree) → tokens ≡ mark Minus ∷ r → HasTree IsExponent (ends 3) r a after → HasTree IsExponent (ends 3) tokens (Tree.minus a) after
-negative_reads tokens r after a e f = record {
-  front = mark Minus ∷ f.front;
-  split = e ∙ ap (λ l. mark Minus ∷ l) f.split;
-  spells = negative f.spells;
-  only = λ ts us u split ends w.
-      let i = exponent_minus ts us r u (sym e ∙ split) w in
-      let same = f.only i.0 us i.1 i.2 ends i.4 in
-      (i.3 ∙ ap Tree.minus same.0, same.1);
-}
-
-pub negative_none : (tokens r : List Lexeme) → tokens ≡ mark Minus ∷ r → HasNoTree IsExponent (ends 3) r → HasNoTree IsExponent (ends 3) tokens
-negative_none tokens r e not ts us u split ends w = let i = exponent_minus ts us r u (sym e ∙ split) w in not i.0 us i.1 i.2 ends i.4
-
-exponent_power : (tokens ts us : List Lexeme) (u : ExprTree) → ((r : List Lexeme) → tokens ≡ mark Minus ∷ r → ⊥) → tokens ≡ ts ++ us → IsExponent ts u → IsPower ts u
-exponent_power tokens ts us u none e (positive p) = p
-exponent_power tokens ts us u none e (negative {ts = vs} {a} i) = absurd (none (vs ++ us) e)
-
-pub power_is_exponent : (tokens : List Lexeme) → ((r : List Lexeme) → tokens ≡ mark Minus ∷ r → ⊥) → (a : ExprTree) (after : List Lexeme) → HasTree IsPower (ends 3) tokens a after → HasTree IsExponent (ends 3) tokens a after
-power_is_exponent tokens none a after f = record {
-  front = f.front;
-  split = f.split;
-  spells = positive f.spells;
-  only = λ ts us u split ends w. f.only ts us u split ends (exponent_power tokens ts us u none split w);
-}
-
-pub no_power_exponent : (tokens : List Lexeme) → ((r : List Lexeme) → tokens ≡ mark Minus ∷ r → ⊥) → HasNoTree IsPower (ends 3) tokens → HasNoTree IsExponent (ends 3) tokens
-no_power_exponent tokens none not ts us u split ends w = not ts us u split ends (exponent_power tokens ts us u none split w)
 
 -- atoms
 pub numeral_reads : (tokens r : List Lexeme) (n : ℤ) → tokens ≡ Lexeme.numeral n ∷ r → HasTree IsAtom (ends 4) tokens (Tree.numeral n) r

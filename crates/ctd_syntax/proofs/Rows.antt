@@ -1,5 +1,5 @@
 -- Lists with commas are one item and a chain of commas with items.
-use Rattle.std.proofs.Common.{◌≡◌, ℕ, List, [], ◌∷◌, ◌++◌, Option, Some, None, refl, sym, ap, ◌∙◌, subst, append_assoc, append-nil, arith}
+use Rattle.std.proofs.Common.{◌≡◌, ℕ, List, [], ◌∷◌, ◌++◌, Option, Some, None, refl, sym, ap, ◌∙◌, subst, append_assoc, append-nil, arith, ◌⊎◌, inl, inr}
 use Rattle.std.specs.Prelude.{map}
 use Rattle.ctd_syntax.specs.Lexeme.{Lexeme, mark}
 use Rattle.ctd_program.specs.Tree
@@ -124,6 +124,11 @@ list_view (e ∷ es) = ap (Tree.some (expr_tree e)) (list_view es)
 abbrev pub PartRow : {T : Type 0} → Spelling T → Mark → List Lexeme → List T → List Lexeme → Type 0
 PartRow Item end_mark tokens xs rest = Partly (Separated Item) (IsOne Item) (Before end_mark) comma append tokens xs rest
 
+-- what is read of a list before an item: nothing, or items and a comma
+abbrev pub BeforeItem : {T : Type 0} → Spelling T → Mark → List Lexeme → List T → List Lexeme → Type 0
+BeforeItem Item end_mark tokens xs rest =
+    ((xs ≡ []) × (tokens ≡ rest)) ⊎ ((r : List Lexeme) × PartRow Item end_mark tokens xs r × (r ≡ mark Comma ∷ rest))
+
 -- lists of items up to a mark, as the grammar has them
 pub record Listing {T U : Type 0} (Item : Spelling T) (Whole : Spelling U) (E : Following) (end_mark : Mark) (f : List T → U) : Type 0 where
   pub level : Level (Separated Item) (IsOne Item) (Before end_mark) E comma append
@@ -135,21 +140,21 @@ module _ {T U : Type 0} {Item : Spelling T} {Whole : Spelling U} {E : Following}
   none_listed : (tokens : List Lexeme) → HasNoTree (Separated Item) (Before end_mark) tokens → HasNoTree (IsBefore end_mark Whole) Always tokens
   none_listed tokens not = none_before Whole (Before end_mark) end_mark (before_mark end_mark) tokens (none_as (Separated Item) Whole (Before end_mark) f listing.from tokens not)
 
-  -- no first item
-  pub lists_none : (tokens : List Lexeme) → HasNoTree Item E tokens → HasNoTree (IsBefore end_mark Whole) Always tokens
-  lists_none tokens not = none_listed tokens (no_start listing.level tokens (one_none Item E tokens not))
+  -- one more item
+  pub lists_item : (tokens rest after : List Lexeme) (xs : List T) (b : T) → BeforeItem Item end_mark tokens xs rest → HasTree Item E rest b after → PartRow Item end_mark tokens (xs ++ b ∷ []) after
+  lists_item tokens rest after xs b before found = elim before [
+    | inl first ↦
+        let at_start : HasTree Item E tokens b after = subst (λ l. HasTree Item E l b after) (sym first.1) found in
+        subst (λ l. PartRow Item end_mark tokens (l ++ b ∷ []) after) (sym first.0) (start listing.level tokens (b ∷ []) after (one_found Item E tokens after b at_start))
+    | inr i ↦ next listing.level tokens xs (b ∷ []) i.0 rest after tt i.1 (comma_at i.0 rest i.2) (one_found Item E rest after b found)
+  ]
 
-  -- the first item
-  pub lists_start : (tokens rest : List Lexeme) (a : T) → HasTree Item E tokens a rest → PartRow Item end_mark tokens (a ∷ []) rest
-  lists_start tokens rest a found = start listing.level tokens (a ∷ []) rest (one_found Item E tokens rest a found)
-
-  -- one more
-  pub lists_next : (tokens rest r after : List Lexeme) (xs : List T) (b : T) → PartRow Item end_mark tokens xs rest → rest ≡ mark Comma ∷ r → HasTree Item E r b after → PartRow Item end_mark tokens (xs ++ b ∷ []) after
-  lists_next tokens rest r after xs b part e found = next listing.level tokens xs (b ∷ []) rest r after tt part (comma_at rest r e) (one_found Item E r after b found)
-
-  -- none after a comma
-  pub lists_no_next : (tokens rest r : List Lexeme) (xs : List T) → PartRow Item end_mark tokens xs rest → rest ≡ mark Comma ∷ r → HasNoTree Item E r → HasNoTree (IsBefore end_mark Whole) Always tokens
-  lists_no_next tokens rest r xs part e not = none_listed tokens (no_next listing.level tokens xs rest r tt part (comma_at rest r e) (one_none Item E r not))
+  -- none where one would stand
+  pub lists_no_item : (tokens rest : List Lexeme) (xs : List T) → BeforeItem Item end_mark tokens xs rest → HasNoTree Item E rest → HasNoTree (IsBefore end_mark Whole) Always tokens
+  lists_no_item tokens rest xs before not = elim before [
+    | inl first ↦ none_listed tokens (no_start listing.level tokens (one_none Item E tokens (subst (HasNoTree Item E) (sym first.1) not)))
+    | inr i ↦ none_listed tokens (no_next listing.level tokens xs i.0 rest tt i.1 (comma_at i.0 rest i.2) (one_none Item E rest not))
+  ]
 
   whole : (tokens rest : List Lexeme) (xs : List T) → PartRow Item end_mark tokens xs rest → ((r : List Lexeme) → rest ≡ mark Comma ∷ r → ⊥) → HasTree Whole (Before end_mark) tokens (f xs) rest
   whole tokens rest xs part none = found_as (Separated Item) Whole (Before end_mark) f listing.to listing.from tokens rest xs (finish listing.level tokens xs rest part (no_comma rest none))

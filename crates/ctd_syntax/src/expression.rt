@@ -4,7 +4,7 @@
 ghost use Rattle.std.specs.Prelude.{◌≡◌, ◌≤◌, ◌<◌, true, length, map, IfOk, IfSome};
 ghost use Rattle.ctd_program.specs.Tree;
 ghost use Rattle.ctd_program.specs.calls.View.{expr_tree, expr_list, exprs_of, var_tree};
-ghost use Rattle.ctd_syntax.specs.Grammar.{IsExpr, IsProduct, IsSigned, IsPower, IsExponent, IsAtom, IsExprs, IsTarget};
+ghost use Rattle.ctd_syntax.specs.Grammar.{IsExpr, IsProduct, IsSigned, IsPower, IsAtom, IsExprs, IsTarget};
 ghost use Rattle.ctd_syntax.specs.inner.Front.{FindsTree, HasTree, Always, IsBefore, StartsWith, lexeme};
 ghost use Rattle.ctd_syntax.specs.inner.Levels.{binding, ends, sum_operator, product_operator, join};
 ghost use Rattle.ctd_syntax.specs.Lexeme;
@@ -180,25 +180,12 @@ fn power<'t>(alloc: Global, tokens: Tokens<'t>) -> ParseResult<'t, Expr>
     match after_mark(Mark::Caret, rest) {
         Some(after) => {
             let base = Box::new(alloc, base)?;
-            let (exponent, rest) = exponent(alloc, after)?;
+            // An exponent may have minus signs, as what is signed.
+            let (exponent, rest) = signed(alloc, after)?;
             let exponent = Box::new(alloc, exponent)?;
             Ok((Expr::Pow(base, exponent), rest))
         }
         None => Ok((base, rest)),
-    }
-}
-
-#[cycle(expression)]
-fn exponent<'t>(alloc: Global, tokens: Tokens<'t>) -> ParseResult<'t, Expr>
-    ensures tree { FindsTree IsExponent (ends 3) (λ x. (expr_tree x.0, map lexeme x.1.now)) result (map lexeme tokens.now) }
-    ensures shorter { IfOk result (λ x. length x.1.now ≤ length tokens.now) }
-{
-    match after_mark(Mark::Minus, tokens) {
-        Some(after) => {
-            let (operand, rest) = exponent(alloc, after)?;
-            Ok((Expr::Minus(Box::new(alloc, operand)?), rest))
-        }
-        None => power(alloc, tokens),
     }
 }
 
@@ -239,24 +226,15 @@ fn atom<'t>(alloc: Global, tokens: Tokens<'t>) -> ParseResult<'t, Expr>
             let (var, rest) = variable(alloc, tokens)?;
             Ok((value_of(alloc, var)?, rest))
         }
-        ParserToken::Keyword(keyword, _) => {
-            if *keyword != Keyword::Strlen {
-                return Err(ParseError::Syntax(tokens.len()));
+        ParserToken::Keyword(Keyword::Strlen, _) => match after_mark(Mark::Open, rest) {
+            Some(rest) => {
+                let (inner, rest) = parenthesized(alloc, rest)?;
+                Ok((Expr::Strlen(Box::new(alloc, inner)?), rest))
             }
-            match after_mark(Mark::Open, rest) {
-                Some(rest) => {
-                    let (inner, rest) = parenthesized(alloc, rest)?;
-                    Ok((Expr::Strlen(Box::new(alloc, inner)?), rest))
-                }
-                None => Err(ParseError::Syntax(rest.len())),
-            }
-        }
-        ParserToken::Mark(mark) => {
-            if *mark != Mark::Open {
-                return Err(ParseError::Syntax(tokens.len()));
-            }
-            parenthesized(alloc, rest)
-        }
+            None => Err(ParseError::Syntax(rest.len())),
+        },
+        ParserToken::Mark(Mark::Open) => parenthesized(alloc, rest),
+        _ => Err(ParseError::Syntax(tokens.len())),
     }
 }
 
@@ -321,15 +299,18 @@ fn indices<'t>(alloc: Global, tokens: Tokens<'t>) -> ParseResult<'t, Exprs>
     ensures shorter { IfOk result (λ x. length x.1.now ≤ length tokens.now) }
 {
     let mut items = Vec::with_capacity(alloc, 1)?;
-    let (first, mut rest) = expr(alloc, tokens)?;
-    items.push(first)?;
-    while let Some(after) = after_mark(Mark::Comma, rest) {
-        let (next, after) = expr(alloc, after)?;
+    // All of them; the borrow checker refuses a loop whose variable begins as the argument itself.
+    let (_none, mut left) = tokens.split_at(0);
+    loop {
+        let (next, rest) = expr(alloc, left)?;
         items.push(next)?;
-        rest = after;
-    }
-    match after_mark(Mark::CloseIndex, rest) {
-        Some(rest) => Ok((Exprs::from_vec(items), rest)),
-        None => Err(ParseError::Syntax(rest.len())),
+        if let Some(after) = after_mark(Mark::Comma, rest) {
+            left = after;
+        } else {
+            let Some(rest) = after_mark(Mark::CloseIndex, rest) else {
+                return Err(ParseError::Syntax(rest.len()));
+            };
+            return Ok((Exprs::from_vec(items), rest));
+        }
     }
 }

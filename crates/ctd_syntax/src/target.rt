@@ -71,15 +71,18 @@ pub(crate) fn assignments<'t>(alloc: Global, tokens: Tokens<'t>) -> ParseResult<
     ensures shorter { IfOk result (λ x. length x.1.now ≤ length tokens.now) }
 {
     let mut items = Vec::with_capacity(alloc, 1)?;
-    let (first, mut rest) = one_assignment(alloc, tokens)?;
-    items.push(first)?;
-    while let Some(after) = after_mark(Mark::Comma, rest) {
-        let (next, after) = one_assignment(alloc, after)?;
+    // All of them; the borrow checker refuses a loop whose variable begins as the argument itself.
+    let (_none, mut left) = tokens.split_at(0);
+    loop {
+        let (next, rest) = one_assignment(alloc, left)?;
         items.push(next)?;
-        rest = after;
-    }
-    match after_mark(Mark::Close, rest) {
-        Some(rest) => Ok((Assignments::from_vec(items), rest)),
-        None => Err(ParseError::Syntax(rest.len())),
+        if let Some(after) = after_mark(Mark::Comma, rest) {
+            left = after;
+        } else {
+            let Some(rest) = after_mark(Mark::Close, rest) else {
+                return Err(ParseError::Syntax(rest.len()));
+            };
+            return Ok((Assignments::from_vec(items), rest));
+        }
     }
 }

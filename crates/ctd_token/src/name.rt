@@ -41,10 +41,15 @@ fn are_same(a: &[u8; 8], b: &[u8; 8]) -> bool
 
 /// The name of a variable, which contracts see as the list of its bytes. Those of a short one stand in it, so that most names take no memory
 /// besides: they, zeros behind them, and how many they are.
-#[derive(Drop)]
 pub struct Name {
     packed: [u8; 8],
     rest: NameRest,
+}
+
+impl Drop for Name {
+    fn drop(self) {
+        let Name { packed: _, rest: _ } = self;
+    }
 }
 
 /// The number of a name that was given none.
@@ -110,11 +115,16 @@ impl Name {
 const LONG_NAME_KEY: [u8; 8] = [u8::MAX - 1; 8];
 
 /// A name with which others are compared, which contracts see as the list of its bytes.
-#[derive(Drop)]
 pub struct NameKey {
     name: Name,
     // The eight bytes of a short name; of a long one others, which no name has. So one comparison tells.
     packed: [u8; 8],
+}
+
+impl Drop for NameKey {
+    fn drop(self) {
+        let NameKey { name: _, packed: _ } = self;
+    }
 }
 
 impl Model for NameKey {

@@ -13,9 +13,14 @@ pub struct Place {
 }
 
 /// A string of bytes of any values, which contracts see as the list of them.
-#[derive(Drop)]
 pub struct Bytes {
     items: Vec<u8>,
+}
+
+impl Drop for Bytes {
+    fn drop(self) {
+        let Bytes { items: _ } = self;
+    }
 }
 
 impl Model for Bytes {

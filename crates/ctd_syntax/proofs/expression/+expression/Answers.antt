@@ -1,16 +1,16 @@
-use Rattle.std.proofs.Common.{◌≡◌, [], ◌∷◌, ◌++◌, sym, ap, ◌∙◌, subst, rules, arith}
+use Rattle.std.proofs.Common.{length, inl, inr, ◌≡◌, [], ◌∷◌, ◌++◌, sym, ap, ◌∙◌, subst, rules, arith}
 use Rattle.std.specs.Prelude.{map}
 use Rattle.ctd_syntax.specs.Lexeme.{Lexeme, mark}
 use Rattle.ctd_program.specs.calls.View.{expr_tree, var_tree, expr_list, exprs_of}
-use Rattle.ctd_syntax.specs.Grammar.{IsExpr, IsExprs, IsProduct, IsSigned, IsPower, IsExponent, IsAtom, IsTarget}
+use Rattle.ctd_syntax.specs.Grammar.{IsExpr, IsExprs, IsProduct, IsSigned, IsPower, IsAtom, IsTarget}
 use Rattle.ctd_syntax.specs.inner.Front.{HasTree, Always, IsBefore, lexeme}
 use Rattle.ctd_syntax.specs.inner.Levels.{ends}
 use Rattle.ctd_token.specs.declared.token.Mark.TheVariants.{Open, Close, CloseIndex}
 use Rattle.ctd_syntax.proofs.Chains.{start, no_start, finish, next, no_next}
 use Rattle.ctd_syntax.proofs.Levels.{sums, products}
 use Rattle.ctd_syntax.proofs.Fronts.{reads_as, refused_as, refused_exit, before_reads}
-use Rattle.ctd_syntax.proofs.Rows.{index_list, list_of, list_view, lists_none, lists_start, lists_next, lists_no_next, lists_end, lists_unclosed}
-use Rattle.ctd_syntax.proofs.Atoms.{minus_reads, minus_none, power_is_signed, no_power_signed, power_reads, power_none, atom_is_power, no_atom_power, negative_reads, negative_none, power_is_exponent, no_power_exponent, numeral_reads, text_reads, variable_reads, variable_none, variable_plain, variable_indexed, variable_bad_index, not_strlen_begins, strlen_reads, strlen_none, group_reads, group_none, not_open_begins, no_atom}
+use Rattle.ctd_syntax.proofs.Rows.{PartRow, index_list, list_of, list_view, lists_item, lists_no_item, lists_end, lists_unclosed}
+use Rattle.ctd_syntax.proofs.Atoms.{minus_reads, minus_none, power_is_signed, no_power_signed, power_reads, power_none, atom_is_power, no_atom_power, numeral_reads, text_reads, variable_reads, variable_none, variable_plain, variable_indexed, variable_bad_index, not_strlen_begins, strlen_reads, strlen_none, group_reads, group_none, not_open_begins, no_atom}
 use Rattle.ctd_program.specs.Tree
 use Rattle.ctd_syntax.specs.declared.parser_token.ParserToken.TheVariants as parser_tokens
 use Rattle.ctd_syntax.specs.declared.keyword.Keyword.TheVariants.{Strlen}
@@ -19,11 +19,7 @@ use Rattle.std.proofs.lemmas.List.{map-append}
 use Rattle.std.specs.Int.{w128}
 use Rattle.ctd_program.specs.declared.tree.Var.{Var}
 use Rattle.ctd_syntax.proofs.expression.+expression.Goals as goal
-
-pub atom-returns-in_err-inner-in-Some-after_mark-clause-tree : goal.atom-returns-in_err-inner-in-Some-after_mark-clause-tree
-atom-returns-in_err-inner-in-Some-after_mark-clause-tree t c =
-    let is_strlen : c.in-Keyword.keyword ≡ Strlen = search (rules, c.ne.ensures, c.if-ne.ensures) in
-    refused_exit (IsBefore Close IsExpr) IsAtom Always (ends 4) _ (map lexeme c.in-Some-after_mark.rest.now) (map lexeme c.args.tokens.now) _ c.from_residual-in_err-inner-in-Some-after_mark.result c.from_residual-in_err-inner-in-Some-after_mark.ensures.1 (strlen_none (map lexeme c.args.tokens.now) (map lexeme c.in-Some.rest.now) (map lexeme c.in-Some-after_mark.rest.now) _ (ap (map lexeme) c.in-Some.ensures.cases.0 ∙ ap (λ x. lexeme x ∷ map lexeme c.in-Some.rest.now) (c.in-Keyword.is ∙ ap (λ x. parser_tokens.Keyword x c.in-Keyword.field-1) is_strlen)) c.in-Some-after_mark.ensures.found) c.in_err-inner-in-Some-after_mark.ensures.tree
+use Rattle.ctd_syntax.proofs.expression.+expression.Goals.{atom-in_default-first-via-in-Keyword+in_default, atom-in_default-first-via-in-Mark+in_default}
 
 pub atom-returns-in-Numeral-clause-tree : goal.atom-returns-in-Numeral-clause-tree
 atom-returns-in-Numeral-clause-tree t c = rw (c.new-numeral.ensures.same, to_z-of_z w128 c.in-Numeral.n (search rules)) (numeral_reads (map lexeme c.args.tokens.now) (map lexeme c.in-Some.rest.now) _ (ap (map lexeme) c.in-Some.ensures.cases.0 ∙ ap (λ x. lexeme x ∷ map lexeme c.in-Some.rest.now) c.in-Numeral.is))
@@ -40,9 +36,6 @@ atom-returns-in_ok-value_of-in-Name-clause-tree t c =
     let found = variable_reads (map lexeme c.args.tokens.now) (map lexeme c.in-Some.rest.now) (map lexeme c.in_ok-var-in-Name.rest.now) _ (var_tree v) (ap (map lexeme) c.in-Some.ensures.cases.0 ∙ ap (λ x. lexeme x ∷ map lexeme c.in-Some.rest.now) c.in-Name.is) c.in_ok-var-in-Name.ensures.tree in
     subst (λ x. HasTree IsAtom (ends 4) (map lexeme c.args.tokens.now) x (map lexeme c.in_ok-var-in-Name.rest.now)) (sym c.in_ok-value_of-in-Name.ensures) found
 
-pub atom-returns-then-ne-clause-tree : goal.atom-returns-then-ne-clause-tree
-atom-returns-then-ne-clause-tree t c = no_atom (map lexeme c.args.tokens.now) (map lexeme c.in-Some.rest.now) (Lexeme.keyword c.in-Keyword.keyword _) (ap (map lexeme) c.in-Some.ensures.cases.0 ∙ ap (λ x. lexeme x ∷ map lexeme c.in-Some.rest.now) c.in-Keyword.is) (not_strlen_begins c.in-Keyword.keyword _ (search (rules, c.ne.ensures, c.if-ne.ensures)))
-
 pub variable-returns-in_err-indices-in-Some-after_mark-clause-tree : goal.variable-returns-in_err-indices-in-Some-after_mark-clause-tree
 variable-returns-in_err-indices-in-Some-after_mark-clause-tree t c = refused_exit (IsBefore CloseIndex IsExprs) IsTarget Always (ends 4) _ (map lexeme c.in-Some-after_mark.after.now) (map lexeme c.args.tokens.now) _ c.from_residual-in_err-indices-in-Some-after_mark.result c.from_residual-in_err-indices-in-Some-after_mark.ensures.1 (variable_bad_index (map lexeme c.args.tokens.now) (map lexeme c.in-Some.rest.now) (map lexeme c.in-Some-after_mark.after.now) c.in-Some.name.now c.in-Some.ensures.found c.in-Some-after_mark.ensures.found) c.in_err-indices-in-Some-after_mark.ensures.tree
 
@@ -54,54 +47,8 @@ variable-returns-in-None-clause-tree t c =
     let is : expr_list (exprs_of c.from_vec-indices.result) ≡ Tree.none = ap expr_list (c.from_vec-indices.ensures ∙ c.new.ensures.items) in
     rw (c.in_ok-name.ensures.equal, is) (variable_plain (map lexeme c.args.tokens.now) (map lexeme c.in-Some.rest.now) c.in-Some.name.now c.in-Some.ensures.found c.in-None.ensures.none)
 
-pub indices-returns-in_err-first-clause-tree : goal.indices-returns-in_err-first-clause-tree
-indices-returns-in_err-first-clause-tree t c = refused_exit IsExpr (IsBefore CloseIndex IsExprs) (ends 1) Always _ (map lexeme c.args.tokens.now) (map lexeme c.args.tokens.now) _ c.from_residual-in_err-first.result c.from_residual-in_err-first.ensures.1 (lists_none index_list (map lexeme c.args.tokens.now)) c.in_err-first.ensures.tree
-
-pub indices-loop-after-init : goal.indices-loop-after-init
-indices-loop-after-init t c =
-    let is : map expr_tree c.push.new.self.items ≡ expr_tree c.in_ok-first.first ∷ [] = ap (map expr_tree) (c.in_ok-push.ensures.items ∙ ap (λ l. l ++ c.in_ok-first.first ∷ []) c.in_ok-items.ensures.items) in
-    record { partly = rw is (lists_start index_list (map lexeme c.args.tokens.now) (map lexeme c.in_ok-first.rest.now) _ c.in_ok-first.ensures.tree); shorter = c.in_ok-first.ensures.shorter }
-
-pub indices-returns-in_err-next-clause-tree : goal.indices-returns-in_err-next-clause-tree
-indices-returns-in_err-next-clause-tree t c = refused_exit IsExpr (IsBefore CloseIndex IsExprs) (ends 1) Always _ (map lexeme c.in-Some.after.now) (map lexeme c.args.tokens.now) _ c.from_residual-in_err-next.result c.from_residual-in_err-next.ensures.1 (lists_no_next index_list (map lexeme c.args.tokens.now) (map lexeme c.loop-after.rest.now) (map lexeme c.in-Some.after.now) _ c.loop-after.invariant.partly c.in-Some.ensures.found) c.in_err-next.ensures.tree
-
-pub indices-loop-after-preserved : goal.indices-loop-after-preserved
-indices-loop-after-preserved t c =
-    let is : map expr_tree c.push-in-Some.new.self.items ≡ map expr_tree c.loop-after.items.items ++ expr_tree c.in_ok-next.next ∷ [] = ap (map expr_tree) c.in_ok-push-2.ensures.items ∙ map-append expr_tree c.loop-after.items.items (c.in_ok-next.next ∷ []) in
-    record { partly = rw is (lists_next index_list (map lexeme c.args.tokens.now) (map lexeme c.loop-after.rest.now) (map lexeme c.in-Some.after.now) (map lexeme c.in_ok-next.after.now) _ _ c.loop-after.invariant.partly c.in-Some.ensures.found c.in_ok-next.ensures.tree); shorter = omega (arith, c.loop-after.invariant.shorter, c.in-Some.ensures.shorter, c.in_ok-next.ensures.shorter) }
-
-pub indices-returns-in-Some-after_mark-clause-tree : goal.indices-returns-in-Some-after_mark-clause-tree
-indices-returns-in-Some-after_mark-clause-tree t c =
-    let is : list_of (map expr_tree c.loop-after.items.items) ≡ expr_list (exprs_of c.from_vec.result) = list_view c.loop-after.items.items ∙ ap expr_list (sym c.from_vec.ensures) in
-    subst (λ l. HasTree (IsBefore CloseIndex IsExprs) Always (map lexeme c.args.tokens.now) l (map lexeme c.in-Some-after_mark.rest.now)) is (lists_end index_list (map lexeme c.args.tokens.now) (map lexeme c.loop-after.rest.now) (map lexeme c.in-Some-after_mark.rest.now) _ c.loop-after.invariant.partly c.in_default.ensures.none c.in-Some-after_mark.ensures.found)
-
-pub indices-returns-clause-tree : goal.indices-returns-clause-tree
-indices-returns-clause-tree t c = lists_unclosed index_list (map lexeme c.args.tokens.now) (map lexeme c.loop-after.rest.now) _ c.loop-after.invariant.partly c.in_default.ensures.none c.in-None.ensures.none
-
-pub atom-returns-in_ok-new-in-Some-after_mark-clause-tree : goal.atom-returns-in_ok-new-in-Some-after_mark-clause-tree
-atom-returns-in_ok-new-in-Some-after_mark-clause-tree t c =
-    let is_strlen : c.in-Keyword.keyword ≡ Strlen = search (rules, c.ne.ensures, c.if-ne.ensures) in
-    rw c.in_ok-new-in-Some-after_mark.ensures.ok (strlen_reads (map lexeme c.args.tokens.now) (map lexeme c.in-Some.rest.now) (map lexeme c.in-Some-after_mark.rest.now) _ _ _ (ap (map lexeme) c.in-Some.ensures.cases.0 ∙ ap (λ x. lexeme x ∷ map lexeme c.in-Some.rest.now) (c.in-Keyword.is ∙ ap (λ x. parser_tokens.Keyword x c.in-Keyword.field-1) is_strlen)) c.in-Some-after_mark.ensures.found c.in_ok-inner-in-Some-after_mark.ensures.tree)
-
-pub atom-returns-else-ne-2-clause-tree : goal.atom-returns-else-ne-2-clause-tree
-atom-returns-else-ne-2-clause-tree t c =
-    let is_open : c.in-Mark.mark ≡ Open = search (rules, c.ne-in-Mark.ensures, c.if-ne-2.ensures) in
-    reads_as (IsBefore Close IsExpr) IsAtom Always (ends 4) _ (map lexeme c.in-Some.rest.now) (map lexeme c.args.tokens.now) c.parenthesized-in-Mark.result (group_reads (map lexeme c.args.tokens.now) (map lexeme c.in-Some.rest.now) (ap (map lexeme) c.in-Some.ensures.cases.0 ∙ ap (λ x. lexeme x ∷ map lexeme c.in-Some.rest.now) (c.in-Mark.is ∙ ap parser_tokens.Mark is_open))) (group_none (map lexeme c.args.tokens.now) (map lexeme c.in-Some.rest.now) (ap (map lexeme) c.in-Some.ensures.cases.0 ∙ ap (λ x. lexeme x ∷ map lexeme c.in-Some.rest.now) (c.in-Mark.is ∙ ap parser_tokens.Mark is_open))) c.parenthesized-in-Mark.ensures.tree
-
-pub atom-returns-then-ne-2-clause-tree : goal.atom-returns-then-ne-2-clause-tree
-atom-returns-then-ne-2-clause-tree t c = no_atom (map lexeme c.args.tokens.now) (map lexeme c.in-Some.rest.now) (mark c.in-Mark.mark) (ap (map lexeme) c.in-Some.ensures.cases.0 ∙ ap (λ x. lexeme x ∷ map lexeme c.in-Some.rest.now) c.in-Mark.is) (not_open_begins c.in-Mark.mark (search (rules, c.ne-in-Mark.ensures, c.if-ne-2.ensures)))
-
 pub parenthesized-returns-in-Some-clause-tree : goal.parenthesized-returns-in-Some-clause-tree
 parenthesized-returns-in-Some-clause-tree t c = before_reads IsExpr (ends 1) Close (λ us. omega arith) (map lexeme c.args.tokens.now) (map lexeme c.in_ok-inner.rest.now) (map lexeme c.in-Some.rest.now) _ c.in_ok-inner.ensures.tree c.in-Some.ensures.found
-
-pub exponent-returns-in_err-operand-in-Some-clause-tree : goal.exponent-returns-in_err-operand-in-Some-clause-tree
-exponent-returns-in_err-operand-in-Some-clause-tree t c = refused_exit IsExponent IsExponent (ends 3) (ends 3) _ (map lexeme c.in-Some.after.now) (map lexeme c.args.tokens.now) _ c.from_residual.result c.from_residual.ensures.1 (negative_none (map lexeme c.args.tokens.now) (map lexeme c.in-Some.after.now) c.in-Some.ensures.found) c.in_err-operand-in-Some.ensures.tree
-
-pub exponent-returns-in_ok-new-in-Some-clause-tree : goal.exponent-returns-in_ok-new-in-Some-clause-tree
-exponent-returns-in_ok-new-in-Some-clause-tree t c = rw c.in_ok-new-in-Some.ensures.ok (negative_reads (map lexeme c.args.tokens.now) (map lexeme c.in-Some.after.now) _ _ c.in-Some.ensures.found c.in_ok-operand-in-Some.ensures.tree)
-
-pub exponent-returns-in-None-clause-tree : goal.exponent-returns-in-None-clause-tree
-exponent-returns-in-None-clause-tree t c = reads_as IsPower IsExponent (ends 3) (ends 3) _ (map lexeme c.args.tokens.now) (map lexeme c.args.tokens.now) c.power.result (power_is_exponent (map lexeme c.args.tokens.now) c.in-None.ensures.none) (no_power_exponent (map lexeme c.args.tokens.now) c.in-None.ensures.none) c.power.ensures.tree
 
 pub signed-returns-in_err-operand-in-Some-clause-tree : goal.signed-returns-in_err-operand-in-Some-clause-tree
 signed-returns-in_err-operand-in-Some-clause-tree t c = refused_exit IsSigned IsSigned (ends 3) (ends 3) _ (map lexeme c.in-Some.after.now) (map lexeme c.args.tokens.now) _ c.from_residual.result c.from_residual.ensures.1 (minus_none (map lexeme c.args.tokens.now) (map lexeme c.in-Some.after.now) c.in-Some.ensures.found) c.in_err-operand-in-Some.ensures.tree
@@ -146,10 +93,59 @@ pub power-returns-in_err-base-clause-tree : goal.power-returns-in_err-base-claus
 power-returns-in_err-base-clause-tree t c = refused_exit IsAtom IsPower (ends 4) (ends 3) _ (map lexeme c.args.tokens.now) (map lexeme c.args.tokens.now) _ c.from_residual.result c.from_residual.ensures.1 (no_atom_power (map lexeme c.args.tokens.now)) c.in_err-base.ensures.tree
 
 pub power-returns-in_err-exponent-in-Some-clause-tree : goal.power-returns-in_err-exponent-in-Some-clause-tree
-power-returns-in_err-exponent-in-Some-clause-tree t c = refused_exit IsExponent IsPower (ends 3) (ends 3) _ (map lexeme c.in-Some.after.now) (map lexeme c.args.tokens.now) _ c.from_residual-in_err-exponent-in-Some.result c.from_residual-in_err-exponent-in-Some.ensures.1 (power_none (map lexeme c.args.tokens.now) (map lexeme c.in_ok-base.rest.now) (map lexeme c.in-Some.after.now) _ c.in_ok-base.ensures.tree c.in-Some.ensures.found) c.in_err-exponent-in-Some.ensures.tree
+power-returns-in_err-exponent-in-Some-clause-tree t c = refused_exit IsSigned IsPower (ends 3) (ends 3) _ (map lexeme c.in-Some.after.now) (map lexeme c.args.tokens.now) _ c.from_residual-in_err-exponent-in-Some.result c.from_residual-in_err-exponent-in-Some.ensures.1 (power_none (map lexeme c.args.tokens.now) (map lexeme c.in_ok-base.rest.now) (map lexeme c.in-Some.after.now) _ c.in_ok-base.ensures.tree c.in-Some.ensures.found) c.in_err-exponent-in-Some.ensures.tree
 
 pub power-returns-in_ok-exponent-in-Some-2-clause-tree : goal.power-returns-in_ok-exponent-in-Some-2-clause-tree
 power-returns-in_ok-exponent-in-Some-2-clause-tree t c = rw (c.in_ok-base-in-Some.ensures.ok, c.in_ok-exponent-in-Some-2.ensures.ok) (power_reads (map lexeme c.args.tokens.now) (map lexeme c.in_ok-base.rest.now) (map lexeme c.in-Some.after.now) _ _ _ c.in_ok-base.ensures.tree c.in-Some.ensures.found c.in_ok-exponent-in-Some.ensures.tree)
 
 pub power-returns-in-None-clause-tree : goal.power-returns-in-None-clause-tree
 power-returns-in-None-clause-tree t c = atom_is_power (map lexeme c.args.tokens.now) (map lexeme c.in_ok-base.rest.now) _ c.in_ok-base.ensures.tree c.in-None.ensures.none
+
+pub indices-loop-items-init : goal.indices-loop-items-init
+indices-loop-items-init t c = record { before = inl (ap (map expr_tree) c.in_ok-items.ensures.items, ap (map lexeme) (sym c.split_at.ensures.back)); shorter = omega (arith, ap length c.split_at.ensures.back) }
+
+pub indices-returns-in_err-next-clause-tree : goal.indices-returns-in_err-next-clause-tree
+indices-returns-in_err-next-clause-tree t c = refused_exit IsExpr (IsBefore CloseIndex IsExprs) (ends 1) Always _ (map lexeme c.loop-items.left.now) (map lexeme c.args.tokens.now) _ c.from_residual-in_err-next.result c.from_residual-in_err-next.ensures.1 (lists_no_item index_list (map lexeme c.args.tokens.now) (map lexeme c.loop-items.left.now) (map expr_tree c.loop-items.items.items) c.loop-items.invariant.before) c.in_err-next.ensures.tree
+
+pub indices-loop-items-preserved : goal.indices-loop-items-preserved
+indices-loop-items-preserved t c =
+    let is : map expr_tree c.push.new.self.items ≡ map expr_tree c.loop-items.items.items ++ expr_tree c.in_ok-next.next ∷ [] = ap (map expr_tree) c.in_ok-push.ensures.items ∙ map-append expr_tree c.loop-items.items.items (c.in_ok-next.next ∷ []) in
+    let part : PartRow IsExpr CloseIndex (map lexeme c.args.tokens.now) (map expr_tree c.push.new.self.items) (map lexeme c.in_ok-next.rest.now) = rw is (lists_item index_list (map lexeme c.args.tokens.now) (map lexeme c.loop-items.left.now) (map lexeme c.in_ok-next.rest.now) (map expr_tree c.loop-items.items.items) (expr_tree c.in_ok-next.next) c.loop-items.invariant.before c.in_ok-next.ensures.tree) in
+    record { before = inr ((map lexeme c.in_ok-next.rest.now), part, c.in-Some.ensures.found); shorter = omega (arith, c.loop-items.invariant.shorter, c.in-Some.ensures.shorter, c.in_ok-next.ensures.shorter) }
+
+pub indices-returns-in_default-clause-tree : goal.indices-returns-in_default-clause-tree
+indices-returns-in_default-clause-tree t c =
+    let is : map expr_tree c.push.new.self.items ≡ map expr_tree c.loop-items.items.items ++ expr_tree c.in_ok-next.next ∷ [] = ap (map expr_tree) c.in_ok-push.ensures.items ∙ map-append expr_tree c.loop-items.items.items (c.in_ok-next.next ∷ []) in
+    let part : PartRow IsExpr CloseIndex (map lexeme c.args.tokens.now) (map expr_tree c.push.new.self.items) (map lexeme c.in_ok-next.rest.now) = rw is (lists_item index_list (map lexeme c.args.tokens.now) (map lexeme c.loop-items.left.now) (map lexeme c.in_ok-next.rest.now) (map expr_tree c.loop-items.items.items) (expr_tree c.in_ok-next.next) c.loop-items.invariant.before c.in_ok-next.ensures.tree) in
+    let list : list_of (map expr_tree c.push.new.self.items) ≡ expr_list (exprs_of c.from_vec.result) = list_view c.push.new.self.items ∙ ap expr_list (sym c.from_vec.ensures) in
+    subst (λ l. HasTree (IsBefore CloseIndex IsExprs) Always (map lexeme c.args.tokens.now) l (map lexeme c.in-Some-after_mark.rest.now)) list (lists_end index_list (map lexeme c.args.tokens.now) (map lexeme c.in_ok-next.rest.now) (map lexeme c.in-Some-after_mark.rest.now) _ part c.in_default.ensures.none c.in-Some-after_mark.ensures.found)
+
+pub indices-returns-in_default-after_mark-clause-tree : goal.indices-returns-in_default-after_mark-clause-tree
+indices-returns-in_default-after_mark-clause-tree t c =
+    let is : map expr_tree c.push.new.self.items ≡ map expr_tree c.loop-items.items.items ++ expr_tree c.in_ok-next.next ∷ [] = ap (map expr_tree) c.in_ok-push.ensures.items ∙ map-append expr_tree c.loop-items.items.items (c.in_ok-next.next ∷ []) in
+    let part : PartRow IsExpr CloseIndex (map lexeme c.args.tokens.now) (map expr_tree c.push.new.self.items) (map lexeme c.in_ok-next.rest.now) = rw is (lists_item index_list (map lexeme c.args.tokens.now) (map lexeme c.loop-items.left.now) (map lexeme c.in_ok-next.rest.now) (map expr_tree c.loop-items.items.items) (expr_tree c.in_ok-next.next) c.loop-items.invariant.before c.in_ok-next.ensures.tree) in
+    lists_unclosed index_list (map lexeme c.args.tokens.now) (map lexeme c.in_ok-next.rest.now) (map expr_tree c.push.new.self.items) part c.in_default.ensures.none c.in_default-after_mark.ensures.none
+
+pub atom-returns-in-Mark-Open-clause-tree : goal.atom-returns-in-Mark-Open-clause-tree
+atom-returns-in-Mark-Open-clause-tree t c =
+    let is_open : c.in-Mark-Open.field-0 ≡ Open = search (rules, c.in-Mark-Open.is, c.in-Mark-Open.field-0-is) in
+    let opened : map lexeme c.args.tokens.now ≡ mark Open ∷ map lexeme c.in-Some.rest.now = ap (map lexeme) c.in-Some.ensures.cases.0 ∙ ap (λ x. lexeme x ∷ map lexeme c.in-Some.rest.now) (c.in-Mark-Open.is ∙ ap parser_tokens.Mark is_open) in
+    reads_as (IsBefore Close IsExpr) IsAtom Always (ends 4) _ (map lexeme c.in-Some.rest.now) (map lexeme c.args.tokens.now) c.parenthesized-in-Mark-Open.result (group_reads (map lexeme c.args.tokens.now) (map lexeme c.in-Some.rest.now) opened) (group_none (map lexeme c.args.tokens.now) (map lexeme c.in-Some.rest.now) opened) c.parenthesized-in-Mark-Open.ensures.tree
+
+pub atom-returns-in_default-first-clause-tree : goal.atom-returns-in_default-first-clause-tree
+atom-returns-in_default-first-clause-tree t c = elim c.in_default-first.branch [
+  | atom-in_default-first-via-in-Keyword+in_default w ↦ no_atom (map lexeme c.args.tokens.now) (map lexeme c.in-Some.rest.now) (Lexeme.keyword w.in_default-first.field-0 w.in_default-first.field-1) (ap (map lexeme) c.in-Some.ensures.cases.0 ∙ ap (λ x. lexeme x ∷ map lexeme c.in-Some.rest.now) w.in_default-first.is) (not_strlen_begins w.in_default-first.field-0 _ (search rules))
+  | atom-in_default-first-via-in-Mark+in_default w ↦ no_atom (map lexeme c.args.tokens.now) (map lexeme c.in-Some.rest.now) (mark w.in_default-first.field-0) (ap (map lexeme) c.in-Some.ensures.cases.0 ∙ ap (λ x. lexeme x ∷ map lexeme c.in-Some.rest.now) w.in_default-first.is) (not_open_begins w.in_default-first.field-0 (search rules))
+]
+
+pub atom-returns-in_err-inner-in-Some-after_mark-clause-tree : goal.atom-returns-in_err-inner-in-Some-after_mark-clause-tree
+atom-returns-in_err-inner-in-Some-after_mark-clause-tree t c =
+    let is_strlen : c.in-Keyword-Strlen-default.field-0 ≡ Strlen = search (rules, c.in-Keyword-Strlen-default.is, c.in-Keyword-Strlen-default.field-0-is) in
+    let called : map lexeme c.args.tokens.now ≡ Lexeme.keyword Strlen c.in-Keyword-Strlen-default.field-1 ∷ map lexeme c.in-Some.rest.now = ap (map lexeme) c.in-Some.ensures.cases.0 ∙ ap (λ x. lexeme x ∷ map lexeme c.in-Some.rest.now) (c.in-Keyword-Strlen-default.is ∙ ap (λ x. parser_tokens.Keyword x c.in-Keyword-Strlen-default.field-1) is_strlen) in
+    refused_exit (IsBefore Close IsExpr) IsAtom Always (ends 4) _ (map lexeme c.in-Some-after_mark.rest.now) (map lexeme c.args.tokens.now) _ c.from_residual-in_err-inner-in-Some-after_mark.result c.from_residual-in_err-inner-in-Some-after_mark.ensures.1 (strlen_none (map lexeme c.args.tokens.now) (map lexeme c.in-Some.rest.now) (map lexeme c.in-Some-after_mark.rest.now) _ called c.in-Some-after_mark.ensures.found) c.in_err-inner-in-Some-after_mark.ensures.tree
+
+pub atom-returns-in_ok-new-in-Some-after_mark-clause-tree : goal.atom-returns-in_ok-new-in-Some-after_mark-clause-tree
+atom-returns-in_ok-new-in-Some-after_mark-clause-tree t c =
+    let is_strlen : c.in-Keyword-Strlen-default.field-0 ≡ Strlen = search (rules, c.in-Keyword-Strlen-default.is, c.in-Keyword-Strlen-default.field-0-is) in
+    let called : map lexeme c.args.tokens.now ≡ Lexeme.keyword Strlen c.in-Keyword-Strlen-default.field-1 ∷ map lexeme c.in-Some.rest.now = ap (map lexeme) c.in-Some.ensures.cases.0 ∙ ap (λ x. lexeme x ∷ map lexeme c.in-Some.rest.now) (c.in-Keyword-Strlen-default.is ∙ ap (λ x. parser_tokens.Keyword x c.in-Keyword-Strlen-default.field-1) is_strlen) in
+    rw c.in_ok-new-in-Some-after_mark.ensures.ok (strlen_reads (map lexeme c.args.tokens.now) (map lexeme c.in-Some.rest.now) (map lexeme c.in-Some-after_mark.rest.now) _ _ _ called c.in-Some-after_mark.ensures.found c.in_ok-inner-in-Some-after_mark.ensures.tree)

@@ -4,7 +4,7 @@ use Rattle.ctd_program.specs.calls.View.{expr_tree}
 use Rattle.ctd_syntax.specs.Grammar.{IsExpr, IsProduct, IsSigned}
 use Rattle.ctd_syntax.specs.inner.Front.{lexeme}
 use Rattle.ctd_syntax.specs.inner.Levels.{ends, sum_operator, product_operator, join}
-use Rattle.ctd_syntax.proofs.Rows.{Separated, IsOne, Before, comma, append}
+use Rattle.ctd_syntax.proofs.Rows.{BeforeItem}
 use Rattle.ctd_token.specs.declared.token.Mark.TheVariants.{CloseIndex}
 use Rattle.ctd_syntax.proofs.Chains.{Partly}
 use Rattle.ctd_syntax.proofs.expression.+expression.Given as goal
@@ -26,9 +26,6 @@ decreases-product l = 10 * length l.tokens.now + 5
 
 abbrev pub decreases-signed : goal.decreases-signed
 decreases-signed l = 10 * length l.tokens.now + 4
-
-abbrev pub decreases-exponent : goal.decreases-exponent
-decreases-exponent l = 10 * length l.tokens.now + 4
 
 abbrev pub decreases-power : goal.decreases-power
 decreases-power l = 10 * length l.tokens.now + 3
@@ -54,11 +51,11 @@ invariant-product-loop-operator l = record {
 abbrev pub decreases-product-loop-operator : goal.decreases-product-loop-operator
 decreases-product-loop-operator l = length l.rest
 
-abbrev pub invariant-indices-loop-after : goal.invariant-indices-loop-after
-invariant-indices-loop-after l = record {
-  partly : Partly (Separated IsExpr) (IsOne IsExpr) (Before CloseIndex) comma append (map lexeme l.fn.tokens) (map expr_tree l.items.items) (map lexeme l.rest);
-  shorter : length l.rest ≤ length l.fn.tokens;
+abbrev pub invariant-indices-loop-items : goal.invariant-indices-loop-items
+invariant-indices-loop-items l = record {
+  before : BeforeItem IsExpr CloseIndex (map lexeme l.fn.tokens) (map expr_tree l.items.items) (map lexeme l.left);
+  shorter : length l.left ≤ length l.fn.tokens;
 }
 
-abbrev pub decreases-indices-loop-after : goal.decreases-indices-loop-after
-decreases-indices-loop-after l = length l.rest
+abbrev pub decreases-indices-loop-items : goal.decreases-indices-loop-items
+decreases-indices-loop-items l = length l.left
