@@ -1,5 +1,5 @@
 -- What is found piece by piece.
-use Rattle.std.proofs.Common.{◌≡◌, ◌++◌, List, [], Option, Some, None, ap, sym, ◌∙◌, append_assoc}
+use Rattle.std.proofs.Common.{◌≡◌, ◌++◌, List, [], Option, Some, None, ap, sym, subst, ◌∙◌, append_assoc}
 use Rattle.ctd_findings.specs.inner.Collector.{Adds}
 
 -- one part is added, and then another
@@ -8,6 +8,10 @@ adds_both a b None x y all first second is = tt
 adds_both a None (Some c) x y all first second is = absurd second
 adds_both None (Some b) (Some c) x y all first second is = absurd first
 adds_both (Some a) (Some b) (Some c) x y all first second is = second ∙ ap (λ l. l ++ y) first ∙ append_assoc a x y ∙ ap (λ l. a ++ l) (sym is)
+
+-- what is added, in other words
+pub adds_as : {U : Type 0} (a b : Option (List U)) (x all : List U) → Adds a x b → all ≡ x → Adds a all b
+adds_as a b x all adds is = subst (λ l. Adds a l b) (sym is) adds
 
 -- What is found and what is still to be added are together what was found at first and all that is added, unless memory ran out.
 abbrev pub Leads : {U : Type 0} → Option (List U) → List U → Option (List U) → List U → Type 0

@@ -9,3 +9,4 @@ pub mod SameNames
 pub mod Additions
 pub mod OneTree
 pub mod Roles
+pub mod Marks

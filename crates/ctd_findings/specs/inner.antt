@@ -3,3 +3,4 @@ pub mod Listed
 pub mod Collector
 pub mod Sets
 pub mod Roles
+pub mod Marks

@@ -38,11 +38,9 @@ pub(crate) fn list_not_numbers<'p>(command: &'p Command, found: &mut Collector<&
     ensures adds { Adds (names_in found.old) (not_numbers (command_tree command.now)) (names_in found.new) }
 {
     match &command.action {
-        Action::Space | Action::Newline | Action::Eof => (),
-        Action::Int(_) | Action::String(_) | Action::Assert(_) => (),
-        Action::Unset(_) | Action::Loop(_) | Action::If(_) => (),
         Action::Regex(regex) => list_target(&regex.target, found),
         Action::Set(assignments) => list_assigned_not_numbers(assignments.as_slice(), found),
+        _ => (),
     }
 }
 
@@ -51,11 +49,9 @@ pub(crate) fn list_not_texts<'p>(command: &'p Command, found: &mut Collector<&'p
     ensures adds { Adds (names_in found.old) (not_texts (command_tree command.now)) (names_in found.new) }
 {
     match &command.action {
-        Action::Space | Action::Newline | Action::Eof => (),
-        Action::String(_) | Action::Regex(_) | Action::Assert(_) => (),
-        Action::Unset(_) | Action::If(_) => (),
         Action::Int(int) => list_target(&int.target, found),
         Action::Set(assignments) => list_assigned_not_texts(assignments.as_slice(), found),
         Action::Loop(repeated) => list_counter(&repeated.counter, found),
+        _ => (),
     }
 }

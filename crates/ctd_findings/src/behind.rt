@@ -6,7 +6,7 @@ ghost use Rattle.ctd_findings.specs.inner.Collector.{Adds, items_in};
 ghost use Rattle.ctd_findings.specs.inner.Listed.{in_block, name_at, names_at};
 ghost use Rattle.ctd_findings.specs.calls.Behind.{is_changed_by, is_loop, is_read_behind, is_read_by, repi_counter, turns_counter};
 ghost use Rattle.ctd_findings.specs.calls.Findings.{behind_remarks};
-ghost use Rattle.ctd_findings.specs.calls.Names.{is_among};
+ghost use Rattle.ctd_findings.specs.calls.Names.{is_among, unsets};
 
 use crate::block::{CommandInBlock, list_within};
 use crate::command::remark_about_if;
@@ -15,8 +15,9 @@ use crate::found::Collector;
 use crate::kind::Kind;
 use crate::known::{Role, list_all_in_role};
 use crate::loops::{boxed_name, is_set_by};
-use crate::names::{list_reads, list_unsets};
-use ctd_program::{Action, Command, LoopGuard, Var};
+use crate::names::list_reads;
+use crate::sides::is_in;
+use ctd_program::{Action, Command, Loop, LoopGuard, Var};
 use ctd_token::Name;
 use std::alloc::{AllocError, Global};
 
@@ -35,10 +36,11 @@ fn repi_counter(command: &Command) -> Option<&Name>
     ensures { name_at result ≡ repi_counter (command_tree command.now) }
 {
     match &command.action {
-        Action::Space | Action::Newline | Action::Eof | Action::Int(_) => None,
-        Action::String(_) | Action::Regex(_) | Action::Assert(_) => None,
-        Action::Set(_) | Action::Unset(_) | Action::If(_) => None,
-        Action::Loop(repeated) => turns_counter(&repeated.guard, &repeated.counter),
+        Action::Loop(repeated) => {
+            let Loop { guard, counter, .. } = &**repeated;
+            turns_counter(guard, counter)
+        }
+        _ => None,
     }
 }
 
@@ -48,9 +50,7 @@ fn is_loop(command: &Command) -> bool
 {
     match &command.action {
         Action::Loop(_) => true,
-        Action::Space | Action::Newline | Action::Eof | Action::Int(_) => false,
-        Action::String(_) | Action::Regex(_) | Action::Assert(_) => false,
-        Action::Set(_) | Action::Unset(_) | Action::If(_) => false,
+        _ => false,
     }
 }
 
@@ -79,13 +79,21 @@ fn is_read_by(alloc: Global, name: &Name, command: &Command) -> Result<bool, All
     Ok(is_among(name, names.finish()?.as_slice()))
 }
 
-/// Whether a command, or one in it, gives a name a value, or the command forgets its values.
-fn is_changed_by(alloc: Global, name: &Name, command: &Command) -> Result<bool, AllocError>
-    ensures { IfOk result (λ changed. changed ≡ is_changed_by name.now (command_tree command.now)) }
+/// Whether a command forgets the values of a name.
+fn is_unset_by(name: &Name, command: &Command) -> bool
+    ensures { result ≡ is_among name.now (unsets (command_tree command.now)) }
 {
-    let mut names = Collector::new(alloc);
-    list_unsets(command, &mut names);
-    Ok(is_set_by(name, command) || is_among(name, names.finish()?.as_slice()))
+    match &command.action {
+        Action::Unset(names) => is_in(name, names.as_slice()),
+        _ => false,
+    }
+}
+
+/// Whether a command, or one in it, gives a name a value, or the command forgets its values.
+fn is_changed_by(name: &Name, command: &Command) -> bool
+    ensures { result ≡ is_changed_by name.now (command_tree command.now) }
+{
+    is_set_by(name, command) || is_unset_by(name, command)
 }
 
 /// Whether a name is read in the commands behind a loop.
@@ -93,7 +101,7 @@ fn is_read_behind(alloc: Global, name: &Name, commands: &[Command]) -> Result<bo
     ensures { IfOk result (λ read. read ≡ is_read_behind name.now (command_trees commands.now)) }
 {
     for command in commands {
-        if is_changed_by(alloc, name, command)? {
+        if is_changed_by(name, command) {
             return Ok(false);
         }
         if is_read_by(alloc, name, command)? {

@@ -43,9 +43,6 @@ pub(crate) fn list_within<'p>(command: &'p Command, found: &mut Collector<Comman
     ensures adds { Adds (blocks_in found.old) (commands_within (command_tree command.now)) (blocks_in found.new) }
 {
     match &command.action {
-        Action::Space | Action::Newline | Action::Eof => (),
-        Action::Int(_) | Action::String(_) | Action::Regex(_) => (),
-        Action::Assert(_) | Action::Set(_) | Action::Unset(_) => (),
         Action::Loop(repeated) => {
             let Loop { between, body, .. } = &**repeated;
             list_separator(between, found);
@@ -60,6 +57,7 @@ pub(crate) fn list_within<'p>(command: &'p Command, found: &mut Collector<Comman
             list_block(then_do.as_slice(), found);
             list_block(else_do.as_slice(), found)
         }
+        _ => (),
     }
 }
 

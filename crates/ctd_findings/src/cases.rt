@@ -55,11 +55,10 @@ fn list_fills<'p>(command: &'p Command, found: &mut Collector<&'p Name>)
     ensures adds { Adds (names_in found.old) (fills (command_tree command.now)) (names_in found.new) }
 {
     match &command.action {
-        Action::Space | Action::Newline | Action::Eof | Action::String(_) => (),
-        Action::Assert(_) | Action::Unset(_) | Action::Loop(_) | Action::If(_) => (),
         Action::Int(int) => list_indexed_target(&int.target, found),
         Action::Regex(regex) => list_indexed_target(&regex.target, found),
         Action::Set(assignments) => list_assigned_arrays(assignments.as_slice(), found),
+        _ => (),
     }
 }
 
@@ -102,11 +101,9 @@ fn list_arrays<'p>(command: &'p Command, found: &mut Collector<&'p Name>)
     ensures adds { Adds (names_in found.old) (arrays (command_tree command.now)) (names_in found.new) }
 {
     match &command.action {
-        Action::Space | Action::Newline | Action::Eof | Action::Int(_) => (),
-        Action::String(_) | Action::Regex(_) | Action::Set(_) => (),
-        Action::Unset(_) | Action::Loop(_) => (),
         Action::Assert(t) => list_test_arrays(t, found),
         Action::If(choice) => list_test_arrays(&choice.condition, found),
+        _ => (),
     }
 }
 

@@ -6,11 +6,11 @@ ghost use Rattle.ctd_program.specs.calls.View.{command_tree, expr_tree, guard_tr
 ghost use Rattle.ctd_findings.specs.inner.Collector.{Adds, items_in};
 ghost use Rattle.ctd_findings.specs.inner.Listed.{facts_known, range_known};
 ghost use Rattle.ctd_findings.specs.calls.Decided.{holds_of_all, one_answer, opposite, range_truth, side_range};
-ghost use Rattle.ctd_findings.specs.calls.Findings.{decided_remarks, guard_range_remarks, range_remarks, test_range_remarks};
+ghost use Rattle.ctd_findings.specs.calls.Findings.{guard_range_remarks, range_remarks, test_range_remarks};
 ghost use Rattle.ctd_findings.specs.calls.LiteralValues.{literal_truth, no_variables};
 ghost use Rattle.ctd_findings.specs.calls.Ranges.{name_in};
 
-use crate::command::remark_if;
+use crate::command::remark_truth;
 use crate::finding::Remark;
 use crate::found::Collector;
 use crate::kind::Kind;
@@ -123,17 +123,6 @@ fn range_truth<'p>(
     }
 }
 
-/// Adds a remark where a test is decided: one of the given kind where it is true.
-fn list_decided(if_true: Kind, truth: Option<bool>, found: &mut Collector<Remark>)
-    ensures adds { Adds (items_in found.old) (decided_remarks if_true truth) (items_in found.new) }
-{
-    match truth {
-        Some(true) => remark_if(true, if_true, found),
-        Some(false) => remark_if(true, Kind::RangeFalse, found),
-        None => (),
-    }
-}
-
 /// The truth of a test by the ranges of its variables, if they decide it and its literals alone do not.
 fn undecided_truth<'p>(
     alloc: Global,
@@ -161,7 +150,7 @@ fn list_range<'p>(
     ensures adds { Adds (items_in found.old) (range_remarks (facts_known known.now) if_true (test_tree t.now)) (items_in found.new) }
 {
     match undecided_truth(alloc, t, known) {
-        Ok(truth) => list_decided(if_true, truth, found),
+        Ok(truth) => remark_truth(if_true, Kind::RangeFalse, truth, found),
         Err(_) => found.fail(),
     }
 }
@@ -193,11 +182,9 @@ pub(crate) fn list_test_range<'p>(
     ensures adds { Adds (items_in found.old) (test_range_remarks (facts_known known.now) (command_tree command.now)) (items_in found.new) }
 {
     match &command.action {
-        Action::Space | Action::Newline | Action::Eof => (),
-        Action::Int(_) | Action::String(_) | Action::Regex(_) => (),
-        Action::Set(_) | Action::Unset(_) => (),
         Action::Assert(t) => list_range(alloc, Kind::RepeatsBounds, t, known, found),
         Action::Loop(repeated) => list_guard_range(alloc, &repeated.guard, known, found),
         Action::If(choice) => list_range(alloc, Kind::RangeTrue, &choice.condition, known, found),
+        _ => (),
     }
 }

@@ -6,7 +6,6 @@ ghost use Rattle.ctd_findings.specs.inner.Collector.{Adds, items_in};
 use std::alloc::{AllocError, Global};
 
 /// Items that are found one after the other. Once memory ran out for one, they are not complete, and `finish` says so.
-#[derive(Drop)]
 pub(crate) struct Collector<T> {
     pub(crate) items: Vec<T>,
     pub(crate) is_complete: bool,
@@ -43,10 +42,20 @@ impl<T: Drop> Collector<T> {
     pub(crate) fn finish(self) -> Result<Vec<T>, AllocError>
         ensures all { IfOk result (λ items. items_in self ≡ Some items.items) }
     {
-        if self.is_complete {
-            Ok(self.items)
+        let Collector { items, is_complete } = self;
+        if is_complete {
+            Ok(items)
         } else {
             Err(AllocError)
         }
+    }
+}
+
+impl<T: Drop> Drop for Collector<T> {
+    fn drop(self) {
+        let Collector {
+            items: _,
+            is_complete: _,
+        } = self;
     }
 }

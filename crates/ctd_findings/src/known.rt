@@ -41,7 +41,6 @@ pub(crate) enum Role {
 }
 
 /// What is known of a program.
-#[derive(Drop)]
 pub(crate) struct Known<'p> {
     /// The names to which it, or a preset, gives values.
     pub(crate) given: NameSet<'p>,
@@ -57,6 +56,20 @@ pub(crate) struct Known<'p> {
     pub(crate) ranges: Ranges<'p>,
     /// A store that has no variables.
     pub(crate) nothing: Store,
+}
+
+impl<'p> Drop for Known<'p> {
+    fn drop(self) {
+        let Known {
+            given: _,
+            read: _,
+            read_elsewhere: _,
+            not_numbers: _,
+            not_texts: _,
+            ranges: _,
+            nothing: _,
+        } = self;
+    }
 }
 
 /// Adds the names of a command that have a role in it.

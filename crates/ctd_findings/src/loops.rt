@@ -60,9 +60,7 @@ fn sets_fixed(command: &Command) -> bool
     match &command.action {
         Action::Int(int) => is_fixed(&int.target),
         Action::Regex(regex) => is_fixed(&regex.target),
-        Action::Space | Action::Newline | Action::Eof | Action::String(_) => false,
-        Action::Assert(_) | Action::Set(_) | Action::Unset(_) => false,
-        Action::Loop(_) | Action::If(_) => false,
+        _ => false,
     }
 }
 
@@ -116,8 +114,6 @@ pub(crate) fn is_set_by(name: &Name, command: &Command) -> bool
     ensures { result ≡ is_set_by name.now (command_tree command.now) }
 {
     match &command.action {
-        Action::Space | Action::Newline | Action::Eof | Action::String(_) => false,
-        Action::Assert(_) | Action::Unset(_) => false,
         Action::Int(int) => is_named(name, &int.target),
         Action::Regex(regex) => is_named(name, &regex.target),
         Action::Set(assignments) => assigns(name, assignments.as_slice()),
@@ -140,6 +136,7 @@ pub(crate) fn is_set_by(name: &Name, command: &Command) -> bool
             } = &**choice;
             is_set_in(name, then_do.as_slice()) || is_set_in(name, else_do.as_slice())
         }
+        _ => false,
     }
 }
 
@@ -172,13 +169,11 @@ pub(crate) fn loop_body(command: &Command) -> &[Command]
     ensures { command_trees result.now ≡ loop_body (command_tree command.now) }
 {
     match &command.action {
-        Action::Space | Action::Newline | Action::Eof | Action::Int(_) => &[],
-        Action::String(_) | Action::Regex(_) | Action::Assert(_) => &[],
-        Action::Set(_) | Action::Unset(_) | Action::If(_) => &[],
         Action::Loop(repeated) => {
             let Loop { body, .. } = &**repeated;
             body.as_slice()
         }
+        _ => &[],
     }
 }
 
@@ -197,9 +192,7 @@ pub(crate) fn counter_name(command: &Command) -> Option<&Name>
     ensures { name_at result ≡ counter_name (command_tree command.now) }
 {
     match &command.action {
-        Action::Space | Action::Newline | Action::Eof | Action::Int(_) => None,
-        Action::String(_) | Action::Regex(_) | Action::Assert(_) => None,
-        Action::Set(_) | Action::Unset(_) | Action::If(_) => None,
         Action::Loop(repeated) => boxed_name(&repeated.counter),
+        _ => None,
     }
 }

@@ -11,7 +11,6 @@ use std::alloc::Global;
 use std::collections::BTreeSet;
 
 /// A set of names. It borrows their bytes. Once memory ran out for one, it is not complete.
-#[derive(Drop)]
 pub(crate) struct NameSet<'p> {
     names: BTreeSet<&'p [u8]>,
     pub(crate) is_complete: bool,
@@ -48,5 +47,14 @@ impl<'p> NameSet<'p> {
         ensures { result ≡ has_name name.now self.now }
     {
         self.names.contains(&name.as_slice())
+    }
+}
+
+impl<'p> Drop for NameSet<'p> {
+    fn drop(self) {
+        let NameSet {
+            names: _,
+            is_complete: _,
+        } = self;
     }
 }

@@ -7,7 +7,9 @@ ghost use Rattle.ctd_findings.specs.inner.Listed.{assigned_trees, names_at};
 ghost use Rattle.ctd_findings.specs.calls.Names.{assignment_names, assignment_reads, assignment_reads_elsewhere, counts, expr_names, guard_names, index_names, others, reads, reads_elsewhere, sets, target_name, target_reads, test_names, unsets};
 
 use crate::found::Collector;
-use ctd_program::{Action, Assignment, Command, Expr, IntArguments, LoopGuard, Test, Var};
+use ctd_program::{
+    Action, Assignment, Command, Element, Expr, IntArguments, Loop, LoopGuard, Test, Var,
+};
 use ctd_token::Name;
 use std::alloc::Global;
 
@@ -27,8 +29,9 @@ fn list_expr<'p>(e: &'p Expr, found: &mut Collector<&'p Name>)
         Expr::Name(name) => list_name(name, found),
         Expr::Numeral(_) | Expr::Text(_) => (),
         Expr::Element(element) => {
-            list_name(&element.name, found);
-            list_indices(element.indices.as_slice(), found)
+            let Element { name, indices } = &**element;
+            list_name(name, found);
+            list_indices(indices.as_slice(), found)
         }
         Expr::Strlen(e) | Expr::Minus(e) => list_expr(e, found),
         Expr::Add(a, b)
@@ -173,17 +176,18 @@ pub(crate) fn list_reads<'p>(command: &'p Command, found: &mut Collector<&'p Nam
     ensures adds { Adds (names_in found.old) (reads (command_tree command.now)) (names_in found.new) }
 {
     match &command.action {
-        Action::Space | Action::Newline | Action::Eof | Action::Unset(_) => (),
         Action::Int(int) => list_int(int, found),
         Action::String(e) => list_expr(e, found),
         Action::Regex(regex) => list_target_reads(&regex.target, found),
         Action::Assert(t) => list_test(t, found),
         Action::Set(assignments) => list_assignment_reads(assignments.as_slice(), found),
         Action::Loop(repeated) => {
-            list_counter_reads(&repeated.counter, found);
-            list_guard(&repeated.guard, found)
+            let Loop { counter, guard, .. } = &**repeated;
+            list_counter_reads(counter, found);
+            list_guard(guard, found)
         }
         Action::If(choice) => list_test(&choice.condition, found),
+        _ => (),
     }
 }
 
@@ -240,9 +244,7 @@ pub(crate) fn list_reads_elsewhere<'p>(
         Action::Set(assignments) => {
             list_all_assignment_reads_elsewhere(alloc, assignments.as_slice(), found)
         }
-        Action::Space | Action::Newline | Action::Eof | Action::Unset(_) => (),
-        Action::Int(_) | Action::String(_) | Action::Regex(_) => list_reads(command, found),
-        Action::Assert(_) | Action::Loop(_) | Action::If(_) => list_reads(command, found),
+        _ => list_reads(command, found),
     }
 }
 
@@ -251,10 +253,8 @@ pub(crate) fn list_unsets<'p>(command: &'p Command, found: &mut Collector<&'p Na
     ensures adds { Adds (names_in found.old) (unsets (command_tree command.now)) (names_in found.new) }
 {
     match &command.action {
-        Action::Space | Action::Newline | Action::Eof => (),
-        Action::Int(_) | Action::String(_) | Action::Regex(_) | Action::Assert(_) => (),
-        Action::Set(_) | Action::Loop(_) | Action::If(_) => (),
         Action::Unset(names) => list_all(names.as_slice(), found),
+        _ => (),
     }
 }
 
@@ -263,12 +263,10 @@ pub(crate) fn list_sets<'p>(command: &'p Command, found: &mut Collector<&'p Name
     ensures adds { Adds (names_in found.old) (sets (command_tree command.now)) (names_in found.new) }
 {
     match &command.action {
-        Action::Space | Action::Newline | Action::Eof => (),
-        Action::String(_) | Action::Assert(_) | Action::Unset(_) => (),
-        Action::Loop(_) | Action::If(_) => (),
         Action::Int(int) => list_target(&int.target, found),
         Action::Regex(regex) => list_target(&regex.target, found),
         Action::Set(assignments) => list_assignments(assignments.as_slice(), found),
+        _ => (),
     }
 }
 
@@ -277,9 +275,7 @@ pub(crate) fn list_counts<'p>(command: &'p Command, found: &mut Collector<&'p Na
     ensures adds { Adds (names_in found.old) (counts (command_tree command.now)) (names_in found.new) }
 {
     match &command.action {
-        Action::Space | Action::Newline | Action::Eof => (),
-        Action::Int(_) | Action::String(_) | Action::Regex(_) | Action::Assert(_) => (),
-        Action::Set(_) | Action::Unset(_) | Action::If(_) => (),
         Action::Loop(repeated) => list_counter(&repeated.counter, found),
+        _ => (),
     }
 }

@@ -14,7 +14,7 @@ use crate::known::list_presets;
 use crate::literal::literal_number;
 use crate::name_set::NameSet;
 use crate::names::{list_counts, list_sets};
-use ctd_program::{Action, Command, Expr, Presets, Var};
+use ctd_program::{Action, Command, Element, Expr, IntArguments, Presets, Var};
 use ctd_token::Name;
 use ctd_value::Store;
 use std::alloc::{AllocError, Global};
@@ -63,7 +63,10 @@ pub(crate) fn name_in(e: &Expr) -> Option<&Name>
 {
     match e {
         Expr::Name(name) => Some(name),
-        Expr::Element(element) => name_without(&element.name, element.indices.as_slice()),
+        Expr::Element(element) => {
+            let Element { name, indices } = &**element;
+            name_without(name, indices.as_slice())
+        }
         Expr::Numeral(_) | Expr::Text(_) | Expr::Strlen(_) | Expr::Minus(_) => None,
         Expr::Add(_, _) | Expr::Sub(_, _) | Expr::Mul(_, _) => None,
         Expr::Div(_, _) | Expr::Rem(_, _) | Expr::Pow(_, _) => None,
@@ -118,13 +121,12 @@ fn range_given<'p>(
     ensures { IfOk result (λ given. given_at given ≡ range_given (command_tree command.now)) }
 {
     match &command.action {
-        Action::Space | Action::Newline | Action::Eof | Action::String(_) => Ok(None),
-        Action::Regex(_) | Action::Assert(_) | Action::Set(_) | Action::Unset(_) => Ok(None),
-        Action::Loop(_) | Action::If(_) => Ok(None),
         Action::Int(int) => {
-            let bounds = literal_bounds(alloc, &int.low, &int.high, nothing)?;
-            Ok(named_range(plain_name(&int.target), bounds))
+            let IntArguments { low, high, target } = &**int;
+            let bounds = literal_bounds(alloc, low, high, nothing)?;
+            Ok(named_range(plain_name(target), bounds))
         }
+        _ => Ok(None),
     }
 }
 

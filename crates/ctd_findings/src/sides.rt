@@ -24,7 +24,7 @@ pub(crate) fn has_same_sides(t: &Test) -> bool
 }
 
 /// Whether a name is one of these.
-fn is_in(name: &Name, names: &[Name]) -> bool
+pub(crate) fn is_in(name: &Name, names: &[Name]) -> bool
     ensures { result ≡ is_in name.now names.now }
 {
     for other in names {

@@ -186,13 +186,12 @@ pub(crate) fn has_wrong_sort<'p>(command: &'p Command, known: &Known<'p>) -> boo
     ensures { result ≡ has_wrong_sort (facts_known known.now) (command_tree command.now) }
 {
     match &command.action {
-        Action::Space | Action::Newline | Action::Eof => false,
-        Action::Regex(_) | Action::Unset(_) => false,
         Action::Int(int) => is_no_number(&int.low, known) || is_no_number(&int.high, known),
         Action::String(e) => is_no_text(e, known),
         Action::Assert(t) => test_mixes(t, known),
         Action::Set(assignments) => assignments_mix(assignments.as_slice(), known),
         Action::Loop(repeated) => guard_mixes(&repeated.guard, known),
         Action::If(choice) => test_mixes(&choice.condition, known),
+        _ => false,
     }
 }

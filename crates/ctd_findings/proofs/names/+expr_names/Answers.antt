@@ -10,7 +10,7 @@ pub list_expr-returns-in-Element : goal.list_expr-returns-in-Element
 list_expr-returns-in-Element t c = record {
   adds = adds_both _ _ _ (c.deref.result.now.name ∷ []) (index_names (expr_list c.as_slice.result.now)) _
       c.list_name-in-Element.ensures.adds c.list_indices.ensures.adds
-      (element_names c.args.e.now c.in-Element.element c.deref.result.now c.deref-in-Element.result.now c.as_slice.result.now c.in-Element.is c.deref.ensures c.deref-in-Element.ensures c.as_slice.ensures);
+      (element_names c.args.e.now c.in-Element.element c.deref.result.now c.deref.result.now c.as_slice.result.now c.in-Element.is c.deref.ensures c.deref.ensures c.as_slice.ensures);
 }
 
 pub list_indices-loop-index-preserved : goal.list_indices-loop-index-preserved
