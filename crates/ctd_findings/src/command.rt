@@ -2,29 +2,29 @@
 
 ghost use Rattle.std.specs.Prelude.{◌≡◌, ◌++◌, ◌∷◌, [], IfOk};
 ghost use Rattle.ctd_program.specs.calls.View.{command_tree, expr_tree, guard_tree, test_tree};
-ghost use Rattle.ctd_findings.specs.calls.Findings.{about, about_if, command_remarks, follows_endless, follows_eof, guard_test, is_above, is_empty_text, is_endless, is_eof, is_known_true, is_set_aside, loop_remarks, loop_test, own_remarks, pattern_remarks, place_remarks, remark_if, remark_unknown, remark_unread, takes_bytes, test_remarks, truth_remarks, unread_kind};
-ghost use Rattle.ctd_findings.specs.inner.Collector.{Adds, items_in};
-ghost use Rattle.ctd_findings.specs.inner.Listed.{command_at, facts_known, has_name, in_block, names_at, test_at};
-ghost use Rattle.ctd_findings.specs.calls.Names.{reads, sets, unsets};
+ghost use Rattle.ctd_findings.specs.calls.Findings.{about, about_if, command_remarks, follows_endless, follows_eof, guard_test, is_above, is_empty_text, is_eof, is_set_aside, loop_remarks, loop_test, own_remarks, pattern_remarks, place_remarks, remark_if, remark_unknown, remark_unread, takes_bytes, test_remarks, truth_remarks, unread_kind};
+ghost use Rattle.ctd_names.specs.calls.Collector.{Adds, items_in};
+ghost use Rattle.ctd_names.specs.calls.Listed.{command_at, has_name, in_block, names_at};
+ghost use Rattle.ctd_facts.specs.calls.Known.{facts_known};
+ghost use Rattle.ctd_findings.specs.inner.Listed.{test_at};
+ghost use Rattle.ctd_names.specs.calls.Names.{reads, sets, unsets};
 ghost use Rattle.ctd_findings.specs.declared.kind.Kind.TheVariants.{EmptyRange, Unreachable};
-ghost use Rattle.ctd_findings.specs.calls.LiteralValues.{literal_number, literal_truth, no_variables};
+ghost use Rattle.ctd_facts.specs.calls.LiteralValues.{literal_number, literal_truth, no_variables};
 ghost use Rattle.ctd_findings.specs.inner.Marks.{content_marks, form_marks, truth_marks};
 ghost use Rattle.std.specs.Option.{option_and_then};
 
 use crate::behind::list_behind;
-use crate::block::CommandInBlock;
 use crate::cases::list_kept;
 use crate::decided::list_test_range;
 use crate::finding::Remark;
-use crate::found::Collector;
 use crate::kind::Kind;
-use crate::known::Known;
-use crate::literal::{literal_number, literal_truth};
-use crate::loops::{counter_name, is_set_in, loop_body, some_set_fixed};
-use crate::name_set::NameSet;
-use crate::names::{list_reads, list_sets, list_unsets};
-use crate::sides::{has_same_names, has_same_sides};
-use crate::sort::has_wrong_sort;
+use ctd_facts::{
+    Known, has_same_names, has_same_sides, has_wrong_sort, literal_number, literal_truth,
+};
+use ctd_names::{
+    Collector, CommandInBlock, NameSet, counter_name, is_set_in, list_reads, list_sets,
+    list_unsets, loop_body, some_set_fixed,
+};
 use ctd_outline::{Form, form_of};
 use ctd_program::{Action, Command, Expr, IntArguments, LoopGuard, Test};
 use ctd_token::{Bytes, Name};

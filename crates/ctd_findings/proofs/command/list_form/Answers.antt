@@ -2,7 +2,7 @@ use Rattle.std.proofs.Common.{◌++◌, List, refl}
 use Rattle.ctd_findings.specs.declared.kind.Kind.TheVariants as kinds
 use Rattle.ctd_findings.specs.declared.finding.Remark.{Remark}
 use Rattle.ctd_findings.specs.calls.Findings.{remark_if}
-use Rattle.ctd_findings.proofs.Additions.{adds_both}
+use Rattle.ctd_names.proofs.Additions.{adds_both}
 use Rattle.ctd_findings.proofs.command.list_form.Goals as goal
 
 pub returns : goal.returns

@@ -1,5 +1,5 @@
 use Rattle.ctd_findings.specs.inner.Marks.{content_marks, form_marks}
-use Rattle.ctd_findings.proofs.Additions.{adds_both}
+use Rattle.ctd_names.proofs.Additions.{adds_both}
 use Rattle.ctd_findings.proofs.Marks.{pattern_told}
 use Rattle.ctd_findings.proofs.command.list_pattern.Goals as goal
 

@@ -2,7 +2,7 @@ use Rattle.std.proofs.Common.{sym, ap, ◌∙◌}
 use Rattle.ctd_findings.specs.declared.kind.Kind.TheVariants as kinds
 use Rattle.ctd_findings.specs.calls.Findings.{truth_remarks}
 use Rattle.ctd_findings.specs.inner.Marks.{truth_marks}
-use Rattle.ctd_findings.proofs.Additions.{adds_as}
+use Rattle.ctd_names.proofs.Additions.{adds_as}
 use Rattle.ctd_findings.proofs.Marks.{truth_told}
 use Rattle.ctd_findings.proofs.command.list_truth.Goals as goal
 

@@ -2,11 +2,11 @@ use Rattle.std.proofs.Common.{Bool, Option}
 use Rattle.std.specs.Prelude.{is_some}
 use Rattle.ctd_program.specs.calls.View.{test_tree}
 use Rattle.ctd_findings.specs.declared.kind.Kind.TheVariants as kinds
-use Rattle.ctd_findings.specs.calls.Decided.{range_truth}
-use Rattle.ctd_findings.specs.calls.LiteralValues.{literal_truth}
-use Rattle.ctd_findings.specs.inner.Listed.{range_known}
+use Rattle.ctd_facts.specs.calls.Decided.{range_truth}
+use Rattle.ctd_facts.specs.calls.LiteralValues.{literal_truth}
+use Rattle.ctd_facts.specs.calls.Known.{range_known}
 use Rattle.ctd_findings.specs.inner.Marks.{truth_marks}
-use Rattle.ctd_findings.proofs.Additions.{adds_as}
+use Rattle.ctd_names.proofs.Additions.{adds_as}
 use Rattle.ctd_findings.proofs.Marks.{range_told}
 use Rattle.ctd_findings.proofs.decided.list_range.Goals as goal
 
