@@ -118,7 +118,7 @@ pub(super) type Row = (
 
 pub(super) const LINE_OF_ONE: &str = "INT(1,10) NEWLINE";
 
-const ROWS: [Row; 17] = [
+static ROWS: [Row; 17] = [
     (
         PLAIN,
         LINE_OF_ONE,
@@ -268,18 +268,25 @@ const ROWS: [Row; 17] = [
     ),
 ];
 
+/// Judges that a check ends as its row says.
+fn judge_row(rt: &impl Abort, alloc: Global, row: &Row) -> Result<(), Fail> {
+    let (terms, program, data, answer, paid, seen) = row;
+    let found = checked(alloc, terms, program, data.as_bytes())?;
+    let told = told(alloc, found.outcome)?;
+    let read = (found.taken, found.seen);
+    same(
+        rt,
+        &(told.as_str(), (found.steps, found.consumed), read),
+        &(*answer, *paid, seen.unwrap_or(read)),
+        &(program, data, terms.bytes),
+    );
+    Ok(())
+}
+
 /// Judges that checks end as their rows say.
 pub(super) fn judge_rows(rt: &impl Abort, alloc: Global, rows: &[Row]) -> Result<(), Fail> {
-    for (terms, program, data, answer, paid, seen) in rows {
-        let found = checked(alloc, terms, program, data.as_bytes())?;
-        let told = told(alloc, found.outcome)?;
-        let read = (found.taken, found.seen);
-        same(
-            rt,
-            &(told.as_str(), (found.steps, found.consumed), read),
-            &(*answer, *paid, seen.unwrap_or(read)),
-            &(program, data, terms.bytes),
-        );
+    for row in rows {
+        judge_row(rt, alloc, row)?;
     }
     Ok(())
 }
@@ -291,20 +298,31 @@ const OUT_OF_RANGE: &str = "line 1 column 1: value out of range (program line 1 
 
 const LEFT_OVER: &str = "line 1 column 2: expected end of file (program end)";
 
-/// Judges a check of data that go on behind what it reads, however reads are cut.
-fn judge_reach(rt: &impl Abort, alloc: Global, data: &[u8], reach: Reach) -> Result<(), Fail> {
-    let (program, answer, consumed, most_taken) = reach;
-    for most in CUTS {
-        let terms = Terms { most, ..PLAIN };
-        let found = checked(alloc, &terms, program, data)?;
-        let read = (found.consumed, found.taken <= most_taken, found.seen);
-        let told = told(alloc, found.outcome)?;
-        same(
-            rt,
-            &(told.as_str(), read),
-            &(answer, (consumed, true, Seen::Going)),
-            &(program, most),
-        );
+/// Judges a check of data that go on behind what it reads, with reads of this size.
+fn judge_reach_by(
+    rt: &impl Abort,
+    alloc: Global,
+    data: &[u8],
+    reach: &Reach,
+    most: usize,
+) -> Result<(), Fail> {
+    let (program, answer, consumed, most_taken) = *reach;
+    let found = checked(alloc, &Terms { most, ..PLAIN }, program, data)?;
+    let read = (found.consumed, found.taken <= most_taken, found.seen);
+    let told = told(alloc, found.outcome)?;
+    same(
+        rt,
+        &(told.as_str(), read),
+        &(answer, (consumed, true, Seen::Going)),
+        &(program, most),
+    );
+    Ok(())
+}
+
+/// The same, however reads are cut.
+fn judge_reach(rt: &impl Abort, alloc: Global, data: &[u8], reach: &Reach) -> Result<(), Fail> {
+    for most in &CUTS {
+        judge_reach_by(rt, alloc, data, reach, *most)?;
     }
     Ok(())
 }
@@ -314,26 +332,25 @@ fn checks_end_as_the_rows_say(rt: HostRuntime) -> Result<(), Fail> {
     judge_rows(&rt, rt.alloc(), &ROWS)
 }
 
-/// These bytes, and then so many `x`.
-fn followed_by_letters(alloc: Global, front: &[u8], count: usize) -> Result<Vec<u8>, AllocError> {
-    let letters = vec![in alloc; b'x'; count]?;
+/// Judges a check of data that begin with these bytes and go on with two million `x`.
+fn judge_long(rt: &impl Abort, alloc: Global, front: &[u8], reach: &Reach) -> Result<(), Fail> {
     let mut data = Vec::new(alloc);
     data.extend_from_slice(front)?;
-    data.extend_from_slice(letters.as_slice())?;
-    Ok(data)
+    data.resize(2_000_002, b'x')?;
+    judge_reach(rt, alloc, data.as_slice(), reach)
 }
+
+static REACHES: [(&[u8], Reach); 3] = [
+    (b"11", ("INT(0,9)", OUT_OF_RANGE, 2, 1_048_578)),
+    (b"  ", ("SPACE", LEFT_OVER, 1, 65_537)),
+    (b"xx", ("REGEX(\"x\")", LEFT_OVER, 1, 1_048_576)),
+];
 
 /// A look reads once, and a window reads no more than its 1,048,576 bytes.
 #[test]
 fn data_are_read_no_further_than_a_window(rt: HostRuntime) -> Result<(), Fail> {
-    let rows: [(&[u8], Reach); 3] = [
-        (b"11", ("INT(0,9)", OUT_OF_RANGE, 2, 1_048_578)),
-        (b"  ", ("SPACE", LEFT_OVER, 1, 65_537)),
-        (b"xx", ("REGEX(\"x\")", LEFT_OVER, 1, 1_048_576)),
-    ];
-    for (front, reach) in rows {
-        let data = followed_by_letters(rt.alloc(), front, 2_000_000)?;
-        judge_reach(&rt, rt.alloc(), data.as_slice(), reach)?;
+    for (front, reach) in &REACHES {
+        judge_long(&rt, rt.alloc(), front, reach)?;
     }
     Ok(())
 }
@@ -348,7 +365,7 @@ fn repeated(alloc: Global, byte: u8, count: usize, back: &[u8]) -> Result<Vec<u8
 /// A program, how often a byte stands at the front of the data, what stands behind it, the answer and the bytes consumed.
 type Consumed = (&'static str, (u8, usize), &'static [u8], &'static str, u64);
 
-const CONSUMED: [Consumed; 6] = [
+static CONSUMED: [Consumed; 6] = [
     ("INT(0,9)", (b'1', 70_000), b"", OUT_OF_RANGE, 70_000),
     ("REGEX(\"a*b|a\")", (b'a', 70_000), b"b", "ok", 70_001),
     ("SPACE", (b' ', 70_000), b"", LEFT_OVER, 1),
@@ -370,9 +387,24 @@ const CONSUMED: [Consumed; 6] = [
 ];
 
 /// The most that a read gives.
-const CUTS: [usize; 9] = [1, 2, 3, 7, 65_535, 65_536, 100_000, 1_048_575, 1_048_576];
+static CUTS: [usize; 9] = [1, 2, 3, 7, 65_535, 65_536, 100_000, 1_048_575, 1_048_576];
 
-/// Judges the answer and the bytes consumed of a check, with reads of each of these sizes.
+/// Judges the answer and the bytes consumed of a check, with reads of this size.
+fn judge_consumed_by(
+    rt: &impl Abort,
+    alloc: Global,
+    most: usize,
+    program: &str,
+    data: &[u8],
+    wanted: (&str, u64),
+) -> Result<(), Fail> {
+    let found = checked(alloc, &Terms { most, ..PLAIN }, program, data)?;
+    let told = told(alloc, found.outcome)?;
+    same(rt, &(told.as_str(), found.consumed), &wanted, &most);
+    Ok(())
+}
+
+/// The same with reads of each of these sizes.
 fn judge_consumed(
     rt: &impl Abort,
     alloc: Global,
@@ -382,43 +414,54 @@ fn judge_consumed(
     wanted: (&str, u64),
 ) -> Result<(), Fail> {
     for most in cuts {
-        let terms = Terms {
-            most: *most,
-            ..PLAIN
-        };
-        let found = checked(alloc, &terms, program, data)?;
-        let told = told(alloc, found.outcome)?;
-        same(rt, &(told.as_str(), found.consumed), &wanted, most);
+        judge_consumed_by(rt, alloc, *most, program, data, wanted)?;
     }
     Ok(())
 }
 
+/// Judges a row of what a check consumes, with reads of each size.
+fn judge_consumed_row(rt: &impl Abort, alloc: Global, row: &Consumed) -> Result<(), Fail> {
+    let (program, (byte, count), back, answer, consumed) = *row;
+    let data = repeated(alloc, byte, count, back)?;
+    judge_consumed(
+        rt,
+        alloc,
+        &CUTS,
+        program,
+        data.as_slice(),
+        (answer, consumed),
+    )
+}
+
 #[test]
 fn a_command_consumes_what_it_passed(rt: HostRuntime) -> Result<(), Fail> {
-    for (program, (byte, count), back, answer, consumed) in &CONSUMED {
-        let data = repeated(rt.alloc(), *byte, *count, back)?;
-        let wanted = (*answer, *consumed);
-        judge_consumed(&rt, rt.alloc(), &CUTS, program, data.as_slice(), wanted)?;
+    for row in &CONSUMED {
+        judge_consumed_row(&rt, rt.alloc(), row)?;
     }
     Ok(())
+}
+
+/// A STRING of 100,000 a.
+fn long_string(alloc: Global) -> Result<String, Fail> {
+    let text = repeated(alloc, b'a', 100_000, b"\")")?;
+    let mut program = String::from_str(alloc, "STRING(\"")?;
+    program.push_str(from_utf8(text.as_slice())?)?;
+    Ok(program)
 }
 
 /// A STRING of 100,000 bytes, of which the last is another in the data.
 #[test]
 fn a_string_consumes_the_bytes_that_agree(rt: HostRuntime) -> Result<(), Fail> {
     let data = repeated(rt.alloc(), b'a', 99_999, b"b")?;
-    let text = repeated(rt.alloc(), b'a', 100_000, b"\")")?;
-    let mut program = String::from_str(rt.alloc(), "STRING(\"")?;
-    program.push_str(from_utf8(text.as_slice())?)?;
+    let program = long_string(rt.alloc())?;
     let answer = "line 1 column 1: string does not match (program line 1 column 1)";
-    let wanted = (answer, 99_999);
     judge_consumed(
         &rt,
         rt.alloc(),
         &CUTS,
         program.as_str(),
         data.as_slice(),
-        wanted,
+        (answer, 99_999),
     )
 }
 
@@ -452,12 +495,18 @@ fn judge_plan(rt: &impl Abort, alloc: Global, plan: &Plan) {
     }
 }
 
+/// The same by the plan of a program.
+fn judge_plan_of(rt: &impl Abort, alloc: Global, program: &str) -> Result<(), Fail> {
+    let plan = plan_of(alloc, program)?;
+    judge_plan(rt, alloc, &plan);
+    Ok(())
+}
+
 /// Where an allocation fails one of the checks may run out of memory, and those after it answer as ever.
 #[test]
 fn a_plan_serves_any_number_of_checks(rt: HostRuntime) -> Result<(), Fail> {
-    for program in [LINE_OF_ONE, "REGEX(\"[0-9]+\",n[1]) NEWLINE"] {
-        let plan = plan_of(rt.alloc(), program)?;
-        judge_plan(&rt, rt.alloc(), &plan);
+    for program in &[LINE_OF_ONE, "REGEX(\"[0-9]+\",n[1]) NEWLINE"] {
+        judge_plan_of(&rt, rt.alloc(), program)?;
     }
     Ok(())
 }

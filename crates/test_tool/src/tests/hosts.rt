@@ -33,12 +33,22 @@ impl Write for Stream<'_> {
 }
 
 /// A host that gives its words once, and keeps a list of what it was asked for.
-#[derive(Drop)]
 struct MemoryHost<'m, 'o, 'e> {
     files: MemoryFiles<'m>,
     out: Option<&'o mut Vec<u8>>,
     err: Option<&'e mut Vec<u8>>,
     args: Option<Result<Args, ErrorKind>>,
+}
+
+impl Drop for MemoryHost<'_, '_, '_> {
+    fn drop(self) {
+        let MemoryHost {
+            files: _,
+            out: _,
+            err: _,
+            args: _,
+        } = self;
+    }
 }
 
 impl<'m> Files for MemoryHost<'m, '_, '_> {

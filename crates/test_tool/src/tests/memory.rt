@@ -77,14 +77,28 @@ impl Write for Clipped {
 }
 
 /// What was written to each stream, and what was answered.
-#[derive(Drop)]
 pub(crate) struct Written {
     pub(crate) answer: std::result::Result<u8, ToolFault>,
     pub(crate) out: Vec<u8>,
     pub(crate) err: Vec<u8>,
 }
 
+impl Drop for Written {
+    fn drop(self) {
+        let Written {
+            answer: _,
+            out: _,
+            err: _,
+        } = self;
+    }
+}
+
 impl Written {
+    /// Whether the run ran out of memory and wrote nothing.
+    pub(crate) fn is_without_memory(&self) -> bool {
+        self.answer == Err(ToolFault::Memory) && self.out.is_empty() && self.err.is_empty()
+    }
+
     /// Whether this was answered and these bytes were written.
     pub(crate) fn is(
         self,

@@ -16,12 +16,22 @@ use std::test::Fail;
 const LINE_OF_ONE: &str = "INT(1,10) NEWLINE";
 
 /// Files by their names, and standard input; it keeps a list of what it was asked for.
-#[derive(Drop)]
 pub(crate) struct MemoryFiles<'m> {
     named: &'m [(&'m str, &'m str)],
     input: &'m str,
     failing: &'m str,
     pub(crate) asked: Vec<u8>,
+}
+
+impl Drop for MemoryFiles<'_> {
+    fn drop(self) {
+        let MemoryFiles {
+            named: _,
+            input: _,
+            failing: _,
+            asked: _,
+        } = self;
+    }
 }
 
 impl<'m> MemoryFiles<'m> {
@@ -82,28 +92,33 @@ const NAMED: [(&str, &str); 4] = [
 /// A command line, the files that it asks for in order, its status, and what it writes to both streams.
 type Row = (&'static str, &'static str, u8, &'static str, &'static str);
 
-/// Whether words over the files of these tests answer what a row says, where reading the file of this name fails after its bytes
-/// and the output has this room.
-fn is_answered(alloc: Global, words: &[Bytes], failing: &str, room: Room, row: &Row) -> bool {
-    let (_, asked, status_wanted, out_text, err_text) = row;
-    let mut files = MemoryFiles::new(alloc, failing);
+/// What words leave that are run on files, where the output has this room.
+fn written(alloc: Global, words: &[Bytes], files: &mut MemoryFiles<'_>, room: Room) -> Written {
     let mut out = Clipped::new(alloc, room);
     let mut err = Vec::new(alloc);
     let status = run_words(
         alloc,
         words,
-        &mut files,
+        files,
         &mut ToWrite::new(&mut out),
         &mut ToWrite::new(&mut err),
     )
     .status;
-    let is_asked = files.asked.as_slice() == asked.as_bytes();
-    let written = Written {
+    Written {
         answer: Ok(status),
         out: out.bytes,
         err,
-    };
-    written.is(Ok(*status_wanted), out_text.as_bytes(), err_text.as_bytes()) && is_asked
+    }
+}
+
+/// Whether words over the files of these tests answer what a row says, where reading the file of this name fails after its bytes
+/// and the output has this room.
+fn is_answered(alloc: Global, words: &[Bytes], failing: &str, room: Room, row: &Row) -> bool {
+    let (_, asked, status, out, err) = row;
+    let mut files = MemoryFiles::new(alloc, failing);
+    let written = written(alloc, words, &mut files, room);
+    let is_asked = files.asked.as_slice() == asked.as_bytes();
+    written.is(Ok(*status), out.as_bytes(), err.as_bytes()) && is_asked
 }
 
 /// Whether a run gives what a row says, for the words of the row's command line.
@@ -117,24 +132,30 @@ fn is_line_answered(
     Ok(is_answered(alloc, words.as_slice(), failing, room, row))
 }
 
-/// Each command line answers what its row says.
-fn judge(
+/// Judges the command line of a row.
+fn judge_row(
     rt: &impl Abort,
     alloc: Global,
     failing: &str,
     room: Room,
-    rows: &[Row],
+    row: &Row,
 ) -> Result<(), AllocError> {
+    let is = is_line_answered(alloc, failing, room, row)?;
+    same(rt, &is, &true, &row.0);
+    Ok(())
+}
+
+/// Each command line answers what its row says, where nothing fails.
+fn judge(rt: &impl Abort, alloc: Global, rows: &[Row]) -> Result<(), AllocError> {
     for row in rows {
-        let is = is_line_answered(alloc, failing, room, row)?;
-        same(rt, &is, &true, &row.0);
+        judge_row(rt, alloc, "", AMPLE, row)?;
     }
     Ok(())
 }
 
 const WRONG: &str = "line 1 column 2: expected a newline (program line 1 column 11)\n";
 
-const VERDICTS: [Row; 4] = [
+static VERDICTS: [Row; 4] = [
     ("p.ctd right.in", "p.ctd;right.in;", 0, "testdata ok!\n", ""),
     ("p.ctd wrong.in", "p.ctd;wrong.in;", 1, WRONG, ""),
     ("p.ctd", "p.ctd;<input>;", 1, WRONG, ""),
@@ -143,11 +164,11 @@ const VERDICTS: [Row; 4] = [
 
 #[test]
 fn a_verdict_is_of_the_files_that_the_words_name(rt: HostRuntime) -> Result<(), Fail> {
-    judge(&rt, rt.alloc(), "", AMPLE, &VERDICTS)?;
+    judge(&rt, rt.alloc(), &VERDICTS)?;
     Ok(())
 }
 
-const REFUSED: [Row; 6] = [
+static REFUSED: [Row; 6] = [
     (
         "broken.ctd right.in",
         "broken.ctd;right.in;",
@@ -176,35 +197,53 @@ const REFUSED: [Row; 6] = [
 
 #[test]
 fn a_file_that_is_refused_is_told_by_its_name(rt: HostRuntime) -> Result<(), Fail> {
-    judge(&rt, rt.alloc(), "", AMPLE, &REFUSED)?;
+    judge(&rt, rt.alloc(), &REFUSED)?;
     Ok(())
 }
 
 const NO_DATA: &str = "checktestdata: line 1 column 1: read failed (program line 1 column 1)\n";
 
-const FAILED_PROGRAM: [Row; 1] = [(
-    "p.ctd wrong.in",
-    "p.ctd;wrong.in;",
-    2,
-    "",
-    "checktestdata: cannot read program\n",
-)];
+/// The file whose reading fails, the room of the output, and the row.
+type Failing = (&'static str, Room, Row);
 
-const FAILED_DATA: [Row; 1] = [("p.ctd wrong.in", "p.ctd;wrong.in;", 2, "", NO_DATA)];
-
-const FAILED_INPUT: [Row; 1] = [("p.ctd", "p.ctd;<input>;", 2, "", NO_DATA)];
-
-const CUT: [Row; 1] = [("p.ctd right.in", "p.ctd;right.in;", 2, "test", "")];
-
-const UNFLUSHED: [Row; 1] = [("p.ctd right.in", "p.ctd;right.in;", 2, "testdata ok!\n", "")];
+static FAILING: [Failing; 5] = [
+    (
+        "p.ctd",
+        AMPLE,
+        (
+            "p.ctd wrong.in",
+            "p.ctd;wrong.in;",
+            2,
+            "",
+            "checktestdata: cannot read program\n",
+        ),
+    ),
+    (
+        "wrong.in",
+        AMPLE,
+        ("p.ctd wrong.in", "p.ctd;wrong.in;", 2, "", NO_DATA),
+    ),
+    (
+        "<input>",
+        AMPLE,
+        ("p.ctd", "p.ctd;<input>;", 2, "", NO_DATA),
+    ),
+    (
+        "",
+        (4, Refusal::Fails),
+        ("p.ctd right.in", "p.ctd;right.in;", 2, "test", ""),
+    ),
+    (
+        "",
+        (100, Refusal::NeverFlushed),
+        ("p.ctd right.in", "p.ctd;right.in;", 2, "testdata ok!\n", ""),
+    ),
+];
 
 #[test]
 fn a_read_or_a_stream_that_fails_is_status_two(rt: HostRuntime) -> Result<(), Fail> {
-    judge(&rt, rt.alloc(), "p.ctd", AMPLE, &FAILED_PROGRAM)?;
-    judge(&rt, rt.alloc(), "wrong.in", AMPLE, &FAILED_DATA)?;
-    judge(&rt, rt.alloc(), "<input>", AMPLE, &FAILED_INPUT)?;
-    judge(&rt, rt.alloc(), "", (4, Refusal::Fails), &CUT)?;
-    let unflushed = (100, Refusal::NeverFlushed);
-    judge(&rt, rt.alloc(), "", unflushed, &UNFLUSHED)?;
+    for (failing, room, row) in &FAILING {
+        judge_row(&rt, rt.alloc(), failing, *room, row)?;
+    }
     Ok(())
 }

@@ -19,9 +19,9 @@ fn fault_of(alloc: Global, text: &[u8], most: usize, behind: Behind) -> Option<L
 /// No text before the last byte of this program is one.
 #[test]
 fn a_program_is_whole_however_its_reads_are_cut(rt: HostRuntime) {
-    for most in [1, 2, 3, 7, 100] {
-        let fault = fault_of(rt.alloc(), b"REP(2)SPACE END", most, Behind::End);
-        same(&rt, &fault, &None, &most);
+    for most in &[1, 2, 3, 7, 100] {
+        let fault = fault_of(rt.alloc(), b"REP(2)SPACE END", *most, Behind::End);
+        same(&rt, &fault, &None, most);
     }
 }
 

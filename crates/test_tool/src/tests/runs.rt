@@ -5,7 +5,7 @@ ghost use Rattle.std.specs.Prelude.{◌≤◌, ◌^◌, IfOk};
 use crate::tests::memory::{MemoryFile, Written};
 use crate::tests::same;
 use ctd_check::{Bytes, FromRead, Limits, Mode, Presets};
-use ctd_tool::{Setup, ToWrite, ToolFault, run_tool};
+use ctd_tool::{Setup, ToWrite, run_tool};
 use std::alloc::{AllocError, Global};
 use std::io::{self, Read};
 use std::test::Fail;
@@ -77,7 +77,16 @@ type Row = (
     &'static str,
 );
 
-/// Whether a run answers what its row says. A run that is out of memory has written nothing.
+/// Whether what a run wrote is this text, on the stream of its status. A run that is out of memory has written nothing.
+fn is_text(written: Written, status: u8, text: &str) -> Result<bool, AllocError> {
+    if written.is_without_memory() {
+        return Err(AllocError);
+    }
+    let (out, err) = if status < 2 { (text, "") } else { ("", text) };
+    Ok(written.is(Ok(status), out.as_bytes(), err.as_bytes()))
+}
+
+/// Whether a run answers what its row says.
 fn is_answered(alloc: Global, row: &Row) -> Result<bool, AllocError> {
     let (program, data, fails, limit, quiet, status, text) = *row;
     let setup = setup_of(alloc, quiet, limit)?;
@@ -85,15 +94,8 @@ fn is_answered(alloc: Global, row: &Row) -> Result<bool, AllocError> {
         bytes: data.as_bytes(),
         fails,
     };
-    let (out, err) = if status < 2 { (text, "") } else { ("", text) };
     let written = run(alloc, &setup, program.as_bytes(), testdata)?;
-    if written.answer == Err(ToolFault::Memory)
-        && written.out.is_empty()
-        && written.err.is_empty()
-    {
-        return Err(AllocError);
-    }
-    Ok(written.is(Ok(status), out.as_bytes(), err.as_bytes()))
+    is_text(written, status, text)
 }
 
 const LINE_OF_ONE: &str = "INT(1,10) NEWLINE";
@@ -101,7 +103,7 @@ const LINE_OF_ONE: &str = "INT(1,10) NEWLINE";
 const TOO_LONG: &str =
     "checktestdata: line 1 column 1: test data too long (program line 1 column 1)\n";
 
-const ROWS: [Row; 5] = [
+static ROWS: [Row; 5] = [
     (LINE_OF_ONE, "5\n", false, 100, false, 0, "testdata ok!\n"),
     (LINE_OF_ONE, "5\n", false, 1, false, 2, TOO_LONG),
     (LINE_OF_ONE, "5\n", false, 1, true, 2, TOO_LONG),

@@ -8,15 +8,21 @@ use std::alloc::{AllocError, Global};
 use std::process::Abort;
 use std::test::Fail;
 
+/// Adds a word.
+fn add_word(alloc: Global, list: &mut Vec<Bytes>, word: &[u8]) -> Result<(), AllocError> {
+    list.push(Bytes::copy(alloc, word)?)?;
+    Ok(())
+}
+
 /// The words of a line, each as bytes, behind the program's own name; a blank stands between two.
 pub(crate) fn words_of(alloc: Global, line: &[u8]) -> Result<Vec<Bytes>, AllocError> {
     let mut list = Vec::new(alloc);
-    list.push(Bytes::copy(alloc, b"checktestdata")?)?;
+    add_word(alloc, &mut list, b"checktestdata")?;
     if line.is_empty() {
         return Ok(list);
     }
     for word in line.split(|byte| *byte == b' ') {
-        list.push(Bytes::copy(alloc, word)?)?;
+        add_word(alloc, &mut list, word)?;
     }
     Ok(list)
 }

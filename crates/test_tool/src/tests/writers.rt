@@ -98,26 +98,30 @@ fn judge(rt: &impl Abort, alloc: Global, row: &Row, fails_at: usize, error: Erro
     same(rt, &(is, calls), &(true, wanted), &(text, fails_at));
 }
 
-const ROWS: [Row; 2] = [
+static ROWS: [Row; 2] = [
     (Report::Outcome(REJECTED), true, 1, REJECTED_LINE),
     (Report::Usage(UsageFault::Words), false, 2, BAD_ARGUMENTS),
 ];
 
 /// The errors of writers, which are failures all alike: a write that was interrupted, one that would have to wait, and any other.
-const ERRORS: [ErrorKind; 3] = [
+static ERRORS: [ErrorKind; 3] = [
     ErrorKind::Interrupted,
     ErrorKind::WouldBlock,
     ErrorKind::Other,
 ];
 
-/// The longer text has 69 bytes, so its flush is the call of number 24.
+/// Judges a report on writers that fail at each of their calls. The longer text has 69 bytes, so its flush is the call of number 24.
+fn judge_calls(rt: &impl Abort, alloc: Global, row: &Row, error: ErrorKind) {
+    for fails_at in 1..=25 {
+        judge(rt, alloc, row, fails_at, error);
+    }
+}
+
 #[test]
 fn a_call_that_fails_is_not_made_again(rt: HostRuntime) {
-    for error in ERRORS {
-        for fails_at in 1..=25 {
-            for row in &ROWS {
-                judge(&rt, rt.alloc(), row, fails_at, error);
-            }
+    for error in &ERRORS {
+        for row in &ROWS {
+            judge_calls(&rt, rt.alloc(), row, *error);
         }
     }
 }
