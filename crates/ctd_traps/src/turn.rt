@@ -234,10 +234,19 @@ const FIRST: Range = Range {
 };
 
 /// How a loop starts, and how its first turn begins.
-#[derive(Drop)]
 pub(crate) struct Begun<'p> {
     pub(crate) turns: Turns,
     pub(crate) first: Entered<'p>,
+}
+
+// Written out, and not derived, so that each way out of a loop's analysis drops it by one call.
+impl<'p> Drop for Begun<'p> {
+    fn drop(self) {
+        let Begun {
+            turns: _turns,
+            first: _first,
+        } = self;
+    }
 }
 
 /// How a loop starts, and how its first turn begins.
