@@ -35,7 +35,7 @@ use Rattle.ctd_traps.specs.declared.cases.Case.{Case}
 use Rattle.ctd_traps.specs.declared.turn.Turns.{Turns}
 use Rattle.ctd_traps.specs.inner.Cases.{Divides, OneStands, TellsCase, TellsCases, TellsJoined}
 use Rattle.ctd_traps.specs.inner.Holds.{AreListed, Holds, HoldsAlone}
-use Rattle.ctd_traps.specs.inner.Walk.{Assigns, ByTurn, Counts, CountsEach, CountsLast, CountsTurn, Enters, Fits, IsCounted, IsGuard, PaysTurn, Starts, StartsIn, Stays, StaysIn, first_turn, later_turn}
+use Rattle.ctd_traps.specs.inner.Walk.{Assigns, ByTurn, Counts, CountsEach, CountsLast, CountsTurn, Enters, Fits, IsCounted, IsGuard, Starts, StartsIn, Stays, StaysIn, first_turn, later_turn}
 use Rattle.ctd_traps.specs.inner.Triples.{Before, CommandKeeps, Ends, IsListed, Keeps, Listing, Splits}
 use Rattle.ctd_traps.specs.inner.PostFixpoint.{IsPostFixpoint, among}
 use Rattle.ctd_traps.proofs.Keeping.{no_steps}
@@ -73,16 +73,13 @@ fits_in f g P Q (done x t) more wider fits = wider x t fits
 fits_in f g P Q (rejected reason consumed) more wider fits = tt
 fits_in f g P Q (faulty fault consumed) more wider fits = more fault fits
 
-pub paid_turn : (pinned known paid lent after : List Known) (counter : Option VarTree) (turn : Range) (f : Faults) → PaysStep known paid → lent ≡ paid → CountsTurn pinned lent counter turn after f → PaysTurn pinned known counter turn after f
-paid_turn pinned known paid lent after counter turn f pays is_paid counts pins d k n s here stand stays = counts pins d k n s here stand (stays.0, subst (λ l. EachStands l n s.store) (sym is_paid) (pays n s.store stays.1))
-
-pub count_step : (pinned : List Known) (cs : List Case) (i : ℕ) (c : Case) (counter : Option VarTree) (turn : Range) (slice after : List Known) (own old new : Faults) (before next : List Case) → slice ≡ c.known.items → i < length cs → c ≡ get_or cs i c →
-    PaysTurn pinned slice counter turn after own → TellsCases before next → TellsCase after next → AreFaults old new → AreFaults own new → RestOr (drop i cs) cs (CountsSo pinned counter turn before old) → RestOr (drop (i + 1) cs) cs (CountsSo pinned counter turn next new)
-count_step pinned cs i c counter turn slice after own old new before next is_known inside is counts others added more_old more_own so_far =
+pub count_step : (pinned : List Known) (cs : List Case) (i : ℕ) (c : Case) (counter : Option VarTree) (turn : Range) (slice paid lent after : List Known) (own old new : Faults) (before next : List Case) → slice ≡ c.known.items → i < length cs → c ≡ get_or cs i c → PaysStep slice paid → lent ≡ paid →
+    CountsTurn pinned lent counter turn after own → TellsCases before next → TellsCase after next → AreFaults old new → AreFaults own new → RestOr (drop i cs) cs (CountsSo pinned counter turn before old) → RestOr (drop (i + 1) cs) cs (CountsSo pinned counter turn next new)
+count_step pinned cs i c counter turn slice paid lent after own old new before next is_known inside is pays is_paid counts others added more_old more_own so_far =
     case_done cs i c (CountsSo pinned counter turn before old) (CountsSo pinned counter turn next new) inside is
     (λ m h so pins d k n s is_m is_h here stand same. fits_in old new (λ _ t. StaysIn pins before n t) (λ _ t. StaysIn pins next n t) (count_turn counter k d s) more_old (λ _ t stays. (stays.0, others n t.store stays.1)) (so pins d k n s is_m is_h here stand same))
     (λ m h each pins d k n s is_m is_h here stand same. fits_in own new (λ _ t. Stays pins after n t) (λ _ t. StaysIn pins next n t) (count_turn counter k d s) more_own (λ _ t stays. (stays.0, added n t.store stays.1))
-    (counts pins d k n s here stand (same, subst (λ l. EachStands l (suc n) s.store) (sym is_known) (subst (λ g. EachStands c.known.items (suc n) g) is_h (subst (λ l. EachStands c.known.items l h) is_m each)))))
+    (counts pins d k n s here stand (same, subst (λ l. EachStands l n s.store) (sym is_paid) (pays n s.store (subst (λ l. EachStands l (suc n) s.store) (sym is_known) (subst (λ g. EachStands c.known.items (suc n) g) is_h (subst (λ l. EachStands c.known.items l h) is_m each)))))))
     so_far
 
 pub count_done : (pinned : List Known) (cs : List Case) (i : ℕ) (counter : Option VarTree) (turn : Range) (after : List Case) (f : Faults) → length cs ≤ i → RestOr (drop i cs) cs (CountsSo pinned counter turn after f) → CountsEach pinned cs counter turn after f

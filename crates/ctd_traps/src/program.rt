@@ -101,19 +101,10 @@ fn pin_all<'p>(without: Ground<'_, 'p>, presets: &'p [Preset]) -> Result<Vec<Kno
 }
 
 /// The traps of a program: the findings, and the names to which they refer.
+#[derive(Drop)]
 pub struct TrapList<'p> {
     pub findings: Vec<Finding>,
     pub names: Vec<&'p [u8]>,
-}
-
-// Written out, and not derived, so that the crates above prove nothing of how a list is dropped.
-impl<'p> Drop for TrapList<'p> {
-    fn drop(self) {
-        let TrapList {
-            findings: _findings,
-            names: _names,
-        } = self;
-    }
 }
 
 /// What is known before the first command of a program with these names.

@@ -6,7 +6,7 @@ ghost use Rattle.ctd_store.specs.declared.value.Value.TheVariants as values;
 ghost use Rattle.ctd_range.specs.calls.Ranges.{IsIn};
 ghost use Rattle.ctd_range.specs.inner.Ranges.{IsCount};
 ghost use Rattle.ctd_known.specs.calls.Facts.{MayBe};
-ghost use Rattle.ctd_traps.specs.inner.Walk.{Counts, CountsEach, CountsLast, CountsTurn, Enters, PaysTurn, Starts, StartsIn, first_turn};
+ghost use Rattle.ctd_traps.specs.inner.Walk.{Counts, CountsEach, CountsLast, CountsTurn, Enters, Starts, StartsIn, first_turn};
 ghost use Rattle.ctd_program.specs.declared.tree.Loop.{out-Loop};
 
 use crate::act::ActedCases;
@@ -146,19 +146,6 @@ fn count_turn<'p>(
     }
 }
 
-/// What is known once a step was paid, and the counter of a loop, if there is one, got the number of a turn.
-fn pay_turn<'p>(
-    counter: &'p Option<Box<Var>>,
-    turn: Range,
-    ground: Ground<'_, 'p>,
-    known: &[Known<'p>],
-) -> Result<Acted<'p>, Stop>
-    ensures { IfOk result (λ a. PaysTurn ground.entry.pinned.now known.now (boxed_target counter.now) turn a.after.items a.faults) }
-{
-    let paid = after_step(ground.alloc, known)?;
-    count_turn(counter, turn, ground, paid.as_slice())
-}
-
 /// The cases once a step was paid, and the counter of a loop, if there is one, got the number of a turn.
 fn count_each<'p>(
     counter: &'p Option<Box<Var>>,
@@ -171,7 +158,8 @@ fn count_each<'p>(
     let mut after = Vec::new(ground.alloc);
     let mut faults = no_faults();
     for case in cases {
-        let counted = pay_turn(counter, turn, ground, case.known.as_slice())?;
+        let paid = after_step(ground.alloc, case.known.as_slice())?;
+        let counted = count_turn(counter, turn, ground, paid.as_slice())?;
         after = with_case(ground, after, counted.after)?;
         faults = both(faults, counted.faults);
     }
@@ -246,19 +234,10 @@ const FIRST: Range = Range {
 };
 
 /// How a loop starts, and how its first turn begins.
+#[derive(Drop)]
 pub(crate) struct Begun<'p> {
     pub(crate) turns: Turns,
     pub(crate) first: Entered<'p>,
-}
-
-// Written out, and not derived, so that each way out of a loop's analysis drops it by one call.
-impl<'p> Drop for Begun<'p> {
-    fn drop(self) {
-        let Begun {
-            turns: _turns,
-            first: _first,
-        } = self;
-    }
 }
 
 /// How a loop starts, and how its first turn begins.

@@ -88,7 +88,7 @@ fn join_branches<'p>(
     with_all(ground, yes, no.as_slice())
 }
 
-/// How a turn of a loop but the first begins, by a guess of the cases before it. The pass is paid, and the faults of the loop are reported.
+/// How a turn of a loop but the first begins, by a guess of the cases before it. The faults of the loop are reported.
 fn begin_later<'p>(
     repeated: &'p Loop,
     place: Place,
@@ -96,13 +96,11 @@ fn begin_later<'p>(
     begun: &Begun<'p>,
     guess: &[Case<'p>],
     findings: &mut Vec<Finding>,
-    budget: &mut u64,
 ) -> Result<Entered<'p>, Stop>
     ensures more { OnOk result (ArePart (traps_of findings.old.items) (traps_of findings.new.items)) }
     ensures begins { IfOk result (λ e. BeginsLater ground.entry.pinned.now guess.now begun.now.turns begun.now.first.faults e.inside.items e.outside.items e.faults findings.new.items place repeated.now) }
 {
     let Loop { guard, counter, .. } = repeated;
-    pay_each(budget, guess)?;
     let later = enter(guard, counter, LATER, begun.turns, ground, guess)?;
     let faults = both(begun.turns.faults, both(begun.first.faults, later.faults));
     report(place, faults, findings)?;
@@ -110,19 +108,10 @@ fn begin_later<'p>(
 }
 
 /// The cases behind a loop of those before each turn but the first, and the cases at the end of a turn.
+#[derive(Drop)]
 struct Round<'p> {
     outside: Vec<Case<'p>>,
     end: Vec<Case<'p>>,
-}
-
-// Written out, and not derived, so that each way out of a loop's analysis drops it by one call.
-impl<'p> Drop for Round<'p> {
-    fn drop(self) {
-        let Round {
-            outside: _outside,
-            end: _end,
-        } = self;
-    }
 }
 
 /// Whether a guess of the cases before each turn but the first holds: whether the cases at the end of a turn follow from it.
@@ -132,22 +121,19 @@ fn holds(guess: &[Case], passed: &Round) -> bool
     are_within(passed.end.as_slice(), guess)
 }
 
-impl<'p> Round<'p> {
-    /// The cases behind a loop: those behind its first turn and those behind later ones. What was found in it is added to the findings.
-    fn conclude(
-        self,
-        ground: Ground<'_, 'p>,
-        first: &[Case<'p>],
-        found: Vec<Finding>,
-        findings: &mut Vec<Finding>,
-    ) -> Result<Vec<Case<'p>>, Stop>
-        ensures more { OnOk result (ArePart (traps_of findings.old.items) (traps_of findings.new.items)) }
-        ensures concludes { IfOk result (λ after. Concludes first.now self.entry.outside.items found.items findings.new.items after.items) }
-    {
-        let Round { outside, end: _end } = self;
-        findings.extend_from_slice(found.as_slice())?;
-        with_all(ground, outside, first)
-    }
+/// The cases behind a loop: those behind its first turn and those behind later ones. What was found in it is added to the findings.
+fn conclude<'p>(
+    ground: Ground<'_, 'p>,
+    first: &[Case<'p>],
+    later: Vec<Case<'p>>,
+    found: Vec<Finding>,
+    findings: &mut Vec<Finding>,
+) -> Result<Vec<Case<'p>>, Stop>
+    ensures more { OnOk result (ArePart (traps_of findings.old.items) (traps_of findings.new.items)) }
+    ensures concludes { IfOk result (λ after. Concludes first.now later.entry.items found.items findings.new.items after.items) }
+{
+    findings.extend_from_slice(found.as_slice())?;
+    with_all(ground, later, first)
 }
 
 /// The cases behind some commands.
@@ -269,7 +255,8 @@ fn go_round<'p>(
     ensures keeps { IfOk result (λ r. RoundKeeps ground.entry.pinned.now guess.now begun.now.turns begun.now.first.inside.items begun.now.first.faults r.outside.items r.end.items findings.new.items place repeated.now) }
 {
     let Loop { between, body, .. } = repeated;
-    let later = begin_later(repeated, place, ground, begun, guess, findings, budget)?;
+    pay_each(budget, guess)?;
+    let later = begin_later(repeated, place, ground, begun, guess, findings)?;
     let separated = separate(between, ground, later.inside, findings, budget)?;
     let before = with_all(ground, separated, begun.first.inside.as_slice())?;
     let end = walk_block(body, ground, before, findings, budget)?;
@@ -306,7 +293,13 @@ fn repeat<'p>(
             budget,
         )?;
         if holds(guess.as_slice(), &passed) {
-            return passed.conclude(ground, begun.first.outside.as_slice(), found, findings);
+            return conclude(
+                ground,
+                begun.first.outside.as_slice(),
+                passed.outside,
+                found,
+                findings,
+            );
         }
         guess = widen_cases(ground, guess.as_slice(), passed.end.as_slice(), round)?;
     }

@@ -128,11 +128,7 @@ Counts known e turns = (n : ℕ) (h : Bindings) → EachStands known n h → IsC
 abbrev pub CountsTurn : (pinned known : List Known) → Option VarTree → Range → List Known → Faults → Type 0
 CountsTurn pinned known counter turn after f = (pins : Variables) (d : TestData) (k n : ℕ) (s : State) → IsIn turn n (pos k) → PinsStand pinned pins → Stays pins known n s → Fits f (λ _ t. Stays pins after n t) (count_turn counter k d s)
 
--- the same once a step is paid
-abbrev pub PaysTurn : (pinned known : List Known) → Option VarTree → Range → List Known → Faults → Type 0
-PaysTurn pinned known counter turn after f = (pins : Variables) (d : TestData) (k n : ℕ) (s : State) → IsIn turn n (pos k) → PinsStand pinned pins → Stays pins known (suc n) s → Fits f (λ _ t. Stays pins after n t) (count_turn counter k d s)
-
--- the same of cases
+-- the same of cases, once a step is paid
 abbrev pub CountsEach : (pinned : List Known) (cases : List Case) → Option VarTree → Range → List Case → Faults → Type 0
 CountsEach pinned cases counter turn after f = (pins : Variables) (d : TestData) (k n : ℕ) (s : State) → IsIn turn n (pos k) → PinsStand pinned pins → StaysIn pins cases (suc n) s → Fits f (λ _ t. StaysIn pins after n t) (count_turn counter k d s)
 

@@ -8,14 +8,14 @@ use Rattle.ctd_traps.specs.inner.Walk.{Concludes}
 use Rattle.ctd_known.proofs.Results.{if_ok_more}
 use Rattle.ctd_traps.proofs.Joining.{if_ok_both}
 use Rattle.ctd_traps.proofs.Listed.{part_left, part_right}
-use Rattle.ctd_traps.proofs.walk.Round.conclude.Goals as goal
+use Rattle.ctd_traps.proofs.walk.conclude.Goals as goal
 
 pub returns : goal.returns
 returns c =
     let old = c.args.findings.now.items in
     let new = c.extend_from_slice.new.self.items in
     let slice = c.as_slice.result.now in
-    let later = c.args.self.outside.items in
+    let later = c.args.later.items in
     let first = c.args.first.now in
     record {
       more = if_ok_more (λ (v : Vec Case). TellsCases later v.items) (λ (v : Vec Case). ArePart (traps_of old) (traps_of new)) c.with_all.result (λ v so. part_left old slice new c.in_ok-extend_from_slice.ensures.items) c.with_all.ensures.first;
