@@ -141,3 +141,30 @@ repeat-returns-then-holds-clause-keeps t c =
     (subst (λ k. TellsCases passed.end.items k) c.as_slice-in-loop-round.ensures.value (c.holds.ensures c.if-holds.true))
     (subst (λ k. TellsCases k v.items) c.as_slice-then-holds.ensures.value so.first_after) so.later_after so.listed)
     c.conclude.ensures.concludes
+
+pub repeat-loop-round-preserved : goal.repeat-loop-round-preserved
+repeat-loop-round-preserved t c = c.loop-round.invariant
+
+pub walk-returns-clause-more : goal.walk-returns-clause-more
+walk-returns-clause-more t c = c.loop-command.invariant.more
+
+pub separate-returns-in-Some-clause-more : goal.separate-returns-in-Some-clause-more
+separate-returns-in-Some-clause-more t c = c.step.ensures.more
+
+pub walk_block-returns-clause-more : goal.walk_block-returns-clause-more
+walk_block-returns-clause-more t c = c.walk.ensures.more
+
+pub step-returns-in-Assert-clause-more : goal.step-returns-in-Assert-clause-more
+step-returns-in-Assert-clause-more t c = c.assert.ensures.more
+
+pub step-returns-in-Loop-clause-more : goal.step-returns-in-Loop-clause-more
+step-returns-in-Loop-clause-more t c = c.repeat.ensures.more
+
+pub step-returns-in-If-clause-more : goal.step-returns-in-If-clause-more
+step-returns-in-If-clause-more t c = c.choose.ensures.more
+
+pub step-returns-in-Space-clause-more : goal.step-returns-in-Space-clause-more
+step-returns-in-Space-clause-more t c = c.take.ensures.more
+
+pub step-returns-in-Space-clause-keeps : goal.step-returns-in-Space-clause-keeps
+step-returns-in-Space-clause-keeps t c = c.take.ensures.keeps
