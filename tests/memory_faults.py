@@ -18,7 +18,7 @@ from spec_reader import blanked, closing
 # An answer that memory ran out, or that a pattern is too large to be built, as code writes it; and what says so in a list that is collected.
 ANSWER = re.compile(r"\b\w+::(?:Memory|OutOfMemory|TooLarge)\b(?!::)|(?:\(|=>\s*|\|\s*|\breturn\s+|=\s*)AllocError\b(?!::|>)|\.fail\(\)")
 HANDED_ON = re.compile(r"Memory|AllocError|CompiledTooBig|_memory")
-# Only the calls of ctd_findings are collected so, and their one error is that memory ran out.
+# Only the calls of ctd_findings and of what it stands on are collected so, and their one error is that memory ran out.
 FAILED_CALL = re.compile(r"Err\(_\)\s*$")
 FUNCTION = re.compile(r"\bfn (\w+)")
 CONVERSION = re.compile(r"\bimpl(?:<T: Drop>)? From<Alloc(?:Error|Failed<T>)> for \w+")
@@ -28,10 +28,10 @@ ELSEWHERE = {
     ("ctd_arguments/src/words.rt", "texts_of"): "a push failed",
     ("ctd_in_memory/src/run.rt", "run_in_memory"): "the words could not be split, which only memory can prevent",
     ("ctd_findings/src/cases.rt", "list_kept_in"): "a set is not complete: an insertion failed before",
-    ("ctd_findings/src/found.rt", "finish"): "a push failed before",
-    ("ctd_findings/src/known.rt", "known_of"): "a set is not complete: an insertion failed before",
+    ("ctd_names/src/found.rt", "finish"): "a push failed before",
+    ("ctd_facts/src/known.rt", "known_of"): "a set is not complete: an insertion failed before",
     ("ctd_findings/src/program.rt", "unknown_presets"): "a set is not complete: an insertion failed before",
-    ("ctd_findings/src/ranges.rt", "names_given_otherwise"): "a set is not complete: an insertion failed before",
+    ("ctd_facts/src/ranges.rt", "names_given_otherwise"): "a set is not complete: an insertion failed before",
     ("ctd_lint_tool/src/command_line.rt", "copies_of"): "a push failed",
     ("ctd_lint_tool/src/command_line.rt", "kinds_named"): "a push failed",
     ("ctd_lint_tool/src/command_line.rt", "texts_of"): "a push failed",

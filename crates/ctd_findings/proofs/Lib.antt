@@ -1,11 +1,2 @@
-pub mod NameSets
-pub mod Trees
-pub mod Bodies
-pub mod Parts
-pub mod Everywhere
-pub mod InRange
-pub mod RangeMaps
-pub mod SameNames
-pub mod Additions
-pub mod OneTree
-pub mod Roles
+pub mod Marks
+pub mod Places

@@ -2,31 +2,29 @@
 
 ghost use Rattle.std.specs.Prelude.{◌≡◌, ◌++◌, ◌∷◌, [], IfOk};
 ghost use Rattle.ctd_program.specs.calls.View.{command_tree, expr_tree, guard_tree, test_tree};
-ghost use Rattle.ctd_findings.specs.calls.Findings.{about, about_if, command_remarks, content_remarks, follows_endless, follows_eof, form_remarks, guard_test, is_above, is_empty_text, is_endless, is_eof, is_known_true, is_set_aside, loop_remarks, loop_test, own_remarks, pattern_remarks, place_remarks, remark_if, remark_unknown, remark_unread, takes_bytes, test_remarks, truth_remarks, unread_kind};
-ghost use Rattle.ctd_findings.specs.inner.Collector.{Adds, items_in};
-ghost use Rattle.ctd_findings.specs.inner.Listed.{command_at, facts_known, has_name, in_block, names_at, test_at};
-ghost use Rattle.ctd_findings.specs.calls.Names.{reads, sets, unsets};
+ghost use Rattle.ctd_findings.specs.calls.Findings.{about, about_if, command_remarks, follows_endless, follows_eof, guard_test, is_above, is_empty_text, is_eof, is_set_aside, loop_remarks, loop_test, own_remarks, pattern_remarks, place_remarks, remark_if, remark_unknown, remark_unread, takes_bytes, test_remarks, truth_remarks, unread_kind};
+ghost use Rattle.ctd_names.specs.calls.Collector.{Adds, items_in};
+ghost use Rattle.ctd_names.specs.calls.Listed.{command_at, has_name, in_block, names_at};
+ghost use Rattle.ctd_facts.specs.calls.Known.{facts_known};
+ghost use Rattle.ctd_findings.specs.inner.Listed.{test_at};
+ghost use Rattle.ctd_names.specs.calls.Names.{reads, sets, unsets};
 ghost use Rattle.ctd_findings.specs.declared.kind.Kind.TheVariants.{EmptyRange, Unreachable};
-ghost use Rattle.ctd_findings.specs.calls.LiteralValues.{literal_number, literal_truth, no_variables};
-ghost use Rattle.ctd_outline.specs.calls.Alternatives.{hides_alternative};
-ghost use Rattle.ctd_outline.specs.calls.LineFeeds.{matches_feed};
-ghost use Rattle.ctd_outline.specs.calls.Outline.{ends_with, has_wide_range, repeats_unbounded, starts_with, telling_outline};
+ghost use Rattle.ctd_facts.specs.calls.LiteralValues.{literal_number, literal_truth, no_variables};
+ghost use Rattle.ctd_findings.specs.inner.Marks.{content_marks, form_marks, truth_marks};
 ghost use Rattle.std.specs.Option.{option_and_then};
 
 use crate::behind::list_behind;
-use crate::block::CommandInBlock;
 use crate::cases::list_kept;
 use crate::decided::list_test_range;
 use crate::finding::Remark;
-use crate::found::Collector;
 use crate::kind::Kind;
-use crate::known::Known;
-use crate::literal::{literal_number, literal_truth};
-use crate::loops::{counter_name, is_set_in, loop_body, some_set_fixed};
-use crate::name_set::NameSet;
-use crate::names::{list_reads, list_sets, list_unsets};
-use crate::sides::{has_same_names, has_same_sides};
-use crate::sort::has_wrong_sort;
+use ctd_facts::{
+    Known, has_same_names, has_same_sides, has_wrong_sort, literal_number, literal_truth,
+};
+use ctd_names::{
+    Collector, CommandInBlock, NameSet, counter_name, is_set_in, list_reads, list_sets,
+    list_unsets, loop_body, some_set_fixed,
+};
 use ctd_outline::{Form, form_of};
 use ctd_program::{Action, Command, Expr, IntArguments, LoopGuard, Test};
 use ctd_token::{Bytes, Name};
@@ -122,10 +120,8 @@ fn loop_test(command: &Command) -> Option<&Test>
     ensures { test_at result ≡ loop_test (command_tree command.now) }
 {
     match &command.action {
-        Action::Space | Action::Newline | Action::Eof => None,
-        Action::Int(_) | Action::String(_) | Action::Regex(_) | Action::Assert(_) => None,
-        Action::Set(_) | Action::Unset(_) | Action::If(_) => None,
         Action::Loop(repeated) => guard_test(&repeated.guard),
+        _ => None,
     }
 }
 
@@ -155,15 +151,29 @@ fn follows_endless(
     }
 }
 
+/// Adds a remark where the truth of a test is known: one kind where it is true, and another where it is false.
+pub(crate) fn remark_truth(
+    if_true: Kind,
+    if_false: Kind,
+    truth: Option<bool>,
+    found: &mut Collector<Remark>,
+)
+    ensures adds { Adds (items_in found.old) (truth_marks if_true if_false truth) (items_in found.new) }
+{
+    match truth {
+        Some(true) => remark_if(true, if_true, found),
+        Some(false) => remark_if(true, if_false, found),
+        None => (),
+    }
+}
+
 /// Adds a remark where the truth of a test follows from its literals.
 fn list_truth(alloc: Global, t: &Test, nothing: &Store, found: &mut Collector<Remark>)
     requires { nothing.now ≡ no_variables }
     ensures adds { Adds (items_in found.old) (truth_remarks (literal_truth (test_tree t.now))) (items_in found.new) }
 {
     match literal_truth(alloc, t, nothing) {
-        Ok(Some(true)) => remark_if(true, Kind::AlwaysTrue, found),
-        Ok(Some(false)) => remark_if(true, Kind::AlwaysFalse, found),
-        Ok(None) => (),
+        Ok(truth) => remark_truth(Kind::AlwaysTrue, Kind::AlwaysFalse, truth, found),
         Err(_) => found.fail(),
     }
 }
@@ -208,9 +218,7 @@ fn is_empty_text(e: &Expr) -> bool
 
 /// Adds the remarks on what stands in a pattern of this form.
 fn list_content(pattern: &[u8], form: Form, found: &mut Collector<Remark>)
-    requires range { form.has_wide_range ≡ has_wide_range pattern.now }
-    requires hidden { form.hides_alternative ≡ hides_alternative (telling_outline pattern.now) }
-    ensures adds { Adds (items_in found.old) (content_remarks pattern.now (telling_outline pattern.now)) (items_in found.new) }
+    ensures adds { Adds (items_in found.old) (content_marks pattern.now form) (items_in found.new) }
 {
     remark_if(pattern.is_empty(), Kind::EmptyPattern, found);
     remark_if(form.has_wide_range, Kind::LetterRange, found);
@@ -218,12 +226,8 @@ fn list_content(pattern: &[u8], form: Form, found: &mut Collector<Remark>)
 }
 
 /// Adds the remarks on how a pattern of this form begins and ends, and on what it may match.
-fn list_form(pattern: &[u8], form: Form, found: &mut Collector<Remark>)
-    requires caret { form.starts_with_caret ≡ starts_with 94 (telling_outline pattern.now) }
-    requires dollar { form.ends_with_dollar ≡ ends_with 36 (telling_outline pattern.now) }
-    requires unbounded { form.is_unbounded ≡ repeats_unbounded (telling_outline pattern.now) }
-    requires feed { form.matches_feed ≡ matches_feed pattern.now }
-    ensures adds { Adds (items_in found.old) (form_remarks pattern.now (telling_outline pattern.now)) (items_in found.new) }
+fn list_form(form: Form, found: &mut Collector<Remark>)
+    ensures adds { Adds (items_in found.old) (form_marks form) (items_in found.new) }
 {
     remark_if(form.starts_with_caret, Kind::Caret, found);
     remark_if(form.ends_with_dollar, Kind::Dollar, found);
@@ -238,7 +242,7 @@ fn list_pattern(alloc: Global, pattern: &[u8], found: &mut Collector<Remark>)
     match form_of(alloc, pattern) {
         Ok(form) => {
             list_content(pattern, form, found);
-            list_form(pattern, form, found)
+            list_form(form, found)
         }
         Err(_) => found.fail(),
     }
@@ -261,14 +265,13 @@ fn list_own(alloc: Global, command: &Command, nothing: &Store, found: &mut Colle
     ensures adds { Adds (items_in found.old) (own_remarks (command_tree command.now)) (items_in found.new) }
 {
     match &command.action {
-        Action::Space | Action::Newline | Action::Eof => (),
-        Action::Set(_) | Action::Unset(_) => (),
         Action::Int(int) => list_bounds(alloc, int, nothing, found),
         Action::String(e) => remark_if(is_empty_text(e), Kind::EmptyString, found),
         Action::Regex(regex) => list_pattern(alloc, regex.literal.bytes.as_slice(), found),
         Action::Assert(t) => list_test(alloc, Some(t), nothing, found),
         Action::Loop(repeated) => list_test(alloc, guard_test(&repeated.guard), nothing, found),
         Action::If(choice) => list_test(alloc, Some(&choice.condition), nothing, found),
+        _ => (),
     }
 }
 
@@ -323,9 +326,7 @@ fn is_eof(command: &Command) -> bool
 {
     match &command.action {
         Action::Eof => true,
-        Action::Space | Action::Newline | Action::Int(_) | Action::String(_) => false,
-        Action::Regex(_) | Action::Assert(_) | Action::Set(_) | Action::Unset(_) => false,
-        Action::Loop(_) | Action::If(_) => false,
+        _ => false,
     }
 }
 
@@ -335,8 +336,7 @@ fn takes_bytes(command: &Command) -> bool
 {
     match &command.action {
         Action::Space | Action::Newline | Action::Int(_) => true,
-        Action::Eof | Action::String(_) | Action::Regex(_) | Action::Assert(_) => false,
-        Action::Set(_) | Action::Unset(_) | Action::Loop(_) | Action::If(_) => false,
+        _ => false,
     }
 }
 
@@ -401,8 +401,7 @@ fn list_counter<'p>(
     let body = loop_body(command);
     let is_fixed = !known.read.contains(name) && some_set_fixed(body);
     remark_about_if(alloc, is_fixed, Kind::LiteralIndex, name, found);
-    let is_set = is_set_in(name, body);
-    remark_about_if(alloc, is_set, Kind::CounterSet, name, found)
+    remark_about_if(alloc, is_set_in(name, body), Kind::CounterSet, name, found)
 }
 
 /// The remarks on a command.

@@ -3,21 +3,22 @@
 ghost use Rattle.std.specs.Prelude.{◌≡◌, IfOk};
 ghost use Rattle.ctd_program.specs.calls.Places.{place_of};
 ghost use Rattle.ctd_program.specs.calls.View.{command_tree, command_trees};
-ghost use Rattle.ctd_findings.specs.calls.Facts.{facts_of, is_mentioned_in};
+ghost use Rattle.ctd_facts.specs.calls.Facts.{facts_of, is_mentioned_in};
 ghost use Rattle.ctd_findings.specs.calls.Findings.{command_remarks, findings_among, findings_at, findings_in, findings_of, preset_findings, remark_unknown};
-ghost use Rattle.ctd_findings.specs.inner.Collector.{Adds, items_in};
-ghost use Rattle.ctd_findings.specs.inner.Listed.{facts_known, has_name, in_block, in_blocks, names_at};
-ghost use Rattle.ctd_findings.specs.calls.LiteralValues.{no_variables};
-ghost use Rattle.ctd_findings.specs.calls.Names.{preset_names};
+ghost use Rattle.ctd_names.specs.calls.Collector.{Adds, items_in};
+ghost use Rattle.ctd_facts.specs.calls.Known.{facts_known};
+ghost use Rattle.ctd_names.specs.calls.Listed.{has_name, in_block, in_blocks, names_at};
+ghost use Rattle.ctd_facts.specs.calls.LiteralValues.{no_variables};
+ghost use Rattle.ctd_names.specs.calls.Names.{preset_names};
 ghost use Rattle.ctd_findings.specs.declared.kind.Kind.TheVariants.{UnknownPreset};
 
-use crate::block::{CommandInBlock, all_commands};
 use crate::command::{command_remarks, list_unknown};
 use crate::finding::{Finding, Remark};
-use crate::found::Collector;
 use crate::kind::Kind;
-use crate::known::{Known, Role, known_of, list_presets, names_in_role};
-use crate::name_set::NameSet;
+use ctd_facts::{Known, known_of};
+use ctd_names::{
+    Collector, CommandInBlock, NameSet, Role, all_commands, list_presets, names_in_role,
+};
 use ctd_program::{Command, Preset, Presets};
 use ctd_token::{Name, Place};
 use std::alloc::{AllocError, Global};

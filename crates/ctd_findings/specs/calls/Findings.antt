@@ -1,29 +1,34 @@
 -- The findings of a program.
 use Rattle.ctd_program.specs.Tree
+use Rattle.std.specs.Prelude.{ℕ, Bool, true, not, List, [], ◌∷◌, ◌++◌, Option, Some, None, ℤ, false, is_some, ◌||◌, ◌&&◌, codes, map, if◌then◌else◌}
+use Rattle.ctd_program.specs.Tree.{ExprTree, TestTree, CommandTree, CommandList, GuardTree}
+use Rattle.ctd_facts.specs.calls.Facts.{Facts, facts_of, is_mentioned_in}
+use Rattle.ctd_names.specs.calls.Loops.{loop_body, counter_name, is_set_in, some_set_fixed}
+use Rattle.ctd_names.specs.calls.Names.{NameList, unsets, is_among, begins_with, reads, sets, preset_names}
 use Rattle.ctd_findings.specs.declared.kind.Kind.TheVariants as kinds
-use Rattle.std.specs.Prelude.{ℕ, ℤ, Bool, true, false, not, is_some, ◌||◌, ◌&&◌, codes, List, [], ◌∷◌, ◌++◌, map, Option, Some, None, if◌then◌else◌}
 use Rattle.std.specs.Option.{option_and_then}
 use Rattle.std.specs.Ordering.{int_cmp, is_gt}
 use Rattle.ctd_token.specs.declared.text.Place.{Place}
 use Rattle.ctd_program.specs.declared.preset.Preset.{Preset}
-use Rattle.ctd_program.specs.Tree.{ExprTree, TestTree, GuardTree, CommandTree, CommandList}
 use Rattle.ctd_program.specs.calls.Places.{place_of}
 use Rattle.ctd_findings.specs.declared.finding.Finding.{Finding}
 use Rattle.ctd_findings.specs.declared.finding.Remark.{Remark}
 use Rattle.ctd_findings.specs.declared.kind.Kind.{Kind}
-use Rattle.ctd_findings.specs.calls.Block.{InBlock, all_commands}
-use Rattle.ctd_findings.specs.calls.Facts.{Facts, facts_of, is_mentioned_in}
-use Rattle.ctd_findings.specs.calls.Sorts.{has_wrong_sort}
-use Rattle.ctd_findings.specs.calls.Sides.{has_same_names, has_same_sides}
-use Rattle.ctd_findings.specs.calls.Decided.{range_truth}
-use Rattle.ctd_findings.specs.calls.Behind.{is_read_behind, repi_counter}
-use Rattle.ctd_findings.specs.calls.Cases.{all_arrays, all_unset, is_uncounted, loops_fill}
-use Rattle.ctd_findings.specs.calls.Loops.{counter_name, is_set_in, loop_body, some_set_fixed}
-use Rattle.ctd_findings.specs.calls.Names.{NameList, is_among, begins_with, reads, unsets, sets, preset_names}
-use Rattle.ctd_findings.specs.calls.LiteralValues.{literal_truth, literal_number}
+use Rattle.ctd_names.specs.calls.Block.{InBlock, all_commands}
+use Rattle.ctd_facts.specs.calls.Sorts.{has_wrong_sort}
+use Rattle.ctd_facts.specs.calls.Sides.{has_same_names, has_same_sides}
+use Rattle.ctd_facts.specs.calls.Decided.{range_truth}
+use Rattle.ctd_names.specs.calls.Behind.{is_read_behind, repi_counter}
+use Rattle.ctd_names.specs.calls.Cases.{all_arrays, all_unset, loops_fill, arrays}
+use Rattle.ctd_facts.specs.calls.LiteralValues.{literal_truth, literal_number}
 use Rattle.ctd_outline.specs.calls.Alternatives.{hides_alternative}
 use Rattle.ctd_outline.specs.calls.LineFeeds.{matches_feed}
 use Rattle.ctd_outline.specs.calls.Outline.{telling_outline, has_wide_range, starts_with, ends_with, repeats_unbounded}
+
+-- whether nothing reads the counter of a loop, if it has one
+abbrev pub is_uncounted : Facts → Option (List ℕ) → Bool
+is_uncounted facts None = true
+is_uncounted facts (Some name) = not (facts.is_read name)
 
 -- a remark about no variable
 abbrev pub plain : Kind → Remark

@@ -1,8 +1,8 @@
 use Rattle.std.proofs.Common.{drop}
 use Rattle.ctd_findings.specs.calls.Findings.{remark_kept}
-use Rattle.ctd_findings.specs.inner.Collector.{items_in}
-use Rattle.ctd_findings.specs.inner.Listed.{has_name, names_at}
-use Rattle.ctd_findings.proofs.Additions.{Leads}
+use Rattle.ctd_names.specs.calls.Collector.{items_in}
+use Rattle.ctd_names.specs.calls.Listed.{has_name, names_at}
+use Rattle.ctd_names.proofs.Additions.{Leads}
 use Rattle.ctd_findings.proofs.cases.list_kept_among.Given as goal
 
 abbrev pub invariant-loop-name : goal.invariant-loop-name

@@ -1,8 +1,9 @@
 use Rattle.std.proofs.Common.{drop}
 use Rattle.ctd_findings.specs.calls.Findings.{remark_unread}
-use Rattle.ctd_findings.specs.inner.Collector.{items_in}
-use Rattle.ctd_findings.specs.inner.Listed.{facts_known, names_at}
-use Rattle.ctd_findings.proofs.Additions.{Leads}
+use Rattle.ctd_names.specs.calls.Collector.{items_in}
+use Rattle.ctd_facts.specs.calls.Known.{facts_known}
+use Rattle.ctd_names.specs.calls.Listed.{names_at}
+use Rattle.ctd_names.proofs.Additions.{Leads}
 use Rattle.ctd_findings.proofs.command.list_unread_among.Given as goal
 
 abbrev pub invariant-loop-name : goal.invariant-loop-name

@@ -1,9 +1,10 @@
 use Rattle.std.proofs.Common.{List, refl}
-use Rattle.ctd_findings.specs.declared.block.CommandInBlock.{CommandInBlock}
+use Rattle.ctd_names.specs.declared.block.CommandInBlock.{CommandInBlock}
 use Rattle.ctd_findings.specs.declared.finding.Finding.{Finding}
 use Rattle.ctd_findings.specs.calls.Findings.{findings_among}
-use Rattle.ctd_findings.specs.inner.Listed.{facts_known, in_blocks}
-use Rattle.ctd_findings.proofs.Parts.{leads_on}
+use Rattle.ctd_facts.specs.calls.Known.{facts_known}
+use Rattle.ctd_names.specs.calls.Listed.{in_blocks}
+use Rattle.ctd_names.proofs.Parts.{leads_on}
 use Rattle.ctd_findings.proofs.program.list_among.Goals as goal
 
 pub loop-entry-preserved : goal.loop-entry-preserved

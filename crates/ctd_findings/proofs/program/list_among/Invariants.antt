@@ -1,8 +1,9 @@
 use Rattle.std.proofs.Common.{drop}
 use Rattle.ctd_findings.specs.calls.Findings.{findings_among}
-use Rattle.ctd_findings.specs.inner.Collector.{items_in}
-use Rattle.ctd_findings.specs.inner.Listed.{facts_known, in_blocks}
-use Rattle.ctd_findings.proofs.Additions.{Leads}
+use Rattle.ctd_names.specs.calls.Collector.{items_in}
+use Rattle.ctd_facts.specs.calls.Known.{facts_known}
+use Rattle.ctd_names.specs.calls.Listed.{in_blocks}
+use Rattle.ctd_names.proofs.Additions.{Leads}
 use Rattle.ctd_findings.proofs.program.list_among.Given as goal
 
 abbrev pub invariant-loop-entry : goal.invariant-loop-entry

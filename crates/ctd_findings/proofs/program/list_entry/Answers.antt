@@ -1,8 +1,8 @@
 use Rattle.std.proofs.Common.{List, ap₂, subst, sym}
 use Rattle.ctd_findings.specs.declared.finding.Finding.{Finding}
 use Rattle.ctd_findings.specs.calls.Findings.{findings_at}
-use Rattle.ctd_findings.specs.inner.Collector.{Adds, items_in}
-use Rattle.ctd_findings.proofs.Trees.{place_is}
+use Rattle.ctd_names.specs.calls.Collector.{Adds, items_in}
+use Rattle.ctd_findings.proofs.Places.{place_is}
 use Rattle.ctd_findings.proofs.program.list_entry.Goals as goal
 
 pub returns-in-Ok : goal.returns-in-Ok

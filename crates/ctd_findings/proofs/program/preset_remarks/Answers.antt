@@ -2,8 +2,8 @@ use Rattle.std.proofs.Common.{ap, ◌∙◌}
 use Rattle.std.proofs.lemmas.Result.{IfOk-weaker}
 use Rattle.ctd_findings.specs.declared.kind.Kind.TheVariants.{UnknownPreset}
 use Rattle.ctd_findings.specs.calls.Findings.{remark_unknown}
-use Rattle.ctd_findings.specs.inner.Listed.{has_name, names_at}
-use Rattle.ctd_findings.proofs.Additions.{found_first}
+use Rattle.ctd_names.specs.calls.Listed.{has_name, names_at}
+use Rattle.ctd_names.proofs.Additions.{found_first}
 use Rattle.ctd_findings.proofs.program.preset_remarks.Goals as goal
 
 pub returns : goal.returns

@@ -1,0 +1,5 @@
+pub mod Everywhere
+pub mod Facts
+pub mod InRange
+pub mod OneTree
+pub mod RangeMaps

@@ -1,0 +1,58 @@
+-- What is asked of the names of a program as a whole.
+use Rattle.std.specs.Prelude.{ℕ, Bool, not, ◌&&◌, List, ◌++◌, Option}
+use Rattle.ctd_program.specs.declared.preset.Preset.{Preset}
+use Rattle.ctd_names.specs.calls.Block.{InBlock}
+use Rattle.ctd_names.specs.calls.Names.{is_among, all_reads, all_reads_elsewhere, all_given, all_mentioned, preset_names}
+use Rattle.ctd_names.specs.calls.Assigned.{all_not_numbers, all_not_texts}
+use Rattle.ctd_facts.specs.calls.Ranges.{range_in}
+use Rattle.ctd_facts.specs.declared.ranges.Bounds.{Bounds}
+
+-- what is asked of the names of a program
+pub record Facts : Type 0 where
+  -- something gives it a value
+  pub is_given : List ℕ → Bool
+  -- something reads it
+  pub is_read : List ℕ → Bool
+  -- something reads it that is no assignment to it
+  pub is_read_elsewhere : List ℕ → Bool
+  -- it is given values, and they are numbers
+  pub is_number : List ℕ → Bool
+  -- it is given values, and they are strings
+  pub is_text : List ℕ → Bool
+  -- the range of the numbers that INT gives it, where nothing else gives it values
+  pub range : List ℕ → Option Bounds
+
+-- whether a program or a preset gives a name a value
+abbrev pub is_given_in : List InBlock → List Preset → List ℕ → Bool
+is_given_in commands presets name = is_among name (all_given commands ++ preset_names presets)
+
+-- whether a program reads a name
+abbrev pub is_read_in : List InBlock → List ℕ → Bool
+is_read_in commands name = is_among name (all_reads commands)
+
+-- whether a name is read elsewhere than in its own assignments
+abbrev pub is_read_elsewhere_in : List InBlock → List ℕ → Bool
+is_read_elsewhere_in commands name = is_among name (all_reads_elsewhere commands)
+
+-- whether a name is given values, and they are numbers
+abbrev pub is_number_in : List InBlock → List Preset → List ℕ → Bool
+is_number_in commands presets name = is_given_in commands presets name && not (is_among name (all_not_numbers commands ++ preset_names presets))
+
+-- whether a name is given values, and they are strings
+abbrev pub is_text_in : List InBlock → List Preset → List ℕ → Bool
+is_text_in commands presets name = is_given_in commands presets name && not (is_among name (all_not_texts commands ++ preset_names presets))
+
+-- the facts of a program, where these presets are given
+abbrev pub facts_of : List InBlock → List Preset → Facts
+facts_of commands presets = record {
+  is_given = is_given_in commands presets;
+  is_read = is_read_in commands;
+  is_read_elsewhere = is_read_elsewhere_in commands;
+  is_number = is_number_in commands presets;
+  is_text = is_text_in commands presets;
+  range = range_in commands presets;
+}
+
+-- whether a program mentions a name
+abbrev pub is_mentioned_in : List InBlock → List ℕ → Bool
+is_mentioned_in commands name = is_among name (all_mentioned commands)

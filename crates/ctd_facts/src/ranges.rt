@@ -1,0 +1,264 @@
+//! The numbers that a variable can have where INT alone gives it values.
+
+ghost use Rattle.std.specs.Prelude.{◌≡◌, ◌++◌, ℕ, List, None, OnOk, IfOk};
+ghost use Rattle.ctd_program.specs.calls.View.{command_tree, expr_list, expr_tree, target};
+ghost use Rattle.ctd_names.specs.calls.Collector.{Adds, names_in};
+ghost use Rattle.ctd_facts.specs.calls.Known.{bounds_at, range_known};
+ghost use Rattle.ctd_facts.specs.inner.Views.{given_at};
+ghost use Rattle.ctd_names.specs.calls.Listed.{has_name, in_blocks, name_at};
+ghost use Rattle.ctd_facts.specs.calls.LiteralValues.{literal_number, no_variables};
+ghost use Rattle.ctd_names.specs.calls.Names.{is_among, preset_names};
+ghost use Rattle.ctd_facts.specs.calls.Ranges.{all_given_otherwise, bounds_by, gives_otherwise, joined, name_in, name_without, named_range, plain_name, range_among, range_given, range_in, widened};
+
+use crate::literal::literal_number;
+use ctd_names::{Collector, CommandInBlock, NameSet, list_counts, list_presets, list_sets};
+use ctd_program::{Action, Command, Element, Expr, IntArguments, Presets, Var};
+use ctd_token::Name;
+use ctd_value::Store;
+use std::alloc::{AllocError, Global};
+use std::collections::BTreeMap;
+
+/// The least and the greatest number of a range.
+#[derive(Clone, Copy)]
+pub(crate) struct Bounds {
+    pub(crate) low: i128,
+    pub(crate) high: i128,
+}
+
+/// A range that INT gives a name.
+#[derive(Clone, Copy)]
+pub(crate) struct GivenRange<'p> {
+    name: &'p Name,
+    bounds: Bounds,
+}
+
+/// A range for each of some names.
+#[derive(Drop)]
+pub(crate) struct RangeMap<'p> {
+    bounds: BTreeMap<&'p [u8], Bounds>,
+}
+
+/// The ranges of names, and the names to which more than INT gives values.
+#[derive(Drop)]
+pub(crate) struct Ranges<'p> {
+    map: RangeMap<'p>,
+    others: NameSet<'p>,
+}
+
+/// A name that has no indices.
+fn name_without<'p>(name: &'p Name, indices: &[Expr]) -> Option<&'p Name>
+    ensures { name_at result ≡ name_without name.now (expr_list indices.now) }
+{
+    match indices {
+        [] => Some(name),
+        [_, ..] => None,
+    }
+}
+
+/// The name that an expression is, if it is one without indices.
+pub(crate) fn name_in(e: &Expr) -> Option<&Name>
+    ensures { name_at result ≡ name_in (expr_tree e.now) }
+{
+    match e {
+        Expr::Name(name) => Some(name),
+        Expr::Element(element) => {
+            let Element { name, indices } = &**element;
+            name_without(name, indices.as_slice())
+        }
+        Expr::Numeral(_) | Expr::Text(_) | Expr::Strlen(_) | Expr::Minus(_) => None,
+        Expr::Add(_, _) | Expr::Sub(_, _) | Expr::Mul(_, _) => None,
+        Expr::Div(_, _) | Expr::Rem(_, _) | Expr::Pow(_, _) => None,
+    }
+}
+
+/// The bounds of INT, where both are numbers by their literals.
+fn literal_bounds(
+    alloc: Global,
+    low: &Expr,
+    high: &Expr,
+    nothing: &Store,
+) -> Result<Option<Bounds>, AllocError>
+    requires { nothing.now ≡ no_variables }
+    ensures { IfOk result (λ bounds. bounds ≡ bounds_by (literal_number (expr_tree low.now)) (literal_number (expr_tree high.now))) }
+{
+    let low = literal_number(alloc, low, nothing)?;
+    let high = literal_number(alloc, high, nothing)?;
+    match (low, high) {
+        (Some(low), Some(high)) => Ok(Some(Bounds { low, high })),
+        _ => Ok(None),
+    }
+}
+
+/// The name of a variable that is there and has no indices.
+fn plain_name(variable: &Option<Var>) -> Option<&Name>
+    ensures { name_at result ≡ plain_name (target variable.now) }
+{
+    match variable {
+        Some(v) => name_without(&v.name, v.indices.as_slice()),
+        None => None,
+    }
+}
+
+/// A name with bounds, where both are known.
+fn named_range(name: Option<&Name>, bounds: Option<Bounds>) -> Option<GivenRange<'_>>
+    ensures { given_at result ≡ named_range (name_at name.entry) bounds }
+{
+    match (name, bounds) {
+        (Some(name), Some(bounds)) => Some(GivenRange { name, bounds }),
+        _ => None,
+    }
+}
+
+/// What INT gives a variable without indices, where its bounds are numbers by their literals.
+fn range_given<'p>(
+    alloc: Global,
+    command: &'p Command,
+    nothing: &Store,
+) -> Result<Option<GivenRange<'p>>, AllocError>
+    requires { nothing.now ≡ no_variables }
+    ensures { IfOk result (λ given. given_at given ≡ range_given (command_tree command.now)) }
+{
+    match &command.action {
+        Action::Int(int) => {
+            let IntArguments { low, high, target } = &**int;
+            let bounds = literal_bounds(alloc, low, high, nothing)?;
+            Ok(named_range(plain_name(target), bounds))
+        }
+        _ => Ok(None),
+    }
+}
+
+/// Adds the names to which a command gives a value in another way.
+fn list_given_otherwise<'p>(
+    alloc: Global,
+    command: &'p Command,
+    nothing: &Store,
+    names: &mut Collector<&'p Name>,
+)
+    requires { nothing.now ≡ no_variables }
+    ensures adds { Adds (names_in names.old) (gives_otherwise (command_tree command.now)) (names_in names.new) }
+{
+    match range_given(alloc, command, nothing) {
+        Ok(Some(_)) => (),
+        Ok(None) => {
+            list_sets(command, names);
+            list_counts(command, names)
+        }
+        Err(_) => names.fail(),
+    }
+}
+
+/// Adds those of some commands.
+fn list_all_given_otherwise<'p>(
+    alloc: Global,
+    commands: &[CommandInBlock<'p>],
+    nothing: &Store,
+    names: &mut Collector<&'p Name>,
+)
+    requires { nothing.now ≡ no_variables }
+    ensures adds { Adds (names_in names.old) (all_given_otherwise (in_blocks commands.now)) (names_in names.new) }
+{
+    for entry in commands {
+        list_given_otherwise(alloc, entry.command, nothing, names);
+    }
+}
+
+/// The names to which more than INT with such bounds gives a value, or a preset.
+fn names_given_otherwise<'p>(
+    alloc: Global,
+    commands: &[CommandInBlock<'p>],
+    presets: &'p Presets,
+    nothing: &Store,
+) -> Result<NameSet<'p>, AllocError>
+    requires { nothing.now ≡ no_variables }
+    ensures members { IfOk result (λ set. (name : List ℕ) → has_name name set ≡ is_among name (all_given_otherwise (in_blocks commands.now) ++ preset_names presets.now)) }
+{
+    let mut names = Collector::new(alloc);
+    list_all_given_otherwise(alloc, commands, nothing, &mut names);
+    list_presets(presets.pins(), &mut names);
+    let set = NameSet::of(alloc, names);
+    if set.is_complete {
+        Ok(set)
+    } else {
+        Err(AllocError)
+    }
+}
+
+/// A range so far, and one more.
+fn joined(so_far: Option<Bounds>, bounds: Bounds) -> Bounds
+    ensures { result ≡ joined so_far bounds }
+{
+    match so_far {
+        Some(range) => Bounds {
+            low: range.low.min(bounds.low),
+            high: range.high.max(bounds.high),
+        },
+        None => bounds,
+    }
+}
+
+impl<'p> RangeMap<'p> {
+    /// The range of a name, if it has one.
+    fn get(&self, name: &'p Name) -> Option<Bounds>
+        ensures { result ≡ bounds_at name.now self.now }
+    {
+        self.bounds.get(&name.as_slice()).copied()
+    }
+
+    /// Takes in what a command gives a name.
+    fn widen(&mut self, given: Option<GivenRange<'p>>) -> Result<(), AllocError>
+        ensures widens { OnOk result ((name : List ℕ) → bounds_at name self.new ≡ widened name (bounds_at name self.old) (given_at given.entry)) }
+    {
+        if let Some(given) = given {
+            let range = joined(self.get(given.name), given.bounds);
+            self.bounds.insert(given.name.as_slice(), range)?;
+        }
+        Ok(())
+    }
+
+    /// What some commands give each name.
+    fn of(
+        alloc: Global,
+        commands: &[CommandInBlock<'p>],
+        nothing: &Store,
+    ) -> Result<RangeMap<'p>, AllocError>
+        requires { nothing.now ≡ no_variables }
+        ensures ranges { IfOk result (λ map. (name : List ℕ) → bounds_at name map ≡ range_among name None (in_blocks commands.now)) }
+    {
+        let mut map = RangeMap {
+            bounds: BTreeMap::new(alloc),
+        };
+        for entry in commands {
+            let given = range_given(alloc, entry.command, nothing)?;
+            map.widen(given)?;
+        }
+        Ok(map)
+    }
+}
+
+impl<'p> Ranges<'p> {
+    /// The ranges of the names of a program, where these presets are given.
+    pub(crate) fn of(
+        alloc: Global,
+        commands: &[CommandInBlock<'p>],
+        presets: &'p Presets,
+        nothing: &Store,
+    ) -> Result<Ranges<'p>, AllocError>
+        requires { nothing.now ≡ no_variables }
+        ensures ranges { IfOk result (λ ranges. (name : List ℕ) → range_known ranges name ≡ range_in (in_blocks commands.now) presets.now name) }
+    {
+        let map = RangeMap::of(alloc, commands, nothing)?;
+        let others = names_given_otherwise(alloc, commands, presets, nothing)?;
+        Ok(Ranges { map, others })
+    }
+
+    /// The range of a name, if it has one.
+    pub(crate) fn get(&self, name: &'p Name) -> Option<Bounds>
+        ensures { result ≡ range_known self.now name.now }
+    {
+        if self.others.contains(name) {
+            return None;
+        }
+        self.map.get(name)
+    }
+}

@@ -1,7 +1,0 @@
-use Rattle.std.proofs.Common.{◌≡◌, ℕ, List, None, drop}
-use Rattle.ctd_findings.specs.inner.Listed.{bounds_at, in_blocks}
-use Rattle.ctd_findings.specs.calls.Ranges.{range_among}
-use Rattle.ctd_findings.proofs.ranges.RangeMap.of.Given as goal
-
-abbrev pub invariant-loop-entry : goal.invariant-loop-entry
-invariant-loop-entry l = (q : List ℕ) → range_among q (bounds_at q l.map) (in_blocks (drop l.entry-index l.commands)) ≡ range_among q None (in_blocks l.commands)

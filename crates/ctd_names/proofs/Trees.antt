@@ -1,0 +1,50 @@
+-- What stands in loops and IF, by what their boxes hold.
+use Rattle.std.proofs.Common.{◌≡◌, List, [], ◌∷◌, ◌++◌, None, sym, ap, ap₂, ◌∙◌}
+use Rattle.std.specs.Global.{Box}
+use Rattle.ctd_token.specs.declared.text.Place.{Place}
+use Rattle.ctd_program.specs.declared.tree.Command.{Command}
+use Rattle.ctd_program.specs.declared.tree.Commands.{Commands}
+use Rattle.ctd_program.specs.declared.tree.Action.{Action}
+use Rattle.ctd_program.specs.declared.tree.Action.TheVariants.{If}
+use Rattle.ctd_program.specs.declared.tree.Action.TheVariants as actions
+use Rattle.ctd_program.specs.declared.tree.Loop.{Loop, out-Loop}
+use Rattle.ctd_program.specs.declared.tree.Choice.{Choice, out-Choice}
+use Rattle.ctd_program.specs.declared.tree.Expr.{Expr}
+use Rattle.ctd_program.specs.declared.tree.Expr.TheVariants.{Element}
+use Rattle.ctd_program.specs.declared.tree.Element as elements
+use Rattle.ctd_program.specs.calls.View.{action_tree, command_list, command_trees, commands_of, expr_list, expr_tree, exprs_of}
+use Rattle.ctd_program.specs.inner.View.{boxed_separator}
+use Rattle.ctd_program.proofs.Trees.{boxed_element, list_commands, loop_tree, choice_tree}
+use Rattle.ctd_program.specs.Tree
+use Rattle.ctd_names.specs.calls.Block.{commands_behind, commands_within, separator_command}
+use Rattle.ctd_names.specs.calls.Names.{expr_names, index_names}
+
+-- the commands of a block
+block_commands : (block : Commands) (cs : List Command) → cs ≡ commands_of block → commands_behind None (command_trees cs) ≡ commands_behind None (command_list block)
+block_commands block cs is = ap (commands_behind None) (ap command_trees is ∙ sym (list_commands block))
+
+pub within_loop : (a : Action) (x : Box Loop) (l : Loop) (place : Place) (cs : List Command) → a ≡ actions.Loop x → l ≡ x.value → cs ≡ commands_of (out-Loop l).body
+    → commands_within (action_tree a place) ≡ separator_command (boxed_separator (out-Loop l).between) ++ commands_behind None (command_trees cs)
+within_loop a x l place cs is held body = ap commands_within (loop_tree a x l place is held)
+    ∙ ap (λ r. separator_command (boxed_separator (out-Loop l).between) ++ r) (sym (block_commands (out-Loop l).body cs body))
+
+pub within_choice : (a : Action) (x : Box Choice) (c : Choice) (place : Place) (cs ds : List Command) → a ≡ If x → c ≡ x.value → cs ≡ commands_of (out-Choice c).then_do → ds ≡ commands_of (out-Choice c).else_do
+    → commands_within (action_tree a place) ≡ commands_behind None (command_trees cs) ++ commands_behind None (command_trees ds)
+within_choice a x c place cs ds is held then_do else_do = ap commands_within (choice_tree a x c place is held)
+    ∙ sym (ap₂ (λ xs ys. xs ++ ys) (block_commands (out-Choice c).then_do cs then_do) (block_commands (out-Choice c).else_do ds else_do))
+
+-- the tree of an element, by what its box holds
+pub element_tree : (e : Expr) (x : Box elements.Element) (el indexed : elements.Element) (es : List Expr) → e ≡ Element x → el ≡ x.value → indexed ≡ x.value → es ≡ exprs_of indexed.indices
+    → expr_tree e ≡ Tree.variable el.name (expr_list es)
+element_tree e x el indexed es is held held_too all =
+    ap expr_tree is ∙ boxed_element x
+    ∙ ap (λ n. Tree.variable n (expr_list (exprs_of x.value.indices))) (ap (λ (y : elements.Element). y.name) (sym held))
+    ∙ ap (λ l. Tree.variable el.name (expr_list l)) (sym (all ∙ ap (λ (y : elements.Element). exprs_of y.indices) held_too))
+
+-- the names in an element, by what its box holds
+pub element_names : (e : Expr) (x : Box elements.Element) (el indexed : elements.Element) (es : List Expr) → e ≡ Element x → el ≡ x.value → indexed ≡ x.value → es ≡ exprs_of indexed.indices
+    → expr_names (expr_tree e) ≡ (el.name ∷ []) ++ index_names (expr_list es)
+element_names e x el indexed es is held held_too all =
+    ap (λ e. expr_names (expr_tree e)) is ∙ ap expr_names (boxed_element x)
+    ∙ ap (λ n. n ∷ index_names (expr_list (exprs_of x.value.indices))) (ap (λ (y : elements.Element). y.name) (sym held))
+    ∙ ap (λ l. el.name ∷ index_names (expr_list l)) (sym (all ∙ ap (λ (y : elements.Element). exprs_of y.indices) held_too))

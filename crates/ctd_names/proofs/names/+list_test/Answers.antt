@@ -1,0 +1,12 @@
+use Rattle.std.proofs.Common.{rules, arith}
+use Rattle.std.proofs.lemmas.Grind.{common_steps}
+use Rattle.ctd_names.proofs.names.+list_test.Goals as goal
+
+pub returns-in-Unique : goal.returns-in-Unique
+returns-in-Unique t c = search rules
+
+pub returns-in-Or : goal.returns-in-Or
+returns-in-Or t c = grind (arith, common_steps)
+
+pub returns-in-InArray : goal.returns-in-InArray
+returns-in-InArray t c = grind (arith, common_steps)
