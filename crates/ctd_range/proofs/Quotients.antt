@@ -106,6 +106,10 @@ quotient_covers c n x (pos zero) fits_low fits_high inside divides = divides ref
 quotient_covers c n x (pos (suc m)) fits_low fits_high inside divides = covers_inside c n (int_div x (pos (suc m))) fits_low fits_high (inside tt)
 quotient_covers c n x (negsuc m) fits_low fits_high inside divides = covers_inside c n (int_div x (negsuc m)) fits_low fits_high (inside tt)
 
+-- a number of a range is at least its lower end, and at least 1 if it is no less than 0 and not 0
+pub from_low_end : (b : Range) (n : ℕ) (y : ℤ) → IsIn b n y → b.low ≤ℤ y
+from_low_end b n y inside = let l = inside.low in omega (arith, ints, l)
+
 pub above_zero : (y : ℤ) → pos 0 ≤ℤ y → IsDivisor y → pos 1 ≤ℤ y
 above_zero (pos zero) from divides = absurd divides
 above_zero (pos (suc m)) from divides = omega (arith, ints)

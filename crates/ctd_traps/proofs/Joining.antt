@@ -1,5 +1,5 @@
 -- Cases side by side, and what is done in each.
-use Rattle.std.proofs.Common.{if◌then◌else◌, not, ◌≡◌, ◌<◌, ◌≤◌, ◌+◌, ◌++◌, ◌⊎◌, inl, inr, ℕ, zero, suc, Bool, true, false, List, [], ◌∷◌, length, get_or, drop, remove, Result, Ok, Err, ap, sym, subst, ◌∙◌, arith}
+use Rattle.std.proofs.Common.{if◌then◌else◌, not, ◌≡◌, ◌<◌, ◌≤◌, ◌+◌, ◌++◌, ◌⊎◌, inl, inr, ℕ, zero, suc, Bool, true, false, List, [], ◌∷◌, length, get_or, drop, remove, Result, Ok, Err, IfOk, ap, sym, subst, ◌∙◌, arith}
 use Rattle.std.proofs.lemmas.List.{at_drop_more, drop_all}
 use Rattle.ctd_source.specs.TestData.{TestData}
 use Rattle.ctd_program.specs.Tree
@@ -16,6 +16,11 @@ use Rattle.ctd_known.proofs.Applying.{AreFaults}
 use Rattle.ctd_traps.specs.declared.cases.Case.{Case}
 use Rattle.ctd_traps.specs.declared.divide.Divided.{Divided}
 use Rattle.ctd_traps.specs.inner.Cases.{Divides, DividesTo, IsEither, OneStands, TellsCase, TellsCases, opposite}
+
+-- what two things say of a result, if there is one
+pub if_ok_both : {A E : Type 0} (P Q R : A → Type 0) (r : Result A E) → ((x : A) → P x → Q x → R x) → IfOk r P → IfOk r Q → IfOk r R
+if_ok_both P Q R (Ok x) both first second = both x first second
+if_ok_both P Q R (Err e) both first second = tt
 
 -- a case of a list
 pub case_at : (cs : List Case) (i : ℕ) (c : Case) (n : ℕ) (h : Bindings) → i < length cs → EachStands (get_or cs i c).known.items n h → OneStands cs n h

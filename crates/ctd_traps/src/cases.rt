@@ -87,15 +87,15 @@ pub(crate) fn with_case<'p>(
     ensures others { IfOk result (λ all. TellsCases cases.entry.items all.items) }
     ensures added { IfOk result (λ all. TellsCase known.entry.items all.items) }
 {
-    if is_unreachable(known.as_slice()) {
+    let is_left_out = is_unreachable(known.as_slice());
+    if is_left_out {
         return Ok(cases);
     }
     match same_case(cases.as_slice(), known.as_slice()) {
         Some(i) => {
             let same = cases.remove(i);
             let both = join(ground.alloc, same.known.as_slice(), known.as_slice())?;
-            let merged = with_pushed(cases, both)?;
-            Ok(merged)
+            with_pushed(cases, both)
         }
         None => {
             let more = with_pushed(cases, known)?;
@@ -165,10 +165,8 @@ pub(crate) fn widen_cases<'p>(
     end: &[Case<'p>],
     round: usize,
 ) -> Result<Vec<Case<'p>>, Stop> {
-    let old = with_all(ground, Vec::new(ground.alloc), guess)?;
-    let grown = with_all(ground, old, end)?;
-    let mut next = Vec::new(ground.alloc);
-    for case in grown.as_slice() {
+    let mut next = with_all(ground, Vec::new(ground.alloc), guess)?;
+    for case in end {
         let wider = widen_case(ground, guess, case.known.as_slice(), round)?;
         next = with_case(ground, next, wider)?;
     }

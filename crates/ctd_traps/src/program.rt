@@ -83,11 +83,9 @@ fn pin<'p>(
     let name = preset.name.as_slice();
     let kinds = kinds_of(&preset.value);
     if preset.indices.as_slice().is_empty() {
-        let alone = assign_alone(without, name, kinds, known)?;
-        Ok(alone)
+        assign_alone(without, name, kinds, known)
     } else {
-        let element = assign_element(without.alloc, name, kinds, known)?;
-        Ok(element)
+        assign_element(without.alloc, name, kinds, known)
     }
 }
 
@@ -122,8 +120,7 @@ fn known_before<'p>(
         alloc,
         pinned: nothing.as_slice(),
     };
-    let pinned = pin_all(without, presets.pins())?;
-    Ok(pinned)
+    pin_all(without, presets.pins())
 }
 
 /// The one case before the first command, in which just the pins are known.
@@ -131,8 +128,7 @@ fn first_case<'p>(ground: Ground<'_, 'p>) -> Result<Vec<Case<'p>>, Stop>
     ensures { IfOk result (λ first. TellsCase ground.entry.pinned.now first.items) }
 {
     let known = copy_of(ground.alloc, ground.pinned)?;
-    let first = with_case(ground, Vec::new(ground.alloc), known)?;
-    Ok(first)
+    with_case(ground, Vec::new(ground.alloc), known)
 }
 
 /// The places at which a run of some commands with these names may stop by a fault of a value.

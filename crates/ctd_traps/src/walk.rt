@@ -85,8 +85,7 @@ fn join_branches<'p>(
 ) -> Result<Vec<Case<'p>>, Stop>
     ensures { IfOk result (λ after. AreBranches yes.entry.items no.entry.items after.items) }
 {
-    let after = with_all(ground, yes, no.as_slice())?;
-    Ok(after)
+    with_all(ground, yes, no.as_slice())
 }
 
 /// How a turn of a loop but the first begins, by a guess of the cases before it. The faults of the loop are reported.
@@ -134,8 +133,7 @@ fn conclude<'p>(
     ensures concludes { IfOk result (λ after. Concludes first.now later.entry.items found.items findings.new.items after.items) }
 {
     findings.extend_from_slice(found.as_slice())?;
-    let after = with_all(ground, later, first)?;
-    Ok(after)
+    with_all(ground, later, first)
 }
 
 /// The cases behind some commands.

@@ -3,6 +3,7 @@ use Rattle.std.specs.Int.RustNames.{FitsSigned}
 use Rattle.std.specs.Int.{w128}
 use Rattle.std.proofs.lemmas.Int.{to_z-of_z}
 use Rattle.ctd_program.specs.calls.View.{expr_list, expr_tree}
+use Rattle.ctd_value.specs.Val.{val}
 use Rattle.ctd_known.specs.calls.Found.{AllFailBy}
 use Rattle.ctd_known.proofs.Applying.{Leads, element_found, element_is, expr_first, expr_last, leads_on, none_fail, operands_give}
 use Rattle.ctd_known.proofs.expression.+examine.Goals as goal
@@ -46,3 +47,16 @@ pub examine_indices-returns-clause-fail : goal.examine_indices-returns-clause-fa
 examine_indices-returns-clause-fail t c =
     c.loop-index.invariant c.loop-index.faults (λ x h. h)
     (subst (λ l. AllFailBy c.args.known.now l c.loop-index.faults) (sym (expr_last c.args.indices.now c.loop-index.index-index c.loop-index-test.false)) (none_fail c.args.known.now c.loop-index.faults))
+
+pub examine-returns-in-Text : goal.examine-returns-in-Text
+examine-returns-in-Text t c = record { gives = λ k h each. rw (c.in-Text.is, sym c.as_slice.ensures.whole) (c.of_text.ensures k) }
+
+pub examine-returns-in_ok-examine-in-Strlen : goal.examine-returns-in_ok-examine-in-Strlen
+examine-returns-in_ok-examine-in-Strlen t c =
+    let given = rw c.deref-in-Strlen.ensures at c.in_ok-examine-in-Strlen.ensures.gives in
+    record { gives = λ k h each. rw c.in-Strlen.is (c.measure.ensures k (val (expr_tree c.in-Strlen.text.value) h) (given k h each)) }
+
+pub examine-returns-in_ok-examine-in-Minus : goal.examine-returns-in_ok-examine-in-Minus
+examine-returns-in_ok-examine-in-Minus t c =
+    let given = rw c.deref-in-Minus.ensures at c.in_ok-examine-in-Minus.ensures.gives in
+    record { gives = λ k h each. rw c.in-Minus.is (c.negate.ensures k (val (expr_tree c.in-Minus.a.value) h) (given k h each)) }

@@ -1,6 +1,8 @@
-use Rattle.std.proofs.Common.{subst}
+use Rattle.std.proofs.Common.{IfOk, subst}
+use Rattle.std.specs.Global.{Vec}
+use Rattle.ctd_traps.specs.declared.cases.Case.{Case}
 use Rattle.ctd_traps.specs.inner.Cases.{TellsCase}
 use Rattle.ctd_traps.proofs.program.first_case.Goals as goal
 
 pub returns : goal.returns
-returns c = subst (λ l. TellsCase l c.in_ok-first.first.items) c.in_ok-known.ensures c.in_ok-first.ensures.added
+returns c = subst (λ l. IfOk c.with_case.result (λ (v : Vec Case). TellsCase l v.items)) c.in_ok-known.ensures c.with_case.ensures.added

@@ -1,13 +1,25 @@
-use Rattle.std.proofs.Common.{◌∙◌, sym, subst}
+use Rattle.std.proofs.Common.{[], ◌∙◌, sym, subst}
+use Rattle.std.specs.Global.{Vec}
+use Rattle.ctd_store.specs.Store.{Variables, with_pin}
+use Rattle.ctd_known.specs.declared.facts.Known.{Known}
+use Rattle.ctd_known.specs.calls.Facts.{PinsStand}
 use Rattle.ctd_known.specs.calls.Changed.{AssignsAlone, AssignsElements}
+use Rattle.ctd_known.proofs.Results.{if_ok_more}
 use Rattle.ctd_traps.proofs.Pinning.{no_indices, pin_alone, pin_element, some_indices}
 use Rattle.ctd_traps.proofs.program.pin.Goals as goal
 
-pub returns-in_ok-alone : goal.returns-in_ok-alone
-returns-in_ok-alone c =
-    pin_alone c.args.without.pinned.now c.args.known.now c.in_ok-alone.alone.items c.kinds_of-kinds.result c.args.preset.now (sym c.as_slice.ensures.whole ∙ no_indices c.as_slice.result.now c.if-is_empty.ensures)
-    (subst (λ name. AssignsAlone c.args.without.pinned.now c.args.known.now name c.kinds_of-kinds.result c.in_ok-alone.alone.items) c.as_slice-name.ensures.whole c.in_ok-alone.ensures) c.kinds_of-kinds.ensures
+pub returns-then-is_empty : goal.returns-then-is_empty
+returns-then-is_empty c =
+    let nothing = c.args.without.pinned.now in
+    let known = c.args.known.now in
+    if_ok_more (λ (v : Vec Known). AssignsAlone nothing known c.as_slice-name.result.now c.kinds_of-kinds.result v.items) (λ (v : Vec Known). PinsStand nothing [] → (pins : Variables) → PinsStand known pins → PinsStand v.items (with_pin pins c.args.preset.now)) c.assign_alone.result
+    (λ v so. pin_alone nothing known v.items c.kinds_of-kinds.result c.args.preset.now (sym c.as_slice.ensures.whole ∙ no_indices c.as_slice.result.now c.if-is_empty.ensures)
+    (subst (λ name. AssignsAlone nothing known name c.kinds_of-kinds.result v.items) c.as_slice-name.ensures.whole so) c.kinds_of-kinds.ensures) c.assign_alone.ensures
 
-pub returns-in_ok-element : goal.returns-in_ok-element
-returns-in_ok-element c = λ stand. pin_element c.args.known.now c.in_ok-element.element.items c.kinds_of-kinds.result c.args.preset.now (λ none. some_indices c.as_slice.result.now c.if-is_empty.ensures (c.as_slice.ensures.whole ∙ none))
-    (subst (λ name. AssignsElements c.args.known.now name c.kinds_of-kinds.result c.in_ok-element.element.items) c.as_slice-name.ensures.whole c.in_ok-element.ensures) c.kinds_of-kinds.ensures
+pub returns-else-is_empty : goal.returns-else-is_empty
+returns-else-is_empty c =
+    let nothing = c.args.without.pinned.now in
+    let known = c.args.known.now in
+    if_ok_more (λ (v : Vec Known). AssignsElements known c.as_slice-name.result.now c.kinds_of-kinds.result v.items) (λ (v : Vec Known). PinsStand nothing [] → (pins : Variables) → PinsStand known pins → PinsStand v.items (with_pin pins c.args.preset.now)) c.assign_element.result
+    (λ v so stand. pin_element known v.items c.kinds_of-kinds.result c.args.preset.now (λ none. some_indices c.as_slice.result.now c.if-is_empty.ensures (c.as_slice.ensures.whole ∙ none))
+    (subst (λ name. AssignsElements known name c.kinds_of-kinds.result v.items) c.as_slice-name.ensures.whole so) c.kinds_of-kinds.ensures) c.assign_element.ensures

@@ -1,5 +1,12 @@
 use Rattle.std.proofs.Common.{Contains, sym, subst}
+use Rattle.std.specs.Global.{Vec}
 use Rattle.ctd_traps.specs.calls.Traps.{traps_of}
+use Rattle.ctd_traps.specs.declared.cases.Case.{Case}
+use Rattle.ctd_traps.specs.inner.Cases.{TellsCases}
+use Rattle.ctd_traps.specs.inner.Holds.{ArePart}
+use Rattle.ctd_traps.specs.inner.Walk.{Concludes}
+use Rattle.ctd_known.proofs.Results.{if_ok_more}
+use Rattle.ctd_traps.proofs.Joining.{if_ok_both}
 use Rattle.ctd_traps.proofs.Listed.{part_left, part_right}
 use Rattle.ctd_traps.proofs.walk.conclude.Goals as goal
 
@@ -8,11 +15,14 @@ returns c =
     let old = c.args.findings.now.items in
     let new = c.extend_from_slice.new.self.items in
     let slice = c.as_slice.result.now in
+    let later = c.args.later.items in
+    let first = c.args.first.now in
     record {
-      more = part_left old slice new c.in_ok-extend_from_slice.ensures.items;
-      concludes = record {
-        first_after = c.in_ok-after.ensures.second;
-        later_after = c.in_ok-after.ensures.first;
-        listed = λ t h. part_right old slice new c.in_ok-extend_from_slice.ensures.items t (subst (λ l. Contains (traps_of l) t) (sym c.as_slice.ensures.value) h);
-      };
+      more = if_ok_more (λ (v : Vec Case). TellsCases later v.items) (λ (v : Vec Case). ArePart (traps_of old) (traps_of new)) c.with_all.result (λ v so. part_left old slice new c.in_ok-extend_from_slice.ensures.items) c.with_all.ensures.first;
+      concludes = if_ok_both (λ (v : Vec Case). TellsCases later v.items) (λ (v : Vec Case). TellsCases first v.items) (λ (v : Vec Case). Concludes first later c.args.found.items new v.items) c.with_all.result
+          (λ v later_after first_after. record {
+            first_after = first_after;
+            later_after = later_after;
+            listed = λ t h. part_right old slice new c.in_ok-extend_from_slice.ensures.items t (subst (λ l. Contains (traps_of l) t) (sym c.as_slice.ensures.value) h);
+          }) c.with_all.ensures.first c.with_all.ensures.second;
     }
