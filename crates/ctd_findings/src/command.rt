@@ -2,7 +2,7 @@
 
 ghost use Rattle.std.specs.Prelude.{◌≡◌, ◌++◌, ◌∷◌, [], IfOk};
 ghost use Rattle.ctd_program.specs.calls.View.{command_tree, expr_tree, guard_tree, test_tree};
-ghost use Rattle.ctd_findings.specs.calls.Findings.{about, about_if, command_remarks, follows_endless, follows_eof, guard_test, is_above, is_empty_text, is_eof, is_set_aside, loop_remarks, loop_test, own_remarks, part_remarks, pattern_remarks, place_remarks, remark_if, remark_unknown, remark_unread, takes_bytes, test_remarks, truth_remarks, unread_kind, use_remarks};
+ghost use Rattle.ctd_findings.specs.calls.Findings.{about, about_if, command_remarks, follows_endless, follows_eof, guard_test, is_above, is_empty_text, is_set_aside, loop_remarks, loop_test, own_remarks, part_remarks, pattern_remarks, place_remarks, remark_if, remark_unknown, remark_unread, takes_bytes, test_remarks, truth_remarks, unread_kind, use_remarks};
 ghost use Rattle.ctd_names.specs.calls.Collector.{Adds, items_in};
 ghost use Rattle.ctd_names.specs.calls.Listed.{command_at, has_name, in_block, names_at};
 ghost use Rattle.ctd_facts.specs.calls.Known.{facts_known};
@@ -315,18 +315,8 @@ fn follows_eof(previous: Option<&Command>) -> bool
     ensures { result ≡ follows_eof (command_at previous.entry) }
 {
     match previous {
-        Some(command) => is_eof(command),
+        Some(command) => matches!(command.action, Action::Eof),
         None => false,
-    }
-}
-
-/// Whether a command is EOF.
-fn is_eof(command: &Command) -> bool
-    ensures { result ≡ is_eof (command_tree command.now) }
-{
-    match &command.action {
-        Action::Eof => true,
-        _ => false,
     }
 }
 
