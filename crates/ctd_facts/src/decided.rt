@@ -1,6 +1,6 @@
 //! Tests that the ranges of their variables decide.
 
-ghost use Rattle.std.specs.Prelude.{◌≡◌, IfOk, None, is_some, if◌then◌else◌, not};
+ghost use Rattle.std.specs.Prelude.{◌≡◌, IfOk, None, is_some, if◌then◌else◌};
 ghost use Rattle.std.specs.Option.{option_and_then};
 ghost use Rattle.ctd_program.specs.calls.View.{expr_tree, test_tree};
 ghost use Rattle.ctd_facts.specs.calls.Known.{range_known};

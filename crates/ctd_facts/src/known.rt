@@ -1,7 +1,8 @@
 //! What is known of a program as a whole.
 
-ghost use Rattle.std.specs.Prelude.{◌≡◌, IfOk};
-ghost use Rattle.ctd_facts.specs.calls.Known.{facts_known};
+ghost use Rattle.std.specs.Prelude.{◌≡◌, ℕ, List, true, IfOk};
+ghost use Rattle.ctd_facts.specs.calls.Known.{facts_known, range_known};
+ghost use Rattle.ctd_facts.specs.calls.Ranges.{range_in};
 ghost use Rattle.ctd_names.specs.calls.Listed.{in_blocks};
 ghost use Rattle.ctd_facts.specs.inner.Views.{has_all};
 ghost use Rattle.ctd_facts.specs.calls.LiteralValues.{no_variables};
@@ -63,6 +64,30 @@ fn has_all(known: &Known) -> bool
         && known.not_texts.is_complete
 }
 
+/// What is known of some commands beside these ranges. Where memory ran out for a name, not all is known.
+fn known_with<'p>(
+    alloc: Global,
+    commands: &[CommandInBlock<'p>],
+    presets: &'p Presets,
+    ranges: Ranges<'p>,
+    nothing: Store,
+) -> Known<'p>
+    requires { (name : List ℕ) → range_known ranges name ≡ range_in (in_blocks commands.now) presets.now name }
+    ensures facts { has_all result ≡ true → facts_known result ≡ facts_of (in_blocks commands.now) presets.now }
+    ensures nothing { result.nothing ≡ nothing }
+{
+    let pins = presets.pins();
+    Known {
+        given: names_in_role(alloc, Role::Gives, commands, pins),
+        read: names_in_role(alloc, Role::Reads, commands, &[]),
+        read_elsewhere: names_in_role(alloc, Role::ReadsElsewhere, commands, &[]),
+        not_numbers: names_in_role(alloc, Role::GivesNoNumber, commands, pins),
+        not_texts: names_in_role(alloc, Role::GivesNoText, commands, pins),
+        ranges,
+        nothing,
+    }
+}
+
 /// What is known of some commands, where these presets are given.
 pub fn known_of<'p>(
     alloc: Global,
@@ -74,16 +99,7 @@ pub fn known_of<'p>(
 {
     let nothing = empty_store(alloc)?;
     let ranges = Ranges::of(alloc, commands, presets, &nothing)?;
-    let pins = presets.pins();
-    let known = Known {
-        given: names_in_role(alloc, Role::Gives, commands, pins),
-        read: names_in_role(alloc, Role::Reads, commands, &[]),
-        read_elsewhere: names_in_role(alloc, Role::ReadsElsewhere, commands, &[]),
-        not_numbers: names_in_role(alloc, Role::GivesNoNumber, commands, pins),
-        not_texts: names_in_role(alloc, Role::GivesNoText, commands, pins),
-        ranges,
-        nothing,
-    };
+    let known = known_with(alloc, commands, presets, ranges, nothing);
     if has_all(&known) {
         Ok(known)
     } else {

@@ -3,7 +3,6 @@
 ghost use Rattle.std.specs.Prelude.{◌≡◌, ◌&&◌, length, nat_le};
 ghost use Rattle.ctd_program.specs.calls.View.{test_tree};
 ghost use Rattle.ctd_facts.specs.calls.Sides.{has_same_names, has_same_sides, stands_twice};
-ghost use Rattle.ctd_names.specs.calls.Names.{is_in};
 
 use crate::same::{has_variable, is_same};
 use ctd_names::is_in;

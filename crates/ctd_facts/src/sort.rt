@@ -1,6 +1,6 @@
 //! Where a number stands for a string, or a string for a number.
 
-ghost use Rattle.std.specs.Prelude.{◌≡◌, ◌||◌};
+ghost use Rattle.std.specs.Prelude.{◌≡◌};
 ghost use Rattle.ctd_program.specs.calls.View.{command_tree, expr_list, expr_tree, guard_tree, test_tree};
 ghost use Rattle.ctd_names.specs.calls.Assigned.{is_number, is_text};
 ghost use Rattle.ctd_facts.specs.calls.Sorts.{assignments_mix, differ, guard_mixes, has_wrong_sort, is_no_number, is_no_text, mixes, mixes_in, name_sort, sort_of, test_mixes};

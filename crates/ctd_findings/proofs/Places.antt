@@ -3,11 +3,9 @@ use Rattle.std.proofs.Common.{◌≡◌, refl}
 use Rattle.ctd_token.specs.declared.text.Place.{Place}
 use Rattle.ctd_program.specs.declared.tree.Action.{Action}
 use Rattle.ctd_program.specs.declared.tree.Action.TheVariants as actions
-use Rattle.ctd_program.specs.declared.tree.Loop.{Loop, Loop'}
-use Rattle.ctd_program.specs.declared.tree.Choice.{Choice, Choice'}
-use Rattle.ctd_program.specs.declared.tree.Element as elements
+use Rattle.ctd_program.specs.declared.tree.Loop.{Loop'}
+use Rattle.ctd_program.specs.declared.tree.Choice.{Choice'}
 use Rattle.ctd_program.specs.calls.View.{action_tree}
-use Rattle.ctd_program.specs.Tree
 use Rattle.ctd_program.specs.calls.Places.{place_of}
 
 -- the place of a command is that of its tree

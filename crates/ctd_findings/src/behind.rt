@@ -2,7 +2,6 @@
 
 ghost use Rattle.ctd_names.specs.calls.Collector.{Adds, items_in};
 ghost use Rattle.ctd_names.specs.calls.Listed.{in_block};
-ghost use Rattle.ctd_names.specs.calls.Behind.{is_read_behind, repi_counter};
 ghost use Rattle.ctd_findings.specs.calls.Findings.{behind_remarks};
 
 use crate::command::remark_about_if;

@@ -2,8 +2,8 @@
 
 ghost use Rattle.std.specs.Prelude.{◌≡◌};
 ghost use Rattle.ctd_program.specs.calls.View.{command_tree, command_trees};
-ghost use Rattle.ctd_names.specs.calls.Cases.{all_unset, arrays, fills, loops_fill};
-ghost use Rattle.ctd_findings.specs.calls.Findings.{is_uncounted, array_remarks, kept_remarks, remark_kept};
+ghost use Rattle.ctd_names.specs.calls.Cases.{all_unset, loops_fill};
+ghost use Rattle.ctd_findings.specs.calls.Findings.{array_remarks, is_uncounted, kept_remarks, remark_kept};
 ghost use Rattle.ctd_names.specs.calls.Names.{is_among};
 ghost use Rattle.ctd_names.specs.calls.Collector.{Adds, items_in};
 ghost use Rattle.ctd_facts.specs.calls.Known.{facts_known};

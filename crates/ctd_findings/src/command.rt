@@ -2,7 +2,7 @@
 
 ghost use Rattle.std.specs.Prelude.{◌≡◌, ◌++◌, ◌∷◌, [], IfOk};
 ghost use Rattle.ctd_program.specs.calls.View.{command_tree, expr_tree, guard_tree, test_tree};
-ghost use Rattle.ctd_findings.specs.calls.Findings.{about, about_if, command_remarks, follows_endless, follows_eof, guard_test, is_above, is_empty_text, is_eof, is_set_aside, loop_remarks, loop_test, own_remarks, pattern_remarks, place_remarks, remark_if, remark_unknown, remark_unread, takes_bytes, test_remarks, truth_remarks, unread_kind};
+ghost use Rattle.ctd_findings.specs.calls.Findings.{about, about_if, command_remarks, follows_endless, follows_eof, guard_test, is_above, is_empty_text, is_set_aside, loop_remarks, loop_test, own_remarks, part_remarks, pattern_remarks, place_remarks, remark_if, remark_unknown, remark_unread, takes_bytes, test_remarks, truth_remarks, unread_kind, use_remarks};
 ghost use Rattle.ctd_names.specs.calls.Collector.{Adds, items_in};
 ghost use Rattle.ctd_names.specs.calls.Listed.{command_at, has_name, in_block, names_at};
 ghost use Rattle.ctd_facts.specs.calls.Known.{facts_known};
@@ -315,18 +315,8 @@ fn follows_eof(previous: Option<&Command>) -> bool
     ensures { result ≡ follows_eof (command_at previous.entry) }
 {
     match previous {
-        Some(command) => is_eof(command),
+        Some(command) => matches!(command.action, Action::Eof),
         None => false,
-    }
-}
-
-/// Whether a command is EOF.
-fn is_eof(command: &Command) -> bool
-    ensures { result ≡ is_eof (command_tree command.now) }
-{
-    match &command.action {
-        Action::Eof => true,
-        _ => false,
     }
 }
 
@@ -404,6 +394,41 @@ fn list_counter<'p>(
     remark_about_if(alloc, is_set_in(name, body), Kind::CounterSet, name, found)
 }
 
+/// Adds the remarks on where a command stands, and on the names that it uses.
+fn list_uses<'p>(
+    alloc: Global,
+    entry: &CommandInBlock<'p>,
+    known: &Known<'p>,
+    found: &mut Collector<Remark>,
+)
+    requires { known.now.nothing ≡ no_variables }
+    ensures adds { Adds (items_in found.old) (use_remarks (facts_known known.now) (in_block entry.now)) (items_in found.new) }
+{
+    let command = entry.command;
+    list_place(alloc, entry, &known.nothing, found);
+    list_without_value(alloc, command, &known.given, found);
+    list_unread(alloc, command, known, found);
+    remark_if(has_wrong_sort(command, known), Kind::WrongSort, found)
+}
+
+/// Adds the remarks on the loop and the test that a command is or has, and those that follow from it alone.
+fn list_parts<'p>(
+    alloc: Global,
+    entry: &CommandInBlock<'p>,
+    known: &Known<'p>,
+    found: &mut Collector<Remark>,
+)
+    requires { known.now.nothing ≡ no_variables }
+    ensures adds { Adds (items_in found.old) (part_remarks (facts_known known.now) (in_block entry.now)) (items_in found.new) }
+{
+    let command = entry.command;
+    list_counter(alloc, command, known, found);
+    list_behind(alloc, entry, found);
+    list_test_range(alloc, command, known, found);
+    list_kept(alloc, command, known, found);
+    list_own(alloc, command, &known.nothing, found)
+}
+
 /// The remarks on a command.
 pub(crate) fn command_remarks<'p>(
     alloc: Global,
@@ -414,18 +439,7 @@ pub(crate) fn command_remarks<'p>(
     ensures { IfOk result (λ found. found.items ≡ command_remarks (facts_known known.now) (in_block entry.now)) }
 {
     let mut found = Collector::new(alloc);
-    list_place(alloc, entry, &known.nothing, &mut found);
-    list_without_value(alloc, entry.command, &known.given, &mut found);
-    list_unread(alloc, entry.command, known, &mut found);
-    remark_if(
-        has_wrong_sort(entry.command, known),
-        Kind::WrongSort,
-        &mut found,
-    );
-    list_counter(alloc, entry.command, known, &mut found);
-    list_behind(alloc, entry, &mut found);
-    list_test_range(alloc, entry.command, known, &mut found);
-    list_kept(alloc, entry.command, known, &mut found);
-    list_own(alloc, entry.command, &known.nothing, &mut found);
+    list_uses(alloc, entry, known, &mut found);
+    list_parts(alloc, entry, known, &mut found);
     found.finish()
 }

@@ -1,6 +1,6 @@
 //! Remarks on tests that the ranges of their variables decide.
 
-ghost use Rattle.std.specs.Prelude.{◌≡◌, not};
+ghost use Rattle.std.specs.Prelude.{◌≡◌};
 ghost use Rattle.ctd_program.specs.calls.View.{command_tree, guard_tree, test_tree};
 ghost use Rattle.ctd_names.specs.calls.Collector.{Adds, items_in};
 ghost use Rattle.ctd_facts.specs.calls.Known.{facts_known};

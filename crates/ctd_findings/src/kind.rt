@@ -4,7 +4,7 @@ ghost use Rattle.std.specs.Prelude.{◌≡◌};
 ghost use Rattle.ctd_findings.specs.calls.Kinds.{kind_name, kind_named, named_among, rank};
 
 /// How sure it is that a finding is a mistake.
-#[derive(Clone, Copy, PartialEq, Eq, Debug)]
+#[derive(Clone, Copy, PartialEq, Eq)]
 pub enum Rank {
     /// It is worth a look.
     Note,
@@ -13,7 +13,7 @@ pub enum Rank {
 }
 
 /// What a finding says.
-#[derive(Clone, Copy, PartialEq, Eq, Debug)]
+#[derive(Clone, Copy, PartialEq, Eq)]
 pub enum Kind {
     /// A preset has a name that the program nowhere mentions.
     UnknownPreset,

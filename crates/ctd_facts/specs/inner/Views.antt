@@ -3,7 +3,6 @@ use Rattle.std.specs.Prelude.{Bool, ◌&&◌, Option, Some, None}
 use Rattle.ctd_facts.specs.declared.known.Known.{Known}
 use Rattle.ctd_facts.specs.calls.Ranges.{NamedRange}
 use Rattle.ctd_facts.specs.declared.ranges.GivenRange.{GivenRange}
-use Rattle.ctd_names.specs.declared.roles.Role.TheVariants as roles
 
 -- a range that is given to a name behind a reference, if there is one
 abbrev pub given_at : Option GivenRange → Option NamedRange

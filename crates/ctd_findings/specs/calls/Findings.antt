@@ -19,7 +19,7 @@ use Rattle.ctd_facts.specs.calls.Sorts.{has_wrong_sort}
 use Rattle.ctd_facts.specs.calls.Sides.{has_same_names, has_same_sides}
 use Rattle.ctd_facts.specs.calls.Decided.{range_truth}
 use Rattle.ctd_names.specs.calls.Behind.{is_read_behind, repi_counter}
-use Rattle.ctd_names.specs.calls.Cases.{all_arrays, all_unset, loops_fill, arrays}
+use Rattle.ctd_names.specs.calls.Cases.{all_arrays, all_unset, loops_fill}
 use Rattle.ctd_facts.specs.calls.LiteralValues.{literal_truth, literal_number}
 use Rattle.ctd_outline.specs.calls.Alternatives.{hides_alternative}
 use Rattle.ctd_outline.specs.calls.LineFeeds.{matches_feed}
@@ -264,17 +264,24 @@ array_remarks body = remark_kept (λ name. is_among name (loops_fill body)) (λ 
 abbrev pub kept_remarks : Facts → CommandTree → List Remark
 kept_remarks facts c = if is_uncounted facts (counter_name c) then array_remarks (loop_body c) else []
 
--- the remarks on a command
-abbrev pub command_remarks : Facts → InBlock → List Remark
-command_remarks facts x = place_remarks x
+-- the remarks on where a command stands, and on the names that it uses
+abbrev pub use_remarks : Facts → InBlock → List Remark
+use_remarks facts x = place_remarks x
     ++ remark_unknown kinds.NoValue facts.is_given (reads x.command ++ unsets x.command)
     ++ remark_unread facts (sets x.command)
     ++ remark_if (has_wrong_sort facts x.command) kinds.WrongSort
-    ++ loop_remarks facts x.command
+
+-- the remarks on the loop and the test that a command is or has, and those that follow from it alone
+abbrev pub part_remarks : Facts → InBlock → List Remark
+part_remarks facts x = loop_remarks facts x.command
     ++ behind_remarks x
     ++ test_range_remarks facts x.command
     ++ kept_remarks facts x.command
     ++ own_remarks x.command
+
+-- the remarks on a command
+abbrev pub command_remarks : Facts → InBlock → List Remark
+command_remarks facts x = use_remarks facts x ++ part_remarks facts x
 
 -- remarks at a place
 abbrev pub findings_at : Place → List Remark → List Finding
