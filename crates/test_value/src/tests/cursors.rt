@@ -44,7 +44,7 @@ pub(super) struct Scripted<'s> {
 }
 
 /// The errors of readers, which are failures all alike: a read that was interrupted, one that would have to wait, and any other.
-const ERRORS: [ErrorKind; 3] = [
+static ERRORS: [ErrorKind; 3] = [
     ErrorKind::Interrupted,
     ErrorKind::WouldBlock,
     ErrorKind::Other,
@@ -280,7 +280,27 @@ fn judge_start<R: Read + Drop>(
     Ok(())
 }
 
-/// The same over a reader that gives these answers and is called so often in all, whatever its error is.
+/// The same over a reader that gives these answers and is called so often in all, where its error is this one.
+fn judge_script_of(
+    rt: &impl Abort,
+    alloc: Global,
+    answers: &[Option<&[u8]>],
+    error: ErrorKind,
+    wanted_calls: usize,
+    asks: &[Ask],
+) -> Result<(), AllocError> {
+    let mut calls = 0;
+    let reader = Scripted {
+        answers,
+        error,
+        calls: &mut calls,
+    };
+    judge_start(rt, alloc, reader, 10, asks)?;
+    same(rt, &calls, &wanted_calls, &answers);
+    Ok(())
+}
+
+/// The same, whatever the error is.
 fn judge_script(
     rt: &impl Abort,
     alloc: Global,
@@ -288,15 +308,8 @@ fn judge_script(
     wanted_calls: usize,
     asks: &[Ask],
 ) -> Result<(), AllocError> {
-    for error in ERRORS {
-        let mut calls = 0;
-        let reader = Scripted {
-            answers,
-            error,
-            calls: &mut calls,
-        };
-        judge_start(rt, alloc, reader, 10, asks)?;
-        same(rt, &calls, &wanted_calls, &answers);
+    for error in &ERRORS {
+        judge_script_of(rt, alloc, answers, *error, wanted_calls, asks)?;
     }
     Ok(())
 }
@@ -353,7 +366,7 @@ type Script = (
     &'static [Ask<'static>],
 );
 
-const SCRIPTS: [Script; 4] = [
+static SCRIPTS: [Script; 4] = [
     (&[Some(b"x\ny")], 2, SPOTS),
     (&[Some(b"abc\nde\n")], 1, LINES),
     (&[Some(b"a\n"), Some(b"b"), None, Some(b"c")], 3, WANTED),
@@ -403,7 +416,7 @@ const LIMIT_BELOW_A_WINDOW: &[Ask] = &[
     Ask::Ones(Err(LookFault::DataTooLong)),
 ];
 
-const LIMITS: [(u32, &[Ask]); 3] = [
+static LIMITS: [(u32, &[Ask]); 3] = [
     (1_000, LIMIT),
     (1_048_576, LIMIT_OF_A_WINDOW),
     (1_048_575, LIMIT_BELOW_A_WINDOW),
@@ -427,8 +440,11 @@ fn judge_cuts(rt: &impl Abort, alloc: Global, text: &[u8]) -> Result<(), AllocEr
         Ask::Look(Ok(None)),
         Ask::Seen(Seen::Ended, 200_000),
     ];
-    for most in [1, 2, 3, 7, 65_535, 65_536, 100_000, 1_048_575, 1_048_576] {
-        let reader = Cut { reader: text, most };
+    for most in &[1, 2, 3, 7, 65_535, 65_536, 100_000, 1_048_575, 1_048_576] {
+        let reader = Cut {
+            reader: text,
+            most: *most,
+        };
         judge_start(rt, alloc, reader, 1_000_000, &bytes)?;
     }
     judge_start(rt, alloc, text, 1_000_000, RUNS)
@@ -444,8 +460,11 @@ fn looks_are_the_same_however_reads_are_cut(rt: HostRuntime) -> Result<(), Fail>
 /// Judges the windows of cursors over a text, with small reads and with large ones.
 fn judge_windows(rt: &impl Abort, alloc: Global, text: &[u8]) -> Result<(), AllocError> {
     let asks = [Ask::PassInWindows(text), Ask::Look(Ok(None))];
-    for most in [1_009, 65_536] {
-        let reader = Cut { reader: text, most };
+    for most in &[1_009, 65_536] {
+        let reader = Cut {
+            reader: text,
+            most: *most,
+        };
         judge_start(rt, alloc, reader, 10_000_000, &asks)?;
     }
     Ok(())
@@ -489,7 +508,7 @@ type Pulls = (
 
 const ONES: &[Option<&[u8]>] = &[Some(b"a"), Some(b"a"), Some(b"a"), Some(b"a"), Some(b"a")];
 
-const PULLS: [Pulls; 7] = [
+static PULLS: [Pulls; 7] = [
     // A reader that fails once is not asked again, nor is one that ends once.
     (
         &[Some(b"ab"), None, Some(b"cd")],
@@ -511,9 +530,9 @@ const PULLS: [Pulls; 7] = [
 
 #[test]
 fn a_reader_is_asked_once_a_pull_until_it_ends_or_fails(rt: HostRuntime) {
-    for error in ERRORS {
-        for (answers, wanted, left) in &PULLS {
-            judge_pulls(&rt, error, answers, wanted, *left);
+    for (answers, wanted, left) in &PULLS {
+        for error in &ERRORS {
+            judge_pulls(&rt, *error, answers, wanted, *left);
         }
     }
 }
