@@ -231,29 +231,42 @@ fn passes_in_windows<R: Source>(cursor: &mut Cursor<'_, R>, text: &[u8]) -> bool
     false
 }
 
+/// Whether what was found is what is wanted.
+fn is<T: PartialEq + Copy>(found: T, wanted: T) -> bool {
+    found == wanted
+}
+
+/// Whether a cursor is at a spot.
+fn is_at<R: Source>(cursor: &Cursor<'_, R>, line: u64, column: u64, offset: u64) -> bool {
+    let spot = Spot {
+        line,
+        column,
+        offset,
+    };
+    cursor.spot() == spot
+}
+
+/// Whether these bytes are held.
+fn holds<R: Source>(cursor: &Cursor<'_, R>, bytes: &[u8]) -> bool {
+    cursor.held() == bytes.len() && cursor.held_run() == bytes
+}
+
 /// Whether a cursor answers as it is wanted.
 fn answers<R: Source>(cursor: &mut Cursor<'_, R>, ask: Ask<'_>) -> bool {
     match ask {
-        Ask::Seen(seen, taken) => cursor.seen() == seen && cursor.taken() == taken,
-        Ask::Spot(line, column, offset) => {
-            cursor.spot()
-                == Spot {
-                    line,
-                    column,
-                    offset,
-                }
-        }
-        Ask::Look(next) => cursor.look() == next,
-        Ask::Next(next) => next_twice(cursor) == [next, next],
-        Ask::Pass(next) => pass(cursor) == next,
+        Ask::Seen(seen, taken) => is(cursor.seen(), seen) && cursor.taken() == taken,
+        Ask::Spot(line, column, offset) => is_at(cursor, line, column, offset),
+        Ask::Look(next) => is(cursor.look(), next),
+        Ask::Next(next) => is(next_twice(cursor), [next, next]),
+        Ask::Pass(next) => is(pass(cursor), next),
         Ask::PassAll(bytes) => passes_all(cursor, bytes),
         Ask::PassInWindows(bytes) => passes_in_windows(cursor, bytes),
-        Ask::PassIf(byte, passed) => cursor.pass_if_eq(byte) == passed,
+        Ask::PassIf(byte, passed) => is(cursor.pass_if_eq(byte), passed),
         Ask::PassInLine(count) => pass_in_line(cursor) == count,
         Ask::PassHeld(count) => pass_held(cursor) == count,
-        Ask::Held(bytes) => cursor.held() == bytes.len() && cursor.held_run() == bytes,
-        Ask::Window(bytes, is) => has_window(cursor, bytes) == is,
-        Ask::Ones(count) => ones_in_window(cursor) == count,
+        Ask::Held(bytes) => holds(cursor, bytes),
+        Ask::Window(bytes, wanted) => is(has_window(cursor, bytes), wanted),
+        Ask::Ones(count) => is(ones_in_window(cursor), count),
         Ask::PassInRuns => passes_in_runs(cursor),
     }
 }
