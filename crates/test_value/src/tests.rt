@@ -18,7 +18,9 @@ use std::test::Fail;
 
 /// That what was found somewhere is what is wanted there.
 fn same<T: PartialEq + Debug>(rt: &impl Abort, found: &T, wanted: &T, place: &impl Debug) {
-    assert_eq!(rt; found, wanted, "at {place:?}");
+    if found != wanted {
+        panic!(rt; "{found:?} in place of {wanted:?} at {place:?}");
+    }
 }
 
 /// A store with some presets; of the empty text, with none.

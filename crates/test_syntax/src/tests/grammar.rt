@@ -288,7 +288,7 @@ const NAMES: [(&str, &str); 2] = [
 
 #[test]
 fn programs_have_their_trees_and_numbers(rt: HostRuntime) -> Result<(), Fail> {
-    for lines in [
+    for lines in &[
         OPERATORS,
         POWERS,
         VALUES,

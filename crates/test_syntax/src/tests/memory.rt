@@ -28,11 +28,11 @@ REPI(i,3,SPACE) NEWLINE END WHILE(ISEOF) REP(1) END END IF(INARRAY(1,a)) ELSE EO
 /// Each ends in `Memory` or in its own answer.
 #[test]
 fn small_texts_end_in_their_answers(rt: HostRuntime) -> Result<(), Fail> {
-    let count = count_tokens(rt.alloc(), b"INT(a1) \"x\"")?;
-    assert_eq!(rt; count, 5);
-    let count = count_commands(rt.alloc(), PROGRAM.as_bytes())?;
-    assert_eq!(rt; count, 9);
-    let count = count_presets(rt.alloc(), "s=\"a,b\",longname=-3,n=4")?;
-    assert_eq!(rt; count, 3);
+    let counts = [
+        count_tokens(rt.alloc(), b"INT(a1) \"x\"")?,
+        count_commands(rt.alloc(), PROGRAM.as_bytes())?,
+        count_presets(rt.alloc(), "s=\"a,b\",longname=-3,n=4")?,
+    ];
+    assert_eq!(rt; counts, [5, 9, 3]);
     Ok(())
 }

@@ -5,6 +5,7 @@ use super::shown::Shown;
 use super::tree_text::write_text;
 use ctd_syntax::{PresetValue, Presets};
 use std::alloc::Global;
+use std::process::Abort;
 use std::test::Fail;
 
 /// A number, or a string between quotes.
@@ -64,12 +65,17 @@ const TEXTS: [(&str, &str); 15] = [
     ("a[{299999 7,}7]=1", "a[{299999 7][}7]=1"),
 ];
 
+/// Judges what a text spells, where what is wanted is to be unfolded.
+fn judge_presets(rt: &impl Abort, alloc: Global, text: &str, wanted: &str) -> Result<(), Fail> {
+    let wanted = unfold(alloc, wanted)?;
+    let found = answer(alloc, &Asked::Presets, text);
+    judged(rt, found, wanted.as_str(), text)
+}
+
 #[test]
 fn texts_of_presets(rt: HostRuntime) -> Result<(), Fail> {
     for (text, wanted) in &TEXTS {
-        let wanted = unfold(rt.alloc(), wanted)?;
-        let found = answer(rt.alloc(), &Asked::Presets, text);
-        judged(&rt, found, wanted.as_str(), text)?;
+        judge_presets(&rt, rt.alloc(), text, wanted)?;
     }
     assert!(rt; Presets::none(rt.alloc()).pins().is_empty());
     Ok(())

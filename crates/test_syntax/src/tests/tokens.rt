@@ -252,12 +252,17 @@ fn names_hold_their_bytes_and_are_compared(rt: HostRuntime) -> Result<(), Fail> 
     Ok(())
 }
 
+/// Whether a copy of bytes holds them.
+fn is_copied(alloc: Global, bytes: &[u8]) -> Result<bool, AllocError> {
+    let copied = Bytes::copy(alloc, bytes)?;
+    Ok(copied.as_slice() == bytes)
+}
+
 #[test]
 fn bytes_are_copied_whole(rt: HostRuntime) -> Result<(), Fail> {
     let long = vec![in rt.alloc(); b'x'; 100_000]?;
-    for bytes in [b"".as_slice(), b"ab", long.as_slice()] {
-        let copied = Bytes::copy(rt.alloc(), bytes)?;
-        assert!(rt; copied.as_slice() == bytes);
+    for bytes in &[b"".as_slice(), b"ab", long.as_slice()] {
+        assert!(rt; is_copied(rt.alloc(), bytes)?);
     }
     Ok(())
 }

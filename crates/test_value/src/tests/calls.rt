@@ -6,8 +6,8 @@ use super::{same, store_of};
 use ctd_source::{LookFault, Plain};
 use ctd_syntax::{Action, Assignment, Command, Name, Test, Var, parse};
 use ctd_value::{
-    EvalFault, Key, Store, TestFault, Value, count_of, eval, fast_number, fast_test, holds, locate,
-    number_of, set_expression, set_number, set_text, test_at_byte, text_of,
+    EntryRef, EvalFault, Key, Store, TestFault, Value, count_of, eval, fast_number, fast_test,
+    holds, locate, number_of, set_expression, set_number, set_text, test_at_byte, text_of,
 };
 use std::alloc::{AllocError, Global};
 use std::process::Abort;
@@ -81,6 +81,17 @@ fn has(store: &Store, key: &Key, value: &Value) -> bool {
     }
 }
 
+/// How many entries have this key and this value.
+fn count_of_entry(entries: &[EntryRef], key: &Key, value: &Value) -> usize {
+    let mut found = 0usize;
+    for entry in entries {
+        if entry.indices.as_slice() == key.indices() && entry.value == value {
+            found = found.saturating_add(1);
+        }
+    }
+    found
+}
+
 /// Whether a name has so many entries, of which just one has this key and this value, if there are any.
 fn has_entries(
     alloc: Global,
@@ -91,12 +102,7 @@ fn has_entries(
     count: usize,
 ) -> Result<bool, AllocError> {
     let entries = store.entries(alloc, name)?;
-    let mut found = 0usize;
-    for entry in &entries {
-        if entry.indices.as_slice() == key.indices() && entry.value == value {
-            found = found.saturating_add(1);
-        }
-    }
+    let found = count_of_entry(entries.as_slice(), key, value);
     Ok(entries.len() == count && found == count.min(1))
 }
 

@@ -44,7 +44,7 @@ pub(super) struct Scripted<'s> {
 }
 
 /// The errors of readers, which are failures all alike: a read that was interrupted, one that would have to wait, and any other.
-const ERRORS: [ErrorKind; 3] = [
+static ERRORS: [ErrorKind; 3] = [
     ErrorKind::Interrupted,
     ErrorKind::WouldBlock,
     ErrorKind::Other,
@@ -231,29 +231,42 @@ fn passes_in_windows<R: Source>(cursor: &mut Cursor<'_, R>, text: &[u8]) -> bool
     false
 }
 
+/// Whether what was found is what is wanted.
+fn is<T: PartialEq + Copy>(found: T, wanted: T) -> bool {
+    found == wanted
+}
+
+/// Whether a cursor is at a spot.
+fn is_at<R: Source>(cursor: &Cursor<'_, R>, line: u64, column: u64, offset: u64) -> bool {
+    let spot = Spot {
+        line,
+        column,
+        offset,
+    };
+    cursor.spot() == spot
+}
+
+/// Whether these bytes are held.
+fn holds<R: Source>(cursor: &Cursor<'_, R>, bytes: &[u8]) -> bool {
+    cursor.held() == bytes.len() && cursor.held_run() == bytes
+}
+
 /// Whether a cursor answers as it is wanted.
 fn answers<R: Source>(cursor: &mut Cursor<'_, R>, ask: Ask<'_>) -> bool {
     match ask {
-        Ask::Seen(seen, taken) => cursor.seen() == seen && cursor.taken() == taken,
-        Ask::Spot(line, column, offset) => {
-            cursor.spot()
-                == Spot {
-                    line,
-                    column,
-                    offset,
-                }
-        }
-        Ask::Look(next) => cursor.look() == next,
-        Ask::Next(next) => next_twice(cursor) == [next, next],
-        Ask::Pass(next) => pass(cursor) == next,
+        Ask::Seen(seen, taken) => is(cursor.seen(), seen) && cursor.taken() == taken,
+        Ask::Spot(line, column, offset) => is_at(cursor, line, column, offset),
+        Ask::Look(next) => is(cursor.look(), next),
+        Ask::Next(next) => is(next_twice(cursor), [next, next]),
+        Ask::Pass(next) => is(pass(cursor), next),
         Ask::PassAll(bytes) => passes_all(cursor, bytes),
         Ask::PassInWindows(bytes) => passes_in_windows(cursor, bytes),
-        Ask::PassIf(byte, passed) => cursor.pass_if_eq(byte) == passed,
+        Ask::PassIf(byte, passed) => is(cursor.pass_if_eq(byte), passed),
         Ask::PassInLine(count) => pass_in_line(cursor) == count,
         Ask::PassHeld(count) => pass_held(cursor) == count,
-        Ask::Held(bytes) => cursor.held() == bytes.len() && cursor.held_run() == bytes,
-        Ask::Window(bytes, is) => has_window(cursor, bytes) == is,
-        Ask::Ones(count) => ones_in_window(cursor) == count,
+        Ask::Held(bytes) => holds(cursor, bytes),
+        Ask::Window(bytes, wanted) => is(has_window(cursor, bytes), wanted),
+        Ask::Ones(count) => is(ones_in_window(cursor), count),
         Ask::PassInRuns => passes_in_runs(cursor),
     }
 }
@@ -280,7 +293,27 @@ fn judge_start<R: Read + Drop>(
     Ok(())
 }
 
-/// The same over a reader that gives these answers and is called so often in all, whatever its error is.
+/// The same over a reader that gives these answers and is called so often in all, where its error is this one.
+fn judge_script_of(
+    rt: &impl Abort,
+    alloc: Global,
+    answers: &[Option<&[u8]>],
+    error: ErrorKind,
+    wanted_calls: usize,
+    asks: &[Ask],
+) -> Result<(), AllocError> {
+    let mut calls = 0;
+    let reader = Scripted {
+        answers,
+        error,
+        calls: &mut calls,
+    };
+    judge_start(rt, alloc, reader, 10, asks)?;
+    same(rt, &calls, &wanted_calls, &answers);
+    Ok(())
+}
+
+/// The same, whatever the error is.
 fn judge_script(
     rt: &impl Abort,
     alloc: Global,
@@ -288,15 +321,8 @@ fn judge_script(
     wanted_calls: usize,
     asks: &[Ask],
 ) -> Result<(), AllocError> {
-    for error in ERRORS {
-        let mut calls = 0;
-        let reader = Scripted {
-            answers,
-            error,
-            calls: &mut calls,
-        };
-        judge_start(rt, alloc, reader, 10, asks)?;
-        same(rt, &calls, &wanted_calls, &answers);
+    for error in &ERRORS {
+        judge_script_of(rt, alloc, answers, *error, wanted_calls, asks)?;
     }
     Ok(())
 }
@@ -353,7 +379,7 @@ type Script = (
     &'static [Ask<'static>],
 );
 
-const SCRIPTS: [Script; 4] = [
+static SCRIPTS: [Script; 4] = [
     (&[Some(b"x\ny")], 2, SPOTS),
     (&[Some(b"abc\nde\n")], 1, LINES),
     (&[Some(b"a\n"), Some(b"b"), None, Some(b"c")], 3, WANTED),
@@ -403,7 +429,7 @@ const LIMIT_BELOW_A_WINDOW: &[Ask] = &[
     Ask::Ones(Err(LookFault::DataTooLong)),
 ];
 
-const LIMITS: [(u32, &[Ask]); 3] = [
+static LIMITS: [(u32, &[Ask]); 3] = [
     (1_000, LIMIT),
     (1_048_576, LIMIT_OF_A_WINDOW),
     (1_048_575, LIMIT_BELOW_A_WINDOW),
@@ -427,8 +453,11 @@ fn judge_cuts(rt: &impl Abort, alloc: Global, text: &[u8]) -> Result<(), AllocEr
         Ask::Look(Ok(None)),
         Ask::Seen(Seen::Ended, 200_000),
     ];
-    for most in [1, 2, 3, 7, 65_535, 65_536, 100_000, 1_048_575, 1_048_576] {
-        let reader = Cut { reader: text, most };
+    for most in &[1, 2, 3, 7, 65_535, 65_536, 100_000, 1_048_575, 1_048_576] {
+        let reader = Cut {
+            reader: text,
+            most: *most,
+        };
         judge_start(rt, alloc, reader, 1_000_000, &bytes)?;
     }
     judge_start(rt, alloc, text, 1_000_000, RUNS)
@@ -444,8 +473,11 @@ fn looks_are_the_same_however_reads_are_cut(rt: HostRuntime) -> Result<(), Fail>
 /// Judges the windows of cursors over a text, with small reads and with large ones.
 fn judge_windows(rt: &impl Abort, alloc: Global, text: &[u8]) -> Result<(), AllocError> {
     let asks = [Ask::PassInWindows(text), Ask::Look(Ok(None))];
-    for most in [1_009, 65_536] {
-        let reader = Cut { reader: text, most };
+    for most in &[1_009, 65_536] {
+        let reader = Cut {
+            reader: text,
+            most: *most,
+        };
         judge_start(rt, alloc, reader, 10_000_000, &asks)?;
     }
     Ok(())
@@ -489,7 +521,7 @@ type Pulls = (
 
 const ONES: &[Option<&[u8]>] = &[Some(b"a"), Some(b"a"), Some(b"a"), Some(b"a"), Some(b"a")];
 
-const PULLS: [Pulls; 7] = [
+static PULLS: [Pulls; 7] = [
     // A reader that fails once is not asked again, nor is one that ends once.
     (
         &[Some(b"ab"), None, Some(b"cd")],
@@ -511,9 +543,9 @@ const PULLS: [Pulls; 7] = [
 
 #[test]
 fn a_reader_is_asked_once_a_pull_until_it_ends_or_fails(rt: HostRuntime) {
-    for error in ERRORS {
-        for (answers, wanted, left) in &PULLS {
-            judge_pulls(&rt, error, answers, wanted, *left);
+    for (answers, wanted, left) in &PULLS {
+        for error in &ERRORS {
+            judge_pulls(&rt, *error, answers, wanted, *left);
         }
     }
 }
