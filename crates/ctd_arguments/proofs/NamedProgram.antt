@@ -14,7 +14,8 @@ use Rattle.clap.specs.Words.{Text}
 use Rattle.clap.specs.declared.builder.arg.Arg.{Arg}
 use Rattle.clap.specs.declared.builder.command.Command.{Command}
 use Rattle.clap.specs.declared.parser.matches.ArgMatches.{ArgMatches}
-use Rattle.ctd_arguments.specs.inner.RequiredProgram.{IsLocal, RequiresProgram, names}
+use Rattle.ctd_arguments.specs.calls.Options.{IsLocal}
+use Rattle.ctd_arguments.specs.inner.RequiredProgram.{RequiresProgram, names}
 
 -- no two names are one
 names_differ : IsDistinct bytes_eq names

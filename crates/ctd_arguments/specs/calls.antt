@@ -1,2 +1,3 @@
 -- What else the contracts of public calls say.
+pub mod Options
 pub mod Usage

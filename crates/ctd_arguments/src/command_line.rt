@@ -6,7 +6,8 @@ ghost use Rattle.clap.specs.Matches.{first_value};
 ghost use Rattle.clap.specs.Words.{FailsBy, app_of, fault_of, found_of, matches_of, rows_of, rule_of};
 ghost use Rattle.clap.specs.declared.builder.ArgAction.TheVariants.{Set, SetTrue};
 ghost use Rattle.ctd_arguments.specs.CommandLine.{checker, option_rule, program_rule};
-ghost use Rattle.ctd_arguments.specs.inner.RequiredProgram.{IsLocal, RequiresProgram};
+ghost use Rattle.ctd_arguments.specs.calls.Options.{IsLocal};
+ghost use Rattle.ctd_arguments.specs.inner.RequiredProgram.{RequiresProgram};
 
 use clap::{Arg, ArgAction, ArgMatches, Command, Error};
 use std::alloc::{AllocError, Global};

@@ -2,7 +2,7 @@
 
 ghost use Rattle.std.specs.Prelude.{◌≡◌, ◌⊎◌, IfErr, IfOk, List, MatchResult, None, Some, codes, map, option_map};
 ghost use Rattle.clap.specs.Words.{FailsBy, Text, all_of, app_of, fault_of, found_of, matches_of, rows_of, rule_of};
-ghost use Rattle.ctd_arguments.specs.inner.RequiredProgram.{IsLocal};
+ghost use Rattle.ctd_arguments.specs.calls.Options.{IsLocal};
 ghost use Rattle.ctd_lint_tool.specs.calls.CommandLine.{AreKindsOf, IsLintSetup, linter, parts, programs_rule};
 ghost use Rattle.ctd_lint_tool.specs.calls.Kinds.{lint_kind_named};
 ghost use Rattle.ctd_lint_tool.specs.calls.Usage.{IsLintFault, TellsUnknown, first_unknown, unknown_in};

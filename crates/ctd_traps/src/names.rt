@@ -53,8 +53,10 @@ fn count_blocks(commands: &[CommandInBlock]) -> usize {
     let mut blocks: usize = 0;
     for entry in commands {
         match &entry.command.action {
+            Action::Space | Action::Newline | Action::Eof | Action::Int(_) => (),
+            Action::String(_) | Action::Regex(_) | Action::Assert(_) => (),
+            Action::Set(_) | Action::Unset(_) => (),
             Action::Loop(_) | Action::If(_) => blocks = blocks.saturating_add(1),
-            _ => (),
         }
     }
     blocks

@@ -1,20 +1,17 @@
 -- The command line requires the name of the program's file.
 use Rattle.std.specs.Prelude.{◌≡◌, List, [], ◌∷◌, All, map, false, codes}
 use Rattle.std.specs.List.{slice_index_or}
-use Rattle.clap.specs.Built.{AddsArg, AddsInTurn, IsPlainArg, TakesValue}
+use Rattle.clap.specs.Built.{AddsArg, AddsInTurn, TakesValue}
 use Rattle.clap.specs.Facts.{args_of, groups_of}
 use Rattle.clap.specs.Words.{Text}
 use Rattle.clap.specs.declared.builder.arg.Arg.{Arg}
 use Rattle.clap.specs.declared.builder.command.Command.{Command}
 use Rattle.clap.specs.declared.builder.command.Command.TheViews.{out-Command}
+use Rattle.ctd_arguments.specs.calls.Options.{IsLocal}
 
 -- the options and arguments by their names, in the order in which they are added
 abbrev pub names : List Text
 names = codes "generate" ∷ codes "define" ∷ codes "quiet" ∷ codes "whitespace-ok" ∷ codes "max-steps" ∷ codes "PROGRAM" ∷ codes "TESTDATA" ∷ []
-
--- an argument that excludes no other, and is of this command alone
-abbrev pub IsLocal : Arg → Type 0
-IsLocal a = IsPlainArg a × (a.global ≡ false)
 
 -- the command was made by adding these arguments to one that had none, and PROGRAM has to have a value
 pub record RequiresProgram (command : Command) : Type 0 where
