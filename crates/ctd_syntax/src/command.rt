@@ -32,7 +32,7 @@ fn upper_bound<'t>(alloc: Global, tokens: Tokens<'t>) -> ParseResult<'t, (Expr, 
     ensures tree { FindsTree (IsPair IsExpr IsTargetEnd) Always (λ x. ((expr_tree x.0.0, target x.0.1), map lexeme x.1.now)) result (map lexeme tokens.now) }
     ensures shorter { IfOk result (λ x. length x.1.now ≤ length tokens.now) }
 {
-    let (high, rest) = expr(alloc, tokens)?;
+    let (high, rest) = read!(expr(alloc, tokens));
     match target_end(alloc, rest) {
         Ok((target, rest)) => Ok(((high, target), rest)),
         Err(fault) => {
@@ -47,8 +47,8 @@ fn int<'t>(alloc: Global, place: Place, tokens: Tokens<'t>) -> ParseResult<'t, C
     ensures tree { FindsTree (IsCommandRest Keyword.Int place) Always (λ x. (command_tree x.0, map lexeme x.1.now)) result (map lexeme tokens.now) }
     ensures shorter { IfOk result (λ x. length x.1.now ≤ length tokens.now) }
 {
-    let after = after_open(tokens)?;
-    let (low, rest) = expr_before(alloc, Mark::Comma, after)?;
+    let after = read!(after_open(tokens));
+    let (low, rest) = read!(expr_before(alloc, Mark::Comma, after));
     match upper_bound(alloc, rest) {
         Ok((upper, rest)) => {
             let (high, target) = upper;
@@ -68,8 +68,8 @@ fn string<'t>(alloc: Global, place: Place, tokens: Tokens<'t>) -> ParseResult<'t
     ensures tree { FindsTree (IsCommandRest Keyword.String place) Always (λ x. (command_tree x.0, map lexeme x.1.now)) result (map lexeme tokens.now) }
     ensures shorter { IfOk result (λ x. length x.1.now ≤ length tokens.now) }
 {
-    let after = after_open(tokens)?;
-    let (text, rest) = expr_before(alloc, Mark::Close, after)?;
+    let after = read!(after_open(tokens));
+    let (text, rest) = read!(expr_before(alloc, Mark::Close, after));
     let action = Action::String(Box::new(alloc, text)?);
     Ok((Command { place, action }, rest))
 }
@@ -84,11 +84,11 @@ fn regex<'t>(
     ensures tree { FindsTree (IsCommandRest (Keyword.Regex number) place) Always (λ x. (command_tree x.0, map lexeme x.1.now)) result (map lexeme tokens.now) }
     ensures shorter { IfOk result (λ x. length x.1.now ≤ length tokens.now) }
 {
-    let after = after_open(tokens)?;
+    let after = read!(after_open(tokens));
     let Some((literal, at, rest)) = text_at(after) else {
         return Err(ParseError::Syntax(after.len()));
     };
-    let (target, rest) = target_end(alloc, rest)?;
+    let (target, rest) = read!(target_end(alloc, rest));
     let bytes = string_of(alloc, literal)?;
     let literal = PatternLiteral {
         number,
@@ -105,8 +105,8 @@ fn assert<'t>(alloc: Global, place: Place, tokens: Tokens<'t>) -> ParseResult<'t
     ensures tree { FindsTree (IsCommandRest Keyword.Assert place) Always (λ x. (command_tree x.0, map lexeme x.1.now)) result (map lexeme tokens.now) }
     ensures shorter { IfOk result (λ x. length x.1.now ≤ length tokens.now) }
 {
-    let after = after_open(tokens)?;
-    let (condition, rest) = test_before(alloc, Mark::Close, None, after)?;
+    let after = read!(after_open(tokens));
+    let (condition, rest) = read!(test_before(alloc, Mark::Close, None, after));
     let action = Action::Assert(condition);
     Ok((Command { place, action }, rest))
 }
@@ -116,8 +116,8 @@ fn set<'t>(alloc: Global, place: Place, tokens: Tokens<'t>) -> ParseResult<'t, C
     ensures tree { FindsTree (IsCommandRest Keyword.Set place) Always (λ x. (command_tree x.0, map lexeme x.1.now)) result (map lexeme tokens.now) }
     ensures shorter { IfOk result (λ x. length x.1.now ≤ length tokens.now) }
 {
-    let after = after_open(tokens)?;
-    let (list, rest) = assignments(alloc, after)?;
+    let after = read!(after_open(tokens));
+    let (list, rest) = read!(assignments(alloc, after));
     let action = Action::Set(Box::new(alloc, list)?);
     Ok((Command { place, action }, rest))
 }
@@ -127,8 +127,8 @@ fn unset<'t>(alloc: Global, place: Place, tokens: Tokens<'t>) -> ParseResult<'t,
     ensures tree { FindsTree (IsCommandRest Keyword.Unset place) Always (λ x. (command_tree x.0, map lexeme x.1.now)) result (map lexeme tokens.now) }
     ensures shorter { IfOk result (λ x. length x.1.now ≤ length tokens.now) }
 {
-    let after = after_open(tokens)?;
-    let (list, rest) = names(alloc, after)?;
+    let after = read!(after_open(tokens));
+    let (list, rest) = read!(names(alloc, after));
     let action = Action::Unset(Box::new(alloc, list)?);
     Ok((Command { place, action }, rest))
 }
