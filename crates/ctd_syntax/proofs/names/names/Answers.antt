@@ -1,4 +1,4 @@
-use Rattle.std.proofs.Common.{length, ◌≡◌, [], ◌∷◌, ◌++◌, ap, ◌∙◌, sym, arith, inl, inr}
+use Rattle.std.proofs.Common.{length, ◌≡◌, [], ◌∷◌, ◌++◌, ap, sym, arith, inl, inr}
 use Rattle.std.specs.Prelude.{map}
 use Rattle.ctd_syntax.specs.inner.Front.{Always, IsBefore, IsName, lexeme}
 use Rattle.ctd_syntax.specs.Grammar.{IsNames}
