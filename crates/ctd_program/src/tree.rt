@@ -1,5 +1,7 @@
 //! The trees of programs: one variant for each alternative of the grammar that is not a single part or parentheses
 //! (docs/LANGUAGE.md, grammar). Each list in a tree is a small type of its own.
+//!
+//! Destructors are written out, and not derived, so that the crates above prove nothing of how a tree is dropped.
 
 ghost use Rattle.std.specs.Prelude.{◌≡◌};
 ghost use Rattle.ctd_program.specs.calls.View.{commands_of};
@@ -351,7 +353,6 @@ pub struct Program {
     commands: Commands,
 }
 
-// Written out, and not derived, so that the crates above prove nothing of how a tree is dropped.
 impl Drop for Program {
     fn drop(self) {
         let Program {

@@ -27,7 +27,7 @@ refused_exit A B E F view s tokens e read is no_tree r =
     subst (λ x. FindsTree B F view x tokens) (sym same) (refused_as A B E F s tokens e no_tree r)
 
 -- where there is no tree, any error says so
-no_tree_as : {U : Type 0} (B : List Lexeme → U → Type 0) (F : List Lexeme → Type 0) (tokens : List Lexeme) (e : ParseError) → HasNoTree B F tokens → IsRefusal B F e tokens
+pub no_tree_as : {U : Type 0} (B : List Lexeme → U → Type 0) (F : List Lexeme → Type 0) (tokens : List Lexeme) (e : ParseError) → HasNoTree B F tokens → IsRefusal B F e tokens
 no_tree_as B F tokens Memory no_tree = tt
 no_tree_as B F tokens (Syntax left) no_tree = no_tree
 

@@ -9,7 +9,7 @@ ghost use Rattle.ctd_syntax.specs.inner.Batches.{ReadsOff};
 ghost use Rattle.ctd_program.specs.calls.View.{command_trees};
 
 use crate::command::command;
-use crate::front::{ParseError, Tokens};
+use crate::front::{ParseError, Tokens, read};
 use crate::nesting::Nesting;
 use crate::parser_token::{ParserToken, ParserTokens};
 use ctd_program::{Command, Commands, Program};
@@ -30,7 +30,7 @@ fn all_commands<'t>(
     // All of them; the borrow checker refuses a loop whose variable begins as the argument itself.
     let (_none, mut rest) = tokens.split_at(0);
     while !rest.is_empty() {
-        let (next, after) = command(alloc, rest)?;
+        let (next, after) = read!(command(alloc, rest));
         commands.push(next)?;
         rest = after;
     }

@@ -13,7 +13,7 @@ ghost use Rattle.ctd_syntax.specs.inner.CommandWords.{IsCommandRest, CommandsEnd
 use crate::condition::test_before;
 use crate::expression::{expr, expr_before};
 use crate::front::{
-    ParseError, ParseResult, Tokens, after_mark, after_open, after_word, text_at, word_at,
+    ParseError, ParseResult, Tokens, after_mark, after_open, after_word, read, text_at, word_at,
 };
 use crate::keyword::Keyword;
 use crate::loop_head::{LoopHead, LoopWord, loop_head};
@@ -32,7 +32,7 @@ fn upper_bound<'t>(alloc: Global, tokens: Tokens<'t>) -> ParseResult<'t, (Expr, 
     ensures tree { FindsTree (IsPair IsExpr IsTargetEnd) Always (λ x. ((expr_tree x.0.0, target x.0.1), map lexeme x.1.now)) result (map lexeme tokens.now) }
     ensures shorter { IfOk result (λ x. length x.1.now ≤ length tokens.now) }
 {
-    let (high, rest) = expr(alloc, tokens)?;
+    let (high, rest) = read!(expr(alloc, tokens));
     match target_end(alloc, rest) {
         Ok((target, rest)) => Ok(((high, target), rest)),
         Err(fault) => {
@@ -47,8 +47,8 @@ fn int<'t>(alloc: Global, place: Place, tokens: Tokens<'t>) -> ParseResult<'t, C
     ensures tree { FindsTree (IsCommandRest Keyword.Int place) Always (λ x. (command_tree x.0, map lexeme x.1.now)) result (map lexeme tokens.now) }
     ensures shorter { IfOk result (λ x. length x.1.now ≤ length tokens.now) }
 {
-    let after = after_open(tokens)?;
-    let (low, rest) = expr_before(alloc, Mark::Comma, after)?;
+    let after = read!(after_open(tokens));
+    let (low, rest) = read!(expr_before(alloc, Mark::Comma, after));
     match upper_bound(alloc, rest) {
         Ok((upper, rest)) => {
             let (high, target) = upper;
@@ -68,8 +68,8 @@ fn string<'t>(alloc: Global, place: Place, tokens: Tokens<'t>) -> ParseResult<'t
     ensures tree { FindsTree (IsCommandRest Keyword.String place) Always (λ x. (command_tree x.0, map lexeme x.1.now)) result (map lexeme tokens.now) }
     ensures shorter { IfOk result (λ x. length x.1.now ≤ length tokens.now) }
 {
-    let after = after_open(tokens)?;
-    let (text, rest) = expr_before(alloc, Mark::Close, after)?;
+    let after = read!(after_open(tokens));
+    let (text, rest) = read!(expr_before(alloc, Mark::Close, after));
     let action = Action::String(Box::new(alloc, text)?);
     Ok((Command { place, action }, rest))
 }
@@ -84,11 +84,11 @@ fn regex<'t>(
     ensures tree { FindsTree (IsCommandRest (Keyword.Regex number) place) Always (λ x. (command_tree x.0, map lexeme x.1.now)) result (map lexeme tokens.now) }
     ensures shorter { IfOk result (λ x. length x.1.now ≤ length tokens.now) }
 {
-    let after = after_open(tokens)?;
+    let after = read!(after_open(tokens));
     let Some((literal, at, rest)) = text_at(after) else {
         return Err(ParseError::Syntax(after.len()));
     };
-    let (target, rest) = target_end(alloc, rest)?;
+    let (target, rest) = read!(target_end(alloc, rest));
     let bytes = string_of(alloc, literal)?;
     let literal = PatternLiteral {
         number,
@@ -105,8 +105,8 @@ fn assert<'t>(alloc: Global, place: Place, tokens: Tokens<'t>) -> ParseResult<'t
     ensures tree { FindsTree (IsCommandRest Keyword.Assert place) Always (λ x. (command_tree x.0, map lexeme x.1.now)) result (map lexeme tokens.now) }
     ensures shorter { IfOk result (λ x. length x.1.now ≤ length tokens.now) }
 {
-    let after = after_open(tokens)?;
-    let (condition, rest) = test_before(alloc, Mark::Close, None, after)?;
+    let after = read!(after_open(tokens));
+    let (condition, rest) = read!(test_before(alloc, Mark::Close, None, after));
     let action = Action::Assert(condition);
     Ok((Command { place, action }, rest))
 }
@@ -116,8 +116,8 @@ fn set<'t>(alloc: Global, place: Place, tokens: Tokens<'t>) -> ParseResult<'t, C
     ensures tree { FindsTree (IsCommandRest Keyword.Set place) Always (λ x. (command_tree x.0, map lexeme x.1.now)) result (map lexeme tokens.now) }
     ensures shorter { IfOk result (λ x. length x.1.now ≤ length tokens.now) }
 {
-    let after = after_open(tokens)?;
-    let (list, rest) = assignments(alloc, after)?;
+    let after = read!(after_open(tokens));
+    let (list, rest) = read!(assignments(alloc, after));
     let action = Action::Set(Box::new(alloc, list)?);
     Ok((Command { place, action }, rest))
 }
@@ -127,8 +127,8 @@ fn unset<'t>(alloc: Global, place: Place, tokens: Tokens<'t>) -> ParseResult<'t,
     ensures tree { FindsTree (IsCommandRest Keyword.Unset place) Always (λ x. (command_tree x.0, map lexeme x.1.now)) result (map lexeme tokens.now) }
     ensures shorter { IfOk result (λ x. length x.1.now ≤ length tokens.now) }
 {
-    let after = after_open(tokens)?;
-    let (list, rest) = names(alloc, after)?;
+    let after = read!(after_open(tokens));
+    let (list, rest) = read!(names(alloc, after));
     let action = Action::Unset(Box::new(alloc, list)?);
     Ok((Command { place, action }, rest))
 }
@@ -162,7 +162,7 @@ fn loop_command<'t>(
     ensures tree { FindsTree (IsLoopRest word place) Always (λ x. (command_tree x.0, map lexeme x.1.now)) result (map lexeme tokens.now) }
     ensures shorter { IfOk result (λ x. length x.1.now ≤ length tokens.now) }
 {
-    let (head, rest) = loop_head(alloc, word, tokens)?;
+    let (head, rest) = read!(loop_head(alloc, word, tokens));
     match loop_end(alloc, rest) {
         Ok((end, rest)) => {
             let action = loop_of(alloc, head, end)?;
@@ -181,8 +181,8 @@ fn branches<'t>(alloc: Global, tokens: Tokens<'t>) -> ParseResult<'t, (Commands,
     ensures tree { FindsTree (IsPair IsCommands IsBranchEnd) Always (λ x. ((command_list x.0.0, command_list x.0.1), map lexeme x.1.now)) result (map lexeme tokens.now) }
     ensures shorter { IfOk result (λ x. length x.1.now ≤ length tokens.now) }
 {
-    let (then_do, rest) = commands(alloc, tokens)?;
-    let (else_do, rest) = branch_end(alloc, rest)?;
+    let (then_do, rest) = read!(commands(alloc, tokens));
+    let (else_do, rest) = read!(branch_end(alloc, rest));
     Ok(((then_do, else_do), rest))
 }
 
@@ -207,9 +207,9 @@ fn if_command<'t>(alloc: Global, place: Place, tokens: Tokens<'t>) -> ParseResul
     ensures tree { FindsTree (IsCommandRest Keyword.If place) Always (λ x. (command_tree x.0, map lexeme x.1.now)) result (map lexeme tokens.now) }
     ensures shorter { IfOk result (λ x. length x.1.now ≤ length tokens.now) }
 {
-    let after = after_open(tokens)?;
-    let (condition, rest) = test_before(alloc, Mark::Close, None, after)?;
-    let ((then_do, else_do), rest) = branches(alloc, rest)?;
+    let after = read!(after_open(tokens));
+    let (condition, rest) = read!(test_before(alloc, Mark::Close, None, after));
+    let ((then_do, else_do), rest) = read!(branches(alloc, rest));
     let choice = Choice {
         condition,
         then_do,
@@ -225,7 +225,7 @@ fn separator_before<'t>(alloc: Global, tokens: Tokens<'t>) -> ParseResult<'t, Co
     ensures tree { FindsTree (IsBefore Mark.Close IsCommand) Always (λ x. (command_tree x.0, map lexeme x.1.now)) result (map lexeme tokens.now) }
     ensures shorter { IfOk result (λ x. length x.1.now ≤ length tokens.now) }
 {
-    let (between, rest) = command(alloc, tokens)?;
+    let (between, rest) = read!(command(alloc, tokens));
     match after_mark(Mark::Close, rest) {
         Some(rest) => Ok((between, rest)),
         None => {
@@ -242,15 +242,15 @@ fn loop_end<'t>(alloc: Global, tokens: Tokens<'t>) -> ParseResult<'t, LoopEnd>
     ensures shorter { IfOk result (λ x. length x.1.now ≤ length tokens.now) }
 {
     if let Some(rest) = after_mark(Mark::Close, tokens) {
-        let (body, rest) = block(alloc, rest)?;
+        let (body, rest) = read!(block(alloc, rest));
         return Ok(((None, body), rest));
     }
     let Some(after) = after_mark(Mark::Comma, tokens) else {
         return Err(ParseError::Syntax(tokens.len()));
     };
-    let (between, rest) = separator_before(alloc, after)?;
+    let (between, rest) = read!(separator_before(alloc, after));
     let between = Box::new(alloc, between)?;
-    let (body, rest) = block(alloc, rest)?;
+    let (body, rest) = read!(block(alloc, rest));
     Ok(((Some(between), body), rest))
 }
 
@@ -260,7 +260,7 @@ fn block<'t>(alloc: Global, tokens: Tokens<'t>) -> ParseResult<'t, Commands>
     ensures tree { FindsTree IsBlock Always (λ x. (command_list x.0, map lexeme x.1.now)) result (map lexeme tokens.now) }
     ensures shorter { IfOk result (λ x. length x.1.now ≤ length tokens.now) }
 {
-    let (body, rest) = commands(alloc, tokens)?;
+    let (body, rest) = read!(commands(alloc, tokens));
     match after_word(Keyword::End, rest) {
         Some(rest) => Ok((body, rest)),
         None => Err(ParseError::Syntax(rest.len())),
@@ -361,7 +361,7 @@ pub(crate) fn commands<'t>(alloc: Global, tokens: Tokens<'t>) -> ParseResult<'t,
     // All of them; the borrow checker refuses a loop whose variable begins as the argument itself.
     let (_none, mut rest) = tokens.split_at(0);
     while let Some((word, place, after)) = command_word(rest) {
-        let (next, after) = command_rest(alloc, word, place, after)?;
+        let (next, after) = read!(command_rest(alloc, word, place, after));
         items.push(next)?;
         rest = after;
     }

@@ -11,7 +11,7 @@ ghost use Rattle.ctd_syntax.specs.inner.Levels.{ends};
 ghost use Rattle.ctd_syntax.specs.inner.TestGrammar.{test_ends, compare_operator, test_keyword, IsTestCall, IsLeft, IsComparison, AreGroups, AreKnownGroups, closes_before_test, role_of, holds_test, is_enough, openings, opens};
 
 use crate::expression::{expr, expr_before};
-use crate::front::{ParseError, ParseResult, Tokens, after_mark, after_open, name_at};
+use crate::front::{ParseError, ParseResult, Tokens, after_mark, after_open, name_at, read};
 use crate::keyword::Keyword;
 use crate::names::names;
 use crate::parser_token::ParserToken;
@@ -181,7 +181,7 @@ fn left_side<'t>(alloc: Global, tokens: Tokens<'t>) -> ParseResult<'t, (Expr, Co
     ensures tree { FindsTree IsLeft Always (λ x. ((expr_tree x.0.0, x.0.1), map lexeme x.1.now)) result (map lexeme tokens.now) }
     ensures shorter { IfOk result (λ x. length x.1.now ≤ length tokens.now) }
 {
-    let (left, rest) = expr(alloc, tokens)?;
+    let (left, rest) = read!(expr(alloc, tokens));
     match compare_at(rest) {
         Some((by, after)) => Ok(((left, by), after)),
         None => {
@@ -196,7 +196,7 @@ fn comparison<'t>(alloc: Global, tokens: Tokens<'t>) -> ParseResult<'t, Box<Test
     ensures tree { FindsTree IsComparison (ends 1) (λ x. (test_tree x.0.value, map lexeme x.1.now)) result (map lexeme tokens.now) }
     ensures shorter { IfOk result (λ x. length x.1.now ≤ length tokens.now) }
 {
-    let ((left, by), rest) = left_side(alloc, tokens)?;
+    let ((left, by), rest) = read!(left_side(alloc, tokens));
     match expr(alloc, rest) {
         Ok((right, rest)) => Ok((boxed(alloc, Test::Compare(by, left, right))?, rest)),
         Err(fault) => {
@@ -211,8 +211,8 @@ fn matches<'t>(alloc: Global, tokens: Tokens<'t>) -> ParseResult<'t, Box<Test>>
     ensures tree { FindsTree (IsTestCall Keyword.Match) Always (λ x. (test_tree x.0.value, map lexeme x.1.now)) result (map lexeme tokens.now) }
     ensures shorter { IfOk result (λ x. length x.1.now ≤ length tokens.now) }
 {
-    let after = after_open(tokens)?;
-    let (operand, rest) = expr_before(alloc, Mark::Close, after)?;
+    let after = read!(after_open(tokens));
+    let (operand, rest) = read!(expr_before(alloc, Mark::Close, after));
     Ok((boxed(alloc, Test::Match(operand))?, rest))
 }
 
@@ -221,8 +221,8 @@ fn unique<'t>(alloc: Global, tokens: Tokens<'t>) -> ParseResult<'t, Box<Test>>
     ensures tree { FindsTree (IsTestCall Keyword.Unique) Always (λ x. (test_tree x.0.value, map lexeme x.1.now)) result (map lexeme tokens.now) }
     ensures shorter { IfOk result (λ x. length x.1.now ≤ length tokens.now) }
 {
-    let after = after_open(tokens)?;
-    let (list, rest) = names(alloc, after)?;
+    let after = read!(after_open(tokens));
+    let (list, rest) = read!(names(alloc, after));
     Ok((boxed(alloc, Test::Unique(list))?, rest))
 }
 
@@ -245,8 +245,8 @@ fn in_array<'t>(alloc: Global, tokens: Tokens<'t>) -> ParseResult<'t, Box<Test>>
     ensures tree { FindsTree (IsTestCall Keyword.InArray) Always (λ x. (test_tree x.0.value, map lexeme x.1.now)) result (map lexeme tokens.now) }
     ensures shorter { IfOk result (λ x. length x.1.now ≤ length tokens.now) }
 {
-    let after = after_open(tokens)?;
-    let (operand, rest) = expr_before(alloc, Mark::Comma, after)?;
+    let after = read!(after_open(tokens));
+    let (operand, rest) = read!(expr_before(alloc, Mark::Comma, after));
     match last_name(alloc, rest) {
         Ok((name, rest)) => Ok((boxed(alloc, Test::InArray(operand, name))?, rest)),
         Err(fault) => {
@@ -281,7 +281,7 @@ pub(crate) fn test<'t>(
     ensures tree { FindsTree IsTest (test_ends 1) (λ x. (test_tree x.0.value, map lexeme x.1.now)) result (map lexeme tokens.now) }
     ensures shorter { IfOk result (λ x. length x.1.now ≤ length tokens.now) }
 {
-    let (mut left, mut rest) = both(alloc, groups, tokens)?;
+    let (mut left, mut rest) = read!(both(alloc, groups, tokens));
     while let Some(after) = after_mark(Mark::OrOr, rest) {
         match both(alloc, None, after) {
             Ok((right, after)) => {
@@ -303,7 +303,7 @@ fn both<'t>(alloc: Global, groups: Option<usize>, tokens: Tokens<'t>) -> ParseRe
     ensures tree { FindsTree IsBoth (test_ends 2) (λ x. (test_tree x.0.value, map lexeme x.1.now)) result (map lexeme tokens.now) }
     ensures shorter { IfOk result (λ x. length x.1.now ≤ length tokens.now) }
 {
-    let (mut left, mut rest) = negation(alloc, groups, tokens)?;
+    let (mut left, mut rest) = read!(negation(alloc, groups, tokens));
     while let Some(after) = after_mark(Mark::AndAnd, rest) {
         match negation(alloc, None, after) {
             Ok((right, after)) => {
@@ -331,7 +331,7 @@ fn negation<'t>(
 {
     match after_mark(Mark::Bang, tokens) {
         Some(after) => {
-            let (operand, rest) = negation(alloc, None, after)?;
+            let (operand, rest) = read!(negation(alloc, None, after));
             Ok((boxed(alloc, Test::Not(operand))?, rest))
         }
         None => simple_test(alloc, groups, tokens),
@@ -371,7 +371,7 @@ pub(crate) fn test_before<'t>(
     ensures tree { FindsTree (IsBefore mark IsTest) Always (λ x. (test_tree x.0.value, map lexeme x.1.now)) result (map lexeme tokens.now) }
     ensures shorter { IfOk result (λ x. length x.1.now ≤ length tokens.now) }
 {
-    let (read, rest) = test(alloc, groups, tokens)?;
+    let (read, rest) = read!(test(alloc, groups, tokens));
     match after_mark(mark, rest) {
         Some(rest) => Ok((read, rest)),
         None => {

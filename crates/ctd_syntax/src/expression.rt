@@ -9,7 +9,7 @@ ghost use Rattle.ctd_syntax.specs.inner.Front.{FindsTree, HasTree, Always, IsBef
 ghost use Rattle.ctd_syntax.specs.inner.Levels.{binding, ends, sum_operator, product_operator, join};
 ghost use Rattle.ctd_syntax.specs.Lexeme;
 
-use crate::front::{ParseError, ParseResult, Tokens, after_mark, name_at};
+use crate::front::{ParseError, ParseResult, Tokens, after_mark, name_at, read};
 use crate::keyword::Keyword;
 use crate::parser_token::{ParserToken, string_of};
 use ctd_program::{Element, Expr, Exprs, Numeral, Var};
@@ -117,7 +117,7 @@ pub(crate) fn expr<'t>(alloc: Global, tokens: Tokens<'t>) -> ParseResult<'t, Exp
     ensures tree { FindsTree IsExpr (ends 1) (λ x. (expr_tree x.0, map lexeme x.1.now)) result (map lexeme tokens.now) }
     ensures shorter { IfOk result (λ x. length x.1.now ≤ length tokens.now) }
 {
-    let (mut left, mut rest) = product(alloc, tokens)?;
+    let (mut left, mut rest) = read!(product(alloc, tokens));
     while let Some((operator, after)) = sum_operator(rest) {
         match product(alloc, after) {
             Ok((right, after)) => {
@@ -141,7 +141,7 @@ fn product<'t>(alloc: Global, tokens: Tokens<'t>) -> ParseResult<'t, Expr>
     if let Some(read) = single_token(alloc, tokens)? {
         return Ok(read);
     }
-    let (mut left, mut rest) = signed(alloc, tokens)?;
+    let (mut left, mut rest) = read!(signed(alloc, tokens));
     while let Some((operator, after)) = product_operator(rest) {
         match signed(alloc, after) {
             Ok((right, after)) => {
@@ -164,7 +164,7 @@ fn signed<'t>(alloc: Global, tokens: Tokens<'t>) -> ParseResult<'t, Expr>
 {
     match after_mark(Mark::Minus, tokens) {
         Some(after) => {
-            let (operand, rest) = signed(alloc, after)?;
+            let (operand, rest) = read!(signed(alloc, after));
             Ok((Expr::Minus(Box::new(alloc, operand)?), rest))
         }
         None => power(alloc, tokens),
@@ -176,12 +176,12 @@ fn power<'t>(alloc: Global, tokens: Tokens<'t>) -> ParseResult<'t, Expr>
     ensures tree { FindsTree IsPower (ends 3) (λ x. (expr_tree x.0, map lexeme x.1.now)) result (map lexeme tokens.now) }
     ensures shorter { IfOk result (λ x. length x.1.now ≤ length tokens.now) }
 {
-    let (base, rest) = atom(alloc, tokens)?;
+    let (base, rest) = read!(atom(alloc, tokens));
     match after_mark(Mark::Caret, rest) {
         Some(after) => {
             let base = Box::new(alloc, base)?;
             // An exponent may have minus signs, as what is signed.
-            let (exponent, rest) = signed(alloc, after)?;
+            let (exponent, rest) = read!(signed(alloc, after));
             let exponent = Box::new(alloc, exponent)?;
             Ok((Expr::Pow(base, exponent), rest))
         }
@@ -195,7 +195,7 @@ fn parenthesized<'t>(alloc: Global, tokens: Tokens<'t>) -> ParseResult<'t, Expr>
     ensures tree { FindsTree (IsBefore Mark.Close IsExpr) Always (λ x. (expr_tree x.0, map lexeme x.1.now)) result (map lexeme tokens.now) }
     ensures shorter { IfOk result (λ x. length x.1.now ≤ length tokens.now) }
 {
-    let (inner, rest) = expr(alloc, tokens)?;
+    let (inner, rest) = read!(expr(alloc, tokens));
     match after_mark(Mark::Close, rest) {
         Some(rest) => Ok((inner, rest)),
         None => {
@@ -223,12 +223,12 @@ fn atom<'t>(alloc: Global, tokens: Tokens<'t>) -> ParseResult<'t, Expr>
             Ok((Expr::Text(bytes), rest))
         }
         ParserToken::Name(_, _) => {
-            let (var, rest) = variable(alloc, tokens)?;
+            let (var, rest) = read!(variable(alloc, tokens));
             Ok((value_of(alloc, var)?, rest))
         }
         ParserToken::Keyword(Keyword::Strlen, _) => match after_mark(Mark::Open, rest) {
             Some(rest) => {
-                let (inner, rest) = parenthesized(alloc, rest)?;
+                let (inner, rest) = read!(parenthesized(alloc, rest));
                 Ok((Expr::Strlen(Box::new(alloc, inner)?), rest))
             }
             None => Err(ParseError::Syntax(rest.len())),
@@ -262,7 +262,7 @@ pub(crate) fn variable<'t>(alloc: Global, tokens: Tokens<'t>) -> ParseResult<'t,
     let name = Name::numbered(alloc, name, number)?;
     match after_mark(Mark::OpenIndex, rest) {
         Some(after) => {
-            let (indices, rest) = indices(alloc, after)?;
+            let (indices, rest) = read!(indices(alloc, after));
             Ok((Var { name, indices }, rest))
         }
         None => {
@@ -282,7 +282,7 @@ pub(crate) fn expr_before<'t>(
     ensures tree { FindsTree (IsBefore mark IsExpr) Always (λ x. (expr_tree x.0, map lexeme x.1.now)) result (map lexeme tokens.now) }
     ensures shorter { IfOk result (λ x. length x.1.now ≤ length tokens.now) }
 {
-    let (read, rest) = expr(alloc, tokens)?;
+    let (read, rest) = read!(expr(alloc, tokens));
     match after_mark(mark, rest) {
         Some(rest) => Ok((read, rest)),
         None => {
@@ -302,7 +302,7 @@ fn indices<'t>(alloc: Global, tokens: Tokens<'t>) -> ParseResult<'t, Exprs>
     // All of them; the borrow checker refuses a loop whose variable begins as the argument itself.
     let (_none, mut left) = tokens.split_at(0);
     loop {
-        let (next, rest) = expr(alloc, left)?;
+        let (next, rest) = read!(expr(alloc, left));
         items.push(next)?;
         if let Some(after) = after_mark(Mark::Comma, rest) {
             left = after;

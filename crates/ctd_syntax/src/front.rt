@@ -47,6 +47,18 @@ pub(crate) type Tokens<'t> = &'t [ParserToken<'t>];
 /// What was read at the front of some tokens, and those that follow it; or why nothing was read.
 pub(crate) type ParseResult<'t, T> = Result<(T, Tokens<'t>), ParseError>;
 
+/// What was read, or the return of the fault: a `?` converts the fault too, and so its proof takes longer.
+macro_rules! read {
+    ($result:expr) => {
+        match $result {
+            Ok(read) => read,
+            Err(fault) => return Err(fault),
+        }
+    };
+}
+
+pub(crate) use read;
+
 /// What follows a mark at the front.
 pub(crate) fn after_mark<'t>(mark: Mark, tokens: Tokens<'t>) -> Option<Tokens<'t>>
     ensures found { IfSome result (λ rest. map lexeme tokens.now ≡ Lexeme.mark mark ∷ map lexeme rest.now) }

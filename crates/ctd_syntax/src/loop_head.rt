@@ -9,7 +9,7 @@ ghost use Rattle.ctd_syntax.specs.inner.CommandWords.{IsCounter, IsGuard, IsLoop
 
 use crate::condition::test;
 use crate::expression::expr;
-use crate::front::{ParseResult, Tokens, after_open};
+use crate::front::{ParseResult, Tokens, after_open, read};
 use crate::target::target_before;
 use ctd_program::{LoopGuard, Var};
 use ctd_token::Mark;
@@ -39,7 +39,7 @@ fn counter<'t>(
     match word {
         LoopWord::Rep | LoopWord::While => Ok((None, tokens)),
         LoopWord::RepI | LoopWord::WhileI => {
-            let (read, rest) = target_before(alloc, Mark::Comma, tokens)?;
+            let (read, rest) = read!(target_before(alloc, Mark::Comma, tokens));
             let counter = Box::new(alloc, read)?;
             Ok((Some(counter), rest))
         }
@@ -53,12 +53,12 @@ fn guard<'t>(alloc: Global, word: LoopWord, tokens: Tokens<'t>) -> ParseResult<'
 {
     match word {
         LoopWord::Rep | LoopWord::RepI => {
-            let (read, rest) = expr(alloc, tokens)?;
+            let (read, rest) = read!(expr(alloc, tokens));
             let count = Box::new(alloc, read)?;
             Ok((LoopGuard::Times(count), rest))
         }
         LoopWord::While | LoopWord::WhileI => {
-            let (condition, rest) = test(alloc, None, tokens)?;
+            let (condition, rest) = read!(test(alloc, None, tokens));
             Ok((LoopGuard::While(condition), rest))
         }
     }
@@ -73,8 +73,8 @@ pub(crate) fn loop_head<'t>(
     ensures tree { FindsTree (IsLoopHead word) (test_ends 1) (λ x. ((boxed_target x.0.0, guard_tree x.0.1), map lexeme x.1.now)) result (map lexeme tokens.now) }
     ensures shorter { IfOk result (λ x. length x.1.now < length tokens.now) }
 {
-    let after = after_open(tokens)?;
-    let (counter, rest) = counter(alloc, word, after)?;
+    let after = read!(after_open(tokens));
+    let (counter, rest) = read!(counter(alloc, word, after));
     match guard(alloc, word, rest) {
         Ok((guard, rest)) => Ok(((counter, guard), rest)),
         Err(fault) => {

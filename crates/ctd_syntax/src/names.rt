@@ -5,7 +5,7 @@ ghost use Rattle.ctd_program.specs.calls.View.{names_of};
 ghost use Rattle.ctd_syntax.specs.Grammar.{IsNames};
 ghost use Rattle.ctd_syntax.specs.inner.Front.{FindsTree, Always, IsBefore, IsName, lexeme};
 
-use crate::front::{ParseError, ParseResult, Tokens, after_mark, name_at};
+use crate::front::{ParseError, ParseResult, Tokens, after_mark, name_at, read};
 use ctd_program::Names;
 use ctd_token::{Mark, Name};
 use std::alloc::Global;
@@ -31,7 +31,7 @@ pub(crate) fn names<'t>(alloc: Global, tokens: Tokens<'t>) -> ParseResult<'t, Na
     // All of them; the borrow checker refuses a loop whose variable begins as the argument itself.
     let (_none, mut left) = tokens.split_at(0);
     loop {
-        let (next, rest) = name(alloc, left)?;
+        let (next, rest) = read!(name(alloc, left));
         items.push(next)?;
         if let Some(after) = after_mark(Mark::Comma, rest) {
             left = after;

@@ -9,7 +9,7 @@ ghost use Rattle.ctd_syntax.specs.inner.Front.{FindsTree, Always, IsAssignment, 
 ghost use Rattle.ctd_syntax.specs.inner.Levels.{binding, ends};
 
 use crate::expression::{expr, variable};
-use crate::front::{ParseError, ParseResult, Tokens, after_mark};
+use crate::front::{ParseError, ParseResult, Tokens, after_mark, read};
 use ctd_program::{Assignment, Assignments, Var};
 use ctd_token::Mark;
 use std::alloc::Global;
@@ -24,7 +24,7 @@ pub(crate) fn target_before<'t>(
     ensures tree { FindsTree (IsBefore mark IsTarget) Always (λ x. (var_tree x.0, map lexeme x.1.now)) result (map lexeme tokens.now) }
     ensures shorter { IfOk result (λ x. length x.1.now ≤ length tokens.now) }
 {
-    let (read, rest) = variable(alloc, tokens)?;
+    let (read, rest) = read!(variable(alloc, tokens));
     match after_mark(mark, rest) {
         Some(rest) => Ok((read, rest)),
         None => {
@@ -45,7 +45,7 @@ pub(crate) fn target_end<'t>(alloc: Global, tokens: Tokens<'t>) -> ParseResult<'
     let Some(after) = after_mark(Mark::Comma, tokens) else {
         return Err(ParseError::Syntax(tokens.len()));
     };
-    let (read, rest) = target_before(alloc, Mark::Close, after)?;
+    let (read, rest) = read!(target_before(alloc, Mark::Close, after));
     Ok((Some(read), rest))
 }
 
@@ -54,7 +54,7 @@ fn one_assignment<'t>(alloc: Global, tokens: Tokens<'t>) -> ParseResult<'t, Assi
     ensures tree { FindsTree IsAssignment (ends 1) (λ x. (assignment x.0, map lexeme x.1.now)) result (map lexeme tokens.now) }
     ensures shorter { IfOk result (λ x. length x.1.now ≤ length tokens.now) }
 {
-    let (target, rest) = target_before(alloc, Mark::Assign, tokens)?;
+    let (target, rest) = read!(target_before(alloc, Mark::Assign, tokens));
     match expr(alloc, rest) {
         Ok((value, rest)) => Ok((Assignment { target, value }, rest)),
         Err(fault) => {
@@ -74,7 +74,7 @@ pub(crate) fn assignments<'t>(alloc: Global, tokens: Tokens<'t>) -> ParseResult<
     // All of them; the borrow checker refuses a loop whose variable begins as the argument itself.
     let (_none, mut left) = tokens.split_at(0);
     loop {
-        let (next, rest) = one_assignment(alloc, left)?;
+        let (next, rest) = read!(one_assignment(alloc, left));
         items.push(next)?;
         if let Some(after) = after_mark(Mark::Comma, rest) {
             left = after;

@@ -15,13 +15,13 @@ loop-rest-init c = ([], sym (append-nil c.args.commands.now.items), rw c.split_a
 pub loop-rest-preserved : goal.loop-rest-preserved
 loop-rest-preserved c =
     let before = c.loop-rest.invariant in
-    let next = c.in_ok-next.next in
+    let next = c.in-Ok.read.0 in
     let tokens = map lexeme c.args.tokens.now in
     let rest = map lexeme c.loop-rest.rest.now in
-    let after = map lexeme c.in_ok-next.after.now in (
+    let after = map lexeme c.in-Ok.read.1.now in (
       before.0 ++ next ∷ [],
       c.in_ok-push.ensures.items ∙ ap (λ l. l ++ next ∷ []) before.1 ∙ append_assoc c.args.commands.now.items before.0 (next ∷ []),
-      rw (trees_then before.0 next) (commands_next tokens rest after _ _ before.2 (found_begins rest after _ c.in_ok-next.ensures.tree) c.in_ok-next.ensures.tree),
+      rw (trees_then before.0 next) (commands_next tokens rest after _ _ before.2 (found_begins rest after _ c.in-Ok.ensures.tree) c.in-Ok.ensures.tree),
     )
 
 pub returns : goal.returns

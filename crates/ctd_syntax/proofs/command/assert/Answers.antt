@@ -5,15 +5,15 @@ use Rattle.ctd_syntax.specs.Grammar.{IsTest}
 use Rattle.ctd_syntax.specs.inner.CommandWords.{IsCommandRest}
 use Rattle.ctd_token.specs.declared.token.Mark.TheVariants.{Close}
 use Rattle.ctd_syntax.specs.declared.keyword.Keyword.TheVariants as words
-use Rattle.ctd_syntax.proofs.Fronts.{refused_exit, no_tree_exit}
+use Rattle.ctd_syntax.proofs.Fronts.{refused_as, no_tree_as}
 use Rattle.ctd_syntax.proofs.CommandReads.{opened_reads, opened_none, not_opened}
 use Rattle.ctd_syntax.proofs.command.assert.Goals as goal
 
-pub returns-in_err-after-clause-tree : goal.returns-in_err-after-clause-tree
-returns-in_err-after-clause-tree c = no_tree_exit (IsCommandRest words.Assert c.args.place) Always _ (map lexeme c.args.tokens.now) _ c.from_residual.result c.from_residual.ensures.1 (not_opened (Tree.assert c.args.place) (IsBefore Close IsTest) Always (map lexeme c.args.tokens.now) c.in_err-after.ensures.none)
+pub returns-in-Err-clause-tree : goal.returns-in-Err-clause-tree
+returns-in-Err-clause-tree c = no_tree_as (IsCommandRest words.Assert c.args.place) Always (map lexeme c.args.tokens.now) c.in-Err.fault (not_opened (Tree.assert c.args.place) (IsBefore Close IsTest) Always (map lexeme c.args.tokens.now) c.in-Err.ensures.none)
 
-pub returns-in_err-condition-clause-tree : goal.returns-in_err-condition-clause-tree
-returns-in_err-condition-clause-tree c = refused_exit (IsBefore Close IsTest) (IsCommandRest words.Assert c.args.place) Always Always _ (map lexeme c.in_ok-after.after.now) (map lexeme c.args.tokens.now) _ c.from_residual-in_err-condition.result c.from_residual-in_err-condition.ensures.1 (opened_none (Tree.assert c.args.place) (IsBefore Close IsTest) Always (map lexeme c.args.tokens.now) (map lexeme c.in_ok-after.after.now) c.in_ok-after.ensures.found) c.in_err-condition.ensures.tree
+pub returns-in-Err-test_before-clause-tree : goal.returns-in-Err-test_before-clause-tree
+returns-in-Err-test_before-clause-tree c = refused_as (IsBefore Close IsTest) (IsCommandRest words.Assert c.args.place) Always Always (map lexeme c.in-Ok.read.now) (map lexeme c.args.tokens.now) c.in-Err-test_before.fault (opened_none (Tree.assert c.args.place) (IsBefore Close IsTest) Always (map lexeme c.args.tokens.now) (map lexeme c.in-Ok.read.now) c.in-Ok.ensures.found) c.in-Err-test_before.ensures.tree
 
 pub returns-clause-tree : goal.returns-clause-tree
-returns-clause-tree c = opened_reads (Tree.assert c.args.place) (IsBefore Close IsTest) Always (map lexeme c.args.tokens.now) (map lexeme c.in_ok-after.after.now) (map lexeme c.in_ok-condition.rest.now) _ c.in_ok-after.ensures.found c.in_ok-condition.ensures.tree
+returns-clause-tree c = opened_reads (Tree.assert c.args.place) (IsBefore Close IsTest) Always (map lexeme c.args.tokens.now) (map lexeme c.in-Ok.read.now) (map lexeme c.in-Ok-test_before.read.1.now) _ c.in-Ok.ensures.found c.in-Ok-test_before.ensures.tree

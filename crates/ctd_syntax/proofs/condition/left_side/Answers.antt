@@ -6,10 +6,10 @@ use Rattle.ctd_syntax.proofs.Conditions.{left_reads}
 use Rattle.ctd_syntax.proofs.condition.left_side.Goals as goal
 
 pub returns-in-Some-clause-tree : goal.returns-in-Some-clause-tree
-returns-in-Some-clause-tree c = left_reads (map lexeme c.args.tokens.now) (map lexeme c.in_ok-left.rest.now) (map lexeme c.in-Some.after.now) _ c.in-Some.by c.in_ok-left.ensures.tree c.in-Some.ensures.operator
+returns-in-Some-clause-tree c = left_reads (map lexeme c.args.tokens.now) (map lexeme c.in-Ok.read.1.now) (map lexeme c.in-Some.after.now) _ c.in-Some.by c.in-Ok.ensures.tree c.in-Some.ensures.operator
 
-pub returns-in_err-left-clause-tree : goal.returns-in_err-left-clause-tree
-returns-in_err-left-clause-tree c = grind (arith, common_steps)
+pub returns-in-Err-clause-tree : goal.returns-in-Err-clause-tree
+returns-in-Err-clause-tree c = grind (arith, common_steps)
 
 pub returns-in-None-clause-tree : goal.returns-in-None-clause-tree
 returns-in-None-clause-tree c = grind (arith, common_steps)

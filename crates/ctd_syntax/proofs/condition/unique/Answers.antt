@@ -4,15 +4,15 @@ use Rattle.ctd_syntax.specs.Grammar.{IsNames}
 use Rattle.ctd_syntax.specs.inner.TestGrammar.{IsTestCall}
 use Rattle.ctd_token.specs.declared.token.Mark.TheVariants.{Close}
 use Rattle.ctd_syntax.specs.declared.keyword.Keyword.TheVariants.{Unique}
-use Rattle.ctd_syntax.proofs.Fronts.{refused_exit, no_tree_exit}
+use Rattle.ctd_syntax.proofs.Fronts.{refused_as, no_tree_as}
 use Rattle.ctd_syntax.proofs.Conditions.{unique_reads, unique_none, not_unique}
 use Rattle.ctd_syntax.proofs.condition.unique.Goals as goal
 
-pub returns-in_err-after-clause-tree : goal.returns-in_err-after-clause-tree
-returns-in_err-after-clause-tree c = no_tree_exit (IsTestCall Unique) Always _ (map lexeme c.args.tokens.now) _ c.from_residual.result c.from_residual.ensures.1 (not_unique (map lexeme c.args.tokens.now) c.in_err-after.ensures.none)
+pub returns-in-Err-clause-tree : goal.returns-in-Err-clause-tree
+returns-in-Err-clause-tree c = no_tree_as (IsTestCall Unique) Always (map lexeme c.args.tokens.now) c.in-Err.fault (not_unique (map lexeme c.args.tokens.now) c.in-Err.ensures.none)
 
-pub returns-in_err-list-clause-tree : goal.returns-in_err-list-clause-tree
-returns-in_err-list-clause-tree c = refused_exit (IsBefore Close IsNames) (IsTestCall Unique) Always Always _ (map lexeme c.in_ok-after.after.now) (map lexeme c.args.tokens.now) _ c.from_residual-in_err-list.result c.from_residual-in_err-list.ensures.1 (unique_none (map lexeme c.args.tokens.now) (map lexeme c.in_ok-after.after.now) c.in_ok-after.ensures.found) c.in_err-list.ensures.tree
+pub returns-in-Err-names-clause-tree : goal.returns-in-Err-names-clause-tree
+returns-in-Err-names-clause-tree c = refused_as (IsBefore Close IsNames) (IsTestCall Unique) Always Always (map lexeme c.in-Ok.read.now) (map lexeme c.args.tokens.now) c.in-Err-names.fault (unique_none (map lexeme c.args.tokens.now) (map lexeme c.in-Ok.read.now) c.in-Ok.ensures.found) c.in-Err-names.ensures.tree
 
 pub returns-clause-tree : goal.returns-clause-tree
-returns-clause-tree c = rw c.in_ok-boxed.ensures (unique_reads (map lexeme c.args.tokens.now) (map lexeme c.in_ok-after.after.now) (map lexeme c.in_ok-list.rest.now) _ c.in_ok-after.ensures.found c.in_ok-list.ensures.tree)
+returns-clause-tree c = rw c.in_ok-boxed.ensures (unique_reads (map lexeme c.args.tokens.now) (map lexeme c.in-Ok.read.now) (map lexeme c.in-Ok-names.read.1.now) _ c.in-Ok.ensures.found c.in-Ok-names.ensures.tree)

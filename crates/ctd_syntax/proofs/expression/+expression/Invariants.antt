@@ -51,11 +51,11 @@ invariant-product-loop-operator l = record {
 abbrev pub decreases-product-loop-operator : goal.decreases-product-loop-operator
 decreases-product-loop-operator l = length l.rest
 
-abbrev pub invariant-indices-loop-items : goal.invariant-indices-loop-items
-invariant-indices-loop-items l = record {
+abbrev pub invariant-indices-loop-read : goal.invariant-indices-loop-read
+invariant-indices-loop-read l = record {
   before : BeforeItem IsExpr CloseIndex (map lexeme l.fn.tokens) (map expr_tree l.items.items) (map lexeme l.left);
   shorter : length l.left ≤ length l.fn.tokens;
 }
 
-abbrev pub decreases-indices-loop-items : goal.decreases-indices-loop-items
-decreases-indices-loop-items l = length l.left
+abbrev pub decreases-indices-loop-read : goal.decreases-indices-loop-read
+decreases-indices-loop-read l = length l.left

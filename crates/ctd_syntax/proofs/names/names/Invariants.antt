@@ -5,11 +5,11 @@ use Rattle.ctd_token.specs.declared.token.Mark.TheVariants.{Close}
 use Rattle.ctd_syntax.proofs.Rows.{BeforeItem}
 use Rattle.ctd_syntax.proofs.names.names.Given as goal
 
-abbrev pub invariant-loop-items : goal.invariant-loop-items
-invariant-loop-items l = record {
+abbrev pub invariant-loop-read : goal.invariant-loop-read
+invariant-loop-read l = record {
   before : BeforeItem IsName Close (map lexeme l.tokens) l.items.items (map lexeme l.left);
   shorter : length l.left ≤ length l.tokens;
 }
 
-abbrev pub decreases-loop-items : goal.decreases-loop-items
-decreases-loop-items l = length l.left
+abbrev pub decreases-loop-read : goal.decreases-loop-read
+decreases-loop-read l = length l.left

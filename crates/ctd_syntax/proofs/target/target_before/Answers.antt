@@ -8,10 +8,10 @@ use Rattle.ctd_syntax.proofs.Fronts.{before_reads}
 use Rattle.ctd_syntax.proofs.target.target_before.Goals as goal
 
 pub returns-in-Some-clause-tree : goal.returns-in-Some-clause-tree
-returns-in-Some-clause-tree c = before_reads IsTarget (ends 4) c.args.mark (λ us. omega (arith, c.requires.ends)) (map lexeme c.args.tokens.now) (map lexeme c.in_ok-read.rest.now) (map lexeme c.in-Some.rest.now) _ c.in_ok-read.ensures.tree c.in-Some.ensures.found
+returns-in-Some-clause-tree c = before_reads IsTarget (ends 4) c.args.mark (λ us. omega (arith, c.requires.ends)) (map lexeme c.args.tokens.now) (map lexeme c.in-Ok.read.1.now) (map lexeme c.in-Some.rest.now) _ c.in-Ok.ensures.tree c.in-Some.ensures.found
 
-pub returns-in_err-read-clause-tree : goal.returns-in_err-read-clause-tree
-returns-in_err-read-clause-tree c = grind (arith, common_steps)
+pub returns-in-Err-clause-tree : goal.returns-in-Err-clause-tree
+returns-in-Err-clause-tree c = grind (arith, common_steps)
 
 pub returns-in-None-clause-tree : goal.returns-in-None-clause-tree
 returns-in-None-clause-tree c = grind (arith, common_steps)
