@@ -33,12 +33,10 @@ ELSEWHERE = {
     ("ctd_in_memory/src/run.rt", "run_in_memory"): "the words could not be split, which only memory can prevent",
     ("ctd_lint_tool/src/command_line.rt", "copies_of"): "a push failed",
     ("ctd_lint_tool/src/command_line.rt", "kinds_named"): "a push failed",
-    ("ctd_lint_tool/src/command_line.rt", "texts_of"): "a push failed",
     ("ctd_names/src/found.rt", "finish"): "a push failed before",
     ("ctd_process/src/buffered.rt", "buffered_source"): "no buffer could be made",
     ("ctd_report/src/report.rt", "write_load_fault"): "the fault of the program is that no memory was left, as the contract says",
     ("ctd_tool/src/files.rt", "run_on"): "no buffer could be made",
-    ("ctd_traps/src/names.rt", "mentioned_in"): "a push failed before",
     ("ctd_tool/src/host.rt", "answer_args"): "the words could not be copied, which only memory can prevent",
 }
 

@@ -2,6 +2,7 @@
 //! `tests/process.sh` and in the tables of `tests/tables/` at the top of the repository.
 
 mod checks;
+mod consumed;
 mod hosts;
 mod limits;
 mod memory;
