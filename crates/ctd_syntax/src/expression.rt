@@ -1,5 +1,5 @@
 //! From tokens to expressions, by levels and loops (docs/LANGUAGE.md, grammar).
-//! A tree that is not wanted is given to `drop` explicitly: an implicit drop is unfolded variant by variant in the proof.
+//! Where a reader fails, the trees that were read before it are given to `drop`.
 
 ghost use Rattle.std.specs.Prelude.{◌≡◌, ◌≤◌, ◌<◌, true, length, map, IfOk, IfSome};
 ghost use Rattle.ctd_program.specs.Tree;

@@ -1,5 +1,5 @@
 //! From tokens to the heads of loops: what stands before the separator and the block (docs/LANGUAGE.md, grammar).
-//! A tree that is not wanted is given to `drop` explicitly: an implicit drop is unfolded variant by variant in the proof.
+//! Where a reader fails, the trees that were read before it are given to `drop`.
 
 ghost use Rattle.std.specs.Prelude.{◌≤◌, ◌<◌, length, map, IfOk};
 ghost use Rattle.ctd_program.specs.calls.View.{boxed_target, guard_tree};
