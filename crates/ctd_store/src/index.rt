@@ -21,19 +21,11 @@ pub enum Index<'i> {
 }
 
 /// The values of an index list: none, one or two numbers that are stored nowhere, or a list where it stands.
+#[derive(Drop)]
 pub enum Indices<'i> {
     One([Value; 1]),
     Two([Value; 2]),
     List(&'i [Value]),
-}
-
-// Written out, and not derived, as that of `Value`.
-impl Drop for Indices<'_> {
-    fn drop(self) {
-        match self {
-            Indices::One(_) | Indices::Two(_) | Indices::List(_) => {}
-        }
-    }
 }
 
 impl<'i> Index<'i> {
