@@ -61,7 +61,9 @@ fn sets_fixed(command: &Command) -> bool
     match &command.action {
         Action::Int(int) => is_fixed(&int.target),
         Action::Regex(regex) => is_fixed(&regex.target),
-        _ => false,
+        Action::Space | Action::Newline | Action::Eof | Action::String(_) => false,
+        Action::Assert(_) | Action::Set(_) | Action::Unset(_) => false,
+        Action::Loop(_) | Action::If(_) => false,
     }
 }
 
@@ -126,8 +128,8 @@ pub(crate) fn is_set_by(name: &Name, command: &Command) -> bool
                 ..
             } = &**repeated;
             is_counter(name, counter)
-                || is_set_between(name, between)
-                || is_set_in(name, body.as_slice())
+                | is_set_between(name, between)
+                | is_set_in(name, body.as_slice())
         }
         Action::If(choice) => {
             let Choice {
@@ -135,9 +137,10 @@ pub(crate) fn is_set_by(name: &Name, command: &Command) -> bool
                 else_do,
                 ..
             } = &**choice;
-            is_set_in(name, then_do.as_slice()) || is_set_in(name, else_do.as_slice())
+            is_set_in(name, then_do.as_slice()) | is_set_in(name, else_do.as_slice())
         }
-        _ => false,
+        Action::Space | Action::Newline | Action::Eof | Action::String(_) => false,
+        Action::Assert(_) | Action::Unset(_) => false,
     }
 }
 
@@ -174,7 +177,9 @@ pub fn loop_body(command: &Command) -> &[Command]
             let Loop { body, .. } = &**repeated;
             body.as_slice()
         }
-        _ => &[],
+        Action::Space | Action::Newline | Action::Eof | Action::Int(_) => &[],
+        Action::String(_) | Action::Regex(_) | Action::Assert(_) => &[],
+        Action::Set(_) | Action::Unset(_) | Action::If(_) => &[],
     }
 }
 
@@ -194,6 +199,8 @@ pub fn counter_name(command: &Command) -> Option<&Name>
 {
     match &command.action {
         Action::Loop(repeated) => boxed_name(&repeated.counter),
-        _ => None,
+        Action::Space | Action::Newline | Action::Eof | Action::Int(_) => None,
+        Action::String(_) | Action::Regex(_) | Action::Assert(_) => None,
+        Action::Set(_) | Action::Unset(_) | Action::If(_) => None,
     }
 }

@@ -1,10 +1,13 @@
 -- Counters that are read behind their loops.
 use Rattle.ctd_program.specs.Tree
-use Rattle.std.specs.Prelude.{ℕ, Bool, true, false, not, ◌||◌, ◌&&◌, List, ◌++◌, Option, None}
+use Rattle.std.specs.Prelude.{ℕ, Bool, true, false, not, ◌||◌, ◌&&◌, List, Option, None}
 use Rattle.ctd_program.specs.Tree.{VarTree, GuardTree, CommandTree, CommandList}
-use Rattle.ctd_names.specs.calls.Block.{commands_within}
+use Rattle.ctd_names.specs.calls.Block.{all_commands}
 use Rattle.ctd_names.specs.calls.Loops.{is_set_by, var_name}
-use Rattle.ctd_names.specs.calls.Names.{all_reads, is_among, reads, unsets}
+use Rattle.ctd_names.specs.calls.Mentions.{all_mentions, mentions}
+use Rattle.ctd_names.specs.calls.Names.{is_among}
+use Rattle.ctd_names.specs.calls.Roles.{role_names}
+use Rattle.ctd_names.specs.declared.roles.Role.TheVariants as roles
 
 -- the name of a counter, where its loop has a number of turns that is known before the first
 abbrev pub turns_counter : GuardTree → Option VarTree → Option (List ℕ)
@@ -41,11 +44,11 @@ is_loop (Tree.choice place t then_do else_do) = false
 
 -- whether a command, or one in it, reads a name
 abbrev pub is_read_by : List ℕ → CommandTree → Bool
-is_read_by name c = is_among name (reads c ++ all_reads (commands_within c))
+is_read_by name c = is_among name (role_names roles.Reads (all_mentions (all_commands (Tree.then c Tree.done))))
 
 -- whether a command, or one in it, gives a name a value, or the command forgets its values
 abbrev pub is_changed_by : List ℕ → CommandTree → Bool
-is_changed_by name c = is_set_by name c || is_among name (unsets c)
+is_changed_by name c = is_set_by name c || is_among name (role_names roles.Forgets (mentions c))
 
 -- Whether a name is read in the commands behind a loop: by the first of them that changes or reads it, where it does not change it. They are followed up to the next loop.
 abbrev pub is_read_behind : List ℕ → CommandList → Bool
