@@ -25,7 +25,7 @@ use ctd_facts::{
 };
 use ctd_names::{
     Collector, CommandInBlock, MentionedName, NameSet, Role, counter_name, has_role, is_set_in,
-    loop_body, mentions_of, some_set_fixed,
+    loop_body, loop_of, mentions_of, some_set_fixed,
 };
 use ctd_outline::{Form, form_of};
 use ctd_program::{Action, Command, Expr, IntArguments, LoopGuard, Test};
@@ -145,11 +145,9 @@ fn guard_test(guard: &LoopGuard) -> Option<&Test>
 fn loop_test(command: &Command) -> Option<&Test>
     ensures { test_at result ≡ loop_test (command_tree command.now) }
 {
-    match &command.action {
-        Action::Loop(repeated) => guard_test(&repeated.guard),
-        Action::Space | Action::Newline | Action::Eof | Action::Int(_) => None,
-        Action::String(_) | Action::Regex(_) | Action::Assert(_) => None,
-        Action::Set(_) | Action::Unset(_) | Action::If(_) => None,
+    match loop_of(command) {
+        Some(repeated) => guard_test(&repeated.guard),
+        None => None,
     }
 }
 

@@ -3,13 +3,13 @@
 ghost use Rattle.std.specs.Prelude.{◌≡◌, IfOk};
 ghost use Rattle.ctd_program.specs.calls.View.{boxed_target, command_tree, command_trees, guard_tree};
 ghost use Rattle.ctd_names.specs.calls.Listed.{name_at};
-ghost use Rattle.ctd_names.specs.calls.Behind.{is_changed_by, is_loop, is_read_behind, is_read_by, repi_counter, turns_counter};
+ghost use Rattle.ctd_names.specs.calls.Behind.{is_changed_by, is_read_behind, is_read_by, repi_counter, turns_counter};
 
 use crate::block::all_commands;
-use crate::loops::{boxed_name, is_set_by};
+use crate::loops::{boxed_name, is_set_by, loop_of};
 use crate::mentions::{all_mentions, mentions_of};
 use crate::roles::{Role, is_in_role};
-use ctd_program::{Action, Command, Loop, LoopGuard, Var};
+use ctd_program::{Command, LoopGuard, Var};
 use ctd_token::Name;
 use std::alloc::{AllocError, Global};
 use std::slice;
@@ -28,26 +28,9 @@ fn turns_counter<'p>(guard: &LoopGuard, counter: &'p Option<Box<Var>>) -> Option
 pub fn repi_counter(command: &Command) -> Option<&Name>
     ensures { name_at result ≡ repi_counter (command_tree command.now) }
 {
-    match &command.action {
-        Action::Loop(repeated) => {
-            let Loop { guard, counter, .. } = &**repeated;
-            turns_counter(guard, counter)
-        }
-        Action::Space | Action::Newline | Action::Eof | Action::Int(_) => None,
-        Action::String(_) | Action::Regex(_) | Action::Assert(_) => None,
-        Action::Set(_) | Action::Unset(_) | Action::If(_) => None,
-    }
-}
-
-/// Whether a command is a loop.
-fn is_loop(command: &Command) -> bool
-    ensures { result ≡ is_loop (command_tree command.now) }
-{
-    match &command.action {
-        Action::Loop(_) => true,
-        Action::Space | Action::Newline | Action::Eof | Action::Int(_) => false,
-        Action::String(_) | Action::Regex(_) | Action::Assert(_) => false,
-        Action::Set(_) | Action::Unset(_) | Action::If(_) => false,
+    match loop_of(command) {
+        Some(repeated) => turns_counter(&repeated.guard, &repeated.counter),
+        None => None,
     }
 }
 
@@ -79,7 +62,7 @@ pub fn is_read_behind(alloc: Global, name: &Name, commands: &[Command]) -> Resul
         if is_read_by(alloc, name, command)? {
             return Ok(true);
         }
-        if is_loop(command) {
+        if loop_of(command).is_some() {
             return Ok(false);
         }
     }

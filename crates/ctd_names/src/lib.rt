@@ -14,7 +14,7 @@ mod sort;
 pub use behind::{is_read_behind, repi_counter};
 pub use block::{CommandInBlock, all_commands};
 pub use found::Collector;
-pub use loops::{counter_name, is_set_in, loop_body, some_set_fixed};
+pub use loops::{counter_name, is_set_in, loop_body, loop_of, some_set_fixed};
 pub use mentions::{
     MentionedName, Use, all_mentions, body_mentions, list_mentions, loops_mentions, mentions_of,
 };

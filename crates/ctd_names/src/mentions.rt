@@ -2,10 +2,12 @@
 
 ghost use Rattle.std.specs.Prelude.{◌++◌, ◌∷◌, [], ◌≡◌, None, Some, IfOk, map};
 ghost use Rattle.ctd_program.specs.calls.View.{assignment, boxed_target, command_tree, command_trees, expr_list, expr_tree, guard_tree, target, test_tree, var_tree};
+ghost use Rattle.ctd_program.specs.declared.tree.Loop.{out-Loop};
 ghost use Rattle.ctd_names.specs.calls.Collector.{Adds, mentions_in};
 ghost use Rattle.ctd_names.specs.inner.Views.{assigned_trees};
 ghost use Rattle.ctd_names.specs.calls.Listed.{in_blocks, mentions_at, name_at};
 ghost use Rattle.ctd_names.specs.calls.Mentions.{all_mentions, assignment_mentions, assignments_mentions, body_mentions, counter_mentions, expr_mentions, guard_mentions, has_indices, index_mentions, loops_mentions, mention, mentions, read_use, sets_use, target_mentions, test_mentions, variable_mentions};
+ghost use Rattle.ctd_names.specs.declared.mentions.Use.TheVariants.{LooksAtAll};
 ghost use Rattle.ctd_names.specs.declared.sort.Sort.TheVariants.{Number};
 
 use crate::block::CommandInBlock;
@@ -120,6 +122,14 @@ fn list_both<'p>(a: &'p Expr, b: &'p Expr, found: &mut Collector<MentionedName<'
     list_expr(None, b, found)
 }
 
+/// Adds the names in what INARRAY takes.
+fn list_searched<'p>(e: &'p Expr, name: &'p Name, found: &mut Collector<MentionedName<'p>>)
+    ensures adds { Adds (mentions_in found.old) (expr_mentions None (expr_tree e.now) ++ mention LooksAtAll name.now ∷ []) (mentions_in found.new) }
+{
+    list_expr(None, e, found);
+    list_one(Use::LooksAtAll, name, found)
+}
+
 /// Adds the names in a test.
 fn list_test<'p>(t: &'p Test, found: &mut Collector<MentionedName<'p>>)
     ensures adds { Adds (mentions_in found.old) (test_mentions (test_tree t.now)) (mentions_in found.new) }
@@ -134,10 +144,7 @@ fn list_test<'p>(t: &'p Test, found: &mut Collector<MentionedName<'p>>)
         Test::Match(e) => list_expr(None, e, found),
         Test::IsEof => (),
         Test::Unique(names) => list_each(Use::LooksAtAll, names.as_slice(), found),
-        Test::InArray(e, name) => {
-            list_expr(None, e, found);
-            list_one(Use::LooksAtAll, name, found)
-        }
+        Test::InArray(e, name) => list_searched(e, name, found),
     }
 }
 
@@ -221,7 +228,7 @@ fn list_counter<'p>(counter: &'p Option<Box<Var>>, found: &mut Collector<Mention
     }
 }
 
-/// Adds the names in the head of a loop.
+/// Adds the names in what says how long a loop goes on.
 fn list_guard<'p>(guard: &'p LoopGuard, found: &mut Collector<MentionedName<'p>>)
     ensures adds { Adds (mentions_in found.old) (guard_mentions (guard_tree guard.now)) (mentions_in found.new) }
 {
@@ -229,6 +236,14 @@ fn list_guard<'p>(guard: &'p LoopGuard, found: &mut Collector<MentionedName<'p>>
         LoopGuard::Times(count) => list_expr(None, count, found),
         LoopGuard::While(t) => list_test(t, found),
     }
+}
+
+/// Adds the names in the head of a loop: in its counter, and in what says how long it goes on.
+fn list_head<'p>(repeated: &'p Loop, found: &mut Collector<MentionedName<'p>>)
+    ensures adds { Adds (mentions_in found.old) (counter_mentions (boxed_target (out-Loop repeated.now).counter) ++ guard_mentions (guard_tree (out-Loop repeated.now).guard)) (mentions_in found.new) }
+{
+    list_counter(&repeated.counter, found);
+    list_guard(&repeated.guard, found)
 }
 
 /// Adds the names in a command, in the order of the text.
@@ -243,21 +258,8 @@ pub fn list_mentions<'p>(command: &'p Command, found: &mut Collector<MentionedNa
         Action::Assert(t) => list_test(t, found),
         Action::Set(assignments) => list_assignments(assignments.as_slice(), found),
         Action::Unset(names) => list_each(Use::Forgets, names.as_slice(), found),
-        Action::Loop(repeated) => {
-            let Loop { counter, guard, .. } = &**repeated;
-            list_counter(counter, found);
-            list_guard(guard, found)
-        }
+        Action::Loop(repeated) => list_head(repeated, found),
         Action::If(choice) => list_test(&choice.condition, found),
-    }
-}
-
-/// Adds the names in some commands.
-fn list_all<'p>(commands: &[CommandInBlock<'p>], found: &mut Collector<MentionedName<'p>>)
-    ensures adds { Adds (mentions_in found.old) (all_mentions (in_blocks commands.now)) (mentions_in found.new) }
-{
-    for entry in commands {
-        list_mentions(entry.command, found);
     }
 }
 
@@ -267,15 +269,6 @@ fn list_body<'p>(commands: &'p [Command], found: &mut Collector<MentionedName<'p
 {
     for command in commands {
         list_mentions(command, found);
-    }
-}
-
-/// Adds the names in what the loops among some commands do in each turn.
-fn list_loops<'p>(commands: &'p [Command], found: &mut Collector<MentionedName<'p>>)
-    ensures adds { Adds (mentions_in found.old) (loops_mentions (command_trees commands.now)) (mentions_in found.new) }
-{
-    for command in commands {
-        list_body(loop_body(command), found);
     }
 }
 
@@ -299,7 +292,9 @@ pub fn all_mentions<'p>(
     ensures all { IfOk result (λ found. mentions_at found.items ≡ all_mentions (in_blocks commands.now)) }
 {
     let mut found = Collector::new(alloc);
-    list_all(commands, &mut found);
+    for entry in commands {
+        list_mentions(entry.command, &mut found);
+    }
     found.finish()
 }
 
@@ -323,6 +318,8 @@ pub fn loops_mentions<'p>(
     ensures all { IfOk result (λ found. mentions_at found.items ≡ loops_mentions (command_trees commands.now)) }
 {
     let mut found = Collector::new(alloc);
-    list_loops(commands, &mut found);
+    for command in commands {
+        list_body(loop_body(command), &mut found);
+    }
     found.finish()
 }

@@ -3,7 +3,7 @@ use Rattle.ctd_program.specs.Tree
 use Rattle.std.specs.Prelude.{ℕ, Bool, true, not, List, [], ◌∷◌, ◌++◌, Option, Some, None, ℤ, false, is_some, ◌||◌, ◌&&◌, codes, map, if◌then◌else◌}
 use Rattle.ctd_program.specs.Tree.{ExprTree, TestTree, CommandTree, CommandList, GuardTree}
 use Rattle.ctd_facts.specs.calls.Facts.{Facts, facts_of, is_mentioned_in}
-use Rattle.ctd_names.specs.calls.Loops.{loop_body, counter_name, is_set_in, some_set_fixed}
+use Rattle.ctd_names.specs.calls.Loops.{loop_body, loop_of, counter_name, is_set_in, some_set_fixed}
 use Rattle.ctd_names.specs.calls.Names.{NameList, is_among, begins_with, preset_names}
 use Rattle.ctd_names.specs.calls.Mentions.{Mention, body_mentions, loops_mentions, mentions}
 use Rattle.ctd_names.specs.calls.Roles.{role_names}
@@ -52,17 +52,7 @@ guard_test (Tree.while t) = Some t
 
 -- the test of WHILE
 abbrev pub loop_test : CommandTree → Option TestTree
-loop_test (Tree.space place) = None
-loop_test (Tree.newline place) = None
-loop_test (Tree.eof place) = None
-loop_test (Tree.int place low high target) = None
-loop_test (Tree.string place e) = None
-loop_test (Tree.regex place literal target) = None
-loop_test (Tree.assert place t) = None
-loop_test (Tree.set place assignments) = None
-loop_test (Tree.unset place names) = None
-loop_test (Tree.loop place guard counter separator body) = guard_test guard
-loop_test (Tree.choice place t then_do else_do) = None
+loop_test c = option_and_then (λ l. guard_test l.guard) (loop_of c)
 
 -- a remark where this is so
 abbrev pub remark_if : Bool → Kind → List Remark

@@ -9,7 +9,7 @@ use Rattle.ctd_names.specs.calls.Mentions.{Mention}
 use Rattle.ctd_names.specs.calls.Names.{NameList}
 use Rattle.ctd_names.specs.calls.Sort.{is_number, is_text}
 
--- an answer for each use, by a row of six
+-- one of six answers, by the use
 abbrev pub by_use : (reads itself whole forgets : Bool) (sets : Sort → Bool → Bool) (counts : Bool) → Use → Bool
 by_use reads itself whole forgets sets counts uses.Reads = reads
 by_use reads itself whole forgets sets counts uses.ReadsForItself = itself
@@ -38,9 +38,8 @@ sets_no_text sort is_element = not (is_text sort)
 abbrev pub sets_element : Sort → Bool → Bool
 sets_element sort is_element = is_element
 
--- Whether a use has a role: a row of the table whose columns are the six uses.
+-- Whether a use has a role. Each row has an answer for: reads, reads for itself, looks at all, forgets, sets, counts.
 abbrev pub has_role : Role → Use → Bool
---                                   reads itself whole forgets sets          counts
 has_role roles.Mentions = by_use true true true true sets_any true
 has_role roles.Reads = by_use true true true false sets_none false
 has_role roles.ReadsElsewhere = by_use true false true false sets_none false

@@ -19,4 +19,4 @@ returns-in-Ok c =
     let all : names ≡ mentions (command_tree c.args.command.now) = ap mentions_at c.as_slice-names.ensures.value ∙ c.in-Ok.ensures.all in
     let unknown : List Remark = remark_unknown kinds.NoValue facts.is_given (role_names roles.Needs names) in
     let unread : List Remark = remark_unread facts (role_names roles.Sets names) in
-    record { adds = adds_both _ _ _ unknown unread _ c.list_without_value.ensures.adds c.list_unread.ensures.adds (ap (name_remarks facts) (sym all)); }
+    record { adds = adds_both _ _ _ unknown unread _ c.list_without_value.ensures.adds c.list_unread.ensures.adds (ap (name_remarks facts) (sym all)) }

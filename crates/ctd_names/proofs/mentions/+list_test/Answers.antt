@@ -4,6 +4,3 @@ use Rattle.ctd_names.proofs.mentions.+list_test.Goals as goal
 
 pub returns-in-Or : goal.returns-in-Or
 returns-in-Or t c = grind (arith, common_steps)
-
-pub returns-in-InArray : goal.returns-in-InArray
-returns-in-InArray t c = grind (arith, common_steps)
