@@ -92,9 +92,10 @@ pub(crate) fn list_kept<'p>(
 )
     ensures adds { Adds (items_in found.old) (kept_remarks (facts_known known.now) (command_tree command.now)) (items_in found.new) }
 {
-    if is_uncounted(counter_name(command), known)
-        && list_array_remarks(alloc, loop_body(command), found).is_err()
-    {
-        found.fail()
+    if is_uncounted(counter_name(command), known) {
+        match list_array_remarks(alloc, loop_body(command), found) {
+            Ok(()) => (),
+            Err(_) => found.fail(),
+        }
     }
 }
