@@ -9,7 +9,7 @@ ghost use Rattle.ctd_facts.specs.calls.LiteralValues.{no_variables};
 ghost use Rattle.ctd_facts.specs.calls.Facts.{facts_of};
 
 use crate::ranges::Ranges;
-use ctd_names::{CommandInBlock, NameSet, Role, names_in_role};
+use ctd_names::{CommandInBlock, NameSet, Role, all_mentions, names_in_role};
 use ctd_program::Presets;
 use ctd_value::Store;
 use std::alloc::{AllocError, Global};
@@ -64,28 +64,30 @@ fn has_all(known: &Known) -> bool
         && known.not_texts.is_complete
 }
 
-/// What is known of some commands beside these ranges. Where memory ran out for a name, not all is known.
+/// What is known of some commands beside these ranges. Where memory ran out for a name in a set, not all is known.
 fn known_with<'p>(
     alloc: Global,
     commands: &[CommandInBlock<'p>],
     presets: &'p Presets,
     ranges: Ranges<'p>,
     nothing: Store,
-) -> Known<'p>
+) -> Result<Known<'p>, AllocError>
     requires { (name : List ℕ) → range_known ranges name ≡ range_in (in_blocks commands.now) presets.now name }
-    ensures facts { has_all result ≡ true → facts_known result ≡ facts_of (in_blocks commands.now) presets.now }
-    ensures nothing { result.nothing ≡ nothing }
+    ensures facts { IfOk result (λ known. has_all known ≡ true → facts_known known ≡ facts_of (in_blocks commands.now) presets.now) }
+    ensures nothing { IfOk result (λ known. known.nothing ≡ nothing) }
 {
+    let found = all_mentions(alloc, commands)?;
+    let mentions = found.as_slice();
     let pins = presets.pins();
-    Known {
-        given: names_in_role(alloc, Role::Gives, commands, pins),
-        read: names_in_role(alloc, Role::Reads, commands, &[]),
-        read_elsewhere: names_in_role(alloc, Role::ReadsElsewhere, commands, &[]),
-        not_numbers: names_in_role(alloc, Role::GivesNoNumber, commands, pins),
-        not_texts: names_in_role(alloc, Role::GivesNoText, commands, pins),
+    Ok(Known {
+        given: names_in_role(alloc, Role::Gives, mentions, pins),
+        read: names_in_role(alloc, Role::Reads, mentions, &[]),
+        read_elsewhere: names_in_role(alloc, Role::ReadsElsewhere, mentions, &[]),
+        not_numbers: names_in_role(alloc, Role::GivesNoNumber, mentions, pins),
+        not_texts: names_in_role(alloc, Role::GivesNoText, mentions, pins),
         ranges,
         nothing,
-    }
+    })
 }
 
 /// What is known of some commands, where these presets are given.
@@ -99,7 +101,7 @@ pub fn known_of<'p>(
 {
     let nothing = empty_store(alloc)?;
     let ranges = Ranges::of(alloc, commands, presets, &nothing)?;
-    let known = known_with(alloc, commands, presets, ranges, nothing);
+    let known = known_with(alloc, commands, presets, ranges, nothing)?;
     if has_all(&known) {
         Ok(known)
     } else {

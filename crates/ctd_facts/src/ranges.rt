@@ -2,16 +2,20 @@
 
 ghost use Rattle.std.specs.Prelude.{◌≡◌, ◌++◌, ℕ, List, None, OnOk, IfOk};
 ghost use Rattle.ctd_program.specs.calls.View.{command_tree, expr_list, expr_tree, target};
-ghost use Rattle.ctd_names.specs.calls.Collector.{Adds, names_in};
+ghost use Rattle.ctd_names.specs.calls.Collector.{Adds, mentions_in};
 ghost use Rattle.ctd_facts.specs.calls.Known.{bounds_at, range_known};
 ghost use Rattle.ctd_facts.specs.inner.Views.{given_at};
 ghost use Rattle.ctd_names.specs.calls.Listed.{has_name, in_blocks, name_at};
 ghost use Rattle.ctd_facts.specs.calls.LiteralValues.{literal_number, no_variables};
 ghost use Rattle.ctd_names.specs.calls.Names.{is_among, preset_names};
-ghost use Rattle.ctd_facts.specs.calls.Ranges.{all_given_otherwise, bounds_by, gives_otherwise, joined, name_in, name_without, named_range, plain_name, range_among, range_given, range_in, widened};
+ghost use Rattle.ctd_names.specs.calls.Roles.{role_names};
+ghost use Rattle.ctd_names.specs.declared.roles.Role.TheVariants.{Gives};
+ghost use Rattle.ctd_facts.specs.calls.Ranges.{all_without_range, bounds_by, joined, name_in, name_without, named_range, plain_name, range_among, range_given, range_in, mentions_without_range, widened};
 
 use crate::literal::literal_number;
-use ctd_names::{Collector, CommandInBlock, NameSet, list_counts, list_presets, list_sets};
+use ctd_names::{
+    Collector, CommandInBlock, MentionedName, NameSet, Role, list_mentions, names_in_role,
+};
 use ctd_program::{Action, Command, Element, Expr, IntArguments, Presets, Var};
 use ctd_token::Name;
 use ctd_value::Store;
@@ -124,42 +128,41 @@ fn range_given<'p>(
             let bounds = literal_bounds(alloc, low, high, nothing)?;
             Ok(named_range(plain_name(target), bounds))
         }
-        _ => Ok(None),
+        Action::Space | Action::Newline | Action::Eof => Ok(None),
+        Action::String(_) | Action::Regex(_) | Action::Assert(_) => Ok(None),
+        Action::Set(_) | Action::Unset(_) | Action::Loop(_) | Action::If(_) => Ok(None),
     }
 }
 
-/// Adds the names to which a command gives a value in another way.
-fn list_given_otherwise<'p>(
+/// Adds the names in a command that gives none a range.
+fn list_without_range<'p>(
     alloc: Global,
     command: &'p Command,
     nothing: &Store,
-    names: &mut Collector<&'p Name>,
+    found: &mut Collector<MentionedName<'p>>,
 )
     requires { nothing.now ≡ no_variables }
-    ensures adds { Adds (names_in names.old) (gives_otherwise (command_tree command.now)) (names_in names.new) }
+    ensures adds { Adds (mentions_in found.old) (mentions_without_range (command_tree command.now)) (mentions_in found.new) }
 {
     match range_given(alloc, command, nothing) {
         Ok(Some(_)) => (),
-        Ok(None) => {
-            list_sets(command, names);
-            list_counts(command, names)
-        }
-        Err(_) => names.fail(),
+        Ok(None) => list_mentions(command, found),
+        Err(_) => found.fail(),
     }
 }
 
-/// Adds those of some commands.
-fn list_all_given_otherwise<'p>(
+/// Adds those in some commands.
+fn list_all_without_range<'p>(
     alloc: Global,
     commands: &[CommandInBlock<'p>],
     nothing: &Store,
-    names: &mut Collector<&'p Name>,
+    found: &mut Collector<MentionedName<'p>>,
 )
     requires { nothing.now ≡ no_variables }
-    ensures adds { Adds (names_in names.old) (all_given_otherwise (in_blocks commands.now)) (names_in names.new) }
+    ensures adds { Adds (mentions_in found.old) (all_without_range (in_blocks commands.now)) (mentions_in found.new) }
 {
     for entry in commands {
-        list_given_otherwise(alloc, entry.command, nothing, names);
+        list_without_range(alloc, entry.command, nothing, found);
     }
 }
 
@@ -171,12 +174,12 @@ fn names_given_otherwise<'p>(
     nothing: &Store,
 ) -> Result<NameSet<'p>, AllocError>
     requires { nothing.now ≡ no_variables }
-    ensures members { IfOk result (λ set. (name : List ℕ) → has_name name set ≡ is_among name (all_given_otherwise (in_blocks commands.now) ++ preset_names presets.now)) }
+    ensures members { IfOk result (λ set. (name : List ℕ) → has_name name set ≡ is_among name (role_names Gives (all_without_range (in_blocks commands.now)) ++ preset_names presets.now)) }
 {
-    let mut names = Collector::new(alloc);
-    list_all_given_otherwise(alloc, commands, nothing, &mut names);
-    list_presets(presets.pins(), &mut names);
-    let set = NameSet::of(alloc, names);
+    let mut found = Collector::new(alloc);
+    list_all_without_range(alloc, commands, nothing, &mut found);
+    let mentions = found.finish()?;
+    let set = names_in_role(alloc, Role::Gives, mentions.as_slice(), presets.pins());
     if set.is_complete {
         Ok(set)
     } else {

@@ -2,7 +2,7 @@
 
 ghost use Rattle.std.specs.Prelude.{◌≡◌};
 ghost use Rattle.ctd_program.specs.calls.View.{command_tree, expr_list, expr_tree, guard_tree, test_tree};
-ghost use Rattle.ctd_names.specs.calls.Assigned.{is_number, is_text};
+ghost use Rattle.ctd_names.specs.calls.Sort.{is_number, is_text};
 ghost use Rattle.ctd_facts.specs.calls.Sorts.{assignments_mix, differ, guard_mixes, has_wrong_sort, is_no_number, is_no_text, mixes, mixes_in, name_sort, sort_of, test_mixes};
 ghost use Rattle.ctd_names.specs.inner.Views.{assigned_trees};
 ghost use Rattle.ctd_facts.specs.calls.Known.{facts_known};
@@ -156,6 +156,7 @@ pub fn has_wrong_sort<'p>(command: &'p Command, known: &Known<'p>) -> bool
         Action::Set(assignments) => assignments_mix(assignments.as_slice(), known),
         Action::Loop(repeated) => guard_mixes(&repeated.guard, known),
         Action::If(choice) => test_mixes(&choice.condition, known),
-        _ => false,
+        Action::Space | Action::Newline | Action::Eof => false,
+        Action::Regex(_) | Action::Unset(_) => false,
     }
 }

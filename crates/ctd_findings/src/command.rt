@@ -2,13 +2,15 @@
 
 ghost use Rattle.std.specs.Prelude.{◌≡◌, ◌++◌, ◌∷◌, [], IfOk};
 ghost use Rattle.ctd_program.specs.calls.View.{command_tree, expr_tree, guard_tree, test_tree};
-ghost use Rattle.ctd_findings.specs.calls.Findings.{about, about_if, command_remarks, follows_endless, follows_eof, guard_test, is_above, is_empty_text, is_set_aside, loop_remarks, loop_test, own_remarks, part_remarks, pattern_remarks, place_remarks, remark_if, remark_unknown, remark_unread, takes_bytes, test_remarks, truth_remarks, unread_kind, use_remarks};
+ghost use Rattle.ctd_findings.specs.calls.Findings.{about, about_if, command_remarks, follows_endless, follows_eof, guard_test, is_above, is_empty_text, is_eof, is_set_aside, loop_remarks, loop_test, name_remarks, own_remarks, part_remarks, pattern_remarks, place_remarks, remark_if, remark_unknown, remark_unread, takes_bytes, test_remarks, truth_remarks, unread_kind, use_remarks};
 ghost use Rattle.ctd_names.specs.calls.Collector.{Adds, items_in};
-ghost use Rattle.ctd_names.specs.calls.Listed.{command_at, has_name, in_block, names_at};
+ghost use Rattle.ctd_names.specs.calls.Listed.{command_at, has_name, in_block, mentions_at};
 ghost use Rattle.ctd_facts.specs.calls.Known.{facts_known};
 ghost use Rattle.ctd_findings.specs.inner.Listed.{test_at};
-ghost use Rattle.ctd_names.specs.calls.Names.{reads, sets, unsets};
-ghost use Rattle.ctd_findings.specs.declared.kind.Kind.TheVariants.{EmptyRange, Unreachable};
+ghost use Rattle.ctd_names.specs.calls.Mentions.{mentions};
+ghost use Rattle.ctd_names.specs.calls.Roles.{role_names};
+ghost use Rattle.ctd_names.specs.declared.roles.Role.TheVariants.{Needs, Sets};
+ghost use Rattle.ctd_findings.specs.declared.kind.Kind.TheVariants.{EmptyRange, NoValue, Unreachable};
 ghost use Rattle.ctd_facts.specs.calls.LiteralValues.{literal_number, literal_truth, no_variables};
 ghost use Rattle.ctd_findings.specs.inner.Marks.{content_marks, form_marks, truth_marks};
 ghost use Rattle.std.specs.Option.{option_and_then};
@@ -22,8 +24,8 @@ use ctd_facts::{
     Known, has_same_names, has_same_sides, has_wrong_sort, literal_number, literal_truth,
 };
 use ctd_names::{
-    Collector, CommandInBlock, NameSet, counter_name, is_set_in, list_reads, list_sets,
-    list_unsets, loop_body, some_set_fixed,
+    Collector, CommandInBlock, MentionedName, NameSet, Role, counter_name, has_role, is_set_in,
+    loop_body, loop_of, mentions_of, some_set_fixed,
 };
 use ctd_outline::{Form, form_of};
 use ctd_program::{Action, Command, Expr, IntArguments, LoopGuard, Test};
@@ -41,7 +43,7 @@ pub(crate) fn remark_if(is_so: bool, kind: Kind, found: &mut Collector<Remark>)
 }
 
 /// Adds a remark about a name.
-fn remark_about(alloc: Global, kind: Kind, name: &Name, found: &mut Collector<Remark>)
+pub(crate) fn remark_about(alloc: Global, kind: Kind, name: &Name, found: &mut Collector<Remark>)
     ensures adds { Adds (items_in found.old) (about kind name.now ∷ []) (items_in found.new) }
 {
     match Bytes::copy(alloc, name.as_slice()) {
@@ -50,23 +52,6 @@ fn remark_about(alloc: Global, kind: Kind, name: &Name, found: &mut Collector<Re
             name: Some(bytes),
         }),
         Err(_) => found.fail(),
-    }
-}
-
-/// Adds a remark for each name that is not known.
-pub(crate) fn list_unknown<'p>(
-    alloc: Global,
-    kind: Kind,
-    names: &[&'p Name],
-    known: &NameSet<'p>,
-    found: &mut Collector<Remark>,
-)
-    ensures adds { Adds (items_in found.old) (remark_unknown kind (λ name. has_name name known.now) (names_at names.now)) (items_in found.new) }
-{
-    for name in names {
-        if !known.contains(name) {
-            remark_about(alloc, kind, name, found);
-        }
     }
 }
 
@@ -89,19 +74,60 @@ fn unread_kind(is_read: bool) -> Kind
     }
 }
 
-/// Adds a remark for each name that nothing but its own assignments reads, but for those that say so.
-fn list_unread_among<'p>(
+/// Adds a remark for each name that a command needs and nothing gives a value.
+fn list_without_value<'p>(
     alloc: Global,
-    names: &[&'p Name],
+    mentions: &[MentionedName<'p>],
+    given: &NameSet<'p>,
+    found: &mut Collector<Remark>,
+)
+    ensures adds { Adds (items_in found.old) (remark_unknown NoValue (λ name. has_name name given.now) (role_names Needs (mentions_at mentions.now))) (items_in found.new) }
+{
+    for m in mentions {
+        if has_role(Role::Needs, m.how) && !given.contains(m.name) {
+            remark_about(alloc, Kind::NoValue, m.name, found);
+        }
+    }
+}
+
+/// Adds a remark for each name that a command sets and nothing but its own assignments reads, but for those that say so.
+fn list_unread<'p>(
+    alloc: Global,
+    mentions: &[MentionedName<'p>],
     known: &Known<'p>,
     found: &mut Collector<Remark>,
 )
-    ensures adds { Adds (items_in found.old) (remark_unread (facts_known known.now) (names_at names.now)) (items_in found.new) }
+    ensures adds { Adds (items_in found.old) (remark_unread (facts_known known.now) (role_names Sets (mentions_at mentions.now))) (items_in found.new) }
 {
-    for name in names {
-        if !(known.read_elsewhere.contains(name) || is_set_aside(name)) {
-            remark_about(alloc, unread_kind(known.read.contains(name)), name, found);
+    for m in mentions {
+        let is_told = known.read_elsewhere.contains(m.name) || is_set_aside(m.name);
+        if has_role(Role::Sets, m.how) && !is_told {
+            remark_about(
+                alloc,
+                unread_kind(known.read.contains(m.name)),
+                m.name,
+                found,
+            );
         }
+    }
+}
+
+/// Adds the remarks on the names in a command.
+fn list_names<'p>(
+    alloc: Global,
+    command: &'p Command,
+    known: &Known<'p>,
+    found: &mut Collector<Remark>,
+)
+    ensures adds { Adds (items_in found.old) (name_remarks (facts_known known.now) (mentions (command_tree command.now))) (items_in found.new) }
+{
+    match mentions_of(alloc, command) {
+        Ok(mentions) => {
+            let names = mentions.as_slice();
+            list_without_value(alloc, names, &known.given, found);
+            list_unread(alloc, names, known, found)
+        }
+        Err(_) => found.fail(),
     }
 }
 
@@ -119,9 +145,9 @@ fn guard_test(guard: &LoopGuard) -> Option<&Test>
 fn loop_test(command: &Command) -> Option<&Test>
     ensures { test_at result ≡ loop_test (command_tree command.now) }
 {
-    match &command.action {
-        Action::Loop(repeated) => guard_test(&repeated.guard),
-        _ => None,
+    match loop_of(command) {
+        Some(repeated) => guard_test(&repeated.guard),
+        None => None,
     }
 }
 
@@ -271,42 +297,20 @@ fn list_own(alloc: Global, command: &Command, nothing: &Store, found: &mut Colle
         Action::Assert(t) => list_test(alloc, Some(t), nothing, found),
         Action::Loop(repeated) => list_test(alloc, guard_test(&repeated.guard), nothing, found),
         Action::If(choice) => list_test(alloc, Some(&choice.condition), nothing, found),
-        _ => (),
+        Action::Space | Action::Newline | Action::Eof => (),
+        Action::Set(_) | Action::Unset(_) => (),
     }
 }
 
-/// Adds a remark for each name that a command reads or unsets and nothing gives a value.
-fn list_without_value<'p>(
-    alloc: Global,
-    command: &'p Command,
-    given: &NameSet<'p>,
-    found: &mut Collector<Remark>,
-)
-    ensures adds { Adds (items_in found.old) (remark_unknown Kind.NoValue (λ name. has_name name given.now) (reads (command_tree command.now) ++ unsets (command_tree command.now))) (items_in found.new) }
+/// Whether a command is EOF.
+fn is_eof(command: &Command) -> bool
+    ensures { result ≡ is_eof (command_tree command.now) }
 {
-    let mut names = Collector::new(alloc);
-    list_reads(command, &mut names);
-    list_unsets(command, &mut names);
-    match names.finish() {
-        Ok(names) => list_unknown(alloc, Kind::NoValue, names.as_slice(), given, found),
-        Err(_) => found.fail(),
-    }
-}
-
-/// Adds a remark for each name to which a command gives a value and that nothing else reads.
-fn list_unread<'p>(
-    alloc: Global,
-    command: &'p Command,
-    known: &Known<'p>,
-    found: &mut Collector<Remark>,
-)
-    ensures adds { Adds (items_in found.old) (remark_unread (facts_known known.now) (sets (command_tree command.now))) (items_in found.new) }
-{
-    let mut names = Collector::new(alloc);
-    list_sets(command, &mut names);
-    match names.finish() {
-        Ok(names) => list_unread_among(alloc, names.as_slice(), known, found),
-        Err(_) => found.fail(),
+    match &command.action {
+        Action::Eof => true,
+        Action::Space | Action::Newline | Action::Int(_) | Action::String(_) => false,
+        Action::Regex(_) | Action::Assert(_) | Action::Set(_) => false,
+        Action::Unset(_) | Action::Loop(_) | Action::If(_) => false,
     }
 }
 
@@ -315,7 +319,7 @@ fn follows_eof(previous: Option<&Command>) -> bool
     ensures { result ≡ follows_eof (command_at previous.entry) }
 {
     match previous {
-        Some(command) => matches!(command.action, Action::Eof),
+        Some(command) => is_eof(command),
         None => false,
     }
 }
@@ -326,7 +330,9 @@ fn takes_bytes(command: &Command) -> bool
 {
     match &command.action {
         Action::Space | Action::Newline | Action::Int(_) => true,
-        _ => false,
+        Action::Eof | Action::String(_) | Action::Regex(_) => false,
+        Action::Assert(_) | Action::Set(_) | Action::Unset(_) => false,
+        Action::Loop(_) | Action::If(_) => false,
     }
 }
 
@@ -406,8 +412,7 @@ fn list_uses<'p>(
 {
     let command = entry.command;
     list_place(alloc, entry, &known.nothing, found);
-    list_without_value(alloc, command, &known.given, found);
-    list_unread(alloc, command, known, found);
+    list_names(alloc, command, known, found);
     remark_if(has_wrong_sort(command, known), Kind::WrongSort, found)
 }
 

@@ -62,6 +62,8 @@ pub(crate) fn list_test_range<'p>(
         Action::Assert(t) => list_range(alloc, Kind::RepeatsBounds, t, known, found),
         Action::Loop(repeated) => list_guard_range(alloc, &repeated.guard, known, found),
         Action::If(choice) => list_range(alloc, Kind::RangeTrue, &choice.condition, known, found),
-        _ => (),
+        Action::Space | Action::Newline | Action::Eof | Action::Int(_) => (),
+        Action::String(_) | Action::Regex(_) => (),
+        Action::Set(_) | Action::Unset(_) => (),
     }
 }

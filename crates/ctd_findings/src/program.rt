@@ -7,20 +7,20 @@ ghost use Rattle.ctd_facts.specs.calls.Facts.{facts_of, is_mentioned_in};
 ghost use Rattle.ctd_findings.specs.calls.Findings.{command_remarks, findings_among, findings_at, findings_in, findings_of, preset_findings, remark_unknown};
 ghost use Rattle.ctd_names.specs.calls.Collector.{Adds, items_in};
 ghost use Rattle.ctd_facts.specs.calls.Known.{facts_known};
-ghost use Rattle.ctd_names.specs.calls.Listed.{has_name, in_block, in_blocks, names_at};
+ghost use Rattle.ctd_names.specs.calls.Listed.{has_name, in_block, in_blocks};
 ghost use Rattle.ctd_facts.specs.calls.LiteralValues.{no_variables};
 ghost use Rattle.ctd_names.specs.calls.Names.{preset_names};
 ghost use Rattle.ctd_findings.specs.declared.kind.Kind.TheVariants.{UnknownPreset};
 
-use crate::command::{command_remarks, list_unknown};
+use crate::command::{command_remarks, remark_about};
 use crate::finding::{Finding, Remark};
 use crate::kind::Kind;
 use ctd_facts::{Known, known_of};
 use ctd_names::{
-    Collector, CommandInBlock, NameSet, Role, all_commands, list_presets, names_in_role,
+    Collector, CommandInBlock, NameSet, Role, all_commands, all_mentions, names_in_role,
 };
 use ctd_program::{Command, Preset, Presets};
-use ctd_token::{Name, Place};
+use ctd_token::Place;
 use std::alloc::{AllocError, Global};
 
 /// Where a program starts.
@@ -35,13 +35,20 @@ fn place_all(place: Place, remarks: Vec<Remark>, found: &mut Collector<Finding>)
     }
 }
 
-/// The names of presets.
-fn names_of<'p>(alloc: Global, presets: &'p [Preset]) -> Result<Vec<&'p Name>, AllocError>
-    ensures { IfOk result (λ names. names_at names.items ≡ preset_names presets.now) }
+/// Adds a remark for each preset with a name that is not among those that a program mentions.
+fn list_unknown<'p>(
+    alloc: Global,
+    presets: &'p [Preset],
+    mentioned: &NameSet<'p>,
+    found: &mut Collector<Remark>,
+)
+    ensures adds { Adds (items_in found.old) (remark_unknown UnknownPreset (λ name. has_name name mentioned.now) (preset_names presets.now)) (items_in found.new) }
 {
-    let mut names = Collector::new(alloc);
-    list_presets(presets, &mut names);
-    names.finish()
+    for preset in presets {
+        if !mentioned.contains(&preset.name) {
+            remark_about(alloc, Kind::UnknownPreset, &preset.name, found);
+        }
+    }
 }
 
 /// The remarks on presets with names that are not among those that a program mentions.
@@ -52,15 +59,8 @@ fn preset_remarks<'p>(
 ) -> Result<Vec<Remark>, AllocError>
     ensures { IfOk result (λ found. found.items ≡ remark_unknown UnknownPreset (λ name. has_name name mentioned.now) (preset_names presets.now)) }
 {
-    let names = names_of(alloc, presets)?;
     let mut found = Collector::new(alloc);
-    list_unknown(
-        alloc,
-        Kind::UnknownPreset,
-        names.as_slice(),
-        mentioned,
-        &mut found,
-    );
+    list_unknown(alloc, presets, mentioned, &mut found);
     found.finish()
 }
 
@@ -72,7 +72,8 @@ fn unknown_presets<'p>(
 ) -> Result<Vec<Remark>, AllocError>
     ensures { IfOk result (λ found. found.items ≡ remark_unknown UnknownPreset (is_mentioned_in (in_blocks commands.now)) (preset_names presets.now)) }
 {
-    let mentioned = names_in_role(alloc, Role::Mentions, commands, &[]);
+    let mentions = all_mentions(alloc, commands)?;
+    let mentioned = names_in_role(alloc, Role::Mentions, mentions.as_slice(), &[]);
     if mentioned.is_complete {
         preset_remarks(alloc, presets, &mentioned)
     } else {

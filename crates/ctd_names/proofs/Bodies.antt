@@ -1,5 +1,6 @@
 -- What the bodies of loops and of IF set, by what their boxes hold.
-use Rattle.std.proofs.Common.{◌≡◌, ℕ, List, ◌||◌, sym, ap, ap₂, ◌∙◌}
+use Rattle.std.proofs.Common.{◌≡◌, ℕ, List, Some, ◌||◌, sym, ap, ap₂, ◌∙◌}
+use Rattle.std.specs.Borrow.{Bor}
 use Rattle.std.specs.Global.{Box}
 use Rattle.ctd_token.specs.declared.text.Place.{Place}
 use Rattle.ctd_program.specs.declared.tree.Command.{Command}
@@ -12,15 +13,16 @@ use Rattle.ctd_program.specs.declared.tree.Choice.{Choice, out-Choice}
 use Rattle.ctd_program.specs.calls.View.{action_tree, boxed_target, command_list, command_trees, commands_of}
 use Rattle.ctd_program.specs.inner.View.{boxed_separator}
 use Rattle.ctd_program.proofs.Trees.{list_commands, loop_tree, choice_tree}
-use Rattle.ctd_names.specs.calls.Loops.{is_named, is_set_between, is_set_by, is_set_in, loop_body}
+use Rattle.ctd_names.specs.calls.Loops.{is_named, is_set_between, is_set_by, is_set_in, loop_of}
+use Rattle.ctd_names.specs.calls.Listed.{loop_at}
 
 -- the trees of a block, from its two sides
-block_trees : (block : Commands) (cs : List Command) → cs ≡ commands_of block → command_trees cs ≡ command_list block
+pub block_trees : (block : Commands) (cs : List Command) → cs ≡ commands_of block → command_trees cs ≡ command_list block
 block_trees block cs is = ap command_trees is ∙ sym (list_commands block)
 
-pub body_of_loop : (a : Action) (x : Box Loop) (l : Loop) (place : Place) (cs : List Command) → a ≡ actions.Loop x → l ≡ x.value → cs ≡ commands_of (out-Loop l).body
-    → command_trees cs ≡ loop_body (action_tree a place)
-body_of_loop a x l place cs is held body = block_trees (out-Loop l).body cs body ∙ sym (ap loop_body (loop_tree a x l place is held))
+-- a loop, by what its box holds
+pub loop_parts : (a : Action) (x : Box Loop) (l : Bor Loop) (place : Place) → a ≡ actions.Loop x → l.now ≡ x.value → loop_at (Some l) ≡ loop_of (action_tree a place)
+loop_parts a x l place is held = sym (ap loop_of (loop_tree a x l.now place is held))
 
 pub set_by_loop : (name : List ℕ) (a : Action) (x : Box Loop) (l : Loop) (place : Place) (cs : List Command) → a ≡ actions.Loop x → l ≡ x.value → cs ≡ commands_of (out-Loop l).body
     → is_set_by name (action_tree a place) ≡ (is_named name (boxed_target (out-Loop l).counter) || is_set_between name (boxed_separator (out-Loop l).between) || is_set_in name (command_trees cs))

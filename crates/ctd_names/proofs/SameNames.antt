@@ -10,7 +10,7 @@ use Rattle.ctd_names.specs.calls.Names.{NameList, is_among, is_in}
 use Rattle.ctd_names.specs.calls.Listed.{names_at}
 use Rattle.ctd_names.proofs.NameSets.{name_first}
 
-same_is_equal : (a b : List ℕ) → same_bytes a b ≡ bytes_eq a b
+pub same_is_equal : (a b : List ℕ) → same_bytes a b ≡ bytes_eq a b
 same_is_equal a b = is_eq-slice_cmp a b
 
 -- the next name is the one that is looked for

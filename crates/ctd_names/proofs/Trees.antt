@@ -1,5 +1,5 @@
 -- What stands in loops and IF, by what their boxes hold.
-use Rattle.std.proofs.Common.{◌≡◌, List, [], ◌∷◌, ◌++◌, None, sym, ap, ap₂, ◌∙◌}
+use Rattle.std.proofs.Common.{◌≡◌, List, ◌++◌, None, sym, ap, ap₂, ◌∙◌}
 use Rattle.std.specs.Global.{Box}
 use Rattle.ctd_token.specs.declared.text.Place.{Place}
 use Rattle.ctd_program.specs.declared.tree.Command.{Command}
@@ -17,7 +17,6 @@ use Rattle.ctd_program.specs.inner.View.{boxed_separator}
 use Rattle.ctd_program.proofs.Trees.{boxed_element, list_commands, loop_tree, choice_tree}
 use Rattle.ctd_program.specs.Tree
 use Rattle.ctd_names.specs.calls.Block.{commands_behind, commands_within, separator_command}
-use Rattle.ctd_names.specs.calls.Names.{expr_names, index_names}
 
 -- the commands of a block
 block_commands : (block : Commands) (cs : List Command) → cs ≡ commands_of block → commands_behind None (command_trees cs) ≡ commands_behind None (command_list block)
@@ -40,11 +39,3 @@ element_tree e x el indexed es is held held_too all =
     ap expr_tree is ∙ boxed_element x
     ∙ ap (λ n. Tree.variable n (expr_list (exprs_of x.value.indices))) (ap (λ (y : elements.Element). y.name) (sym held))
     ∙ ap (λ l. Tree.variable el.name (expr_list l)) (sym (all ∙ ap (λ (y : elements.Element). exprs_of y.indices) held_too))
-
--- the names in an element, by what its box holds
-pub element_names : (e : Expr) (x : Box elements.Element) (el indexed : elements.Element) (es : List Expr) → e ≡ Element x → el ≡ x.value → indexed ≡ x.value → es ≡ exprs_of indexed.indices
-    → expr_names (expr_tree e) ≡ (el.name ∷ []) ++ index_names (expr_list es)
-element_names e x el indexed es is held held_too all =
-    ap (λ e. expr_names (expr_tree e)) is ∙ ap expr_names (boxed_element x)
-    ∙ ap (λ n. n ∷ index_names (expr_list (exprs_of x.value.indices))) (ap (λ (y : elements.Element). y.name) (sym held))
-    ∙ ap (λ l. el.name ∷ index_names (expr_list l)) (sym (all ∙ ap (λ (y : elements.Element). exprs_of y.indices) held_too))

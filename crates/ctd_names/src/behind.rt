@@ -2,18 +2,17 @@
 
 ghost use Rattle.std.specs.Prelude.{◌≡◌, IfOk};
 ghost use Rattle.ctd_program.specs.calls.View.{boxed_target, command_tree, command_trees, guard_tree};
-ghost use Rattle.ctd_names.specs.calls.Listed.{name_at, names_at};
-ghost use Rattle.ctd_names.specs.calls.Behind.{is_changed_by, is_loop, is_read_behind, is_read_by, repi_counter, turns_counter};
-ghost use Rattle.ctd_names.specs.calls.Names.{is_among, unsets};
+ghost use Rattle.ctd_names.specs.calls.Listed.{name_at};
+ghost use Rattle.ctd_names.specs.calls.Behind.{is_changed_by, is_read_behind, is_read_by, repi_counter, turns_counter};
 
-use crate::block::list_within;
-use crate::found::Collector;
-use crate::loops::{boxed_name, is_set_by};
-use crate::names::{is_in, list_reads};
-use crate::roles::{Role, list_all_in_role};
-use ctd_program::{Action, Command, Loop, LoopGuard, Var};
+use crate::block::all_commands;
+use crate::loops::{boxed_name, is_set_by, loop_of};
+use crate::mentions::{all_mentions, mentions_of};
+use crate::roles::{Role, is_in_role};
+use ctd_program::{Command, LoopGuard, Var};
 use ctd_token::Name;
 use std::alloc::{AllocError, Global};
+use std::slice;
 
 /// The name of a counter, where its loop has a number of turns that is known before the first.
 fn turns_counter<'p>(guard: &LoopGuard, counter: &'p Option<Box<Var>>) -> Option<&'p Name>
@@ -29,65 +28,27 @@ fn turns_counter<'p>(guard: &LoopGuard, counter: &'p Option<Box<Var>>) -> Option
 pub fn repi_counter(command: &Command) -> Option<&Name>
     ensures { name_at result ≡ repi_counter (command_tree command.now) }
 {
-    match &command.action {
-        Action::Loop(repeated) => {
-            let Loop { guard, counter, .. } = &**repeated;
-            turns_counter(guard, counter)
-        }
-        _ => None,
+    match loop_of(command) {
+        Some(repeated) => turns_counter(&repeated.guard, &repeated.counter),
+        None => None,
     }
-}
-
-/// Whether a command is a loop.
-fn is_loop(command: &Command) -> bool
-    ensures { result ≡ is_loop (command_tree command.now) }
-{
-    match &command.action {
-        Action::Loop(_) => true,
-        _ => false,
-    }
-}
-
-/// Whether a name is one of these.
-fn is_among(name: &Name, names: &[&Name]) -> bool
-    ensures { result ≡ is_among name.now (names_at names.now) }
-{
-    for other in names {
-        if name.as_slice() == other.as_slice() {
-            return true;
-        }
-    }
-    false
 }
 
 /// Whether a command, or one in it, reads a name.
 fn is_read_by(alloc: Global, name: &Name, command: &Command) -> Result<bool, AllocError>
     ensures { IfOk result (λ read. read ≡ is_read_by name.now (command_tree command.now)) }
 {
-    let mut within = Collector::new(alloc);
-    list_within(command, &mut within);
-    let within = within.finish()?;
-    let mut names = Collector::new(alloc);
-    list_reads(command, &mut names);
-    list_all_in_role(alloc, Role::Reads, within.as_slice(), &mut names);
-    Ok(is_among(name, names.finish()?.as_slice()))
-}
-
-/// Whether a command forgets the values of a name.
-fn is_unset_by(name: &Name, command: &Command) -> bool
-    ensures { result ≡ is_among name.now (unsets (command_tree command.now)) }
-{
-    match &command.action {
-        Action::Unset(names) => is_in(name, names.as_slice()),
-        _ => false,
-    }
+    let commands = all_commands(alloc, slice::from_ref(command))?;
+    let mentions = all_mentions(alloc, commands.as_slice())?;
+    Ok(is_in_role(name, Role::Reads, mentions.as_slice()))
 }
 
 /// Whether a command, or one in it, gives a name a value, or the command forgets its values.
-fn is_changed_by(name: &Name, command: &Command) -> bool
-    ensures { result ≡ is_changed_by name.now (command_tree command.now) }
+fn is_changed_by(alloc: Global, name: &Name, command: &Command) -> Result<bool, AllocError>
+    ensures { IfOk result (λ changed. changed ≡ is_changed_by name.now (command_tree command.now)) }
 {
-    is_set_by(name, command) || is_unset_by(name, command)
+    let mentions = mentions_of(alloc, command)?;
+    Ok(is_set_by(name, command) | is_in_role(name, Role::Forgets, mentions.as_slice()))
 }
 
 /// Whether a name is read in the commands behind a loop.
@@ -95,13 +56,13 @@ pub fn is_read_behind(alloc: Global, name: &Name, commands: &[Command]) -> Resul
     ensures { IfOk result (λ read. read ≡ is_read_behind name.now (command_trees commands.now)) }
 {
     for command in commands {
-        if is_changed_by(name, command) {
+        if is_changed_by(alloc, name, command)? {
             return Ok(false);
         }
         if is_read_by(alloc, name, command)? {
             return Ok(true);
         }
-        if is_loop(command) {
+        if loop_of(command).is_some() {
             return Ok(false);
         }
     }

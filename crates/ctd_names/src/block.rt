@@ -40,7 +40,7 @@ fn list_block<'p>(commands: &'p [Command], found: &mut Collector<CommandInBlock<
 
 /// Adds the commands in a command.
 #[cycle(block)]
-pub(crate) fn list_within<'p>(command: &'p Command, found: &mut Collector<CommandInBlock<'p>>)
+fn list_within<'p>(command: &'p Command, found: &mut Collector<CommandInBlock<'p>>)
     ensures adds { Adds (blocks_in found.old) (commands_within (command_tree command.now)) (blocks_in found.new) }
 {
     match &command.action {
@@ -58,7 +58,9 @@ pub(crate) fn list_within<'p>(command: &'p Command, found: &mut Collector<Comman
             list_block(then_do.as_slice(), found);
             list_block(else_do.as_slice(), found)
         }
-        _ => (),
+        Action::Space | Action::Newline | Action::Eof | Action::Int(_) => (),
+        Action::String(_) | Action::Regex(_) | Action::Assert(_) => (),
+        Action::Set(_) | Action::Unset(_) => (),
     }
 }
 

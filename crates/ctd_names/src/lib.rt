@@ -1,22 +1,24 @@
 //! The names in a program: which of them its commands read, set and forget.
 #![tactic(auto)]
 
-mod assigned;
 mod behind;
 mod block;
-mod cases;
 mod found;
 mod loops;
+mod mentions;
 mod name_set;
 mod names;
 mod roles;
+mod sort;
 
-pub use assigned::{Sort, is_number, is_text};
 pub use behind::{is_read_behind, repi_counter};
 pub use block::{CommandInBlock, all_commands};
-pub use cases::{list_all_arrays, names_filled, names_unset};
 pub use found::Collector;
-pub use loops::{counter_name, is_set_in, loop_body, some_set_fixed};
+pub use loops::{counter_name, is_set_in, loop_body, loop_of, some_set_fixed};
+pub use mentions::{
+    MentionedName, Use, all_mentions, body_mentions, list_mentions, loops_mentions, mentions_of,
+};
 pub use name_set::NameSet;
-pub use names::{is_in, list_counts, list_reads, list_sets, list_unsets};
-pub use roles::{Role, list_presets, names_in_role};
+pub use names::is_in;
+pub use roles::{Role, has_role, names_in_role};
+pub use sort::{Sort, is_number, is_text};

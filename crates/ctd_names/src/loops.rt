@@ -3,9 +3,9 @@
 ghost use Rattle.std.specs.Prelude.{◌≡◌};
 ghost use Rattle.ctd_program.specs.calls.View.{boxed_target, command_tree, command_trees, expr_list, expr_tree, target};
 ghost use Rattle.ctd_program.specs.inner.View.{boxed_separator};
-ghost use Rattle.ctd_names.specs.calls.Loops.{are_numerals, assigns, counter_name, has_numerals, is_fixed, is_named, is_numeral, is_set_between, is_set_by, is_set_in, loop_body, sets_fixed, some_set_fixed, var_name};
+ghost use Rattle.ctd_names.specs.calls.Loops.{are_numerals, assigns, counter_name, has_numerals, is_fixed, is_named, is_numeral, is_set_between, is_set_by, is_set_in, loop_body, loop_of, sets_fixed, some_set_fixed, var_name};
 ghost use Rattle.ctd_names.specs.inner.Views.{assigned_trees};
-ghost use Rattle.ctd_names.specs.calls.Listed.{name_at};
+ghost use Rattle.ctd_names.specs.calls.Listed.{loop_at, name_at};
 
 use ctd_program::{Action, Assignment, Choice, Command, Expr, Loop, Var};
 use ctd_token::Name;
@@ -61,7 +61,9 @@ fn sets_fixed(command: &Command) -> bool
     match &command.action {
         Action::Int(int) => is_fixed(&int.target),
         Action::Regex(regex) => is_fixed(&regex.target),
-        _ => false,
+        Action::Space | Action::Newline | Action::Eof | Action::String(_) => false,
+        Action::Assert(_) | Action::Set(_) | Action::Unset(_) => false,
+        Action::Loop(_) | Action::If(_) => false,
     }
 }
 
@@ -126,8 +128,8 @@ pub(crate) fn is_set_by(name: &Name, command: &Command) -> bool
                 ..
             } = &**repeated;
             is_counter(name, counter)
-                || is_set_between(name, between)
-                || is_set_in(name, body.as_slice())
+                | is_set_between(name, between)
+                | is_set_in(name, body.as_slice())
         }
         Action::If(choice) => {
             let Choice {
@@ -135,9 +137,10 @@ pub(crate) fn is_set_by(name: &Name, command: &Command) -> bool
                 else_do,
                 ..
             } = &**choice;
-            is_set_in(name, then_do.as_slice()) || is_set_in(name, else_do.as_slice())
+            is_set_in(name, then_do.as_slice()) | is_set_in(name, else_do.as_slice())
         }
-        _ => false,
+        Action::Space | Action::Newline | Action::Eof | Action::String(_) => false,
+        Action::Assert(_) | Action::Unset(_) => false,
     }
 }
 
@@ -165,16 +168,25 @@ pub fn is_set_in(name: &Name, commands: &[Command]) -> bool
     false
 }
 
+/// A loop, if a command is one.
+pub fn loop_of(command: &Command) -> Option<&Loop>
+    ensures { loop_at result ≡ loop_of (command_tree command.now) }
+{
+    match &command.action {
+        Action::Loop(repeated) => Some(&**repeated),
+        Action::Space | Action::Newline | Action::Eof | Action::Int(_) => None,
+        Action::String(_) | Action::Regex(_) | Action::Assert(_) => None,
+        Action::Set(_) | Action::Unset(_) | Action::If(_) => None,
+    }
+}
+
 /// The commands that each turn of a loop does: none where a command is no loop.
 pub fn loop_body(command: &Command) -> &[Command]
     ensures { command_trees result.now ≡ loop_body (command_tree command.now) }
 {
-    match &command.action {
-        Action::Loop(repeated) => {
-            let Loop { body, .. } = &**repeated;
-            body.as_slice()
-        }
-        _ => &[],
+    match loop_of(command) {
+        Some(repeated) => repeated.body.as_slice(),
+        None => &[],
     }
 }
 
@@ -192,8 +204,8 @@ pub(crate) fn boxed_name(counter: &Option<Box<Var>>) -> Option<&Name>
 pub fn counter_name(command: &Command) -> Option<&Name>
     ensures { name_at result ≡ counter_name (command_tree command.now) }
 {
-    match &command.action {
-        Action::Loop(repeated) => boxed_name(&repeated.counter),
-        _ => None,
+    match loop_of(command) {
+        Some(repeated) => boxed_name(&repeated.counter),
+        None => None,
     }
 }

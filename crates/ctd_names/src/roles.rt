@@ -1,97 +1,109 @@
 //! The names that have a role in commands.
 
-ghost use Rattle.std.specs.Prelude.{◌++◌};
-ghost use Rattle.ctd_program.specs.calls.View.{command_tree};
+ghost use Rattle.std.specs.Prelude.{◌≡◌, ◌++◌};
 ghost use Rattle.ctd_names.specs.calls.Collector.{Adds, names_in};
-ghost use Rattle.ctd_names.specs.calls.Listed.{in_blocks};
-ghost use Rattle.ctd_names.specs.calls.Roles.{all_of, role_names};
+ghost use Rattle.ctd_names.specs.calls.Listed.{mentions_at};
+ghost use Rattle.ctd_names.specs.calls.Names.{is_among, preset_names};
+ghost use Rattle.ctd_names.specs.calls.Roles.{has_role, role_names};
 ghost use Rattle.ctd_names.specs.calls.Sets.{HasNames};
-ghost use Rattle.ctd_names.specs.calls.Names.{preset_names};
 
-use crate::assigned::{list_not_numbers, list_not_texts};
-use crate::block::CommandInBlock;
 use crate::found::Collector;
+use crate::mentions::{MentionedName, Use};
 use crate::name_set::NameSet;
-use crate::names::{
-    list_counts, list_name, list_reads, list_reads_elsewhere, list_sets, list_unsets,
-};
-use ctd_program::{Command, Preset};
+use crate::names::{list_name, list_presets};
+use crate::sort::{is_number, is_text};
+use ctd_program::Preset;
 use ctd_token::Name;
 use std::alloc::Global;
 
-/// What a command does with names.
+/// What may be asked of the use of a name.
 #[derive(Clone, Copy)]
 pub enum Role {
-    /// It gives them values.
-    Gives,
-    /// It reads them.
-    Reads,
-    /// It reads them elsewhere than in their own assignments.
-    ReadsElsewhere,
-    /// It gives them what may be no number.
-    GivesNoNumber,
-    /// It gives them what may be no string.
-    GivesNoText,
-    /// It mentions them.
+    /// The command has the name.
     Mentions,
+    /// It reads it.
+    Reads,
+    /// It reads it elsewhere than in its own assignment.
+    ReadsElsewhere,
+    /// It looks at all values of it.
+    LooksAtAll,
+    /// It forgets the values of it.
+    Forgets,
+    /// It reads it or forgets its values, so it needs one.
+    Needs,
+    /// INT, REGEX or SET gives it a value.
+    Sets,
+    /// One of these or a loop gives it a value.
+    Gives,
+    /// It gives it what may be no number.
+    GivesNoNumber,
+    /// It gives it what may be no string.
+    GivesNoText,
+    /// INT, REGEX or SET gives an element of it a value.
+    Fills,
 }
 
-/// Adds the names of a command that have a role in it.
-fn list_role<'p>(alloc: Global, role: Role, command: &'p Command, found: &mut Collector<&'p Name>)
-    ensures adds { Adds (names_in found.old) (role_names role (command_tree command.now)) (names_in found.new) }
+/// Whether a use has a role.
+pub fn has_role(role: Role, how: Use) -> bool
+    ensures { result ≡ has_role role how }
 {
-    match role {
-        Role::Gives => {
-            list_sets(command, found);
-            list_counts(command, found)
+    match how {
+        Use::Reads => matches!(
+            role,
+            Role::Mentions | Role::Reads | Role::ReadsElsewhere | Role::Needs
+        ),
+        Use::ReadsForItself => matches!(role, Role::Mentions | Role::Reads | Role::Needs),
+        Use::LooksAtAll => matches!(
+            role,
+            Role::Mentions | Role::Reads | Role::ReadsElsewhere | Role::LooksAtAll | Role::Needs
+        ),
+        Use::Forgets => matches!(role, Role::Mentions | Role::Forgets | Role::Needs),
+        Use::Sets { sort, is_element } => match role {
+            Role::Mentions | Role::Sets | Role::Gives => true,
+            Role::GivesNoNumber => !is_number(sort),
+            Role::GivesNoText => !is_text(sort),
+            Role::Fills => is_element,
+            Role::Reads | Role::ReadsElsewhere | Role::LooksAtAll => false,
+            Role::Forgets | Role::Needs => false,
+        },
+        Use::Counts => matches!(role, Role::Mentions | Role::Gives | Role::GivesNoText),
+    }
+}
+
+/// Adds the names that have a role where they stand.
+fn list_in_role<'p>(role: Role, mentions: &[MentionedName<'p>], found: &mut Collector<&'p Name>)
+    ensures adds { Adds (names_in found.old) (role_names role (mentions_at mentions.now)) (names_in found.new) }
+{
+    for m in mentions {
+        if has_role(role, m.how) {
+            list_name(m.name, found);
         }
-        Role::Reads => list_reads(command, found),
-        Role::ReadsElsewhere => list_reads_elsewhere(alloc, command, found),
-        Role::GivesNoNumber => list_not_numbers(command, found),
-        Role::GivesNoText => list_not_texts(command, found),
-        Role::Mentions => {
-            list_reads(command, found);
-            list_unsets(command, found);
-            list_sets(command, found);
-            list_counts(command, found)
+    }
+}
+
+/// Whether a name has a role in one of the places where it stands.
+pub(crate) fn is_in_role(name: &Name, role: Role, mentions: &[MentionedName]) -> bool
+    ensures { result ≡ is_among name.now (role_names role (mentions_at mentions.now)) }
+{
+    for m in mentions {
+        if has_role(role, m.how) && name.as_slice() == m.name.as_slice() {
+            return true;
         }
     }
+    false
 }
 
-/// Adds those of some commands.
-pub(crate) fn list_all_in_role<'p>(
-    alloc: Global,
-    role: Role,
-    commands: &[CommandInBlock<'p>],
-    found: &mut Collector<&'p Name>,
-)
-    ensures adds { Adds (names_in found.old) (all_of role (in_blocks commands.now)) (names_in found.new) }
-{
-    for entry in commands {
-        list_role(alloc, role, entry.command, found);
-    }
-}
-
-/// Adds the names of presets.
-pub fn list_presets<'p>(presets: &'p [Preset], found: &mut Collector<&'p Name>)
-    ensures adds { Adds (names_in found.old) (preset_names presets.now) (names_in found.new) }
-{
-    for preset in presets {
-        list_name(&preset.name, found);
-    }
-}
-
-/// The names that have a role in some commands, and those of these presets.
+/// The set of the names that have a role where they stand, and of those of these presets.
 pub fn names_in_role<'p>(
     alloc: Global,
     role: Role,
-    commands: &[CommandInBlock<'p>],
+    mentions: &[MentionedName<'p>],
     presets: &'p [Preset],
 ) -> NameSet<'p>
-    ensures members { HasNames result (all_of role (in_blocks commands.now) ++ preset_names presets.now) }
+    ensures members { HasNames result (role_names role (mentions_at mentions.now) ++ preset_names presets.now) }
 {
     let mut found = Collector::new(alloc);
-    list_all_in_role(alloc, role, commands, &mut found);
+    list_in_role(role, mentions, &mut found);
     list_presets(presets, &mut found);
     NameSet::of(alloc, found)
 }

@@ -1,11 +1,7 @@
 //! The names of a program. No contract speaks of them: of a name that is not listed nothing is known.
 
-use ctd_names::{
-    Collector, CommandInBlock, all_commands, list_counts, list_presets, list_reads, list_sets,
-    list_unsets,
-};
-use ctd_program::{Action, Command, Presets};
-use ctd_token::Name;
+use ctd_names::{CommandInBlock, MentionedName, all_commands, all_mentions};
+use ctd_program::{Action, Command, Preset, Presets};
 use std::alloc::{AllocError, Global};
 
 /// The names of a program and of presets, each once, and what one pass over the program costs.
@@ -15,33 +11,18 @@ pub(crate) struct Mentioned<'p> {
     pub(crate) cost: u64,
 }
 
-/// Adds the names that a command mentions.
-fn list_mentioned<'p>(command: &'p Command, found: &mut Collector<&'p Name>) {
-    list_reads(command, found);
-    list_unsets(command, found);
-    list_sets(command, found);
-    list_counts(command, found)
-}
-
-/// The names that commands and presets mention, as often as they do.
-fn all_mentioned<'p>(
+/// The names that stand in some places and those of presets, each once.
+fn each_once<'p>(
     alloc: Global,
-    commands: &[CommandInBlock<'p>],
-    presets: &'p Presets,
-) -> Result<Vec<&'p Name>, AllocError> {
-    let mut found = Collector::new(alloc);
-    for entry in commands {
-        list_mentioned(entry.command, &mut found);
+    places: &[MentionedName<'p>],
+    presets: &'p [Preset],
+) -> Result<Vec<&'p [u8]>, AllocError> {
+    let mut once = Vec::with_capacity(alloc, places.len().saturating_add(presets.len()))?;
+    for place in places {
+        once.push(place.name.as_slice())?;
     }
-    list_presets(presets.pins(), &mut found);
-    found.finish()
-}
-
-/// Some names, each once.
-fn each_once<'p>(alloc: Global, names: &[&'p Name]) -> Result<Vec<&'p [u8]>, AllocError> {
-    let mut once = Vec::with_capacity(alloc, names.len())?;
-    for name in names {
-        once.push(name.as_slice())?;
+    for preset in presets {
+        once.push(preset.name.as_slice())?;
     }
     once.sort()?;
     once.dedup();
@@ -70,11 +51,13 @@ pub(crate) fn mentioned_in<'p>(
     presets: &'p Presets,
 ) -> Result<Mentioned<'p>, AllocError> {
     let entries = all_commands(alloc, commands)?;
-    let places = all_mentioned(alloc, entries.as_slice(), presets)?;
-    let names = each_once(alloc, places.as_slice())?;
+    let places = all_mentions(alloc, entries.as_slice())?;
+    let pins = presets.pins();
+    let names = each_once(alloc, places.as_slice(), pins)?;
     let behind = count_blocks(entries.as_slice()).saturating_mul(names.len());
     let each = places
         .len()
+        .saturating_add(pins.len())
         .saturating_add(entries.len())
         .saturating_add(behind);
     let cost = (each as u64).saturating_mul(names.len() as u64);

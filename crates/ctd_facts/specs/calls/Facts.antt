@@ -2,8 +2,11 @@
 use Rattle.std.specs.Prelude.{ℕ, Bool, not, ◌&&◌, List, ◌++◌, Option}
 use Rattle.ctd_program.specs.declared.preset.Preset.{Preset}
 use Rattle.ctd_names.specs.calls.Block.{InBlock}
-use Rattle.ctd_names.specs.calls.Names.{is_among, all_reads, all_reads_elsewhere, all_given, all_mentioned, preset_names}
-use Rattle.ctd_names.specs.calls.Assigned.{all_not_numbers, all_not_texts}
+use Rattle.ctd_names.specs.declared.roles.Role.{Role}
+use Rattle.ctd_names.specs.declared.roles.Role.TheVariants as roles
+use Rattle.ctd_names.specs.calls.Mentions.{all_mentions}
+use Rattle.ctd_names.specs.calls.Names.{is_among, preset_names}
+use Rattle.ctd_names.specs.calls.Roles.{role_names}
 use Rattle.ctd_facts.specs.calls.Ranges.{range_in}
 use Rattle.ctd_facts.specs.declared.ranges.Bounds.{Bounds}
 
@@ -22,25 +25,33 @@ pub record Facts : Type 0 where
   -- the range of the numbers that INT gives it, where nothing else gives it values
   pub range : List ℕ → Option Bounds
 
+-- whether a name has a role in some commands
+abbrev pub has_role_in : Role → List InBlock → List ℕ → Bool
+has_role_in role commands name = is_among name (role_names role (all_mentions commands))
+
+-- whether it has, or a preset gives it a value
+abbrev pub has_role_or_preset : Role → List InBlock → List Preset → List ℕ → Bool
+has_role_or_preset role commands presets name = is_among name (role_names role (all_mentions commands) ++ preset_names presets)
+
 -- whether a program or a preset gives a name a value
 abbrev pub is_given_in : List InBlock → List Preset → List ℕ → Bool
-is_given_in commands presets name = is_among name (all_given commands ++ preset_names presets)
+is_given_in = has_role_or_preset roles.Gives
 
 -- whether a program reads a name
 abbrev pub is_read_in : List InBlock → List ℕ → Bool
-is_read_in commands name = is_among name (all_reads commands)
+is_read_in = has_role_in roles.Reads
 
 -- whether a name is read elsewhere than in its own assignments
 abbrev pub is_read_elsewhere_in : List InBlock → List ℕ → Bool
-is_read_elsewhere_in commands name = is_among name (all_reads_elsewhere commands)
+is_read_elsewhere_in = has_role_in roles.ReadsElsewhere
 
 -- whether a name is given values, and they are numbers
 abbrev pub is_number_in : List InBlock → List Preset → List ℕ → Bool
-is_number_in commands presets name = is_given_in commands presets name && not (is_among name (all_not_numbers commands ++ preset_names presets))
+is_number_in commands presets name = is_given_in commands presets name && not (has_role_or_preset roles.GivesNoNumber commands presets name)
 
 -- whether a name is given values, and they are strings
 abbrev pub is_text_in : List InBlock → List Preset → List ℕ → Bool
-is_text_in commands presets name = is_given_in commands presets name && not (is_among name (all_not_texts commands ++ preset_names presets))
+is_text_in commands presets name = is_given_in commands presets name && not (has_role_or_preset roles.GivesNoText commands presets name)
 
 -- the facts of a program, where these presets are given
 abbrev pub facts_of : List InBlock → List Preset → Facts
@@ -55,4 +66,4 @@ facts_of commands presets = record {
 
 -- whether a program mentions a name
 abbrev pub is_mentioned_in : List InBlock → List ℕ → Bool
-is_mentioned_in commands name = is_among name (all_mentioned commands)
+is_mentioned_in = has_role_in roles.Mentions

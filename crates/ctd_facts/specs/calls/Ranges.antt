@@ -8,7 +8,10 @@ use Rattle.ctd_program.specs.Tree.{ExprTree, ExprList, VarTree, CommandTree}
 use Rattle.ctd_facts.specs.declared.ranges.Bounds.{Bounds}
 use Rattle.ctd_names.specs.calls.Block.{InBlock}
 use Rattle.ctd_facts.specs.calls.LiteralValues.{literal_number}
-use Rattle.ctd_names.specs.calls.Names.{NameList, counts, is_among, preset_names, sets}
+use Rattle.ctd_names.specs.calls.Mentions.{Mention, mentions}
+use Rattle.ctd_names.specs.calls.Names.{is_among, preset_names}
+use Rattle.ctd_names.specs.calls.Roles.{role_names}
+use Rattle.ctd_names.specs.declared.roles.Role.TheVariants as roles
 
 -- a name that has no indices
 abbrev pub name_without : List ℕ → ExprList → Option (List ℕ)
@@ -65,14 +68,14 @@ range_given (Tree.unset place names) = None
 range_given (Tree.loop place guard counter separator body) = None
 range_given (Tree.choice place t then_do else_do) = None
 
--- the names to which a command gives a value in another way
-abbrev pub gives_otherwise : CommandTree → NameList
-gives_otherwise c = if is_some (range_given c) then [] else sets c ++ counts c
+-- the names in a command that gives none a range
+abbrev pub mentions_without_range : CommandTree → List Mention
+mentions_without_range c = if is_some (range_given c) then [] else mentions c
 
--- of some commands
-abbrev pub all_given_otherwise : List InBlock → NameList
-all_given_otherwise [] = []
-all_given_otherwise (x ∷ rest) = gives_otherwise x.command ++ all_given_otherwise rest
+-- in some commands
+abbrev pub all_without_range : List InBlock → List Mention
+all_without_range [] = []
+all_without_range (x ∷ rest) = mentions_without_range x.command ++ all_without_range rest
 
 -- two ranges and what lies between them
 abbrev pub joined : Option Bounds → Bounds → Bounds
@@ -91,4 +94,4 @@ range_among name so_far (x ∷ rest) = range_among name (widened name so_far (ra
 
 -- The range of a name: from the least bound of the INT commands that set it to the greatest. A name that a preset or another command gives a value has none.
 abbrev pub range_in : List InBlock → List Preset → List ℕ → Option Bounds
-range_in commands presets name = if is_among name (all_given_otherwise commands ++ preset_names presets) then None else range_among name None commands
+range_in commands presets name = if is_among name (role_names roles.Gives (all_without_range commands) ++ preset_names presets) then None else range_among name None commands

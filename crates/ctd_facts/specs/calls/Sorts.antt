@@ -1,11 +1,11 @@
 -- Where a number stands for a string, or a string for a number.
 use Rattle.ctd_program.specs.Tree
-use Rattle.ctd_names.specs.declared.assigned.Sort.TheVariants as sorts
+use Rattle.ctd_names.specs.declared.sort.Sort.TheVariants as sorts
 use Rattle.std.specs.Prelude.{Bool, false, ◌||◌, ◌&&◌, List, [], ◌∷◌, if◌then◌else◌}
 use Rattle.ctd_program.specs.Tree.{ExprTree, ExprList, VarTree, TestTree, GuardTree, CommandTree}
-use Rattle.ctd_names.specs.declared.assigned.Sort.{Sort}
+use Rattle.ctd_names.specs.declared.sort.Sort.{Sort}
 use Rattle.ctd_facts.specs.calls.Facts.{Facts}
-use Rattle.ctd_names.specs.calls.Assigned.{is_number, is_text}
+use Rattle.ctd_names.specs.calls.Sort.{is_number, is_text}
 
 -- the sort of a variable, by whether it is given numbers alone, or strings alone
 abbrev pub name_sort : Bool → Bool → Sort

@@ -3,8 +3,11 @@ use Rattle.ctd_program.specs.Tree
 use Rattle.std.specs.Prelude.{ℕ, Bool, true, not, List, [], ◌∷◌, ◌++◌, Option, Some, None, ℤ, false, is_some, ◌||◌, ◌&&◌, codes, map, if◌then◌else◌}
 use Rattle.ctd_program.specs.Tree.{ExprTree, TestTree, CommandTree, CommandList, GuardTree}
 use Rattle.ctd_facts.specs.calls.Facts.{Facts, facts_of, is_mentioned_in}
-use Rattle.ctd_names.specs.calls.Loops.{loop_body, counter_name, is_set_in, some_set_fixed}
-use Rattle.ctd_names.specs.calls.Names.{NameList, unsets, is_among, begins_with, reads, sets, preset_names}
+use Rattle.ctd_names.specs.calls.Loops.{loop_body, loop_of, counter_name, is_set_in, some_set_fixed}
+use Rattle.ctd_names.specs.calls.Names.{NameList, is_among, begins_with, preset_names}
+use Rattle.ctd_names.specs.calls.Mentions.{Mention, body_mentions, loops_mentions, mentions}
+use Rattle.ctd_names.specs.calls.Roles.{role_names}
+use Rattle.ctd_names.specs.declared.roles.Role.TheVariants as roles
 use Rattle.ctd_findings.specs.declared.kind.Kind.TheVariants as kinds
 use Rattle.std.specs.Option.{option_and_then}
 use Rattle.std.specs.Ordering.{int_cmp, is_gt}
@@ -19,7 +22,6 @@ use Rattle.ctd_facts.specs.calls.Sorts.{has_wrong_sort}
 use Rattle.ctd_facts.specs.calls.Sides.{has_same_names, has_same_sides}
 use Rattle.ctd_facts.specs.calls.Decided.{range_truth}
 use Rattle.ctd_names.specs.calls.Behind.{is_read_behind, repi_counter}
-use Rattle.ctd_names.specs.calls.Cases.{all_arrays, all_unset, loops_fill}
 use Rattle.ctd_facts.specs.calls.LiteralValues.{literal_truth, literal_number}
 use Rattle.ctd_outline.specs.calls.Alternatives.{hides_alternative}
 use Rattle.ctd_outline.specs.calls.LineFeeds.{matches_feed}
@@ -50,17 +52,7 @@ guard_test (Tree.while t) = Some t
 
 -- the test of WHILE
 abbrev pub loop_test : CommandTree → Option TestTree
-loop_test (Tree.space place) = None
-loop_test (Tree.newline place) = None
-loop_test (Tree.eof place) = None
-loop_test (Tree.int place low high target) = None
-loop_test (Tree.string place e) = None
-loop_test (Tree.regex place literal target) = None
-loop_test (Tree.assert place t) = None
-loop_test (Tree.set place assignments) = None
-loop_test (Tree.unset place names) = None
-loop_test (Tree.loop place guard counter separator body) = guard_test guard
-loop_test (Tree.choice place t then_do else_do) = None
+loop_test c = option_and_then (λ l. guard_test l.guard) (loop_of c)
 
 -- a remark where this is so
 abbrev pub remark_if : Bool → Kind → List Remark
@@ -258,17 +250,21 @@ remark_kept is_filled is_unset (name ∷ rest) = about_if (is_filled name && not
 
 -- the remarks on the arrays at which the commands of a loop look as a whole
 abbrev pub array_remarks : CommandList → List Remark
-array_remarks body = remark_kept (λ name. is_among name (loops_fill body)) (λ name. is_among name (all_unset body)) (all_arrays body)
+array_remarks body = remark_kept (λ name. is_among name (role_names roles.Fills (loops_mentions body))) (λ name. is_among name (role_names roles.Forgets (body_mentions body)))
+    (role_names roles.LooksAtAll (body_mentions body))
 
 -- the remarks on the arrays of a loop whose counter nothing reads
 abbrev pub kept_remarks : Facts → CommandTree → List Remark
 kept_remarks facts c = if is_uncounted facts (counter_name c) then array_remarks (loop_body c) else []
 
+-- the remarks on some names: on those that need a value and have none, and on those that are set and not read
+abbrev pub name_remarks : Facts → List Mention → List Remark
+name_remarks facts names = remark_unknown kinds.NoValue facts.is_given (role_names roles.Needs names) ++ remark_unread facts (role_names roles.Sets names)
+
 -- the remarks on where a command stands, and on the names that it uses
 abbrev pub use_remarks : Facts → InBlock → List Remark
 use_remarks facts x = place_remarks x
-    ++ remark_unknown kinds.NoValue facts.is_given (reads x.command ++ unsets x.command)
-    ++ remark_unread facts (sets x.command)
+    ++ name_remarks facts (mentions x.command)
     ++ remark_if (has_wrong_sort facts x.command) kinds.WrongSort
 
 -- the remarks on the loop and the test that a command is or has, and those that follow from it alone

@@ -1,10 +1,14 @@
 -- Counters that are read behind their loops.
 use Rattle.ctd_program.specs.Tree
-use Rattle.std.specs.Prelude.{ℕ, Bool, true, false, not, ◌||◌, ◌&&◌, List, ◌++◌, Option, None}
+use Rattle.std.specs.Prelude.{ℕ, Bool, false, not, ◌||◌, ◌&&◌, List, Option, None, is_some}
+use Rattle.std.specs.Option.{option_and_then}
 use Rattle.ctd_program.specs.Tree.{VarTree, GuardTree, CommandTree, CommandList}
-use Rattle.ctd_names.specs.calls.Block.{commands_within}
-use Rattle.ctd_names.specs.calls.Loops.{is_set_by, var_name}
-use Rattle.ctd_names.specs.calls.Names.{all_reads, is_among, reads, unsets}
+use Rattle.ctd_names.specs.calls.Block.{all_commands}
+use Rattle.ctd_names.specs.calls.Loops.{is_set_by, loop_of, var_name}
+use Rattle.ctd_names.specs.calls.Mentions.{all_mentions, mentions}
+use Rattle.ctd_names.specs.calls.Names.{is_among}
+use Rattle.ctd_names.specs.calls.Roles.{role_names}
+use Rattle.ctd_names.specs.declared.roles.Role.TheVariants as roles
 
 -- the name of a counter, where its loop has a number of turns that is known before the first
 abbrev pub turns_counter : GuardTree → Option VarTree → Option (List ℕ)
@@ -13,39 +17,19 @@ turns_counter (Tree.while t) counter = None
 
 -- the name of the counter of REPI
 abbrev pub repi_counter : CommandTree → Option (List ℕ)
-repi_counter (Tree.space place) = None
-repi_counter (Tree.newline place) = None
-repi_counter (Tree.eof place) = None
-repi_counter (Tree.int place low high target) = None
-repi_counter (Tree.string place e) = None
-repi_counter (Tree.regex place literal target) = None
-repi_counter (Tree.assert place t) = None
-repi_counter (Tree.set place assignments) = None
-repi_counter (Tree.unset place names) = None
-repi_counter (Tree.loop place guard counter separator body) = turns_counter guard counter
-repi_counter (Tree.choice place t then_do else_do) = None
+repi_counter c = option_and_then (λ l. turns_counter l.guard l.counter) (loop_of c)
 
 -- whether a command is a loop
 abbrev pub is_loop : CommandTree → Bool
-is_loop (Tree.space place) = false
-is_loop (Tree.newline place) = false
-is_loop (Tree.eof place) = false
-is_loop (Tree.int place low high target) = false
-is_loop (Tree.string place e) = false
-is_loop (Tree.regex place literal target) = false
-is_loop (Tree.assert place t) = false
-is_loop (Tree.set place assignments) = false
-is_loop (Tree.unset place names) = false
-is_loop (Tree.loop place guard counter separator body) = true
-is_loop (Tree.choice place t then_do else_do) = false
+is_loop c = is_some (loop_of c)
 
 -- whether a command, or one in it, reads a name
 abbrev pub is_read_by : List ℕ → CommandTree → Bool
-is_read_by name c = is_among name (reads c ++ all_reads (commands_within c))
+is_read_by name c = is_among name (role_names roles.Reads (all_mentions (all_commands (Tree.then c Tree.done))))
 
 -- whether a command, or one in it, gives a name a value, or the command forgets its values
 abbrev pub is_changed_by : List ℕ → CommandTree → Bool
-is_changed_by name c = is_set_by name c || is_among name (unsets c)
+is_changed_by name c = is_set_by name c || is_among name (role_names roles.Forgets (mentions c))
 
 -- Whether a name is read in the commands behind a loop: by the first of them that changes or reads it, where it does not change it. They are followed up to the next loop.
 abbrev pub is_read_behind : List ℕ → CommandList → Bool

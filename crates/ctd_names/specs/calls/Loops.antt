@@ -1,8 +1,9 @@
 -- Loops: their counters, and what their bodies set.
 use Rattle.ctd_program.specs.Tree
 use Rattle.std.specs.Prelude.{ℕ, Bool, true, false, ◌||◌, ◌&&◌, List, [], ◌∷◌, Option, Some, None}
+use Rattle.std.specs.Option.{option_and_then}
 use Rattle.std.specs.Str.{bytes_eq}
-use Rattle.ctd_program.specs.Tree.{ExprTree, ExprList, VarTree, CommandTree, CommandList, Separator}
+use Rattle.ctd_program.specs.Tree.{ExprTree, ExprList, VarTree, GuardTree, CommandTree, CommandList, Separator}
 
 -- whether an expression is a numeral
 abbrev pub is_numeral : ExprTree → Bool
@@ -87,19 +88,34 @@ abbrev mutual
   is_set_in name Tree.done = false
   is_set_in name (Tree.then c rest) = is_set_by name c || is_set_in name rest
 
+-- a loop: how long it goes on, its counter, and the commands that each turn does
+pub record LoopParts : Type 0 where
+  pub guard : GuardTree
+  pub counter : Option VarTree
+  pub body : CommandList
+
+-- the parts of a loop, if a command is one
+abbrev pub loop_of : CommandTree → Option LoopParts
+loop_of (Tree.space place) = None
+loop_of (Tree.newline place) = None
+loop_of (Tree.eof place) = None
+loop_of (Tree.int place low high target) = None
+loop_of (Tree.string place e) = None
+loop_of (Tree.regex place literal target) = None
+loop_of (Tree.assert place t) = None
+loop_of (Tree.set place assignments) = None
+loop_of (Tree.unset place names) = None
+loop_of (Tree.loop place guard counter separator body) = Some (record { guard = guard; counter = counter; body = body })
+loop_of (Tree.choice place t then_do else_do) = None
+
+-- the commands that each turn does: none where there is no loop
+abbrev pub turn_commands : Option LoopParts → CommandList
+turn_commands None = Tree.done
+turn_commands (Some l) = l.body
+
 -- the commands that each turn of a loop does: none where a command is no loop
 abbrev pub loop_body : CommandTree → CommandList
-loop_body (Tree.space place) = Tree.done
-loop_body (Tree.newline place) = Tree.done
-loop_body (Tree.eof place) = Tree.done
-loop_body (Tree.int place low high target) = Tree.done
-loop_body (Tree.string place e) = Tree.done
-loop_body (Tree.regex place literal target) = Tree.done
-loop_body (Tree.assert place t) = Tree.done
-loop_body (Tree.set place assignments) = Tree.done
-loop_body (Tree.unset place names) = Tree.done
-loop_body (Tree.loop place guard counter separator body) = body
-loop_body (Tree.choice place t then_do else_do) = Tree.done
+loop_body c = turn_commands (loop_of c)
 
 -- the name of a variable, if there is one
 abbrev pub var_name : Option VarTree → Option (List ℕ)
@@ -108,14 +124,4 @@ var_name (Some v) = Some v.name
 
 -- the name of the counter of a loop, if it has one
 abbrev pub counter_name : CommandTree → Option (List ℕ)
-counter_name (Tree.space place) = None
-counter_name (Tree.newline place) = None
-counter_name (Tree.eof place) = None
-counter_name (Tree.int place low high target) = None
-counter_name (Tree.string place e) = None
-counter_name (Tree.regex place literal target) = None
-counter_name (Tree.assert place t) = None
-counter_name (Tree.set place assignments) = None
-counter_name (Tree.unset place names) = None
-counter_name (Tree.loop place guard counter separator body) = var_name counter
-counter_name (Tree.choice place t then_do else_do) = None
+counter_name c = option_and_then (λ l. var_name l.counter) (loop_of c)

@@ -1,0 +1,325 @@
+//! The names in a command, each with what the command does with it.
+
+ghost use Rattle.std.specs.Prelude.{◌++◌, ◌∷◌, [], ◌≡◌, None, Some, IfOk, map};
+ghost use Rattle.ctd_program.specs.calls.View.{assignment, boxed_target, command_tree, command_trees, expr_list, expr_tree, guard_tree, target, test_tree, var_tree};
+ghost use Rattle.ctd_program.specs.declared.tree.Loop.{out-Loop};
+ghost use Rattle.ctd_names.specs.calls.Collector.{Adds, mentions_in};
+ghost use Rattle.ctd_names.specs.inner.Views.{assigned_trees};
+ghost use Rattle.ctd_names.specs.calls.Listed.{in_blocks, mentions_at, name_at};
+ghost use Rattle.ctd_names.specs.calls.Mentions.{all_mentions, assignment_mentions, assignments_mentions, body_mentions, counter_mentions, expr_mentions, guard_mentions, has_indices, index_mentions, loops_mentions, mention, mentions, read_use, sets_use, target_mentions, test_mentions, variable_mentions};
+ghost use Rattle.ctd_names.specs.declared.mentions.Use.TheVariants.{LooksAtAll};
+ghost use Rattle.ctd_names.specs.declared.sort.Sort.TheVariants.{Number};
+
+use crate::block::CommandInBlock;
+use crate::found::Collector;
+use crate::loops::loop_body;
+use crate::sort::{Sort, form_sort};
+use ctd_program::{
+    Action, Assignment, Command, Element, Expr, IntArguments, Loop, LoopGuard, Test, Var,
+};
+use ctd_token::Name;
+use std::alloc::{AllocError, Global};
+
+/// What a command does with a name.
+#[derive(Clone, Copy)]
+pub enum Use {
+    /// It reads its value.
+    Reads,
+    /// SET reads it for the variable of the same name, in the value or in the indices.
+    ReadsForItself,
+    /// UNIQUE or INARRAY looks at all its values.
+    LooksAtAll,
+    /// UNSET forgets its values.
+    Forgets,
+    /// INT, REGEX or SET gives it, or an element of it, a value of this sort.
+    Sets { sort: Sort, is_element: bool },
+    /// A loop counts in it.
+    Counts,
+}
+
+/// A name in a command, and what the command does with it there.
+#[derive(Clone, Copy)]
+pub struct MentionedName<'p> {
+    pub name: &'p Name,
+    pub how: Use,
+}
+
+/// Adds a name.
+fn list_one<'p>(how: Use, name: &'p Name, found: &mut Collector<MentionedName<'p>>)
+    ensures adds { Adds (mentions_in found.old) (mention how name.now ∷ []) (mentions_in found.new) }
+{
+    found.add(MentionedName { name, how });
+}
+
+/// Adds names.
+fn list_each<'p>(how: Use, names: &'p [Name], found: &mut Collector<MentionedName<'p>>)
+    ensures adds { Adds (mentions_in found.old) (map (mention how) names.now) (mentions_in found.new) }
+{
+    for name in names {
+        list_one(how, name, found);
+    }
+}
+
+/// How a name is read, where an assignment to a variable reads it or something else does.
+fn read_use(assigned: Option<&Name>, name: &Name) -> Use
+    ensures { result ≡ read_use (name_at assigned.entry) name.now }
+{
+    let Some(assigned) = assigned else {
+        return Use::Reads;
+    };
+    if assigned.as_slice() == name.as_slice() {
+        Use::ReadsForItself
+    } else {
+        Use::Reads
+    }
+}
+
+/// Adds the names in an expression.
+#[cycle(expr_mentions)]
+fn list_expr<'p>(assigned: Option<&Name>, e: &'p Expr, found: &mut Collector<MentionedName<'p>>)
+    ensures adds { Adds (mentions_in found.old) (expr_mentions (name_at assigned.entry) (expr_tree e.now)) (mentions_in found.new) }
+{
+    match e {
+        Expr::Name(name) => list_one(read_use(assigned, name), name, found),
+        Expr::Numeral(_) | Expr::Text(_) => (),
+        Expr::Element(element) => {
+            let Element { name, indices } = &**element;
+            list_one(read_use(assigned, name), name, found);
+            list_indices(assigned, indices.as_slice(), found)
+        }
+        Expr::Strlen(e) | Expr::Minus(e) => list_expr(assigned, e, found),
+        Expr::Add(a, b)
+        | Expr::Sub(a, b)
+        | Expr::Mul(a, b)
+        | Expr::Div(a, b)
+        | Expr::Rem(a, b)
+        | Expr::Pow(a, b) => {
+            list_expr(assigned, a, found);
+            list_expr(assigned, b, found)
+        }
+    }
+}
+
+/// Adds the names in indices.
+#[cycle(expr_mentions)]
+fn list_indices<'p>(
+    assigned: Option<&Name>,
+    indices: &'p [Expr],
+    found: &mut Collector<MentionedName<'p>>,
+)
+    ensures adds { Adds (mentions_in found.old) (index_mentions (name_at assigned.entry) (expr_list indices.now)) (mentions_in found.new) }
+{
+    for index in indices {
+        list_expr(assigned, index, found);
+    }
+}
+
+/// Adds the names in two expressions.
+fn list_both<'p>(a: &'p Expr, b: &'p Expr, found: &mut Collector<MentionedName<'p>>)
+    ensures adds { Adds (mentions_in found.old) (expr_mentions None (expr_tree a.now) ++ expr_mentions None (expr_tree b.now)) (mentions_in found.new) }
+{
+    list_expr(None, a, found);
+    list_expr(None, b, found)
+}
+
+/// Adds the names in what INARRAY takes.
+fn list_searched<'p>(e: &'p Expr, name: &'p Name, found: &mut Collector<MentionedName<'p>>)
+    ensures adds { Adds (mentions_in found.old) (expr_mentions None (expr_tree e.now) ++ mention LooksAtAll name.now ∷ []) (mentions_in found.new) }
+{
+    list_expr(None, e, found);
+    list_one(Use::LooksAtAll, name, found)
+}
+
+/// Adds the names in a test.
+fn list_test<'p>(t: &'p Test, found: &mut Collector<MentionedName<'p>>)
+    ensures adds { Adds (mentions_in found.old) (test_mentions (test_tree t.now)) (mentions_in found.new) }
+{
+    match t {
+        Test::Or(a, b) | Test::And(a, b) => {
+            list_test(a, found);
+            list_test(b, found)
+        }
+        Test::Not(t) => list_test(t, found),
+        Test::Compare(_, a, b) => list_both(a, b, found),
+        Test::Match(e) => list_expr(None, e, found),
+        Test::IsEof => (),
+        Test::Unique(names) => list_each(Use::LooksAtAll, names.as_slice(), found),
+        Test::InArray(e, name) => list_searched(e, name, found),
+    }
+}
+
+/// Adds the names in a variable that is used in this way.
+fn list_variable<'p>(
+    how: Use,
+    assigned: Option<&Name>,
+    v: &'p Var,
+    found: &mut Collector<MentionedName<'p>>,
+)
+    ensures adds { Adds (mentions_in found.old) (variable_mentions how (name_at assigned.entry) (var_tree v.now)) (mentions_in found.new) }
+{
+    list_one(how, &v.name, found);
+    list_indices(assigned, v.indices.as_slice(), found)
+}
+
+/// Whether there are indices.
+fn has_indices(indices: &[Expr]) -> bool
+    ensures { result ≡ has_indices (expr_list indices.now) }
+{
+    match indices {
+        [] => false,
+        [_, ..] => true,
+    }
+}
+
+/// What INT, REGEX or SET does with its variable.
+fn sets_use(sort: Sort, v: &Var) -> Use
+    ensures { result ≡ sets_use sort (var_tree v.now) }
+{
+    Use::Sets {
+        sort,
+        is_element: has_indices(v.indices.as_slice()),
+    }
+}
+
+/// Adds the names in the variable of INT or REGEX, if there is one. It gets values of this sort.
+fn list_target<'p>(sort: Sort, variable: &'p Option<Var>, found: &mut Collector<MentionedName<'p>>)
+    ensures adds { Adds (mentions_in found.old) (target_mentions sort (target variable.now)) (mentions_in found.new) }
+{
+    match variable {
+        Some(v) => list_variable(sets_use(sort, v), None, v, found),
+        None => (),
+    }
+}
+
+/// Adds the names in what INT takes.
+fn list_int<'p>(int: &'p IntArguments, found: &mut Collector<MentionedName<'p>>)
+    ensures adds { Adds (mentions_in found.old) (expr_mentions None (expr_tree int.now.low) ++ expr_mentions None (expr_tree int.now.high) ++ target_mentions Number (target int.now.target)) (mentions_in found.new) }
+{
+    list_both(&int.low, &int.high, found);
+    list_target(Sort::Number, &int.target, found)
+}
+
+/// Adds the names in an assignment.
+fn list_assignment<'p>(a: &'p Assignment, found: &mut Collector<MentionedName<'p>>)
+    ensures adds { Adds (mentions_in found.old) (assignment_mentions (var_tree a.now.target) (expr_tree a.now.value)) (mentions_in found.new) }
+{
+    let Assignment { target, value } = a;
+    let assigned = Some(&target.name);
+    list_variable(sets_use(form_sort(value), target), assigned, target, found);
+    list_expr(assigned, value, found)
+}
+
+/// Adds the names in assignments.
+fn list_assignments<'p>(assignments: &'p [Assignment], found: &mut Collector<MentionedName<'p>>)
+    ensures adds { Adds (mentions_in found.old) (assignments_mentions (assigned_trees assignments.now)) (mentions_in found.new) }
+{
+    for a in assignments {
+        list_assignment(a, found);
+    }
+}
+
+/// Adds the names in a counter, if there is one.
+fn list_counter<'p>(counter: &'p Option<Box<Var>>, found: &mut Collector<MentionedName<'p>>)
+    ensures adds { Adds (mentions_in found.old) (counter_mentions (boxed_target counter.now)) (mentions_in found.new) }
+{
+    match counter {
+        Some(v) => list_variable(Use::Counts, None, v, found),
+        None => (),
+    }
+}
+
+/// Adds the names in what says how long a loop goes on.
+fn list_guard<'p>(guard: &'p LoopGuard, found: &mut Collector<MentionedName<'p>>)
+    ensures adds { Adds (mentions_in found.old) (guard_mentions (guard_tree guard.now)) (mentions_in found.new) }
+{
+    match guard {
+        LoopGuard::Times(count) => list_expr(None, count, found),
+        LoopGuard::While(t) => list_test(t, found),
+    }
+}
+
+/// Adds the names in the head of a loop: in its counter, and in what says how long it goes on.
+fn list_head<'p>(repeated: &'p Loop, found: &mut Collector<MentionedName<'p>>)
+    ensures adds { Adds (mentions_in found.old) (counter_mentions (boxed_target (out-Loop repeated.now).counter) ++ guard_mentions (guard_tree (out-Loop repeated.now).guard)) (mentions_in found.new) }
+{
+    list_counter(&repeated.counter, found);
+    list_guard(&repeated.guard, found)
+}
+
+/// Adds the names in a command, in the order of the text.
+pub fn list_mentions<'p>(command: &'p Command, found: &mut Collector<MentionedName<'p>>)
+    ensures adds { Adds (mentions_in found.old) (mentions (command_tree command.now)) (mentions_in found.new) }
+{
+    match &command.action {
+        Action::Space | Action::Newline | Action::Eof => (),
+        Action::Int(int) => list_int(int, found),
+        Action::String(e) => list_expr(None, e, found),
+        Action::Regex(regex) => list_target(Sort::Text, &regex.target, found),
+        Action::Assert(t) => list_test(t, found),
+        Action::Set(assignments) => list_assignments(assignments.as_slice(), found),
+        Action::Unset(names) => list_each(Use::Forgets, names.as_slice(), found),
+        Action::Loop(repeated) => list_head(repeated, found),
+        Action::If(choice) => list_test(&choice.condition, found),
+    }
+}
+
+/// Adds the names in the commands of a list, but for those in a command.
+fn list_body<'p>(commands: &'p [Command], found: &mut Collector<MentionedName<'p>>)
+    ensures adds { Adds (mentions_in found.old) (body_mentions (command_trees commands.now)) (mentions_in found.new) }
+{
+    for command in commands {
+        list_mentions(command, found);
+    }
+}
+
+/// The names in a command.
+pub fn mentions_of<'p>(
+    alloc: Global,
+    command: &'p Command,
+) -> Result<Vec<MentionedName<'p>>, AllocError>
+    ensures all { IfOk result (λ found. mentions_at found.items ≡ mentions (command_tree command.now)) }
+{
+    let mut found = Collector::new(alloc);
+    list_mentions(command, &mut found);
+    found.finish()
+}
+
+/// The names in some commands.
+pub fn all_mentions<'p>(
+    alloc: Global,
+    commands: &[CommandInBlock<'p>],
+) -> Result<Vec<MentionedName<'p>>, AllocError>
+    ensures all { IfOk result (λ found. mentions_at found.items ≡ all_mentions (in_blocks commands.now)) }
+{
+    let mut found = Collector::new(alloc);
+    for entry in commands {
+        list_mentions(entry.command, &mut found);
+    }
+    found.finish()
+}
+
+/// The names in the commands of a list, but for those in a command.
+pub fn body_mentions<'p>(
+    alloc: Global,
+    commands: &'p [Command],
+) -> Result<Vec<MentionedName<'p>>, AllocError>
+    ensures all { IfOk result (λ found. mentions_at found.items ≡ body_mentions (command_trees commands.now)) }
+{
+    let mut found = Collector::new(alloc);
+    list_body(commands, &mut found);
+    found.finish()
+}
+
+/// The names in what the loops among some commands do in each turn.
+pub fn loops_mentions<'p>(
+    alloc: Global,
+    commands: &'p [Command],
+) -> Result<Vec<MentionedName<'p>>, AllocError>
+    ensures all { IfOk result (λ found. mentions_at found.items ≡ loops_mentions (command_trees commands.now)) }
+{
+    let mut found = Collector::new(alloc);
+    for command in commands {
+        list_body(loop_body(command), &mut found);
+    }
+    found.finish()
+}
