@@ -1,11 +1,11 @@
 -- SET and UNSET, from the front of their lists.
+use Rattle.ctd_known.specs.calls.Facts.{Known}
 use Rattle.std.proofs.Common.{◌≡◌, ◌<◌, ◌≤◌, ◌+◌, ℕ, List, ◌∷◌, map, length, get_or, drop, ap, sym, subst, ◌∙◌}
 use Rattle.std.proofs.lemmas.List.{at_drop_more, drop_all}
 use Rattle.ctd_program.specs.declared.tree.Assignment.{Assignment}
 use Rattle.ctd_program.specs.calls.View.{assignment, expr_tree, var_tree}
 use Rattle.ctd_command.specs.Commands.{set}
 use Rattle.ctd_known.specs.declared.faults.Faults.{Faults}
-use Rattle.ctd_known.specs.declared.facts.Known.{Known}
 use Rattle.ctd_known.specs.declared.expression.Found.{Found}
 use Rattle.ctd_known.specs.calls.Found.{Gives}
 use Rattle.ctd_known.specs.calls.Changed.{Clears}

@@ -3,27 +3,29 @@
 ghost use Rattle.std.specs.Prelude.{IfOk};
 ghost use Rattle.ctd_program.specs.calls.View.{command_tree};
 ghost use Rattle.ctd_traps.specs.inner.Walk.{ActKeeps, ActsKeep};
+ghost use Rattle.ctd_known.specs.calls.Facts.{pins_in, told_in};
+ghost use Rattle.ctd_traps.specs.inner.Cases.{cases_in};
 
 use crate::assign::{Acted, clear_all, set_all, unchanged};
 use crate::cases::{Case, with_case};
 use crate::simple::{take_integer, take_match, take_string};
-use ctd_known::{Faults, Ground, Known, Stop, both, no_faults};
+use ctd_known::{Faults, Ground, NameFacts, Stop, both, no_faults};
 use ctd_program::{Action, Command};
 
 /// The cases behind a command, and the faults that it may have.
 #[derive(Drop)]
-pub(crate) struct ActedCases<'p> {
-    pub(crate) after: Vec<Case<'p>>,
+pub(crate) struct ActedCases {
+    pub(crate) after: Vec<Case>,
     pub(crate) faults: Faults,
 }
 
 /// What is known behind a command.
-fn act<'p>(
-    command: &'p Command,
-    ground: Ground<'_, 'p>,
-    known: &[Known<'p>],
-) -> Result<Acted<'p>, Stop>
-    ensures { IfOk result (λ a. ActKeeps ground.entry.pinned.now known.now a.after.items a.faults (command_tree command.now)) }
+fn act(
+    command: &Command,
+    ground: Ground<'_>,
+    known: &[NameFacts],
+) -> Result<Acted, Stop>
+    ensures { IfOk result (λ a. ActKeeps (pins_in ground.entry) (told_in ground.entry known.now) (told_in ground.entry a.after.items) a.faults (command_tree command.now)) }
 {
     match &command.action {
         Action::Space | Action::Newline | Action::Eof => unchanged(ground, known),
@@ -37,12 +39,12 @@ fn act<'p>(
 }
 
 /// The cases behind a command, by what is known behind it in each.
-pub(crate) fn act_each<'p>(
-    command: &'p Command,
-    ground: Ground<'_, 'p>,
-    cases: &[Case<'p>],
-) -> Result<ActedCases<'p>, Stop>
-    ensures { IfOk result (λ a. ActsKeep ground.entry.pinned.now cases.now a.after.items a.faults (command_tree command.now)) }
+pub(crate) fn act_each(
+    command: &Command,
+    ground: Ground<'_>,
+    cases: &[Case],
+) -> Result<ActedCases, Stop>
+    ensures { IfOk result (λ a. ActsKeep (pins_in ground.entry) (cases_in ground.entry cases.now) (cases_in ground.entry a.after.items) a.faults (command_tree command.now)) }
 {
     let mut after = Vec::new(ground.alloc);
     let mut faults = no_faults();

@@ -4,9 +4,10 @@ ghost use Rattle.std.specs.Prelude.{◌≡◌, IfOk, map};
 ghost use Rattle.ctd_program.specs.calls.View.{assignment, target, var_tree};
 ghost use Rattle.ctd_command.specs.Commands.{set};
 ghost use Rattle.ctd_traps.specs.inner.Walk.{Acts, Assigns, ClearsAll, KeepsValue};
+ghost use Rattle.ctd_known.specs.calls.Facts.{pins_in, told_in};
 
 use ctd_known::{
-    Faults, Ground, Kinds, Known, Stop, assign_alone, assign_element, both, clear, copy_of,
+    Faults, Ground, Kinds, NameFacts, Stop, assign_alone, assign_element, both, clear, copy_of,
     examine_indices, inspect, no_faults,
 };
 use ctd_program::{Assignment, Var};
@@ -14,13 +15,13 @@ use ctd_token::Name;
 
 /// What is known behind a simple command, and the faults that it may have.
 #[derive(Drop)]
-pub(crate) struct Acted<'p> {
-    pub(crate) after: Vec<Known<'p>>,
+pub(crate) struct Acted {
+    pub(crate) after: Vec<NameFacts>,
     pub(crate) faults: Faults,
 }
 
 /// What was known is known still, and there are no faults.
-pub(crate) fn unchanged<'p>(ground: Ground<'_, 'p>, known: &[Known<'p>]) -> Result<Acted<'p>, Stop>
+pub(crate) fn unchanged(ground: Ground<'_>, known: &[NameFacts]) -> Result<Acted, Stop>
     ensures { IfOk result (λ a. a.after.items ≡ known.now) }
 {
     let after = copy_of(ground.alloc, known)?;
@@ -31,13 +32,13 @@ pub(crate) fn unchanged<'p>(ground: Ground<'_, 'p>, known: &[Known<'p>]) -> Resu
 }
 
 /// What is known once a variable got one of some values, and the faults of its indices.
-pub(crate) fn assign<'p>(
-    ground: Ground<'_, 'p>,
-    variable: &'p Var,
+pub(crate) fn assign(
+    ground: Ground<'_>,
+    variable: &Var,
     kinds: Kinds,
-    known: &[Known<'p>],
-) -> Result<Acted<'p>, Stop>
-    ensures { IfOk result (λ a. Assigns ground.entry.pinned.now known.now (var_tree variable.now) kinds a.after.items a.faults) }
+    known: &[NameFacts],
+) -> Result<Acted, Stop>
+    ensures { IfOk result (λ a. Assigns (pins_in ground.entry) (told_in ground.entry known.now) (var_tree variable.now) kinds (told_in ground.entry a.after.items) a.faults) }
 {
     let name = variable.name.as_slice();
     let indices = variable.indices.as_slice();
@@ -48,9 +49,9 @@ pub(crate) fn assign<'p>(
             faults: no_faults(),
         });
     }
-    match examine_indices(indices, known) {
+    match examine_indices(indices, ground.names, known) {
         Some(faults) => {
-            let after = assign_element(ground.alloc, name, kinds, known)?;
+            let after = assign_element(ground, name, kinds, known)?;
             Ok(Acted { after, faults })
         }
         None => Err(Stop::NotTold),
@@ -58,13 +59,13 @@ pub(crate) fn assign<'p>(
 }
 
 /// What is known once a target, if there is one, got one of some values.
-pub(crate) fn keep<'p>(
-    ground: Ground<'_, 'p>,
-    variable: &'p Option<Var>,
+pub(crate) fn keep(
+    ground: Ground<'_>,
+    variable: &Option<Var>,
     kinds: Kinds,
-    known: &[Known<'p>],
-) -> Result<Acted<'p>, Stop>
-    ensures { IfOk result (λ a. KeepsValue ground.entry.pinned.now known.now (target variable.now) kinds a.after.items a.faults) }
+    known: &[NameFacts],
+) -> Result<Acted, Stop>
+    ensures { IfOk result (λ a. KeepsValue (pins_in ground.entry) (told_in ground.entry known.now) (target variable.now) kinds (told_in ground.entry a.after.items) a.faults) }
 {
     match variable {
         Some(variable) => assign(ground, variable, kinds, known),
@@ -73,17 +74,17 @@ pub(crate) fn keep<'p>(
 }
 
 /// What is known behind SET.
-pub(crate) fn set_all<'p>(
-    ground: Ground<'_, 'p>,
-    assignments: &'p [Assignment],
-    known: &[Known<'p>],
-) -> Result<Acted<'p>, Stop>
-    ensures { IfOk result (λ a. Acts ground.entry.pinned.now known.now a.after.items a.faults (set (map assignment assignments.now))) }
+pub(crate) fn set_all(
+    ground: Ground<'_>,
+    assignments: &[Assignment],
+    known: &[NameFacts],
+) -> Result<Acted, Stop>
+    ensures { IfOk result (λ a. Acts (pins_in ground.entry) (told_in ground.entry known.now) (told_in ground.entry a.after.items) a.faults (set (map assignment assignments.now))) }
 {
     let mut after = copy_of(ground.alloc, known)?;
     let mut faults = no_faults();
     for a in assignments {
-        let value = inspect(&a.value, after.as_slice())?;
+        let value = inspect(&a.value, ground.names, after.as_slice())?;
         let next = assign(ground, &a.target, value.kinds, after.as_slice())?;
         faults = both(both(faults, value.faults), next.faults);
         after = next.after;
@@ -92,12 +93,12 @@ pub(crate) fn set_all<'p>(
 }
 
 /// What is known behind UNSET.
-pub(crate) fn clear_all<'p>(
-    ground: Ground<'_, 'p>,
-    names: &'p [Name],
-    known: &[Known<'p>],
-) -> Result<Acted<'p>, Stop>
-    ensures { IfOk result (λ a. ClearsAll ground.entry.pinned.now known.now names.now a.after.items) }
+pub(crate) fn clear_all(
+    ground: Ground<'_>,
+    names: &[Name],
+    known: &[NameFacts],
+) -> Result<Acted, Stop>
+    ensures { IfOk result (λ a. ClearsAll (pins_in ground.entry) (told_in ground.entry known.now) names.now (told_in ground.entry a.after.items)) }
 {
     let mut after = copy_of(ground.alloc, known)?;
     for name in names {

@@ -6,12 +6,12 @@ ghost use Rattle.ctd_program.specs.calls.View.{expr_tree, target};
 ghost use Rattle.ctd_store.specs.declared.value.Value.TheVariants as values;
 ghost use Rattle.ctd_command.specs.Commands.{int, string};
 ghost use Rattle.ctd_command.specs.Regex.{regex};
-ghost use Rattle.ctd_known.specs.calls.Facts.{MayBe};
+ghost use Rattle.ctd_known.specs.calls.Facts.{MayBe, pins_in, told_in};
 ghost use Rattle.ctd_traps.specs.inner.Walk.{Acts};
 
 use crate::assign::{Acted, keep};
 use ctd_known::{
-    Ground, Kinds, Known, Lengths, Stop, both, copy_of, inspect, number_faults, text_faults,
+    Ground, Kinds, Lengths, NameFacts, Stop, both, copy_of, inspect, number_faults, text_faults,
 };
 use ctd_program::{Expr, IntArguments, RegexArguments};
 use ctd_range::Range;
@@ -34,15 +34,15 @@ fn between(a: Kinds, b: Kinds) -> Kinds
 }
 
 /// What is known behind INT.
-pub(crate) fn take_integer<'p>(
-    arguments: &'p IntArguments,
-    ground: Ground<'_, 'p>,
-    known: &[Known<'p>],
-) -> Result<Acted<'p>, Stop>
-    ensures { IfOk result (λ a. Acts ground.entry.pinned.now known.now a.after.items a.faults (int (expr_tree arguments.now.low) (expr_tree arguments.now.high) (target arguments.now.target))) }
+pub(crate) fn take_integer(
+    arguments: &IntArguments,
+    ground: Ground<'_>,
+    known: &[NameFacts],
+) -> Result<Acted, Stop>
+    ensures { IfOk result (λ a. Acts (pins_in ground.entry) (told_in ground.entry known.now) (told_in ground.entry a.after.items) a.faults (int (expr_tree arguments.now.low) (expr_tree arguments.now.high) (target arguments.now.target))) }
 {
-    let low = inspect(&arguments.low, known)?;
-    let high = inspect(&arguments.high, known)?;
+    let low = inspect(&arguments.low, ground.names, known)?;
+    let high = inspect(&arguments.high, ground.names, known)?;
     let kept = keep(
         ground,
         &arguments.target,
@@ -57,14 +57,14 @@ pub(crate) fn take_integer<'p>(
 }
 
 /// What is known behind STRING.
-pub(crate) fn take_string<'p>(
-    e: &'p Expr,
-    ground: Ground<'_, 'p>,
-    known: &[Known<'p>],
-) -> Result<Acted<'p>, Stop>
-    ensures { IfOk result (λ a. Acts ground.entry.pinned.now known.now a.after.items a.faults (string (expr_tree e.now))) }
+pub(crate) fn take_string(
+    e: &Expr,
+    ground: Ground<'_>,
+    known: &[NameFacts],
+) -> Result<Acted, Stop>
+    ensures { IfOk result (λ a. Acts (pins_in ground.entry) (told_in ground.entry known.now) (told_in ground.entry a.after.items) a.faults (string (expr_tree e.now))) }
 {
-    let faults = text_faults(inspect(e, known)?);
+    let faults = text_faults(inspect(e, ground.names, known)?);
     let after = copy_of(ground.alloc, known)?;
     Ok(Acted { after, faults })
 }
@@ -83,12 +83,12 @@ fn in_window() -> Kinds
 }
 
 /// What is known behind REGEX.
-pub(crate) fn take_match<'p>(
-    arguments: &'p RegexArguments,
-    ground: Ground<'_, 'p>,
-    known: &[Known<'p>],
-) -> Result<Acted<'p>, Stop>
-    ensures { IfOk result (λ a. Acts ground.entry.pinned.now known.now a.after.items a.faults (regex arguments.now.literal.bytes (target arguments.now.target))) }
+pub(crate) fn take_match(
+    arguments: &RegexArguments,
+    ground: Ground<'_>,
+    known: &[NameFacts],
+) -> Result<Acted, Stop>
+    ensures { IfOk result (λ a. Acts (pins_in ground.entry) (told_in ground.entry known.now) (told_in ground.entry a.after.items) a.faults (regex arguments.now.literal.bytes (target arguments.now.target))) }
 {
     keep(ground, &arguments.target, in_window(), known)
 }
