@@ -1,7 +1,6 @@
 -- Names with what is known of them.
-use Rattle.std.proofs.Common.{◌≡◌, ◌≤◌, ◌<◌, ◌+◌, ℕ, zero, suc, List, [], ◌∷◌, ◌++◌, length, get_or, map, take, drop, refl, ap, sym, subst, ◌∙◌, arith, false, None}
+use Rattle.std.proofs.Common.{◌≡◌, ◌≤◌, ◌<◌, ◌+◌, ℕ, zero, suc, List, [], ◌∷◌, ◌++◌, length, get_or, set, map, drop, refl, ap, sym, subst, ◌∙◌, arith, false, None}
 use Rattle.std.specs.Borrow.{Bor}
-use Rattle.std.proofs.lemmas.List.{map-append, take_all, take_more}
 use Rattle.ctd_known.specs.declared.facts.NameFacts.{NameFacts}
 use Rattle.ctd_known.specs.calls.Facts.{Known, IsImpossible, NameStands, TellsAll, name_at, told}
 use Rattle.ctd_known.specs.calls.Changed.{PaysStep}
@@ -85,20 +84,44 @@ told_paid names known after i e x many inside pays one =
     (one_paid (told names known) (told names after) i d (entry (name_at names i) x) (told_inside names known i inside) pays (sym (ap (λ (y : Known). y.name) at))
     (subst (λ (y : Known). NamePays y.facts x) (sym at) one))
 
--- facts that are replaced
-pub told_replaced : (names : List (Bor (List ℕ))) (known after : List NameFacts) (name own : List ℕ) (facts e x : NameFacts) (i : ℕ) → length after ≡ i → i < length known → own ≡ name_at names i
-    → entry own x ≡ with_facts name facts (entry own (get_or known i e))
-    → told names after ≡ map (with_facts name facts) (take i (told names known))
-    → told names (after ++ x ∷ []) ≡ map (with_facts name facts) (take (i + 1) (told names known))
-told_replaced names known after name own facts e x i many inside is new before =
-    let f = with_facts name facts in
-    let d = entry (name_at names i) e in
-    let at : get_or (told names known) i d ≡ entry own (get_or known i e) = told_at names known i d e inside ∙ ap (λ m. entry m (get_or known i e)) (sym is) in
-    let more : take (i + 1) (told names known) ≡ take i (told names known) ++ entry own (get_or known i e) ∷ [] =
-        take_more (told names known) i d (told_inside names known i inside) ∙ ap (λ y. take i (told names known) ++ y ∷ []) at in
-    told_push names after x ∙ ap (λ n. told names after ++ entry (name_at names n) x ∷ []) many ∙ ap (λ m. told names after ++ entry m x ∷ []) (sym is)
-    ∙ ap (λ l. l ++ entry own x ∷ []) before ∙ ap (λ y. map f (take i (told names known)) ++ y ∷ []) new
-    ∙ sym (ap (λ l. map f l) more ∙ map-append f (take i (told names known)) (entry own (get_or known i e) ∷ []))
+-- one entry is written
+pub told_set : (names : List (Bor (List ℕ))) (xs : List NameFacts) (i : ℕ) (x : NameFacts) → told names (set xs i x) ≡ set (told names xs) i (entry (name_at names i) x)
+told_set names [] i x = refl
+told_set [] (y ∷ ys) zero x = refl
+told_set [] (y ∷ ys) (suc i) x = ap (λ l. entry [] y ∷ l) (told_set [] ys i x)
+told_set (q ∷ qs) (y ∷ ys) zero x = refl
+told_set (q ∷ qs) (y ∷ ys) (suc i) x = ap (λ l. entry q.now y ∷ l) (told_set qs ys i x)
 
-pub told_all_replaced : (names : List (Bor (List ℕ))) (known after : List NameFacts) (name : List ℕ) (facts : NameFacts) (i : ℕ) → length known ≤ i → told names after ≡ map (with_facts name facts) (take i (told names known)) → told names after ≡ map (with_facts name facts) (told names known)
-told_all_replaced names known after name facts i all before = before ∙ ap (λ l. map (with_facts name facts) l) (take_all i (told names known) (subst (λ m. m ≤ i) (sym (told_length names known)) all))
+-- the first entries changed, the others as they were
+abbrev pub front : (Known → Known) → ℕ → List Known → List Known
+front f zero xs = xs
+front f (suc i) [] = []
+front f (suc i) (x ∷ xs) = f x ∷ front f i xs
+
+front_more : (f : Known → Known) (i : ℕ) (xs : List Known) (d : Known) → set (front f i xs) i (f (get_or (front f i xs) i d)) ≡ front f (suc i) xs
+front_more f zero [] d = refl
+front_more f zero (x ∷ xs) d = refl
+front_more f (suc i) [] d = refl
+front_more f (suc i) (x ∷ xs) d = ap (λ l. f x ∷ l) (front_more f i xs d)
+
+front_all : (f : Known → Known) (i : ℕ) (xs : List Known) → length xs ≤ i → front f i xs ≡ map f xs
+front_all f zero [] all = refl
+front_all f zero (x ∷ xs) all = absurd (omega (arith, all))
+front_all f (suc i) [] all = refl
+front_all f (suc i) (x ∷ xs) all = ap (λ l. f x ∷ l) (front_all f i xs (omega (arith, all)))
+
+-- facts that are replaced
+pub told_replaced : (names : List (Bor (List ℕ))) (old known : List NameFacts) (name own : List ℕ) (facts e x : NameFacts) (i : ℕ) → i < length known → own ≡ name_at names i → entry own x ≡ with_facts name facts (entry own (get_or known i e))
+    → told names known ≡ front (with_facts name facts) i (told names old) → told names (set known i x) ≡ front (with_facts name facts) (i + 1) (told names old)
+told_replaced names old known name own facts e x i inside is new before =
+    let f = with_facts name facts in
+    let all = told names known in
+    let d = entry own e in
+    let next : suc i ≡ i + 1 = omega arith in
+    let at : get_or all i d ≡ entry own (get_or known i e) = told_at names known i d e inside ∙ ap (λ m. entry m (get_or known i e)) (sym is) in
+    told_set names known i x ∙ ap (λ m. set all i (entry m x)) (sym is) ∙ ap (λ y. set all i y) new ∙ ap (λ y. set all i (f y)) (sym at)
+    ∙ ap (λ l. set l i (f (get_or l i d))) before ∙ front_more f i (told names old) d ∙ ap (λ n. front f n (told names old)) next
+
+pub told_all_replaced : (names : List (Bor (List ℕ))) (old known : List NameFacts) (name : List ℕ) (facts : NameFacts) (i : ℕ) → length old ≤ i → told names known ≡ front (with_facts name facts) i (told names old) → told names known ≡ map (with_facts name facts) (told names old)
+told_all_replaced names old known name facts i all before =
+    before ∙ front_all (with_facts name facts) i (told names old) (subst (λ m. m ≤ i) (sym (told_length names old)) all)

@@ -1,13 +1,13 @@
 //! What is known once variables got values, or lost them.
 
-ghost use Rattle.std.specs.Prelude.{◌≡◌, ℕ, true, IfOk};
+ghost use Rattle.std.specs.Prelude.{◌≡◌, ℕ, true, IfOk, OnOk};
 ghost use Rattle.ctd_store.specs.declared.value.Value.{Value};
 ghost use Rattle.ctd_known.specs.calls.Facts.{MayBe, pins_in, told, told_in};
 ghost use Rattle.ctd_known.specs.inner.Facts.{Tells};
 ghost use Rattle.ctd_known.specs.calls.Changed.{AssignsAlone, AssignsElements, Clears};
 ghost use Rattle.ctd_known.specs.inner.Changed.{AreWithin};
 
-use crate::facts::{Kinds, NameFacts, copy_of, facts_of, kinds_are_within, replace_facts};
+use crate::facts::{Kinds, NameFacts, facts_of, kinds_are_within, replace_facts};
 use crate::guess::join_kinds;
 use crate::stop::Stop;
 use std::alloc::Global;
@@ -55,19 +55,19 @@ fn is_none(kinds: Kinds) -> bool
     kinds.number.is_none()
 }
 
-/// What is known once a name without indices got one of some values.
+/// Gives a name without indices one of some values.
 pub fn assign_alone(
     ground: Ground<'_>,
     name: &[u8],
     kinds: Kinds,
-    known: &[NameFacts],
-) -> Result<Vec<NameFacts>, Stop>
-    ensures { IfOk result (λ after. AssignsAlone (pins_in ground.entry) (told_in ground.entry known.now) name.now kinds (told_in ground.entry after.items)) }
+    known: &mut [NameFacts],
+) -> Result<(), Stop>
+    ensures { OnOk result (AssignsAlone (pins_in ground.entry) (told_in ground.entry known.old) name.now kinds (told_in ground.entry known.new)) }
 {
     let facts = listed(ground.names, known, name)?;
     let pin = listed(ground.names, ground.pinned, name)?;
     if !pin.may_lack {
-        return copy_of(ground.alloc, known);
+        return Ok(());
     }
     if !is_none(pin.alone) {
         return Err(Stop::NotTold);
@@ -77,34 +77,33 @@ pub fn assign_alone(
         alone: kinds,
         elements: facts.elements,
     };
-    replace_facts(ground.alloc, ground.names, known, name, facts)
+    replace_facts(ground.names, known, name, facts);
+    Ok(())
 }
 
-/// What is known once an element of a name got one of some values.
+/// Gives an element of a name one of some values.
 pub fn assign_element(
     ground: Ground<'_>,
     name: &[u8],
     kinds: Kinds,
-    known: &[NameFacts],
-) -> Result<Vec<NameFacts>, Stop>
-    ensures { IfOk result (λ after. AssignsElements (told_in ground.entry known.now) name.now kinds (told_in ground.entry after.items)) }
+    known: &mut [NameFacts],
+) -> Result<(), Stop>
+    ensures { OnOk result (AssignsElements (told_in ground.entry known.old) name.now kinds (told_in ground.entry known.new)) }
 {
     let facts = listed(ground.names, known, name)?;
     let facts = NameFacts {
         elements: either_kinds(facts.elements, kinds)?,
         ..facts
     };
-    replace_facts(ground.alloc, ground.names, known, name, facts)
+    replace_facts(ground.names, known, name, facts);
+    Ok(())
 }
 
-/// What is known once a name lost what was assigned to it.
-pub fn clear(
-    ground: Ground<'_>,
-    name: &[u8],
-    known: &[NameFacts],
-) -> Result<Vec<NameFacts>, Stop>
-    ensures { IfOk result (λ after. Clears (pins_in ground.entry) (told_in ground.entry known.now) name.now (told_in ground.entry after.items)) }
+/// Takes from a name what was assigned to it.
+pub fn clear(ground: Ground<'_>, name: &[u8], known: &mut [NameFacts]) -> Result<(), Stop>
+    ensures { OnOk result (Clears (pins_in ground.entry) (told_in ground.entry known.old) name.now (told_in ground.entry known.new)) }
 {
     let facts = listed(ground.names, ground.pinned, name)?;
-    replace_facts(ground.alloc, ground.names, known, name, facts)
+    replace_facts(ground.names, known, name, facts);
+    Ok(())
 }

@@ -1,6 +1,6 @@
 //! What is known where two expressions compare so.
 
-ghost use Rattle.std.specs.Prelude.{◌≡◌, ℕ, ℤ, Some, IfOk};
+ghost use Rattle.std.specs.Prelude.{◌≡◌, ℕ, ℤ, Some, IfOk, OnOk};
 ghost use Rattle.ctd_program.specs.calls.View.{expr_tree};
 ghost use Rattle.ctd_program.specs.declared.tree.Compare.{Compare};
 ghost use Rattle.ctd_store.specs.declared.value.Value.{Value};
@@ -76,15 +76,15 @@ fn cut_kinds(by: Compare, a: Kinds, b: Kinds) -> Kinds
     }
 }
 
-/// What is known where an expression compares so with a value of a kind.
+/// Leaves what is known where an expression compares so with a value of a kind.
 fn cut(
     ground: Ground<'_>,
-    known: &[NameFacts],
+    known: &mut [NameFacts],
     e: &Expr,
     by: Compare,
     kinds: Kinds,
-) -> Result<Vec<NameFacts>, Stop>
-    ensures { IfOk result (λ after. Cuts (told_in ground.entry known.now) (expr_tree e.now) by kinds (told_in ground.entry after.items)) }
+) -> Result<(), Stop>
+    ensures { OnOk result (Cuts (told_in ground.entry known.old) (expr_tree e.now) by kinds (told_in ground.entry known.new)) }
 {
     match e {
         Expr::Name(name) => {
@@ -94,15 +94,10 @@ fn cut(
                 alone: cut_kinds(by, facts.alone, kinds),
                 elements: facts.elements,
             };
-            replace_facts(
-                ground.alloc,
-                ground.names,
-                known,
-                name.as_slice(),
-                narrowed,
-            )
+            replace_facts(ground.names, known, name.as_slice(), narrowed);
+            Ok(())
         }
-        _ => copy_of(ground.alloc, known),
+        _ => Ok(()),
     }
 }
 
@@ -118,6 +113,8 @@ pub(crate) fn cut_both(
 ) -> Result<Vec<NameFacts>, Stop>
     ensures { IfOk result (λ after. CutsBoth (told_in ground.entry known.now) by (expr_tree a.now) (expr_tree b.now) one other (told_in ground.entry after.items)) }
 {
-    let first = cut(ground, known, a, by, other)?;
-    cut(ground, first.as_slice(), b, turned(by), one)
+    let mut after = copy_of(ground.alloc, known)?;
+    cut(ground, after.as_mut_slice(), a, by, other)?;
+    cut(ground, after.as_mut_slice(), b, turned(by), one)?;
+    Ok(after)
 }

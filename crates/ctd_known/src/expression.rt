@@ -106,7 +106,12 @@ fn of_element(index: Option<usize>, facts: NameFacts, indices: Faults) -> Found
 }
 
 /// What a name may give at indices, which may fail by these faults; none where it is not listed.
-fn examine_element(name: &Name, indices: Faults, names: &[&[u8]], known: &[NameFacts]) -> Option<Found>
+fn examine_element(
+    name: &Name,
+    indices: Faults,
+    names: &[&[u8]],
+    known: &[NameFacts],
+) -> Option<Found>
     ensures { IfSome result (λ f. (es : List Expr) → es ≢ [] → AllFailBy (told names.now known.now) (expr_list es) indices → Gives (told names.now known.now) (Tree.variable name.now (expr_list es)) f) }
 {
     let word = name.as_slice();

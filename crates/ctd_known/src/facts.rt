@@ -52,7 +52,7 @@ pub fn index_of(names: &[&[u8]], known: &[NameFacts], name: &[u8]) -> Option<usi
     ensures inside { IfSome result (λ i. i < length known.now) }
     ensures named { IfSome result (λ i. name_at names.now i ≡ name.now) }
 {
-    for (i, _) in known.iter().enumerate() {
+    for i in 0..known.len() {
         if name_at(names, i) == name {
             return Some(i);
         }
@@ -184,21 +184,13 @@ fn with_facts(own: &[u8], entry: NameFacts, name: &[u8], facts: NameFacts) -> Na
     if own == name { facts } else { entry }
 }
 
-/// What is known, with other facts of a name.
-pub fn replace_facts(
-    alloc: Global,
-    names: &[&[u8]],
-    known: &[NameFacts],
-    name: &[u8],
-    facts: NameFacts,
-) -> Result<Vec<NameFacts>, Stop>
-    ensures { IfOk result (λ after. told names.now after.items ≡ map (with_facts name.now facts) (told names.now known.now)) }
+/// Gives a name other facts.
+pub fn replace_facts(names: &[&[u8]], known: &mut [NameFacts], name: &[u8], facts: NameFacts)
+    ensures { told names.now known.new ≡ map (with_facts name.now facts) (told names.now known.old) }
 {
-    let mut after = Vec::new(alloc);
-    for (i, entry) in known.iter().enumerate() {
-        after.push(with_facts(name_at(names, i), *entry, name, facts))?;
+    for (i, entry) in known.iter_mut().enumerate() {
+        *entry = with_facts(name_at(names, i), *entry, name, facts);
     }
-    Ok(after)
 }
 
 /// A copy of what is known.

@@ -4,7 +4,7 @@ ghost use Rattle.std.specs.Prelude.{IfOk};
 ghost use Rattle.ctd_program.specs.calls.View.{test_tree};
 ghost use Rattle.ctd_traps.specs.inner.Cases.{Divides, IsEither, opposite, cases_in};
 
-use crate::cases::{Case, with_all, with_case};
+use crate::cases::{Case, add_case, with_all};
 use ctd_known::{Faults, Ground, Stop, both, no_faults, split};
 use ctd_program::Test;
 
@@ -17,11 +17,7 @@ pub(crate) struct Divided {
 }
 
 /// Each case where a test is true, and where it is false.
-fn divide_each(
-    ground: Ground<'_>,
-    t: &Test,
-    cases: &[Case],
-) -> Result<Divided, Stop>
+fn divide_each(ground: Ground<'_>, t: &Test, cases: &[Case]) -> Result<Divided, Stop>
     ensures { IfOk result (λ s. Divides (cases_in ground.entry cases.now) (test_tree t.now) (cases_in ground.entry s.if_true.items) (cases_in ground.entry s.if_false.items) s.faults) }
 {
     let mut if_true = Vec::new(ground.alloc);
@@ -29,8 +25,8 @@ fn divide_each(
     let mut faults = no_faults();
     for case in cases {
         let decided = split(ground, t, case.known.as_slice())?;
-        if_true = with_case(ground, if_true, decided.if_true)?;
-        if_false = with_case(ground, if_false, decided.if_false)?;
+        add_case(ground, &mut if_true, decided.if_true)?;
+        add_case(ground, &mut if_false, decided.if_false)?;
         faults = both(faults, decided.faults);
     }
     Ok(Divided {
@@ -41,11 +37,7 @@ fn divide_each(
 }
 
 /// One test or another, of which the other is asked where the first is false.
-fn either(
-    ground: Ground<'_>,
-    first: Divided,
-    second: Divided,
-) -> Result<Divided, Stop>
+fn either(ground: Ground<'_>, first: Divided, second: Divided) -> Result<Divided, Stop>
     ensures { IfOk result (λ all. IsEither ground.entry first second all) }
 {
     let if_true = with_all(ground, first.if_true, second.if_true.as_slice())?;
@@ -57,11 +49,7 @@ fn either(
 }
 
 /// One test and another, which is asked where the first is true.
-fn each(
-    ground: Ground<'_>,
-    first: Divided,
-    second: Divided,
-) -> Result<Divided, Stop>
+fn each(ground: Ground<'_>, first: Divided, second: Divided) -> Result<Divided, Stop>
     ensures { IfOk result (λ all. IsEither ground.entry (opposite first) (opposite second) (opposite all)) }
 {
     let if_false = with_all(ground, first.if_false, second.if_false.as_slice())?;
@@ -73,11 +61,7 @@ fn each(
 }
 
 /// The cases where a test is true, and those where it is false. A test that is asked in no case has no faults.
-pub(crate) fn divide(
-    ground: Ground<'_>,
-    t: &Test,
-    cases: &[Case],
-) -> Result<Divided, Stop>
+pub(crate) fn divide(ground: Ground<'_>, t: &Test, cases: &[Case]) -> Result<Divided, Stop>
     ensures { IfOk result (λ s. Divides (cases_in ground.entry cases.now) (test_tree t.now) (cases_in ground.entry s.if_true.items) (cases_in ground.entry s.if_false.items) s.faults) }
 {
     match t {

@@ -1,6 +1,6 @@
 //! The traps of a program.
 
-ghost use Rattle.std.specs.Prelude.{◌≡◌, ℕ, [], IfOk, IfSome, List};
+ghost use Rattle.std.specs.Prelude.{ℕ, [], IfOk, IfSome, List, OnOk};
 ghost use Rattle.ctd_program.specs.calls.View.{command_trees};
 ghost use Rattle.ctd_store.specs.Store.{Variables, value_of, with_pin};
 ghost use Rattle.ctd_store.specs.inner.Store.{pins_of};
@@ -9,14 +9,12 @@ ghost use Rattle.ctd_traps.specs.inner.Cases.{TellsCase, cases_in};
 ghost use Rattle.ctd_known.specs.calls.Facts.{MayBe, PinsStand, pins_in, told, told_in};
 ghost use Rattle.std.specs.Borrow.{Bor};
 
-use crate::cases::{Case, with_case};
+use crate::cases::{Case, add_case};
 use crate::finding::Finding;
 use crate::names::{Mentioned, mentioned_in};
 use crate::walk::walk;
 use ctd_check::big_steps_are_the_run;
-use ctd_known::{
-    Ground, Kinds, Lengths, NameFacts, Stop, assign_alone, assign_element, copy_of,
-};
+use ctd_known::{Ground, Kinds, Lengths, NameFacts, Stop, assign_alone, assign_element, copy_of};
 use ctd_program::{Command, Preset, PresetValue, Presets};
 use ctd_range::Range;
 use std::alloc::{AllocError, Global};
@@ -73,13 +71,9 @@ fn kinds_of(literal: &PresetValue) -> Kinds
     }
 }
 
-/// What is known once a preset is pinned too. What is known without pins is given.
-fn pin(
-    without: Ground<'_>,
-    preset: &Preset,
-    known: &[NameFacts],
-) -> Result<Vec<NameFacts>, Stop>
-    ensures { IfOk result (λ after. PinsStand (pins_in without.entry) [] → (pins : Variables) → PinsStand (told_in without.entry known.now) pins → PinsStand (told_in without.entry after.items) (with_pin pins preset.now)) }
+/// Pins a preset. What is known without pins is given.
+fn pin(without: Ground<'_>, preset: &Preset, known: &mut [NameFacts]) -> Result<(), Stop>
+    ensures { OnOk result (PinsStand (pins_in without.entry) [] → (pins : Variables) → PinsStand (told_in without.entry known.old) pins → PinsStand (told_in without.entry known.new) (with_pin pins preset.now)) }
 {
     let name = preset.name.as_slice();
     let kinds = kinds_of(&preset.value);
@@ -90,15 +84,14 @@ fn pin(
     }
 }
 
-/// What is known where all presets are pinned.
-fn pin_all(without: Ground<'_>, presets: &[Preset]) -> Result<Vec<NameFacts>, Stop>
-    ensures { IfOk result (λ known. PinsStand (pins_in without.entry) [] → PinsStand (told_in without.entry known.items) (pins_of presets.now)) }
+/// Pins all presets.
+fn pin_all(without: Ground<'_>, presets: &[Preset], known: &mut [NameFacts]) -> Result<(), Stop>
+    ensures { OnOk result (PinsStand (pins_in without.entry) [] → PinsStand (told_in without.entry known.old) [] → PinsStand (told_in without.entry known.new) (pins_of presets.now)) }
 {
-    let mut known = copy_of(without.alloc, without.pinned)?;
     for preset in presets {
-        known = pin(without, preset, known.as_slice())?;
+        pin(without, preset, known)?;
     }
-    Ok(known)
+    Ok(())
 }
 
 /// The traps of a program: the findings, and the names to which they refer.
@@ -109,11 +102,7 @@ pub struct TrapList<'p> {
 }
 
 /// What is known before the first command of a program with these names.
-fn known_before(
-    alloc: Global,
-    presets: &Presets,
-    names: &[&[u8]],
-) -> Result<Vec<NameFacts>, Stop>
+fn known_before(alloc: Global, presets: &Presets, names: &[&[u8]]) -> Result<Vec<NameFacts>, Stop>
     ensures { IfOk result (λ known. PinsStand (told names.now known.items) (pins_of presets.now)) }
 {
     let nothing = unset(alloc, names)?;
@@ -122,7 +111,9 @@ fn known_before(
         names,
         pinned: nothing.as_slice(),
     };
-    pin_all(without, presets.pins())
+    let mut known = copy_of(alloc, nothing.as_slice())?;
+    pin_all(without, presets.pins(), known.as_mut_slice())?;
+    Ok(known)
 }
 
 /// The one case before the first command, in which just the pins are known.
@@ -130,7 +121,9 @@ fn first_case(ground: Ground<'_>) -> Result<Vec<Case>, Stop>
     ensures { IfOk result (λ first. TellsCase (pins_in ground.entry) (cases_in ground.entry first.items)) }
 {
     let known = copy_of(ground.alloc, ground.pinned)?;
-    with_case(ground, Vec::new(ground.alloc), known)
+    let mut first = Vec::new(ground.alloc);
+    add_case(ground, &mut first, known)?;
+    Ok(first)
 }
 
 /// The places at which a run of some commands with these names may stop by a fault of a value.

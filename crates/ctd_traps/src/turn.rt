@@ -11,8 +11,8 @@ ghost use Rattle.ctd_program.specs.declared.tree.Loop.{out-Loop};
 ghost use Rattle.ctd_traps.specs.inner.Cases.{cases_in};
 
 use crate::act::ActedCases;
-use crate::assign::{Acted, assign, unchanged};
-use crate::cases::{Case, join_cases, with_case};
+use crate::assign::assign;
+use crate::cases::{Case, add_case, join_cases};
 use crate::divide::divide;
 use ctd_known::{
     Faults, Ground, Kinds, NameFacts, Stop, after_step, both, inspect, no_faults, number_faults,
@@ -97,11 +97,7 @@ fn start(guard: &LoopGuard, ground: Ground<'_>, known: &[NameFacts]) -> Result<T
 }
 
 /// How a loop may start in some cases.
-fn start_each(
-    guard: &LoopGuard,
-    ground: Ground<'_>,
-    cases: &[Case],
-) -> Result<Turns, Stop>
+fn start_each(guard: &LoopGuard, ground: Ground<'_>, cases: &[Case]) -> Result<Turns, Stop>
     ensures { IfOk result (λ t. StartsIn (cases_in ground.entry cases.now) (guard_tree guard.now) t) }
 {
     if cases.is_empty() {
@@ -128,14 +124,14 @@ fn below(turn: Range, most: u64) -> Range
     less(turn, counts)
 }
 
-/// What is known once the counter of a loop, if there is one, got the number of a turn.
+/// Gives the counter of a loop, if there is one, the number of a turn.
 fn count_turn(
     counter: &Option<Box<Var>>,
     turn: Range,
     ground: Ground<'_>,
-    known: &[NameFacts],
-) -> Result<Acted, Stop>
-    ensures { IfOk result (λ a. CountsTurn (pins_in ground.entry) (told_in ground.entry known.now) (boxed_target counter.now) turn (told_in ground.entry a.after.items) a.faults) }
+    known: &mut [NameFacts],
+) -> Result<Faults, Stop>
+    ensures { IfOk result (λ faults. CountsTurn (pins_in ground.entry) (told_in ground.entry known.old) (boxed_target counter.now) turn (told_in ground.entry known.new) faults) }
 {
     let kinds = Kinds {
         text: None,
@@ -143,7 +139,7 @@ fn count_turn(
     };
     match counter {
         Some(variable) => assign(ground, variable, kinds, known),
-        None => unchanged(ground, known),
+        None => Ok(no_faults()),
     }
 }
 
@@ -159,10 +155,10 @@ fn count_each(
     let mut after = Vec::new(ground.alloc);
     let mut faults = no_faults();
     for case in cases {
-        let paid = after_step(ground.alloc, case.known.as_slice())?;
-        let counted = count_turn(counter, turn, ground, paid.as_slice())?;
-        after = with_case(ground, after, counted.after)?;
-        faults = both(faults, counted.faults);
+        let mut known = after_step(ground.alloc, case.known.as_slice())?;
+        let own = count_turn(counter, turn, ground, known.as_mut_slice())?;
+        add_case(ground, &mut after, known)?;
+        faults = both(faults, own);
     }
     Ok(ActedCases { after, faults })
 }
@@ -242,11 +238,7 @@ pub(crate) struct Begun {
 }
 
 /// How a loop starts, and how its first turn begins.
-pub(crate) fn begin(
-    repeated: &Loop,
-    ground: Ground<'_>,
-    cases: &[Case],
-) -> Result<Begun, Stop>
+pub(crate) fn begin(repeated: &Loop, ground: Ground<'_>, cases: &[Case]) -> Result<Begun, Stop>
     ensures starts { IfOk result (λ b. StartsIn (cases_in ground.entry cases.now) (guard_tree (out-Loop repeated.now).guard) b.turns) }
     ensures enters { IfOk result (λ b. Enters (pins_in ground.entry) (cases_in ground.entry cases.now) (guard_tree (out-Loop repeated.now).guard) b.turns (boxed_target (out-Loop repeated.now).counter) first_turn (cases_in ground.entry b.first.inside.items) (cases_in ground.entry b.first.outside.items) b.first.faults) }
 {

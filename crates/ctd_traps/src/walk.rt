@@ -80,11 +80,7 @@ fn assert(
 }
 
 /// The cases behind IF, by those behind each of its branches.
-fn join_branches(
-    ground: Ground<'_>,
-    yes: Vec<Case>,
-    no: Vec<Case>,
-) -> Result<Vec<Case>, Stop>
+fn join_branches(ground: Ground<'_>, yes: Vec<Case>, no: Vec<Case>) -> Result<Vec<Case>, Stop>
     ensures { IfOk result (λ after. AreBranches (cases_in ground.entry yes.items) (cases_in ground.entry no.items) (cases_in ground.entry after.items)) }
 {
     with_all(ground, yes, no.as_slice())

@@ -16,6 +16,7 @@ loop-facts-preserved c =
     let before = c.loop-facts.after.items in
     let known = c.args.known.now in
     let all = c.in_ok-push.ensures.items in
-    let many = c.loop-facts.invariant.0 in
-    (ap length all ∙ length-append before _ ∙ ap (λ n. n + 1) many,
-     λ names. subst (λ l. PaysStep (told names known) (told names l)) (sym all) (told_paid names known before c.loop-facts.facts-index _ _ many c.loop-facts-test.true (c.loop-facts.invariant.1 names) c.pay_name.ensures))
+    let many = c.loop-facts.invariant.0 in (
+      ap length all ∙ length-append before _ ∙ ap (λ n. n + 1) many,
+      λ names. subst (λ l. PaysStep (told names known) (told names l)) (sym all) (told_paid names known before c.loop-facts.facts-index _ _ many c.loop-facts-test.true (c.loop-facts.invariant.1 names) c.pay_name.ensures),
+    )
