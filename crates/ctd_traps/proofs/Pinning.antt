@@ -36,16 +36,16 @@ PinLeads nothing known rest whole = PinsStand nothing [] → (pins : Variables) 
 pub pin_leads_on : (nothing before after : List Known) (p : Preset) (rest whole : List Preset) → (PinsStand nothing [] → (pins : Variables) → PinsStand before pins → PinsStand after (with_pin pins p)) → PinLeads nothing before (p ∷ rest) whole → PinLeads nothing after rest whole
 pin_leads_on nothing before after p rest whole pin leads empty = let so_far = leads empty in (with_pin so_far.0 p, so_far.1, pin empty so_far.0 so_far.2)
 
-pub first_pins : (nothing known : List Known) (whole : List Preset) → PinsStand known [] → PinLeads nothing known whole whole
-first_pins nothing known whole stand empty = ([], refl, stand)
+pub first_pins : (nothing : List Known) (whole : List Preset) → PinLeads nothing nothing whole whole
+first_pins nothing whole empty = ([], refl, empty)
 
 pub all_pinned : (nothing known : List Known) (whole : List Preset) → PinLeads nothing known [] whole → PinsStand nothing [] → PinsStand known (pins_of whole)
 all_pinned nothing known whole leads empty = let so_far = leads empty in subst (λ pins. PinsStand known pins) so_far.1 so_far.2
 
-pub pin_step : (nothing before after : List Known) (ps : List Preset) (i : ℕ) (p : Preset) → i < length ps → p ≡ get_or ps i p → (PinsStand nothing [] → (pins : Variables) → PinsStand before pins → PinsStand after (with_pin pins p)) → PinLeads nothing before (drop i ps) ps
+pub pin_step : (nothing before slice after : List Known) (ps : List Preset) (i : ℕ) (p : Preset) → slice ≡ before → i < length ps → p ≡ get_or ps i p → (PinsStand nothing [] → (pins : Variables) → PinsStand slice pins → PinsStand after (with_pin pins p)) → PinLeads nothing before (drop i ps) ps
     → PinLeads nothing after (drop (i + 1) ps) ps
-pin_step nothing before after ps i p inside is pin leads =
-    pin_leads_on nothing before after p (drop (i + 1) ps) ps pin
+pin_step nothing before slice after ps i p lent inside is pin leads =
+    pin_leads_on nothing before after p (drop (i + 1) ps) ps (subst (λ b. PinsStand nothing [] → (pins : Variables) → PinsStand b pins → PinsStand after (with_pin pins p)) lent pin)
     (subst (λ l. PinLeads nothing before l ps) (at_drop_more (λ l. l) ps i p inside ∙ ap (λ (q : Preset). q ∷ drop (i + 1) ps) (sym is)) leads)
 
 pub pin_done : (nothing known : List Known) (ps : List Preset) (i : ℕ) → length ps ≤ i → PinLeads nothing known (drop i ps) ps → PinsStand nothing [] → PinsStand known (pins_of ps)

@@ -7,7 +7,7 @@ ghost use Rattle.ctd_known.specs.calls.Facts.{pins_in, told_in};
 ghost use Rattle.ctd_traps.specs.inner.Cases.{cases_in};
 
 use crate::assign::{clear_all, set_all};
-use crate::cases::{Case, add_case};
+use crate::cases::{Case, with_case};
 use crate::simple::{take_integer, take_match, take_string};
 use ctd_known::{Faults, Ground, NameFacts, Stop, both, copy_of, no_faults};
 use ctd_program::{Action, Command};
@@ -47,7 +47,7 @@ pub(crate) fn act_each(
     for case in cases {
         let mut known = copy_of(ground.alloc, case.known.as_slice())?;
         let own = act(command, ground, known.as_mut_slice())?;
-        add_case(ground, &mut after, known)?;
+        after = with_case(ground, after, known)?;
         faults = both(faults, own);
     }
     Ok(ActedCases { after, faults })

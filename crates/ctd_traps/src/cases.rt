@@ -1,6 +1,6 @@
 //! Cases side by side: what is known together in each of them. A run is in one of them.
 
-ghost use Rattle.std.specs.Prelude.{◌≡◌, ◌<◌, true, length, IfOk, IfSome, OnOk};
+ghost use Rattle.std.specs.Prelude.{◌≡◌, ◌<◌, true, length, IfOk, IfSome};
 ghost use Rattle.ctd_traps.specs.inner.Cases.{TellsCase, TellsCases, TellsJoined, cases_in};
 ghost use Rattle.ctd_known.specs.calls.Facts.{told_in};
 ghost use Rattle.ctd_known.specs.declared.assign.Ground.{Ground};
@@ -57,49 +57,48 @@ pub(crate) fn join_cases(ground: Ground<'_>, cases: &[Case]) -> Result<Vec<NameF
     Ok(all)
 }
 
-/// Adds a case to others.
-fn push_case(cases: &mut Vec<Case>, known: Vec<NameFacts>) -> Result<(), Stop>
-    ensures others { OnOk result ((g : Ground) → TellsCases (cases_in g cases.old.items) (cases_in g cases.new.items)) }
-    ensures added { OnOk result ((g : Ground) → TellsCase (told_in g known.items) (cases_in g cases.new.items)) }
+/// Cases and one more.
+fn with_pushed(mut cases: Vec<Case>, known: Vec<NameFacts>) -> Result<Vec<Case>, Stop>
+    ensures others { IfOk result (λ all. (g : Ground) → TellsCases (cases_in g cases.items) (cases_in g all.items)) }
+    ensures added { IfOk result (λ all. (g : Ground) → TellsCase (told_in g known.items) (cases_in g all.items)) }
 {
     cases.push(Case { known })?;
-    Ok(())
+    Ok(cases)
 }
 
-/// Puts one case in the place of others, where these are many.
-fn limit_cases(ground: Ground<'_>, cases: &mut Vec<Case>) -> Result<(), Stop>
-    ensures { OnOk result (TellsCases (cases_in ground.entry cases.old.items) (cases_in ground.entry cases.new.items)) }
+/// The cases where they are few, and otherwise one in their place.
+fn limit_cases(ground: Ground<'_>, cases: Vec<Case>) -> Result<Vec<Case>, Stop>
+    ensures { IfOk result (λ all. TellsCases (cases_in ground.entry cases.items) (cases_in ground.entry all.items)) }
 {
     if cases.len() <= MOST {
-        return Ok(());
+        return Ok(cases);
     }
     let all = join_cases(ground, cases.as_slice())?;
-    cases.clear();
-    push_case(cases, all)
+    with_pushed(Vec::new(ground.alloc), all)
 }
 
-/// Adds a case to others. It is joined with that in which the same names are sure to have a value. A case in which no run is is left out.
-pub(crate) fn add_case(
+/// Cases and one more, which is joined with that in which the same names are sure to have a value. A case in which no run is is left out.
+pub(crate) fn with_case(
     ground: Ground<'_>,
-    cases: &mut Vec<Case>,
+    mut cases: Vec<Case>,
     known: Vec<NameFacts>,
-) -> Result<(), Stop>
-    ensures others { OnOk result (TellsCases (cases_in ground.entry cases.old.items) (cases_in ground.entry cases.new.items)) }
-    ensures added { OnOk result (TellsCase (told_in ground.entry known.items) (cases_in ground.entry cases.new.items)) }
+) -> Result<Vec<Case>, Stop>
+    ensures others { IfOk result (λ all. TellsCases (cases_in ground.entry cases.items) (cases_in ground.entry all.items)) }
+    ensures added { IfOk result (λ all. TellsCase (told_in ground.entry known.items) (cases_in ground.entry all.items)) }
 {
     let is_left_out = is_unreachable(known.as_slice());
     if is_left_out {
-        return Ok(());
+        return Ok(cases);
     }
     match same_case(cases.as_slice(), known.as_slice()) {
         Some(i) => {
             let same = cases.remove(i);
             let both = join(ground.alloc, same.known.as_slice(), known.as_slice())?;
-            push_case(cases, both)
+            with_pushed(cases, both)
         }
         None => {
-            push_case(cases, known)?;
-            limit_cases(ground, cases)
+            let more = with_pushed(cases, known)?;
+            limit_cases(ground, more)
         }
     }
 }
@@ -116,7 +115,7 @@ pub(crate) fn with_all(
     let mut all = cases;
     for other in others {
         let known = copy_of(ground.alloc, other.known.as_slice())?;
-        add_case(ground, &mut all, known)?;
+        all = with_case(ground, all, known)?;
     }
     Ok(all)
 }
@@ -168,7 +167,7 @@ pub(crate) fn widen_cases(
     let mut next = with_all(ground, Vec::new(ground.alloc), guess)?;
     for case in end {
         let wider = widen_case(ground, guess, case.known.as_slice(), round)?;
-        add_case(ground, &mut next, wider)?;
+        next = with_case(ground, next, wider)?;
     }
     Ok(next)
 }

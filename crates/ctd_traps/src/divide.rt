@@ -4,7 +4,7 @@ ghost use Rattle.std.specs.Prelude.{IfOk};
 ghost use Rattle.ctd_program.specs.calls.View.{test_tree};
 ghost use Rattle.ctd_traps.specs.inner.Cases.{Divides, IsEither, opposite, cases_in};
 
-use crate::cases::{Case, add_case, with_all};
+use crate::cases::{Case, with_all, with_case};
 use ctd_known::{Faults, Ground, Stop, both, no_faults, split};
 use ctd_program::Test;
 
@@ -25,8 +25,8 @@ fn divide_each(ground: Ground<'_>, t: &Test, cases: &[Case]) -> Result<Divided, 
     let mut faults = no_faults();
     for case in cases {
         let decided = split(ground, t, case.known.as_slice())?;
-        add_case(ground, &mut if_true, decided.if_true)?;
-        add_case(ground, &mut if_false, decided.if_false)?;
+        if_true = with_case(ground, if_true, decided.if_true)?;
+        if_false = with_case(ground, if_false, decided.if_false)?;
         faults = both(faults, decided.faults);
     }
     Ok(Divided {

@@ -9,7 +9,7 @@ ghost use Rattle.ctd_traps.specs.inner.Cases.{TellsCase, cases_in};
 ghost use Rattle.ctd_known.specs.calls.Facts.{MayBe, PinsStand, pins_in, told, told_in};
 ghost use Rattle.std.specs.Borrow.{Bor};
 
-use crate::cases::{Case, add_case};
+use crate::cases::{Case, with_case};
 use crate::finding::Finding;
 use crate::names::{Mentioned, mentioned_in};
 use crate::walk::walk;
@@ -84,14 +84,15 @@ fn pin(without: Ground<'_>, preset: &Preset, known: &mut [NameFacts]) -> Result<
     }
 }
 
-/// Pins all presets.
-fn pin_all(without: Ground<'_>, presets: &[Preset], known: &mut [NameFacts]) -> Result<(), Stop>
-    ensures { OnOk result (PinsStand (pins_in without.entry) [] → PinsStand (told_in without.entry known.old) [] → PinsStand (told_in without.entry known.new) (pins_of presets.now)) }
+/// What is known where all presets are pinned.
+fn pin_all(without: Ground<'_>, presets: &[Preset]) -> Result<Vec<NameFacts>, Stop>
+    ensures { IfOk result (λ known. PinsStand (pins_in without.entry) [] → PinsStand (told_in without.entry known.items) (pins_of presets.now)) }
 {
+    let mut known = copy_of(without.alloc, without.pinned)?;
     for preset in presets {
-        pin(without, preset, known)?;
+        pin(without, preset, known.as_mut_slice())?;
     }
-    Ok(())
+    Ok(known)
 }
 
 /// The traps of a program: the findings, and the names to which they refer.
@@ -111,9 +112,7 @@ fn known_before(alloc: Global, presets: &Presets, names: &[&[u8]]) -> Result<Vec
         names,
         pinned: nothing.as_slice(),
     };
-    let mut known = copy_of(alloc, nothing.as_slice())?;
-    pin_all(without, presets.pins(), known.as_mut_slice())?;
-    Ok(known)
+    pin_all(without, presets.pins())
 }
 
 /// The one case before the first command, in which just the pins are known.
@@ -121,9 +120,7 @@ fn first_case(ground: Ground<'_>) -> Result<Vec<Case>, Stop>
     ensures { IfOk result (λ first. TellsCase (pins_in ground.entry) (cases_in ground.entry first.items)) }
 {
     let known = copy_of(ground.alloc, ground.pinned)?;
-    let mut first = Vec::new(ground.alloc);
-    add_case(ground, &mut first, known)?;
-    Ok(first)
+    with_case(ground, Vec::new(ground.alloc), known)
 }
 
 /// The places at which a run of some commands with these names may stop by a fault of a value.

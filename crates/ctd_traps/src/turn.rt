@@ -12,7 +12,7 @@ ghost use Rattle.ctd_traps.specs.inner.Cases.{cases_in};
 
 use crate::act::ActedCases;
 use crate::assign::assign;
-use crate::cases::{Case, add_case, join_cases};
+use crate::cases::{Case, join_cases, with_case};
 use crate::divide::divide;
 use ctd_known::{
     Faults, Ground, Kinds, NameFacts, Stop, after_step, both, inspect, no_faults, number_faults,
@@ -157,7 +157,7 @@ fn count_each(
     for case in cases {
         let mut known = after_step(ground.alloc, case.known.as_slice())?;
         let own = count_turn(counter, turn, ground, known.as_mut_slice())?;
-        add_case(ground, &mut after, known)?;
+        after = with_case(ground, after, known)?;
         faults = both(faults, own);
     }
     Ok(ActedCases { after, faults })

@@ -1,4 +1,4 @@
-use Rattle.std.proofs.Common.{◌≡◌, rules}
+use Rattle.std.proofs.Common.{rules}
 use Rattle.ctd_known.proofs.Told.{name_is, no_name_is}
 use Rattle.ctd_known.proofs.facts.name_at.Goals as goal
 

@@ -14,10 +14,10 @@ loop-case-preserved c =
     let i = c.loop-case.case-index in
     let case = c.case-item.result in
     let after = c.act.new.known in
-    let next = cases_in g c.add_case.new.cases.items in
+    let next = cases_in g c.in_ok-after.after.items in
     act_step (pins_in g) (cases_in g cases) i (case_in g case) (command_tree c.args.command.now) (told_in g c.as_mut_slice.result.now) (told_in g after) c.in_ok-own.own c.loop-case.faults c.both-faults.result
     (cases_in g c.loop-case.after.items) next (ap (told_in g) (c.as_mut_slice.ensures.value ∙ c.in_ok-known.ensures ∙ c.as_slice.ensures.value)) (within g cases i c.loop-case-test.true) (at g cases i case c.case-item.is) c.in_ok-own.ensures
-    c.in_ok-add_case.ensures.others (subst (λ l. TellsCase (told_in g l) next) (with_items_is c.in_ok-known.known after (omega arith)) c.in_ok-add_case.ensures.added) c.both-faults.ensures.first c.both-faults.ensures.second c.loop-case.invariant
+    c.in_ok-after.ensures.others (subst (λ l. TellsCase (told_in g l) next) (with_items_is c.in_ok-known.known after (omega arith)) c.in_ok-after.ensures.added) c.both-faults.ensures.first c.both-faults.ensures.second c.loop-case.invariant
 
 pub returns : goal.returns
 returns c =

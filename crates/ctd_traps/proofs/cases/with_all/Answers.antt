@@ -11,10 +11,10 @@ loop-other-preserved c =
     let others = c.args.others.now in
     let i = c.loop-other.other-index in
     let other = c.other-item.result in
-    let added = c.in_ok-add_case.ensures in
+    let added = c.in_ok-all.ensures in
     record {
       first = λ n h one. added.others n h (c.loop-other.invariant.first n h one);
-      rest = case_done (cases_in g others) i (case_in g other) (λ n h. OneStands (cases_in g c.loop-other.all.items) n h) (λ n h. OneStands (cases_in g c.add_case.new.cases.items) n h) (within g others i c.loop-other-test.true) (at g others i other c.other-item.is)
+      rest = case_done (cases_in g others) i (case_in g other) (λ n h. OneStands (cases_in g c.loop-other.all.items) n h) (λ n h. OneStands (cases_in g c.in_ok-all.all.items) n h) (within g others i c.loop-other-test.true) (at g others i other c.other-item.is)
           added.others (λ n h each. added.added n h (subst (λ k. EachStands (told_in g k) n h) (sym (c.in_ok-known.ensures ∙ c.as_slice.ensures.value)) each)) c.loop-other.invariant.rest;
     }
 

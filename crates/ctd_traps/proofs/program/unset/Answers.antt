@@ -1,5 +1,5 @@
-use Rattle.std.proofs.Common.{[], ap, refl, sym, subst, length, ◌∙◌}
-use Rattle.ctd_known.specs.calls.Facts.{PinsStand, name_at, told}
+use Rattle.std.proofs.Common.{[], ap, refl, sym, subst, ◌∙◌}
+use Rattle.ctd_known.specs.calls.Facts.{PinsStand, told}
 use Rattle.ctd_known.proofs.Told.{told_push}
 use Rattle.ctd_traps.proofs.Pinning.{one_more_name}
 use Rattle.ctd_traps.proofs.program.unset.Goals as goal

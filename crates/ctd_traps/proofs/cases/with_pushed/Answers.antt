@@ -4,11 +4,11 @@ use Rattle.ctd_traps.specs.declared.cases.Case.{Case}
 use Rattle.ctd_traps.specs.inner.Cases.{TellsCase, TellsCases, case_in, cases_in}
 use Rattle.ctd_traps.proofs.Joining.{pushed_last, pushed_others}
 use Rattle.ctd_traps.proofs.Viewed.{pushed}
-use Rattle.ctd_traps.proofs.cases.push_case.Goals as goal
+use Rattle.ctd_traps.proofs.cases.with_pushed.Goals as goal
 
 pub returns : goal.returns
 returns c =
-    let cases = c.args.cases.now.items in
+    let cases = c.args.cases.items in
     let one : Case = record { known = c.args.known } in
     let all = c.in_ok-push.ensures.items in
     record {
