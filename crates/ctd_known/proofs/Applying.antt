@@ -24,9 +24,8 @@ use Rattle.ctd_known.specs.declared.expression.Found.{Found}
 use Rattle.ctd_known.specs.declared.faults.Faults.{Faults}
 use Rattle.ctd_known.specs.declared.expression.Operator.{Operator}
 use Rattle.ctd_known.specs.declared.expression.Operator.TheVariants as operators
-use Rattle.ctd_known.specs.declared.facts.Known.{Known}
 use Rattle.ctd_known.specs.declared.facts.NameFacts.{NameFacts}
-use Rattle.ctd_known.specs.calls.Facts.{MayBe, NameStands, at_key}
+use Rattle.ctd_known.specs.calls.Facts.{Known, MayBe, NameStands, at_key}
 use Rattle.ctd_known.specs.inner.Facts.{Tells}
 use Rattle.ctd_known.specs.calls.Found.{AllFailBy, FailsBy, Gives, IsAmong, IsFound, as_number, as_text}
 use Rattle.ctd_known.specs.inner.Found.{AreOperands, HasOperator, IsComputed, Operates, measured, negated, operate}

@@ -8,8 +8,7 @@ use Rattle.ctd_store.specs.inner.OrderLaws.{exact_lists, values_equiv}
 use Rattle.ctd_store.proofs.StoreLaws.{assigned_key_has_its_value, pinned_key_stays, assignment_keeps_other_keys, unset_key_has_its_pin, unset_keeps_other_names}
 use Rattle.ctd_known.specs.declared.facts.Kinds.{Kinds}
 use Rattle.ctd_known.specs.declared.facts.NameFacts.{NameFacts}
-use Rattle.ctd_known.specs.declared.facts.Known.{Known}
-use Rattle.ctd_known.specs.calls.Facts.{EachStands, MayBe, MayHave, NameStands, at_key, pins_alone}
+use Rattle.ctd_known.specs.calls.Facts.{Known, EachStands, MayBe, MayHave, NameStands, at_key, pins_alone}
 use Rattle.ctd_known.specs.inner.Facts.{Tells}
 use Rattle.ctd_known.specs.calls.Changed.{AssignsAlone, AssignsElements, Clears}
 use Rattle.ctd_known.specs.inner.Changed.{AreWithin, with_facts}

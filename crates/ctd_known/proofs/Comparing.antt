@@ -23,8 +23,7 @@ use Rattle.ctd_known.specs.declared.faults.Faults.{Faults}
 use Rattle.ctd_known.specs.declared.facts.Lengths.{Lengths}
 use Rattle.ctd_known.specs.declared.facts.Kinds.{Kinds}
 use Rattle.ctd_known.specs.declared.facts.NameFacts.{NameFacts}
-use Rattle.ctd_known.specs.declared.facts.Known.{Known}
-use Rattle.ctd_known.specs.calls.Facts.{EachStands, MayBe, MayHave, NameStands, at_key}
+use Rattle.ctd_known.specs.calls.Facts.{Known, EachStands, MayBe, MayHave, NameStands, at_key}
 use Rattle.ctd_known.specs.calls.Found.{Decides, FailsBy, Gives, IsFound, SplitsBy}
 use Rattle.ctd_known.specs.inner.Facts.{Tells}
 use Rattle.ctd_known.specs.inner.Changed.{with_facts}

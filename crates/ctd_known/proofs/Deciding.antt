@@ -17,8 +17,7 @@ use Rattle.ctd_value.specs.Truth.{compares, value_in_array, uniqueness}
 use Rattle.ctd_value.specs.inner.Truth.{is_end, is_one_of}
 use Rattle.ctd_known.specs.declared.expression.Found.{Found}
 use Rattle.ctd_known.specs.declared.faults.Faults.{Faults}
-use Rattle.ctd_known.specs.declared.facts.Known.{Known}
-use Rattle.ctd_known.specs.calls.Facts.{EachStands, MayBe}
+use Rattle.ctd_known.specs.calls.Facts.{Known, EachStands, MayBe}
 use Rattle.ctd_known.specs.calls.Found.{Decides, FailsBy, Gives, IsAmong, IsFound, SplitsBy, as_text}
 use Rattle.ctd_known.proofs.Applying.{AreFaults}
 

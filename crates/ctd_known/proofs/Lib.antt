@@ -1,4 +1,5 @@
 pub mod Standing
+pub mod Told
 pub mod Assigning
 pub mod Applying
 pub mod Deciding

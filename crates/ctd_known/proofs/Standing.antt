@@ -10,8 +10,7 @@ use Rattle.ctd_range.specs.calls.Ranges.{IsIn}
 use Rattle.ctd_known.specs.declared.facts.Lengths.{Lengths}
 use Rattle.ctd_known.specs.declared.facts.Kinds.{Kinds}
 use Rattle.ctd_known.specs.declared.facts.NameFacts.{NameFacts}
-use Rattle.ctd_known.specs.declared.facts.Known.{Known}
-use Rattle.ctd_known.specs.calls.Facts.{EachStands, IsImpossible, MayBe, MayHave, NameStands, TellsAll, at_key}
+use Rattle.ctd_known.specs.calls.Facts.{Known, EachStands, IsImpossible, MayBe, MayHave, NameStands, TellsAll, at_key}
 use Rattle.ctd_known.specs.inner.Facts.{Tells}
 use Rattle.ctd_known.specs.inner.Changed.{AreWithin, KindsPay, NameIsWithin, NamePays, with_facts}
 use Rattle.ctd_known.specs.calls.Changed.{PaysStep}
@@ -22,13 +21,13 @@ each_few [] n h each = each
 each_few (x ∷ xs) n h each = each_few xs n h each.1
 
 -- an entry of what is known
-pub each_at : (xs : List Known) (i : ℕ) (d : Known) (n : ℕ) (h : Bindings) → i < length xs → EachStands xs n h → NameStands (get_or xs i d).name.now (get_or xs i d).facts n h
+pub each_at : (xs : List Known) (i : ℕ) (d : Known) (n : ℕ) (h : Bindings) → i < length xs → EachStands xs n h → NameStands (get_or xs i d).name (get_or xs i d).facts n h
 each_at [] i d n h inside each = absurd (omega (arith, inside))
 each_at (y ∷ xs) zero d n h inside each = each.0
 each_at (y ∷ xs) (suc i) d n h inside each = each_at xs i d n h (omega (arith, inside)) each.1
 
-pub entry_tells : (xs : List Known) (i : ℕ) (d : Known) (name : List ℕ) → i < length xs → bytes_eq (get_or xs i d).name.now name ≡ true → Tells xs name (get_or xs i d).facts
-entry_tells xs i d name inside same n h each = subst (λ m. NameStands m (get_or xs i d).facts n h) ((bytes_eq-Decides (get_or xs i d).name.now name).0 same) (each_at xs i d n h inside each)
+pub entry_tells : (xs : List Known) (i : ℕ) (d : Known) (name : List ℕ) → i < length xs → bytes_eq (get_or xs i d).name name ≡ true → Tells xs name (get_or xs i d).facts
+entry_tells xs i d name inside same n h each = subst (λ m. NameStands m (get_or xs i d).facts n h) ((bytes_eq-Decides (get_or xs i d).name name).0 same) (each_at xs i d n h inside each)
 
 -- kinds within kinds
 pub kinds_within : (a b : Kinds) → ((l : Lengths) → a.text ≡ Some l → (m : Lengths) × (b.text ≡ Some m) × (m.least ≤ l.least) × (l.most ≤ m.most))
@@ -59,7 +58,7 @@ no_name f n None sure text number may = absurd (cc (sure, may))
 no_name f n (Some v) sure text number may = no_kind f.alone n v text number may
 
 pub impossible : (xs : List Known) (i : ℕ) (d : Known) → i < length xs → ((get_or xs i d).facts.may_lack ≡ false) × ((get_or xs i d).facts.alone.text ≡ None) × ((get_or xs i d).facts.alone.number ≡ None) → IsImpossible xs
-impossible xs i d inside none n h each = no_name (get_or xs i d).facts n (value_at h (at_key (get_or xs i d).name.now [])) none.0 none.1 none.2 (each_at xs i d n h inside each).alone
+impossible xs i d inside none n h each = no_name (get_or xs i d).facts n (value_at h (at_key (get_or xs i d).name [])) none.0 none.1 none.2 (each_at xs i d n h inside each).alone
 
 pub unreachable_tells : (known others : List Known) → IsImpossible known → TellsAll known others
 unreachable_tells known others never n h each = absurd (never n h each)
@@ -80,17 +79,17 @@ name_same name f n h g same stands = record {
 
 pub each_same : (xs : List Known) (n : ℕ) (h g : Bindings) → ((name : List ℕ) (is : List Value) → value_at g (at_key name is) ≡ value_at h (at_key name is)) → EachStands xs n h → EachStands xs n g
 each_same [] n h g same each = each
-each_same (x ∷ xs) n h g same each = (name_same x.name.now x.facts n h g (same x.name.now) each.0, each_same xs n h g same each.1)
+each_same (x ∷ xs) n h g same each = (name_same x.name x.facts n h g (same x.name) each.0, each_same xs n h g same each.1)
 
 -- other facts of one name
 apart_by : (a b : List ℕ) → bytes_eq a b ≡ false → a ≢ b
 apart_by a b is same = let yes : bytes_eq a b ≡ true = (bytes_eq-Decides a b).1 same in absurd (cc (yes, is))
 
-changed_at : (name : List ℕ) (facts : NameFacts) (x : Known) (n : ℕ) (h g : Bindings) → NameStands name facts n g → ((other : List ℕ) (is : List Value) → other ≢ name → value_at g (at_key other is) ≡ value_at h (at_key other is)) → NameStands x.name.now x.facts n h
-    → NameStands (with_facts name facts x).name.now (with_facts name facts x).facts n g
-changed_at name facts x n h g here others stands = elim (bytes_eq x.name.now name) as (λ b. bytes_eq x.name.now name ≡ b → NameStands (if b then record { name = x.name; facts = facts } else x).name.now (if b then record { name = x.name; facts = facts } else x).facts n g) [
-  | true ↦ λ is. subst (λ m. NameStands m facts n g) (sym ((bytes_eq-Decides x.name.now name).0 is)) here
-  | false ↦ λ is. name_same x.name.now x.facts n h g (λ is'. others x.name.now is' (apart_by x.name.now name is)) stands
+changed_at : (name : List ℕ) (facts : NameFacts) (x : Known) (n : ℕ) (h g : Bindings) → NameStands name facts n g → ((other : List ℕ) (is : List Value) → other ≢ name → value_at g (at_key other is) ≡ value_at h (at_key other is)) → NameStands x.name x.facts n h
+    → NameStands (with_facts name facts x).name (with_facts name facts x).facts n g
+changed_at name facts x n h g here others stands = elim (bytes_eq x.name name) as (λ b. bytes_eq x.name name ≡ b → NameStands (if b then record { name = x.name; facts = facts } else x).name (if b then record { name = x.name; facts = facts } else x).facts n g) [
+  | true ↦ λ is. subst (λ m. NameStands m facts n g) (sym ((bytes_eq-Decides x.name name).0 is)) here
+  | false ↦ λ is. name_same x.name x.facts n h g (λ is'. others x.name is' (apart_by x.name name is)) stands
 ] refl
 
 pub each_changed : (name : List ℕ) (facts : NameFacts) (xs : List Known) (n : ℕ) (h g : Bindings) → NameStands name facts n g → ((other : List ℕ) (is : List Value) → other ≢ name → value_at g (at_key other is) ≡ value_at h (at_key other is)) → EachStands xs n h
@@ -99,7 +98,7 @@ each_changed name facts [] n h g here others each = each
 each_changed name facts (x ∷ xs) n h g here others each = (changed_at name facts x n h g here others each.0, each_changed name facts xs n h g here others each.1)
 
 -- one more entry
-pub each_push : (xs : List Known) (x : Known) (n : ℕ) (h : Bindings) → EachStands xs n h → NameStands x.name.now x.facts n h → EachStands (xs ++ x ∷ []) n h
+pub each_push : (xs : List Known) (x : Known) (n : ℕ) (h : Bindings) → EachStands xs n h → NameStands x.name x.facts n h → EachStands (xs ++ x ∷ []) n h
 each_push [] x n h each one = (one, each)
 each_push (y ∷ xs) x n h each one = (each.0, each_push xs x n h each.1 one)
 
@@ -127,15 +126,15 @@ name_pays a b lacks alone elements name n h stands = record {
 pub nothing_paid : (known : List Known) → PaysStep known []
 nothing_paid known n h each = let few = each_few known (suc n) h each in omega (arith, few)
 
-pub one_paid : (known after : List Known) (i : ℕ) (d x : Known) → i < length known → PaysStep known after → x.name.now ≡ (get_or known i d).name.now → NamePays (get_or known i d).facts x.facts → PaysStep known (after ++ x ∷ [])
+pub one_paid : (known after : List Known) (i : ℕ) (d x : Known) → i < length known → PaysStep known after → x.name ≡ (get_or known i d).name → NamePays (get_or known i d).facts x.facts → PaysStep known (after ++ x ∷ [])
 one_paid known after i d x inside pays same name n h each =
-    each_push after x n h (pays n h each) (subst (λ m. NameStands m x.facts n h) (sym same) (name (get_or known i d).name.now n h (each_at known i d (suc n) h inside each)))
+    each_push after x n h (pays n h each) (subst (λ m. NameStands m x.facts n h) (sym same) (name (get_or known i d).name n h (each_at known i d (suc n) h inside each)))
 
 -- facts that follow, one more
-pub leads_on : (known others : List Known) (i : ℕ) (d : Known) (facts : NameFacts) → i < length others → Tells known (get_or others i d).name.now facts → NameIsWithin facts (get_or others i d).facts → Leads known (drop i others) others → Leads known (drop (i + 1) others) others
+pub leads_on : (known others : List Known) (i : ℕ) (d : Known) (facts : NameFacts) → i < length others → Tells known (get_or others i d).name facts → NameIsWithin facts (get_or others i d).facts → Leads known (drop i others) others → Leads known (drop (i + 1) others) others
 leads_on known others i d facts inside tells within leads n h each rest =
     let x : Known = get_or others i d in
-    let one : NameStands x.name.now x.facts n h = within_stands x.name.now facts x.facts n h (each_few known n h each) within (tells n h each) in
+    let one : NameStands x.name x.facts n h = within_stands x.name facts x.facts n h (each_few known n h each) within (tells n h each) in
     leads n h each (subst (λ l. EachStands l n h) (sym (at_drop_more (λ l. l) others i d inside)) (one, rest))
 
 pub all_follow : (known others : List Known) (i : ℕ) → length others ≤ i → Leads known (drop i others) others → TellsAll known others

@@ -1,29 +1,30 @@
 //! What is known once variables got values, or lost them.
 
-ghost use Rattle.std.specs.Prelude.{◌≡◌, ℕ, true, IfOk};
+ghost use Rattle.std.specs.Prelude.{◌≡◌, ℕ, true, IfOk, OnOk};
 ghost use Rattle.ctd_store.specs.declared.value.Value.{Value};
-ghost use Rattle.ctd_known.specs.calls.Facts.{MayBe};
+ghost use Rattle.ctd_known.specs.calls.Facts.{MayBe, pins_in, told, told_in};
 ghost use Rattle.ctd_known.specs.inner.Facts.{Tells};
 ghost use Rattle.ctd_known.specs.calls.Changed.{AssignsAlone, AssignsElements, Clears};
 ghost use Rattle.ctd_known.specs.inner.Changed.{AreWithin};
 
-use crate::facts::{Kinds, Known, NameFacts, copy_of, facts_of, kinds_are_within, replace_facts};
+use crate::facts::{Kinds, NameFacts, facts_of, kinds_are_within, replace_facts};
 use crate::guess::join_kinds;
 use crate::stop::Stop;
 use std::alloc::Global;
 
-/// What the walk goes by: memory, and what is known of the pins.
+/// What the walk goes by: memory, the names of the program, and what is known of its pins.
 #[derive(Clone, Copy)]
-pub struct Ground<'g, 'p> {
+pub struct Ground<'g> {
     pub alloc: Global,
-    pub pinned: &'g [Known<'p>],
+    pub names: &'g [&'g [u8]],
+    pub pinned: &'g [NameFacts],
 }
 
 /// What is known of a name, or nothing is told.
-pub(crate) fn listed(known: &[Known], name: &[u8]) -> Result<NameFacts, Stop>
-    ensures { IfOk result (λ facts. Tells known.now name.now facts) }
+pub(crate) fn listed(names: &[&[u8]], known: &[NameFacts], name: &[u8]) -> Result<NameFacts, Stop>
+    ensures { IfOk result (λ facts. Tells (told names.now known.now) name.now facts) }
 {
-    match facts_of(known, name) {
+    match facts_of(names, known, name) {
         Some(facts) => Ok(facts),
         None => Err(Stop::NotTold),
     }
@@ -54,19 +55,19 @@ fn is_none(kinds: Kinds) -> bool
     kinds.number.is_none()
 }
 
-/// What is known once a name without indices got one of some values.
-pub fn assign_alone<'p>(
-    ground: Ground<'_, 'p>,
+/// Gives a name without indices one of some values.
+pub fn assign_alone(
+    ground: Ground<'_>,
     name: &[u8],
     kinds: Kinds,
-    known: &[Known<'p>],
-) -> Result<Vec<Known<'p>>, Stop>
-    ensures { IfOk result (λ after. AssignsAlone ground.entry.pinned.now known.now name.now kinds after.items) }
+    known: &mut [NameFacts],
+) -> Result<(), Stop>
+    ensures { OnOk result (AssignsAlone (pins_in ground.entry) (told_in ground.entry known.old) name.now kinds (told_in ground.entry known.new)) }
 {
-    let facts = listed(known, name)?;
-    let pin = listed(ground.pinned, name)?;
+    let facts = listed(ground.names, known, name)?;
+    let pin = listed(ground.names, ground.pinned, name)?;
     if !pin.may_lack {
-        return copy_of(ground.alloc, known);
+        return Ok(());
     }
     if !is_none(pin.alone) {
         return Err(Stop::NotTold);
@@ -76,34 +77,33 @@ pub fn assign_alone<'p>(
         alone: kinds,
         elements: facts.elements,
     };
-    replace_facts(ground.alloc, known, name, facts)
+    replace_facts(ground.names, known, name, facts);
+    Ok(())
 }
 
-/// What is known once an element of a name got one of some values.
-pub fn assign_element<'p>(
-    alloc: Global,
+/// Gives an element of a name one of some values.
+pub fn assign_element(
+    ground: Ground<'_>,
     name: &[u8],
     kinds: Kinds,
-    known: &[Known<'p>],
-) -> Result<Vec<Known<'p>>, Stop>
-    ensures { IfOk result (λ after. AssignsElements known.now name.now kinds after.items) }
+    known: &mut [NameFacts],
+) -> Result<(), Stop>
+    ensures { OnOk result (AssignsElements (told_in ground.entry known.old) name.now kinds (told_in ground.entry known.new)) }
 {
-    let facts = listed(known, name)?;
+    let facts = listed(ground.names, known, name)?;
     let facts = NameFacts {
         elements: either_kinds(facts.elements, kinds)?,
         ..facts
     };
-    replace_facts(alloc, known, name, facts)
+    replace_facts(ground.names, known, name, facts);
+    Ok(())
 }
 
-/// What is known once a name lost what was assigned to it.
-pub fn clear<'p>(
-    ground: Ground<'_, 'p>,
-    name: &[u8],
-    known: &[Known<'p>],
-) -> Result<Vec<Known<'p>>, Stop>
-    ensures { IfOk result (λ after. Clears ground.entry.pinned.now known.now name.now after.items) }
+/// Takes from a name what was assigned to it.
+pub fn clear(ground: Ground<'_>, name: &[u8], known: &mut [NameFacts]) -> Result<(), Stop>
+    ensures { OnOk result (Clears (pins_in ground.entry) (told_in ground.entry known.old) name.now (told_in ground.entry known.new)) }
 {
-    let facts = listed(ground.pinned, name)?;
-    replace_facts(ground.alloc, known, name, facts)
+    let facts = listed(ground.names, ground.pinned, name)?;
+    replace_facts(ground.names, known, name, facts);
+    Ok(())
 }

@@ -10,13 +10,15 @@ ghost use Rattle.std.specs.declared.cmp.Ordering.{Ordering};
 ghost use Rattle.ctd_value.specs.Truth.{compares, holds_by};
 ghost use Rattle.ctd_program.specs.Tree;
 ghost use Rattle.ctd_store.specs.declared.value.Value.TheVariants as values;
-ghost use Rattle.ctd_known.specs.calls.Facts.{MayBe, TellsAll};
+ghost use Rattle.ctd_known.specs.calls.Facts.{MayBe, TellsAll, told, told_in};
+ghost use Rattle.std.specs.Borrow.{Bor};
 ghost use Rattle.ctd_known.specs.calls.Found.{IsFound, IsAmong, FailsBy, Gives, SplitsBy};
 ghost use Rattle.ctd_known.specs.inner.Facts.{AreSame};
 
+use crate::assign::Ground;
 use crate::cut::cut_both;
 use crate::expression::{Found, examine, may_be_number, may_be_text, text_faults};
-use crate::facts::{Kinds, Known, copy_of, is_within};
+use crate::facts::{Kinds, NameFacts, copy_of, is_within};
 use crate::faults::{Faults, both, no_faults};
 use crate::guess::merge;
 use crate::stop::Stop;
@@ -26,26 +28,26 @@ use std::alloc::Global;
 
 /// What is known where a test is true, and where it is false, and the faults that it may have.
 #[derive(Drop)]
-pub struct Branches<'p> {
-    pub if_true: Vec<Known<'p>>,
-    pub if_false: Vec<Known<'p>>,
+pub struct Branches {
+    pub if_true: Vec<NameFacts>,
+    pub if_false: Vec<NameFacts>,
     pub faults: Faults,
 }
 
 /// What an expression may give.
-pub fn inspect(e: &Expr, known: &[Known]) -> Result<Found, Stop>
-    ensures { IfOk result (λ f. Gives known.now (expr_tree e.now) f) }
+pub fn inspect(e: &Expr, names: &[&[u8]], known: &[NameFacts]) -> Result<Found, Stop>
+    ensures { IfOk result (λ f. Gives (told names.now known.now) (expr_tree e.now) f) }
 {
-    match examine(e, known) {
+    match examine(e, names, known) {
         Some(f) => Ok(f),
         None => Err(Stop::NotTold),
     }
 }
 
 /// What is known where either is known.
-pub fn join<'p>(alloc: Global, a: &[Known<'p>], b: &[Known<'p>]) -> Result<Vec<Known<'p>>, Stop>
-    ensures left { IfOk result (λ all. TellsAll a.now all.items) }
-    ensures right { IfOk result (λ all. TellsAll b.now all.items) }
+pub fn join(alloc: Global, a: &[NameFacts], b: &[NameFacts]) -> Result<Vec<NameFacts>, Stop>
+    ensures left { IfOk result (λ all. (names : List (Bor (List ℕ))) → TellsAll (told names a.now) (told names all.items)) }
+    ensures right { IfOk result (λ all. (names : List (Bor (List ℕ))) → TellsAll (told names b.now) (told names all.items)) }
 {
     let all = merge(alloc, a, b)?;
     if !is_within(a, all.as_slice()) {
@@ -58,7 +60,7 @@ pub fn join<'p>(alloc: Global, a: &[Known<'p>], b: &[Known<'p>]) -> Result<Vec<K
 }
 
 /// What was known is known whatever a test gives.
-fn same<'p>(alloc: Global, known: &[Known<'p>], faults: Faults) -> Result<Branches<'p>, Stop>
+fn same(alloc: Global, known: &[NameFacts], faults: Faults) -> Result<Branches, Stop>
     ensures { IfOk result (λ s. AreSame known.now faults s) }
 {
     let if_true = copy_of(alloc, known)?;
@@ -131,19 +133,19 @@ fn opposite_of(by: Compare) -> Compare
 }
 
 /// What is known where a comparison is true, and where it is false.
-fn compare<'p>(
-    alloc: Global,
+fn compare(
+    ground: Ground<'_>,
     by: Compare,
-    a: &'p Expr,
-    b: &'p Expr,
-    known: &[Known<'p>],
-) -> Result<Branches<'p>, Stop>
-    ensures { IfOk result (λ s. SplitsBy known.now (Tree.compare by (expr_tree a.now) (expr_tree b.now)) s.if_true.items s.if_false.items s.faults) }
+    a: &Expr,
+    b: &Expr,
+    known: &[NameFacts],
+) -> Result<Branches, Stop>
+    ensures { IfOk result (λ s. SplitsBy (told_in ground.entry known.now) (Tree.compare by (expr_tree a.now) (expr_tree b.now)) (told_in ground.entry s.if_true.items) (told_in ground.entry s.if_false.items) s.faults) }
 {
-    let one = inspect(a, known)?;
-    let other = inspect(b, known)?;
-    let if_true = cut_both(alloc, known, by, a, b, one.kinds, other.kinds)?;
-    let if_false = cut_both(alloc, known, opposite_of(by), a, b, one.kinds, other.kinds)?;
+    let one = inspect(a, ground.names, known)?;
+    let other = inspect(b, ground.names, known)?;
+    let if_true = cut_both(ground, known, by, a, b, one.kinds, other.kinds)?;
+    let if_false = cut_both(ground, known, opposite_of(by), a, b, one.kinds, other.kinds)?;
     Ok(Branches {
         if_true,
         if_false,
@@ -152,25 +154,25 @@ fn compare<'p>(
 }
 
 /// What is known where an expression matches the data, and where it does not.
-fn split_match<'p>(alloc: Global, e: &Expr, known: &[Known<'p>]) -> Result<Branches<'p>, Stop>
-    ensures { IfOk result (λ s. SplitsBy known.now (Tree.matches (expr_tree e.now)) s.if_true.items s.if_false.items s.faults) }
+fn split_match(ground: Ground<'_>, e: &Expr, known: &[NameFacts]) -> Result<Branches, Stop>
+    ensures { IfOk result (λ s. SplitsBy (told_in ground.entry known.now) (Tree.matches (expr_tree e.now)) (told_in ground.entry s.if_true.items) (told_in ground.entry s.if_false.items) s.faults) }
 {
-    let text = inspect(e, known)?;
-    same(alloc, known, text_faults(text))
+    let text = inspect(e, ground.names, known)?;
+    same(ground.alloc, known, text_faults(text))
 }
 
 /// What is known where a test of one question is true, and where it is false. Of a test that is made of others nothing is told: its parts are asked.
-pub fn split<'p>(alloc: Global, t: &'p Test, known: &[Known<'p>]) -> Result<Branches<'p>, Stop>
-    ensures { IfOk result (λ s. SplitsBy known.now (test_tree t.now) s.if_true.items s.if_false.items s.faults) }
+pub fn split(ground: Ground<'_>, t: &Test, known: &[NameFacts]) -> Result<Branches, Stop>
+    ensures { IfOk result (λ s. SplitsBy (told_in ground.entry known.now) (test_tree t.now) (told_in ground.entry s.if_true.items) (told_in ground.entry s.if_false.items) s.faults) }
 {
     match t {
-        Test::Compare(by, a, b) => compare(alloc, *by, a, b, known),
-        Test::Match(e) => split_match(alloc, e, known),
-        Test::IsEof => same(alloc, known, no_faults()),
-        Test::Unique(names) => same(alloc, known, shape_faults(names.as_slice())),
+        Test::Compare(by, a, b) => compare(ground, *by, a, b, known),
+        Test::Match(e) => split_match(ground, e, known),
+        Test::IsEof => same(ground.alloc, known, no_faults()),
+        Test::Unique(names) => same(ground.alloc, known, shape_faults(names.as_slice())),
         Test::InArray(e, _) => {
-            let wanted = inspect(e, known)?;
-            same(alloc, known, wanted.faults)
+            let wanted = inspect(e, ground.names, known)?;
+            same(ground.alloc, known, wanted.faults)
         }
         Test::Or(_, _) | Test::And(_, _) | Test::Not(_) => Err(Stop::NotTold),
     }

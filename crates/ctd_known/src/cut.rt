@@ -1,20 +1,19 @@
 //! What is known where two expressions compare so.
 
-ghost use Rattle.std.specs.Prelude.{◌≡◌, ℕ, ℤ, Some, IfOk};
+ghost use Rattle.std.specs.Prelude.{◌≡◌, ℕ, ℤ, Some, IfOk, OnOk};
 ghost use Rattle.ctd_program.specs.calls.View.{expr_tree};
 ghost use Rattle.ctd_program.specs.declared.tree.Compare.{Compare};
 ghost use Rattle.ctd_store.specs.declared.value.Value.{Value};
 ghost use Rattle.ctd_range.specs.declared.range.Range.{Range};
 ghost use Rattle.ctd_range.specs.calls.Ranges.{IsIn};
-ghost use Rattle.ctd_known.specs.calls.Facts.{MayBe};
+ghost use Rattle.ctd_known.specs.calls.Facts.{MayBe, told_in};
 ghost use Rattle.ctd_known.specs.inner.Compared.{Cuts, CutsBoth, MayCompare, Relates};
 
-use crate::assign::listed;
-use crate::facts::{Kinds, Known, Lengths, NameFacts, copy_of, replace_facts};
+use crate::assign::{Ground, listed};
+use crate::facts::{Kinds, Lengths, NameFacts, copy_of, replace_facts};
 use crate::stop::Stop;
 use ctd_program::{Compare, Expr};
 use ctd_range::{Range, at_least, at_most, greater, is_empty, less, other, same};
-use std::alloc::Global;
 
 /// The same comparison of the second with the first.
 fn turned(by: Compare) -> Compare
@@ -77,42 +76,45 @@ fn cut_kinds(by: Compare, a: Kinds, b: Kinds) -> Kinds
     }
 }
 
-/// What is known where an expression compares so with a value of a kind.
-fn cut<'p>(
-    alloc: Global,
-    known: &[Known<'p>],
-    e: &'p Expr,
+/// Leaves what is known where an expression compares so with a value of a kind.
+fn cut(
+    ground: Ground<'_>,
+    known: &mut [NameFacts],
+    e: &Expr,
     by: Compare,
     kinds: Kinds,
-) -> Result<Vec<Known<'p>>, Stop>
-    ensures { IfOk result (λ after. Cuts known.now (expr_tree e.now) by kinds after.items) }
+) -> Result<(), Stop>
+    ensures { OnOk result (Cuts (told_in ground.entry known.old) (expr_tree e.now) by kinds (told_in ground.entry known.new)) }
 {
     match e {
         Expr::Name(name) => {
-            let facts = listed(known, name.as_slice())?;
+            let facts = listed(ground.names, known, name.as_slice())?;
             let narrowed = NameFacts {
                 may_lack: false,
                 alone: cut_kinds(by, facts.alone, kinds),
                 elements: facts.elements,
             };
-            replace_facts(alloc, known, name.as_slice(), narrowed)
+            replace_facts(ground.names, known, name.as_slice(), narrowed);
+            Ok(())
         }
-        _ => copy_of(alloc, known),
+        _ => Ok(()),
     }
 }
 
 /// What is known where two expressions, which may be of these kinds, compare so.
-pub(crate) fn cut_both<'p>(
-    alloc: Global,
-    known: &[Known<'p>],
+pub(crate) fn cut_both(
+    ground: Ground<'_>,
+    known: &[NameFacts],
     by: Compare,
-    a: &'p Expr,
-    b: &'p Expr,
+    a: &Expr,
+    b: &Expr,
     one: Kinds,
     other: Kinds,
-) -> Result<Vec<Known<'p>>, Stop>
-    ensures { IfOk result (λ after. CutsBoth known.now by (expr_tree a.now) (expr_tree b.now) one other after.items) }
+) -> Result<Vec<NameFacts>, Stop>
+    ensures { IfOk result (λ after. CutsBoth (told_in ground.entry known.now) by (expr_tree a.now) (expr_tree b.now) one other (told_in ground.entry after.items)) }
 {
-    let first = cut(alloc, known, a, by, other)?;
-    cut(alloc, first.as_slice(), b, turned(by), one)
+    let mut after = copy_of(ground.alloc, known)?;
+    cut(ground, after.as_mut_slice(), a, by, other)?;
+    cut(ground, after.as_mut_slice(), b, turned(by), one)?;
+    Ok(after)
 }

@@ -12,11 +12,11 @@ ghost use Rattle.ctd_range.specs.calls.Ranges.{Covers};
 ghost use Rattle.ctd_value.specs.Arithmetic.{in_range};
 ghost use Rattle.ctd_value.specs.Val.{arithmetic};
 ghost use Rattle.ctd_value.specs.inner.Val.{value_or_undefined};
-ghost use Rattle.ctd_known.specs.calls.Facts.{MayBe, MayHave};
+ghost use Rattle.ctd_known.specs.calls.Facts.{MayBe, MayHave, told};
 ghost use Rattle.ctd_known.specs.calls.Found.{IsFound, IsAmong, Gives, AllFailBy, FailsBy, as_number, as_text};
 ghost use Rattle.ctd_known.specs.inner.Found.{IsComputed, AreOperands, HasOperator, Operates, IsWithinRanges, operate, measured, negated};
 
-use crate::facts::{Kinds, Known, Lengths, NameFacts, facts_of, index_of};
+use crate::facts::{Kinds, Lengths, NameFacts, facts_of, index_of};
 use crate::faults::{Faults, both, no_faults};
 use ctd_program::Expr;
 use ctd_range::{Computed, Range};
@@ -81,12 +81,12 @@ fn of_name(index: Option<usize>, facts: NameFacts) -> Found
 }
 
 /// What a name without indices may give; none where it is not listed.
-fn examine_name(name: &Name, known: &[Known]) -> Option<Found>
-    ensures { IfSome result (λ f. Gives known.now (Tree.variable name.now Tree.none) f) }
+fn examine_name(name: &Name, names: &[&[u8]], known: &[NameFacts]) -> Option<Found>
+    ensures { IfSome result (λ f. Gives (told names.now known.now) (Tree.variable name.now Tree.none) f) }
 {
     let word = name.as_slice();
-    let facts = facts_of(known, word)?;
-    Some(of_name(index_of(known, word), facts))
+    let facts = facts_of(names, known, word)?;
+    Some(of_name(index_of(names, known, word), facts))
 }
 
 /// The value of a name at indices, of which these faults are known.
@@ -106,12 +106,17 @@ fn of_element(index: Option<usize>, facts: NameFacts, indices: Faults) -> Found
 }
 
 /// What a name may give at indices, which may fail by these faults; none where it is not listed.
-fn examine_element(name: &Name, indices: Faults, known: &[Known]) -> Option<Found>
-    ensures { IfSome result (λ f. (es : List Expr) → es ≢ [] → AllFailBy known.now (expr_list es) indices → Gives known.now (Tree.variable name.now (expr_list es)) f) }
+fn examine_element(
+    name: &Name,
+    indices: Faults,
+    names: &[&[u8]],
+    known: &[NameFacts],
+) -> Option<Found>
+    ensures { IfSome result (λ f. (es : List Expr) → es ≢ [] → AllFailBy (told names.now known.now) (expr_list es) indices → Gives (told names.now known.now) (Tree.variable name.now (expr_list es)) f) }
 {
     let word = name.as_slice();
-    let facts = facts_of(known, word)?;
-    Some(of_element(index_of(known, word), facts, indices))
+    let facts = facts_of(names, known, word)?;
+    Some(of_element(index_of(names, known, word), facts, indices))
 }
 
 /// An operator between two numbers.
@@ -328,27 +333,27 @@ pub fn number_faults(a: Found) -> Faults
 
 /// What an expression may give; none where a name in it is not listed.
 #[cycle(examine)]
-pub fn examine(e: &Expr, known: &[Known]) -> Option<Found>
-    ensures gives { IfSome result (λ f. Gives known.now (expr_tree e.now) f) }
+pub fn examine(e: &Expr, names: &[&[u8]], known: &[NameFacts]) -> Option<Found>
+    ensures gives { IfSome result (λ f. Gives (told names.now known.now) (expr_tree e.now) f) }
 {
     match e {
         Expr::Numeral(n) => Some(of_number(n.value())),
         Expr::Text(bytes) => Some(of_text(bytes.as_slice())),
-        Expr::Name(name) => examine_name(name, known),
+        Expr::Name(name) => examine_name(name, names, known),
         Expr::Element(element) => {
-            let indices = examine_indices(element.indices.as_slice(), known)?;
-            examine_element(&element.name, indices, known)
+            let indices = examine_indices(element.indices.as_slice(), names, known)?;
+            examine_element(&element.name, indices, names, known)
         }
-        Expr::Strlen(text) => Some(measure(examine(text, known)?)),
-        Expr::Minus(a) => Some(negate(examine(a, known)?)),
+        Expr::Strlen(text) => Some(measure(examine(text, names, known)?)),
+        Expr::Minus(a) => Some(negate(examine(a, names, known)?)),
         Expr::Add(a, b)
         | Expr::Sub(a, b)
         | Expr::Mul(a, b)
         | Expr::Div(a, b)
         | Expr::Rem(a, b)
         | Expr::Pow(a, b) => {
-            let left = examine(a, known)?;
-            let right = examine(b, known)?;
+            let left = examine(a, names, known)?;
+            let right = examine(b, names, known)?;
             Some(apply(operator_of(e), left, right))
         }
     }
@@ -356,8 +361,8 @@ pub fn examine(e: &Expr, known: &[Known]) -> Option<Found>
 
 /// By which faults indices may fail, of which there is one at least; none where a name in them is not listed, or where there is no index.
 #[cycle(examine)]
-pub fn examine_indices(indices: &[Expr], known: &[Known]) -> Option<Faults>
-    ensures fail { IfSome result (λ f. AllFailBy known.now (expr_list indices.now) f) }
+pub fn examine_indices(indices: &[Expr], names: &[&[u8]], known: &[NameFacts]) -> Option<Faults>
+    ensures fail { IfSome result (λ f. AllFailBy (told names.now known.now) (expr_list indices.now) f) }
     ensures some { IfSome result (λ f. indices.now ≢ []) }
 {
     if indices.is_empty() {
@@ -365,7 +370,7 @@ pub fn examine_indices(indices: &[Expr], known: &[Known]) -> Option<Faults>
     }
     let mut faults = no_faults();
     for index in indices {
-        faults = both(faults, examine(index, known)?.faults);
+        faults = both(faults, examine(index, names, known)?.faults);
     }
     Some(faults)
 }

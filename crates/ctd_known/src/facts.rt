@@ -1,11 +1,12 @@
 //! What is known of the variables where a command begins.
 
-ghost use Rattle.std.specs.Prelude.{◌≡◌, ◌≤◌, ◌<◌, ◌^◌, true, false, ℕ, ℤ, Some, None, IfSome, IfOk, map, List};
+ghost use Rattle.std.specs.Prelude.{◌≡◌, ◌≤◌, ◌<◌, ◌^◌, true, false, ℕ, ℤ, Some, None, IfSome, IfOk, map, length, List};
 ghost use Rattle.ctd_store.specs.declared.value.Value.{Value};
 ghost use Rattle.ctd_range.specs.declared.range.Range.{Range};
 ghost use Rattle.ctd_range.specs.calls.Ranges.{IsIn};
 ghost use Rattle.ctd_known.specs.declared.facts.Lengths.{Lengths};
-ghost use Rattle.ctd_known.specs.calls.Facts.{IsImpossible, MayBe, TellsAll};
+ghost use Rattle.std.specs.Borrow.{Bor};
+ghost use Rattle.ctd_known.specs.calls.Facts.{IsImpossible, MayBe, TellsAll, name_at, told};
 ghost use Rattle.ctd_known.specs.inner.Facts.{Tells};
 ghost use Rattle.ctd_known.specs.inner.Changed.{AreWithin, NameIsWithin, with_facts};
 
@@ -27,7 +28,8 @@ pub struct Kinds {
     pub number: Option<Range>,
 }
 
-/// What is known of a name: whether it may have no value without indices, which it may have, and which it may have at indices.
+/// What is known of a name: whether it may have no value without indices, which it may have, and which it may have at indices. The name itself
+/// stands in a list of names, at the same index.
 #[derive(Clone, Copy)]
 pub struct NameFacts {
     pub may_lack: bool,
@@ -35,33 +37,37 @@ pub struct NameFacts {
     pub elements: Kinds,
 }
 
-/// A name, with what is known of it.
-#[derive(Clone, Copy)]
-pub struct Known<'p> {
-    pub name: &'p [u8],
-    pub facts: NameFacts,
-}
-
-/// What is known of a name, if it is listed.
-pub fn facts_of(known: &[Known], name: &[u8]) -> Option<NameFacts>
-    ensures tells { IfSome result (λ facts. Tells known.now name.now facts) }
+/// The name at an index: behind the last there is the empty one, which no variable has.
+fn name_at<'n>(names: &[&'n [u8]], i: usize) -> &'n [u8]
+    ensures { result.now ≡ name_at names.now i }
 {
-    for entry in known {
-        if entry.name == name {
-            return Some(entry.facts);
-        }
+    match names.get(i) {
+        Some(name) => name,
+        None => &[],
     }
-    None
 }
 
-/// The index of a name, if it is listed.
-pub fn index_of(known: &[Known], name: &[u8]) -> Option<usize> {
-    for (i, entry) in known.iter().enumerate() {
-        if entry.name == name {
+/// The index of a name, if something is known of it.
+pub fn index_of(names: &[&[u8]], known: &[NameFacts], name: &[u8]) -> Option<usize>
+    ensures inside { IfSome result (λ i. i < length known.now) }
+    ensures named { IfSome result (λ i. name_at names.now i ≡ name.now) }
+{
+    for i in 0..known.len() {
+        if name_at(names, i) == name {
             return Some(i);
         }
     }
     None
+}
+
+/// What is known of a name, if something is.
+pub fn facts_of(names: &[&[u8]], known: &[NameFacts], name: &[u8]) -> Option<NameFacts>
+    ensures tells { IfSome result (λ facts. Tells (told names.now known.now) name.now facts) }
+{
+    match index_of(names, known, name) {
+        Some(i) => Some(known[i]),
+        None => None,
+    }
 }
 
 /// Whether all lengths are among others.
@@ -133,11 +139,11 @@ fn is_impossible(facts: NameFacts) -> bool
 }
 
 /// Whether no run comes where this is known.
-pub fn is_unreachable(known: &[Known]) -> bool
-    ensures never { result ≡ true → IsImpossible known.now }
+pub fn is_unreachable(known: &[NameFacts]) -> bool
+    ensures never { result ≡ true → (names : List (Bor (List ℕ))) → IsImpossible (told names known.now) }
 {
-    for entry in known {
-        if is_impossible(entry.facts) {
+    for facts in known {
+        if is_impossible(*facts) {
             return true;
         }
     }
@@ -145,13 +151,13 @@ pub fn is_unreachable(known: &[Known]) -> bool
 }
 
 /// Whether some facts follow from what is known.
-fn follow(known: &[Known], others: &[Known]) -> bool
-    ensures all { result ≡ true → TellsAll known.now others.now }
+fn follow(known: &[NameFacts], others: &[NameFacts]) -> bool
+    ensures all { result ≡ true → (names : List (Bor (List ℕ))) → TellsAll (told names known.now) (told names others.now) }
 {
-    for other in others {
-        match facts_of(known, other.name) {
+    for (i, other) in others.iter().enumerate() {
+        match known.get(i) {
             Some(facts) => {
-                if !name_is_within(facts, other.facts) {
+                if !name_is_within(*facts, *other) {
                     return false;
                 }
             }
@@ -162,8 +168,8 @@ fn follow(known: &[Known], others: &[Known]) -> bool
 }
 
 /// Whether some facts follow from what is known, or no run comes where it is known.
-pub fn is_within(known: &[Known], others: &[Known]) -> bool
-    ensures all { result ≡ true → TellsAll known.now others.now }
+pub fn is_within(known: &[NameFacts], others: &[NameFacts]) -> bool
+    ensures all { result ≡ true → (names : List (Bor (List ℕ))) → TellsAll (told names known.now) (told names others.now) }
 {
     if is_unreachable(known) {
         return true;
@@ -171,38 +177,24 @@ pub fn is_within(known: &[Known], others: &[Known]) -> bool
     follow(known, others)
 }
 
-/// An entry, with other facts where it has this name.
-fn with_facts<'p>(entry: Known<'p>, name: &[u8], facts: NameFacts) -> Known<'p>
-    ensures { result ≡ with_facts name.now facts entry.entry }
+/// What is known of one name, or other facts where it is this name.
+fn with_facts(own: &[u8], entry: NameFacts, name: &[u8], facts: NameFacts) -> NameFacts
+    ensures { record { name = own.now; facts = result } ≡ with_facts name.now facts (record { name = own.now; facts = entry }) }
 {
-    if entry.name == name {
-        Known {
-            name: entry.name,
-            facts,
-        }
-    } else {
-        entry
-    }
+    if own == name { facts } else { entry }
 }
 
-/// What is known, with other facts of a name.
-pub fn replace_facts<'p>(
-    alloc: Global,
-    known: &[Known<'p>],
-    name: &[u8],
-    facts: NameFacts,
-) -> Result<Vec<Known<'p>>, Stop>
-    ensures { IfOk result (λ after. after.items ≡ map (with_facts name.now facts) known.now) }
+/// Gives a name other facts.
+pub fn replace_facts(names: &[&[u8]], known: &mut [NameFacts], name: &[u8], facts: NameFacts)
+    ensures { told names.now known.new ≡ map (with_facts name.now facts) (told names.now known.old) }
 {
-    let mut after = Vec::new(alloc);
-    for entry in known {
-        after.push(with_facts(*entry, name, facts))?;
+    for (i, entry) in known.iter_mut().enumerate() {
+        *entry = with_facts(name_at(names, i), *entry, name, facts);
     }
-    Ok(after)
 }
 
 /// A copy of what is known.
-pub fn copy_of<'p>(alloc: Global, known: &[Known<'p>]) -> Result<Vec<Known<'p>>, Stop>
+pub fn copy_of(alloc: Global, known: &[NameFacts]) -> Result<Vec<NameFacts>, Stop>
     ensures { IfOk result (λ after. after.items ≡ known.now) }
 {
     let copy = known.to_vec(alloc)?;

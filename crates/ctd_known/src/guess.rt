@@ -1,6 +1,6 @@
 //! Guesses of what is known. No contract speaks of them: each is checked where it is used.
 
-use crate::facts::{Kinds, Known, Lengths, NameFacts, copy_of, facts_of, is_unreachable};
+use crate::facts::{Kinds, Lengths, NameFacts, copy_of, is_unreachable};
 use crate::stop::Stop;
 use ctd_range::Range;
 use std::alloc::Global;
@@ -213,28 +213,24 @@ fn widen_name(old: NameFacts, end: NameFacts, round: usize) -> NameFacts {
 }
 
 /// A guess of what is known before a turn, by the last one and what held at the end of a turn.
-pub fn widen<'p>(
+pub fn widen(
     alloc: Global,
-    guess: &[Known<'p>],
-    end: &[Known<'p>],
+    guess: &[NameFacts],
+    end: &[NameFacts],
     round: usize,
-) -> Result<Vec<Known<'p>>, Stop> {
+) -> Result<Vec<NameFacts>, Stop> {
     let mut all = Vec::new(alloc);
-    for entry in guess {
-        let facts = match facts_of(end, entry.name) {
-            Some(other) => widen_name(entry.facts, other, round),
-            None => entry.facts,
-        };
-        all.push(Known {
-            name: entry.name,
-            facts,
+    for (i, facts) in guess.iter().enumerate() {
+        all.push(match end.get(i) {
+            Some(other) => widen_name(*facts, *other, round),
+            None => *facts,
         })?;
     }
     Ok(all)
 }
 
-/// What is known where either is known, of the names of the first.
-pub fn merge<'p>(alloc: Global, a: &[Known<'p>], b: &[Known<'p>]) -> Result<Vec<Known<'p>>, Stop> {
+/// What is known where either is known.
+pub fn merge(alloc: Global, a: &[NameFacts], b: &[NameFacts]) -> Result<Vec<NameFacts>, Stop> {
     if is_unreachable(a) {
         return copy_of(alloc, b);
     }

@@ -1,10 +1,12 @@
 //! What is known once a step is paid.
 
-ghost use Rattle.std.specs.Prelude.{IfOk};
+ghost use Rattle.std.specs.Prelude.{ℕ, List, IfOk};
+ghost use Rattle.std.specs.Borrow.{Bor};
+ghost use Rattle.ctd_known.specs.calls.Facts.{told};
 ghost use Rattle.ctd_known.specs.calls.Changed.{PaysStep};
 ghost use Rattle.ctd_known.specs.inner.Changed.{KindsPay, NamePays};
 
-use crate::facts::{Kinds, Known, NameFacts};
+use crate::facts::{Kinds, NameFacts};
 use ctd_range::pay;
 use std::alloc::{AllocError, Global};
 
@@ -33,15 +35,12 @@ fn pay_name(facts: NameFacts) -> NameFacts
 }
 
 /// What is known once a step is paid: what moves with the steps has moved.
-pub fn after_step<'p>(alloc: Global, known: &[Known<'p>]) -> Result<Vec<Known<'p>>, AllocError>
-    ensures pays { IfOk result (λ after. PaysStep known.now after.items) }
+pub fn after_step(alloc: Global, known: &[NameFacts]) -> Result<Vec<NameFacts>, AllocError>
+    ensures pays { IfOk result (λ after. (names : List (Bor (List ℕ))) → PaysStep (told names known.now) (told names after.items)) }
 {
     let mut after = Vec::new(alloc);
-    for entry in known {
-        after.push(Known {
-            name: entry.name,
-            facts: pay_name(entry.facts),
-        })?;
+    for facts in known {
+        after.push(pay_name(*facts))?;
     }
     Ok(after)
 }

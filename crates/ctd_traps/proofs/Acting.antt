@@ -27,13 +27,11 @@ use Rattle.ctd_range.specs.calls.Ranges.{IsIn}
 use Rattle.ctd_range.specs.inner.Ranges.{IsCount}
 use Rattle.ctd_known.specs.declared.faults.Faults.{Faults}
 use Rattle.ctd_known.specs.declared.facts.Kinds.{Kinds}
-use Rattle.ctd_known.specs.declared.facts.Known.{Known}
 use Rattle.ctd_known.specs.declared.expression.Found.{Found}
-use Rattle.ctd_known.specs.calls.Facts.{EachStands, MayBe, PinsStand, at_key}
+use Rattle.ctd_known.specs.calls.Facts.{Known, EachStands, MayBe, PinsStand, at_key}
 use Rattle.ctd_known.specs.calls.Found.{AllFailBy, FailsBy, Gives, IsAmong, IsFound, as_number, as_text}
 use Rattle.ctd_known.specs.calls.Changed.{AssignsAlone, AssignsElements, Clears}
 use Rattle.ctd_known.proofs.Applying.{AreFaults}
-use Rattle.ctd_traps.specs.declared.cases.Case.{Case}
 use Rattle.ctd_traps.specs.declared.turn.Turns.{Turns}
 use Rattle.ctd_traps.specs.inner.Cases.{Divides, DividesTo}
 use Rattle.ctd_traps.specs.inner.Walk.{IsCounted, Acts, Assigns, ByTurn, ClearsAll, Fits, IsAssigned, KeepsValue, Stays, StaysIn}
@@ -135,20 +133,20 @@ regex_acts pinned known after literal target kinds f short keeps pins d n s stan
     (λ bytes t read. keeps pins d n (record { offset = t.offset + length bytes; store = t.store; mode = t.mode }) (values.Text bytes) stand (stays_same pins known n s (record { offset = t.offset + length bytes; store = t.store; mode = t.mode }) read.1 stays) (short n bytes read.0))
 
 -- a test
-answer_fits_in : (pins : Variables) (on_true others : List Case) (f : Faults) (n : ℕ) (s : State) (r : Result Bool Fault) → s.store.pins ≡ pins → DividesTo on_true others f n s.store r → Fits f (λ b t. ByTurn (StaysIn pins on_true n) (StaysIn pins others n) b t) (lift r s)
+answer_fits_in : (pins : Variables) (on_true others : List (List Known)) (f : Faults) (n : ℕ) (s : State) (r : Result Bool Fault) → s.store.pins ≡ pins → DividesTo on_true others f n s.store r → Fits f (λ b t. ByTurn (StaysIn pins on_true n) (StaysIn pins others n) b t) (lift r s)
 answer_fits_in pins on_true others f n s (Ok true) pinned one = (pinned, one)
 answer_fits_in pins on_true others f n s (Ok false) pinned one = (pinned, one)
 answer_fits_in pins on_true others f n s (Err why) pinned among = among
 
-pub answer_fits : (pins : Variables) (cases on_true others : List Case) (f : Faults) (t : TestTree) (d : TestData) (n : ℕ) (s : State) → Divides cases t on_true others f → StaysIn pins cases n s → Fits f (λ b u. ByTurn (StaysIn pins on_true n) (StaysIn pins others n) b u) (answer t d s)
+pub answer_fits : (pins : Variables) (cases on_true others : List (List Known)) (f : Faults) (t : TestTree) (d : TestData) (n : ℕ) (s : State) → Divides cases t on_true others f → StaysIn pins cases n s → Fits f (λ b u. ByTurn (StaysIn pins on_true n) (StaysIn pins others n) b u) (answer t d s)
 answer_fits pins cases on_true others f t d n s divides stays = answer_fits_in pins on_true others f n s (truth t s.store d s.offset) stays.0 (divides n s.store d s.offset stays.1)
 
 -- ASSERT
-assert_then : (pins : Variables) (on_true others : List Case) (f : Faults) (n : ℕ) (d : TestData) (b : Bool) (t : State) → ByTurn (StaysIn pins on_true n) (StaysIn pins others n) b t → Fits {A = ⊤} f (λ _ u. StaysIn pins on_true n u) ((if b then return {A = ⊤} tt else reject AssertFailed) d t)
+assert_then : (pins : Variables) (on_true others : List (List Known)) (f : Faults) (n : ℕ) (d : TestData) (b : Bool) (t : State) → ByTurn (StaysIn pins on_true n) (StaysIn pins others n) b t → Fits {A = ⊤} f (λ _ u. StaysIn pins on_true n u) ((if b then return {A = ⊤} tt else reject AssertFailed) d t)
 assert_then pins on_true others f n d true t stays = stays
 assert_then pins on_true others f n d false t stays = tt
 
-pub assert_fits : (pins : Variables) (cases on_true others : List Case) (f : Faults) (t : TestTree) → Divides cases t on_true others f → (d : TestData) (n : ℕ) (s : State) → StaysIn pins cases n s → Fits f (λ _ u. StaysIn pins on_true n u) (assert t d s)
+pub assert_fits : (pins : Variables) (cases on_true others : List (List Known)) (f : Faults) (t : TestTree) → Divides cases t on_true others f → (d : TestData) (n : ℕ) (s : State) → StaysIn pins cases n s → Fits f (λ _ u. StaysIn pins on_true n u) (assert t d s)
 assert_fits pins cases on_true others f t divides d n s stays =
     then_fits f (λ b u. ByTurn (StaysIn pins on_true n) (StaysIn pins others n) b u) (λ _ u. StaysIn pins on_true n u) (answer t d s) (λ b u. (if b then return {A = ⊤} tt else reject AssertFailed) d u)
     (answer_fits pins cases on_true others f t d n s divides stays) (λ b u here. assert_then pins on_true others f n d b u here)

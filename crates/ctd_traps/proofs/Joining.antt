@@ -9,13 +9,12 @@ use Rattle.ctd_outcome.specs.declared.reason.Fault.{Fault}
 use Rattle.ctd_value.specs.Fault.{◌>>=◌}
 use Rattle.ctd_value.specs.Truth.{truth}
 use Rattle.ctd_known.specs.declared.faults.Faults.{Faults}
-use Rattle.ctd_known.specs.declared.facts.Known.{Known}
-use Rattle.ctd_known.specs.calls.Facts.{EachStands, TellsAll}
+use Rattle.ctd_known.specs.calls.Facts.{Known, EachStands, TellsAll}
 use Rattle.ctd_known.specs.calls.Found.{Decides, SplitsBy}
 use Rattle.ctd_known.proofs.Applying.{AreFaults}
-use Rattle.ctd_traps.specs.declared.cases.Case.{Case}
+use Rattle.ctd_known.specs.declared.assign.Ground.{Ground}
 use Rattle.ctd_traps.specs.declared.divide.Divided.{Divided}
-use Rattle.ctd_traps.specs.inner.Cases.{Divides, DividesTo, IsEither, OneStands, TellsCase, TellsCases, opposite}
+use Rattle.ctd_traps.specs.inner.Cases.{Divides, DividesTo, IsEither, OneStands, TellsCase, TellsCases, cases_in, opposite}
 
 -- what two things say of a result, if there is one
 pub if_ok_both : {A E : Type 0} (P Q R : A → Type 0) (r : Result A E) → ((x : A) → P x → Q x → R x) → IfOk r P → IfOk r Q → IfOk r R
@@ -23,18 +22,18 @@ if_ok_both P Q R (Ok x) both first second = both x first second
 if_ok_both P Q R (Err e) both first second = tt
 
 -- a case of a list
-pub case_at : (cs : List Case) (i : ℕ) (c : Case) (n : ℕ) (h : Bindings) → i < length cs → EachStands (get_or cs i c).known.items n h → OneStands cs n h
+pub case_at : (cs : List (List Known)) (i : ℕ) (c : List Known) (n : ℕ) (h : Bindings) → i < length cs → EachStands (get_or cs i c) n h → OneStands cs n h
 case_at [] i c n h inside each = absurd (omega (arith, inside))
 case_at (x ∷ cs) zero c n h inside each = inl each
 case_at (x ∷ cs) (suc i) c n h inside each = inr (case_at cs i c n h (omega (arith, inside)) each)
 
 -- one more at the end
-pub pushed_others : (cs : List Case) (c : Case) → TellsCases cs (cs ++ c ∷ [])
+pub pushed_others : (cs : List (List Known)) (c : List Known) → TellsCases cs (cs ++ c ∷ [])
 pushed_others [] c n h one = absurd one
 pushed_others (x ∷ cs) c n h (inl each) = inl each
 pushed_others (x ∷ cs) c n h (inr one) = inr (pushed_others cs c n h one)
 
-pub pushed_last : (cs : List Case) (c : Case) → TellsCase c.known.items (cs ++ c ∷ [])
+pub pushed_last : (cs : List (List Known)) (c : List Known) → TellsCase c (cs ++ c ∷ [])
 pushed_last [] c n h each = inl each
 pushed_last (x ∷ cs) c n h each = inr (pushed_last cs c n h each)
 
@@ -43,7 +42,7 @@ past : {A B X : Type 0} → A ⊎ B → A ⊎ (X ⊎ B)
 past (inl a) = inl a
 past (inr b) = inr (inr b)
 
-pub taken_or_left : (cs : List Case) (i : ℕ) (c : Case) (n : ℕ) (h : Bindings) → i < length cs → OneStands cs n h → EachStands (get_or cs i c).known.items n h ⊎ OneStands (remove cs i) n h
+pub taken_or_left : (cs : List (List Known)) (i : ℕ) (c : List Known) (n : ℕ) (h : Bindings) → i < length cs → OneStands cs n h → EachStands (get_or cs i c) n h ⊎ OneStands (remove cs i) n h
 taken_or_left [] i c n h inside one = absurd one
 taken_or_left (x ∷ cs) zero c n h inside (inl each) = inl each
 taken_or_left (x ∷ cs) zero c n h inside (inr one) = inr one
@@ -55,23 +54,23 @@ either_of f g (inl a) = f a
 either_of f g (inr b) = g b
 
 -- a case that was taken out, joined with one more, and put in again
-pub rejoined : (cs rest all : List Case) (i : ℕ) (c : Case) (both : List Known) → i < length cs → c ≡ get_or cs i c → rest ≡ remove cs i → TellsAll c.known.items both → TellsCases rest all → TellsCase both all → TellsCases cs all
+pub rejoined : (cs rest all : List (List Known)) (i : ℕ) (c : List Known) (both : List Known) → i < length cs → c ≡ get_or cs i c → rest ≡ remove cs i → TellsAll c both → TellsCases rest all → TellsCase both all → TellsCases cs all
 rejoined cs rest all i c both inside is left joined others added n h one =
-    either_of (λ each. added n h (joined n h (subst (λ (x : Case). EachStands x.known.items n h) (sym is) each))) (λ still. others n h (subst (λ l. OneStands l n h) (sym left) still)) (taken_or_left cs i c n h inside one)
+    either_of (λ each. added n h (joined n h (subst (λ (x : List Known). EachStands x n h) (sym is) each))) (λ still. others n h (subst (λ l. OneStands l n h) (sym left) still)) (taken_or_left cs i c n h inside one)
 
 -- cases from their front: where a run is in one of them, it is in one of the rest, or this holds
-abbrev pub RestOr : (rest whole : List Case) → (ℕ → Bindings → Type 0) → Type 0
+abbrev pub RestOr : (rest whole : List (List Known)) → (ℕ → Bindings → Type 0) → Type 0
 RestOr rest whole done = (n : ℕ) (h : Bindings) → OneStands whole n h → OneStands rest n h ⊎ done n h
 
-case_first : (cs : List Case) (i : ℕ) (c : Case) → i < length cs → c ≡ get_or cs i c → drop i cs ≡ c ∷ drop (i + 1) cs
-case_first cs i c inside is = at_drop_more (λ l. l) cs i c inside ∙ ap (λ (x : Case). x ∷ drop (i + 1) cs) (sym is)
+case_first : (cs : List (List Known)) (i : ℕ) (c : List Known) → i < length cs → c ≡ get_or cs i c → drop i cs ≡ c ∷ drop (i + 1) cs
+case_first cs i c inside is = at_drop_more (λ l. l) cs i c inside ∙ ap (λ (x : List Known). x ∷ drop (i + 1) cs) (sym is)
 
-next_case : (c : Case) (rest : List Case) (n : ℕ) (h : Bindings) (X Y : Type 0) → (X → Y) → (EachStands c.known.items n h → Y) → OneStands (c ∷ rest) n h ⊎ X → OneStands rest n h ⊎ Y
+next_case : (c : List Known) (rest : List (List Known)) (n : ℕ) (h : Bindings) (X Y : Type 0) → (X → Y) → (EachStands c n h → Y) → OneStands (c ∷ rest) n h ⊎ X → OneStands rest n h ⊎ Y
 next_case c rest n h X Y more new (inl (inl each)) = inr (new each)
 next_case c rest n h X Y more new (inl (inr one)) = inl one
 next_case c rest n h X Y more new (inr x) = inr (more x)
 
-pub case_done : (cs : List Case) (i : ℕ) (c : Case) (X Y : ℕ → Bindings → Type 0) → i < length cs → c ≡ get_or cs i c → ((n : ℕ) (h : Bindings) → X n h → Y n h) → ((n : ℕ) (h : Bindings) → EachStands c.known.items n h → Y n h)
+pub case_done : (cs : List (List Known)) (i : ℕ) (c : List Known) (X Y : ℕ → Bindings → Type 0) → i < length cs → c ≡ get_or cs i c → ((n : ℕ) (h : Bindings) → X n h → Y n h) → ((n : ℕ) (h : Bindings) → EachStands c n h → Y n h)
     → RestOr (drop i cs) cs X → RestOr (drop (i + 1) cs) cs Y
 case_done cs i c X Y inside is more new so_far n h one =
     next_case c (drop (i + 1) cs) n h (X n h) (Y n h) (more n h) (new n h) (subst (λ l. OneStands l n h ⊎ X n h) (case_first cs i c inside is) (so_far n h one))
@@ -80,55 +79,55 @@ none_left : (n : ℕ) (h : Bindings) (X : Type 0) → OneStands [] n h ⊎ X →
 none_left n h X (inl one) = absurd one
 none_left n h X (inr x) = x
 
-pub cases_done : (cs : List Case) (i : ℕ) (X : ℕ → Bindings → Type 0) → length cs ≤ i → RestOr (drop i cs) cs X → (n : ℕ) (h : Bindings) → OneStands cs n h → X n h
+pub cases_done : (cs : List (List Known)) (i : ℕ) (X : ℕ → Bindings → Type 0) → length cs ≤ i → RestOr (drop i cs) cs X → (n : ℕ) (h : Bindings) → OneStands cs n h → X n h
 cases_done cs i X all so_far n h one = none_left n h (X n h) (subst (λ l. OneStands l n h ⊎ X n h) (drop_all i cs all) (so_far n h one))
 
 -- tests
-abbrev pub DividesSo : TestTree → (if_true if_false : List Case) → Faults → ℕ → Bindings → Type 0
+abbrev pub DividesSo : TestTree → (if_true if_false : List (List Known)) → Faults → ℕ → Bindings → Type 0
 DividesSo t if_true if_false f n h = (d : TestData) (p : ℕ) → DividesTo if_true if_false f n h (truth t h d p)
 
-divides_more : (a b c d : List Case) (f g : Faults) (n : ℕ) (h : Bindings) (r : Result Bool Fault) → TellsCases a c → TellsCases b d → AreFaults f g → DividesTo a b f n h r → DividesTo c d g n h r
+divides_more : (a b c d : List (List Known)) (f g : Faults) (n : ℕ) (h : Bindings) (r : Result Bool Fault) → TellsCases a c → TellsCases b d → AreFaults f g → DividesTo a b f n h r → DividesTo c d g n h r
 divides_more a b c d f g n h (Ok true) on_true on_false more divides = on_true n h divides
 divides_more a b c d f g n h (Ok false) on_true on_false more divides = on_false n h divides
 divides_more a b c d f g n h (Err why) on_true on_false more divides = more why divides
 
-one_divides : (a b : List Known) (c d : List Case) (f g : Faults) (n : ℕ) (h : Bindings) (r : Result Bool Fault) → TellsCase a c → TellsCase b d → AreFaults f g → Decides a b f n h r → DividesTo c d g n h r
+one_divides : (a b : List Known) (c d : List (List Known)) (f g : Faults) (n : ℕ) (h : Bindings) (r : Result Bool Fault) → TellsCase a c → TellsCase b d → AreFaults f g → Decides a b f n h r → DividesTo c d g n h r
 one_divides a b c d f g n h (Ok true) on_true on_false more decides = on_true n h decides
 one_divides a b c d f g n h (Ok false) on_true on_false more decides = on_false n h decides
 one_divides a b c d f g n h (Err why) on_true on_false more decides = more why decides
 
-either_divides : (first second all : Divided) (k : ℕ) (h : Bindings) (r next : Result Bool Fault) → IsEither first second all → DividesTo first.if_true.items first.if_false.items first.faults k h r →
-    (OneStands first.if_false.items k h → DividesTo second.if_true.items second.if_false.items second.faults k h next) → DividesTo all.if_true.items all.if_false.items all.faults k h (r >>= (λ b. if b then Ok true else next))
-either_divides first second all k h (Ok true) next is one other = is.left k h one
-either_divides first second all k h (Ok false) next is one other = divides_more second.if_true.items second.if_false.items all.if_true.items all.if_false.items second.faults all.faults k h next is.right is.neither is.by_second (other one)
-either_divides first second all k h (Err why) next is one other = is.by_first why one
+either_divides : (g : Ground) (first second all : Divided) (k : ℕ) (h : Bindings) (r next : Result Bool Fault) → IsEither g first second all → DividesTo (cases_in g first.if_true.items) (cases_in g first.if_false.items) first.faults k h r →
+    (OneStands (cases_in g first.if_false.items) k h → DividesTo (cases_in g second.if_true.items) (cases_in g second.if_false.items) second.faults k h next) → DividesTo (cases_in g all.if_true.items) (cases_in g all.if_false.items) all.faults k h (r >>= (λ b. if b then Ok true else next))
+either_divides g first second all k h (Ok true) next is one other = is.left k h one
+either_divides g first second all k h (Ok false) next is one other = divides_more (cases_in g second.if_true.items) (cases_in g second.if_false.items) (cases_in g all.if_true.items) (cases_in g all.if_false.items) second.faults all.faults k h next is.right is.neither is.by_second (other one)
+either_divides g first second all k h (Err why) next is one other = is.by_first why one
 
-each_divides : (first second all : Divided) (k : ℕ) (h : Bindings) (r next : Result Bool Fault) → IsEither (opposite first) (opposite second) (opposite all) → DividesTo first.if_true.items first.if_false.items first.faults k h r →
-    (OneStands first.if_true.items k h → DividesTo second.if_true.items second.if_false.items second.faults k h next) → DividesTo all.if_true.items all.if_false.items all.faults k h (r >>= (λ b. if b then next else Ok false))
-each_divides first second all k h (Ok true) next is one other = divides_more second.if_true.items second.if_false.items all.if_true.items all.if_false.items second.faults all.faults k h next is.neither is.right is.by_second (other one)
-each_divides first second all k h (Ok false) next is one other = is.left k h one
-each_divides first second all k h (Err why) next is one other = is.by_first why one
+each_divides : (g : Ground) (first second all : Divided) (k : ℕ) (h : Bindings) (r next : Result Bool Fault) → IsEither g (opposite first) (opposite second) (opposite all) → DividesTo (cases_in g first.if_true.items) (cases_in g first.if_false.items) first.faults k h r →
+    (OneStands (cases_in g first.if_true.items) k h → DividesTo (cases_in g second.if_true.items) (cases_in g second.if_false.items) second.faults k h next) → DividesTo (cases_in g all.if_true.items) (cases_in g all.if_false.items) all.faults k h (r >>= (λ b. if b then next else Ok false))
+each_divides g first second all k h (Ok true) next is one other = divides_more (cases_in g second.if_true.items) (cases_in g second.if_false.items) (cases_in g all.if_true.items) (cases_in g all.if_false.items) second.faults all.faults k h next is.neither is.right is.by_second (other one)
+each_divides g first second all k h (Ok false) next is one other = is.left k h one
+each_divides g first second all k h (Err why) next is one other = is.by_first why one
 
-turned_divides : (on_true on_false : List Case) (f : Faults) (k : ℕ) (h : Bindings) (r : Result Bool Fault) → DividesTo on_true on_false f k h r → DividesTo on_false on_true f k h (r >>= (λ b. Ok (not b)))
+turned_divides : (on_true on_false : List (List Known)) (f : Faults) (k : ℕ) (h : Bindings) (r : Result Bool Fault) → DividesTo on_true on_false f k h r → DividesTo on_false on_true f k h (r >>= (λ b. Ok (not b)))
 turned_divides on_true on_false f k h (Ok true) one = one
 turned_divides on_true on_false f k h (Ok false) one = one
 turned_divides on_true on_false f k h (Err why) one = one
 
-abbrev pub DividesBy : List Case → TestTree → Divided → Type 0
-DividesBy cases t s = Divides cases t s.if_true.items s.if_false.items s.faults
+abbrev pub DividesBy : Ground → List (List Known) → TestTree → Divided → Type 0
+DividesBy g cases t s = Divides cases t (cases_in g s.if_true.items) (cases_in g s.if_false.items) s.faults
 
-pub or_divides : (cases slice : List Case) (a b : TestTree) (first second all : Divided) → slice ≡ first.if_false.items → DividesBy cases a first → DividesBy slice b second → IsEither first second all → DividesBy cases (Tree.or a b) all
-or_divides cases slice a b first second all lent left right is k h d p one =
-    either_divides first second all k h (truth a h d p) (truth b h d p) is (left k h d p one) (λ other. right k h d p (subst (λ l. OneStands l k h) (sym lent) other))
+pub or_divides : (g : Ground) (cases slice : List (List Known)) (a b : TestTree) (first second all : Divided) → slice ≡ cases_in g first.if_false.items → DividesBy g cases a first → DividesBy g slice b second → IsEither g first second all → DividesBy g cases (Tree.or a b) all
+or_divides g cases slice a b first second all lent left right is k h d p one =
+    either_divides g first second all k h (truth a h d p) (truth b h d p) is (left k h d p one) (λ other. right k h d p (subst (λ l. OneStands l k h) (sym lent) other))
 
-pub and_divides : (cases slice : List Case) (a b : TestTree) (first second all : Divided) → slice ≡ first.if_true.items → DividesBy cases a first → DividesBy slice b second → IsEither (opposite first) (opposite second) (opposite all) → DividesBy cases (Tree.and a b) all
-and_divides cases slice a b first second all lent left right is k h d p one =
-    each_divides first second all k h (truth a h d p) (truth b h d p) is (left k h d p one) (λ other. right k h d p (subst (λ l. OneStands l k h) (sym lent) other))
+pub and_divides : (g : Ground) (cases slice : List (List Known)) (a b : TestTree) (first second all : Divided) → slice ≡ cases_in g first.if_true.items → DividesBy g cases a first → DividesBy g slice b second → IsEither g (opposite first) (opposite second) (opposite all) → DividesBy g cases (Tree.and a b) all
+and_divides g cases slice a b first second all lent left right is k h d p one =
+    each_divides g first second all k h (truth a h d p) (truth b h d p) is (left k h d p one) (λ other. right k h d p (subst (λ l. OneStands l k h) (sym lent) other))
 
-pub not_divides : (cases on_true on_false : List Case) (f : Faults) (t : TestTree) → Divides cases t on_true on_false f → Divides cases (Tree.not t) on_false on_true f
+pub not_divides : (cases on_true on_false : List (List Known)) (f : Faults) (t : TestTree) → Divides cases t on_true on_false f → Divides cases (Tree.not t) on_false on_true f
 not_divides cases on_true on_false f t divides k h d p one = turned_divides on_true on_false f k h (truth t h d p) (divides k h d p one)
 
-pub divide_step : (cs : List Case) (i : ℕ) (c : Case) (t : TestTree) (slice a b : List Known) (own old new : Faults) (on_true on_false wider_true wider_false : List Case) → slice ≡ c.known.items → i < length cs → c ≡ get_or cs i c → SplitsBy slice t a b own →
+pub divide_step : (cs : List (List Known)) (i : ℕ) (c : List Known) (t : TestTree) (slice a b : List Known) (own old new : Faults) (on_true on_false wider_true wider_false : List (List Known)) → slice ≡ c → i < length cs → c ≡ get_or cs i c → SplitsBy slice t a b own →
     TellsCases on_true wider_true → TellsCase a wider_true → TellsCases on_false wider_false → TellsCase b wider_false → AreFaults old new → AreFaults own new → RestOr (drop i cs) cs (DividesSo t on_true on_false old) → RestOr (drop (i + 1) cs) cs (DividesSo t wider_true wider_false new)
 divide_step cs i c t slice a b own old new on_true on_false wider_true wider_false lent inside is splits more_yes one_yes more_no one_no more_old more_own so_far =
     case_done cs i c (DividesSo t on_true on_false old) (DividesSo t wider_true wider_false new) inside is
@@ -136,9 +135,9 @@ divide_step cs i c t slice a b own old new on_true on_false wider_true wider_fal
     (λ n h each d p. one_divides a b wider_true wider_false own new n h (truth t h d p) one_yes one_no more_own (splits n h d p (subst (λ k. EachStands k n h) (sym lent) each)))
     so_far
 
-pub divide_done : (cs : List Case) (i : ℕ) (t : TestTree) (on_true on_false : List Case) (f : Faults) → length cs ≤ i → RestOr (drop i cs) cs (DividesSo t on_true on_false f) → Divides cs t on_true on_false f
+pub divide_done : (cs : List (List Known)) (i : ℕ) (t : TestTree) (on_true on_false : List (List Known)) (f : Faults) → length cs ≤ i → RestOr (drop i cs) cs (DividesSo t on_true on_false f) → Divides cs t on_true on_false f
 divide_done cs i t on_true on_false f all so_far k h d p one = cases_done cs i (DividesSo t on_true on_false f) all so_far k h one d p
 
 -- a case that follows from one of the others
-pub case_within : (cs : List Case) (i : ℕ) (c : Case) (known slice : List Known) → i < length cs → c ≡ get_or cs i c → slice ≡ c.known.items → TellsAll known slice → TellsCase known cs
-case_within cs i c known slice inside is lent tells n h each = case_at cs i c n h inside (subst (λ (x : Case). EachStands x.known.items n h) is (subst (λ k. EachStands k n h) lent (tells n h each)))
+pub case_within : (cs : List (List Known)) (i : ℕ) (c : List Known) (known slice : List Known) → i < length cs → c ≡ get_or cs i c → slice ≡ c → TellsAll known slice → TellsCase known cs
+case_within cs i c known slice inside is lent tells n h each = case_at cs i c n h inside (subst (λ (x : List Known). EachStands x n h) is (subst (λ k. EachStands k n h) lent (tells n h each)))

@@ -11,3 +11,4 @@ pub mod Steps
 pub mod Whole
 pub mod Pinning
 pub mod Joining
+pub mod Viewed

@@ -8,9 +8,8 @@ use Rattle.ctd_store.specs.declared.value.Value.{Value}
 use Rattle.ctd_store.specs.Store.{Variables, assign, value_of, with_pin}
 use Rattle.ctd_store.specs.inner.Store.{pins_of}
 use Rattle.ctd_known.specs.declared.facts.Kinds.{Kinds}
-use Rattle.ctd_known.specs.declared.facts.Known.{Known}
 use Rattle.ctd_known.specs.declared.facts.NameFacts.{NameFacts}
-use Rattle.ctd_known.specs.calls.Facts.{EachStands, MayBe, NameStands, PinsStand, at_key, pins_alone}
+use Rattle.ctd_known.specs.calls.Facts.{Known, EachStands, MayBe, NameStands, PinsStand, at_key, pins_alone}
 use Rattle.ctd_known.specs.calls.Changed.{AssignsAlone, AssignsElements}
 use Rattle.ctd_known.proofs.Standing.{each_push}
 
@@ -57,7 +56,7 @@ pub nothing_stands : (name : List ℕ) (f : NameFacts) (n : ℕ) → f.may_lack 
 nothing_stands name f n lacks = record { alone = lacks; elements = λ i is v has. absurd (cc has) }
 
 pub one_more_name : (xs : List Known) (x : Known) → x.facts.may_lack ≡ true → PinsStand xs [] → PinsStand (xs ++ x ∷ []) []
-one_more_name xs x lacks stand n few = each_push xs x n (pins_alone []) (stand n few) (nothing_stands x.name.now x.facts n lacks)
+one_more_name xs x lacks stand n few = each_push xs x n (pins_alone []) (stand n few) (nothing_stands x.name x.facts n lacks)
 
 -- a list without elements, and one with some
 pub no_indices : (indices : List PresetValue) → true ≡ (length indices == 0) → indices ≡ []

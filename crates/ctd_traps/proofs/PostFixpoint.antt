@@ -1,4 +1,5 @@
 -- A guess that its check accepts is kept by the loop.
+use Rattle.ctd_known.specs.calls.Facts.{Known}
 use Rattle.std.proofs.Common.{◌<◌, ◌^◌, ◌+◌, ℕ, zero, suc, Bool, true, false, List, arith}
 use Rattle.ctd_program.specs.Tree.{CommandList}
 use Rattle.ctd_source.specs.TestData.{TestData}
@@ -10,27 +11,26 @@ use Rattle.ctd_check.specs.Run.{RunResult, all_done, stopped}
 use Rattle.ctd_check.specs.calls.BigSteps.{TurnEnds, separator_before}
 use Rattle.ctd_traps.specs.calls.Traps.{Trap}
 use Rattle.ctd_store.specs.Store.{Variables}
-use Rattle.ctd_traps.specs.declared.cases.Case.{Case}
 use Rattle.ctd_traps.specs.inner.Holds.{Holds}
 use Rattle.ctd_traps.specs.inner.Triples.{Before, Listing, Ends, Keeps, Splits, LoopKeeps}
 use Rattle.ctd_traps.specs.inner.PostFixpoint.{among, Guess, IsPostFixpoint}
 use Rattle.ctd_traps.proofs.Keeping.{loop_keeps, none_keeps}
 
 -- the facts of turn 0, or of a later turn
-abbrev by_turn : List Case → List Case → ℕ → List Case
+abbrev by_turn : List (List Known) → List (List Known) → ℕ → List (List Known)
 by_turn first later zero = first
 by_turn first later (suc k) = later
 
 -- so many steps were paid, and this is known
-abbrev Paid : (pins : Variables) (paid : ℕ) → List Case → Before
+abbrev Paid : (pins : Variables) (paid : ℕ) → List (List Known) → Before
 Paid pins paid facts n s = (paid + n < 2 ^ 64) × Holds pins facts n s
 
 -- commands pay no steps back
-paid_ends : (traps : Listing) (pins : Variables) (paid n : ℕ) (facts : List Case) (e : RunResult) → paid + n < 2 ^ 64 → Ends traps n (Holds pins facts) e → Ends traps n (Paid pins paid facts) e
+paid_ends : (traps : Listing) (pins : Variables) (paid n : ℕ) (facts : List (List Known)) (e : RunResult) → paid + n < 2 ^ 64 → Ends traps n (Holds pins facts) e → Ends traps n (Paid pins paid facts) e
 paid_ends traps pins paid n facts (all_done t m) within ends = (ends.0, (omega (arith, within, ends.0), ends.1))
 paid_ends traps pins paid n facts (stopped outcome consumed m) within ends = ends
 
-paid_keeps : (d : TestData) (traps : Listing) (pins : Variables) (paid : ℕ) (before after : List Case) (cs : CommandList) → Keeps d traps (Holds pins before) cs (Holds pins after) → Keeps d traps (Paid pins paid before) cs (Paid pins paid after)
+paid_keeps : (d : TestData) (traps : Listing) (pins : Variables) (paid : ℕ) (before after : List (List Known)) (cs : CommandList) → Keeps d traps (Holds pins before) cs (Holds pins after) → Keeps d traps (Paid pins paid before) cs (Paid pins paid after)
 paid_keeps d traps pins paid before after cs keeps n s e here run = paid_ends traps pins paid n after e here.0 (keeps n s e here.1 run)
 
 -- one fact after another
@@ -38,7 +38,7 @@ weaker : (traps : Listing) (n : ℕ) (before after : Before) (e : RunResult) →
 weaker traps n before after (all_done t m) more ends = (ends.0, more m t ends.1)
 weaker traps n before after (stopped outcome consumed m) more ends = ends
 
-paid_split : (traps : Listing) (site : Site) (pins : Variables) (k n : ℕ) (inside after : List Case) (a : Effect Bool) → k + suc n < 2 ^ 64 → Splits traps site (Holds pins inside n) (Holds pins after n) a → Splits traps site (Paid pins (suc k) inside n) (Holds pins after n) a
+paid_split : (traps : Listing) (site : Site) (pins : Variables) (k n : ℕ) (inside after : List (List Known)) (a : Effect Bool) → k + suc n < 2 ^ 64 → Splits traps site (Holds pins inside n) (Holds pins after n) a → Splits traps site (Paid pins (suc k) inside n) (Holds pins after n) a
 paid_split traps site pins k n inside after (done true t) within splits = (omega (arith, within), splits)
 paid_split traps site pins k n inside after (done false t) within splits = splits
 paid_split traps site pins k n inside after (rejected reason consumed) within splits = splits

@@ -1,4 +1,5 @@
 -- The commands of the code, one by one.
+use Rattle.ctd_known.specs.calls.Facts.{Known}
 use Rattle.std.proofs.Common.{◌⊎◌, inl, inr, ◌≡◌, ◌<◌, ◌≤◌, ◌+◌, ℕ, suc, List, map, length, get_or, drop, ap, sym, subst, ◌∙◌}
 use Rattle.std.specs.Global.{Box}
 use Rattle.std.proofs.lemmas.List.{at_drop_more, drop_all}
@@ -23,8 +24,6 @@ use Rattle.ctd_command.specs.Blanks.{end, newline, space}
 use Rattle.ctd_command.specs.Regex.{regex}
 use Rattle.ctd_check.specs.calls.BigSteps.{separator_before, is_eof, is_int, is_newline, is_regex, is_set, is_space, is_string, is_unset}
 use Rattle.ctd_known.specs.declared.faults.Faults.{Faults}
-use Rattle.ctd_known.specs.declared.facts.Known.{Known}
-use Rattle.ctd_traps.specs.declared.cases.Case.{Case}
 use Rattle.ctd_traps.specs.declared.turn.Turns.{Turns}
 use Rattle.ctd_traps.specs.inner.Cases.{TellsCases}
 use Rattle.ctd_traps.specs.declared.finding.Finding.{Finding}
@@ -85,31 +84,31 @@ unset_step pinned known after f a x names place is held clears = as_action pinne
     (simple_acts pinned known after f (Tree.unset place (names_of x.value)) (unset_all (names_of x.value)) is_unset (clear_acts pinned known after (names_of x.value) f (subst (λ z. ClearsAll pinned known z after) held clears)))
 
 -- commands of cases, by the code
-abbrev Steps : (pinned : List Known) (cases after : List Case) → List Finding → Place → Action → Type 0
+abbrev Steps : (pinned : List Known) (cases after : List (List Known)) → List Finding → Place → Action → Type 0
 Steps pinned cases after found place a = StepKeeps pinned cases after found (action_tree a place)
 
 -- a list of commands from its front
 pub command_first : (cs : List Command) (i : ℕ) (c : Command) → i < length cs → c ≡ get_or cs i c → command_trees (drop i cs) ≡ Tree.then (command_tree c) (command_trees (drop (i + 1) cs))
 command_first cs i c inside is = at_drop_more command_trees cs i c inside ∙ ap (λ (x : Command). Tree.then (command_tree x) (command_trees (drop (i + 1) cs))) (sym is)
 
-pub walk_step : (pinned : List Known) (cases before slice after : List Case) (old new : List Finding) (cs : List Command) (i : ℕ) (c : Command) → slice ≡ before → i < length cs → c ≡ get_or cs i c → ArePart (traps_of old) (traps_of new) → StepKeeps pinned slice after new (command_tree c)
+pub walk_step : (pinned : List Known) (cases before slice after : List (List Known)) (old new : List Finding) (cs : List Command) (i : ℕ) (c : Command) → slice ≡ before → i < length cs → c ≡ get_or cs i c → ArePart (traps_of old) (traps_of new) → StepKeeps pinned slice after new (command_tree c)
     → WalkLeads pinned cases before old (command_trees (drop i cs)) (command_trees cs) → WalkLeads pinned cases after new (command_trees (drop (i + 1) cs)) (command_trees cs)
 walk_step pinned cases before slice after old new cs i c lent inside is part step leads =
     walk_leads_on pinned cases before after old new (command_tree c) (command_trees (drop (i + 1) cs)) (command_trees cs) part (subst (λ b. StepKeeps pinned b after new (command_tree c)) lent step)
     (subst (λ l. WalkLeads pinned cases before old l (command_trees cs)) (command_first cs i c inside is) leads)
 
-pub walk_done : (pinned : List Known) (cases after : List Case) (found : List Finding) (cs : List Command) (i : ℕ) → length cs ≤ i → WalkLeads pinned cases after found (command_trees (drop i cs)) (command_trees cs) → WalkKeeps pinned cases after found (command_trees cs)
+pub walk_done : (pinned : List Known) (cases after : List (List Known)) (found : List Finding) (cs : List Command) (i : ℕ) → length cs ≤ i → WalkLeads pinned cases after found (command_trees (drop i cs)) (command_trees cs) → WalkKeeps pinned cases after found (command_trees cs)
 walk_done pinned cases after found cs i all leads = leads after found (part_refl (traps_of found)) (subst (λ l. WalkKeeps pinned after after found (command_trees l)) (sym (drop_all i cs all)) (nothing_walked pinned after found))
 
 -- IF and loops, by what their boxes hold
-pub choice_step : (pinned : List Known) (cases after : List Case) (found : List Finding) (a : Action) (x : Box Choice) (ch : Choice) (place : Place) → a ≡ actions.If x → ch ≡ x.value → StepKeeps pinned cases after found (choice_at place ch) → Steps pinned cases after found place a
+pub choice_step : (pinned : List Known) (cases after : List (List Known)) (found : List Finding) (a : Action) (x : Box Choice) (ch : Choice) (place : Place) → a ≡ actions.If x → ch ≡ x.value → StepKeeps pinned cases after found (choice_at place ch) → Steps pinned cases after found place a
 choice_step pinned cases after found a x ch place is held steps = subst (StepKeeps pinned cases after found) (sym (choice_tree a x ch place is held)) steps
 
-pub loop_step : (pinned : List Known) (cases after : List Case) (found : List Finding) (a : Action) (x : Box Loop) (l : Loop) (place : Place) → a ≡ actions.Loop x → l ≡ x.value → StepKeeps pinned cases after found (loop_at place l) → Steps pinned cases after found place a
+pub loop_step : (pinned : List Known) (cases after : List (List Known)) (found : List Finding) (a : Action) (x : Box Loop) (l : Loop) (place : Place) → a ≡ actions.Loop x → l ≡ x.value → StepKeeps pinned cases after found (loop_at place l) → Steps pinned cases after found place a
 loop_step pinned cases after found a x l place is held steps = subst (StepKeeps pinned cases after found) (sym (loop_tree a x l place is held)) steps
 
 -- a loop whose guess was checked
-pub repeat_keeps : (pinned : List Known) (cases guess : List Case) (turns : Turns) (first_inside first_outside outside end after : List Case) (first : Faults) (place : Place) (l : Loop) (found new : List Finding) →
+pub repeat_keeps : (pinned : List Known) (cases guess : List (List Known)) (turns : Turns) (first_inside first_outside outside end after : List (List Known)) (first : Faults) (place : Place) (l : Loop) (found new : List Finding) →
     StartsIn cases (guard_tree (out-Loop l).guard) turns → Enters pinned cases (guard_tree (out-Loop l).guard) turns (boxed_target (out-Loop l).counter) first_turn first_inside first_outside first → RoundKeeps pinned guess turns first_inside first outside end found place l →
     TellsCases end guess → TellsCases first_outside after → TellsCases outside after → ArePart (traps_of found) (traps_of new) → StepKeeps pinned cases after new (loop_at place l)
 repeat_keeps pinned cases guess turns first_inside first_outside outside end after first place l found new starts first_enters round again first_after later_after part pins d traps stand within =
@@ -132,6 +131,6 @@ repeat_keeps pinned cases guess turns first_inside first_outside outside end aft
     })
 
 -- one pass over a loop
-pub separator_more : (pinned : List Known) (cases after wider : List Case) (old new : List Finding) (sep : Separator) → TellsCases after wider → ArePart (traps_of old) (traps_of new) → SeparatorKeeps pinned cases after old sep → SeparatorKeeps pinned cases wider new sep
+pub separator_more : (pinned : List Known) (cases after wider : List (List Known)) (old new : List Finding) (sep : Separator) → TellsCases after wider → ArePart (traps_of old) (traps_of new) → SeparatorKeeps pinned cases after old sep → SeparatorKeeps pinned cases wider new sep
 separator_more pinned cases after wider old new sep tells part keeps pins d all k stand within =
     weaker_keeps d (among all) (Holds pins cases) (Holds pins after) (Holds pins wider) (separator_before (suc k) sep) (tells_holds pins after wider tells) (keeps pins d all k stand (part_trans (traps_of old) (traps_of new) all part within))

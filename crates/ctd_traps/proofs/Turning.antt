@@ -24,14 +24,12 @@ use Rattle.ctd_range.specs.declared.range.Range.{Range}
 use Rattle.ctd_range.specs.calls.Ranges.{IsIn}
 use Rattle.ctd_known.specs.declared.faults.Faults.{Faults}
 use Rattle.ctd_known.specs.declared.facts.Kinds.{Kinds}
-use Rattle.ctd_known.specs.declared.facts.Known.{Known}
 use Rattle.ctd_known.specs.declared.facts.NameFacts.{NameFacts}
-use Rattle.ctd_known.specs.calls.Facts.{EachStands, MayBe, MayHave, NameStands, PinsStand, at_key}
+use Rattle.ctd_known.specs.calls.Facts.{Known, EachStands, MayBe, MayHave, NameStands, PinsStand, at_key}
 use Rattle.ctd_known.specs.calls.Found.{FailsBy, IsAmong}
 use Rattle.ctd_known.specs.calls.Changed.{PaysStep}
 use Rattle.ctd_known.proofs.Applying.{AreFaults}
 use Rattle.ctd_traps.specs.calls.Traps.{IsOfValue, Trap}
-use Rattle.ctd_traps.specs.declared.cases.Case.{Case}
 use Rattle.ctd_traps.specs.declared.turn.Turns.{Turns}
 use Rattle.ctd_traps.specs.inner.Cases.{Divides, OneStands, TellsCase, TellsCases, TellsJoined}
 use Rattle.ctd_traps.specs.inner.Holds.{AreListed, Holds, HoldsAlone}
@@ -65,7 +63,7 @@ pub in_counts : (most m n : ℕ) → m ≤ most → IsIn (record { low = pos 0; 
 in_counts most m n up = record { low = omega (arith, ints); high = omega (arith, ints, up) }
 
 -- the counter in each case
-abbrev pub CountsSo : (pinned : List Known) → Option VarTree → Range → List Case → Faults → ℕ → Bindings → Type 0
+abbrev pub CountsSo : (pinned : List Known) → Option VarTree → Range → List (List Known) → Faults → ℕ → Bindings → Type 0
 CountsSo pinned counter turn after f m h = (pins : Variables) (d : TestData) (k n : ℕ) (s : State) → m ≡ suc n → h ≡ s.store → IsIn turn n (pos k) → PinsStand pinned pins → s.store.pins ≡ pins → Fits f (λ _ t. StaysIn pins after n t) (count_turn counter k d s)
 
 fits_in : {A : Type 0} (f g : Faults) (P Q : A → State → Type 0) (a : Effect A) → AreFaults f g → ((x : A) (t : State) → P x t → Q x t) → Fits f P a → Fits g Q a
@@ -73,34 +71,34 @@ fits_in f g P Q (done x t) more wider fits = wider x t fits
 fits_in f g P Q (rejected reason consumed) more wider fits = tt
 fits_in f g P Q (faulty fault consumed) more wider fits = more fault fits
 
-pub count_step : (pinned : List Known) (cs : List Case) (i : ℕ) (c : Case) (counter : Option VarTree) (turn : Range) (slice paid lent after : List Known) (own old new : Faults) (before next : List Case) → slice ≡ c.known.items → i < length cs → c ≡ get_or cs i c → PaysStep slice paid → lent ≡ paid →
+pub count_step : (pinned : List Known) (cs : List (List Known)) (i : ℕ) (c : List Known) (counter : Option VarTree) (turn : Range) (slice paid lent after : List Known) (own old new : Faults) (before next : List (List Known)) → slice ≡ c → i < length cs → c ≡ get_or cs i c → PaysStep slice paid → lent ≡ paid →
     CountsTurn pinned lent counter turn after own → TellsCases before next → TellsCase after next → AreFaults old new → AreFaults own new → RestOr (drop i cs) cs (CountsSo pinned counter turn before old) → RestOr (drop (i + 1) cs) cs (CountsSo pinned counter turn next new)
 count_step pinned cs i c counter turn slice paid lent after own old new before next is_known inside is pays is_paid counts others added more_old more_own so_far =
     case_done cs i c (CountsSo pinned counter turn before old) (CountsSo pinned counter turn next new) inside is
     (λ m h so pins d k n s is_m is_h here stand same. fits_in old new (λ _ t. StaysIn pins before n t) (λ _ t. StaysIn pins next n t) (count_turn counter k d s) more_old (λ _ t stays. (stays.0, others n t.store stays.1)) (so pins d k n s is_m is_h here stand same))
     (λ m h each pins d k n s is_m is_h here stand same. fits_in own new (λ _ t. Stays pins after n t) (λ _ t. StaysIn pins next n t) (count_turn counter k d s) more_own (λ _ t stays. (stays.0, added n t.store stays.1))
-    (counts pins d k n s here stand (same, subst (λ l. EachStands l n s.store) (sym is_paid) (pays n s.store (subst (λ l. EachStands l (suc n) s.store) (sym is_known) (subst (λ g. EachStands c.known.items (suc n) g) is_h (subst (λ l. EachStands c.known.items l h) is_m each)))))))
+    (counts pins d k n s here stand (same, subst (λ l. EachStands l n s.store) (sym is_paid) (pays n s.store (subst (λ l. EachStands l (suc n) s.store) (sym is_known) (subst (λ g. EachStands c (suc n) g) is_h (subst (λ l. EachStands c l h) is_m each)))))))
     so_far
 
-pub count_done : (pinned : List Known) (cs : List Case) (i : ℕ) (counter : Option VarTree) (turn : Range) (after : List Case) (f : Faults) → length cs ≤ i → RestOr (drop i cs) cs (CountsSo pinned counter turn after f) → CountsEach pinned cs counter turn after f
+pub count_done : (pinned : List Known) (cs : List (List Known)) (i : ℕ) (counter : Option VarTree) (turn : Range) (after : List (List Known)) (f : Faults) → length cs ≤ i → RestOr (drop i cs) cs (CountsSo pinned counter turn after f) → CountsEach pinned cs counter turn after f
 count_done pinned cs i counter turn after f all so_far pins d k n s here stand stays = cases_done cs i (CountsSo pinned counter turn after f) all so_far (suc n) s.store stays.1 pins d k n s refl refl here stand stays.0
 
 -- a loop that has more turns is not over
-pub counts_never : (pinned : List Known) (cs : List Case) (counter : Option VarTree) (turn : Range) (least : ℕ) (after : List Case) (f : Faults) → turn.high <ℤ pos least → CountsLast pinned cs counter turn least after f
+pub counts_never : (pinned : List Known) (cs : List (List Known)) (counter : Option VarTree) (turn : Range) (least : ℕ) (after : List (List Known)) (f : Faults) → turn.high <ℤ pos least → CountsLast pinned cs counter turn least after f
 counts_never pinned cs counter turn least after f less pins d k n s some here stand stays = let high = here.high in absurd (omega (arith, ints, less, some, high))
 
-pub counts_only : (pinned : List Known) (cs : List Case) (counter : Option VarTree) (turn : Range) (least : ℕ) (after : List Case) (f : Faults) → CountsEach pinned cs counter turn after f → CountsLast pinned cs counter turn least after f
+pub counts_only : (pinned : List Known) (cs : List (List Known)) (counter : Option VarTree) (turn : Range) (least : ℕ) (after : List (List Known)) (f : Faults) → CountsEach pinned cs counter turn after f → CountsLast pinned cs counter turn least after f
 counts_only pinned cs counter turn least after f counts pins d k n s some here stand stays = counts pins d k n s here stand stays
 
 -- the parts of a turn of a loop that counts
-pub record TimesParts (pinned : List Known) (cases inside over : List Case) (counter : Option VarTree) (turn below : Range) (turns : Turns) (f g all : Faults) : Type 0 where
+pub record TimesParts (pinned : List Known) (cases inside over : List (List Known)) (counter : Option VarTree) (turn below : Range) (turns : Turns) (f g all : Faults) : Type 0 where
   pub goes_on : CountsEach pinned cases counter below inside f
   pub is_over : CountsLast pinned cases counter turn turns.least over g
   pub narrower : (n k m : ℕ) → k < m → m ≤ turns.most → IsIn turn n (pos k) → IsIn below n (pos k)
   pub by_f : AreFaults f all
   pub by_g : AreFaults g all
 
-times_turn : (pinned : List Known) (cases inside over : List Case) (counter : Option VarTree) (turn below : Range) (turns : Turns) (f g all : Faults) → TimesParts pinned cases inside over counter turn below turns f g all → (pins : Variables) (d : TestData) (k n m : ℕ) (s : State) (b : Bool) → nat_lt k m ≡ b → (turns.least ≤ m) × (m ≤ turns.most) → IsIn turn n (pos k) → PinsStand pinned pins → StaysIn pins cases (suc n) s
+times_turn : (pinned : List Known) (cases inside over : List (List Known)) (counter : Option VarTree) (turn below : Range) (turns : Turns) (f g all : Faults) → TimesParts pinned cases inside over counter turn below turns f g all → (pins : Variables) (d : TestData) (k n m : ℕ) (s : State) (b : Bool) → nat_lt k m ≡ b → (turns.least ≤ m) × (m ≤ turns.most) → IsIn turn n (pos k) → PinsStand pinned pins → StaysIn pins cases (suc n) s
     → Fits all (λ b u. ByTurn (StaysIn pins inside n) (StaysIn pins over n) b u) (proceed (count_turn counter k d s) (λ _ t. goes_on (times m) k d t))
 times_turn pinned cases inside over counter turn below turns f g all p pins d k n m s true is count here stand stays =
     then_fits all (λ _ t. StaysIn pins inside n t) (λ b u. ByTurn (StaysIn pins inside n) (StaysIn pins over n) b u) (count_turn counter k d s) (λ _ t. goes_on (times m) k d t)
@@ -112,20 +110,20 @@ times_turn pinned cases inside over counter turn below turns f g all p pins d k 
     (more_fits g all (λ _ t. StaysIn pins over n t) (count_turn counter k d s) p.by_g (p.is_over pins d k n s (le_trans count.0 last) here stand stays))
     (λ _ t there. subst (λ b. ByTurn (StaysIn pins inside n) (StaysIn pins over n) b t) (sym is) there)
 
-guarded_turn : (pinned : List Known) (cases inside over : List Case) (e : ExprTree) (counter : Option VarTree) (turn below : Range) (turns : Turns) (f g all : Faults) → TimesParts pinned cases inside over counter turn below turns f g all → (pins : Variables) (d : TestData) (k n : ℕ) (s : State) (guard : Guard) → IsGuard (Tree.turns e) turns guard → IsIn turn n (pos k) → PinsStand pinned pins → StaysIn pins cases (suc n) s
+guarded_turn : (pinned : List Known) (cases inside over : List (List Known)) (e : ExprTree) (counter : Option VarTree) (turn below : Range) (turns : Turns) (f g all : Faults) → TimesParts pinned cases inside over counter turn below turns f g all → (pins : Variables) (d : TestData) (k n : ℕ) (s : State) (guard : Guard) → IsGuard (Tree.turns e) turns guard → IsIn turn n (pos k) → PinsStand pinned pins → StaysIn pins cases (suc n) s
     → Fits all (λ b u. ByTurn (StaysIn pins inside n) (StaysIn pins over n) b u) (proceed (count_turn counter k d s) (λ _ t. goes_on guard k d t))
 guarded_turn pinned cases inside over e counter turn below turns f g all p pins d k n s (times m) is here stand stays = times_turn pinned cases inside over counter turn below turns f g all p pins d k n m s (nat_lt k m) refl is here stand stays
 guarded_turn pinned cases inside over e counter turn below turns f g all p pins d k n s (while_true u) is here stand stays = absurd is
 
-pub enters_times : (pinned : List Known) (cases inside over : List Case) (e : ExprTree) (counter : Option VarTree) (turn below : Range) (turns : Turns) (f g all : Faults) → TimesParts pinned cases inside over counter turn below turns f g all → Enters pinned cases (Tree.turns e) turns counter turn inside over all
+pub enters_times : (pinned : List Known) (cases inside over : List (List Known)) (e : ExprTree) (counter : Option VarTree) (turn below : Range) (turns : Turns) (f g all : Faults) → TimesParts pinned cases inside over counter turn below turns f g all → Enters pinned cases (Tree.turns e) turns counter turn inside over all
 enters_times pinned cases inside over e counter turn below turns f g all p pins d k n s loop guard same here stand stays =
     subst (λ c. Fits all (λ b u. ByTurn (StaysIn pins inside n) (StaysIn pins over n) b u) (proceed (count_turn c k d s) (λ _ t. goes_on loop.guard k d t))) (sym same) (guarded_turn pinned cases inside over e counter turn below turns f g all p pins d k n s loop.guard guard here stand stays)
 
-while_goes : (pins : Variables) (after on_true others : List Case) (f : Faults) (t : TestTree) (d : TestData) (k n : ℕ) (turns : Turns) (g : Guard) (u : State) → Divides after t on_true others f → IsGuard (Tree.while t) turns g → StaysIn pins after n u → Fits f (λ b v. ByTurn (StaysIn pins on_true n) (StaysIn pins others n) b v) (goes_on g k d u)
+while_goes : (pins : Variables) (after on_true others : List (List Known)) (f : Faults) (t : TestTree) (d : TestData) (k n : ℕ) (turns : Turns) (g : Guard) (u : State) → Divides after t on_true others f → IsGuard (Tree.while t) turns g → StaysIn pins after n u → Fits f (λ b v. ByTurn (StaysIn pins on_true n) (StaysIn pins others n) b v) (goes_on g k d u)
 while_goes pins after on_true others f t d k n turns (times m) u divides is here = absurd is
 while_goes pins after on_true others f t d k n turns (while_true w) u divides is here = subst (λ x. Fits f (λ b v. ByTurn (StaysIn pins on_true n) (StaysIn pins others n) b v) (answer x d u)) (sym is) (answer_fits pins after on_true others f t d n u divides here)
 
-pub enters_while : (pinned : List Known) (cases after on_true others : List Case) (t : TestTree) (counter : Option VarTree) (turn : Range) (turns : Turns) (f g all : Faults) → CountsEach pinned cases counter turn after f → Divides after t on_true others g → AreFaults f all → AreFaults g all → Enters pinned cases (Tree.while t) turns counter turn on_true others all
+pub enters_while : (pinned : List Known) (cases after on_true others : List (List Known)) (t : TestTree) (counter : Option VarTree) (turn : Range) (turns : Turns) (f g all : Faults) → CountsEach pinned cases counter turn after f → Divides after t on_true others g → AreFaults f all → AreFaults g all → Enters pinned cases (Tree.while t) turns counter turn on_true others all
 enters_while pinned cases after on_true others t counter turn turns f g all counts divides more_f more_g pins d k n s loop guard same inside stand stays =
     then_fits all (λ _ t. StaysIn pins after n t) (λ b u. ByTurn (StaysIn pins on_true n) (StaysIn pins others n) b u) (count_turn loop.counter k d s) (λ _ t. goes_on loop.guard k d t)
     (more_fits f all (λ _ t. StaysIn pins after n t) (count_turn loop.counter k d s) more_f (subst (λ c. Fits f (λ _ t. StaysIn pins after n t) (count_turn c k d s)) (sym same) (counts pins d k n s inside stand stays)))
@@ -144,10 +142,10 @@ starts_times known e turns counts d n s each =
 pub starts_while : (known : List Known) (t : TestTree) (turns : Turns) → Starts known (Tree.while t) turns
 starts_while known t turns d n s each = (refl, refl)
 
-pub starts_in : (cases : List Case) (known slice : List Known) (guard : GuardTree) (turns : Turns) → slice ≡ known → TellsJoined cases known → Starts slice guard turns → StartsIn cases guard turns
+pub starts_in : (cases : List (List Known)) (known slice : List Known) (guard : GuardTree) (turns : Turns) → slice ≡ known → TellsJoined cases known → Starts slice guard turns → StartsIn cases guard turns
 starts_in cases known slice guard turns lent joined starts d n s one = starts d n s (subst (λ k. EachStands k n s.store) (sym lent) (joined n s.store one))
 
-pub starts_nowhere : (cases : List Case) (guard : GuardTree) (turns : Turns) → cases ≡ [] → StartsIn cases guard turns
+pub starts_nowhere : (cases : List (List Known)) (guard : GuardTree) (turns : Turns) → cases ≡ [] → StartsIn cases guard turns
 starts_nowhere cases guard turns is d n s one = absurd (subst (λ l. OneStands l n s.store) is one)
 
 -- faults that are listed
@@ -166,13 +164,13 @@ weaker_splits traps site P Q P' Q' (done false t) p q splits = q t splits
 weaker_splits traps site P Q P' Q' (rejected reason consumed) p q splits = tt
 weaker_splits traps site P Q P' Q' (faulty fault consumed) p q splits = splits
 
-pub holds_of : (pins : Variables) (cases : List Case) (n : ℕ) (t : State) → n < 2 ^ 64 → StaysIn pins cases n t → Holds pins cases n t
+pub holds_of : (pins : Variables) (cases : List (List Known)) (n : ℕ) (t : State) → n < 2 ^ 64 → StaysIn pins cases n t → Holds pins cases n t
 holds_of pins cases n t steps stays = record { steps = steps; pinned = stays.0; one = stays.1 }
 
 pub holds_alone_of : (pins : Variables) (known : List Known) (n : ℕ) (t : State) → n < 2 ^ 64 → Stays pins known n t → HoldsAlone pins known n t
 holds_alone_of pins known n t steps stays = record { steps = steps; pinned = stays.0; each = stays.1 }
 
-pub tells_holds : (pins : Variables) (cases others : List Case) → TellsCases cases others → (n : ℕ) (s : State) → Holds pins cases n s → Holds pins others n s
+pub tells_holds : (pins : Variables) (cases others : List (List Known)) → TellsCases cases others → (n : ℕ) (s : State) → Holds pins cases n s → Holds pins others n s
 tells_holds pins cases others tells n s here = record { steps = here.steps; pinned = here.pinned; one = tells n s.store here.one }
 
 first_in : (n : ℕ) → IsIn first_turn n (pos 0)
@@ -204,18 +202,18 @@ name_fewer name f n h stands = record {
 
 pub each_fewer : (known : List Known) (n : ℕ) (h : Bindings) → EachStands known (suc n) h → EachStands known n h
 each_fewer [] n h each = omega (arith, each)
-each_fewer (x ∷ xs) n h each = (name_fewer x.name.now x.facts n h each.0, each_fewer xs n h each.1)
+each_fewer (x ∷ xs) n h each = (name_fewer x.name x.facts n h each.0, each_fewer xs n h each.1)
 
-pub one_fewer : (cases : List Case) (n : ℕ) (h : Bindings) → OneStands cases (suc n) h → OneStands cases n h
+pub one_fewer : (cases : List (List Known)) (n : ℕ) (h : Bindings) → OneStands cases (suc n) h → OneStands cases n h
 one_fewer [] n h one = one
-one_fewer (x ∷ xs) n h (inl each) = inl (each_fewer x.known.items n h each)
+one_fewer (x ∷ xs) n h (inl each) = inl (each_fewer x n h each)
 one_fewer (x ∷ xs) n h (inr one) = inr (one_fewer xs n h one)
 
-pub holds_fewer : (pins : Variables) (cases : List Case) (n : ℕ) (s : State) → Holds pins cases (suc n) s → Holds pins cases n s
+pub holds_fewer : (pins : Variables) (cases : List (List Known)) (n : ℕ) (s : State) → Holds pins cases (suc n) s → Holds pins cases n s
 holds_fewer pins cases n s here = record { steps = omega (arith, here.steps); pinned = here.pinned; one = one_fewer cases n s.store here.one }
 
 -- a turn begins where one more step was left
-begins : (pinned : List Known) (cases inside outside after : List Case) (pins : Variables) (traps : List Trap) (d : TestData) (loop : Loop) (guard : GuardTree) (turns : Turns) (counter : Option VarTree) (turn : Range) (f : Faults) (k n : ℕ) (s : State) →
+begins : (pinned : List Known) (cases inside outside after : List (List Known)) (pins : Variables) (traps : List Trap) (d : TestData) (loop : Loop) (guard : GuardTree) (turns : Turns) (counter : Option VarTree) (turn : Range) (f : Faults) (k n : ℕ) (s : State) →
     IsGuard guard turns loop.guard → loop.counter ≡ counter → Enters pinned cases guard turns counter turn inside outside f → TellsCases outside after → AreListed traps loop.place f → PinsStand pinned pins → IsIn turn n (pos k) → Holds pins cases (suc n) s
     → Splits (among traps) (At loop.place) (Holds pins inside n) (Holds pins after n) (take_turn loop k d s)
 begins pinned cases inside outside after pins traps d loop guard turns counter turn f k n s is same enters tells listed stand inside_range here =
@@ -226,7 +224,7 @@ begins pinned cases inside outside after pins traps d loop guard turns counter t
     (enters pins d k n s loop is same inside_range stand (here.pinned, here.one)))
 
 -- a loop whose guess was checked
-pub record LoopParts (pinned : List Known) (cases guess first_inside first_outside later_inside later_outside before end after : List Case) (place : Place) (guard : GuardTree) (turns : Turns) (counter : Option VarTree) (sep : Separator) (body : CommandList) (first later : Faults) (pins : Variables) (d : TestData) (traps : List Trap) : Type 0 where
+pub record LoopParts (pinned : List Known) (cases guess first_inside first_outside later_inside later_outside before end after : List (List Known)) (place : Place) (guard : GuardTree) (turns : Turns) (counter : Option VarTree) (sep : Separator) (body : CommandList) (first later : Faults) (pins : Variables) (d : TestData) (traps : List Trap) : Type 0 where
   pub stand : PinsStand pinned pins
   pub starts : StartsIn cases guard turns
   pub first_enters : Enters pinned cases guard turns counter first_turn first_inside first_outside first
@@ -241,7 +239,7 @@ pub record LoopParts (pinned : List Known) (cases guess first_inside first_outsi
   pub first_after : TellsCases first_outside after
   pub later_after : TellsCases later_outside after
 
-started : {pinned : List Known} {cases guess first_inside first_outside later_inside later_outside before end after : List Case} {place : Place} {guard : GuardTree} {turns : Turns} {counter : Option VarTree} {sep : Separator} {body : CommandList} {first later : Faults} {pins : Variables} {d : TestData} {traps : List Trap} →
+started : {pinned : List Known} {cases guess first_inside first_outside later_inside later_outside before end after : List (List Known)} {place : Place} {guard : GuardTree} {turns : Turns} {counter : Option VarTree} {sep : Separator} {body : CommandList} {first later : Faults} {pins : Variables} {d : TestData} {traps : List Trap} →
     LoopParts pinned cases guess first_inside first_outside later_inside later_outside before end after place guard turns counter sep body first later pins d traps → (g : Guard) → IsGuard guard turns g →
     IsPostFixpoint d pins traps (loop_of place g counter sep body) (record { first = cases; later = guess; first_inside = first_inside; later_inside = later_inside; before_body = before; after_body = end; after = after })
 started {pinned} {cases} {guess} {first_inside} {first_outside} {later_inside} {later_outside} {before} {end} {after} {place} {guard} {turns} {counter} {sep} {body} {first} {later} {pins} {d} {traps} p g is = record {
@@ -254,17 +252,17 @@ started {pinned} {cases} {guess} {first_inside} {first_outside} {later_inside} {
 }
 
 -- how the start of a loop ends
-guard_done : (cases : List Case) (guard : GuardTree) (turns : Turns) (d : TestData) (n : ℕ) (s : State) (g : Guard) → StartsIn cases guard turns → OneStands cases n s.store → guard_of guard d s ≡ done g s → IsGuard guard turns g
+guard_done : (cases : List (List Known)) (guard : GuardTree) (turns : Turns) (d : TestData) (n : ℕ) (s : State) (g : Guard) → StartsIn cases guard turns → OneStands cases n s.store → guard_of guard d s ≡ done g s → IsGuard guard turns g
 guard_done cases guard turns d n s g starts each is = (subst (Fits turns.faults (λ g t. IsGuard guard turns g × (t ≡ s))) is (starts d n s each)).0
 
-guard_fails : (cases : List Case) (guard : GuardTree) (turns : Turns) (place : Place) (traps : List Trap) (d : TestData) (n : ℕ) (s : State) (fault : _) (consumed : ℕ) → StartsIn cases guard turns → OneStands cases n s.store → AreListed traps place turns.faults → guard_of guard d s ≡ faulty fault consumed → IsListed (among traps) (At place) fault
+guard_fails : (cases : List (List Known)) (guard : GuardTree) (turns : Turns) (place : Place) (traps : List Trap) (d : TestData) (n : ℕ) (s : State) (fault : _) (consumed : ℕ) → StartsIn cases guard turns → OneStands cases n s.store → AreListed traps place turns.faults → guard_of guard d s ≡ faulty fault consumed → IsListed (among traps) (At place) fault
 guard_fails cases guard turns place traps d n s fault consumed starts each listed is of_value = listed_fault traps place turns.faults fault listed of_value (subst (Fits turns.faults (λ g t. IsGuard guard turns g × (t ≡ s))) is (starts d n s each))
 
 fewer_ends : (traps : Listing) (m n : ℕ) (after : Before) (e : RunResult) → m ≤ n → Ends traps m after e → Ends traps n after e
 fewer_ends traps m n after (all_done t l) less ends = (le_trans ends.0 less, ends.1)
 fewer_ends traps m n after (stopped outcome consumed l) less ends = ends
 
-pub loop_command : (pinned : List Known) (cases guess first_inside first_outside later_inside later_outside before end after : List Case) (place : Place) (guard : GuardTree) (turns : Turns) (counter : Option VarTree) (sep : Separator) (body : CommandList) (first later : Faults) (pins : Variables) (d : TestData) (traps : List Trap) →
+pub loop_command : (pinned : List Known) (cases guess first_inside first_outside later_inside later_outside before end after : List (List Known)) (place : Place) (guard : GuardTree) (turns : Turns) (counter : Option VarTree) (sep : Separator) (body : CommandList) (first later : Faults) (pins : Variables) (d : TestData) (traps : List Trap) →
     LoopParts pinned cases guess first_inside first_outside later_inside later_outside before end after place guard turns counter sep body first later pins d traps → CommandKeeps d (among traps) (Holds pins cases) (Tree.loop place guard counter sep body) (Holds pins after)
 loop_command pinned cases guess first_inside first_outside later_inside later_outside before end after place guard turns counter sep body first later pins d traps p n s e here (command_has_no_step) = no_steps (among traps) (At place)
 loop_command pinned cases guess first_inside first_outside later_inside later_outside before end after place guard turns counter sep body first later pins d traps p n s e here (loop_starts {n = m} {guard = g} is run) =

@@ -31,10 +31,8 @@ use Rattle.ctd_check.specs.Run.{RunResult, all_done, stopped, run_from, with_ste
 use Rattle.ctd_check.specs.calls.BigSteps.{ProgramEnds, start_fails, commands_stop, end_has_no_step, data_are_accepted, end_rejects, end_fails, BigStepsHold}
 use Rattle.ctd_traps.specs.calls.Traps.{HasEachTrap, IsOfValue, Trap}
 use Rattle.ctd_program.specs.declared.preset.Preset.{Preset}
-use Rattle.ctd_known.specs.declared.facts.Known.{Known}
 use Rattle.ctd_known.proofs.Standing.{each_same}
-use Rattle.ctd_known.specs.calls.Facts.{PinsStand, at_key, pins_alone}
-use Rattle.ctd_traps.specs.declared.cases.Case.{Case}
+use Rattle.ctd_known.specs.calls.Facts.{Known, PinsStand, at_key, pins_alone}
 use Rattle.ctd_traps.specs.inner.Cases.{OneStands, TellsCase}
 use Rattle.ctd_traps.specs.inner.Holds.{Holds}
 use Rattle.ctd_traps.specs.inner.Triples.{Keeps, IsListedOutcome}
@@ -103,7 +101,7 @@ none_owes traps sp si f none spot site fault of_value is = let same : fault ≡ 
 accepted_owes : (traps : List Trap) → Owes traps Accepted
 accepted_owes traps spot site fault of_value is = absurd (cc)
 
-program_owes : (d : TestData) (traps : List Trap) (program : CommandList) (n : ℕ) (s : State) (pins : Variables) (first last : List Case) (e : RunResult) → n < 2 ^ 64 → s.store.pins ≡ pins → ((m : ℕ) → m < 2 ^ 64 → OneStands first m s.store) →
+program_owes : (d : TestData) (traps : List Trap) (program : CommandList) (n : ℕ) (s : State) (pins : Variables) (first last : List (List Known)) (e : RunResult) → n < 2 ^ 64 → s.store.pins ≡ pins → ((m : ℕ) → m < 2 ^ 64 → OneStands first m s.store) →
     ((t : State) → first_skip d s ≡ done tt t → t.store ≡ s.store) → Keeps d (among traps) (Holds pins first) program (Holds pins last) → ProgramEnds d program n s e → Owes traps (outcome_of e)
 program_owes d traps program n s pins first last e less pinned here same keeps (start_fails {consumed} {fault} is) = none_owes traps _ Start fault (subst OnlyLooks is (start_looks s.mode d s))
 program_owes d traps program n s pins first last e less pinned here same keeps (commands_stop {m} {consumed} {t} {o} is list) =
@@ -139,7 +137,7 @@ or_nothing (Some v) = refl
 at_first : (presets : List Preset) (name : List ℕ) (is : List Value) → value_at (initial presets) (at_key name is) ≡ value_at (pins_alone (pins_of presets)) (at_key name is)
 at_first presets name is = or_nothing (value_under (at_key name is) (pins_of presets))
 
-pub traps_follow : BigStepsHold → (program : CommandList) (presets : List Preset) (traps : List Trap) (pinned : List Known) (first last : List Case) → PinsStand pinned (pins_of presets) → TellsCase pinned first →
+pub traps_follow : BigStepsHold → (program : CommandList) (presets : List Preset) (traps : List Trap) (pinned : List Known) (first last : List (List Known)) → PinsStand pinned (pins_of presets) → TellsCase pinned first →
     ((d : TestData) → Keeps d (among traps) (Holds (pins_of presets) first) program (Holds (pins_of presets) last)) → HasEachTrap program presets traps
 traps_follow big program presets traps pinned first last stand tells keeps mode d steps spot site fault less of_value is =
     let s : State = at_start mode presets in

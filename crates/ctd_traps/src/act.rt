@@ -3,30 +3,28 @@
 ghost use Rattle.std.specs.Prelude.{IfOk};
 ghost use Rattle.ctd_program.specs.calls.View.{command_tree};
 ghost use Rattle.ctd_traps.specs.inner.Walk.{ActKeeps, ActsKeep};
+ghost use Rattle.ctd_known.specs.calls.Facts.{pins_in, told_in};
+ghost use Rattle.ctd_traps.specs.inner.Cases.{cases_in};
 
-use crate::assign::{Acted, clear_all, set_all, unchanged};
+use crate::assign::{clear_all, set_all};
 use crate::cases::{Case, with_case};
 use crate::simple::{take_integer, take_match, take_string};
-use ctd_known::{Faults, Ground, Known, Stop, both, no_faults};
+use ctd_known::{Faults, Ground, NameFacts, Stop, both, copy_of, no_faults};
 use ctd_program::{Action, Command};
 
 /// The cases behind a command, and the faults that it may have.
 #[derive(Drop)]
-pub(crate) struct ActedCases<'p> {
-    pub(crate) after: Vec<Case<'p>>,
+pub(crate) struct ActedCases {
+    pub(crate) after: Vec<Case>,
     pub(crate) faults: Faults,
 }
 
-/// What is known behind a command.
-fn act<'p>(
-    command: &'p Command,
-    ground: Ground<'_, 'p>,
-    known: &[Known<'p>],
-) -> Result<Acted<'p>, Stop>
-    ensures { IfOk result (λ a. ActKeeps ground.entry.pinned.now known.now a.after.items a.faults (command_tree command.now)) }
+/// Does what a command does in one case, and gives the faults that it may have.
+fn act(command: &Command, ground: Ground<'_>, known: &mut [NameFacts]) -> Result<Faults, Stop>
+    ensures { IfOk result (λ faults. ActKeeps (pins_in ground.entry) (told_in ground.entry known.old) (told_in ground.entry known.new) faults (command_tree command.now)) }
 {
     match &command.action {
-        Action::Space | Action::Newline | Action::Eof => unchanged(ground, known),
+        Action::Space | Action::Newline | Action::Eof => Ok(no_faults()),
         Action::Int(int) => take_integer(int, ground, known),
         Action::String(e) => take_string(e, ground, known),
         Action::Regex(regex) => take_match(regex, ground, known),
@@ -37,19 +35,20 @@ fn act<'p>(
 }
 
 /// The cases behind a command, by what is known behind it in each.
-pub(crate) fn act_each<'p>(
-    command: &'p Command,
-    ground: Ground<'_, 'p>,
-    cases: &[Case<'p>],
-) -> Result<ActedCases<'p>, Stop>
-    ensures { IfOk result (λ a. ActsKeep ground.entry.pinned.now cases.now a.after.items a.faults (command_tree command.now)) }
+pub(crate) fn act_each(
+    command: &Command,
+    ground: Ground<'_>,
+    cases: &[Case],
+) -> Result<ActedCases, Stop>
+    ensures { IfOk result (λ a. ActsKeep (pins_in ground.entry) (cases_in ground.entry cases.now) (cases_in ground.entry a.after.items) a.faults (command_tree command.now)) }
 {
     let mut after = Vec::new(ground.alloc);
     let mut faults = no_faults();
     for case in cases {
-        let acted = act(command, ground, case.known.as_slice())?;
-        after = with_case(ground, after, acted.after)?;
-        faults = both(faults, acted.faults);
+        let mut known = copy_of(ground.alloc, case.known.as_slice())?;
+        let own = act(command, ground, known.as_mut_slice())?;
+        after = with_case(ground, after, known)?;
+        faults = both(faults, own);
     }
     Ok(ActedCases { after, faults })
 }

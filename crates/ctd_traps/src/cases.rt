@@ -1,25 +1,27 @@
 //! Cases side by side: what is known together in each of them. A run is in one of them.
 
 ghost use Rattle.std.specs.Prelude.{◌≡◌, ◌<◌, true, length, IfOk, IfSome};
-ghost use Rattle.ctd_traps.specs.inner.Cases.{TellsCase, TellsCases, TellsJoined};
+ghost use Rattle.ctd_traps.specs.inner.Cases.{TellsCase, TellsCases, TellsJoined, cases_in};
+ghost use Rattle.ctd_known.specs.calls.Facts.{told_in};
+ghost use Rattle.ctd_known.specs.declared.assign.Ground.{Ground};
 
-use ctd_known::{Ground, Known, Stop, copy_of, is_unreachable, is_within, join, pay, widen};
+use ctd_known::{Ground, NameFacts, Stop, copy_of, is_unreachable, is_within, join, pay, widen};
 
 /// How many cases there are at most.
 const MOST: usize = 4;
 
 /// What is known of the variables in one case.
 #[derive(Drop)]
-pub(crate) struct Case<'p> {
-    pub(crate) known: Vec<Known<'p>>,
+pub(crate) struct Case {
+    pub(crate) known: Vec<NameFacts>,
 }
 
 /// Whether the same names are sure to have a value.
-fn have_same_values(a: &[Known], b: &[Known]) -> bool {
+fn have_same_values(a: &[NameFacts], b: &[NameFacts]) -> bool {
     for (i, entry) in a.iter().enumerate() {
         match b.get(i) {
             Some(other) => {
-                if entry.facts.may_lack != other.facts.may_lack {
+                if entry.may_lack != other.may_lack {
                     return false;
                 }
             }
@@ -30,7 +32,7 @@ fn have_same_values(a: &[Known], b: &[Known]) -> bool {
 }
 
 /// The index of the case in which the same names are sure to have a value.
-fn same_case(cases: &[Case], known: &[Known]) -> Option<usize>
+fn same_case(cases: &[Case], known: &[NameFacts]) -> Option<usize>
     ensures inside { IfSome result (λ i. i < length cases.now) }
 {
     for (i, case) in cases.iter().enumerate() {
@@ -42,11 +44,8 @@ fn same_case(cases: &[Case], known: &[Known]) -> Option<usize>
 }
 
 /// What is known in each of some cases.
-pub(crate) fn join_cases<'p>(
-    ground: Ground<'_, 'p>,
-    cases: &[Case<'p>],
-) -> Result<Vec<Known<'p>>, Stop>
-    ensures { IfOk result (λ all. TellsJoined cases.now all.items) }
+pub(crate) fn join_cases(ground: Ground<'_>, cases: &[Case]) -> Result<Vec<NameFacts>, Stop>
+    ensures { IfOk result (λ all. TellsJoined (cases_in ground.entry cases.now) (told_in ground.entry all.items)) }
 {
     let mut all = match cases.first() {
         Some(case) => copy_of(ground.alloc, case.known.as_slice())?,
@@ -59,17 +58,17 @@ pub(crate) fn join_cases<'p>(
 }
 
 /// Cases and one more.
-fn with_pushed<'p>(mut cases: Vec<Case<'p>>, known: Vec<Known<'p>>) -> Result<Vec<Case<'p>>, Stop>
-    ensures others { IfOk result (λ all. TellsCases cases.entry.items all.items) }
-    ensures added { IfOk result (λ all. TellsCase known.entry.items all.items) }
+fn with_pushed(mut cases: Vec<Case>, known: Vec<NameFacts>) -> Result<Vec<Case>, Stop>
+    ensures others { IfOk result (λ all. (g : Ground) → TellsCases (cases_in g cases.items) (cases_in g all.items)) }
+    ensures added { IfOk result (λ all. (g : Ground) → TellsCase (told_in g known.items) (cases_in g all.items)) }
 {
     cases.push(Case { known })?;
     Ok(cases)
 }
 
 /// The cases where they are few, and otherwise one in their place.
-fn limit_cases<'p>(ground: Ground<'_, 'p>, cases: Vec<Case<'p>>) -> Result<Vec<Case<'p>>, Stop>
-    ensures { IfOk result (λ all. TellsCases cases.entry.items all.items) }
+fn limit_cases(ground: Ground<'_>, cases: Vec<Case>) -> Result<Vec<Case>, Stop>
+    ensures { IfOk result (λ all. TellsCases (cases_in ground.entry cases.items) (cases_in ground.entry all.items)) }
 {
     if cases.len() <= MOST {
         return Ok(cases);
@@ -79,13 +78,13 @@ fn limit_cases<'p>(ground: Ground<'_, 'p>, cases: Vec<Case<'p>>) -> Result<Vec<C
 }
 
 /// Cases and one more, which is joined with that in which the same names are sure to have a value. A case in which no run is is left out.
-pub(crate) fn with_case<'p>(
-    ground: Ground<'_, 'p>,
-    mut cases: Vec<Case<'p>>,
-    known: Vec<Known<'p>>,
-) -> Result<Vec<Case<'p>>, Stop>
-    ensures others { IfOk result (λ all. TellsCases cases.entry.items all.items) }
-    ensures added { IfOk result (λ all. TellsCase known.entry.items all.items) }
+pub(crate) fn with_case(
+    ground: Ground<'_>,
+    mut cases: Vec<Case>,
+    known: Vec<NameFacts>,
+) -> Result<Vec<Case>, Stop>
+    ensures others { IfOk result (λ all. TellsCases (cases_in ground.entry cases.items) (cases_in ground.entry all.items)) }
+    ensures added { IfOk result (λ all. TellsCase (told_in ground.entry known.items) (cases_in ground.entry all.items)) }
 {
     let is_left_out = is_unreachable(known.as_slice());
     if is_left_out {
@@ -105,13 +104,13 @@ pub(crate) fn with_case<'p>(
 }
 
 /// Cases and others.
-pub(crate) fn with_all<'p>(
-    ground: Ground<'_, 'p>,
-    cases: Vec<Case<'p>>,
-    others: &[Case<'p>],
-) -> Result<Vec<Case<'p>>, Stop>
-    ensures first { IfOk result (λ all. TellsCases cases.entry.items all.items) }
-    ensures second { IfOk result (λ all. TellsCases others.now all.items) }
+pub(crate) fn with_all(
+    ground: Ground<'_>,
+    cases: Vec<Case>,
+    others: &[Case],
+) -> Result<Vec<Case>, Stop>
+    ensures first { IfOk result (λ all. TellsCases (cases_in ground.entry cases.items) (cases_in ground.entry all.items)) }
+    ensures second { IfOk result (λ all. TellsCases (cases_in ground.entry others.now) (cases_in ground.entry all.items)) }
 {
     let mut all = cases;
     for other in others {
@@ -122,8 +121,8 @@ pub(crate) fn with_all<'p>(
 }
 
 /// Whether what is known follows a case of some.
-fn is_within_one(known: &[Known], others: &[Case]) -> bool
-    ensures within { result ≡ true → TellsCase known.now others.now }
+fn is_within_one(known: &[NameFacts], others: &[Case]) -> bool
+    ensures within { result ≡ true → (g : Ground) → TellsCase (told_in g known.now) (cases_in g others.now) }
 {
     for other in others {
         if is_within(known, other.known.as_slice()) {
@@ -135,7 +134,7 @@ fn is_within_one(known: &[Known], others: &[Case]) -> bool
 
 /// Whether each case follows from one of others.
 pub(crate) fn are_within(cases: &[Case], others: &[Case]) -> bool
-    ensures within { result ≡ true → TellsCases cases.now others.now }
+    ensures within { result ≡ true → (g : Ground) → TellsCases (cases_in g cases.now) (cases_in g others.now) }
 {
     for case in cases {
         if !is_within_one(case.known.as_slice(), others) {
@@ -146,12 +145,12 @@ pub(crate) fn are_within(cases: &[Case], others: &[Case]) -> bool
 }
 
 /// A guess of one case before a turn, by what is known in it, and by the case of the last guess in which the same names are sure to have a value.
-fn widen_case<'p>(
-    ground: Ground<'_, 'p>,
-    guess: &[Case<'p>],
-    known: &[Known<'p>],
+fn widen_case(
+    ground: Ground<'_>,
+    guess: &[Case],
+    known: &[NameFacts],
     round: usize,
-) -> Result<Vec<Known<'p>>, Stop> {
+) -> Result<Vec<NameFacts>, Stop> {
     match same_case(guess, known) {
         Some(i) => widen(ground.alloc, guess[i].known.as_slice(), known, round),
         None => copy_of(ground.alloc, known),
@@ -159,12 +158,12 @@ fn widen_case<'p>(
 }
 
 /// A guess of the cases before a turn, by the last one and the cases at the end of a turn. No contract speaks of it: it is checked where it is used.
-pub(crate) fn widen_cases<'p>(
-    ground: Ground<'_, 'p>,
-    guess: &[Case<'p>],
-    end: &[Case<'p>],
+pub(crate) fn widen_cases(
+    ground: Ground<'_>,
+    guess: &[Case],
+    end: &[Case],
     round: usize,
-) -> Result<Vec<Case<'p>>, Stop> {
+) -> Result<Vec<Case>, Stop> {
     let mut next = with_all(ground, Vec::new(ground.alloc), guess)?;
     for case in end {
         let wider = widen_case(ground, guess, case.known.as_slice(), round)?;

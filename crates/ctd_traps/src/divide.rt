@@ -2,7 +2,7 @@
 
 ghost use Rattle.std.specs.Prelude.{IfOk};
 ghost use Rattle.ctd_program.specs.calls.View.{test_tree};
-ghost use Rattle.ctd_traps.specs.inner.Cases.{Divides, IsEither, opposite};
+ghost use Rattle.ctd_traps.specs.inner.Cases.{Divides, IsEither, opposite, cases_in};
 
 use crate::cases::{Case, with_all, with_case};
 use ctd_known::{Faults, Ground, Stop, both, no_faults, split};
@@ -10,25 +10,21 @@ use ctd_program::Test;
 
 /// The cases where a test is true, those where it is false, and the faults that it may have.
 #[derive(Drop)]
-pub(crate) struct Divided<'p> {
-    pub(crate) if_true: Vec<Case<'p>>,
-    pub(crate) if_false: Vec<Case<'p>>,
+pub(crate) struct Divided {
+    pub(crate) if_true: Vec<Case>,
+    pub(crate) if_false: Vec<Case>,
     pub(crate) faults: Faults,
 }
 
 /// Each case where a test is true, and where it is false.
-fn divide_each<'p>(
-    ground: Ground<'_, 'p>,
-    t: &'p Test,
-    cases: &[Case<'p>],
-) -> Result<Divided<'p>, Stop>
-    ensures { IfOk result (λ s. Divides cases.now (test_tree t.now) s.if_true.items s.if_false.items s.faults) }
+fn divide_each(ground: Ground<'_>, t: &Test, cases: &[Case]) -> Result<Divided, Stop>
+    ensures { IfOk result (λ s. Divides (cases_in ground.entry cases.now) (test_tree t.now) (cases_in ground.entry s.if_true.items) (cases_in ground.entry s.if_false.items) s.faults) }
 {
     let mut if_true = Vec::new(ground.alloc);
     let mut if_false = Vec::new(ground.alloc);
     let mut faults = no_faults();
     for case in cases {
-        let decided = split(ground.alloc, t, case.known.as_slice())?;
+        let decided = split(ground, t, case.known.as_slice())?;
         if_true = with_case(ground, if_true, decided.if_true)?;
         if_false = with_case(ground, if_false, decided.if_false)?;
         faults = both(faults, decided.faults);
@@ -41,12 +37,8 @@ fn divide_each<'p>(
 }
 
 /// One test or another, of which the other is asked where the first is false.
-fn either<'p>(
-    ground: Ground<'_, 'p>,
-    first: Divided<'p>,
-    second: Divided<'p>,
-) -> Result<Divided<'p>, Stop>
-    ensures { IfOk result (λ all. IsEither first.entry second.entry all) }
+fn either(ground: Ground<'_>, first: Divided, second: Divided) -> Result<Divided, Stop>
+    ensures { IfOk result (λ all. IsEither ground.entry first second all) }
 {
     let if_true = with_all(ground, first.if_true, second.if_true.as_slice())?;
     Ok(Divided {
@@ -57,12 +49,8 @@ fn either<'p>(
 }
 
 /// One test and another, which is asked where the first is true.
-fn each<'p>(
-    ground: Ground<'_, 'p>,
-    first: Divided<'p>,
-    second: Divided<'p>,
-) -> Result<Divided<'p>, Stop>
-    ensures { IfOk result (λ all. IsEither (opposite first.entry) (opposite second.entry) (opposite all)) }
+fn each(ground: Ground<'_>, first: Divided, second: Divided) -> Result<Divided, Stop>
+    ensures { IfOk result (λ all. IsEither ground.entry (opposite first) (opposite second) (opposite all)) }
 {
     let if_false = with_all(ground, first.if_false, second.if_false.as_slice())?;
     Ok(Divided {
@@ -73,12 +61,8 @@ fn each<'p>(
 }
 
 /// The cases where a test is true, and those where it is false. A test that is asked in no case has no faults.
-pub(crate) fn divide<'p>(
-    ground: Ground<'_, 'p>,
-    t: &'p Test,
-    cases: &[Case<'p>],
-) -> Result<Divided<'p>, Stop>
-    ensures { IfOk result (λ s. Divides cases.now (test_tree t.now) s.if_true.items s.if_false.items s.faults) }
+pub(crate) fn divide(ground: Ground<'_>, t: &Test, cases: &[Case]) -> Result<Divided, Stop>
+    ensures { IfOk result (λ s. Divides (cases_in ground.entry cases.now) (test_tree t.now) (cases_in ground.entry s.if_true.items) (cases_in ground.entry s.if_false.items) s.faults) }
 {
     match t {
         Test::Or(a, b) => {

@@ -1,21 +1,20 @@
 //! The traps of a program.
 
-ghost use Rattle.std.specs.Prelude.{◌≡◌, ℕ, [], IfOk, IfSome};
+ghost use Rattle.std.specs.Prelude.{ℕ, [], IfOk, IfSome, List, OnOk};
 ghost use Rattle.ctd_program.specs.calls.View.{command_trees};
 ghost use Rattle.ctd_store.specs.Store.{Variables, value_of, with_pin};
 ghost use Rattle.ctd_store.specs.inner.Store.{pins_of};
 ghost use Rattle.ctd_traps.specs.calls.Traps.{HasEachTrap, traps_of};
-ghost use Rattle.ctd_traps.specs.inner.Cases.{TellsCase};
-ghost use Rattle.ctd_known.specs.calls.Facts.{MayBe, PinsStand};
+ghost use Rattle.ctd_traps.specs.inner.Cases.{TellsCase, cases_in};
+ghost use Rattle.ctd_known.specs.calls.Facts.{MayBe, PinsStand, pins_in, told, told_in};
+ghost use Rattle.std.specs.Borrow.{Bor};
 
 use crate::cases::{Case, with_case};
 use crate::finding::Finding;
 use crate::names::{Mentioned, mentioned_in};
 use crate::walk::walk;
 use ctd_check::big_steps_are_the_run;
-use ctd_known::{
-    Ground, Kinds, Known, Lengths, NameFacts, Stop, assign_alone, assign_element, copy_of,
-};
+use ctd_known::{Ground, Kinds, Lengths, NameFacts, Stop, assign_alone, assign_element, copy_of};
 use ctd_program::{Command, Preset, PresetValue, Presets};
 use ctd_range::Range;
 use std::alloc::{AllocError, Global};
@@ -30,8 +29,8 @@ const NONE: Kinds = Kinds {
 };
 
 /// What is known where no name has a value.
-fn unset<'p>(alloc: Global, names: &[&'p [u8]]) -> Result<Vec<Known<'p>>, AllocError>
-    ensures { IfOk result (λ known. PinsStand known.items []) }
+fn unset(alloc: Global, names: &[&[u8]]) -> Result<Vec<NameFacts>, AllocError>
+    ensures { IfOk result (λ known. (q : List (Bor (List ℕ))) → PinsStand (told q known.items) []) }
 {
     let facts = NameFacts {
         may_lack: true,
@@ -39,8 +38,8 @@ fn unset<'p>(alloc: Global, names: &[&'p [u8]]) -> Result<Vec<Known<'p>>, AllocE
         elements: NONE,
     };
     let mut known = Vec::new(alloc);
-    for name in names {
-        known.push(Known { name: *name, facts })?;
+    for _ in names {
+        known.push(facts)?;
     }
     Ok(known)
 }
@@ -72,30 +71,26 @@ fn kinds_of(literal: &PresetValue) -> Kinds
     }
 }
 
-/// What is known once a preset is pinned too. What is known without pins is given.
-fn pin<'p>(
-    without: Ground<'_, 'p>,
-    preset: &'p Preset,
-    known: &[Known<'p>],
-) -> Result<Vec<Known<'p>>, Stop>
-    ensures { IfOk result (λ after. PinsStand without.entry.pinned.now [] → (pins : Variables) → PinsStand known.now pins → PinsStand after.items (with_pin pins preset.now)) }
+/// Pins a preset. What is known without pins is given.
+fn pin(without: Ground<'_>, preset: &Preset, known: &mut [NameFacts]) -> Result<(), Stop>
+    ensures { OnOk result (PinsStand (pins_in without.entry) [] → (pins : Variables) → PinsStand (told_in without.entry known.old) pins → PinsStand (told_in without.entry known.new) (with_pin pins preset.now)) }
 {
     let name = preset.name.as_slice();
     let kinds = kinds_of(&preset.value);
     if preset.indices.as_slice().is_empty() {
         assign_alone(without, name, kinds, known)
     } else {
-        assign_element(without.alloc, name, kinds, known)
+        assign_element(without, name, kinds, known)
     }
 }
 
 /// What is known where all presets are pinned.
-fn pin_all<'p>(without: Ground<'_, 'p>, presets: &'p [Preset]) -> Result<Vec<Known<'p>>, Stop>
-    ensures { IfOk result (λ known. PinsStand without.entry.pinned.now [] → PinsStand known.items (pins_of presets.now)) }
+fn pin_all(without: Ground<'_>, presets: &[Preset]) -> Result<Vec<NameFacts>, Stop>
+    ensures { IfOk result (λ known. PinsStand (pins_in without.entry) [] → PinsStand (told_in without.entry known.items) (pins_of presets.now)) }
 {
     let mut known = copy_of(without.alloc, without.pinned)?;
     for preset in presets {
-        known = pin(without, preset, known.as_slice())?;
+        pin(without, preset, known.as_mut_slice())?;
     }
     Ok(known)
 }
@@ -108,35 +103,32 @@ pub struct TrapList<'p> {
 }
 
 /// What is known before the first command of a program with these names.
-fn known_before<'p>(
-    alloc: Global,
-    presets: &'p Presets,
-    names: &[&'p [u8]],
-) -> Result<Vec<Known<'p>>, Stop>
-    ensures { IfOk result (λ known. PinsStand known.items (pins_of presets.now)) }
+fn known_before(alloc: Global, presets: &Presets, names: &[&[u8]]) -> Result<Vec<NameFacts>, Stop>
+    ensures { IfOk result (λ known. PinsStand (told names.now known.items) (pins_of presets.now)) }
 {
     let nothing = unset(alloc, names)?;
     let without = Ground {
         alloc,
+        names,
         pinned: nothing.as_slice(),
     };
     pin_all(without, presets.pins())
 }
 
 /// The one case before the first command, in which just the pins are known.
-fn first_case<'p>(ground: Ground<'_, 'p>) -> Result<Vec<Case<'p>>, Stop>
-    ensures { IfOk result (λ first. TellsCase ground.entry.pinned.now first.items) }
+fn first_case(ground: Ground<'_>) -> Result<Vec<Case>, Stop>
+    ensures { IfOk result (λ first. TellsCase (pins_in ground.entry) (cases_in ground.entry first.items)) }
 {
     let known = copy_of(ground.alloc, ground.pinned)?;
     with_case(ground, Vec::new(ground.alloc), known)
 }
 
 /// The places at which a run of some commands with these names may stop by a fault of a value.
-fn findings_of<'p>(
+fn findings_of(
     alloc: Global,
-    commands: &'p [Command],
-    presets: &'p Presets,
-    names: &[&'p [u8]],
+    commands: &[Command],
+    presets: &Presets,
+    names: &[&[u8]],
     passes: u64,
 ) -> Result<Vec<Finding>, Stop>
     ensures { IfOk result (λ found. HasEachTrap (command_trees commands.now) presets.now (traps_of found.items)) }
@@ -145,6 +137,7 @@ fn findings_of<'p>(
     let pinned = known_before(alloc, presets, names)?;
     let ground = Ground {
         alloc,
+        names,
         pinned: pinned.as_slice(),
     };
     let first = first_case(ground)?;

@@ -1,17 +1,17 @@
-//! What is known behind commands in which no others stand.
+//! What INT, STRING and REGEX do with what is known.
 
-ghost use Rattle.std.specs.Prelude.{◌≡◌, ◌≤ℤ◌, ◌≤◌, ◌<◌, ℕ, ℤ, List, length, false, IfOk};
+ghost use Rattle.std.specs.Prelude.{◌≤ℤ◌, ◌≤◌, ℕ, ℤ, List, length, IfOk};
 ghost use Rattle.ctd_source.specs.declared.limits.TheConstants.{WINDOW};
 ghost use Rattle.ctd_program.specs.calls.View.{expr_tree, target};
 ghost use Rattle.ctd_store.specs.declared.value.Value.TheVariants as values;
 ghost use Rattle.ctd_command.specs.Commands.{int, string};
 ghost use Rattle.ctd_command.specs.Regex.{regex};
-ghost use Rattle.ctd_known.specs.calls.Facts.{MayBe};
+ghost use Rattle.ctd_known.specs.calls.Facts.{MayBe, pins_in, told_in};
 ghost use Rattle.ctd_traps.specs.inner.Walk.{Acts};
 
-use crate::assign::{Acted, keep};
+use crate::assign::keep;
 use ctd_known::{
-    Ground, Kinds, Known, Lengths, Stop, both, copy_of, inspect, number_faults, text_faults,
+    Faults, Ground, Kinds, Lengths, NameFacts, Stop, both, inspect, number_faults, text_faults,
 };
 use ctd_program::{Expr, IntArguments, RegexArguments};
 use ctd_range::Range;
@@ -33,16 +33,16 @@ fn between(a: Kinds, b: Kinds) -> Kinds
     Kinds { text: None, number }
 }
 
-/// What is known behind INT.
-pub(crate) fn take_integer<'p>(
-    arguments: &'p IntArguments,
-    ground: Ground<'_, 'p>,
-    known: &[Known<'p>],
-) -> Result<Acted<'p>, Stop>
-    ensures { IfOk result (λ a. Acts ground.entry.pinned.now known.now a.after.items a.faults (int (expr_tree arguments.now.low) (expr_tree arguments.now.high) (target arguments.now.target))) }
+/// Does what INT does.
+pub(crate) fn take_integer(
+    arguments: &IntArguments,
+    ground: Ground<'_>,
+    known: &mut [NameFacts],
+) -> Result<Faults, Stop>
+    ensures { IfOk result (λ faults. Acts (pins_in ground.entry) (told_in ground.entry known.old) (told_in ground.entry known.new) faults (int (expr_tree arguments.now.low) (expr_tree arguments.now.high) (target arguments.now.target))) }
 {
-    let low = inspect(&arguments.low, known)?;
-    let high = inspect(&arguments.high, known)?;
+    let low = inspect(&arguments.low, ground.names, known)?;
+    let high = inspect(&arguments.high, ground.names, known)?;
     let kept = keep(
         ground,
         &arguments.target,
@@ -50,23 +50,15 @@ pub(crate) fn take_integer<'p>(
         known,
     )?;
     let bounds = both(number_faults(low), number_faults(high));
-    Ok(Acted {
-        after: kept.after,
-        faults: both(bounds, kept.faults),
-    })
+    Ok(both(bounds, kept))
 }
 
-/// What is known behind STRING.
-pub(crate) fn take_string<'p>(
-    e: &'p Expr,
-    ground: Ground<'_, 'p>,
-    known: &[Known<'p>],
-) -> Result<Acted<'p>, Stop>
-    ensures { IfOk result (λ a. Acts ground.entry.pinned.now known.now a.after.items a.faults (string (expr_tree e.now))) }
+/// The faults that STRING may have, which gives no variable a value.
+pub(crate) fn take_string(e: &Expr, ground: Ground<'_>, known: &[NameFacts]) -> Result<Faults, Stop>
+    ensures { IfOk result (λ faults. Acts (pins_in ground.entry) (told_in ground.entry known.now) (told_in ground.entry known.now) faults (string (expr_tree e.now))) }
 {
-    let faults = text_faults(inspect(e, known)?);
-    let after = copy_of(ground.alloc, known)?;
-    Ok(Acted { after, faults })
+    let found = inspect(e, ground.names, known)?;
+    Ok(text_faults(found))
 }
 
 /// The strings that a window may have.
@@ -82,13 +74,13 @@ fn in_window() -> Kinds
     }
 }
 
-/// What is known behind REGEX.
-pub(crate) fn take_match<'p>(
-    arguments: &'p RegexArguments,
-    ground: Ground<'_, 'p>,
-    known: &[Known<'p>],
-) -> Result<Acted<'p>, Stop>
-    ensures { IfOk result (λ a. Acts ground.entry.pinned.now known.now a.after.items a.faults (regex arguments.now.literal.bytes (target arguments.now.target))) }
+/// Does what REGEX does.
+pub(crate) fn take_match(
+    arguments: &RegexArguments,
+    ground: Ground<'_>,
+    known: &mut [NameFacts],
+) -> Result<Faults, Stop>
+    ensures { IfOk result (λ faults. Acts (pins_in ground.entry) (told_in ground.entry known.old) (told_in ground.entry known.new) faults (regex arguments.now.literal.bytes (target arguments.now.target))) }
 {
     keep(ground, &arguments.target, in_window(), known)
 }

@@ -5,25 +5,26 @@ ghost use Rattle.ctd_program.specs.calls.View.{boxed_target, expr_tree, guard_tr
 ghost use Rattle.ctd_store.specs.declared.value.Value.TheVariants as values;
 ghost use Rattle.ctd_range.specs.calls.Ranges.{IsIn};
 ghost use Rattle.ctd_range.specs.inner.Ranges.{IsCount};
-ghost use Rattle.ctd_known.specs.calls.Facts.{MayBe};
+ghost use Rattle.ctd_known.specs.calls.Facts.{MayBe, pins_in, told_in};
 ghost use Rattle.ctd_traps.specs.inner.Walk.{Counts, CountsEach, CountsLast, CountsTurn, Enters, Starts, StartsIn, first_turn};
 ghost use Rattle.ctd_program.specs.declared.tree.Loop.{out-Loop};
+ghost use Rattle.ctd_traps.specs.inner.Cases.{cases_in};
 
 use crate::act::ActedCases;
-use crate::assign::{Acted, assign, unchanged};
+use crate::assign::assign;
 use crate::cases::{Case, join_cases, with_case};
 use crate::divide::divide;
 use ctd_known::{
-    Faults, Ground, Kinds, Known, Stop, after_step, both, inspect, no_faults, number_faults,
+    Faults, Ground, Kinds, NameFacts, Stop, after_step, both, inspect, no_faults, number_faults,
 };
 use ctd_program::{Expr, Loop, LoopGuard, Var};
 use ctd_range::{Range, less};
 
 /// The cases where a turn begins, and those where the loop is over.
 #[derive(Drop)]
-pub(crate) struct Entered<'p> {
-    pub(crate) inside: Vec<Case<'p>>,
-    pub(crate) outside: Vec<Case<'p>>,
+pub(crate) struct Entered {
+    pub(crate) inside: Vec<Case>,
+    pub(crate) outside: Vec<Case>,
     pub(crate) faults: Faults,
 }
 
@@ -66,10 +67,10 @@ pub(crate) struct Turns {
 }
 
 /// What a count of turns may be.
-fn count_turns(e: &Expr, known: &[Known]) -> Result<Turns, Stop>
-    ensures { IfOk result (λ t. Counts known.now (expr_tree e.now) t) }
+fn count_turns(e: &Expr, ground: Ground<'_>, known: &[NameFacts]) -> Result<Turns, Stop>
+    ensures { IfOk result (λ t. Counts (told_in ground.entry known.now) (expr_tree e.now) t) }
 {
-    let count = inspect(e, known)?;
+    let count = inspect(e, ground.names, known)?;
     let bad = Faults {
         count: may_be_no_count(count.kinds),
         ..no_faults()
@@ -82,11 +83,11 @@ fn count_turns(e: &Expr, known: &[Known]) -> Result<Turns, Stop>
 }
 
 /// How a loop may start.
-fn start(guard: &LoopGuard, known: &[Known]) -> Result<Turns, Stop>
-    ensures { IfOk result (λ t. Starts known.now (guard_tree guard.now) t) }
+fn start(guard: &LoopGuard, ground: Ground<'_>, known: &[NameFacts]) -> Result<Turns, Stop>
+    ensures { IfOk result (λ t. Starts (told_in ground.entry known.now) (guard_tree guard.now) t) }
 {
     match guard {
-        LoopGuard::Times(e) => count_turns(e, known),
+        LoopGuard::Times(e) => count_turns(e, ground, known),
         LoopGuard::While(_) => Ok(Turns {
             faults: no_faults(),
             least: 0,
@@ -96,12 +97,8 @@ fn start(guard: &LoopGuard, known: &[Known]) -> Result<Turns, Stop>
 }
 
 /// How a loop may start in some cases.
-fn start_each<'p>(
-    guard: &LoopGuard,
-    ground: Ground<'_, 'p>,
-    cases: &[Case<'p>],
-) -> Result<Turns, Stop>
-    ensures { IfOk result (λ t. StartsIn cases.now (guard_tree guard.now) t) }
+fn start_each(guard: &LoopGuard, ground: Ground<'_>, cases: &[Case]) -> Result<Turns, Stop>
+    ensures { IfOk result (λ t. StartsIn (cases_in ground.entry cases.now) (guard_tree guard.now) t) }
 {
     if cases.is_empty() {
         return Ok(Turns {
@@ -111,7 +108,7 @@ fn start_each<'p>(
         });
     }
     let all = join_cases(ground, cases)?;
-    start(guard, all.as_slice())
+    start(guard, ground, all.as_slice())
 }
 
 /// The numbers of turns that are below a count.
@@ -127,14 +124,14 @@ fn below(turn: Range, most: u64) -> Range
     less(turn, counts)
 }
 
-/// What is known once the counter of a loop, if there is one, got the number of a turn.
-fn count_turn<'p>(
-    counter: &'p Option<Box<Var>>,
+/// Gives the counter of a loop, if there is one, the number of a turn.
+fn count_turn(
+    counter: &Option<Box<Var>>,
     turn: Range,
-    ground: Ground<'_, 'p>,
-    known: &[Known<'p>],
-) -> Result<Acted<'p>, Stop>
-    ensures { IfOk result (λ a. CountsTurn ground.entry.pinned.now known.now (boxed_target counter.now) turn a.after.items a.faults) }
+    ground: Ground<'_>,
+    known: &mut [NameFacts],
+) -> Result<Faults, Stop>
+    ensures { IfOk result (λ faults. CountsTurn (pins_in ground.entry) (told_in ground.entry known.old) (boxed_target counter.now) turn (told_in ground.entry known.new) faults) }
 {
     let kinds = Kinds {
         text: None,
@@ -142,26 +139,26 @@ fn count_turn<'p>(
     };
     match counter {
         Some(variable) => assign(ground, variable, kinds, known),
-        None => unchanged(ground, known),
+        None => Ok(no_faults()),
     }
 }
 
 /// The cases once a step was paid, and the counter of a loop, if there is one, got the number of a turn.
-fn count_each<'p>(
-    counter: &'p Option<Box<Var>>,
+fn count_each(
+    counter: &Option<Box<Var>>,
     turn: Range,
-    ground: Ground<'_, 'p>,
-    cases: &[Case<'p>],
-) -> Result<ActedCases<'p>, Stop>
-    ensures { IfOk result (λ a. CountsEach ground.entry.pinned.now cases.now (boxed_target counter.now) turn a.after.items a.faults) }
+    ground: Ground<'_>,
+    cases: &[Case],
+) -> Result<ActedCases, Stop>
+    ensures { IfOk result (λ a. CountsEach (pins_in ground.entry) (cases_in ground.entry cases.now) (boxed_target counter.now) turn (cases_in ground.entry a.after.items) a.faults) }
 {
     let mut after = Vec::new(ground.alloc);
     let mut faults = no_faults();
     for case in cases {
-        let paid = after_step(ground.alloc, case.known.as_slice())?;
-        let counted = count_turn(counter, turn, ground, paid.as_slice())?;
-        after = with_case(ground, after, counted.after)?;
-        faults = both(faults, counted.faults);
+        let mut known = after_step(ground.alloc, case.known.as_slice())?;
+        let own = count_turn(counter, turn, ground, known.as_mut_slice())?;
+        after = with_case(ground, after, known)?;
+        faults = both(faults, own);
     }
     Ok(ActedCases { after, faults })
 }
@@ -174,14 +171,14 @@ fn are_below(turn: Range, count: u64) -> bool
 }
 
 /// The cases where a loop that has at least so many turns is over at a turn.
-fn count_last<'p>(
-    counter: &'p Option<Box<Var>>,
+fn count_last(
+    counter: &Option<Box<Var>>,
     turn: Range,
     least: u64,
-    ground: Ground<'_, 'p>,
-    cases: &[Case<'p>],
-) -> Result<ActedCases<'p>, Stop>
-    ensures { IfOk result (λ a. CountsLast ground.entry.pinned.now cases.now (boxed_target counter.now) turn least a.after.items a.faults) }
+    ground: Ground<'_>,
+    cases: &[Case],
+) -> Result<ActedCases, Stop>
+    ensures { IfOk result (λ a. CountsLast (pins_in ground.entry) (cases_in ground.entry cases.now) (boxed_target counter.now) turn least (cases_in ground.entry a.after.items) a.faults) }
 {
     if are_below(turn, least) {
         return Ok(ActedCases {
@@ -193,15 +190,15 @@ fn count_last<'p>(
 }
 
 /// The cases where a turn of a loop begins whose number is of a range, and those where the loop is over.
-pub(crate) fn enter<'p>(
-    guard: &'p LoopGuard,
-    counter: &'p Option<Box<Var>>,
+pub(crate) fn enter(
+    guard: &LoopGuard,
+    counter: &Option<Box<Var>>,
     turn: Range,
     turns: Turns,
-    ground: Ground<'_, 'p>,
-    cases: &[Case<'p>],
-) -> Result<Entered<'p>, Stop>
-    ensures { IfOk result (λ e. Enters ground.entry.pinned.now cases.now (guard_tree guard.now) turns (boxed_target counter.now) turn e.inside.items e.outside.items e.faults) }
+    ground: Ground<'_>,
+    cases: &[Case],
+) -> Result<Entered, Stop>
+    ensures { IfOk result (λ e. Enters (pins_in ground.entry) (cases_in ground.entry cases.now) (guard_tree guard.now) turns (boxed_target counter.now) turn (cases_in ground.entry e.inside.items) (cases_in ground.entry e.outside.items) e.faults) }
 {
     match guard {
         LoopGuard::Times(_) => {
@@ -235,19 +232,15 @@ const FIRST: Range = Range {
 
 /// How a loop starts, and how its first turn begins.
 #[derive(Drop)]
-pub(crate) struct Begun<'p> {
+pub(crate) struct Begun {
     pub(crate) turns: Turns,
-    pub(crate) first: Entered<'p>,
+    pub(crate) first: Entered,
 }
 
 /// How a loop starts, and how its first turn begins.
-pub(crate) fn begin<'p>(
-    repeated: &'p Loop,
-    ground: Ground<'_, 'p>,
-    cases: &[Case<'p>],
-) -> Result<Begun<'p>, Stop>
-    ensures starts { IfOk result (λ b. StartsIn cases.now (guard_tree (out-Loop repeated.now).guard) b.turns) }
-    ensures enters { IfOk result (λ b. Enters ground.entry.pinned.now cases.now (guard_tree (out-Loop repeated.now).guard) b.turns (boxed_target (out-Loop repeated.now).counter) first_turn b.first.inside.items b.first.outside.items b.first.faults) }
+pub(crate) fn begin(repeated: &Loop, ground: Ground<'_>, cases: &[Case]) -> Result<Begun, Stop>
+    ensures starts { IfOk result (λ b. StartsIn (cases_in ground.entry cases.now) (guard_tree (out-Loop repeated.now).guard) b.turns) }
+    ensures enters { IfOk result (λ b. Enters (pins_in ground.entry) (cases_in ground.entry cases.now) (guard_tree (out-Loop repeated.now).guard) b.turns (boxed_target (out-Loop repeated.now).counter) first_turn (cases_in ground.entry b.first.inside.items) (cases_in ground.entry b.first.outside.items) b.first.faults) }
 {
     let Loop { guard, counter, .. } = repeated;
     let turns = start_each(guard, ground, cases)?;

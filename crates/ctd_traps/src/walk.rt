@@ -5,9 +5,11 @@ ghost use Rattle.ctd_program.specs.Tree;
 ghost use Rattle.ctd_program.specs.calls.View.{command_list, command_tree, command_trees, test_tree};
 ghost use Rattle.ctd_program.specs.inner.View.{boxed_separator};
 ghost use Rattle.ctd_traps.specs.calls.Traps.{traps_of};
-ghost use Rattle.ctd_traps.specs.inner.Cases.{Divides, TellsCases};
+ghost use Rattle.ctd_traps.specs.inner.Cases.{Divides, TellsCases, cases_in};
 ghost use Rattle.ctd_traps.specs.inner.Holds.{AreListed, ArePart};
 ghost use Rattle.ctd_traps.specs.inner.Walk.{AreBranches, BeginsLater, Concludes, RoundKeeps, SeparatorKeeps, StepKeeps, WalkKeeps, choice_at, loop_at};
+ghost use Rattle.ctd_known.specs.calls.Facts.{pins_in};
+ghost use Rattle.ctd_known.specs.declared.assign.Ground.{Ground};
 
 use crate::act::act_each;
 use crate::cases::{Case, are_within, pay_each, widen_cases, with_all};
@@ -31,14 +33,14 @@ const LATER: Range = Range {
 };
 
 /// The cases behind a command in which no others stand.
-fn take<'p>(
-    command: &'p Command,
-    ground: Ground<'_, 'p>,
-    cases: &[Case<'p>],
+fn take(
+    command: &Command,
+    ground: Ground<'_>,
+    cases: &[Case],
     findings: &mut Vec<Finding>,
-) -> Result<Vec<Case<'p>>, Stop>
+) -> Result<Vec<Case>, Stop>
     ensures more { OnOk result (ArePart (traps_of findings.old.items) (traps_of findings.new.items)) }
-    ensures keeps { IfOk result (λ after. StepKeeps ground.entry.pinned.now cases.now after.items findings.new.items (command_tree command.now)) }
+    ensures keeps { IfOk result (λ after. StepKeeps (pins_in ground.entry) (cases_in ground.entry cases.now) (cases_in ground.entry after.items) findings.new.items (command_tree command.now)) }
 {
     let acted = act_each(command, ground, cases)?;
     report(command.place, acted.faults, findings)?;
@@ -46,15 +48,15 @@ fn take<'p>(
 }
 
 /// The cases where a test of a command is true, and those where it is false. The faults of the test are reported.
-fn ask<'p>(
-    t: &'p Test,
+fn ask(
+    t: &Test,
     place: Place,
-    ground: Ground<'_, 'p>,
-    cases: &[Case<'p>],
+    ground: Ground<'_>,
+    cases: &[Case],
     findings: &mut Vec<Finding>,
-) -> Result<Divided<'p>, Stop>
+) -> Result<Divided, Stop>
     ensures more { OnOk result (ArePart (traps_of findings.old.items) (traps_of findings.new.items)) }
-    ensures divides { IfOk result (λ s. Divides cases.now (test_tree t.now) s.if_true.items s.if_false.items s.faults) }
+    ensures divides { IfOk result (λ s. Divides (cases_in ground.entry cases.now) (test_tree t.now) (cases_in ground.entry s.if_true.items) (cases_in ground.entry s.if_false.items) s.faults) }
     ensures listed { IfOk result (λ s. AreListed (traps_of findings.new.items) place s.faults) }
 {
     let divided = divide(ground, t, cases)?;
@@ -63,42 +65,38 @@ fn ask<'p>(
 }
 
 /// The cases behind ASSERT.
-fn assert<'p>(
-    t: &'p Test,
+fn assert(
+    t: &Test,
     place: Place,
-    ground: Ground<'_, 'p>,
-    cases: &[Case<'p>],
+    ground: Ground<'_>,
+    cases: &[Case],
     findings: &mut Vec<Finding>,
-) -> Result<Vec<Case<'p>>, Stop>
+) -> Result<Vec<Case>, Stop>
     ensures more { OnOk result (ArePart (traps_of findings.old.items) (traps_of findings.new.items)) }
-    ensures keeps { IfOk result (λ after. StepKeeps ground.entry.pinned.now cases.now after.items findings.new.items (Tree.assert place (test_tree t.now))) }
+    ensures keeps { IfOk result (λ after. StepKeeps (pins_in ground.entry) (cases_in ground.entry cases.now) (cases_in ground.entry after.items) findings.new.items (Tree.assert place (test_tree t.now))) }
 {
     let asked = ask(t, place, ground, cases, findings)?;
     Ok(asked.if_true)
 }
 
 /// The cases behind IF, by those behind each of its branches.
-fn join_branches<'p>(
-    ground: Ground<'_, 'p>,
-    yes: Vec<Case<'p>>,
-    no: Vec<Case<'p>>,
-) -> Result<Vec<Case<'p>>, Stop>
-    ensures { IfOk result (λ after. AreBranches yes.entry.items no.entry.items after.items) }
+fn join_branches(ground: Ground<'_>, yes: Vec<Case>, no: Vec<Case>) -> Result<Vec<Case>, Stop>
+    ensures { IfOk result (λ after. AreBranches (cases_in ground.entry yes.items) (cases_in ground.entry no.items) (cases_in ground.entry after.items)) }
 {
     with_all(ground, yes, no.as_slice())
 }
 
 /// How a turn of a loop but the first begins, by a guess of the cases before it. The faults of the loop are reported.
-fn begin_later<'p>(
-    repeated: &'p Loop,
+fn begin_later(
+    repeated: &Loop,
     place: Place,
-    ground: Ground<'_, 'p>,
-    begun: &Begun<'p>,
-    guess: &[Case<'p>],
+    ground: Ground<'_>,
+    begun: &Begun,
+    guess: &[Case],
     findings: &mut Vec<Finding>,
-) -> Result<Entered<'p>, Stop>
+) -> Result<Entered, Stop>
     ensures more { OnOk result (ArePart (traps_of findings.old.items) (traps_of findings.new.items)) }
-    ensures begins { IfOk result (λ e. BeginsLater ground.entry.pinned.now guess.now begun.now.turns begun.now.first.faults e.inside.items e.outside.items e.faults findings.new.items place repeated.now) }
+    ensures begins { IfOk result (λ e. BeginsLater (pins_in ground.entry) (cases_in ground.entry guess.now) begun.now.turns begun.now.first.faults (cases_in ground.entry e.inside.items) (cases_in ground.entry e.outside.items) e.faults findings.new.items place repeated.now) }
 {
     let Loop { guard, counter, .. } = repeated;
     let later = enter(guard, counter, LATER, begun.turns, ground, guess)?;
@@ -109,28 +107,28 @@ fn begin_later<'p>(
 
 /// The cases behind a loop of those before each turn but the first, and the cases at the end of a turn.
 #[derive(Drop)]
-struct Round<'p> {
-    outside: Vec<Case<'p>>,
-    end: Vec<Case<'p>>,
+struct Round {
+    outside: Vec<Case>,
+    end: Vec<Case>,
 }
 
 /// Whether a guess of the cases before each turn but the first holds: whether the cases at the end of a turn follow from it.
 fn holds(guess: &[Case], passed: &Round) -> bool
-    ensures { result ≡ true → TellsCases passed.now.end.items guess.now }
+    ensures { result ≡ true → (g : Ground) → TellsCases (cases_in g passed.now.end.items) (cases_in g guess.now) }
 {
     are_within(passed.end.as_slice(), guess)
 }
 
 /// The cases behind a loop: those behind its first turn and those behind later ones. What was found in it is added to the findings.
-fn conclude<'p>(
-    ground: Ground<'_, 'p>,
-    first: &[Case<'p>],
-    later: Vec<Case<'p>>,
+fn conclude(
+    ground: Ground<'_>,
+    first: &[Case],
+    later: Vec<Case>,
     found: Vec<Finding>,
     findings: &mut Vec<Finding>,
-) -> Result<Vec<Case<'p>>, Stop>
+) -> Result<Vec<Case>, Stop>
     ensures more { OnOk result (ArePart (traps_of findings.old.items) (traps_of findings.new.items)) }
-    ensures concludes { IfOk result (λ after. Concludes first.now later.entry.items found.items findings.new.items after.items) }
+    ensures concludes { IfOk result (λ after. Concludes (cases_in ground.entry first.now) (cases_in ground.entry later.items) found.items findings.new.items (cases_in ground.entry after.items)) }
 {
     findings.extend_from_slice(found.as_slice())?;
     with_all(ground, later, first)
@@ -138,15 +136,15 @@ fn conclude<'p>(
 
 /// The cases behind some commands.
 #[cycle(walk)]
-pub(crate) fn walk<'p>(
-    commands: &'p [Command],
-    ground: Ground<'_, 'p>,
-    cases: Vec<Case<'p>>,
+pub(crate) fn walk(
+    commands: &[Command],
+    ground: Ground<'_>,
+    cases: Vec<Case>,
     findings: &mut Vec<Finding>,
     budget: &mut u64,
-) -> Result<Vec<Case<'p>>, Stop>
+) -> Result<Vec<Case>, Stop>
     ensures more { OnOk result (ArePart (traps_of findings.old.items) (traps_of findings.new.items)) }
-    ensures keeps { IfOk result (λ after. WalkKeeps ground.entry.pinned.now cases.entry.items after.items findings.new.items (command_trees commands.now)) }
+    ensures keeps { IfOk result (λ after. WalkKeeps (pins_in ground.entry) (cases_in ground.entry cases.items) (cases_in ground.entry after.items) findings.new.items (command_trees commands.now)) }
 {
     let mut after = cases;
     for command in commands {
@@ -157,30 +155,30 @@ pub(crate) fn walk<'p>(
 
 /// The cases behind the commands of a block.
 #[cycle(walk)]
-fn walk_block<'p>(
-    block: &'p Commands,
-    ground: Ground<'_, 'p>,
-    cases: Vec<Case<'p>>,
+fn walk_block(
+    block: &Commands,
+    ground: Ground<'_>,
+    cases: Vec<Case>,
     findings: &mut Vec<Finding>,
     budget: &mut u64,
-) -> Result<Vec<Case<'p>>, Stop>
+) -> Result<Vec<Case>, Stop>
     ensures more { OnOk result (ArePart (traps_of findings.old.items) (traps_of findings.new.items)) }
-    ensures keeps { IfOk result (λ after. WalkKeeps ground.entry.pinned.now cases.entry.items after.items findings.new.items (command_list block.now)) }
+    ensures keeps { IfOk result (λ after. WalkKeeps (pins_in ground.entry) (cases_in ground.entry cases.items) (cases_in ground.entry after.items) findings.new.items (command_list block.now)) }
 {
     walk(block.as_slice(), ground, cases, findings, budget)
 }
 
 /// The cases behind a command.
 #[cycle(walk)]
-fn step<'p>(
-    command: &'p Command,
-    ground: Ground<'_, 'p>,
-    cases: &[Case<'p>],
+fn step(
+    command: &Command,
+    ground: Ground<'_>,
+    cases: &[Case],
     findings: &mut Vec<Finding>,
     budget: &mut u64,
-) -> Result<Vec<Case<'p>>, Stop>
+) -> Result<Vec<Case>, Stop>
     ensures more { OnOk result (ArePart (traps_of findings.old.items) (traps_of findings.new.items)) }
-    ensures keeps { IfOk result (λ after. StepKeeps ground.entry.pinned.now cases.now after.items findings.new.items (command_tree command.now)) }
+    ensures keeps { IfOk result (λ after. StepKeeps (pins_in ground.entry) (cases_in ground.entry cases.now) (cases_in ground.entry after.items) findings.new.items (command_tree command.now)) }
 {
     let place = command.place;
     match &command.action {
@@ -200,16 +198,16 @@ fn step<'p>(
 
 /// The cases behind IF.
 #[cycle(walk)]
-fn choose<'p>(
-    choice: &'p Choice,
+fn choose(
+    choice: &Choice,
     place: Place,
-    ground: Ground<'_, 'p>,
-    cases: &[Case<'p>],
+    ground: Ground<'_>,
+    cases: &[Case],
     findings: &mut Vec<Finding>,
     budget: &mut u64,
-) -> Result<Vec<Case<'p>>, Stop>
+) -> Result<Vec<Case>, Stop>
     ensures more { OnOk result (ArePart (traps_of findings.old.items) (traps_of findings.new.items)) }
-    ensures keeps { IfOk result (λ after. StepKeeps ground.entry.pinned.now cases.now after.items findings.new.items (choice_at place choice.now)) }
+    ensures keeps { IfOk result (λ after. StepKeeps (pins_in ground.entry) (cases_in ground.entry cases.now) (cases_in ground.entry after.items) findings.new.items (choice_at place choice.now)) }
 {
     let Choice {
         condition,
@@ -224,15 +222,15 @@ fn choose<'p>(
 
 /// The cases behind the separator of a loop, if there is one.
 #[cycle(walk)]
-fn separate<'p>(
-    between: &'p Option<Box<Command>>,
-    ground: Ground<'_, 'p>,
-    cases: Vec<Case<'p>>,
+fn separate(
+    between: &Option<Box<Command>>,
+    ground: Ground<'_>,
+    cases: Vec<Case>,
     findings: &mut Vec<Finding>,
     budget: &mut u64,
-) -> Result<Vec<Case<'p>>, Stop>
+) -> Result<Vec<Case>, Stop>
     ensures more { OnOk result (ArePart (traps_of findings.old.items) (traps_of findings.new.items)) }
-    ensures keeps { IfOk result (λ after. SeparatorKeeps ground.entry.pinned.now cases.entry.items after.items findings.new.items (boxed_separator between.now)) }
+    ensures keeps { IfOk result (λ after. SeparatorKeeps (pins_in ground.entry) (cases_in ground.entry cases.items) (cases_in ground.entry after.items) findings.new.items (boxed_separator between.now)) }
 {
     match between {
         Some(command) => step(command, ground, cases.as_slice(), findings, budget),
@@ -242,17 +240,17 @@ fn separate<'p>(
 
 /// One pass over a loop, by a guess of the cases before each turn but the first.
 #[cycle(walk)]
-fn go_round<'p>(
-    repeated: &'p Loop,
+fn go_round(
+    repeated: &Loop,
     place: Place,
-    ground: Ground<'_, 'p>,
-    begun: &Begun<'p>,
-    guess: &[Case<'p>],
+    ground: Ground<'_>,
+    begun: &Begun,
+    guess: &[Case],
     findings: &mut Vec<Finding>,
     budget: &mut u64,
-) -> Result<Round<'p>, Stop>
+) -> Result<Round, Stop>
     ensures more { OnOk result (ArePart (traps_of findings.old.items) (traps_of findings.new.items)) }
-    ensures keeps { IfOk result (λ r. RoundKeeps ground.entry.pinned.now guess.now begun.now.turns begun.now.first.inside.items begun.now.first.faults r.outside.items r.end.items findings.new.items place repeated.now) }
+    ensures keeps { IfOk result (λ r. RoundKeeps (pins_in ground.entry) (cases_in ground.entry guess.now) begun.now.turns (cases_in ground.entry begun.now.first.inside.items) begun.now.first.faults (cases_in ground.entry r.outside.items) (cases_in ground.entry r.end.items) findings.new.items place repeated.now) }
 {
     let Loop { between, body, .. } = repeated;
     pay_each(budget, guess)?;
@@ -268,16 +266,16 @@ fn go_round<'p>(
 
 /// The cases behind a loop. The cases before each turn but the first are guessed, and the guess is checked.
 #[cycle(walk)]
-fn repeat<'p>(
-    repeated: &'p Loop,
+fn repeat(
+    repeated: &Loop,
     place: Place,
-    ground: Ground<'_, 'p>,
-    cases: &[Case<'p>],
+    ground: Ground<'_>,
+    cases: &[Case],
     findings: &mut Vec<Finding>,
     budget: &mut u64,
-) -> Result<Vec<Case<'p>>, Stop>
+) -> Result<Vec<Case>, Stop>
     ensures more { OnOk result (ArePart (traps_of findings.old.items) (traps_of findings.new.items)) }
-    ensures keeps { IfOk result (λ after. StepKeeps ground.entry.pinned.now cases.now after.items findings.new.items (loop_at place repeated.now)) }
+    ensures keeps { IfOk result (λ after. StepKeeps (pins_in ground.entry) (cases_in ground.entry cases.now) (cases_in ground.entry after.items) findings.new.items (loop_at place repeated.now)) }
 {
     let begun = begin(repeated, ground, cases)?;
     let mut guess = Vec::new(ground.alloc);

@@ -3,8 +3,7 @@ use Rattle.std.specs.Prelude.{◌≡◌, ℕ, suc, List, [], ◌∷◌}
 use Rattle.ctd_store.specs.declared.value.Value.{Value}
 use Rattle.ctd_store.specs.Store.{Bindings, Variables, assign, unset}
 use Rattle.ctd_known.specs.declared.facts.Kinds.{Kinds}
-use Rattle.ctd_known.specs.declared.facts.Known.{Known}
-use Rattle.ctd_known.specs.calls.Facts.{EachStands, MayBe, PinsStand, at_key}
+use Rattle.ctd_known.specs.calls.Facts.{Known, EachStands, MayBe, PinsStand, at_key}
 
 -- what is known once a name without indices got one of some values
 abbrev pub AssignsAlone : (pinned known : List Known) → List ℕ → Kinds → List Known → Type 0

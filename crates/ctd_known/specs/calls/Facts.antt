@@ -1,5 +1,5 @@
 -- What is known of the variables where a command begins.
-use Rattle.std.specs.Prelude.{◌≡◌, ◌≤◌, ◌<◌, ◌^◌, ℕ, true, List, [], ◌∷◌, length, Option, Some, None}
+use Rattle.std.specs.Prelude.{◌≡◌, ◌≤◌, ◌<◌, ◌^◌, ℕ, zero, suc, true, List, [], ◌∷◌, length, Option, Some, None}
 use Rattle.ctd_store.specs.declared.value.Value.{Value}
 use Rattle.ctd_store.specs.declared.value.Value.TheVariants as values
 use Rattle.ctd_store.specs.Store.{Key, Bindings, Variables, value_at}
@@ -8,7 +8,33 @@ use Rattle.ctd_range.specs.calls.Ranges.{IsIn}
 use Rattle.ctd_known.specs.declared.facts.Lengths.{Lengths}
 use Rattle.ctd_known.specs.declared.facts.Kinds.{Kinds}
 use Rattle.ctd_known.specs.declared.facts.NameFacts.{NameFacts}
-use Rattle.ctd_known.specs.declared.facts.Known.{Known}
+use Rattle.ctd_known.specs.declared.assign.Ground.{Ground}
+use Rattle.std.specs.Borrow.{Bor}
+
+-- a name, with what is known of it
+pub record Known : Type 0 where
+  pub name : List ℕ
+  pub facts : NameFacts
+
+-- the name at an index: behind the last there is the empty one, which no variable has
+abbrev pub name_at : List (Bor (List ℕ)) → ℕ → List ℕ
+name_at [] i = []
+name_at (q ∷ qs) zero = q.now
+name_at (q ∷ qs) (suc i) = name_at qs i
+
+-- what is known of some names: of each that at its index
+abbrev pub told : List (Bor (List ℕ)) → List NameFacts → List Known
+told names [] = []
+told [] (x ∷ xs) = record { name = []; facts = x } ∷ told [] xs
+told (q ∷ qs) (x ∷ xs) = record { name = q.now; facts = x } ∷ told qs xs
+
+-- of the names by which a walk goes
+abbrev pub told_in : Ground → List NameFacts → List Known
+told_in ground known = told ground.names.now known
+
+-- what is known of the pins
+abbrev pub pins_in : Ground → List Known
+pins_in ground = told_in ground ground.pinned.now
 
 -- a value is among those that may be, where so many steps are left
 abbrev pub MayBe : Kinds → ℕ → Value → Type 0
@@ -32,7 +58,7 @@ pub record NameStands (name : List ℕ) (facts : NameFacts) (n : ℕ) (h : Bindi
 -- all that is known is so, where no more steps are left than a run may have
 abbrev pub EachStands : List Known → ℕ → Bindings → Type 0
 EachStands [] n h = n < 2 ^ 64
-EachStands (x ∷ xs) n h = NameStands x.name.now x.facts n h × EachStands xs n h
+EachStands (x ∷ xs) n h = NameStands x.name x.facts n h × EachStands xs n h
 
 -- the pins alone
 abbrev pub pins_alone : Variables → Bindings

@@ -9,10 +9,9 @@ use Rattle.ctd_value.specs.Fault.{◌>>=◌}
 use Rattle.ctd_outcome.specs.declared.reason.Fault.TheVariants as faults
 use Rattle.ctd_value.specs.Val.{val, vals, number, text}
 use Rattle.ctd_value.specs.Truth.{truth}
-use Rattle.ctd_known.specs.declared.facts.Known.{Known}
 use Rattle.ctd_known.specs.declared.faults.Faults.{Faults}
 use Rattle.ctd_known.specs.declared.expression.Found.{Found}
-use Rattle.ctd_known.specs.calls.Facts.{MayBe, EachStands}
+use Rattle.ctd_known.specs.calls.Facts.{Known, MayBe, EachStands}
 
 -- a fault of a value is among these; nothing is said of others
 abbrev pub IsAmong : Faults → Fault → Type 0

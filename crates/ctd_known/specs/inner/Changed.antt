@@ -4,8 +4,7 @@ use Rattle.ctd_store.specs.declared.value.Value.{Value}
 use Rattle.ctd_store.specs.Store.{Bindings}
 use Rattle.ctd_known.specs.declared.facts.Kinds.{Kinds}
 use Rattle.ctd_known.specs.declared.facts.NameFacts.{NameFacts}
-use Rattle.ctd_known.specs.declared.facts.Known.{Known}
-use Rattle.ctd_known.specs.calls.Facts.{MayBe, MayHave, NameStands}
+use Rattle.ctd_known.specs.calls.Facts.{Known, MayBe, MayHave, NameStands}
 
 -- each value of some kinds is among others
 abbrev pub AreWithin : Kinds → Kinds → Type 0
@@ -18,7 +17,7 @@ pub record NameIsWithin (a b : NameFacts) : Type 0 where
 
 -- an entry, with other facts where it has this name
 abbrev pub with_facts : List ℕ → NameFacts → Known → Known
-with_facts name facts entry = if bytes_eq entry.name.now name then record { name = entry.name; facts = facts } else entry
+with_facts name facts entry = if bytes_eq entry.name name then record { name = entry.name; facts = facts } else entry
 
 -- the values of some kinds once a step is paid
 abbrev pub KindsPay : Kinds → Kinds → Type 0

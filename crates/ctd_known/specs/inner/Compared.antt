@@ -8,8 +8,7 @@ use Rattle.ctd_store.specs.declared.value.Value.TheVariants as values
 use Rattle.ctd_store.specs.Store.{Bindings}
 use Rattle.ctd_value.specs.Val.{val}
 use Rattle.ctd_known.specs.declared.facts.Kinds.{Kinds}
-use Rattle.ctd_known.specs.declared.facts.Known.{Known}
-use Rattle.ctd_known.specs.calls.Facts.{EachStands, MayBe}
+use Rattle.ctd_known.specs.calls.Facts.{Known, EachStands, MayBe}
 
 -- two integers compare so
 abbrev pub Relates : Compare → ℤ → ℤ → Type 0

@@ -2,17 +2,16 @@
 use Rattle.std.specs.Prelude.{◌≡◌, ℕ, List}
 use Rattle.ctd_store.specs.Store.{Bindings}
 use Rattle.ctd_known.specs.declared.facts.NameFacts.{NameFacts}
-use Rattle.ctd_known.specs.declared.facts.Known.{Known}
 use Rattle.ctd_known.specs.declared.faults.Faults.{Faults}
 use Rattle.ctd_known.specs.declared.condition.Branches.{Branches}
-use Rattle.ctd_known.specs.calls.Facts.{NameStands, EachStands}
+use Rattle.ctd_known.specs.calls.Facts.{Known, NameStands, EachStands}
 
 -- what is known of one name follows from what is known of all
 abbrev pub Tells : List Known → List ℕ → NameFacts → Type 0
 Tells known name facts = (n : ℕ) (h : Bindings) → EachStands known n h → NameStands name facts n h
 
 -- what was known is known whatever a test gives, with these faults
-pub record AreSame (known : List Known) (f : Faults) (s : Branches) : Type 0 where
+pub record AreSame (known : List NameFacts) (f : Faults) (s : Branches) : Type 0 where
   pub if_true : s.if_true.items ≡ known
   pub if_false : s.if_false.items ≡ known
   pub faults : s.faults ≡ f

@@ -5,10 +5,8 @@ use Rattle.ctd_store.specs.Store.{Variables}
 use Rattle.ctd_outcome.specs.declared.reason.Fault.{Fault}
 use Rattle.ctd_command.specs.State.{State}
 use Rattle.ctd_known.specs.declared.faults.Faults.{Faults}
-use Rattle.ctd_known.specs.declared.facts.Known.{Known}
-use Rattle.ctd_known.specs.calls.Facts.{EachStands}
+use Rattle.ctd_known.specs.calls.Facts.{Known, EachStands}
 use Rattle.ctd_known.specs.calls.Found.{IsAmong}
-use Rattle.ctd_traps.specs.declared.cases.Case.{Case}
 use Rattle.ctd_traps.specs.declared.finding.TrapKind.{TrapKind}
 use Rattle.ctd_traps.specs.declared.finding.TrapKind.TheVariants as kinds
 use Rattle.ctd_traps.specs.inner.Cases.{OneStands}
@@ -21,7 +19,7 @@ pub record HoldsAlone (pins : Variables) (known : List Known) (n : ℕ) (s : Sta
   pub each : EachStands known n s.store
 
 -- all that is known in one of the cases is so
-pub record Holds (pins : Variables) (cases : List Case) (n : ℕ) (s : State) : Type 0 where
+pub record Holds (pins : Variables) (cases : List (List Known)) (n : ℕ) (s : State) : Type 0 where
   pub steps : n < 2 ^ 64
   pub pinned : s.store.pins ≡ pins
   pub one : OneStands cases n s.store

@@ -1,4 +1,5 @@
 -- What the analysis of a loop has found out by its parts.
+use Rattle.ctd_known.specs.calls.Facts.{Known}
 use Rattle.std.specs.Prelude.{◌≡◌, ◌<◌, ◌+◌, ◌^◌, ℕ, suc, List, Contains}
 use Rattle.ctd_source.specs.TestData.{TestData}
 use Rattle.ctd_outcome.specs.declared.reason.Fault.{Fault}
@@ -10,7 +11,6 @@ use Rattle.ctd_store.specs.Store.{Variables}
 use Rattle.ctd_check.specs.Loops.{Loop, take_turn}
 use Rattle.ctd_check.specs.calls.BigSteps.{separator_before}
 use Rattle.ctd_traps.specs.calls.Traps.{Trap}
-use Rattle.ctd_traps.specs.declared.cases.Case.{Case}
 use Rattle.ctd_traps.specs.inner.Holds.{Holds}
 use Rattle.ctd_traps.specs.inner.Triples.{Keeps, Splits}
 
@@ -20,13 +20,13 @@ among traps site fault = (place : Place) × (site ≡ At place) × Contains trap
 
 -- the cases before turn 0 and before each later turn; behind the begin of each; before the body, behind it, and behind the loop
 pub record Guess : Type 0 where
-  pub first : List Case
-  pub later : List Case
-  pub first_inside : List Case
-  pub later_inside : List Case
-  pub before_body : List Case
-  pub after_body : List Case
-  pub after : List Case
+  pub first : List (List Known)
+  pub later : List (List Known)
+  pub first_inside : List (List Known)
+  pub later_inside : List (List Known)
+  pub before_body : List (List Known)
+  pub after_body : List (List Known)
+  pub after : List (List Known)
 
 -- Each part of a turn leads from its cases to the next ones, and where a case behind the body holds, one before a later turn does. Turn k comes after k steps at least.
 pub record IsPostFixpoint (d : TestData) (pins : Variables) (traps : List Trap) (loop : Loop) (g : Guess) : Type 0 where

@@ -24,11 +24,9 @@ use Rattle.ctd_traps.specs.calls.Traps.{Trap, traps_of}
 use Rattle.ctd_traps.specs.declared.finding.Finding.{Finding}
 use Rattle.ctd_known.specs.declared.faults.Faults.{Faults}
 use Rattle.ctd_known.specs.declared.facts.Kinds.{Kinds}
-use Rattle.ctd_known.specs.declared.facts.Known.{Known}
-use Rattle.ctd_traps.specs.declared.cases.Case.{Case}
 use Rattle.ctd_traps.specs.declared.turn.Turns.{Turns}
 use Rattle.ctd_traps.specs.inner.Cases.{OneStands, TellsCases}
-use Rattle.ctd_known.specs.calls.Facts.{EachStands, MayBe, PinsStand}
+use Rattle.ctd_known.specs.calls.Facts.{Known, EachStands, MayBe, PinsStand}
 use Rattle.ctd_traps.specs.inner.Holds.{AreListed, ArePart, Holds, HoldsAlone}
 use Rattle.ctd_known.specs.calls.Found.{IsAmong}
 use Rattle.ctd_traps.specs.inner.PostFixpoint.{among}
@@ -39,7 +37,7 @@ abbrev pub Stays : Variables → List Known → ℕ → State → Type 0
 Stays pins known n s = (s.store.pins ≡ pins) × EachStands known n s.store
 
 -- what is known in one of the cases is so of a state with these pins
-abbrev pub StaysIn : Variables → List Case → ℕ → State → Type 0
+abbrev pub StaysIn : Variables → List (List Known) → ℕ → State → Type 0
 StaysIn pins cases n s = (s.store.pins ≡ pins) × OneStands cases n s.store
 
 -- an effect leaves an answer and a state of which this holds, or it has a fault of these
@@ -75,19 +73,19 @@ abbrev pub ActKeeps : (pinned known after : List Known) → Faults → CommandTr
 ActKeeps pinned known after f c = (pins : Variables) (d : TestData) (all : List Trap) → PinsStand pinned pins → AreListed all (place_of c) f → CommandKeeps d (among all) (HoldsAlone pins known) c (HoldsAlone pins after)
 
 -- the same, of cases
-abbrev pub ActsKeep : (pinned : List Known) (cases after : List Case) → Faults → CommandTree → Type 0
+abbrev pub ActsKeep : (pinned : List Known) (cases after : List (List Known)) → Faults → CommandTree → Type 0
 ActsKeep pinned cases after f c = (pins : Variables) (d : TestData) (all : List Trap) → PinsStand pinned pins → AreListed all (place_of c) f → CommandKeeps d (among all) (Holds pins cases) c (Holds pins after)
 
 -- commands lead from some cases to others, or stop at a trap of a list that has all that were found
-abbrev pub WalkKeeps : (pinned : List Known) (cases after : List Case) → List Finding → CommandList → Type 0
+abbrev pub WalkKeeps : (pinned : List Known) (cases after : List (List Known)) → List Finding → CommandList → Type 0
 WalkKeeps pinned cases after found cs = (pins : Variables) (d : TestData) (all : List Trap) → PinsStand pinned pins → ArePart (traps_of found) all → Keeps d (among all) (Holds pins cases) cs (Holds pins after)
 
 -- the same of a command
-abbrev pub StepKeeps : (pinned : List Known) (cases after : List Case) → List Finding → CommandTree → Type 0
+abbrev pub StepKeeps : (pinned : List Known) (cases after : List (List Known)) → List Finding → CommandTree → Type 0
 StepKeeps pinned cases after found c = (pins : Variables) (d : TestData) (all : List Trap) → PinsStand pinned pins → ArePart (traps_of found) all → CommandKeeps d (among all) (Holds pins cases) c (Holds pins after)
 
 -- the same of the separator of a loop
-abbrev pub SeparatorKeeps : (pinned : List Known) (cases after : List Case) → List Finding → Separator → Type 0
+abbrev pub SeparatorKeeps : (pinned : List Known) (cases after : List (List Known)) → List Finding → Separator → Type 0
 SeparatorKeeps pinned cases after found sep = (pins : Variables) (d : TestData) (all : List Trap) (k : ℕ) → PinsStand pinned pins → ArePart (traps_of found) all → Keeps d (among all) (Holds pins cases) (separator_before (suc k) sep) (Holds pins after)
 
 -- how a loop goes on that has started, and that has at least and at most so many turns if it counts them
@@ -103,7 +101,7 @@ ByTurn inside outside true t = inside t
 ByTurn inside outside false t = outside t
 
 -- the begin of a turn, whose number is of a range, once its step is paid
-abbrev pub Enters : (pinned : List Known) (cases : List Case) → GuardTree → Turns → Option VarTree → Range → (inside outside : List Case) → Faults → Type 0
+abbrev pub Enters : (pinned : List Known) (cases : List (List Known)) → GuardTree → Turns → Option VarTree → Range → (inside outside : List (List Known)) → Faults → Type 0
 Enters pinned cases guard turns counter turn inside outside f = (pins : Variables) (d : TestData) (k n : ℕ) (s : State) (loop : Started) → IsGuard guard turns loop.guard → loop.counter ≡ counter → IsIn turn n (pos k) → PinsStand pinned pins → StaysIn pins cases (suc n) s
     → Fits f (λ b t. ByTurn (StaysIn pins inside n) (StaysIn pins outside n) b t) (take_turn loop k d s)
 
@@ -112,7 +110,7 @@ abbrev pub Starts : List Known → GuardTree → Turns → Type 0
 Starts known guard turns = (d : TestData) (n : ℕ) (s : State) → EachStands known n s.store → Fits turns.faults (λ g t. IsGuard guard turns g × (t ≡ s)) (guard_of guard d s)
 
 -- the same in one of some cases
-abbrev pub StartsIn : List Case → GuardTree → Turns → Type 0
+abbrev pub StartsIn : List (List Known) → GuardTree → Turns → Type 0
 StartsIn cases guard turns = (d : TestData) (n : ℕ) (s : State) → OneStands cases n s.store → Fits turns.faults (λ g t. IsGuard guard turns g × (t ≡ s)) (guard_of guard d s)
 
 -- a count of turns is at least and at most so large, or has a fault of these
@@ -129,11 +127,11 @@ abbrev pub CountsTurn : (pinned known : List Known) → Option VarTree → Range
 CountsTurn pinned known counter turn after f = (pins : Variables) (d : TestData) (k n : ℕ) (s : State) → IsIn turn n (pos k) → PinsStand pinned pins → Stays pins known n s → Fits f (λ _ t. Stays pins after n t) (count_turn counter k d s)
 
 -- the same of cases, once a step is paid
-abbrev pub CountsEach : (pinned : List Known) (cases : List Case) → Option VarTree → Range → List Case → Faults → Type 0
+abbrev pub CountsEach : (pinned : List Known) (cases : List (List Known)) → Option VarTree → Range → List (List Known) → Faults → Type 0
 CountsEach pinned cases counter turn after f = (pins : Variables) (d : TestData) (k n : ℕ) (s : State) → IsIn turn n (pos k) → PinsStand pinned pins → StaysIn pins cases (suc n) s → Fits f (λ _ t. StaysIn pins after n t) (count_turn counter k d s)
 
 -- the same at a turn with which a loop is over that has at least so many
-abbrev pub CountsLast : (pinned : List Known) (cases : List Case) → Option VarTree → Range → (least : ℕ) → List Case → Faults → Type 0
+abbrev pub CountsLast : (pinned : List Known) (cases : List (List Known)) → Option VarTree → Range → (least : ℕ) → List (List Known) → Faults → Type 0
 CountsLast pinned cases counter turn least after f = (pins : Variables) (d : TestData) (k n : ℕ) (s : State) → least ≤ k → IsIn turn n (pos k) → PinsStand pinned pins → StaysIn pins cases (suc n) s → Fits f (λ _ t. StaysIn pins after n t) (count_turn counter k d s)
 
 -- the numbers of the first turn
@@ -145,28 +143,28 @@ abbrev pub later_turn : Range
 later_turn = record { low = pos 1; high = pos (2 ^ 64 - 1); rise = 0; fall = 1 }
 
 -- how a later turn begins by a guess, and all faults of the loop are listed
-pub record BeginsLater (pinned : List Known) (guess : List Case) (turns : Turns) (first : Faults) (inside outside : List Case) (later : Faults) (found : List Finding) (place : Place) (l : Loop) : Type 0 where
+pub record BeginsLater (pinned : List Known) (guess : List (List Known)) (turns : Turns) (first : Faults) (inside outside : List (List Known)) (later : Faults) (found : List Finding) (place : Place) (l : Loop) : Type 0 where
   pub enters : Enters pinned guess (guard_tree (out-Loop l).guard) turns (boxed_target (out-Loop l).counter) later_turn inside outside later
   pub start_listed : AreListed (traps_of found) place turns.faults
   pub first_listed : AreListed (traps_of found) place first
   pub later_listed : AreListed (traps_of found) place later
 
 -- the cases behind IF, and those behind each of its branches
-pub record AreBranches (yes no after : List Case) : Type 0 where
+pub record AreBranches (yes no after : List (List Known)) : Type 0 where
   pub yes_after : TellsCases yes after
   pub no_after : TellsCases no after
 
 -- the cases behind a loop, with all that was found in it
-pub record Concludes (first later : List Case) (found all : List Finding) (after : List Case) : Type 0 where
+pub record Concludes (first later : List (List Known)) (found all : List Finding) (after : List (List Known)) : Type 0 where
   pub first_after : TellsCases first after
   pub later_after : TellsCases later after
   pub listed : ArePart (traps_of found) (traps_of all)
 
 -- a later turn leads from a guess to the cases behind the loop, and each turn to the cases at its end
-pub record RoundKeeps (pinned : List Known) (guess : List Case) (turns : Turns) (first_inside : List Case) (first : Faults) (outside end : List Case) (found : List Finding) (place : Place) (l : Loop) : Type 0 where
-  pub later_inside : List Case
+pub record RoundKeeps (pinned : List Known) (guess : List (List Known)) (turns : Turns) (first_inside : List (List Known)) (first : Faults) (outside end : List (List Known)) (found : List Finding) (place : Place) (l : Loop) : Type 0 where
+  pub later_inside : List (List Known)
   pub later : Faults
-  pub before : List Case
+  pub before : List (List Known)
   pub enters : Enters pinned guess (guard_tree (out-Loop l).guard) turns (boxed_target (out-Loop l).counter) later_turn later_inside outside later
   pub start_listed : AreListed (traps_of found) place turns.faults
   pub first_listed : AreListed (traps_of found) place first

@@ -1,23 +1,21 @@
-use Rattle.std.proofs.Common.{◌≡◌, false, List, map, refl, sym, subst}
-use Rattle.std.specs.Global.{Vec}
-use Rattle.ctd_known.specs.declared.facts.Known.{Known}
+use Rattle.std.proofs.Common.{false, List, refl, sym, subst}
 use Rattle.ctd_known.specs.declared.facts.NameFacts.{NameFacts}
+use Rattle.ctd_known.specs.calls.Facts.{Known, pins_in, told_in}
 use Rattle.ctd_known.specs.calls.Changed.{AssignsAlone}
-use Rattle.ctd_known.specs.inner.Changed.{with_facts}
 use Rattle.ctd_known.proofs.Assigning.{assign_free, assign_pinned, not_true}
-use Rattle.ctd_known.proofs.Results.{if_ok_more}
 use Rattle.ctd_known.proofs.assign.assign_alone.Goals as goal
 
 pub returns-then-not-pin : goal.returns-then-not-pin
 returns-then-not-pin c =
-    let After = λ (l : List Known). AssignsAlone c.args.ground.pinned.now c.args.known.now c.args.name.now c.args.kinds l in
-    if_ok_more (λ (v : Vec Known). v.items ≡ c.args.known.now) (λ (v : Vec Known). After v.items) c.copy_of.result
-    (λ v same. subst After (sym same) (assign_pinned c.args.ground.pinned.now c.args.known.now c.args.name.now c.args.kinds c.in_ok-pin.pin c.in_ok-pin.ensures (not_true c.in_ok-pin.pin.may_lack c.if-not-pin.true))) c.copy_of.ensures
+    let g = c.args.ground in
+    assign_pinned (pins_in g) (told_in g c.args.known.now) c.args.name.now c.args.kinds c.in_ok-pin.pin c.in_ok-pin.ensures (not_true c.in_ok-pin.pin.may_lack c.if-not-pin.true)
 
 pub returns : goal.returns
 returns c =
-    let After = λ (l : List Known). AssignsAlone c.args.ground.pinned.now c.args.known.now c.args.name.now c.args.kinds l in
+    let g = c.args.ground in
+    let known = told_in g c.args.known.now in
+    let name = c.args.name.now in
     let facts = c.in_ok-facts.facts in
     let new : NameFacts = record { may_lack = false; alone = c.args.kinds; elements = facts.elements } in
-    if_ok_more (λ (v : Vec Known). v.items ≡ map (with_facts c.args.name.now new) c.args.known.now) (λ (v : Vec Known). After v.items) c.replace_facts.result
-    (λ v same. subst After (sym same) (assign_free c.args.ground.pinned.now c.args.known.now c.args.name.now c.args.kinds c.in_ok-pin.pin facts new c.in_ok-pin.ensures (c.is_none.ensures c.if-not-is_none.false) c.in_ok-facts.ensures refl refl)) c.replace_facts.ensures
+    subst (λ (after : List Known). AssignsAlone (pins_in g) known name c.args.kinds after) (sym c.replace_facts.ensures)
+    (assign_free (pins_in g) known name c.args.kinds c.in_ok-pin.pin facts new c.in_ok-pin.ensures (c.is_none.ensures c.if-not-is_none.false) c.in_ok-facts.ensures refl refl)

@@ -1,7 +1,10 @@
 use Rattle.ctd_program.specs.Tree
+use Rattle.std.proofs.Common.{List, ap}
 use Rattle.ctd_program.specs.calls.View.{expr_tree}
 use Rattle.ctd_known.specs.declared.condition.Branches.{Branches}
 use Rattle.ctd_known.specs.calls.Found.{SplitsBy}
+use Rattle.ctd_known.specs.declared.facts.NameFacts.{NameFacts}
+use Rattle.ctd_known.specs.calls.Facts.{told_in}
 use Rattle.ctd_known.specs.inner.Facts.{AreSame}
 use Rattle.ctd_known.proofs.Deciding.{as_known, match_splits}
 use Rattle.ctd_known.proofs.Results.{if_ok_more}
@@ -10,6 +13,7 @@ use Rattle.ctd_known.proofs.condition.split_match.Goals as goal
 pub returns : goal.returns
 returns c =
     let e = expr_tree c.args.e.now in
-    let known = c.args.known.now in
-    if_ok_more (λ (s : Branches). AreSame c.args.known.now c.text_faults.result s) (λ (s : Branches). SplitsBy c.args.known.now (Tree.matches e) s.if_true.items s.if_false.items s.faults) c.same.result
-    (λ s so. as_known known s.if_true.items s.if_false.items c.text_faults.result s.faults (Tree.matches e) so.if_true so.if_false so.faults (match_splits known e c.in_ok-text.text c.text_faults.result c.in_ok-text.ensures c.text_faults.ensures)) c.same.ensures
+    let told = λ (l : List NameFacts). told_in c.args.ground l in
+    let known = told c.args.known.now in
+    if_ok_more (λ (s : Branches). AreSame c.args.known.now c.text_faults.result s) (λ (s : Branches). SplitsBy known (Tree.matches e) (told s.if_true.items) (told s.if_false.items) s.faults) c.same.result
+    (λ s so. as_known known (told s.if_true.items) (told s.if_false.items) c.text_faults.result s.faults (Tree.matches e) (ap told so.if_true) (ap told so.if_false) so.faults (match_splits known e c.in_ok-text.text c.text_faults.result c.in_ok-text.ensures c.text_faults.ensures)) c.same.ensures

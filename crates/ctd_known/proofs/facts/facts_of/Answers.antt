@@ -1,6 +1,5 @@
-use Rattle.std.proofs.Common.{sym, ◌∙◌}
-use Rattle.ctd_known.proofs.Standing.{entry_tells}
+use Rattle.ctd_known.proofs.Told.{entry_told}
 use Rattle.ctd_known.proofs.facts.facts_of.Goals as goal
 
-pub returns-then-eq : goal.returns-then-eq
-returns-then-eq c = record { tells = entry_tells c.args.known.now c.loop-entry.entry-index _ c.args.name.now c.loop-entry-test.true (sym c.eq.ensures ∙ c.if-eq.true) }
+pub returns-in-Some : goal.returns-in-Some
+returns-in-Some c = record { tells = entry_told c.args.names.now c.args.known.now c.in-Some.i _ c.args.name.now c.in-Some.ensures.inside c.in-Some.ensures.named }

@@ -1,6 +1,8 @@
-use Rattle.std.proofs.Common.{◌≡◌, map, take}
+use Rattle.std.proofs.Common.{◌≡◌}
+use Rattle.ctd_known.specs.calls.Facts.{told}
 use Rattle.ctd_known.specs.inner.Changed.{with_facts}
+use Rattle.ctd_known.proofs.Told.{front}
 use Rattle.ctd_known.proofs.facts.replace_facts.Given as goal
 
-abbrev pub invariant-loop-entry : goal.invariant-loop-entry
-invariant-loop-entry l = l.after.items ≡ map (with_facts l.name l.facts) (take l.entry-index l.known)
+abbrev pub invariant-loop-i : goal.invariant-loop-i
+invariant-loop-i l = told l.names l.known ≡ front (with_facts l.name l.facts) l.i (told l.names l.fn.known)

@@ -1,11 +1,22 @@
-use Rattle.std.proofs.Common.{refl, sym, subst}
+use Rattle.std.proofs.Common.{◌+◌, length, ap, sym, subst, ◌∙◌}
+use Rattle.std.proofs.lemmas.List.{length-append}
+use Rattle.ctd_known.specs.calls.Facts.{told}
 use Rattle.ctd_known.specs.calls.Changed.{PaysStep}
-use Rattle.ctd_known.proofs.Standing.{nothing_paid, one_paid}
+use Rattle.ctd_known.proofs.Standing.{nothing_paid}
+use Rattle.ctd_known.proofs.Told.{told_nothing, told_paid}
 use Rattle.ctd_known.proofs.steps.after_step.Goals as goal
 
-pub loop-entry-init : goal.loop-entry-init
-loop-entry-init c = subst (λ l. PaysStep c.args.known.now l) (sym c.new-after.ensures.items) (nothing_paid c.args.known.now)
+pub loop-facts-init : goal.loop-facts-init
+loop-facts-init c =
+    let none = c.new-after.ensures.items in
+    (ap length none, λ names. subst (λ l. PaysStep (told names c.args.known.now) l) (sym (ap (told names) none ∙ told_nothing names)) (nothing_paid (told names c.args.known.now)))
 
-pub loop-entry-preserved : goal.loop-entry-preserved
-loop-entry-preserved c = subst (λ l. PaysStep c.args.known.now l) (sym c.in_ok-push.ensures.items)
-    (one_paid c.args.known.now c.loop-entry.after.items c.loop-entry.entry-index _ _ c.loop-entry-test.true c.loop-entry.invariant refl c.pay_name.ensures)
+pub loop-facts-preserved : goal.loop-facts-preserved
+loop-facts-preserved c =
+    let before = c.loop-facts.after.items in
+    let known = c.args.known.now in
+    let all = c.in_ok-push.ensures.items in
+    let many = c.loop-facts.invariant.0 in (
+      ap length all ∙ length-append before _ ∙ ap (λ n. n + 1) many,
+      λ names. subst (λ l. PaysStep (told names known) (told names l)) (sym all) (told_paid names known before c.loop-facts.facts-index _ _ many c.loop-facts-test.true (c.loop-facts.invariant.1 names) c.pay_name.ensures),
+    )

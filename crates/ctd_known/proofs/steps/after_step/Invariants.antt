@@ -1,5 +1,8 @@
+use Rattle.std.proofs.Common.{◌≡◌, ℕ, List, length}
+use Rattle.std.specs.Borrow.{Bor}
+use Rattle.ctd_known.specs.calls.Facts.{told}
 use Rattle.ctd_known.specs.calls.Changed.{PaysStep}
 use Rattle.ctd_known.proofs.steps.after_step.Given as goal
 
-abbrev pub invariant-loop-entry : goal.invariant-loop-entry
-invariant-loop-entry l = PaysStep l.known l.after.items
+abbrev pub invariant-loop-facts : goal.invariant-loop-facts
+invariant-loop-facts l = (length l.after.items ≡ l.facts-index) × ((names : List (Bor (List ℕ))) → PaysStep (told names l.known) (told names l.after.items))

@@ -1,5 +1,15 @@
+use Rattle.std.proofs.Common.{ap}
+use Rattle.ctd_known.specs.calls.Facts.{told_in}
+use Rattle.ctd_traps.specs.inner.Cases.{case_in, cases_in}
 use Rattle.ctd_traps.proofs.Joining.{case_within}
+use Rattle.ctd_traps.proofs.Viewed.{at, within}
 use Rattle.ctd_traps.proofs.cases.is_within_one.Goals as goal
 
 pub returns-then-is_within : goal.returns-then-is_within
-returns-then-is_within c = record { within = λ is. case_within c.args.others.now c.loop-other.other-index c.other-item.result c.args.known.now c.as_slice.result.now c.loop-other-test.true c.other-item.is c.as_slice.ensures.value (c.is_within.ensures.all c.if-is_within.true) }
+returns-then-is_within c =
+    let others = c.args.others.now in
+    let i = c.loop-other.other-index in
+    record {
+      within = λ is g. case_within (cases_in g others) i (case_in g c.other-item.result) (told_in g c.args.known.now) (told_in g c.as_slice.result.now) (within g others i c.loop-other-test.true) (at g others i c.other-item.result c.other-item.is)
+          (ap (told_in g) c.as_slice.ensures.value) (c.is_within.ensures.all c.if-is_within.true g.names.now);
+    }

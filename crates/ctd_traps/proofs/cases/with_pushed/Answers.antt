@@ -1,10 +1,17 @@
-use Rattle.std.proofs.Common.{sym, subst}
-use Rattle.ctd_traps.specs.inner.Cases.{TellsCase, TellsCases}
+use Rattle.std.proofs.Common.{sym, subst, ap, ◌∙◌}
+use Rattle.ctd_known.specs.calls.Facts.{told_in}
+use Rattle.ctd_traps.specs.declared.cases.Case.{Case}
+use Rattle.ctd_traps.specs.inner.Cases.{TellsCase, TellsCases, case_in, cases_in}
 use Rattle.ctd_traps.proofs.Joining.{pushed_last, pushed_others}
+use Rattle.ctd_traps.proofs.Viewed.{pushed}
 use Rattle.ctd_traps.proofs.cases.with_pushed.Goals as goal
 
 pub returns : goal.returns
-returns c = record {
-  others = subst (λ l. TellsCases c.args.cases.items l) (sym c.in_ok-push.ensures.items) (pushed_others c.args.cases.items (record { known = c.args.known }));
-  added = subst (λ l. TellsCase c.args.known.items l) (sym c.in_ok-push.ensures.items) (pushed_last c.args.cases.items (record { known = c.args.known }));
-}
+returns c =
+    let cases = c.args.cases.items in
+    let one : Case = record { known = c.args.known } in
+    let all = c.in_ok-push.ensures.items in
+    record {
+      others = λ g. subst (λ l. TellsCases (cases_in g cases) l) (sym (ap (cases_in g) all ∙ pushed g cases one)) (pushed_others (cases_in g cases) (case_in g one));
+      added = λ g. subst (λ l. TellsCase (told_in g c.args.known.items) l) (sym (ap (cases_in g) all ∙ pushed g cases one)) (pushed_last (cases_in g cases) (case_in g one));
+    }

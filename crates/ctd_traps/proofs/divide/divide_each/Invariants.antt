@@ -1,7 +1,8 @@
 use Rattle.std.proofs.Common.{drop}
 use Rattle.ctd_program.specs.calls.View.{test_tree}
 use Rattle.ctd_traps.proofs.Joining.{DividesSo, RestOr}
+use Rattle.ctd_traps.specs.inner.Cases.{cases_in}
 use Rattle.ctd_traps.proofs.divide.divide_each.Given as goal
 
 abbrev pub invariant-loop-case : goal.invariant-loop-case
-invariant-loop-case l = RestOr (drop l.case-index l.cases) l.cases (DividesSo (test_tree l.t) l.if_true.items l.if_false.items l.faults)
+invariant-loop-case l = RestOr (drop l.case-index (cases_in l.ground l.cases)) (cases_in l.ground l.cases) (DividesSo (test_tree l.t) (cases_in l.ground l.if_true.items) (cases_in l.ground l.if_false.items) l.faults)

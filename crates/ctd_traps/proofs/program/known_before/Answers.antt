@@ -1,13 +1,14 @@
 use Rattle.std.proofs.Common.{[], sym, subst}
 use Rattle.std.specs.Global.{Vec}
 use Rattle.ctd_store.specs.inner.Store.{pins_of}
-use Rattle.ctd_known.specs.declared.facts.Known.{Known}
-use Rattle.ctd_known.specs.calls.Facts.{PinsStand}
+use Rattle.ctd_known.specs.declared.facts.NameFacts.{NameFacts}
+use Rattle.ctd_known.specs.calls.Facts.{PinsStand, told}
 use Rattle.ctd_known.proofs.Results.{if_ok_more}
 use Rattle.ctd_traps.proofs.program.known_before.Goals as goal
 
 pub returns : goal.returns
 returns c =
-    let nothing : PinsStand c.as_slice.result.now [] = subst (λ l. PinsStand l []) (sym c.as_slice.ensures.value) c.in_ok-nothing.ensures in
-    if_ok_more (λ (v : Vec Known). PinsStand c.as_slice.result.now [] → PinsStand v.items (pins_of c.pins.result.now)) (λ (v : Vec Known). PinsStand v.items (pins_of c.args.presets.now)) c.pin_all.result
-    (λ v pinned. subst (λ p. PinsStand v.items (pins_of p)) c.pins.ensures.whole (pinned nothing)) c.pin_all.ensures
+    let names = c.args.names.now in
+    let nothing : PinsStand (told names c.as_slice.result.now) [] = subst (λ l. PinsStand (told names l) []) (sym c.as_slice.ensures.value) (c.in_ok-nothing.ensures names) in
+    if_ok_more (λ (v : Vec NameFacts). PinsStand (told names c.as_slice.result.now) [] → PinsStand (told names v.items) (pins_of c.pins.result.now)) (λ (v : Vec NameFacts). PinsStand (told names v.items) (pins_of c.args.presets.now)) c.pin_all.result
+    (λ v pinned. subst (λ p. PinsStand (told names v.items) (pins_of p)) c.pins.ensures.whole (pinned nothing)) c.pin_all.ensures

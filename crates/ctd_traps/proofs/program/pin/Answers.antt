@@ -1,8 +1,6 @@
 use Rattle.std.proofs.Common.{[], ◌∙◌, sym, subst}
-use Rattle.std.specs.Global.{Vec}
 use Rattle.ctd_store.specs.Store.{Variables, with_pin}
-use Rattle.ctd_known.specs.declared.facts.Known.{Known}
-use Rattle.ctd_known.specs.calls.Facts.{PinsStand}
+use Rattle.ctd_known.specs.calls.Facts.{PinsStand, pins_in, told_in}
 use Rattle.ctd_known.specs.calls.Changed.{AssignsAlone, AssignsElements}
 use Rattle.ctd_known.proofs.Results.{if_ok_more}
 use Rattle.ctd_traps.proofs.Pinning.{no_indices, pin_alone, pin_element, some_indices}
@@ -10,16 +8,22 @@ use Rattle.ctd_traps.proofs.program.pin.Goals as goal
 
 pub returns-then-is_empty : goal.returns-then-is_empty
 returns-then-is_empty c =
-    let nothing = c.args.without.pinned.now in
-    let known = c.args.known.now in
-    if_ok_more (λ (v : Vec Known). AssignsAlone nothing known c.as_slice-name.result.now c.kinds_of-kinds.result v.items) (λ (v : Vec Known). PinsStand nothing [] → (pins : Variables) → PinsStand known pins → PinsStand v.items (with_pin pins c.args.preset.now)) c.assign_alone.result
-    (λ v so. pin_alone nothing known v.items c.kinds_of-kinds.result c.args.preset.now (sym c.as_slice.ensures.whole ∙ no_indices c.as_slice.result.now c.if-is_empty.ensures)
-    (subst (λ name. AssignsAlone nothing known name c.kinds_of-kinds.result v.items) c.as_slice-name.ensures.whole so) c.kinds_of-kinds.ensures) c.assign_alone.ensures
+    let nothing = pins_in c.args.without in
+    let known = told_in c.args.without c.args.known.now in
+    let after = told_in c.args.without c.assign_alone.new.known in
+    let kinds = c.kinds_of-kinds.result in
+    let preset = c.args.preset.now in
+    if_ok_more (λ _. AssignsAlone nothing known c.as_slice-name.result.now kinds after) (λ _. PinsStand nothing [] → (pins : Variables) → PinsStand known pins → PinsStand after (with_pin pins preset)) c.assign_alone.result
+    (λ _ so. pin_alone nothing known after kinds preset (sym c.as_slice.ensures.whole ∙ no_indices c.as_slice.result.now c.if-is_empty.ensures)
+    (subst (λ name. AssignsAlone nothing known name kinds after) c.as_slice-name.ensures.whole so) c.kinds_of-kinds.ensures) c.assign_alone.ensures
 
 pub returns-else-is_empty : goal.returns-else-is_empty
 returns-else-is_empty c =
-    let nothing = c.args.without.pinned.now in
-    let known = c.args.known.now in
-    if_ok_more (λ (v : Vec Known). AssignsElements known c.as_slice-name.result.now c.kinds_of-kinds.result v.items) (λ (v : Vec Known). PinsStand nothing [] → (pins : Variables) → PinsStand known pins → PinsStand v.items (with_pin pins c.args.preset.now)) c.assign_element.result
-    (λ v so stand. pin_element known v.items c.kinds_of-kinds.result c.args.preset.now (λ none. some_indices c.as_slice.result.now c.if-is_empty.ensures (c.as_slice.ensures.whole ∙ none))
-    (subst (λ name. AssignsElements known name c.kinds_of-kinds.result v.items) c.as_slice-name.ensures.whole so) c.kinds_of-kinds.ensures) c.assign_element.ensures
+    let nothing = pins_in c.args.without in
+    let known = told_in c.args.without c.args.known.now in
+    let after = told_in c.args.without c.assign_element.new.known in
+    let kinds = c.kinds_of-kinds.result in
+    let preset = c.args.preset.now in
+    if_ok_more (λ _. AssignsElements known c.as_slice-name.result.now kinds after) (λ _. PinsStand nothing [] → (pins : Variables) → PinsStand known pins → PinsStand after (with_pin pins preset)) c.assign_element.result
+    (λ _ so stand. pin_element known after kinds preset (λ none. some_indices c.as_slice.result.now c.if-is_empty.ensures (c.as_slice.ensures.whole ∙ none))
+    (subst (λ name. AssignsElements known name kinds after) c.as_slice-name.ensures.whole so) c.kinds_of-kinds.ensures) c.assign_element.ensures

@@ -1,9 +1,20 @@
-use Rattle.ctd_traps.proofs.Pinning.{pin_done, pin_step}
+use Rattle.std.proofs.Common.{◌+◌, ap, arith, drop, subst, sym}
+use Rattle.std.proofs.lemmas.List.{with_items_is}
+use Rattle.ctd_known.specs.calls.Facts.{pins_in, told_in}
+use Rattle.ctd_traps.proofs.Pinning.{PinLeads, pin_done, pin_step}
 use Rattle.ctd_traps.proofs.program.pin_all.Goals as goal
 
 pub loop-preset-preserved : goal.loop-preset-preserved
-loop-preset-preserved c = pin_step c.args.without.pinned.now c.loop-preset.known.items c.as_slice.result.now c.in_ok-known-2.known.items c.args.presets.now c.loop-preset.preset-index c.preset-item.result c.as_slice.ensures.value c.loop-preset-test.true
-    c.preset-item.is c.in_ok-known-2.ensures c.loop-preset.invariant
+loop-preset-preserved c =
+    let g = c.args.without in
+    let presets = c.args.presets.now in
+    let i = c.loop-preset.preset-index in
+    let known = c.loop-preset.known in
+    let after = c.pin.new.known in
+    subst (λ l. PinLeads (pins_in g) (told_in g l) (drop (i + 1) presets) presets) (sym (with_items_is known after (omega arith)))
+    (pin_step (pins_in g) (told_in g known.items) (told_in g c.as_mut_slice.result.now) (told_in g after) presets i c.preset-item.result (ap (told_in g) c.as_mut_slice.ensures.value) c.loop-preset-test.true c.preset-item.is c.in_ok-pin.ensures c.loop-preset.invariant)
 
 pub returns : goal.returns
-returns c = pin_done c.args.without.pinned.now c.loop-preset.known.items c.args.presets.now c.loop-preset.preset-index c.loop-preset-test.false c.loop-preset.invariant
+returns c =
+    let g = c.args.without in
+    pin_done (pins_in g) (told_in g c.loop-preset.known.items) c.args.presets.now c.loop-preset.preset-index c.loop-preset-test.false c.loop-preset.invariant

@@ -1,6 +1,7 @@
-use Rattle.std.proofs.Common.{[]}
-use Rattle.ctd_known.specs.calls.Facts.{PinsStand}
+use Rattle.std.proofs.Common.{ℕ, List, []}
+use Rattle.std.specs.Borrow.{Bor}
+use Rattle.ctd_known.specs.calls.Facts.{PinsStand, told}
 use Rattle.ctd_traps.proofs.program.unset.Given as goal
 
-abbrev pub invariant-loop-name : goal.invariant-loop-name
-invariant-loop-name l = PinsStand l.known.items []
+abbrev pub invariant-loop : goal.invariant-loop
+invariant-loop l = (q : List (Bor (List ℕ))) → PinsStand (told q l.known.items) []

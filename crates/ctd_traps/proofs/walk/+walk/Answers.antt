@@ -1,4 +1,4 @@
-use Rattle.std.proofs.Common.{IfOk, sym, subst}
+use Rattle.std.proofs.Common.{IfOk, sym, subst, ap}
 use Rattle.std.specs.Global.{Vec}
 use Rattle.ctd_program.specs.Tree
 use Rattle.ctd_program.proofs.Trees.{list_commands}
@@ -10,66 +10,67 @@ use Rattle.ctd_program.specs.declared.tree.Choice.{out-Choice}
 use Rattle.ctd_program.specs.declared.tree.Loop.{out-Loop}
 use Rattle.ctd_traps.specs.declared.cases.Case.{Case}
 use Rattle.ctd_traps.specs.calls.Traps.{traps_of}
-use Rattle.ctd_traps.specs.inner.Cases.{Divides, TellsCases}
+use Rattle.ctd_traps.specs.inner.Cases.{Divides, TellsCases, cases_in}
 use Rattle.ctd_traps.specs.inner.Holds.{ArePart}
 use Rattle.ctd_traps.specs.inner.Walk.{AreBranches, Concludes, RoundKeeps, SeparatorKeeps, StepKeeps, choice_at, loop_at}
 use Rattle.ctd_known.proofs.Results.{if_ok_more}
 use Rattle.ctd_traps.proofs.Walking.{between_keeps, choice_steps, listed_more, part_refl, part_trans}
 use Rattle.ctd_traps.proofs.Steps.{choice_step, loop_step, repeat_keeps, separator_more, walk_done, walk_step}
+use Rattle.ctd_known.specs.calls.Facts.{pins_in}
 use Rattle.ctd_traps.proofs.walk.+walk.Goals as goal
 
 pub walk-loop-command-preserved : goal.walk-loop-command-preserved
 walk-loop-command-preserved t c = record {
   more = part_trans (traps_of c.args.findings.now.items) (traps_of c.loop-command.findings.items) (traps_of c.step.new.findings.items) c.loop-command.invariant.more c.in_ok-after.ensures.more;
-  leads = walk_step c.args.ground.pinned.now c.args.cases.items c.loop-command.after.items c.as_slice.result.now c.in_ok-after.after.items c.loop-command.findings.items c.step.new.findings.items c.args.commands.now c.loop-command.command-index c.command-item.result
-      c.as_slice.ensures.value c.loop-command-test.true c.command-item.is c.in_ok-after.ensures.more c.in_ok-after.ensures.keeps c.loop-command.invariant.leads;
+  leads = walk_step (pins_in c.args.ground) (cases_in c.args.ground c.args.cases.items) (cases_in c.args.ground c.loop-command.after.items) (cases_in c.args.ground c.as_slice.result.now) (cases_in c.args.ground c.in_ok-after.after.items) c.loop-command.findings.items c.step.new.findings.items c.args.commands.now c.loop-command.command-index c.command-item.result
+      (ap (cases_in c.args.ground) c.as_slice.ensures.value) c.loop-command-test.true c.command-item.is c.in_ok-after.ensures.more c.in_ok-after.ensures.keeps c.loop-command.invariant.leads;
 }
 
 pub walk-returns-clause-keeps : goal.walk-returns-clause-keeps
-walk-returns-clause-keeps t c = walk_done c.args.ground.pinned.now c.args.cases.items c.loop-command.after.items c.loop-command.findings.items c.args.commands.now c.loop-command.command-index c.loop-command-test.false c.loop-command.invariant.leads
+walk-returns-clause-keeps t c = walk_done (pins_in c.args.ground) (cases_in c.args.ground c.args.cases.items) (cases_in c.args.ground c.loop-command.after.items) c.loop-command.findings.items c.args.commands.now c.loop-command.command-index c.loop-command-test.false c.loop-command.invariant.leads
 
 pub step-returns-in-If-clause-keeps : goal.step-returns-in-If-clause-keeps
 step-returns-in-If-clause-keeps t c =
-    let pinned = c.args.ground.pinned.now in
+    let pinned = pins_in c.args.ground in
     let found = c.choose.new.findings.items in
-    if_ok_more (λ (v : Vec Case). StepKeeps pinned c.args.cases.now v.items found (choice_at c.args.command.now.place c.deref-in-If.result.now)) (λ (v : Vec Case). StepKeeps pinned c.args.cases.now v.items found (command_tree c.args.command.now)) c.choose.result
-    (λ v so. choice_step pinned c.args.cases.now v.items found c.args.command.now.action c.in-If.choice c.deref-in-If.result.now c.args.command.now.place c.in-If.is c.deref-in-If.ensures so) c.choose.ensures.keeps
+    if_ok_more (λ (v : Vec Case). StepKeeps pinned (cases_in c.args.ground c.args.cases.now) (cases_in c.args.ground v.items) found (choice_at c.args.command.now.place c.deref-in-If.result.now)) (λ (v : Vec Case). StepKeeps pinned (cases_in c.args.ground c.args.cases.now) (cases_in c.args.ground v.items) found (command_tree c.args.command.now)) c.choose.result
+    (λ v so. choice_step pinned (cases_in c.args.ground c.args.cases.now) (cases_in c.args.ground v.items) found c.args.command.now.action c.in-If.choice c.deref-in-If.result.now c.args.command.now.place c.in-If.is c.deref-in-If.ensures so) c.choose.ensures.keeps
 
 pub step-returns-in-Loop-clause-keeps : goal.step-returns-in-Loop-clause-keeps
 step-returns-in-Loop-clause-keeps t c =
-    let pinned = c.args.ground.pinned.now in
+    let pinned = pins_in c.args.ground in
     let found = c.repeat.new.findings.items in
-    if_ok_more (λ (v : Vec Case). StepKeeps pinned c.args.cases.now v.items found (loop_at c.args.command.now.place c.deref-in-Loop.result.now)) (λ (v : Vec Case). StepKeeps pinned c.args.cases.now v.items found (command_tree c.args.command.now)) c.repeat.result
-    (λ v so. loop_step pinned c.args.cases.now v.items found c.args.command.now.action c.in-Loop.repeated c.deref-in-Loop.result.now c.args.command.now.place c.in-Loop.is c.deref-in-Loop.ensures so) c.repeat.ensures.keeps
+    if_ok_more (λ (v : Vec Case). StepKeeps pinned (cases_in c.args.ground c.args.cases.now) (cases_in c.args.ground v.items) found (loop_at c.args.command.now.place c.deref-in-Loop.result.now)) (λ (v : Vec Case). StepKeeps pinned (cases_in c.args.ground c.args.cases.now) (cases_in c.args.ground v.items) found (command_tree c.args.command.now)) c.repeat.result
+    (λ v so. loop_step pinned (cases_in c.args.ground c.args.cases.now) (cases_in c.args.ground v.items) found c.args.command.now.action c.in-Loop.repeated c.deref-in-Loop.result.now c.args.command.now.place c.in-Loop.is c.deref-in-Loop.ensures so) c.repeat.ensures.keeps
 
 pub separate-returns-in-Some-clause-keeps : goal.separate-returns-in-Some-clause-keeps
 separate-returns-in-Some-clause-keeps t c =
-    let pinned = c.args.ground.pinned.now in
+    let pinned = pins_in c.args.ground in
     let found = c.step.new.findings.items in
-    let before = c.args.cases.items in
+    let before = (cases_in c.args.ground c.args.cases.items) in
     rw c.in-Some.is
-    (if_ok_more (λ (v : Vec Case). StepKeeps pinned c.as_slice.result.now v.items found (command_tree c.deref.result.now)) (λ (v : Vec Case). SeparatorKeeps pinned before v.items found (Tree.between (command_tree c.in-Some.command.value))) c.step.result
-    (λ v so. between_keeps pinned before v.items found (command_tree c.in-Some.command.value) (subst (λ (x : Command). StepKeeps pinned before v.items found (command_tree x)) c.deref.ensures
-    (subst (λ l. StepKeeps pinned l v.items found (command_tree c.deref.result.now)) c.as_slice.ensures.value so))) c.step.ensures.keeps)
+    (if_ok_more (λ (v : Vec Case). StepKeeps pinned (cases_in c.args.ground c.as_slice.result.now) (cases_in c.args.ground v.items) found (command_tree c.deref.result.now)) (λ (v : Vec Case). SeparatorKeeps pinned before (cases_in c.args.ground v.items) found (Tree.between (command_tree c.in-Some.command.value))) c.step.result
+    (λ v so. between_keeps pinned before (cases_in c.args.ground v.items) found (command_tree c.in-Some.command.value) (subst (λ (x : Command). StepKeeps pinned before (cases_in c.args.ground v.items) found (command_tree x)) c.deref.ensures
+    (subst (λ l. StepKeeps pinned (cases_in c.args.ground l) (cases_in c.args.ground v.items) found (command_tree c.deref.result.now)) c.as_slice.ensures.value so))) c.step.ensures.keeps)
 
 pub walk_block-returns-clause-keeps : goal.walk_block-returns-clause-keeps
 walk_block-returns-clause-keeps t c = rw (list_commands c.args.block.now, sym c.as_slice.ensures) c.walk.ensures.keeps
 
 pub step-returns-in-Assert-clause-keeps : goal.step-returns-in-Assert-clause-keeps
 step-returns-in-Assert-clause-keeps t c =
-    let pinned = c.args.ground.pinned.now in
+    let pinned = pins_in c.args.ground in
     let found = c.assert.new.findings.items in
     let place = c.args.command.now.place in
     rw c.in-Assert.is
-    (subst (λ (u : Test). IfOk c.assert.result (λ (v : Vec Case). StepKeeps pinned c.args.cases.now v.items found (Tree.assert place (test_tree u)))) c.deref.ensures c.assert.ensures.keeps)
+    (subst (λ (u : Test). IfOk c.assert.result (λ (v : Vec Case). StepKeeps pinned (cases_in c.args.ground c.args.cases.now) (cases_in c.args.ground v.items) found (Tree.assert place (test_tree u)))) c.deref.ensures c.assert.ensures.keeps)
 
 pub go_round-returns-clause-keeps : goal.go_round-returns-clause-keeps
 go_round-returns-clause-keeps t c =
-    let pinned = c.args.ground.pinned.now in
+    let pinned = pins_in c.args.ground in
     let l = c.args.repeated.now in
     let later = c.in_ok-later.later in
-    let separated = c.in_ok-separated.separated.items in
-    let before = c.in_ok-before.before.items in
+    let separated = (cases_in c.args.ground c.in_ok-separated.separated.items) in
+    let before = (cases_in c.args.ground c.in_ok-before.before.items) in
     let reported = c.begin_later.new.findings.items in
     let second = c.separate.new.findings.items in
     let third = c.walk_block.new.findings.items in
@@ -77,40 +78,40 @@ go_round-returns-clause-keeps t c =
     let part_one = part_trans (traps_of reported) (traps_of second) (traps_of third) c.in_ok-separated.ensures.more part_two in
     let begins = c.in_ok-later.ensures.begins in
     record {
-      later_inside = later.inside.items;
+      later_inside = (cases_in c.args.ground later.inside.items);
       later = later.faults;
       before = before;
       enters = begins.enters;
       start_listed = λ why of_value is. part_one (record { place = c.args.place; fault = why }) (begins.start_listed why of_value is);
       first_listed = λ why of_value is. part_one (record { place = c.args.place; fault = why }) (begins.first_listed why of_value is);
       later_listed = λ why of_value is. part_one (record { place = c.args.place; fault = why }) (begins.later_listed why of_value is);
-      separates = separator_more pinned later.inside.items separated before second third (boxed_separator (out-Loop l).between) c.in_ok-before.ensures.first part_two c.in_ok-separated.ensures.keeps;
-      first_before = subst (λ k. TellsCases k before) c.as_slice.ensures.value c.in_ok-before.ensures.second;
+      separates = separator_more pinned (cases_in c.args.ground later.inside.items) separated before second third (boxed_separator (out-Loop l).between) c.in_ok-before.ensures.first part_two c.in_ok-separated.ensures.keeps;
+      first_before = subst (λ k. TellsCases (cases_in c.args.ground k) before) c.as_slice.ensures.value c.in_ok-before.ensures.second;
       body = c.in_ok-end.ensures.keeps;
     }
 
 pub choose-returns-clause-more : goal.choose-returns-clause-more
 choose-returns-clause-more t c =
     let new = traps_of c.walk_block-2.new.findings.items in
-    if_ok_more (λ (v : Vec Case). AreBranches c.in_ok-yes.yes.items c.in_ok-no.no.items v.items) (λ (v : Vec Case). ArePart (traps_of c.args.findings.now.items) new) c.join_branches.result
+    if_ok_more (λ (v : Vec Case). AreBranches (cases_in c.args.ground c.in_ok-yes.yes.items) (cases_in c.args.ground c.in_ok-no.no.items) (cases_in c.args.ground v.items)) (λ (v : Vec Case). ArePart (traps_of c.args.findings.now.items) new) c.join_branches.result
     (λ v so x is. c.in_ok-no.ensures.more x (c.in_ok-yes.ensures.more x (c.in_ok-asked.ensures.more x is))) c.join_branches.ensures
 
 pub choose-returns-clause-keeps : goal.choose-returns-clause-keeps
 choose-returns-clause-keeps t c =
-    let pinned = c.args.ground.pinned.now in
+    let pinned = pins_in c.args.ground in
     let place = c.args.place in
     let ch = c.args.choice.now in
     let asked = c.in_ok-asked.asked in
-    let yes = c.in_ok-yes.yes.items in
-    let no = c.in_ok-no.no.items in
+    let yes = (cases_in c.args.ground c.in_ok-yes.yes.items) in
+    let no = (cases_in c.args.ground c.in_ok-no.no.items) in
     let reported = c.ask.new.findings.items in
     let first = c.walk_block.new.findings.items in
     let second = c.walk_block-2.new.findings.items in
     let part_first = c.in_ok-no.ensures.more in
     let part_reported = part_trans (traps_of reported) (traps_of first) (traps_of second) c.in_ok-yes.ensures.more part_first in
-    if_ok_more (λ (v : Vec Case). AreBranches yes no v.items) (λ (v : Vec Case). StepKeeps pinned c.args.cases.now v.items second (choice_at place ch)) c.join_branches.result
-    (λ v so. choice_steps pinned c.args.cases.now asked.if_true.items asked.if_false.items yes no v.items asked.faults place (test_tree (out-Choice ch).condition.value) (command_list (out-Choice ch).then_do) (command_list (out-Choice ch).else_do) first second second
-    (subst (λ u. Divides c.args.cases.now (test_tree u) asked.if_true.items asked.if_false.items asked.faults) c.deref.ensures c.in_ok-asked.ensures.divides)
+    if_ok_more (λ (v : Vec Case). AreBranches yes no (cases_in c.args.ground v.items)) (λ (v : Vec Case). StepKeeps pinned (cases_in c.args.ground c.args.cases.now) (cases_in c.args.ground v.items) second (choice_at place ch)) c.join_branches.result
+    (λ v so. choice_steps pinned (cases_in c.args.ground c.args.cases.now) (cases_in c.args.ground asked.if_true.items) (cases_in c.args.ground asked.if_false.items) yes no (cases_in c.args.ground v.items) asked.faults place (test_tree (out-Choice ch).condition.value) (command_list (out-Choice ch).then_do) (command_list (out-Choice ch).else_do) first second second
+    (subst (λ u. Divides (cases_in c.args.ground c.args.cases.now) (test_tree u) (cases_in c.args.ground asked.if_true.items) (cases_in c.args.ground asked.if_false.items) asked.faults) c.deref.ensures c.in_ok-asked.ensures.divides)
     (listed_more (traps_of reported) (traps_of second) place asked.faults c.in_ok-asked.ensures.listed part_reported) part_first (part_refl (traps_of second))
     c.in_ok-yes.ensures.keeps c.in_ok-no.ensures.keeps so.yes_after so.no_after)
     c.join_branches.ensures
@@ -126,20 +127,20 @@ repeat-returns-then-holds-clause-more t c =
 
 pub repeat-returns-then-holds-clause-keeps : goal.repeat-returns-then-holds-clause-keeps
 repeat-returns-then-holds-clause-keeps t c =
-    let pinned = c.args.ground.pinned.now in
+    let pinned = pins_in c.args.ground in
     let l = c.args.repeated.now in
     let place = c.args.place in
     let turns = c.in_ok-begun.begun.turns in
-    let guess = c.loop-round.guess.items in
+    let guess = (cases_in c.args.ground c.loop-round.guess.items) in
     let first = c.in_ok-begun.begun.first in
     let passed = c.in_ok-passed.passed in
     let found = c.go_round.new.findings.items in
     let new = c.conclude.new.findings.items in
-    if_ok_more (λ (v : Vec Case). Concludes c.as_slice-then-holds.result.now passed.outside.items found new v.items) (λ (v : Vec Case). StepKeeps pinned c.args.cases.now v.items new (loop_at place l)) c.conclude.result
-    (λ v so. repeat_keeps pinned c.args.cases.now guess turns first.inside.items first.outside.items passed.outside.items passed.end.items v.items first.faults place l found new c.in_ok-begun.ensures.starts c.in_ok-begun.ensures.enters
-    (subst (λ k. RoundKeeps pinned k turns first.inside.items first.faults passed.outside.items passed.end.items found place l) c.as_slice.ensures.value c.in_ok-passed.ensures.keeps)
-    (subst (λ k. TellsCases passed.end.items k) c.as_slice-in-loop-round.ensures.value (c.holds.ensures c.if-holds.true))
-    (subst (λ k. TellsCases k v.items) c.as_slice-then-holds.ensures.value so.first_after) so.later_after so.listed)
+    if_ok_more (λ (v : Vec Case). Concludes (cases_in c.args.ground c.as_slice-then-holds.result.now) (cases_in c.args.ground passed.outside.items) found new (cases_in c.args.ground v.items)) (λ (v : Vec Case). StepKeeps pinned (cases_in c.args.ground c.args.cases.now) (cases_in c.args.ground v.items) new (loop_at place l)) c.conclude.result
+    (λ v so. repeat_keeps pinned (cases_in c.args.ground c.args.cases.now) guess turns (cases_in c.args.ground first.inside.items) (cases_in c.args.ground first.outside.items) (cases_in c.args.ground passed.outside.items) (cases_in c.args.ground passed.end.items) (cases_in c.args.ground v.items) first.faults place l found new c.in_ok-begun.ensures.starts c.in_ok-begun.ensures.enters
+    (subst (λ k. RoundKeeps pinned (cases_in c.args.ground k) turns (cases_in c.args.ground first.inside.items) first.faults (cases_in c.args.ground passed.outside.items) (cases_in c.args.ground passed.end.items) found place l) c.as_slice.ensures.value c.in_ok-passed.ensures.keeps)
+    (subst (λ k. TellsCases (cases_in c.args.ground passed.end.items) (cases_in c.args.ground k)) c.as_slice-in-loop-round.ensures.value (c.holds.ensures c.if-holds.true c.args.ground))
+    (subst (λ k. TellsCases (cases_in c.args.ground k) (cases_in c.args.ground v.items)) c.as_slice-then-holds.ensures.value so.first_after) so.later_after so.listed)
     c.conclude.ensures.concludes
 
 pub repeat-loop-round-preserved : goal.repeat-loop-round-preserved
