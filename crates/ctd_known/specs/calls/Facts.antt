@@ -30,11 +30,11 @@ told (q ∷ qs) (x ∷ xs) = record { name = q.now; facts = x } ∷ told qs xs
 
 -- of the names by which a walk goes
 abbrev pub told_in : Ground → List NameFacts → List Known
-told_in ground known = told ground.names.now known
+told_in g known = told g.names.now known
 
 -- what is known of the pins
 abbrev pub pins_in : Ground → List Known
-pins_in ground = told_in ground ground.pinned.now
+pins_in g = told_in g g.pinned.now
 
 -- a value is among those that may be, where so many steps are left
 abbrev pub MayBe : Kinds → ℕ → Value → Type 0

@@ -14,11 +14,11 @@ use Rattle.ctd_traps.specs.declared.divide.Divided.{Divided}
 
 -- what is known in a case, of the names by which a walk goes
 abbrev pub case_in : Ground → Case → List Known
-case_in ground x = told_in ground x.known.items
+case_in g x = told_in g x.known.items
 
 -- in each of some cases
 abbrev pub cases_in : Ground → List Case → List (List Known)
-cases_in ground cases = map (case_in ground) cases
+cases_in g cases = map (case_in g) cases
 
 -- all that is known in one of the cases is so of some variables, where so many steps are left
 abbrev pub OneStands : List (List Known) → ℕ → Bindings → Type 0
@@ -52,9 +52,9 @@ abbrev pub opposite : Divided → Divided
 opposite s = record { if_true = s.if_false; if_false = s.if_true; faults = s.faults }
 
 -- one test or another, of which the other is asked where the first is false
-pub record IsEither (ground : Ground) (first second all : Divided) : Type 0 where
-  pub left : TellsCases (cases_in ground first.if_true.items) (cases_in ground all.if_true.items)
-  pub right : TellsCases (cases_in ground second.if_true.items) (cases_in ground all.if_true.items)
-  pub neither : TellsCases (cases_in ground second.if_false.items) (cases_in ground all.if_false.items)
+pub record IsEither (g : Ground) (first second all : Divided) : Type 0 where
+  pub left : TellsCases (cases_in g first.if_true.items) (cases_in g all.if_true.items)
+  pub right : TellsCases (cases_in g second.if_true.items) (cases_in g all.if_true.items)
+  pub neither : TellsCases (cases_in g second.if_false.items) (cases_in g all.if_false.items)
   pub by_first : (f : Fault) → IsAmong first.faults f → IsAmong all.faults f
   pub by_second : (f : Fault) → IsAmong second.faults f → IsAmong all.faults f
