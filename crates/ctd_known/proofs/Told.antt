@@ -2,9 +2,9 @@
 use Rattle.std.proofs.Common.{◌≡◌, ◌≤◌, ◌<◌, ◌+◌, ℕ, zero, suc, List, [], ◌∷◌, ◌++◌, length, get_or, set, map, drop, refl, ap, sym, subst, ◌∙◌, arith, false, None}
 use Rattle.std.specs.Borrow.{Bor}
 use Rattle.ctd_known.specs.declared.facts.NameFacts.{NameFacts}
-use Rattle.ctd_known.specs.calls.Facts.{Known, IsImpossible, NameStands, TellsAll, name_at, told}
+use Rattle.ctd_known.specs.calls.Facts.{Known, IsImpossible, NameStands, TellsAll, told}
 use Rattle.ctd_known.specs.calls.Changed.{PaysStep}
-use Rattle.ctd_known.specs.inner.Facts.{Tells}
+use Rattle.ctd_known.specs.inner.Facts.{Tells, name_at}
 use Rattle.ctd_known.specs.inner.Changed.{NameIsWithin, NamePays, with_facts}
 use Rattle.ctd_known.proofs.Standing.{Leads, all_follow, each_at, impossible, leads_on, one_paid}
 

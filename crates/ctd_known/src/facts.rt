@@ -6,8 +6,8 @@ ghost use Rattle.ctd_range.specs.declared.range.Range.{Range};
 ghost use Rattle.ctd_range.specs.calls.Ranges.{IsIn};
 ghost use Rattle.ctd_known.specs.declared.facts.Lengths.{Lengths};
 ghost use Rattle.std.specs.Borrow.{Bor};
-ghost use Rattle.ctd_known.specs.calls.Facts.{IsImpossible, MayBe, TellsAll, name_at, told};
-ghost use Rattle.ctd_known.specs.inner.Facts.{Tells};
+ghost use Rattle.ctd_known.specs.calls.Facts.{IsImpossible, MayBe, TellsAll, told};
+ghost use Rattle.ctd_known.specs.inner.Facts.{Tells, name_at};
 ghost use Rattle.ctd_known.specs.inner.Changed.{AreWithin, NameIsWithin, with_facts};
 
 use crate::stop::Stop;

@@ -1,5 +1,5 @@
 -- What is known of the variables where a command begins.
-use Rattle.std.specs.Prelude.{◌≡◌, ◌≤◌, ◌<◌, ◌^◌, ℕ, zero, suc, true, List, [], ◌∷◌, length, Option, Some, None}
+use Rattle.std.specs.Prelude.{◌≡◌, ◌≤◌, ◌<◌, ◌^◌, ℕ, true, List, [], ◌∷◌, length, Option, Some, None}
 use Rattle.ctd_store.specs.declared.value.Value.{Value}
 use Rattle.ctd_store.specs.declared.value.Value.TheVariants as values
 use Rattle.ctd_store.specs.Store.{Key, Bindings, Variables, value_at}
@@ -16,13 +16,7 @@ pub record Known : Type 0 where
   pub name : List ℕ
   pub facts : NameFacts
 
--- the name at an index: behind the last there is the empty one, which no variable has
-abbrev pub name_at : List (Bor (List ℕ)) → ℕ → List ℕ
-name_at [] i = []
-name_at (q ∷ qs) zero = q.now
-name_at (q ∷ qs) (suc i) = name_at qs i
-
--- what is known of some names: of each that at its index
+-- What is known of some names: of each that at its index. Behind the last name there is the empty one, which no variable has.
 abbrev pub told : List (Bor (List ℕ)) → List NameFacts → List Known
 told names [] = []
 told [] (x ∷ xs) = record { name = []; facts = x } ∷ told [] xs
