@@ -72,7 +72,7 @@ class Way:
         return self.runner == "wine"
 
     def missing(self) -> list[str]:
-        return [tool for tool in (self.compiler, self.runner, *(["wineserver"] if self.is_windows else [])) if tool and not shutil.which(tool)]
+        return [tool for tool in (self.compiler, self.runner, *(["wineserver", "setarch"] if self.is_windows else [])) if tool and not shutil.which(tool)]
 
 
 WAYS = [
@@ -122,7 +122,9 @@ def command(way: Way, folder: Path, program: Path) -> Iterator[Path]:
     script = folder / "checktestdata"
     with wine_settings(folder / "wine") if way.is_windows else nullcontext(dict[str, str]()) as settings:
         words = [f"{name}={value}" for name, value in settings.items()]
-        script.write_text(f'#!/bin/sh\n{" ".join(words)} exec {shutil.which(way.runner)} "{program}" "$@"\n')
+        # Without `setarch -R` the heap of Wine may lie over 0x7ffe0000, where Wine needs a page; it then ends with status 1 and without a word.
+        runner = f"{'setarch -R ' if way.is_windows else ''}{shutil.which(way.runner)}"
+        script.write_text(f'#!/bin/sh\n{" ".join(words)} exec {runner} "{program}" "$@"\n')
         script.chmod(0o755)
         yield script
 
@@ -192,8 +194,8 @@ def macos(folder: Path) -> Iterator[tuple[str, str]]:
 
 
 def can_build(python: str) -> bool:
-    """Whether a Python has what builds packages."""
-    return not subprocess.run([python, "-c", "import pip, setuptools, wheel"], capture_output=True, check=False).returncode
+    """Whether a Python has what builds packages. Setuptools has to be imported before pip."""
+    return not subprocess.run([python, "-c", "import setuptools, pip, wheel"], capture_output=True, check=False).returncode
 
 
 def libraries(folder: Path) -> Iterator[tuple[str, str]]:
