@@ -100,8 +100,9 @@ fn list_unread<'p>(
     ensures adds { Adds (items_in found.old) (remark_unread (facts_known known.now) (role_names Sets (mentions_at mentions.now))) (items_in found.new) }
 {
     for m in mentions {
-        let is_told = known.read_elsewhere.contains(m.name) || is_set_aside(m.name);
-        if has_role(Role::Sets, m.how) && !is_told {
+        if has_role(Role::Sets, m.how)
+            && !(known.read_elsewhere.contains(m.name) || is_set_aside(m.name))
+        {
             remark_about(
                 alloc,
                 unread_kind(known.read.contains(m.name)),
