@@ -2,7 +2,6 @@
 
 ghost use Rattle.std.specs.Prelude.{◌≡◌, OnOk};
 ghost use Rattle.ctd_program.specs.calls.View.{command_tree, command_trees};
-ghost use Rattle.ctd_names.specs.calls.Mentions.{body_mentions, loops_mentions};
 ghost use Rattle.ctd_names.specs.calls.Roles.{role_names};
 ghost use Rattle.ctd_names.specs.declared.roles.Role.TheVariants.{Fills, Forgets, LooksAtAll};
 ghost use Rattle.ctd_findings.specs.calls.Findings.{array_remarks, is_uncounted, kept_remarks, remark_kept};

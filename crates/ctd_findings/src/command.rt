@@ -1,6 +1,6 @@
 //! The remarks on a command.
 
-ghost use Rattle.std.specs.Prelude.{◌≡◌, ◌++◌, ◌∷◌, [], IfOk};
+ghost use Rattle.std.specs.Prelude.{◌≡◌, ◌∷◌, [], IfOk};
 ghost use Rattle.ctd_program.specs.calls.View.{command_tree, expr_tree, guard_tree, test_tree};
 ghost use Rattle.ctd_findings.specs.calls.Findings.{about, about_if, command_remarks, follows_endless, follows_eof, guard_test, is_above, is_empty_text, is_eof, is_set_aside, loop_remarks, loop_test, name_remarks, own_remarks, part_remarks, pattern_remarks, place_remarks, remark_if, remark_unknown, remark_unread, takes_bytes, test_remarks, truth_remarks, unread_kind, use_remarks};
 ghost use Rattle.ctd_names.specs.calls.Collector.{Adds, items_in};
@@ -100,8 +100,9 @@ fn list_unread<'p>(
     ensures adds { Adds (items_in found.old) (remark_unread (facts_known known.now) (role_names Sets (mentions_at mentions.now))) (items_in found.new) }
 {
     for m in mentions {
-        let is_told = known.read_elsewhere.contains(m.name) || is_set_aside(m.name);
-        if has_role(Role::Sets, m.how) && !is_told {
+        if has_role(Role::Sets, m.how)
+            && !(known.read_elsewhere.contains(m.name) || is_set_aside(m.name))
+        {
             remark_about(
                 alloc,
                 unread_kind(known.read.contains(m.name)),

@@ -1,7 +1,7 @@
 //! The names in a command, each with what the command does with it.
 
-ghost use Rattle.std.specs.Prelude.{◌++◌, ◌∷◌, [], ◌≡◌, None, Some, IfOk, map};
-ghost use Rattle.ctd_program.specs.calls.View.{assignment, boxed_target, command_tree, command_trees, expr_list, expr_tree, guard_tree, target, test_tree, var_tree};
+ghost use Rattle.std.specs.Prelude.{◌++◌, ◌∷◌, [], ◌≡◌, None, IfOk, map};
+ghost use Rattle.ctd_program.specs.calls.View.{boxed_target, command_tree, command_trees, expr_list, expr_tree, guard_tree, target, test_tree, var_tree};
 ghost use Rattle.ctd_program.specs.declared.tree.Loop.{out-Loop};
 ghost use Rattle.ctd_names.specs.calls.Collector.{Adds, mentions_in};
 ghost use Rattle.ctd_names.specs.inner.Views.{assigned_trees};
