@@ -107,7 +107,7 @@ assign_element known name kinds facts new tells lacks alone olds news n h i is v
 -- UNSET
 pub clear_name : (pinned known : List Known) (name : List ℕ) (facts : NameFacts) → Tells pinned name facts → Clears pinned known name (map (with_facts name facts) known)
 clear_name pinned known name facts tells pins n h stand same each =
-    let told : NameStands name facts n (pins_alone pins) = tells n (pins_alone pins) (stand n (each_few known n h each)) in
+    let of_pin : NameStands name facts n (pins_alone pins) = tells n (pins_alone pins) (stand n (each_few known n h each)) in
     let is_pin : (is : List Value) → value_at (unset h name) (at_key name is) ≡ value_at (pins_alone pins) (at_key name is) = λ is. unset_key_has_its_pin h (at_key name is) ∙ pinned_value pins h (at_key name is) same in
-    let here : NameStands name facts n (unset h name) = name_same name facts n (pins_alone pins) (unset h name) is_pin told in
+    let here : NameStands name facts n (unset h name) = name_same name facts n (pins_alone pins) (unset h name) is_pin of_pin in
     each_changed name facts known n h (unset h name) here (λ other is apart. unset_keeps_other_names h name (at_key other is) apart) each

@@ -1,5 +1,5 @@
 pub mod Standing
-pub mod Told
+pub mod NamedFacts
 pub mod Assigning
 pub mod Applying
 pub mod Deciding

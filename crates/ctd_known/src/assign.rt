@@ -2,7 +2,7 @@
 
 ghost use Rattle.std.specs.Prelude.{◌≡◌, ℕ, true, IfOk, OnOk};
 ghost use Rattle.ctd_store.specs.declared.value.Value.{Value};
-ghost use Rattle.ctd_known.specs.calls.Facts.{MayBe, pins_in, told, told_in};
+ghost use Rattle.ctd_known.specs.calls.Facts.{MayBe, pins_in, named_facts, facts_in};
 ghost use Rattle.ctd_known.specs.inner.Facts.{Tells};
 ghost use Rattle.ctd_known.specs.calls.Changed.{AssignsAlone, AssignsElements, Clears};
 ghost use Rattle.ctd_known.specs.inner.Changed.{AreWithin};
@@ -22,7 +22,7 @@ pub struct Ground<'g> {
 
 /// What is known of a name, or nothing is told.
 pub(crate) fn listed(names: &[&[u8]], known: &[NameFacts], name: &[u8]) -> Result<NameFacts, Stop>
-    ensures { IfOk result (λ facts. Tells (told names.now known.now) name.now facts) }
+    ensures { IfOk result (λ facts. Tells (named_facts names.now known.now) name.now facts) }
 {
     match facts_of(names, known, name) {
         Some(facts) => Ok(facts),
@@ -62,7 +62,7 @@ pub fn assign_alone(
     kinds: Kinds,
     known: &mut [NameFacts],
 ) -> Result<(), Stop>
-    ensures { OnOk result (AssignsAlone (pins_in ground.entry) (told_in ground.entry known.old) name.now kinds (told_in ground.entry known.new)) }
+    ensures { OnOk result (AssignsAlone (pins_in ground.entry) (facts_in ground.entry known.old) name.now kinds (facts_in ground.entry known.new)) }
 {
     let facts = listed(ground.names, known, name)?;
     let pin = listed(ground.names, ground.pinned, name)?;
@@ -88,7 +88,7 @@ pub fn assign_element(
     kinds: Kinds,
     known: &mut [NameFacts],
 ) -> Result<(), Stop>
-    ensures { OnOk result (AssignsElements (told_in ground.entry known.old) name.now kinds (told_in ground.entry known.new)) }
+    ensures { OnOk result (AssignsElements (facts_in ground.entry known.old) name.now kinds (facts_in ground.entry known.new)) }
 {
     let facts = listed(ground.names, known, name)?;
     let facts = NameFacts {
@@ -101,7 +101,7 @@ pub fn assign_element(
 
 /// Takes from a name what was assigned to it.
 pub fn clear(ground: Ground<'_>, name: &[u8], known: &mut [NameFacts]) -> Result<(), Stop>
-    ensures { OnOk result (Clears (pins_in ground.entry) (told_in ground.entry known.old) name.now (told_in ground.entry known.new)) }
+    ensures { OnOk result (Clears (pins_in ground.entry) (facts_in ground.entry known.old) name.now (facts_in ground.entry known.new)) }
 {
     let facts = listed(ground.names, ground.pinned, name)?;
     replace_facts(ground.names, known, name, facts);

@@ -10,7 +10,7 @@ ghost use Rattle.std.specs.declared.cmp.Ordering.{Ordering};
 ghost use Rattle.ctd_value.specs.Truth.{compares, holds_by};
 ghost use Rattle.ctd_program.specs.Tree;
 ghost use Rattle.ctd_store.specs.declared.value.Value.TheVariants as values;
-ghost use Rattle.ctd_known.specs.calls.Facts.{MayBe, TellsAll, told, told_in};
+ghost use Rattle.ctd_known.specs.calls.Facts.{MayBe, TellsAll, named_facts, facts_in};
 ghost use Rattle.std.specs.Borrow.{Bor};
 ghost use Rattle.ctd_known.specs.calls.Found.{IsFound, IsAmong, FailsBy, Gives, SplitsBy};
 ghost use Rattle.ctd_known.specs.inner.Facts.{AreSame};
@@ -36,7 +36,7 @@ pub struct Branches {
 
 /// What an expression may give.
 pub fn inspect(e: &Expr, names: &[&[u8]], known: &[NameFacts]) -> Result<Found, Stop>
-    ensures { IfOk result (λ f. Gives (told names.now known.now) (expr_tree e.now) f) }
+    ensures { IfOk result (λ f. Gives (named_facts names.now known.now) (expr_tree e.now) f) }
 {
     match examine(e, names, known) {
         Some(f) => Ok(f),
@@ -46,8 +46,8 @@ pub fn inspect(e: &Expr, names: &[&[u8]], known: &[NameFacts]) -> Result<Found, 
 
 /// What is known where either is known.
 pub fn join(alloc: Global, a: &[NameFacts], b: &[NameFacts]) -> Result<Vec<NameFacts>, Stop>
-    ensures left { IfOk result (λ all. (names : List (Bor (List ℕ))) → TellsAll (told names a.now) (told names all.items)) }
-    ensures right { IfOk result (λ all. (names : List (Bor (List ℕ))) → TellsAll (told names b.now) (told names all.items)) }
+    ensures left { IfOk result (λ all. (names : List (Bor (List ℕ))) → TellsAll (named_facts names a.now) (named_facts names all.items)) }
+    ensures right { IfOk result (λ all. (names : List (Bor (List ℕ))) → TellsAll (named_facts names b.now) (named_facts names all.items)) }
 {
     let all = merge(alloc, a, b)?;
     if !is_within(a, all.as_slice()) {
@@ -140,7 +140,7 @@ fn compare(
     b: &Expr,
     known: &[NameFacts],
 ) -> Result<Branches, Stop>
-    ensures { IfOk result (λ s. SplitsBy (told_in ground.entry known.now) (Tree.compare by (expr_tree a.now) (expr_tree b.now)) (told_in ground.entry s.if_true.items) (told_in ground.entry s.if_false.items) s.faults) }
+    ensures { IfOk result (λ s. SplitsBy (facts_in ground.entry known.now) (Tree.compare by (expr_tree a.now) (expr_tree b.now)) (facts_in ground.entry s.if_true.items) (facts_in ground.entry s.if_false.items) s.faults) }
 {
     let one = inspect(a, ground.names, known)?;
     let other = inspect(b, ground.names, known)?;
@@ -155,7 +155,7 @@ fn compare(
 
 /// What is known where an expression matches the data, and where it does not.
 fn split_match(ground: Ground<'_>, e: &Expr, known: &[NameFacts]) -> Result<Branches, Stop>
-    ensures { IfOk result (λ s. SplitsBy (told_in ground.entry known.now) (Tree.matches (expr_tree e.now)) (told_in ground.entry s.if_true.items) (told_in ground.entry s.if_false.items) s.faults) }
+    ensures { IfOk result (λ s. SplitsBy (facts_in ground.entry known.now) (Tree.matches (expr_tree e.now)) (facts_in ground.entry s.if_true.items) (facts_in ground.entry s.if_false.items) s.faults) }
 {
     let text = inspect(e, ground.names, known)?;
     same(ground.alloc, known, text_faults(text))
@@ -163,7 +163,7 @@ fn split_match(ground: Ground<'_>, e: &Expr, known: &[NameFacts]) -> Result<Bran
 
 /// What is known where a test of one question is true, and where it is false. Of a test that is made of others nothing is told: its parts are asked.
 pub fn split(ground: Ground<'_>, t: &Test, known: &[NameFacts]) -> Result<Branches, Stop>
-    ensures { IfOk result (λ s. SplitsBy (told_in ground.entry known.now) (test_tree t.now) (told_in ground.entry s.if_true.items) (told_in ground.entry s.if_false.items) s.faults) }
+    ensures { IfOk result (λ s. SplitsBy (facts_in ground.entry known.now) (test_tree t.now) (facts_in ground.entry s.if_true.items) (facts_in ground.entry s.if_false.items) s.faults) }
 {
     match t {
         Test::Compare(by, a, b) => compare(ground, *by, a, b, known),

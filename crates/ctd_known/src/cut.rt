@@ -6,7 +6,7 @@ ghost use Rattle.ctd_program.specs.declared.tree.Compare.{Compare};
 ghost use Rattle.ctd_store.specs.declared.value.Value.{Value};
 ghost use Rattle.ctd_range.specs.declared.range.Range.{Range};
 ghost use Rattle.ctd_range.specs.calls.Ranges.{IsIn};
-ghost use Rattle.ctd_known.specs.calls.Facts.{MayBe, told_in};
+ghost use Rattle.ctd_known.specs.calls.Facts.{MayBe, facts_in};
 ghost use Rattle.ctd_known.specs.inner.Compared.{Cuts, CutsBoth, MayCompare, Relates};
 
 use crate::assign::{Ground, listed};
@@ -84,7 +84,7 @@ fn cut(
     by: Compare,
     kinds: Kinds,
 ) -> Result<(), Stop>
-    ensures { OnOk result (Cuts (told_in ground.entry known.old) (expr_tree e.now) by kinds (told_in ground.entry known.new)) }
+    ensures { OnOk result (Cuts (facts_in ground.entry known.old) (expr_tree e.now) by kinds (facts_in ground.entry known.new)) }
 {
     match e {
         Expr::Name(name) => {
@@ -111,7 +111,7 @@ pub(crate) fn cut_both(
     one: Kinds,
     other: Kinds,
 ) -> Result<Vec<NameFacts>, Stop>
-    ensures { IfOk result (λ after. CutsBoth (told_in ground.entry known.now) by (expr_tree a.now) (expr_tree b.now) one other (told_in ground.entry after.items)) }
+    ensures { IfOk result (λ after. CutsBoth (facts_in ground.entry known.now) by (expr_tree a.now) (expr_tree b.now) one other (facts_in ground.entry after.items)) }
 {
     let mut after = copy_of(ground.alloc, known)?;
     cut(ground, after.as_mut_slice(), a, by, other)?;

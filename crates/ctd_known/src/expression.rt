@@ -12,7 +12,7 @@ ghost use Rattle.ctd_range.specs.calls.Ranges.{Covers};
 ghost use Rattle.ctd_value.specs.Arithmetic.{in_range};
 ghost use Rattle.ctd_value.specs.Val.{arithmetic};
 ghost use Rattle.ctd_value.specs.inner.Val.{value_or_undefined};
-ghost use Rattle.ctd_known.specs.calls.Facts.{MayBe, MayHave, told};
+ghost use Rattle.ctd_known.specs.calls.Facts.{MayBe, MayHave, named_facts};
 ghost use Rattle.ctd_known.specs.calls.Found.{IsFound, IsAmong, Gives, AllFailBy, FailsBy, as_number, as_text};
 ghost use Rattle.ctd_known.specs.inner.Found.{IsComputed, AreOperands, HasOperator, Operates, IsWithinRanges, operate, measured, negated};
 
@@ -82,7 +82,7 @@ fn of_name(index: Option<usize>, facts: NameFacts) -> Found
 
 /// What a name without indices may give; none where it is not listed.
 fn examine_name(name: &Name, names: &[&[u8]], known: &[NameFacts]) -> Option<Found>
-    ensures { IfSome result (λ f. Gives (told names.now known.now) (Tree.variable name.now Tree.none) f) }
+    ensures { IfSome result (λ f. Gives (named_facts names.now known.now) (Tree.variable name.now Tree.none) f) }
 {
     let word = name.as_slice();
     let facts = facts_of(names, known, word)?;
@@ -112,7 +112,7 @@ fn examine_element(
     names: &[&[u8]],
     known: &[NameFacts],
 ) -> Option<Found>
-    ensures { IfSome result (λ f. (es : List Expr) → es ≢ [] → AllFailBy (told names.now known.now) (expr_list es) indices → Gives (told names.now known.now) (Tree.variable name.now (expr_list es)) f) }
+    ensures { IfSome result (λ f. (es : List Expr) → es ≢ [] → AllFailBy (named_facts names.now known.now) (expr_list es) indices → Gives (named_facts names.now known.now) (Tree.variable name.now (expr_list es)) f) }
 {
     let word = name.as_slice();
     let facts = facts_of(names, known, word)?;
@@ -334,7 +334,7 @@ pub fn number_faults(a: Found) -> Faults
 /// What an expression may give; none where a name in it is not listed.
 #[cycle(examine)]
 pub fn examine(e: &Expr, names: &[&[u8]], known: &[NameFacts]) -> Option<Found>
-    ensures gives { IfSome result (λ f. Gives (told names.now known.now) (expr_tree e.now) f) }
+    ensures gives { IfSome result (λ f. Gives (named_facts names.now known.now) (expr_tree e.now) f) }
 {
     match e {
         Expr::Numeral(n) => Some(of_number(n.value())),
@@ -362,7 +362,7 @@ pub fn examine(e: &Expr, names: &[&[u8]], known: &[NameFacts]) -> Option<Found>
 /// By which faults indices may fail, of which there is one at least; none where a name in them is not listed, or where there is no index.
 #[cycle(examine)]
 pub fn examine_indices(indices: &[Expr], names: &[&[u8]], known: &[NameFacts]) -> Option<Faults>
-    ensures fail { IfSome result (λ f. AllFailBy (told names.now known.now) (expr_list indices.now) f) }
+    ensures fail { IfSome result (λ f. AllFailBy (named_facts names.now known.now) (expr_list indices.now) f) }
     ensures some { IfSome result (λ f. indices.now ≢ []) }
 {
     if indices.is_empty() {

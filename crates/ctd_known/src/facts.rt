@@ -6,7 +6,7 @@ ghost use Rattle.ctd_range.specs.declared.range.Range.{Range};
 ghost use Rattle.ctd_range.specs.calls.Ranges.{IsIn};
 ghost use Rattle.ctd_known.specs.declared.facts.Lengths.{Lengths};
 ghost use Rattle.std.specs.Borrow.{Bor};
-ghost use Rattle.ctd_known.specs.calls.Facts.{IsImpossible, MayBe, TellsAll, told};
+ghost use Rattle.ctd_known.specs.calls.Facts.{IsImpossible, MayBe, TellsAll, named_facts};
 ghost use Rattle.ctd_known.specs.inner.Facts.{Tells, name_at};
 ghost use Rattle.ctd_known.specs.inner.Changed.{AreWithin, NameIsWithin, with_facts};
 
@@ -62,7 +62,7 @@ pub fn index_of(names: &[&[u8]], known: &[NameFacts], name: &[u8]) -> Option<usi
 
 /// What is known of a name, if something is.
 pub fn facts_of(names: &[&[u8]], known: &[NameFacts], name: &[u8]) -> Option<NameFacts>
-    ensures tells { IfSome result (λ facts. Tells (told names.now known.now) name.now facts) }
+    ensures tells { IfSome result (λ facts. Tells (named_facts names.now known.now) name.now facts) }
 {
     match index_of(names, known, name) {
         Some(i) => Some(known[i]),
@@ -140,7 +140,7 @@ fn is_impossible(facts: NameFacts) -> bool
 
 /// Whether no run comes where this is known.
 pub fn is_unreachable(known: &[NameFacts]) -> bool
-    ensures never { result ≡ true → (names : List (Bor (List ℕ))) → IsImpossible (told names known.now) }
+    ensures never { result ≡ true → (names : List (Bor (List ℕ))) → IsImpossible (named_facts names known.now) }
 {
     for facts in known {
         if is_impossible(*facts) {
@@ -152,7 +152,7 @@ pub fn is_unreachable(known: &[NameFacts]) -> bool
 
 /// Whether some facts follow from what is known.
 fn follow(known: &[NameFacts], others: &[NameFacts]) -> bool
-    ensures all { result ≡ true → (names : List (Bor (List ℕ))) → TellsAll (told names known.now) (told names others.now) }
+    ensures all { result ≡ true → (names : List (Bor (List ℕ))) → TellsAll (named_facts names known.now) (named_facts names others.now) }
 {
     for (i, other) in others.iter().enumerate() {
         match known.get(i) {
@@ -169,7 +169,7 @@ fn follow(known: &[NameFacts], others: &[NameFacts]) -> bool
 
 /// Whether some facts follow from what is known, or no run comes where it is known.
 pub fn is_within(known: &[NameFacts], others: &[NameFacts]) -> bool
-    ensures all { result ≡ true → (names : List (Bor (List ℕ))) → TellsAll (told names known.now) (told names others.now) }
+    ensures all { result ≡ true → (names : List (Bor (List ℕ))) → TellsAll (named_facts names known.now) (named_facts names others.now) }
 {
     if is_unreachable(known) {
         return true;
@@ -186,7 +186,7 @@ fn with_facts(own: &[u8], entry: NameFacts, name: &[u8], facts: NameFacts) -> Na
 
 /// Gives a name other facts.
 pub fn replace_facts(names: &[&[u8]], known: &mut [NameFacts], name: &[u8], facts: NameFacts)
-    ensures { told names.now known.new ≡ map (with_facts name.now facts) (told names.now known.old) }
+    ensures { named_facts names.now known.new ≡ map (with_facts name.now facts) (named_facts names.now known.old) }
 {
     for (i, entry) in known.iter_mut().enumerate() {
         *entry = with_facts(name_at(names, i), *entry, name, facts);

@@ -2,7 +2,7 @@
 
 ghost use Rattle.std.specs.Prelude.{ℕ, List, IfOk};
 ghost use Rattle.std.specs.Borrow.{Bor};
-ghost use Rattle.ctd_known.specs.calls.Facts.{told};
+ghost use Rattle.ctd_known.specs.calls.Facts.{named_facts};
 ghost use Rattle.ctd_known.specs.calls.Changed.{PaysStep};
 ghost use Rattle.ctd_known.specs.inner.Changed.{KindsPay, NamePays};
 
@@ -36,7 +36,7 @@ fn pay_name(facts: NameFacts) -> NameFacts
 
 /// What is known once a step is paid: what moves with the steps has moved.
 pub fn after_step(alloc: Global, known: &[NameFacts]) -> Result<Vec<NameFacts>, AllocError>
-    ensures pays { IfOk result (λ after. (names : List (Bor (List ℕ))) → PaysStep (told names known.now) (told names after.items)) }
+    ensures pays { IfOk result (λ after. (names : List (Bor (List ℕ))) → PaysStep (named_facts names known.now) (named_facts names after.items)) }
 {
     let mut after = Vec::new(alloc);
     for facts in known {

@@ -3,7 +3,7 @@
 ghost use Rattle.std.specs.Prelude.{IfOk};
 ghost use Rattle.ctd_program.specs.calls.View.{command_tree};
 ghost use Rattle.ctd_traps.specs.inner.Walk.{ActKeeps, ActsKeep};
-ghost use Rattle.ctd_known.specs.calls.Facts.{pins_in, told_in};
+ghost use Rattle.ctd_known.specs.calls.Facts.{pins_in, facts_in};
 ghost use Rattle.ctd_traps.specs.inner.Cases.{cases_in};
 
 use crate::assign::{clear_all, set_all};
@@ -21,7 +21,7 @@ pub(crate) struct ActedCases {
 
 /// Does what a command does in one case, and gives the faults that it may have.
 fn act(command: &Command, ground: Ground<'_>, known: &mut [NameFacts]) -> Result<Faults, Stop>
-    ensures { IfOk result (λ faults. ActKeeps (pins_in ground.entry) (told_in ground.entry known.old) (told_in ground.entry known.new) faults (command_tree command.now)) }
+    ensures { IfOk result (λ faults. ActKeeps (pins_in ground.entry) (facts_in ground.entry known.old) (facts_in ground.entry known.new) faults (command_tree command.now)) }
 {
     match &command.action {
         Action::Space | Action::Newline | Action::Eof => Ok(no_faults()),

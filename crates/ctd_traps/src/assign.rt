@@ -4,7 +4,7 @@ ghost use Rattle.std.specs.Prelude.{IfOk, OnOk, map};
 ghost use Rattle.ctd_program.specs.calls.View.{assignment, target, var_tree};
 ghost use Rattle.ctd_command.specs.Commands.{set};
 ghost use Rattle.ctd_traps.specs.inner.Walk.{Acts, Assigns, ClearsAll, KeepsValue};
-ghost use Rattle.ctd_known.specs.calls.Facts.{pins_in, told_in};
+ghost use Rattle.ctd_known.specs.calls.Facts.{pins_in, facts_in};
 
 use ctd_known::{
     Faults, Ground, Kinds, NameFacts, Stop, assign_alone, assign_element, both, clear,
@@ -20,7 +20,7 @@ pub(crate) fn assign(
     kinds: Kinds,
     known: &mut [NameFacts],
 ) -> Result<Faults, Stop>
-    ensures { IfOk result (λ faults. Assigns (pins_in ground.entry) (told_in ground.entry known.old) (var_tree variable.now) kinds (told_in ground.entry known.new) faults) }
+    ensures { IfOk result (λ faults. Assigns (pins_in ground.entry) (facts_in ground.entry known.old) (var_tree variable.now) kinds (facts_in ground.entry known.new) faults) }
 {
     let name = variable.name.as_slice();
     let indices = variable.indices.as_slice();
@@ -44,7 +44,7 @@ pub(crate) fn keep(
     kinds: Kinds,
     known: &mut [NameFacts],
 ) -> Result<Faults, Stop>
-    ensures { IfOk result (λ faults. KeepsValue (pins_in ground.entry) (told_in ground.entry known.old) (target variable.now) kinds (told_in ground.entry known.new) faults) }
+    ensures { IfOk result (λ faults. KeepsValue (pins_in ground.entry) (facts_in ground.entry known.old) (target variable.now) kinds (facts_in ground.entry known.new) faults) }
 {
     match variable {
         Some(variable) => assign(ground, variable, kinds, known),
@@ -58,7 +58,7 @@ pub(crate) fn set_all(
     assignments: &[Assignment],
     known: &mut [NameFacts],
 ) -> Result<Faults, Stop>
-    ensures { IfOk result (λ faults. Acts (pins_in ground.entry) (told_in ground.entry known.old) (told_in ground.entry known.new) faults (set (map assignment assignments.now))) }
+    ensures { IfOk result (λ faults. Acts (pins_in ground.entry) (facts_in ground.entry known.old) (facts_in ground.entry known.new) faults (set (map assignment assignments.now))) }
 {
     let mut faults = no_faults();
     for a in assignments {
@@ -75,7 +75,7 @@ pub(crate) fn clear_all(
     names: &[Name],
     known: &mut [NameFacts],
 ) -> Result<Faults, Stop>
-    ensures { OnOk result (ClearsAll (pins_in ground.entry) (told_in ground.entry known.old) names.now (told_in ground.entry known.new)) }
+    ensures { OnOk result (ClearsAll (pins_in ground.entry) (facts_in ground.entry known.old) names.now (facts_in ground.entry known.new)) }
 {
     for name in names {
         clear(ground, name.as_slice(), known)?;

@@ -2,7 +2,7 @@
 
 ghost use Rattle.std.specs.Prelude.{◌≡◌, ◌<◌, true, length, IfOk, IfSome};
 ghost use Rattle.ctd_traps.specs.inner.Cases.{TellsCase, TellsCases, TellsJoined, cases_in};
-ghost use Rattle.ctd_known.specs.calls.Facts.{told_in};
+ghost use Rattle.ctd_known.specs.calls.Facts.{facts_in};
 ghost use Rattle.ctd_known.specs.declared.assign.Ground.{Ground};
 
 use ctd_known::{Ground, NameFacts, Stop, copy_of, is_unreachable, is_within, join, pay, widen};
@@ -45,7 +45,7 @@ fn same_case(cases: &[Case], known: &[NameFacts]) -> Option<usize>
 
 /// What is known in each of some cases.
 pub(crate) fn join_cases(ground: Ground<'_>, cases: &[Case]) -> Result<Vec<NameFacts>, Stop>
-    ensures { IfOk result (λ all. TellsJoined (cases_in ground.entry cases.now) (told_in ground.entry all.items)) }
+    ensures { IfOk result (λ all. TellsJoined (cases_in ground.entry cases.now) (facts_in ground.entry all.items)) }
 {
     let mut all = match cases.first() {
         Some(case) => copy_of(ground.alloc, case.known.as_slice())?,
@@ -60,7 +60,7 @@ pub(crate) fn join_cases(ground: Ground<'_>, cases: &[Case]) -> Result<Vec<NameF
 /// Cases and one more.
 fn with_pushed(mut cases: Vec<Case>, known: Vec<NameFacts>) -> Result<Vec<Case>, Stop>
     ensures others { IfOk result (λ all. (g : Ground) → TellsCases (cases_in g cases.items) (cases_in g all.items)) }
-    ensures added { IfOk result (λ all. (g : Ground) → TellsCase (told_in g known.items) (cases_in g all.items)) }
+    ensures added { IfOk result (λ all. (g : Ground) → TellsCase (facts_in g known.items) (cases_in g all.items)) }
 {
     cases.push(Case { known })?;
     Ok(cases)
@@ -84,7 +84,7 @@ pub(crate) fn with_case(
     known: Vec<NameFacts>,
 ) -> Result<Vec<Case>, Stop>
     ensures others { IfOk result (λ all. TellsCases (cases_in ground.entry cases.items) (cases_in ground.entry all.items)) }
-    ensures added { IfOk result (λ all. TellsCase (told_in ground.entry known.items) (cases_in ground.entry all.items)) }
+    ensures added { IfOk result (λ all. TellsCase (facts_in ground.entry known.items) (cases_in ground.entry all.items)) }
 {
     let is_left_out = is_unreachable(known.as_slice());
     if is_left_out {
@@ -122,7 +122,7 @@ pub(crate) fn with_all(
 
 /// Whether what is known follows a case of some.
 fn is_within_one(known: &[NameFacts], others: &[Case]) -> bool
-    ensures within { result ≡ true → (g : Ground) → TellsCase (told_in g known.now) (cases_in g others.now) }
+    ensures within { result ≡ true → (g : Ground) → TellsCase (facts_in g known.now) (cases_in g others.now) }
 {
     for other in others {
         if is_within(known, other.known.as_slice()) {

@@ -6,7 +6,7 @@ ghost use Rattle.ctd_store.specs.Store.{Variables, value_of, with_pin};
 ghost use Rattle.ctd_store.specs.inner.Store.{pins_of};
 ghost use Rattle.ctd_traps.specs.calls.Traps.{HasEachTrap, traps_of};
 ghost use Rattle.ctd_traps.specs.inner.Cases.{TellsCase, cases_in};
-ghost use Rattle.ctd_known.specs.calls.Facts.{MayBe, PinsStand, pins_in, told, told_in};
+ghost use Rattle.ctd_known.specs.calls.Facts.{MayBe, PinsStand, pins_in, named_facts, facts_in};
 ghost use Rattle.std.specs.Borrow.{Bor};
 
 use crate::cases::{Case, with_case};
@@ -30,7 +30,7 @@ const NONE: Kinds = Kinds {
 
 /// What is known where no name has a value.
 fn unset(alloc: Global, names: &[&[u8]]) -> Result<Vec<NameFacts>, AllocError>
-    ensures { IfOk result (λ known. (q : List (Bor (List ℕ))) → PinsStand (told q known.items) []) }
+    ensures { IfOk result (λ known. (q : List (Bor (List ℕ))) → PinsStand (named_facts q known.items) []) }
 {
     let facts = NameFacts {
         may_lack: true,
@@ -73,7 +73,7 @@ fn kinds_of(literal: &PresetValue) -> Kinds
 
 /// Pins a preset. What is known without pins is given.
 fn pin(without: Ground<'_>, preset: &Preset, known: &mut [NameFacts]) -> Result<(), Stop>
-    ensures { OnOk result (PinsStand (pins_in without.entry) [] → (pins : Variables) → PinsStand (told_in without.entry known.old) pins → PinsStand (told_in without.entry known.new) (with_pin pins preset.now)) }
+    ensures { OnOk result (PinsStand (pins_in without.entry) [] → (pins : Variables) → PinsStand (facts_in without.entry known.old) pins → PinsStand (facts_in without.entry known.new) (with_pin pins preset.now)) }
 {
     let name = preset.name.as_slice();
     let kinds = kinds_of(&preset.value);
@@ -86,7 +86,7 @@ fn pin(without: Ground<'_>, preset: &Preset, known: &mut [NameFacts]) -> Result<
 
 /// What is known where all presets are pinned.
 fn pin_all(without: Ground<'_>, presets: &[Preset]) -> Result<Vec<NameFacts>, Stop>
-    ensures { IfOk result (λ known. PinsStand (pins_in without.entry) [] → PinsStand (told_in without.entry known.items) (pins_of presets.now)) }
+    ensures { IfOk result (λ known. PinsStand (pins_in without.entry) [] → PinsStand (facts_in without.entry known.items) (pins_of presets.now)) }
 {
     let mut known = copy_of(without.alloc, without.pinned)?;
     for preset in presets {
@@ -104,7 +104,7 @@ pub struct TrapList<'p> {
 
 /// What is known before the first command of a program with these names.
 fn known_before(alloc: Global, presets: &Presets, names: &[&[u8]]) -> Result<Vec<NameFacts>, Stop>
-    ensures { IfOk result (λ known. PinsStand (told names.now known.items) (pins_of presets.now)) }
+    ensures { IfOk result (λ known. PinsStand (named_facts names.now known.items) (pins_of presets.now)) }
 {
     let nothing = unset(alloc, names)?;
     let without = Ground {

@@ -6,7 +6,7 @@ ghost use Rattle.ctd_program.specs.calls.View.{expr_tree, target};
 ghost use Rattle.ctd_store.specs.declared.value.Value.TheVariants as values;
 ghost use Rattle.ctd_command.specs.Commands.{int, string};
 ghost use Rattle.ctd_command.specs.Regex.{regex};
-ghost use Rattle.ctd_known.specs.calls.Facts.{MayBe, pins_in, told_in};
+ghost use Rattle.ctd_known.specs.calls.Facts.{MayBe, pins_in, facts_in};
 ghost use Rattle.ctd_traps.specs.inner.Walk.{Acts};
 
 use crate::assign::keep;
@@ -39,7 +39,7 @@ pub(crate) fn take_integer(
     ground: Ground<'_>,
     known: &mut [NameFacts],
 ) -> Result<Faults, Stop>
-    ensures { IfOk result (λ faults. Acts (pins_in ground.entry) (told_in ground.entry known.old) (told_in ground.entry known.new) faults (int (expr_tree arguments.now.low) (expr_tree arguments.now.high) (target arguments.now.target))) }
+    ensures { IfOk result (λ faults. Acts (pins_in ground.entry) (facts_in ground.entry known.old) (facts_in ground.entry known.new) faults (int (expr_tree arguments.now.low) (expr_tree arguments.now.high) (target arguments.now.target))) }
 {
     let low = inspect(&arguments.low, ground.names, known)?;
     let high = inspect(&arguments.high, ground.names, known)?;
@@ -55,7 +55,7 @@ pub(crate) fn take_integer(
 
 /// The faults that STRING may have, which gives no variable a value.
 pub(crate) fn take_string(e: &Expr, ground: Ground<'_>, known: &[NameFacts]) -> Result<Faults, Stop>
-    ensures { IfOk result (λ faults. Acts (pins_in ground.entry) (told_in ground.entry known.now) (told_in ground.entry known.now) faults (string (expr_tree e.now))) }
+    ensures { IfOk result (λ faults. Acts (pins_in ground.entry) (facts_in ground.entry known.now) (facts_in ground.entry known.now) faults (string (expr_tree e.now))) }
 {
     let found = inspect(e, ground.names, known)?;
     Ok(text_faults(found))
@@ -80,7 +80,7 @@ pub(crate) fn take_match(
     ground: Ground<'_>,
     known: &mut [NameFacts],
 ) -> Result<Faults, Stop>
-    ensures { IfOk result (λ faults. Acts (pins_in ground.entry) (told_in ground.entry known.old) (told_in ground.entry known.new) faults (regex arguments.now.literal.bytes (target arguments.now.target))) }
+    ensures { IfOk result (λ faults. Acts (pins_in ground.entry) (facts_in ground.entry known.old) (facts_in ground.entry known.new) faults (regex arguments.now.literal.bytes (target arguments.now.target))) }
 {
     keep(ground, &arguments.target, in_window(), known)
 }

@@ -5,7 +5,7 @@ ghost use Rattle.ctd_program.specs.calls.View.{boxed_target, expr_tree, guard_tr
 ghost use Rattle.ctd_store.specs.declared.value.Value.TheVariants as values;
 ghost use Rattle.ctd_range.specs.calls.Ranges.{IsIn};
 ghost use Rattle.ctd_range.specs.inner.Ranges.{IsCount};
-ghost use Rattle.ctd_known.specs.calls.Facts.{MayBe, pins_in, told_in};
+ghost use Rattle.ctd_known.specs.calls.Facts.{MayBe, pins_in, facts_in};
 ghost use Rattle.ctd_traps.specs.inner.Walk.{Counts, CountsEach, CountsLast, CountsTurn, Enters, Starts, StartsIn, first_turn};
 ghost use Rattle.ctd_program.specs.declared.tree.Loop.{out-Loop};
 ghost use Rattle.ctd_traps.specs.inner.Cases.{cases_in};
@@ -68,7 +68,7 @@ pub(crate) struct Turns {
 
 /// What a count of turns may be.
 fn count_turns(e: &Expr, ground: Ground<'_>, known: &[NameFacts]) -> Result<Turns, Stop>
-    ensures { IfOk result (λ t. Counts (told_in ground.entry known.now) (expr_tree e.now) t) }
+    ensures { IfOk result (λ t. Counts (facts_in ground.entry known.now) (expr_tree e.now) t) }
 {
     let count = inspect(e, ground.names, known)?;
     let bad = Faults {
@@ -84,7 +84,7 @@ fn count_turns(e: &Expr, ground: Ground<'_>, known: &[NameFacts]) -> Result<Turn
 
 /// How a loop may start.
 fn start(guard: &LoopGuard, ground: Ground<'_>, known: &[NameFacts]) -> Result<Turns, Stop>
-    ensures { IfOk result (λ t. Starts (told_in ground.entry known.now) (guard_tree guard.now) t) }
+    ensures { IfOk result (λ t. Starts (facts_in ground.entry known.now) (guard_tree guard.now) t) }
 {
     match guard {
         LoopGuard::Times(e) => count_turns(e, ground, known),
@@ -131,7 +131,7 @@ fn count_turn(
     ground: Ground<'_>,
     known: &mut [NameFacts],
 ) -> Result<Faults, Stop>
-    ensures { IfOk result (λ faults. CountsTurn (pins_in ground.entry) (told_in ground.entry known.old) (boxed_target counter.now) turn (told_in ground.entry known.new) faults) }
+    ensures { IfOk result (λ faults. CountsTurn (pins_in ground.entry) (facts_in ground.entry known.old) (boxed_target counter.now) turn (facts_in ground.entry known.new) faults) }
 {
     let kinds = Kinds {
         text: None,

@@ -17,18 +17,18 @@ pub record Known : Type 0 where
   pub facts : NameFacts
 
 -- What is known of some names: of each that at its index. Behind the last name there is the empty one, which no variable has.
-abbrev pub told : List (Bor (List ℕ)) → List NameFacts → List Known
-told names [] = []
-told [] (x ∷ xs) = record { name = []; facts = x } ∷ told [] xs
-told (q ∷ qs) (x ∷ xs) = record { name = q.now; facts = x } ∷ told qs xs
+abbrev pub named_facts : List (Bor (List ℕ)) → List NameFacts → List Known
+named_facts names [] = []
+named_facts [] (x ∷ xs) = record { name = []; facts = x } ∷ named_facts [] xs
+named_facts (q ∷ qs) (x ∷ xs) = record { name = q.now; facts = x } ∷ named_facts qs xs
 
 -- of the names by which a walk goes
-abbrev pub told_in : Ground → List NameFacts → List Known
-told_in g known = told g.names.now known
+abbrev pub facts_in : Ground → List NameFacts → List Known
+facts_in g known = named_facts g.names.now known
 
 -- what is known of the pins
 abbrev pub pins_in : Ground → List Known
-pins_in g = told_in g g.pinned.now
+pins_in g = facts_in g g.pinned.now
 
 -- a value is among those that may be, where so many steps are left
 abbrev pub MayBe : Kinds → ℕ → Value → Type 0

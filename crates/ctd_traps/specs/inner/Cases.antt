@@ -7,14 +7,14 @@ use Rattle.ctd_outcome.specs.declared.reason.Fault.{Fault}
 use Rattle.ctd_value.specs.Truth.{truth}
 use Rattle.ctd_known.specs.declared.faults.Faults.{Faults}
 use Rattle.ctd_known.specs.declared.assign.Ground.{Ground}
-use Rattle.ctd_known.specs.calls.Facts.{Known, EachStands, told_in}
+use Rattle.ctd_known.specs.calls.Facts.{Known, EachStands, facts_in}
 use Rattle.ctd_traps.specs.declared.cases.Case.{Case}
 use Rattle.ctd_known.specs.calls.Found.{IsAmong}
 use Rattle.ctd_traps.specs.declared.divide.Divided.{Divided}
 
 -- what is known in a case, of the names by which a walk goes
 abbrev pub case_in : Ground → Case → List Known
-case_in g x = told_in g x.known.items
+case_in g x = facts_in g x.known.items
 
 -- in each of some cases
 abbrev pub cases_in : Ground → List Case → List (List Known)

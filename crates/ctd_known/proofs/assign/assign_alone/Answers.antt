@@ -1,6 +1,6 @@
 use Rattle.std.proofs.Common.{false, List, refl, sym, subst}
 use Rattle.ctd_known.specs.declared.facts.NameFacts.{NameFacts}
-use Rattle.ctd_known.specs.calls.Facts.{Known, pins_in, told_in}
+use Rattle.ctd_known.specs.calls.Facts.{Known, pins_in, facts_in}
 use Rattle.ctd_known.specs.calls.Changed.{AssignsAlone}
 use Rattle.ctd_known.proofs.Assigning.{assign_free, assign_pinned, not_true}
 use Rattle.ctd_known.proofs.assign.assign_alone.Goals as goal
@@ -8,12 +8,12 @@ use Rattle.ctd_known.proofs.assign.assign_alone.Goals as goal
 pub returns-then-not-pin : goal.returns-then-not-pin
 returns-then-not-pin c =
     let g = c.args.ground in
-    assign_pinned (pins_in g) (told_in g c.args.known.now) c.args.name.now c.args.kinds c.in_ok-pin.pin c.in_ok-pin.ensures (not_true c.in_ok-pin.pin.may_lack c.if-not-pin.true)
+    assign_pinned (pins_in g) (facts_in g c.args.known.now) c.args.name.now c.args.kinds c.in_ok-pin.pin c.in_ok-pin.ensures (not_true c.in_ok-pin.pin.may_lack c.if-not-pin.true)
 
 pub returns : goal.returns
 returns c =
     let g = c.args.ground in
-    let known = told_in g c.args.known.now in
+    let known = facts_in g c.args.known.now in
     let name = c.args.name.now in
     let facts = c.in_ok-facts.facts in
     let new : NameFacts = record { may_lack = false; alone = c.args.kinds; elements = facts.elements } in

@@ -1,13 +1,13 @@
 use Rattle.std.proofs.Common.{List, refl, sym, subst}
 use Rattle.ctd_known.specs.declared.facts.NameFacts.{NameFacts}
-use Rattle.ctd_known.specs.calls.Facts.{Known, told_in}
+use Rattle.ctd_known.specs.calls.Facts.{Known, facts_in}
 use Rattle.ctd_known.specs.calls.Changed.{AssignsElements}
 use Rattle.ctd_known.proofs.Assigning.{assign_element}
 use Rattle.ctd_known.proofs.assign.assign_element.Goals as goal
 
 pub returns : goal.returns
 returns c =
-    let known = told_in c.args.ground c.args.known.now in
+    let known = facts_in c.args.ground c.args.known.now in
     let name = c.args.name.now in
     let facts = c.in_ok-facts.facts in
     let new : NameFacts = record { may_lack = facts.may_lack; alone = facts.alone; elements = c.in_ok-either_kinds.field-0 } in

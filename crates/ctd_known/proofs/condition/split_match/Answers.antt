@@ -4,7 +4,7 @@ use Rattle.ctd_program.specs.calls.View.{expr_tree}
 use Rattle.ctd_known.specs.declared.condition.Branches.{Branches}
 use Rattle.ctd_known.specs.calls.Found.{SplitsBy}
 use Rattle.ctd_known.specs.declared.facts.NameFacts.{NameFacts}
-use Rattle.ctd_known.specs.calls.Facts.{told_in}
+use Rattle.ctd_known.specs.calls.Facts.{facts_in}
 use Rattle.ctd_known.specs.inner.Facts.{AreSame}
 use Rattle.ctd_known.proofs.Deciding.{as_known, match_splits}
 use Rattle.ctd_known.proofs.Results.{if_ok_more}
@@ -13,7 +13,7 @@ use Rattle.ctd_known.proofs.condition.split_match.Goals as goal
 pub returns : goal.returns
 returns c =
     let e = expr_tree c.args.e.now in
-    let told = λ (l : List NameFacts). told_in c.args.ground l in
-    let known = told c.args.known.now in
-    if_ok_more (λ (s : Branches). AreSame c.args.known.now c.text_faults.result s) (λ (s : Branches). SplitsBy known (Tree.matches e) (told s.if_true.items) (told s.if_false.items) s.faults) c.same.result
-    (λ s so. as_known known (told s.if_true.items) (told s.if_false.items) c.text_faults.result s.faults (Tree.matches e) (ap told so.if_true) (ap told so.if_false) so.faults (match_splits known e c.in_ok-text.text c.text_faults.result c.in_ok-text.ensures c.text_faults.ensures)) c.same.ensures
+    let named_facts = λ (l : List NameFacts). facts_in c.args.ground l in
+    let known = named_facts c.args.known.now in
+    if_ok_more (λ (s : Branches). AreSame c.args.known.now c.text_faults.result s) (λ (s : Branches). SplitsBy known (Tree.matches e) (named_facts s.if_true.items) (named_facts s.if_false.items) s.faults) c.same.result
+    (λ s so. as_known known (named_facts s.if_true.items) (named_facts s.if_false.items) c.text_faults.result s.faults (Tree.matches e) (ap named_facts so.if_true) (ap named_facts so.if_false) so.faults (match_splits known e c.in_ok-text.text c.text_faults.result c.in_ok-text.ensures c.text_faults.ensures)) c.same.ensures

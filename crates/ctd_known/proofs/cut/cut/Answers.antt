@@ -2,7 +2,7 @@ use Rattle.std.proofs.Common.{List, false, map, refl, sym, subst, ◌∙◌}
 use Rattle.ctd_program.specs.Tree
 use Rattle.ctd_program.specs.calls.View.{expr_tree}
 use Rattle.ctd_known.specs.declared.facts.NameFacts.{NameFacts}
-use Rattle.ctd_known.specs.calls.Facts.{Known, told_in}
+use Rattle.ctd_known.specs.calls.Facts.{Known, facts_in}
 use Rattle.ctd_known.specs.inner.Changed.{with_facts}
 use Rattle.ctd_known.specs.inner.Compared.{Cuts}
 use Rattle.ctd_known.specs.inner.Facts.{Tells}
@@ -11,8 +11,8 @@ use Rattle.ctd_known.proofs.cut.cut.Goals as goal
 
 pub returns-in_ok-facts-in-Name : goal.returns-in_ok-facts-in-Name
 returns-in_ok-facts-in-Name c =
-    let known = told_in c.args.ground c.args.known.now in
-    let after = told_in c.args.ground c.replace_facts.new.known in
+    let known = facts_in c.args.ground c.args.known.now in
+    let after = facts_in c.args.ground c.replace_facts.new.known in
     let name = c.as_slice-in-Name.result.now in
     let facts = c.in_ok-facts-in-Name.facts in
     let new : NameFacts = record { may_lack = false; alone = c.cut_kinds.result; elements = facts.elements } in
@@ -23,4 +23,4 @@ returns-in_ok-facts-in-Name c =
     (subst (λ (l : List Known). Cuts known (Tree.variable name Tree.none) c.args.by c.args.kinds l) (sym c.replace_facts.ensures) cuts))
 
 pub returns-in_default : goal.returns-in_default
-returns-in_default c = nothing_cuts (told_in c.args.ground c.args.known.now) (expr_tree c.args.e.now) c.args.by c.args.kinds
+returns-in_default c = nothing_cuts (facts_in c.args.ground c.args.known.now) (expr_tree c.args.e.now) c.args.by c.args.kinds

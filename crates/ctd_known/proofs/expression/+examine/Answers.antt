@@ -5,7 +5,7 @@ use Rattle.std.proofs.lemmas.Int.{to_z-of_z}
 use Rattle.ctd_program.specs.calls.View.{expr_list, expr_tree}
 use Rattle.ctd_value.specs.Val.{val}
 use Rattle.ctd_known.specs.calls.Found.{AllFailBy}
-use Rattle.ctd_known.specs.calls.Facts.{told}
+use Rattle.ctd_known.specs.calls.Facts.{named_facts}
 use Rattle.ctd_known.proofs.Applying.{Leads, element_found, element_is, expr_first, expr_last, leads_on, none_fail, operands_give}
 use Rattle.ctd_known.proofs.expression.+examine.Goals as goal
 
@@ -25,14 +25,14 @@ examine-returns-in_ok-indices-in-Element t c =
     let name = c.deref-in-Element.result.now.name in
     let es = c.as_slice-in-Element.result.now in
     record {
-      gives = element_found (told c.args.names.now c.args.known.now) c.args.e.now name es c.in_ok-indices-in-Element.indices c.examine_element.result
+      gives = element_found (named_facts c.args.names.now c.args.known.now) c.args.e.now name es c.in_ok-indices-in-Element.indices c.examine_element.result
           (element_is c.args.e.now c.in-Element.element c.deref.result.now c.deref-in-Element.result.now name es c.in-Element.is c.deref.ensures c.as_slice-in-Element.ensures c.deref-in-Element.ensures refl)
           c.in_ok-indices-in-Element.ensures.some c.in_ok-indices-in-Element.ensures.fail c.examine_element.ensures;
     }
 
 pub examine-returns-in_ok-right-in-Add : goal.examine-returns-in_ok-right-in-Add
 examine-returns-in_ok-right-in-Add t c = record {
-  gives = operands_give (told c.args.names.now c.args.known.now) c.args.e.now c.in-Add.a c.in-Add.b c.operator_of.result c.in_ok-left-in-Add.left c.in_ok-right-in-Add.right c.apply.result c.in-Add.is c.operator_of.ensures
+  gives = operands_give (named_facts c.args.names.now c.args.known.now) c.args.e.now c.in-Add.a c.in-Add.b c.operator_of.result c.in_ok-left-in-Add.left c.in_ok-right-in-Add.right c.apply.result c.in-Add.is c.operator_of.ensures
       (rw c.deref-in-Add.ensures at c.in_ok-left-in-Add.ensures.gives) (rw c.deref-in-Add-2.ensures at c.in_ok-right-in-Add.ensures.gives) c.apply.ensures;
 }
 
@@ -40,14 +40,14 @@ pub examine_indices-loop-index-preserved : goal.examine_indices-loop-index-prese
 examine_indices-loop-index-preserved t c =
     let all = c.args.indices.now in
     let i = c.loop-index.index-index in
-    leads_on (told c.args.names.now c.args.known.now) c.loop-index.faults c.both-faults.result (expr_tree c.index-item.result) (expr_list (drop (i + 1) all)) (expr_list all) c.in_ok-examine.field-0 c.in_ok-examine.ensures.gives
+    leads_on (named_facts c.args.names.now c.args.known.now) c.loop-index.faults c.both-faults.result (expr_tree c.index-item.result) (expr_list (drop (i + 1) all)) (expr_list all) c.in_ok-examine.field-0 c.in_ok-examine.ensures.gives
     c.both-faults.ensures.first c.both-faults.ensures.second
-    (subst (λ l. Leads (told c.args.names.now c.args.known.now) c.loop-index.faults l (expr_list all)) (expr_first all i c.index-item.result c.loop-index-test.true c.index-item.is) c.loop-index.invariant)
+    (subst (λ l. Leads (named_facts c.args.names.now c.args.known.now) c.loop-index.faults l (expr_list all)) (expr_first all i c.index-item.result c.loop-index-test.true c.index-item.is) c.loop-index.invariant)
 
 pub examine_indices-returns-clause-fail : goal.examine_indices-returns-clause-fail
 examine_indices-returns-clause-fail t c =
     c.loop-index.invariant c.loop-index.faults (λ x h. h)
-    (subst (λ l. AllFailBy (told c.args.names.now c.args.known.now) l c.loop-index.faults) (sym (expr_last c.args.indices.now c.loop-index.index-index c.loop-index-test.false)) (none_fail (told c.args.names.now c.args.known.now) c.loop-index.faults))
+    (subst (λ l. AllFailBy (named_facts c.args.names.now c.args.known.now) l c.loop-index.faults) (sym (expr_last c.args.indices.now c.loop-index.index-index c.loop-index-test.false)) (none_fail (named_facts c.args.names.now c.args.known.now) c.loop-index.faults))
 
 pub examine-returns-in-Text : goal.examine-returns-in-Text
 examine-returns-in-Text t c = record { gives = λ k h each. rw (c.in-Text.is, sym c.as_slice.ensures.whole) (c.of_text.ensures k) }

@@ -1,5 +1,5 @@
 use Rattle.std.proofs.Common.{rules}
-use Rattle.ctd_known.proofs.Told.{name_is, no_name_is}
+use Rattle.ctd_known.proofs.NamedFacts.{name_is, no_name_is}
 use Rattle.ctd_known.proofs.facts.name_at.Goals as goal
 
 pub returns-in-Some : goal.returns-in-Some

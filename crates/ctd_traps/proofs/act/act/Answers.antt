@@ -2,7 +2,7 @@ use Rattle.std.proofs.Common.{ap, map, refl, ◌∙◌}
 use Rattle.ctd_program.specs.calls.View.{assignment, assignments_of, command_tree, expr_tree, names_of, target}
 use Rattle.ctd_command.specs.Commands.{int, set, string}
 use Rattle.ctd_command.specs.Regex.{regex}
-use Rattle.ctd_known.specs.calls.Facts.{pins_in, told_in}
+use Rattle.ctd_known.specs.calls.Facts.{pins_in, facts_in}
 use Rattle.ctd_known.specs.declared.faults.Faults.{Faults}
 use Rattle.ctd_known.proofs.Results.{if_ok_more}
 use Rattle.ctd_traps.specs.inner.Walk.{ActKeeps, Acts, ClearsAll}
@@ -11,14 +11,14 @@ use Rattle.ctd_traps.proofs.act.act.Goals as goal
 
 pub returns-in-Space : goal.returns-in-Space
 returns-in-Space c =
-    let known = told_in c.args.ground c.args.known.now in
+    let known = facts_in c.args.ground c.args.known.now in
     blank_step (pins_in c.args.ground) known known c.no_faults.result c.args.command.now.action c.args.command.now.place c.in-Space.is refl
 
 pub returns-in-Int : goal.returns-in-Int
 returns-in-Int c =
     let pinned = pins_in c.args.ground in
-    let known = told_in c.args.ground c.args.known.now in
-    let after = told_in c.args.ground c.take_integer.new.known in
+    let known = facts_in c.args.ground c.args.known.now in
+    let after = facts_in c.args.ground c.take_integer.new.known in
     let command = c.args.command.now in
     let held = c.deref.result.now in
     if_ok_more (λ (f : Faults). Acts pinned known after f (int (expr_tree held.low) (expr_tree held.high) (target held.target))) (λ (f : Faults). ActKeeps pinned known after f (command_tree command)) c.take_integer.result
@@ -27,7 +27,7 @@ returns-in-Int c =
 pub returns-in-String : goal.returns-in-String
 returns-in-String c =
     let pinned = pins_in c.args.ground in
-    let known = told_in c.args.ground c.args.known.now in
+    let known = facts_in c.args.ground c.args.known.now in
     let after = known in
     let command = c.args.command.now in
     let held = c.deref-in-String.result.now in
@@ -37,8 +37,8 @@ returns-in-String c =
 pub returns-in-Regex : goal.returns-in-Regex
 returns-in-Regex c =
     let pinned = pins_in c.args.ground in
-    let known = told_in c.args.ground c.args.known.now in
-    let after = told_in c.args.ground c.take_match.new.known in
+    let known = facts_in c.args.ground c.args.known.now in
+    let after = facts_in c.args.ground c.take_match.new.known in
     let command = c.args.command.now in
     let held = c.deref-in-Regex.result.now in
     if_ok_more (λ (f : Faults). Acts pinned known after f (regex held.literal.bytes (target held.target))) (λ (f : Faults). ActKeeps pinned known after f (command_tree command)) c.take_match.result
@@ -47,8 +47,8 @@ returns-in-Regex c =
 pub returns-in-Set : goal.returns-in-Set
 returns-in-Set c =
     let pinned = pins_in c.args.ground in
-    let known = told_in c.args.ground c.args.known.now in
-    let after = told_in c.args.ground c.set_all.new.known in
+    let known = facts_in c.args.ground c.args.known.now in
+    let after = facts_in c.args.ground c.set_all.new.known in
     let command = c.args.command.now in
     let held = c.as_slice.result.now in
     if_ok_more (λ (f : Faults). Acts pinned known after f (set (map assignment held))) (λ (f : Faults). ActKeeps pinned known after f (command_tree command)) c.set_all.result
@@ -57,8 +57,8 @@ returns-in-Set c =
 pub returns-in-Unset : goal.returns-in-Unset
 returns-in-Unset c =
     let pinned = pins_in c.args.ground in
-    let known = told_in c.args.ground c.args.known.now in
-    let after = told_in c.args.ground c.clear_all.new.known in
+    let known = facts_in c.args.ground c.args.known.now in
+    let after = facts_in c.args.ground c.clear_all.new.known in
     let command = c.args.command.now in
     let held = c.as_slice-in-Unset.result.now in
     if_ok_more (λ (f : Faults). ClearsAll pinned known held after) (λ (f : Faults). ActKeeps pinned known after f (command_tree command)) c.clear_all.result

@@ -1,5 +1,5 @@
 use Rattle.std.proofs.Common.{subst}
-use Rattle.ctd_known.specs.calls.Facts.{pins_in, told_in}
+use Rattle.ctd_known.specs.calls.Facts.{pins_in, facts_in}
 use Rattle.ctd_traps.specs.inner.Walk.{Assigns}
 use Rattle.ctd_traps.proofs.Acting.{element_assigns, var_is}
 use Rattle.ctd_traps.proofs.assign.assign.Goals as goal
@@ -7,8 +7,8 @@ use Rattle.ctd_traps.proofs.assign.assign.Goals as goal
 pub returns-in_ok-assign_element-in-Some : goal.returns-in_ok-assign_element-in-Some
 returns-in_ok-assign_element-in-Some c =
     let pinned = pins_in c.args.ground in
-    let known = told_in c.args.ground c.args.known.now in
-    let after = told_in c.args.ground c.assign_element.new.known in
+    let known = facts_in c.args.ground c.args.known.now in
+    let after = facts_in c.args.ground c.assign_element.new.known in
     let name = c.as_slice-name.result.now in
     let es = c.as_slice-indices.result.now in
     let faults = c.in-Some.faults in

@@ -1,6 +1,6 @@
 use Rattle.std.proofs.Common.{Some}
 use Rattle.ctd_program.specs.calls.View.{var_tree}
-use Rattle.ctd_known.specs.calls.Facts.{pins_in, told_in}
+use Rattle.ctd_known.specs.calls.Facts.{pins_in, facts_in}
 use Rattle.ctd_known.specs.declared.faults.Faults.{Faults}
 use Rattle.ctd_known.proofs.Results.{if_ok_more}
 use Rattle.ctd_traps.specs.inner.Walk.{Assigns, KeepsValue}
@@ -10,12 +10,12 @@ use Rattle.ctd_traps.proofs.assign.keep.Goals as goal
 pub returns-in-Some : goal.returns-in-Some
 returns-in-Some c =
     let pinned = pins_in c.args.ground in
-    let known = told_in c.args.ground c.args.known.now in
-    let after = told_in c.args.ground c.assign.new.known in
+    let known = facts_in c.args.ground c.args.known.now in
+    let after = facts_in c.args.ground c.assign.new.known in
     let variable = var_tree c.in-Some.variable in
     rw c.in-Some.is
     (if_ok_more (λ (f : Faults). Assigns pinned known variable c.args.kinds after f) (λ (f : Faults). KeepsValue pinned known (Some variable) c.args.kinds after f) c.assign.result
     (λ f so. keeps_some pinned known after variable c.args.kinds f so) c.assign.ensures)
 
 pub returns-in-None : goal.returns-in-None
-returns-in-None c = rw c.in-None.is (keeps_none (pins_in c.args.ground) (told_in c.args.ground c.args.known.now) c.args.kinds c.no_faults.result)
+returns-in-None c = rw c.in-None.is (keeps_none (pins_in c.args.ground) (facts_in c.args.ground c.args.known.now) c.args.kinds c.no_faults.result)

@@ -1,5 +1,5 @@
 use Rattle.std.proofs.Common.{subst, sym, ◌∙◌}
-use Rattle.ctd_known.specs.calls.Facts.{EachStands, told_in}
+use Rattle.ctd_known.specs.calls.Facts.{EachStands, facts_in}
 use Rattle.ctd_traps.specs.inner.Cases.{OneStands, case_in, cases_in}
 use Rattle.ctd_traps.proofs.Joining.{case_done, cases_done}
 use Rattle.ctd_traps.proofs.Viewed.{at, beyond, within}
@@ -15,7 +15,7 @@ loop-other-preserved c =
     record {
       first = λ n h one. added.others n h (c.loop-other.invariant.first n h one);
       rest = case_done (cases_in g others) i (case_in g other) (λ n h. OneStands (cases_in g c.loop-other.all.items) n h) (λ n h. OneStands (cases_in g c.in_ok-all.all.items) n h) (within g others i c.loop-other-test.true) (at g others i other c.other-item.is)
-          added.others (λ n h each. added.added n h (subst (λ k. EachStands (told_in g k) n h) (sym (c.in_ok-known.ensures ∙ c.as_slice.ensures.value)) each)) c.loop-other.invariant.rest;
+          added.others (λ n h each. added.added n h (subst (λ k. EachStands (facts_in g k) n h) (sym (c.in_ok-known.ensures ∙ c.as_slice.ensures.value)) each)) c.loop-other.invariant.rest;
     }
 
 pub returns : goal.returns

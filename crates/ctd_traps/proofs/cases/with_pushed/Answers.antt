@@ -1,5 +1,5 @@
 use Rattle.std.proofs.Common.{sym, subst, ap, ◌∙◌}
-use Rattle.ctd_known.specs.calls.Facts.{told_in}
+use Rattle.ctd_known.specs.calls.Facts.{facts_in}
 use Rattle.ctd_traps.specs.declared.cases.Case.{Case}
 use Rattle.ctd_traps.specs.inner.Cases.{TellsCase, TellsCases, case_in, cases_in}
 use Rattle.ctd_traps.proofs.Joining.{pushed_last, pushed_others}
@@ -13,5 +13,5 @@ returns c =
     let all = c.in_ok-push.ensures.items in
     record {
       others = λ g. subst (λ l. TellsCases (cases_in g cases) l) (sym (ap (cases_in g) all ∙ pushed g cases one)) (pushed_others (cases_in g cases) (case_in g one));
-      added = λ g. subst (λ l. TellsCase (told_in g c.args.known.items) l) (sym (ap (cases_in g) all ∙ pushed g cases one)) (pushed_last (cases_in g cases) (case_in g one));
+      added = λ g. subst (λ l. TellsCase (facts_in g c.args.known.items) l) (sym (ap (cases_in g) all ∙ pushed g cases one)) (pushed_last (cases_in g cases) (case_in g one));
     }

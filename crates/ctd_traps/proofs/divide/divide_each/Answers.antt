@@ -1,6 +1,6 @@
 use Rattle.std.proofs.Common.{ap}
 use Rattle.ctd_program.specs.calls.View.{test_tree}
-use Rattle.ctd_known.specs.calls.Facts.{told_in}
+use Rattle.ctd_known.specs.calls.Facts.{facts_in}
 use Rattle.ctd_traps.specs.inner.Cases.{case_in, cases_in}
 use Rattle.ctd_traps.proofs.Joining.{divide_done, divide_step}
 use Rattle.ctd_traps.proofs.Viewed.{at, beyond, within}
@@ -15,8 +15,8 @@ loop-case-preserved c =
     let decided = c.in_ok-decided.decided in
     let yes = c.in_ok-if_true.ensures in
     let no = c.in_ok-if_false.ensures in
-    divide_step (cases_in g cases) i (case_in g case) (test_tree c.args.t.now) (told_in g c.as_slice.result.now) (told_in g decided.if_true.items) (told_in g decided.if_false.items) decided.faults c.loop-case.faults c.both-faults.result
-    (cases_in g c.loop-case.if_true.items) (cases_in g c.loop-case.if_false.items) (cases_in g c.in_ok-if_true.if_true.items) (cases_in g c.in_ok-if_false.if_false.items) (ap (told_in g) c.as_slice.ensures.value) (within g cases i c.loop-case-test.true) (at g cases i case c.case-item.is) c.in_ok-decided.ensures
+    divide_step (cases_in g cases) i (case_in g case) (test_tree c.args.t.now) (facts_in g c.as_slice.result.now) (facts_in g decided.if_true.items) (facts_in g decided.if_false.items) decided.faults c.loop-case.faults c.both-faults.result
+    (cases_in g c.loop-case.if_true.items) (cases_in g c.loop-case.if_false.items) (cases_in g c.in_ok-if_true.if_true.items) (cases_in g c.in_ok-if_false.if_false.items) (ap (facts_in g) c.as_slice.ensures.value) (within g cases i c.loop-case-test.true) (at g cases i case c.case-item.is) c.in_ok-decided.ensures
     yes.others yes.added no.others no.added c.both-faults.ensures.first c.both-faults.ensures.second c.loop-case.invariant
 
 pub returns : goal.returns

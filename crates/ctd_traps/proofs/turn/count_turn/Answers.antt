@@ -1,6 +1,6 @@
 use Rattle.std.proofs.Common.{None, Some, refl, sym}
 use Rattle.ctd_program.specs.calls.View.{var_tree}
-use Rattle.ctd_known.specs.calls.Facts.{pins_in, told_in}
+use Rattle.ctd_known.specs.calls.Facts.{pins_in, facts_in}
 use Rattle.ctd_known.specs.declared.facts.Kinds.{Kinds}
 use Rattle.ctd_known.specs.declared.faults.Faults.{Faults}
 use Rattle.ctd_known.proofs.Results.{if_ok_more}
@@ -11,8 +11,8 @@ use Rattle.ctd_traps.proofs.turn.count_turn.Goals as goal
 pub returns-in-Some : goal.returns-in-Some
 returns-in-Some c =
     let pinned = pins_in c.args.ground in
-    let known = told_in c.args.ground c.args.known.now in
-    let after = told_in c.args.ground c.assign.new.known in
+    let known = facts_in c.args.ground c.args.known.now in
+    let after = facts_in c.args.ground c.assign.new.known in
     let kinds : Kinds = record { text = None; number = Some c.args.turn } in
     let variable = var_tree c.deref.result.now in
     rw (c.in-Some.is, sym c.deref.ensures)
@@ -20,4 +20,4 @@ returns-in-Some c =
     (λ f so. counts_some pinned known after variable c.args.turn kinds f refl so) c.assign.ensures)
 
 pub returns-in-None : goal.returns-in-None
-returns-in-None c = rw c.in-None.is (counts_none (pins_in c.args.ground) (told_in c.args.ground c.args.known.now) c.args.turn c.no_faults.result)
+returns-in-None c = rw c.in-None.is (counts_none (pins_in c.args.ground) (facts_in c.args.ground c.args.known.now) c.args.turn c.no_faults.result)

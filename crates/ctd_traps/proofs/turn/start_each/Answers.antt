@@ -1,6 +1,6 @@
 use Rattle.std.proofs.Common.{ap}
 use Rattle.ctd_program.specs.calls.View.{guard_tree}
-use Rattle.ctd_known.specs.calls.Facts.{told_in}
+use Rattle.ctd_known.specs.calls.Facts.{facts_in}
 use Rattle.ctd_known.proofs.Results.{if_ok_more}
 use Rattle.ctd_traps.specs.declared.turn.Turns.{Turns}
 use Rattle.ctd_traps.specs.inner.Cases.{cases_in}
@@ -13,7 +13,7 @@ returns c =
     let g = c.args.ground in
     let guard = guard_tree c.args.guard.now in
     let cases = cases_in g c.args.cases.now in
-    let all = told_in g c.in_ok-all.all.items in
-    let slice = told_in g c.as_slice.result.now in
+    let all = facts_in g c.in_ok-all.all.items in
+    let slice = facts_in g c.as_slice.result.now in
     if_ok_more (λ (t : Turns). Starts slice guard t) (λ (t : Turns). StartsIn cases guard t) c.start.result
-    (λ t so. starts_in cases all slice guard t (ap (told_in g) c.as_slice.ensures.value) c.in_ok-all.ensures so) c.start.ensures
+    (λ t so. starts_in cases all slice guard t (ap (facts_in g) c.as_slice.ensures.value) c.in_ok-all.ensures so) c.start.ensures
