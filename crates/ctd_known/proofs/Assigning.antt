@@ -9,9 +9,10 @@ use Rattle.ctd_store.proofs.StoreLaws.{assigned_key_has_its_value, pinned_key_st
 use Rattle.ctd_known.specs.declared.facts.Kinds.{Kinds}
 use Rattle.ctd_known.specs.declared.facts.NameFacts.{NameFacts}
 use Rattle.ctd_known.specs.calls.Facts.{Known, EachStands, MayBe, MayHave, NameStands, at_key, pins_alone}
-use Rattle.ctd_known.specs.inner.Facts.{Tells}
+use Rattle.ctd_known.specs.calls.Facts.{Tells}
 use Rattle.ctd_known.specs.calls.Changed.{AssignsAlone, AssignsElements, Clears}
-use Rattle.ctd_known.specs.inner.Changed.{AreWithin, with_facts}
+use Rattle.ctd_known.specs.inner.Changed.{AreWithin}
+use Rattle.ctd_known.specs.calls.Changed.{with_facts}
 use Rattle.ctd_known.proofs.Standing.{each_changed, each_few, name_same}
 
 -- keys of different names, or at different indices

@@ -1,7 +1,6 @@
 pub mod Standing
 pub mod NamedFacts
 pub mod Assigning
-pub mod Applying
-pub mod Deciding
-pub mod Comparing
+pub mod Viewed
+pub mod Joining
 pub mod Results

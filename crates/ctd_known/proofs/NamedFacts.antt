@@ -2,10 +2,12 @@
 use Rattle.std.proofs.Common.{◌≡◌, ◌≤◌, ◌<◌, ◌+◌, ℕ, zero, suc, List, [], ◌∷◌, ◌++◌, length, get_or, set, map, drop, refl, ap, sym, subst, ◌∙◌, arith, false, None}
 use Rattle.std.specs.Borrow.{Bor}
 use Rattle.ctd_known.specs.declared.facts.NameFacts.{NameFacts}
-use Rattle.ctd_known.specs.calls.Facts.{Known, IsImpossible, NameStands, TellsAll, named_facts}
+use Rattle.ctd_known.specs.calls.Facts.{Known, NameStands, named_facts}
+use Rattle.ctd_known.specs.inner.Facts.{IsImpossible, TellsAll}
 use Rattle.ctd_known.specs.calls.Changed.{PaysStep}
-use Rattle.ctd_known.specs.inner.Facts.{Tells, name_at}
-use Rattle.ctd_known.specs.inner.Changed.{NameIsWithin, NamePays, with_facts}
+use Rattle.ctd_known.specs.calls.Facts.{Tells, name_at}
+use Rattle.ctd_known.specs.inner.Changed.{NameIsWithin, NamePays}
+use Rattle.ctd_known.specs.calls.Changed.{with_facts}
 use Rattle.ctd_known.proofs.Standing.{Leads, all_follow, each_at, impossible, leads_on, one_paid}
 
 -- a name with its facts

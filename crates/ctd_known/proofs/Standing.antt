@@ -10,9 +10,11 @@ use Rattle.ctd_range.specs.calls.Ranges.{IsIn}
 use Rattle.ctd_known.specs.declared.facts.Lengths.{Lengths}
 use Rattle.ctd_known.specs.declared.facts.Kinds.{Kinds}
 use Rattle.ctd_known.specs.declared.facts.NameFacts.{NameFacts}
-use Rattle.ctd_known.specs.calls.Facts.{Known, EachStands, IsImpossible, MayBe, MayHave, NameStands, TellsAll, at_key}
-use Rattle.ctd_known.specs.inner.Facts.{Tells}
-use Rattle.ctd_known.specs.inner.Changed.{AreWithin, KindsPay, NameIsWithin, NamePays, with_facts}
+use Rattle.ctd_known.specs.calls.Facts.{Known, EachStands, MayBe, MayHave, NameStands, at_key}
+use Rattle.ctd_known.specs.inner.Facts.{IsImpossible, TellsAll}
+use Rattle.ctd_known.specs.calls.Facts.{Tells}
+use Rattle.ctd_known.specs.inner.Changed.{AreWithin, KindsPay, NameIsWithin, NamePays}
+use Rattle.ctd_known.specs.calls.Changed.{with_facts}
 use Rattle.ctd_known.specs.calls.Changed.{PaysStep}
 
 -- no more steps are left than a run may have

@@ -1,4 +1,5 @@
 -- What the contracts of public calls say.
 pub mod Facts
-pub mod Found
 pub mod Changed
+pub mod Cases
+pub mod Faults

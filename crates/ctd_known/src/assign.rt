@@ -3,7 +3,7 @@
 ghost use Rattle.std.specs.Prelude.{◌≡◌, ℕ, true, IfOk, OnOk};
 ghost use Rattle.ctd_store.specs.declared.value.Value.{Value};
 ghost use Rattle.ctd_known.specs.calls.Facts.{MayBe, pins_in, named_facts, facts_in};
-ghost use Rattle.ctd_known.specs.inner.Facts.{Tells};
+ghost use Rattle.ctd_known.specs.calls.Facts.{Tells};
 ghost use Rattle.ctd_known.specs.calls.Changed.{AssignsAlone, AssignsElements, Clears};
 ghost use Rattle.ctd_known.specs.inner.Changed.{AreWithin};
 
@@ -20,8 +20,8 @@ pub struct Ground<'g> {
     pub pinned: &'g [NameFacts],
 }
 
-/// What is known of a name, or nothing is told.
-pub(crate) fn listed(names: &[&[u8]], known: &[NameFacts], name: &[u8]) -> Result<NameFacts, Stop>
+/// What is known of a name. `Stop::NotTold` where nothing is.
+pub fn listed(names: &[&[u8]], known: &[NameFacts], name: &[u8]) -> Result<NameFacts, Stop>
     ensures { IfOk result (λ facts. Tells (named_facts names.now known.now) name.now facts) }
 {
     match facts_of(names, known, name) {
@@ -55,7 +55,7 @@ fn is_none(kinds: Kinds) -> bool
     kinds.number.is_none()
 }
 
-/// Gives a name without indices one of some values.
+/// Gives a name without indices one of some values. `Stop::NotTold` where nothing is known of it, or where it is not known whether a preset pins it.
 pub fn assign_alone(
     ground: Ground<'_>,
     name: &[u8],
@@ -81,7 +81,7 @@ pub fn assign_alone(
     Ok(())
 }
 
-/// Gives an element of a name one of some values.
+/// Gives an element of a name one of some values. `Stop::NotTold` where nothing is known of it.
 pub fn assign_element(
     ground: Ground<'_>,
     name: &[u8],
@@ -99,7 +99,7 @@ pub fn assign_element(
     Ok(())
 }
 
-/// Takes from a name what was assigned to it.
+/// Takes from a name what was assigned to it, and leaves its presets. `Stop::NotTold` where nothing is known of it.
 pub fn clear(ground: Ground<'_>, name: &[u8], known: &mut [NameFacts]) -> Result<(), Stop>
     ensures { OnOk result (Clears (pins_in ground.entry) (facts_in ground.entry known.old) name.now (facts_in ground.entry known.new)) }
 {

@@ -6,9 +6,10 @@ ghost use Rattle.ctd_range.specs.declared.range.Range.{Range};
 ghost use Rattle.ctd_range.specs.calls.Ranges.{IsIn};
 ghost use Rattle.ctd_known.specs.declared.facts.Lengths.{Lengths};
 ghost use Rattle.std.specs.Borrow.{Bor};
-ghost use Rattle.ctd_known.specs.calls.Facts.{IsImpossible, MayBe, TellsAll, named_facts};
-ghost use Rattle.ctd_known.specs.inner.Facts.{Tells, name_at};
-ghost use Rattle.ctd_known.specs.inner.Changed.{AreWithin, NameIsWithin, with_facts};
+ghost use Rattle.ctd_known.specs.calls.Facts.{MayBe, named_facts, Tells, name_at};
+ghost use Rattle.ctd_known.specs.inner.Facts.{IsImpossible, TellsAll};
+ghost use Rattle.ctd_known.specs.inner.Changed.{NameIsWithin};
+ghost use Rattle.ctd_known.specs.calls.Changed.{with_facts};
 
 use crate::stop::Stop;
 use ctd_range::Range;
@@ -93,7 +94,7 @@ fn numbers_are_within(a: Option<Range>, b: Option<Range>) -> bool
 }
 
 /// Whether all values are among others.
-pub fn kinds_are_within(a: Kinds, b: Kinds) -> bool
+pub(crate) fn kinds_are_within(a: Kinds, b: Kinds) -> bool
     ensures within { result ≡ true → (n : ℕ) (v : Value) → n < 2 ^ 64 → MayBe a n v → MayBe b n v }
 {
     if !lengths_are_within(a.text, b.text) {
@@ -139,7 +140,7 @@ fn is_impossible(facts: NameFacts) -> bool
 }
 
 /// Whether no run comes where this is known.
-pub fn is_unreachable(known: &[NameFacts]) -> bool
+pub(crate) fn is_unreachable(known: &[NameFacts]) -> bool
     ensures never { result ≡ true → (names : List (Bor (List ℕ))) → IsImpossible (named_facts names known.now) }
 {
     for facts in known {
@@ -168,7 +169,7 @@ fn follow(known: &[NameFacts], others: &[NameFacts]) -> bool
 }
 
 /// Whether some facts follow from what is known, or no run comes where it is known.
-pub fn is_within(known: &[NameFacts], others: &[NameFacts]) -> bool
+pub(crate) fn is_within(known: &[NameFacts], others: &[NameFacts]) -> bool
     ensures all { result ≡ true → (names : List (Bor (List ℕ))) → TellsAll (named_facts names known.now) (named_facts names others.now) }
 {
     if is_unreachable(known) {

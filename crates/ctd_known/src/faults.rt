@@ -1,8 +1,8 @@
 //! The faults of a value that there may be.
 
-ghost use Rattle.std.specs.Prelude.{◌≡◌};
+ghost use Rattle.std.specs.Prelude.{◌≡◌, true};
 ghost use Rattle.ctd_outcome.specs.declared.reason.Fault.{Fault};
-ghost use Rattle.ctd_known.specs.calls.Found.{IsAmong};
+ghost use Rattle.ctd_known.specs.calls.Faults.{IsAmong, IsOfKind};
 
 /// Which faults of a value there may be, and the indices of the first names, alone and of an array, that may have no value, where there are any.
 #[derive(Clone, Copy)]
@@ -51,5 +51,42 @@ pub fn both(a: Faults, b: Faults) -> Faults
         shape: a.shape | b.shape,
         name: a.name.or(b.name),
         array: a.array.or(b.array),
+    }
+}
+
+/// How a run may stop at a command or at a turn of a loop.
+#[derive(Clone, Copy)]
+pub enum TrapKind {
+    /// A variable without indices may have no value.
+    NoValue,
+    /// An element of an array may have no value.
+    NoElement,
+    /// A number may be a string, or a string a number.
+    WrongType,
+    /// A number may leave the range of values.
+    Overflow,
+    /// A divisor may be 0.
+    DivisionByZero,
+    /// An exponent may lie outside 0 to 2^64-1.
+    BadExponent,
+    /// A count of turns may lie outside 0 to 2^64-1.
+    BadCount,
+    /// The arrays of UNIQUE may have values at different indices.
+    OtherShape,
+}
+
+/// Whether there is a fault of a kind.
+pub fn has(faults: &Faults, kind: TrapKind) -> bool
+    ensures holds { IsOfKind faults.now kind → result ≡ true }
+{
+    match kind {
+        TrapKind::NoValue => faults.no_value,
+        TrapKind::NoElement => faults.no_element,
+        TrapKind::WrongType => faults.wrong_type,
+        TrapKind::Overflow => faults.overflow,
+        TrapKind::DivisionByZero => faults.division_by_zero,
+        TrapKind::BadExponent => faults.exponent,
+        TrapKind::BadCount => faults.count,
+        TrapKind::OtherShape => faults.shape,
     }
 }

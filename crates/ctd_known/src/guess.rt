@@ -61,7 +61,7 @@ fn join_ranges(a: Range, b: Range) -> Range {
 }
 
 /// The values of two kinds.
-pub fn join_kinds(a: Kinds, b: Kinds) -> Kinds {
+pub(crate) fn join_kinds(a: Kinds, b: Kinds) -> Kinds {
     let number = match (a.number, b.number) {
         (Some(a), Some(b)) => Some(join_ranges(a, b)),
         (Some(a), None) => Some(a),
@@ -213,7 +213,7 @@ fn widen_name(old: NameFacts, end: NameFacts, round: usize) -> NameFacts {
 }
 
 /// A guess of what is known before a turn, by the last one and what held at the end of a turn.
-pub fn widen(
+pub(crate) fn widen(
     alloc: Global,
     guess: &[NameFacts],
     end: &[NameFacts],
@@ -230,7 +230,11 @@ pub fn widen(
 }
 
 /// What is known where either is known.
-pub fn merge(alloc: Global, a: &[NameFacts], b: &[NameFacts]) -> Result<Vec<NameFacts>, Stop> {
+pub(crate) fn merge(
+    alloc: Global,
+    a: &[NameFacts],
+    b: &[NameFacts],
+) -> Result<Vec<NameFacts>, Stop> {
     if is_unreachable(a) {
         return copy_of(alloc, b);
     }

@@ -24,7 +24,7 @@ impl<T: Drop> From<AllocFailed<T>> for Stop {
 }
 
 /// Takes one from a budget, if it is not used up.
-pub fn pay(budget: &mut u64) -> Result<(), Stop> {
+pub(crate) fn pay(budget: &mut u64) -> Result<(), Stop> {
     match budget.checked_sub(1) {
         Some(left) => {
             *budget = left;

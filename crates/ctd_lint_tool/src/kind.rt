@@ -4,7 +4,7 @@ ghost use Rattle.std.specs.Prelude.{◌≡◌};
 ghost use Rattle.ctd_lint_tool.specs.calls.Kinds.{is_covered, is_element, is_shape, lint_kind_name, lint_kind_named, trap_name, trap_named_among, trap_rank, trap_text};
 
 use ctd_findings::{Kind, Rank};
-use ctd_traps::TrapKind;
+use ctd_known::TrapKind;
 
 /// All kinds of traps.
 const TRAPS: [TrapKind; 8] = [

@@ -8,7 +8,8 @@ ghost use Rattle.ctd_lint_tool.specs.calls.Traps.{condition_text, every_text, is
 use crate::command_line::LintSetup;
 use crate::kind::{is_covered, is_element, is_shape, trap_name, trap_rank, trap_text};
 use crate::text::{is_ignored, rank_text, write_place};
-use ctd_traps::{Finding as Trap, TrapKind, TrapList};
+use ctd_known::TrapKind;
+use ctd_traps::{Finding as Trap, TrapList};
 use itoa::Buffer;
 use std::alloc::{AllocError, Global};
 

@@ -2,9 +2,11 @@
 #![tactic(auto)]
 
 mod arithmetic;
+mod compare;
 mod order;
 mod range;
 
 pub use arithmetic::{Computed, difference, negation, power, product, quotient, remainder, sum};
-pub use order::{at_least, at_most, greater, is_empty, is_within, less, other, pay, same};
-pub use range::{Range, every_value};
+pub use compare::{opposite_of, restrict};
+pub use order::{is_empty, is_within, less, pay};
+pub use range::Range;

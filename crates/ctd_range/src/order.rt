@@ -28,7 +28,7 @@ fn with_low(a: Range, low: i128, rise: u64) -> Range
 }
 
 /// The range of a number that is at most one of another range.
-pub fn at_most(a: Range, b: Range) -> Range
+pub(crate) fn at_most(a: Range, b: Range) -> Range
     ensures refines { (n : ℕ) (x y : ℤ) → x ≤ℤ y → IsIn a n x → IsIn b n y → IsIn result n x }
 {
     if b.high < a.high {
@@ -43,7 +43,7 @@ pub fn at_most(a: Range, b: Range) -> Range
 }
 
 /// The range of a number that is at least one of another range.
-pub fn at_least(a: Range, b: Range) -> Range
+pub(crate) fn at_least(a: Range, b: Range) -> Range
     ensures refines { (n : ℕ) (x y : ℤ) → y ≤ℤ x → IsIn a n x → IsIn b n y → IsIn result n x }
 {
     if b.low > a.low {
@@ -68,7 +68,7 @@ pub fn less(a: Range, b: Range) -> Range
 }
 
 /// The range of a number that is greater than one of another range.
-pub fn greater(a: Range, b: Range) -> Range
+pub(crate) fn greater(a: Range, b: Range) -> Range
     ensures refines { (n : ℕ) (x y : ℤ) → y <ℤ x → IsIn a n x → IsIn b n y → IsIn result n x }
 {
     match b.low.checked_add(1) {
@@ -78,7 +78,7 @@ pub fn greater(a: Range, b: Range) -> Range
 }
 
 /// The range of a number that is one of another range.
-pub fn same(a: Range, b: Range) -> Range
+pub(crate) fn same(a: Range, b: Range) -> Range
     ensures refines { (n : ℕ) (x : ℤ) → IsIn a n x → IsIn b n x → IsIn result n x }
 {
     at_least(at_most(a, b), b)
@@ -105,7 +105,7 @@ fn below_end(a: Range) -> Range
 }
 
 /// The range of a number that is none of another range, of which only a range of one number tells.
-pub fn other(a: Range, b: Range) -> Range
+pub(crate) fn other(a: Range, b: Range) -> Range
     ensures refines { (n : ℕ) (x y : ℤ) → x ≢ y → IsIn a n x → IsIn b n y → IsIn result n x }
 {
     if b.low != b.high {

@@ -15,7 +15,7 @@ pub struct Range {
 }
 
 /// The range of all values.
-pub fn every_value() -> Range
+pub(crate) fn every_value() -> Range
     ensures every { (n : ℕ) (x : ℤ) → IsTrue (is_value x) → IsIn result n x }
 {
     Range {

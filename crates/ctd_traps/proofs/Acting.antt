@@ -27,13 +27,14 @@ use Rattle.ctd_range.specs.calls.Ranges.{IsIn}
 use Rattle.ctd_range.specs.inner.Ranges.{IsCount}
 use Rattle.ctd_known.specs.declared.faults.Faults.{Faults}
 use Rattle.ctd_known.specs.declared.facts.Kinds.{Kinds}
-use Rattle.ctd_known.specs.declared.expression.Found.{Found}
+use Rattle.ctd_traps.specs.declared.expression.Found.{Found}
 use Rattle.ctd_known.specs.calls.Facts.{Known, EachStands, MayBe, PinsStand, at_key}
-use Rattle.ctd_known.specs.calls.Found.{AllFailBy, FailsBy, Gives, IsAmong, IsFound, as_number, as_text}
+use Rattle.ctd_traps.specs.inner.Found.{AllFailBy, FailsBy, Gives, IsFound, as_number, as_text}
+use Rattle.ctd_known.specs.calls.Faults.{IsAmong}
 use Rattle.ctd_known.specs.calls.Changed.{AssignsAlone, AssignsElements, Clears}
-use Rattle.ctd_known.proofs.Applying.{AreFaults}
+use Rattle.ctd_traps.proofs.Applying.{AreFaults}
 use Rattle.ctd_traps.specs.declared.turn.Turns.{Turns}
-use Rattle.ctd_traps.specs.inner.Cases.{Divides, DividesTo}
+use Rattle.ctd_traps.specs.inner.Divides.{Divides, DividesTo}
 use Rattle.ctd_traps.specs.inner.Walk.{IsCounted, Acts, Assigns, ByTurn, ClearsAll, Fits, IsAssigned, KeepsValue, Stays, StaysIn}
 use Rattle.ctd_traps.proofs.Fits.{Between, Same, Short, integer_fits, leading_fits, match_fits, then_fits}
 

@@ -25,8 +25,9 @@ use Rattle.ctd_command.specs.Blanks.{end, is_blank, newline, skip_blanks, some_b
 use Rattle.ctd_command.specs.inner.Blanks.{blank_next, end_in, newline_in, space_in}
 use Rattle.ctd_command.specs.Regex.{leading_match, shorter_match}
 use Rattle.ctd_known.specs.declared.faults.Faults.{Faults}
-use Rattle.ctd_known.specs.calls.Found.{FailsBy, IsAmong}
-use Rattle.ctd_known.proofs.Applying.{AreFaults}
+use Rattle.ctd_traps.specs.inner.Found.{FailsBy}
+use Rattle.ctd_known.specs.calls.Faults.{IsAmong}
+use Rattle.ctd_traps.proofs.Applying.{AreFaults}
 use Rattle.ctd_traps.specs.inner.Walk.{Fits}
 
 -- nothing is said of the faults of looks

@@ -10,5 +10,7 @@ pub mod Walking
 pub mod Steps
 pub mod Whole
 pub mod Pinning
-pub mod Joining
-pub mod Viewed
+pub mod Applying
+pub mod Deciding
+pub mod Comparing
+pub mod Dividing

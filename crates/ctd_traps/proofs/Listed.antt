@@ -6,9 +6,10 @@ use Rattle.ctd_token.specs.declared.text.Place.{Place}
 use Rattle.ctd_outcome.specs.declared.reason.Fault.TheVariants as faults
 use Rattle.ctd_known.specs.declared.faults.Faults.{Faults}
 use Rattle.ctd_traps.specs.declared.finding.Finding.{Finding}
-use Rattle.ctd_traps.specs.declared.finding.TrapKind.{TrapKind}
+use Rattle.ctd_known.specs.declared.faults.TrapKind.{TrapKind}
 use Rattle.ctd_traps.specs.calls.Traps.{Trap, fault_of_kind, trap_of, traps_of}
-use Rattle.ctd_traps.specs.inner.Holds.{AreListed, ArePart, IsOfKind}
+use Rattle.ctd_traps.specs.inner.Holds.{AreListed, ArePart}
+use Rattle.ctd_known.specs.calls.Faults.{IsOfKind}
 
 traps_both : (a b : List Finding) → traps_of (a ++ b) ≡ traps_of a ++ traps_of b
 traps_both [] b = refl

@@ -6,10 +6,10 @@ use Rattle.ctd_program.specs.declared.tree.Assignment.{Assignment}
 use Rattle.ctd_program.specs.calls.View.{assignment, expr_tree, var_tree}
 use Rattle.ctd_command.specs.Commands.{set}
 use Rattle.ctd_known.specs.declared.faults.Faults.{Faults}
-use Rattle.ctd_known.specs.declared.expression.Found.{Found}
-use Rattle.ctd_known.specs.calls.Found.{Gives}
+use Rattle.ctd_traps.specs.declared.expression.Found.{Found}
+use Rattle.ctd_traps.specs.inner.Found.{Gives}
 use Rattle.ctd_known.specs.calls.Changed.{Clears}
-use Rattle.ctd_known.proofs.Applying.{AreFaults}
+use Rattle.ctd_traps.proofs.Applying.{AreFaults}
 use Rattle.ctd_traps.specs.inner.Walk.{Acts, Assigns, ClearsAll}
 use Rattle.ctd_traps.proofs.Acting.{ClearLeads, SetLeads, clear_leads_on, nothing_cleared, nothing_set, set_leads_on}
 

@@ -25,7 +25,7 @@ use Rattle.ctd_command.specs.Regex.{regex}
 use Rattle.ctd_check.specs.calls.BigSteps.{separator_before, is_eof, is_int, is_newline, is_regex, is_set, is_space, is_string, is_unset}
 use Rattle.ctd_known.specs.declared.faults.Faults.{Faults}
 use Rattle.ctd_traps.specs.declared.turn.Turns.{Turns}
-use Rattle.ctd_traps.specs.inner.Cases.{TellsCases}
+use Rattle.ctd_known.specs.calls.Cases.{TellsCases}
 use Rattle.ctd_traps.specs.declared.finding.Finding.{Finding}
 use Rattle.ctd_traps.specs.calls.Traps.{traps_of}
 use Rattle.ctd_traps.specs.inner.Holds.{ArePart, Holds}

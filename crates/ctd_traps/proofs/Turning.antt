@@ -26,12 +26,14 @@ use Rattle.ctd_known.specs.declared.faults.Faults.{Faults}
 use Rattle.ctd_known.specs.declared.facts.Kinds.{Kinds}
 use Rattle.ctd_known.specs.declared.facts.NameFacts.{NameFacts}
 use Rattle.ctd_known.specs.calls.Facts.{Known, EachStands, MayBe, MayHave, NameStands, PinsStand, at_key}
-use Rattle.ctd_known.specs.calls.Found.{FailsBy, IsAmong}
+use Rattle.ctd_traps.specs.inner.Found.{FailsBy}
+use Rattle.ctd_known.specs.calls.Faults.{IsAmong}
 use Rattle.ctd_known.specs.calls.Changed.{PaysStep}
-use Rattle.ctd_known.proofs.Applying.{AreFaults}
+use Rattle.ctd_traps.proofs.Applying.{AreFaults}
 use Rattle.ctd_traps.specs.calls.Traps.{IsOfValue, Trap}
 use Rattle.ctd_traps.specs.declared.turn.Turns.{Turns}
-use Rattle.ctd_traps.specs.inner.Cases.{Divides, OneStands, TellsCase, TellsCases, TellsJoined}
+use Rattle.ctd_traps.specs.inner.Divides.{Divides}
+use Rattle.ctd_known.specs.calls.Cases.{OneStands, TellsCase, TellsCases, TellsJoined}
 use Rattle.ctd_traps.specs.inner.Holds.{AreListed, Holds, HoldsAlone}
 use Rattle.ctd_traps.specs.inner.Walk.{Assigns, ByTurn, Counts, CountsEach, CountsLast, CountsTurn, Enters, Fits, IsCounted, IsGuard, Starts, StartsIn, Stays, StaysIn, first_turn, later_turn}
 use Rattle.ctd_traps.specs.inner.Triples.{Before, CommandKeeps, Ends, IsListed, Keeps, Listing, Splits}
@@ -40,7 +42,7 @@ use Rattle.ctd_traps.proofs.Keeping.{no_steps}
 use Rattle.ctd_traps.proofs.PostFixpoint.{post_fixpoints_hold}
 use Rattle.ctd_traps.proofs.Fits.{evaluation_fits, then_fits}
 use Rattle.ctd_traps.proofs.Acting.{answer_fits, set_fits}
-use Rattle.ctd_traps.proofs.Joining.{RestOr, case_done, cases_done}
+use Rattle.ctd_known.proofs.Joining.{RestOr, case_done, cases_done}
 
 -- the counter
 pub counts_some : (pinned known after : List Known) (target : VarTree) (turn : Range) (kinds : Kinds) (f : Faults) → kinds ≡ record { text = None; number = Some turn } → Assigns pinned known target kinds after f → CountsTurn pinned known (Some target) turn after f

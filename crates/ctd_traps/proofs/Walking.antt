@@ -14,10 +14,11 @@ use Rattle.ctd_check.specs.Run.{RunResult, all_done, stopped}
 use Rattle.ctd_check.specs.calls.BigSteps.{CommandEnds, IsSimple, is_assert}
 use Rattle.ctd_known.specs.declared.faults.Faults.{Faults}
 use Rattle.ctd_known.specs.calls.Facts.{Known, EachStands, PinsStand}
-use Rattle.ctd_known.proofs.Applying.{AreFaults}
+use Rattle.ctd_traps.proofs.Applying.{AreFaults}
 use Rattle.ctd_store.specs.Store.{Bindings}
-use Rattle.ctd_traps.specs.inner.Cases.{Divides, TellsCase, TellsCases}
-use Rattle.ctd_traps.proofs.Joining.{RestOr, case_done, cases_done}
+use Rattle.ctd_traps.specs.inner.Divides.{Divides}
+use Rattle.ctd_known.specs.calls.Cases.{TellsCase, TellsCases}
+use Rattle.ctd_known.proofs.Joining.{RestOr, case_done, cases_done}
 use Rattle.ctd_traps.specs.declared.finding.Finding.{Finding}
 use Rattle.ctd_traps.specs.calls.Traps.{Trap, traps_of}
 use Rattle.ctd_traps.specs.inner.Holds.{AreListed, ArePart, Holds, HoldsAlone}

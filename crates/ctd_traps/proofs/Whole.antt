@@ -33,7 +33,7 @@ use Rattle.ctd_traps.specs.calls.Traps.{HasEachTrap, IsOfValue, Trap}
 use Rattle.ctd_program.specs.declared.preset.Preset.{Preset}
 use Rattle.ctd_known.proofs.Standing.{each_same}
 use Rattle.ctd_known.specs.calls.Facts.{Known, PinsStand, at_key, pins_alone}
-use Rattle.ctd_traps.specs.inner.Cases.{OneStands, TellsCase}
+use Rattle.ctd_known.specs.calls.Cases.{OneStands, TellsCase}
 use Rattle.ctd_traps.specs.inner.Holds.{Holds}
 use Rattle.ctd_traps.specs.inner.Triples.{Keeps, IsListedOutcome}
 use Rattle.ctd_traps.specs.inner.PostFixpoint.{among}

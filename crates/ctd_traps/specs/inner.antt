@@ -1,5 +1,8 @@
 -- What only the proofs of this crate use.
-pub mod Cases
+pub mod Found
+pub mod Operators
+pub mod Compared
+pub mod Divides
 pub mod Holds
 pub mod Triples
 pub mod PostFixpoint

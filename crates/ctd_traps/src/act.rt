@@ -4,12 +4,11 @@ ghost use Rattle.std.specs.Prelude.{IfOk};
 ghost use Rattle.ctd_program.specs.calls.View.{command_tree};
 ghost use Rattle.ctd_traps.specs.inner.Walk.{ActKeeps, ActsKeep};
 ghost use Rattle.ctd_known.specs.calls.Facts.{pins_in, facts_in};
-ghost use Rattle.ctd_traps.specs.inner.Cases.{cases_in};
+ghost use Rattle.ctd_known.specs.calls.Cases.{cases_in};
 
 use crate::assign::{clear_all, set_all};
-use crate::cases::{Case, with_case};
 use crate::simple::{take_integer, take_match, take_string};
-use ctd_known::{Faults, Ground, NameFacts, Stop, both, copy_of, no_faults};
+use ctd_known::{Case, Faults, Ground, NameFacts, Stop, both, copy_of, no_faults, with_case};
 use ctd_program::{Action, Command};
 
 /// The cases behind a command, and the faults that it may have.

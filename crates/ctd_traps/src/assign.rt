@@ -6,9 +6,9 @@ ghost use Rattle.ctd_command.specs.Commands.{set};
 ghost use Rattle.ctd_traps.specs.inner.Walk.{Acts, Assigns, ClearsAll, KeepsValue};
 ghost use Rattle.ctd_known.specs.calls.Facts.{pins_in, facts_in};
 
+use crate::expression::{examine_indices, inspect};
 use ctd_known::{
-    Faults, Ground, Kinds, NameFacts, Stop, assign_alone, assign_element, both, clear,
-    examine_indices, inspect, no_faults,
+    Faults, Ground, Kinds, NameFacts, Stop, assign_alone, assign_element, both, clear, no_faults,
 };
 use ctd_program::{Assignment, Var};
 use ctd_token::Name;

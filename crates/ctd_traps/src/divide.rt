@@ -2,10 +2,11 @@
 
 ghost use Rattle.std.specs.Prelude.{IfOk};
 ghost use Rattle.ctd_program.specs.calls.View.{test_tree};
-ghost use Rattle.ctd_traps.specs.inner.Cases.{Divides, IsEither, opposite, cases_in};
+ghost use Rattle.ctd_traps.specs.inner.Divides.{Divides, IsEither, opposite};
+ghost use Rattle.ctd_known.specs.calls.Cases.{cases_in};
 
-use crate::cases::{Case, with_all, with_case};
-use ctd_known::{Faults, Ground, Stop, both, no_faults, split};
+use crate::condition::split;
+use ctd_known::{Case, Faults, Ground, Stop, both, no_faults, with_all, with_case};
 use ctd_program::Test;
 
 /// The cases where a test is true, those where it is false, and the faults that it may have.

@@ -2,32 +2,12 @@
 
 ghost use Rattle.std.specs.Prelude.{◌≡◌, true, OnOk, Contains};
 ghost use Rattle.ctd_traps.specs.calls.Traps.{fault_of_kind, traps_of};
-ghost use Rattle.ctd_traps.specs.inner.Holds.{AreListed, ArePart, IsOfKind};
+ghost use Rattle.ctd_traps.specs.inner.Holds.{AreListed, ArePart};
+ghost use Rattle.ctd_known.specs.calls.Faults.{IsOfKind};
 
-use ctd_known::Faults;
+use ctd_known::{Faults, TrapKind, has};
 use ctd_token::Place;
 use std::alloc::AllocError;
-
-/// How a run may stop at a command or at a turn of a loop.
-#[derive(Clone, Copy)]
-pub enum TrapKind {
-    /// A variable without indices may have no value.
-    NoValue,
-    /// An element of an array may have no value.
-    NoElement,
-    /// A number may be a string, or a string a number.
-    WrongType,
-    /// A number may leave the range of values.
-    Overflow,
-    /// A divisor may be 0.
-    DivisionByZero,
-    /// An exponent may lie outside 0 to 2^64-1.
-    BadExponent,
-    /// A count of turns may lie outside 0 to 2^64-1.
-    BadCount,
-    /// The arrays of UNIQUE may have values at different indices.
-    OtherShape,
-}
 
 /// The place of a command at which a run may stop, how, and the index of the variable in the names of the traps, where there is one: the first
 /// of its kind in the command.
@@ -49,22 +29,6 @@ const KINDS: [TrapKind; 8] = [
     TrapKind::BadCount,
     TrapKind::OtherShape,
 ];
-
-/// Whether there is a fault of a kind.
-fn has(faults: &Faults, kind: TrapKind) -> bool
-    ensures { IsOfKind faults.now kind → result ≡ true }
-{
-    match kind {
-        TrapKind::NoValue => faults.no_value,
-        TrapKind::NoElement => faults.no_element,
-        TrapKind::WrongType => faults.wrong_type,
-        TrapKind::Overflow => faults.overflow,
-        TrapKind::DivisionByZero => faults.division_by_zero,
-        TrapKind::BadExponent => faults.exponent,
-        TrapKind::BadCount => faults.count,
-        TrapKind::OtherShape => faults.shape,
-    }
-}
 
 /// The index of the name of which a finding tells, if there is one.
 fn name_of(faults: &Faults, kind: TrapKind) -> Option<usize> {

@@ -3,8 +3,10 @@
 
 mod act;
 mod assign;
-mod cases;
+mod condition;
+mod cut;
 mod divide;
+mod expression;
 mod finding;
 mod names;
 mod program;
@@ -12,5 +14,5 @@ mod simple;
 mod turn;
 mod walk;
 
-pub use finding::{Finding, TrapKind};
+pub use finding::Finding;
 pub use program::{TrapList, traps};

@@ -5,16 +5,17 @@ ghost use Rattle.ctd_program.specs.calls.View.{command_trees};
 ghost use Rattle.ctd_store.specs.Store.{Variables, value_of, with_pin};
 ghost use Rattle.ctd_store.specs.inner.Store.{pins_of};
 ghost use Rattle.ctd_traps.specs.calls.Traps.{HasEachTrap, traps_of};
-ghost use Rattle.ctd_traps.specs.inner.Cases.{TellsCase, cases_in};
+ghost use Rattle.ctd_known.specs.calls.Cases.{TellsCase, cases_in};
 ghost use Rattle.ctd_known.specs.calls.Facts.{MayBe, PinsStand, pins_in, named_facts, facts_in};
 ghost use Rattle.std.specs.Borrow.{Bor};
 
-use crate::cases::{Case, with_case};
 use crate::finding::Finding;
 use crate::names::{Mentioned, mentioned_in};
 use crate::walk::walk;
 use ctd_check::big_steps_are_the_run;
-use ctd_known::{Ground, Kinds, Lengths, NameFacts, Stop, assign_alone, assign_element, copy_of};
+use ctd_known::{
+    Case, Ground, Kinds, Lengths, NameFacts, Stop, assign_alone, assign_element, copy_of, with_case,
+};
 use ctd_program::{Command, Preset, PresetValue, Presets};
 use ctd_range::Range;
 use std::alloc::{AllocError, Global};

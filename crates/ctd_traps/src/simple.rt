@@ -10,9 +10,8 @@ ghost use Rattle.ctd_known.specs.calls.Facts.{MayBe, pins_in, facts_in};
 ghost use Rattle.ctd_traps.specs.inner.Walk.{Acts};
 
 use crate::assign::keep;
-use ctd_known::{
-    Faults, Ground, Kinds, Lengths, NameFacts, Stop, both, inspect, number_faults, text_faults,
-};
+use crate::expression::{inspect, number_faults, text_faults};
+use ctd_known::{Faults, Ground, Kinds, Lengths, NameFacts, Stop, both};
 use ctd_program::{Expr, IntArguments, RegexArguments};
 use ctd_range::Range;
 use ctd_source::WINDOW;

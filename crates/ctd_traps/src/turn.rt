@@ -8,14 +8,15 @@ ghost use Rattle.ctd_range.specs.inner.Ranges.{IsCount};
 ghost use Rattle.ctd_known.specs.calls.Facts.{MayBe, pins_in, facts_in};
 ghost use Rattle.ctd_traps.specs.inner.Walk.{Counts, CountsEach, CountsLast, CountsTurn, Enters, Starts, StartsIn, first_turn};
 ghost use Rattle.ctd_program.specs.declared.tree.Loop.{out-Loop};
-ghost use Rattle.ctd_traps.specs.inner.Cases.{cases_in};
+ghost use Rattle.ctd_known.specs.calls.Cases.{cases_in};
 
 use crate::act::ActedCases;
 use crate::assign::assign;
-use crate::cases::{Case, join_cases, with_case};
 use crate::divide::divide;
+use crate::expression::{inspect, number_faults};
 use ctd_known::{
-    Faults, Ground, Kinds, NameFacts, Stop, after_step, both, inspect, no_faults, number_faults,
+    Case, Faults, Ground, Kinds, NameFacts, Stop, after_step, both, join_cases, no_faults,
+    with_case,
 };
 use ctd_program::{Expr, Loop, LoopGuard, Var};
 use ctd_range::{Range, less};

@@ -1,5 +1,5 @@
 -- What is known of the variables where a command begins.
-use Rattle.std.specs.Prelude.{◌≡◌, ◌≤◌, ◌<◌, ◌^◌, ℕ, true, List, [], ◌∷◌, length, Option, Some, None}
+use Rattle.std.specs.Prelude.{◌≡◌, ◌≤◌, ◌<◌, ◌^◌, ℕ, zero, suc, true, List, [], ◌∷◌, length, Option, Some, None}
 use Rattle.ctd_store.specs.declared.value.Value.{Value}
 use Rattle.ctd_store.specs.declared.value.Value.TheVariants as values
 use Rattle.ctd_store.specs.Store.{Key, Bindings, Variables, value_at}
@@ -62,10 +62,12 @@ pins_alone pins = record { pins = []; assigned = pins }
 abbrev pub PinsStand : List Known → Variables → Type 0
 PinsStand known pins = (n : ℕ) → n < 2 ^ 64 → EachStands known n (pins_alone pins)
 
--- so does all that is known otherwise
-abbrev pub TellsAll : List Known → List Known → Type 0
-TellsAll known others = (n : ℕ) (h : Bindings) → EachStands known n h → EachStands others n h
+-- the name at an index: behind the last there is the empty one, which no variable has
+abbrev pub name_at : List (Bor (List ℕ)) → ℕ → List ℕ
+name_at [] i = []
+name_at (q ∷ qs) zero = q.now
+name_at (q ∷ qs) (suc i) = name_at qs i
 
--- no variables are so
-abbrev pub IsImpossible : List Known → Type 0
-IsImpossible known = (n : ℕ) (h : Bindings) → EachStands known n h → ⊥
+-- what is known of one name follows from what is known of all
+abbrev pub Tells : List Known → List ℕ → NameFacts → Type 0
+Tells known name facts = (n : ℕ) (h : Bindings) → EachStands known n h → NameStands name facts n h

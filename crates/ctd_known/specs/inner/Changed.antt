@@ -1,10 +1,10 @@
 -- How facts of one name follow from others.
-use Rattle.std.specs.Prelude.{◌<◌, ◌^◌, ℕ, suc, List, Option, bytes_eq, if◌then◌else◌}
+use Rattle.std.specs.Prelude.{◌<◌, ◌^◌, ℕ, suc, List, Option}
 use Rattle.ctd_store.specs.declared.value.Value.{Value}
 use Rattle.ctd_store.specs.Store.{Bindings}
 use Rattle.ctd_known.specs.declared.facts.Kinds.{Kinds}
 use Rattle.ctd_known.specs.declared.facts.NameFacts.{NameFacts}
-use Rattle.ctd_known.specs.calls.Facts.{Known, MayBe, MayHave, NameStands}
+use Rattle.ctd_known.specs.calls.Facts.{MayBe, MayHave, NameStands}
 
 -- each value of some kinds is among others
 abbrev pub AreWithin : Kinds → Kinds → Type 0
@@ -14,10 +14,6 @@ AreWithin a b = (n : ℕ) (v : Value) → n < 2 ^ 64 → MayBe a n v → MayBe b
 pub record NameIsWithin (a b : NameFacts) : Type 0 where
   pub alone : (n : ℕ) (v : Option Value) → n < 2 ^ 64 → MayHave a n v → MayHave b n v
   pub elements : AreWithin a.elements b.elements
-
--- an entry, with other facts where it has this name
-abbrev pub with_facts : List ℕ → NameFacts → Known → Known
-with_facts name facts entry = if bytes_eq entry.name name then record { name = entry.name; facts = facts } else entry
 
 -- the values of some kinds once a step is paid
 abbrev pub KindsPay : Kinds → Kinds → Type 0

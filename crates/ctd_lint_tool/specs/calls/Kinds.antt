@@ -1,10 +1,10 @@
 -- The kinds of traps, and what --ignore names.
-use Rattle.ctd_traps.specs.declared.finding.TrapKind.TheVariants as traps
+use Rattle.ctd_known.specs.declared.faults.TrapKind.TheVariants as traps
 use Rattle.ctd_findings.specs.declared.kind.Rank.TheVariants as ranks
 use Rattle.ctd_lint_tool.specs.declared.kind.LintKind.TheVariants as kinds
 use Rattle.std.specs.Prelude.{ℕ, Bool, true, false, List, [], ◌∷◌, codes, Option, Some, None, if◌then◌else◌}
 use Rattle.std.specs.Str.{bytes_eq}
-use Rattle.ctd_traps.specs.declared.finding.TrapKind.{TrapKind}
+use Rattle.ctd_known.specs.declared.faults.TrapKind.{TrapKind}
 use Rattle.ctd_findings.specs.declared.kind.Kind.{Kind}
 use Rattle.ctd_findings.specs.declared.kind.Rank.{Rank}
 use Rattle.ctd_findings.specs.calls.Kinds.{kind_name, kind_named}

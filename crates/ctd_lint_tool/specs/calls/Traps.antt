@@ -6,7 +6,7 @@ use Rattle.std.specs.List.{list_any, slice_get}
 use Rattle.ctd_program.specs.Tree.{CommandList}
 use Rattle.ctd_program.specs.declared.preset.Preset.{Preset}
 use Rattle.ctd_traps.specs.declared.finding.Finding.{Finding as Trap}
-use Rattle.ctd_traps.specs.declared.finding.TrapKind.{TrapKind}
+use Rattle.ctd_known.specs.declared.faults.TrapKind.{TrapKind}
 use Rattle.ctd_traps.specs.declared.program.TrapList.{TrapList}
 use Rattle.ctd_traps.specs.calls.Traps.{HasEachTrap, traps_of}
 use Rattle.ctd_lint_tool.specs.declared.command_line.LintSetup.{LintSetup}

@@ -1,5 +1,7 @@
 -- Which integers a range stands for.
-use Rattle.std.specs.Prelude.{ℕ, ◌*◌, IsTrue, ℤ, pos, ◌+ℤ◌, ◌≤ℤ◌, Result, Ok, Err}
+use Rattle.std.specs.Prelude.{◌≡◌, ◌≢◌, ℕ, ◌*◌, IsTrue, ℤ, pos, ◌+ℤ◌, ◌≤ℤ◌, ◌<ℤ◌, Result, Ok, Err}
+use Rattle.ctd_program.specs.declared.tree.Compare.{Compare}
+use Rattle.ctd_program.specs.declared.tree.Compare.TheVariants as comparisons
 use Rattle.ctd_outcome.specs.declared.reason.Fault.{Fault}
 use Rattle.ctd_outcome.specs.declared.reason.Fault.TheVariants.{Overflow, DivisionByZero, Exponent}
 use Rattle.ctd_range.specs.declared.range.Range.{Range}
@@ -17,3 +19,12 @@ Covers c n (Err Overflow) = IsTrue c.overflows
 Covers c n (Err DivisionByZero) = IsTrue c.divides_by_zero
 Covers c n (Err Exponent) = IsTrue c.has_bad_exponent
 Covers c n (Err fault) = ⊥
+
+-- two integers compare so
+abbrev pub Relates : Compare → ℤ → ℤ → Type 0
+Relates comparisons.Less x y = x <ℤ y
+Relates comparisons.Greater x y = y <ℤ x
+Relates comparisons.AtMost x y = x ≤ℤ y
+Relates comparisons.AtLeast x y = y ≤ℤ x
+Relates comparisons.Equal x y = x ≡ y
+Relates comparisons.Unequal x y = x ≢ y

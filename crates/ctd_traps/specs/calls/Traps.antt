@@ -12,8 +12,8 @@ use Rattle.ctd_outcome.specs.declared.outcome.Site.{Site}
 use Rattle.ctd_outcome.specs.declared.outcome.Site.TheVariants.{At}
 use Rattle.ctd_outcome.specs.declared.outcome.Outcome.TheVariants.{Stopped}
 use Rattle.ctd_check.specs.Run.{meaning}
-use Rattle.ctd_traps.specs.declared.finding.TrapKind.{TrapKind}
-use Rattle.ctd_traps.specs.declared.finding.TrapKind.TheVariants as kinds
+use Rattle.ctd_known.specs.declared.faults.TrapKind.{TrapKind}
+use Rattle.ctd_known.specs.declared.faults.TrapKind.TheVariants as kinds
 use Rattle.ctd_traps.specs.declared.finding.Finding.{Finding}
 
 -- a fault of a value, and none of a look, of a match or of the limit of steps

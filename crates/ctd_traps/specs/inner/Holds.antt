@@ -1,15 +1,13 @@
 -- What is known of a state of a run, and which traps are listed.
-use Rattle.std.specs.Prelude.{◌≡◌, ◌<◌, ◌^◌, ℕ, true, List, Contains}
+use Rattle.std.specs.Prelude.{◌≡◌, ◌<◌, ◌^◌, ℕ, List, Contains}
 use Rattle.ctd_token.specs.declared.text.Place.{Place}
 use Rattle.ctd_store.specs.Store.{Variables}
 use Rattle.ctd_outcome.specs.declared.reason.Fault.{Fault}
 use Rattle.ctd_command.specs.State.{State}
 use Rattle.ctd_known.specs.declared.faults.Faults.{Faults}
 use Rattle.ctd_known.specs.calls.Facts.{Known, EachStands}
-use Rattle.ctd_known.specs.calls.Found.{IsAmong}
-use Rattle.ctd_traps.specs.declared.finding.TrapKind.{TrapKind}
-use Rattle.ctd_traps.specs.declared.finding.TrapKind.TheVariants as kinds
-use Rattle.ctd_traps.specs.inner.Cases.{OneStands}
+use Rattle.ctd_known.specs.calls.Faults.{IsAmong}
+use Rattle.ctd_known.specs.calls.Cases.{OneStands}
 use Rattle.ctd_traps.specs.calls.Traps.{Trap, IsOfValue}
 
 -- all that is known is so of a state with these pins, where so many steps are left
@@ -31,14 +29,3 @@ ArePart some all = (t : Trap) → Contains some t → Contains all t
 -- each of these faults is listed at a place
 abbrev pub AreListed : List Trap → Place → Faults → Type 0
 AreListed traps place f = (why : Fault) → IsOfValue why → IsAmong f why → Contains traps (record { place = place; fault = why })
-
--- a fault of a kind is among these
-abbrev pub IsOfKind : Faults → TrapKind → Type 0
-IsOfKind f kinds.NoValue = f.no_value ≡ true
-IsOfKind f kinds.NoElement = f.no_element ≡ true
-IsOfKind f kinds.WrongType = f.wrong_type ≡ true
-IsOfKind f kinds.Overflow = f.overflow ≡ true
-IsOfKind f kinds.DivisionByZero = f.division_by_zero ≡ true
-IsOfKind f kinds.BadExponent = f.exponent ≡ true
-IsOfKind f kinds.BadCount = f.count ≡ true
-IsOfKind f kinds.OtherShape = f.shape ≡ true

@@ -25,10 +25,10 @@ use Rattle.ctd_traps.specs.declared.finding.Finding.{Finding}
 use Rattle.ctd_known.specs.declared.faults.Faults.{Faults}
 use Rattle.ctd_known.specs.declared.facts.Kinds.{Kinds}
 use Rattle.ctd_traps.specs.declared.turn.Turns.{Turns}
-use Rattle.ctd_traps.specs.inner.Cases.{OneStands, TellsCases}
+use Rattle.ctd_known.specs.calls.Cases.{OneStands, TellsCases}
 use Rattle.ctd_known.specs.calls.Facts.{Known, EachStands, MayBe, PinsStand}
 use Rattle.ctd_traps.specs.inner.Holds.{AreListed, ArePart, Holds, HoldsAlone}
-use Rattle.ctd_known.specs.calls.Found.{IsAmong}
+use Rattle.ctd_known.specs.calls.Faults.{IsAmong}
 use Rattle.ctd_traps.specs.inner.PostFixpoint.{among}
 use Rattle.ctd_traps.specs.inner.Triples.{Keeps, CommandKeeps}
 

@@ -1,6 +1,6 @@
 use Rattle.std.proofs.Common.{◌≡◌}
 use Rattle.ctd_known.specs.calls.Facts.{named_facts}
-use Rattle.ctd_known.specs.inner.Changed.{with_facts}
+use Rattle.ctd_known.specs.calls.Changed.{with_facts}
 use Rattle.ctd_known.proofs.NamedFacts.{front}
 use Rattle.ctd_known.proofs.facts.replace_facts.Given as goal
 

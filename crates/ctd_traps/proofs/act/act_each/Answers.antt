@@ -2,8 +2,8 @@ use Rattle.std.proofs.Common.{ap, arith, subst, ◌∙◌}
 use Rattle.std.proofs.lemmas.List.{with_items_is}
 use Rattle.ctd_program.specs.calls.View.{command_tree}
 use Rattle.ctd_known.specs.calls.Facts.{pins_in, facts_in}
-use Rattle.ctd_traps.specs.inner.Cases.{TellsCase, case_in, cases_in}
-use Rattle.ctd_traps.proofs.Viewed.{at, beyond, within}
+use Rattle.ctd_known.specs.calls.Cases.{TellsCase, case_in, cases_in}
+use Rattle.ctd_known.proofs.Viewed.{at, beyond, within}
 use Rattle.ctd_traps.proofs.Walking.{act_done, act_step}
 use Rattle.ctd_traps.proofs.act.act_each.Goals as goal
 

@@ -2,8 +2,9 @@ use Rattle.std.proofs.Common.{ap}
 use Rattle.ctd_program.specs.Tree
 use Rattle.ctd_program.specs.calls.View.{test_tree}
 use Rattle.ctd_traps.specs.declared.divide.Divided.{Divided}
-use Rattle.ctd_traps.specs.inner.Cases.{IsEither, opposite, cases_in}
-use Rattle.ctd_traps.proofs.Joining.{DividesBy, and_divides, not_divides, or_divides}
+use Rattle.ctd_traps.specs.inner.Divides.{IsEither, opposite}
+use Rattle.ctd_known.specs.calls.Cases.{cases_in}
+use Rattle.ctd_traps.proofs.Dividing.{DividesBy, and_divides, not_divides, or_divides}
 use Rattle.ctd_known.proofs.Results.{if_ok_more}
 use Rattle.ctd_traps.proofs.divide.+divide.Goals as goal
 

@@ -1,9 +1,9 @@
 use Rattle.std.proofs.Common.{ap}
 use Rattle.ctd_program.specs.calls.View.{test_tree}
 use Rattle.ctd_known.specs.calls.Facts.{facts_in}
-use Rattle.ctd_traps.specs.inner.Cases.{case_in, cases_in}
-use Rattle.ctd_traps.proofs.Joining.{divide_done, divide_step}
-use Rattle.ctd_traps.proofs.Viewed.{at, beyond, within}
+use Rattle.ctd_known.specs.calls.Cases.{case_in, cases_in}
+use Rattle.ctd_traps.proofs.Dividing.{divide_done, divide_step}
+use Rattle.ctd_known.proofs.Viewed.{at, beyond, within}
 use Rattle.ctd_traps.proofs.divide.divide_each.Goals as goal
 
 pub loop-case-preserved : goal.loop-case-preserved

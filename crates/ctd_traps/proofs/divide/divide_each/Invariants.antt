@@ -1,7 +1,8 @@
 use Rattle.std.proofs.Common.{drop}
 use Rattle.ctd_program.specs.calls.View.{test_tree}
-use Rattle.ctd_traps.proofs.Joining.{DividesSo, RestOr}
-use Rattle.ctd_traps.specs.inner.Cases.{cases_in}
+use Rattle.ctd_traps.proofs.Dividing.{DividesSo}
+use Rattle.ctd_known.proofs.Joining.{RestOr}
+use Rattle.ctd_known.specs.calls.Cases.{cases_in}
 use Rattle.ctd_traps.proofs.divide.divide_each.Given as goal
 
 abbrev pub invariant-loop-case : goal.invariant-loop-case

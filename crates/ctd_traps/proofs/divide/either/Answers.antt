@@ -1,5 +1,5 @@
 use Rattle.std.proofs.Common.{subst}
-use Rattle.ctd_traps.specs.inner.Cases.{TellsCases, cases_in}
+use Rattle.ctd_known.specs.calls.Cases.{TellsCases, cases_in}
 use Rattle.ctd_traps.proofs.divide.either.Goals as goal
 
 pub returns : goal.returns

@@ -1,5 +1,5 @@
 use Rattle.std.proofs.Common.{◌<◌, ℕ, [], ◌∷◌, arith}
-use Rattle.ctd_traps.specs.declared.finding.TrapKind.TheVariants as kinds
+use Rattle.ctd_known.specs.declared.faults.TrapKind.TheVariants as kinds
 use Rattle.ctd_traps.specs.calls.Traps.{traps_of}
 use Rattle.ctd_traps.proofs.Listed.{all_listed, next_listed}
 use Rattle.ctd_traps.proofs.finding.report.Goals as goal

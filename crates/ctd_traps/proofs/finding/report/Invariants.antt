@@ -1,7 +1,8 @@
 use Rattle.std.proofs.Common.{◌<◌, ℕ, Contains, get_or}
-use Rattle.ctd_traps.specs.declared.finding.TrapKind.TheVariants as kinds
+use Rattle.ctd_known.specs.declared.faults.TrapKind.TheVariants as kinds
 use Rattle.ctd_traps.specs.calls.Traps.{fault_of_kind, traps_of}
-use Rattle.ctd_traps.specs.inner.Holds.{ArePart, IsOfKind}
+use Rattle.ctd_traps.specs.inner.Holds.{ArePart}
+use Rattle.ctd_known.specs.calls.Faults.{IsOfKind}
 use Rattle.ctd_traps.proofs.finding.report.Given as goal
 
 abbrev pub invariant-loop-kind : goal.invariant-loop-kind

@@ -4,7 +4,7 @@ use Rattle.ctd_traps.proofs.Listed.{part_left, pushed}
 use Rattle.ctd_traps.proofs.finding.report_kind.Goals as goal
 
 pub returns-then-not-has : goal.returns-then-not-has
-returns-then-not-has c = record { more = λ t h. h; listed = λ is. absurd (cc (c.has.ensures is, c.if-not-has.true)) }
+returns-then-not-has c = record { more = λ t h. h; listed = λ is. absurd (cc (c.has.ensures.holds is, c.if-not-has.true)) }
 
 pub returns : goal.returns
 returns c =

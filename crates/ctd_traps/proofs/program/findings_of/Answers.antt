@@ -4,7 +4,7 @@ use Rattle.ctd_program.specs.calls.View.{command_trees}
 use Rattle.ctd_traps.specs.calls.Traps.{traps_of}
 use Rattle.ctd_known.specs.declared.assign.Ground.{Ground}
 use Rattle.ctd_known.specs.calls.Facts.{named_facts}
-use Rattle.ctd_traps.specs.inner.Cases.{TellsCase, cases_in}
+use Rattle.ctd_known.specs.calls.Cases.{TellsCase, cases_in}
 use Rattle.ctd_traps.specs.inner.Walk.{WalkKeeps}
 use Rattle.ctd_traps.proofs.Walking.{part_refl}
 use Rattle.ctd_traps.proofs.Whole.{traps_follow}

@@ -1,7 +1,7 @@
 use Rattle.std.proofs.Common.{IfOk, subst}
 use Rattle.std.specs.Global.{Vec}
-use Rattle.ctd_traps.specs.declared.cases.Case.{Case}
-use Rattle.ctd_traps.specs.inner.Cases.{TellsCase, cases_in}
+use Rattle.ctd_known.specs.declared.cases.Case.{Case}
+use Rattle.ctd_known.specs.calls.Cases.{TellsCase, cases_in}
 use Rattle.ctd_known.specs.calls.Facts.{facts_in}
 use Rattle.ctd_traps.proofs.program.first_case.Goals as goal
 

@@ -2,9 +2,9 @@ use Rattle.std.proofs.Common.{ap, arith, subst}
 use Rattle.std.proofs.lemmas.List.{with_items_is}
 use Rattle.ctd_program.specs.calls.View.{boxed_target}
 use Rattle.ctd_known.specs.calls.Facts.{pins_in, facts_in}
-use Rattle.ctd_traps.specs.inner.Cases.{TellsCase, case_in, cases_in}
+use Rattle.ctd_known.specs.calls.Cases.{TellsCase, case_in, cases_in}
 use Rattle.ctd_traps.proofs.Turning.{count_done, count_step}
-use Rattle.ctd_traps.proofs.Viewed.{at, beyond, within}
+use Rattle.ctd_known.proofs.Viewed.{at, beyond, within}
 use Rattle.ctd_traps.proofs.turn.count_each.Goals as goal
 
 pub loop-case-preserved : goal.loop-case-preserved

@@ -1,9 +1,9 @@
 use Rattle.std.proofs.Common.{drop}
 use Rattle.ctd_program.specs.calls.View.{boxed_target}
-use Rattle.ctd_traps.proofs.Joining.{RestOr}
+use Rattle.ctd_known.proofs.Joining.{RestOr}
 use Rattle.ctd_traps.proofs.Turning.{CountsSo}
 use Rattle.ctd_known.specs.calls.Facts.{pins_in}
-use Rattle.ctd_traps.specs.inner.Cases.{cases_in}
+use Rattle.ctd_known.specs.calls.Cases.{cases_in}
 use Rattle.ctd_traps.proofs.turn.count_each.Given as goal
 
 abbrev pub invariant-loop-case : goal.invariant-loop-case

@@ -2,7 +2,7 @@ use Rattle.ctd_program.specs.calls.View.{boxed_target}
 use Rattle.ctd_known.specs.calls.Facts.{pins_in}
 use Rattle.ctd_known.proofs.Results.{if_ok_more}
 use Rattle.ctd_traps.specs.declared.act.ActedCases.{ActedCases}
-use Rattle.ctd_traps.specs.inner.Cases.{cases_in}
+use Rattle.ctd_known.specs.calls.Cases.{cases_in}
 use Rattle.ctd_traps.specs.inner.Walk.{CountsEach, CountsLast}
 use Rattle.ctd_traps.proofs.Turning.{counts_never, counts_only}
 use Rattle.ctd_traps.proofs.turn.count_last.Goals as goal

@@ -1,6 +1,7 @@
 use Rattle.std.proofs.Common.{subst}
 use Rattle.ctd_program.specs.calls.View.{boxed_target, expr_tree, test_tree}
-use Rattle.ctd_traps.specs.inner.Cases.{Divides, cases_in}
+use Rattle.ctd_traps.specs.inner.Divides.{Divides}
+use Rattle.ctd_known.specs.calls.Cases.{cases_in}
 use Rattle.ctd_traps.proofs.Turning.{enters_times, enters_while}
 use Rattle.ctd_known.specs.calls.Facts.{pins_in}
 use Rattle.ctd_traps.proofs.turn.enter.Goals as goal

@@ -3,7 +3,7 @@ use Rattle.ctd_program.specs.calls.View.{guard_tree}
 use Rattle.ctd_known.specs.calls.Facts.{facts_in}
 use Rattle.ctd_known.proofs.Results.{if_ok_more}
 use Rattle.ctd_traps.specs.declared.turn.Turns.{Turns}
-use Rattle.ctd_traps.specs.inner.Cases.{cases_in}
+use Rattle.ctd_known.specs.calls.Cases.{cases_in}
 use Rattle.ctd_traps.specs.inner.Walk.{Starts, StartsIn}
 use Rattle.ctd_traps.proofs.Turning.{starts_in}
 use Rattle.ctd_traps.proofs.turn.start_each.Goals as goal

@@ -8,9 +8,10 @@ use Rattle.ctd_program.specs.declared.tree.Command.{Command}
 use Rattle.ctd_program.specs.declared.tree.Test.{Test}
 use Rattle.ctd_program.specs.declared.tree.Choice.{out-Choice}
 use Rattle.ctd_program.specs.declared.tree.Loop.{out-Loop}
-use Rattle.ctd_traps.specs.declared.cases.Case.{Case}
+use Rattle.ctd_known.specs.declared.cases.Case.{Case}
 use Rattle.ctd_traps.specs.calls.Traps.{traps_of}
-use Rattle.ctd_traps.specs.inner.Cases.{Divides, TellsCases, cases_in}
+use Rattle.ctd_traps.specs.inner.Divides.{Divides}
+use Rattle.ctd_known.specs.calls.Cases.{TellsCases, cases_in}
 use Rattle.ctd_traps.specs.inner.Holds.{ArePart}
 use Rattle.ctd_traps.specs.inner.Walk.{AreBranches, Concludes, RoundKeeps, SeparatorKeeps, StepKeeps, choice_at, loop_at}
 use Rattle.ctd_known.proofs.Results.{if_ok_more}

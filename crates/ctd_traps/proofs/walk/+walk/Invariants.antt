@@ -4,7 +4,7 @@ use Rattle.ctd_traps.specs.calls.Traps.{traps_of}
 use Rattle.ctd_traps.specs.inner.Holds.{ArePart}
 use Rattle.ctd_traps.proofs.Walking.{WalkLeads}
 use Rattle.ctd_known.specs.calls.Facts.{pins_in}
-use Rattle.ctd_traps.specs.inner.Cases.{cases_in}
+use Rattle.ctd_known.specs.calls.Cases.{cases_in}
 use Rattle.ctd_traps.proofs.walk.+walk.Given as goal
 
 abbrev pub invariant-walk-loop-command : goal.invariant-walk-loop-command

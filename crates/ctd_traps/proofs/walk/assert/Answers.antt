@@ -1,7 +1,7 @@
 use Rattle.ctd_program.specs.calls.View.{test_tree}
 use Rattle.ctd_traps.proofs.Walking.{assert_steps}
 use Rattle.ctd_known.specs.calls.Facts.{pins_in}
-use Rattle.ctd_traps.specs.inner.Cases.{cases_in}
+use Rattle.ctd_known.specs.calls.Cases.{cases_in}
 use Rattle.ctd_traps.proofs.walk.assert.Goals as goal
 
 pub returns : goal.returns

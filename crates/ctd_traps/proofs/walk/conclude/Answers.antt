@@ -1,12 +1,12 @@
 use Rattle.std.proofs.Common.{Contains, sym, subst}
 use Rattle.std.specs.Global.{Vec}
 use Rattle.ctd_traps.specs.calls.Traps.{traps_of}
-use Rattle.ctd_traps.specs.declared.cases.Case.{Case}
-use Rattle.ctd_traps.specs.inner.Cases.{TellsCases, cases_in}
+use Rattle.ctd_known.specs.declared.cases.Case.{Case}
+use Rattle.ctd_known.specs.calls.Cases.{TellsCases, cases_in}
 use Rattle.ctd_traps.specs.inner.Holds.{ArePart}
 use Rattle.ctd_traps.specs.inner.Walk.{Concludes}
 use Rattle.ctd_known.proofs.Results.{if_ok_more}
-use Rattle.ctd_traps.proofs.Joining.{if_ok_both}
+use Rattle.ctd_known.proofs.Results.{if_ok_both}
 use Rattle.ctd_traps.proofs.Listed.{part_left, part_right}
 use Rattle.ctd_traps.proofs.walk.conclude.Goals as goal
 

@@ -1,9 +1,9 @@
 use Rattle.std.proofs.Common.{subst}
 use Rattle.std.specs.Global.{Vec}
-use Rattle.ctd_traps.specs.declared.cases.Case.{Case}
-use Rattle.ctd_traps.specs.inner.Cases.{TellsCases, cases_in}
+use Rattle.ctd_known.specs.declared.cases.Case.{Case}
+use Rattle.ctd_known.specs.calls.Cases.{TellsCases, cases_in}
 use Rattle.ctd_traps.specs.inner.Walk.{AreBranches}
-use Rattle.ctd_traps.proofs.Joining.{if_ok_both}
+use Rattle.ctd_known.proofs.Results.{if_ok_both}
 use Rattle.ctd_traps.proofs.walk.join_branches.Goals as goal
 
 pub returns : goal.returns

@@ -5,7 +5,7 @@ use Rattle.ctd_traps.specs.calls.Traps.{traps_of}
 use Rattle.ctd_traps.specs.inner.Holds.{AreListed}
 use Rattle.ctd_traps.proofs.Walking.{acts_step}
 use Rattle.ctd_known.specs.calls.Facts.{pins_in}
-use Rattle.ctd_traps.specs.inner.Cases.{cases_in}
+use Rattle.ctd_known.specs.calls.Cases.{cases_in}
 use Rattle.ctd_traps.proofs.walk.take.Goals as goal
 
 pub returns : goal.returns

@@ -1,0 +1,18 @@
+use Rattle.std.proofs.Common.{◌≡◌, sym, subst}
+use Rattle.ctd_range.specs.calls.Ranges.{IsIn, Relates}
+use Rattle.ctd_range.proofs.compare.restrict.Goals as goal
+
+pub returns-in-AtMost : goal.returns-in-AtMost
+returns-in-AtMost c = record { refines = λ k x y so i j. c.at_most.ensures.refines k x y (subst (λ by. Relates by x y) c.in-AtMost.is so) i j }
+
+pub returns-in-Greater : goal.returns-in-Greater
+returns-in-Greater c = record { refines = λ k x y so i j. c.greater.ensures.refines k x y (subst (λ by. Relates by x y) c.in-Greater.is so) i j }
+
+pub returns-in-AtLeast : goal.returns-in-AtLeast
+returns-in-AtLeast c = record { refines = λ k x y so i j. c.at_least.ensures.refines k x y (subst (λ by. Relates by x y) c.in-AtLeast.is so) i j }
+
+pub returns-in-Equal : goal.returns-in-Equal
+returns-in-Equal c = record { refines = λ k x y so i j. let same : x ≡ y = subst (λ by. Relates by x y) c.in-Equal.is so in c.same.ensures.refines k x i (subst (λ z. IsIn c.args.b k z) (sym same) j) }
+
+pub returns-in-Unequal : goal.returns-in-Unequal
+returns-in-Unequal c = record { refines = λ k x y so i j. c.other.ensures.refines k x y (subst (λ by. Relates by x y) c.in-Unequal.is so) i j }
