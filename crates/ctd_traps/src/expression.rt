@@ -1,6 +1,6 @@
 //! What an expression may give, by what is known of the variables.
 
-ghost use Rattle.std.specs.Prelude.{◌≡◌, ◌≢◌, ◌≤◌, ℕ, ℤ, List, length, neg_ℤ, pos, true, [], Result, Ok, Option, IfSome};
+ghost use Rattle.std.specs.Prelude.{◌≡◌, ◌≢◌, ◌≤◌, ℕ, ℤ, List, length, neg_ℤ, pos, true, [], Result, Ok, Option, IfOk, IfSome};
 ghost use Rattle.ctd_program.specs.Tree;
 ghost use Rattle.ctd_program.specs.declared.tree.Expr.{Expr};
 ghost use Rattle.ctd_program.specs.calls.View.{expr_tree, expr_list};

@@ -7,6 +7,7 @@ use Rattle.ctd_store.specs.declared.value.Value.TheVariants as values
 use Rattle.ctd_store.specs.Store.{Bindings}
 use Rattle.ctd_value.specs.Val.{val}
 use Rattle.ctd_known.specs.declared.facts.Kinds.{Kinds}
+use Rattle.ctd_range.specs.calls.Ranges.{Relates}
 use Rattle.ctd_known.specs.calls.Facts.{Known, EachStands, MayBe}
 
 -- two values are of one kind, and compare so if they are integers

@@ -5,13 +5,13 @@ use Rattle.ctd_traps.proofs.cut.cut_numbers.Goals as goal
 
 pub returns-then-is_empty : goal.returns-then-is_empty
 returns-then-is_empty c = λ k x y r s is_r is_s i j so.
-    absurd (c.is_empty.ensures.empty c.if-is_empty.true k x (c.restrict.ensures.refines k x y so
+    absurd (c.is_empty.ensures.empty c.if-is_empty.true k x (c.restrict-cut.ensures.refines k x y so
     (subst (λ q. IsIn q k x) (some_same r c.in-Some-Some.x (sym is_r ∙ c.in-Some-Some.is-0)) i) (subst (λ q. IsIn q k y) (some_same s c.in-Some-Some.y (sym is_s ∙ c.in-Some-Some.is-1)) j)))
 
 pub returns-else-is_empty : goal.returns-else-is_empty
 returns-else-is_empty c = λ k x y r s is_r is_s i j so. (
-  c.restrict.result,
+  c.restrict-cut.result,
   refl,
-  c.restrict.ensures.refines k x y so
+  c.restrict-cut.ensures.refines k x y so
       (subst (λ q. IsIn q k x) (some_same r c.in-Some-Some.x (sym is_r ∙ c.in-Some-Some.is-0)) i) (subst (λ q. IsIn q k y) (some_same s c.in-Some-Some.y (sym is_s ∙ c.in-Some-Some.is-1)) j),
 )
