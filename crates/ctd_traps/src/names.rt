@@ -44,7 +44,7 @@ fn count_blocks(commands: &[CommandInBlock]) -> usize {
 }
 
 /// The names of a program and of presets, and the cost of a pass: that of a name for each command, for each place where one stands, and for each name
-/// behind each block, where what is known of each name is compared with what is known of all.
+/// behind each block, where cases are joined.
 pub(crate) fn mentioned_in<'p>(
     alloc: Global,
     commands: &'p [Command],

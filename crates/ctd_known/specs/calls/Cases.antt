@@ -9,7 +9,7 @@ use Rattle.ctd_known.specs.declared.cases.Case.{Case}
 abbrev pub case_in : Ground → Case → List Known
 case_in g x = facts_in g x.known.items
 
--- in each of some cases
+-- what is known in each of some cases
 abbrev pub cases_in : Ground → List Case → List (List Known)
 cases_in g cases = map (case_in g) cases
 

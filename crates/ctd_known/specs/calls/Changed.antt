@@ -10,11 +10,11 @@ use Rattle.ctd_known.specs.calls.Facts.{Known, EachStands, MayBe, PinsStand, at_
 abbrev pub AssignsAlone : (pinned known : List Known) → List ℕ → Kinds → List Known → Type 0
 AssignsAlone pinned known name kinds after = (pins : Variables) (n : ℕ) (h : Bindings) (v : Value) → PinsStand pinned pins → h.pins ≡ pins → EachStands known n h → MayBe kinds n v → EachStands after n (assign h (at_key name []) v)
 
--- of an element of a name
+-- what is known once an element of a name got one of some values
 abbrev pub AssignsElements : List Known → List ℕ → Kinds → List Known → Type 0
 AssignsElements known name kinds after = (n : ℕ) (h : Bindings) (i : Value) (is : List Value) (v : Value) → EachStands known n h → MayBe kinds n v → EachStands after n (assign h (at_key name (i ∷ is)) v)
 
--- of a name that loses what was assigned to it
+-- what is known once a name lost what was assigned to it
 abbrev pub Clears : (pinned known : List Known) → List ℕ → List Known → Type 0
 Clears pinned known name after = (pins : Variables) (n : ℕ) (h : Bindings) → PinsStand pinned pins → h.pins ≡ pins → EachStands known n h → EachStands after n (unset h name)
 

@@ -22,7 +22,7 @@ named_facts names [] = []
 named_facts [] (x ∷ xs) = record { name = []; facts = x } ∷ named_facts [] xs
 named_facts (q ∷ qs) (x ∷ xs) = record { name = q.now; facts = x } ∷ named_facts qs xs
 
--- of the names by which a walk goes
+-- what is known of the names by which a walk goes
 abbrev pub facts_in : Ground → List NameFacts → List Known
 facts_in g known = named_facts g.names.now known
 

@@ -18,7 +18,7 @@ DividesTo if_true if_false f k h (Ok true) = OneStands if_true k h
 DividesTo if_true if_false f k h (Ok false) = OneStands if_false k h
 DividesTo if_true if_false f k h (Err fault) = IsAmong f fault
 
--- of a test by the cases in which it is asked
+-- what a test gives in the cases in which it is asked
 abbrev pub Divides : List (List Known) → TestTree → (if_true if_false : List (List Known)) → Faults → Type 0
 Divides cases t if_true if_false f = (k : ℕ) (h : Bindings) (d : TestData) (p : ℕ) → OneStands cases k h → DividesTo if_true if_false f k h (truth t h d p)
 

@@ -40,7 +40,7 @@ Decides if_true if_false f k h (Ok true) = EachStands if_true k h
 Decides if_true if_false f k h (Ok false) = EachStands if_false k h
 Decides if_true if_false f k h (Err fault) = IsAmong f fault
 
--- of a test by what is known
+-- what a test may give by what is known
 abbrev pub SplitsBy : List Known → TestTree → (if_true if_false : List Known) → Faults → Type 0
 SplitsBy known t if_true if_false f = (k : ℕ) (h : Bindings) (d : TestData) (p : ℕ) → EachStands known k h → Decides if_true if_false f k h (truth t h d p)
 

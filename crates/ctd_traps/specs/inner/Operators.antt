@@ -18,12 +18,12 @@ use Rattle.ctd_traps.specs.declared.expression.Operator.TheVariants as operators
 use Rattle.ctd_known.specs.calls.Facts.{MayBe}
 use Rattle.ctd_known.specs.calls.Faults.{IsAmong}
 
--- the same of numbers
+-- a number or a fault is among those that were found, where so many steps are left
 abbrev pub IsComputed : Found → ℕ → Result ℤ Fault → Type 0
 IsComputed f k (Ok z) = MayBe f.kinds k (values.Int z)
 IsComputed f k (Err fault) = IsAmong f.faults fault
 
--- the operation
+-- what an operator gives of two numbers
 abbrev pub operate : Operator → ℤ → ℤ → Result ℤ Fault
 operate operators.Sum x y = in_range (x +ℤ y)
 operate operators.Difference x y = in_range (x -ℤ y)
@@ -47,7 +47,7 @@ HasOperator o (Element' p name shape row) = Unit {0}
 HasOperator o (Strlen' p e) = Unit {0}
 HasOperator o (Minus' p e) = Unit {0}
 
--- what it gives of numbers of two ranges
+-- what an operator gives of numbers of two ranges
 abbrev pub IsWithinRanges : Operator → Range → Range → Computed → Type 0
 IsWithinRanges o a b c = (n : ℕ) (x y : ℤ) → IsIn a n x → IsIn b n y → Covers c n (operate o x y)
 
