@@ -6,7 +6,9 @@ mod cursors;
 mod large;
 mod memory;
 mod order;
+mod pulls;
 mod starts;
+mod truths;
 
 use ctd_source::LookFault;
 use ctd_syntax::{Bytes, Name, Presets};
