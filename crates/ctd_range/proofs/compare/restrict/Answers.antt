@@ -2,6 +2,9 @@ use Rattle.std.proofs.Common.{◌≡◌, sym, subst}
 use Rattle.ctd_range.specs.calls.Ranges.{IsIn, Relates}
 use Rattle.ctd_range.proofs.compare.restrict.Goals as goal
 
+pub returns-in-Less : goal.returns-in-Less
+returns-in-Less c = record { refines = λ k x y so i j. c.less.ensures.refines k x y (subst (λ by. Relates by x y) c.in-Less.is so) i j }
+
 pub returns-in-AtMost : goal.returns-in-AtMost
 returns-in-AtMost c = record { refines = λ k x y so i j. c.at_most.ensures.refines k x y (subst (λ by. Relates by x y) c.in-AtMost.is so) i j }
 
