@@ -1,6 +1,4 @@
-pub mod Reports
 pub mod UsageWritten
 pub mod UsageFaults
 pub mod RunLemmas
-pub mod Outlook
 pub mod Spelled

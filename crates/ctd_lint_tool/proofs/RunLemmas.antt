@@ -11,7 +11,7 @@ use Rattle.ctd_report.specs.Report.{Report}
 use Rattle.ctd_report.specs.Written.{BeforeAfter, EndsWithReport, WritesOneOf, before_after, broken_off, whole}
 use Rattle.ctd_lint_tool.specs.declared.command_line.LintFault.{LintFault}
 use Rattle.ctd_lint_tool.specs.declared.command_line.LintFault.TheVariants as faults
-use Rattle.ctd_lint_tool.specs.declared.command_line.LintSetup.{LintSetup}
+use Rattle.ctd_lint_report.specs.declared.setup.LintSetup.{LintSetup}
 use Rattle.ctd_lint_tool.specs.calls.FileReport.{usage_report}
 use Rattle.ctd_lint_tool.specs.calls.Usage.{IsLintFault}
 use Rattle.ctd_lint_tool.specs.calls.Run.{FailsMidwayAt, EndsArgs, EndsIn, EndsInFault, EndsWords, IsReportOf, Lints, Means, RunsOutAt, Stand, bad_words, no_room, of_fault, one_more}

@@ -1,10 +1,6 @@
 -- What the contract of `answer` reaches.
 pub mod Words
 pub mod CommandLine
-pub mod Kinds
-pub mod Text
-pub mod Traps
-pub mod Report
 pub mod Opening
 pub mod FileReport
 pub mod Usage

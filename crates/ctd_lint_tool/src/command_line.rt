@@ -4,45 +4,18 @@ ghost use Rattle.std.specs.Prelude.{◌≡◌, ◌⊎◌, IfErr, IfOk, List, Mat
 ghost use Rattle.clap.specs.Words.{FailsBy, Text, all_of, app_of, fault_of, found_of, matches_of, rows_of, rule_of};
 ghost use Rattle.ctd_arguments.specs.calls.Options.{IsLocal};
 ghost use Rattle.ctd_lint_tool.specs.calls.CommandLine.{AreKindsOf, IsLintSetup, linter, parts, programs_rule};
-ghost use Rattle.ctd_lint_tool.specs.calls.Kinds.{lint_kind_named};
+ghost use Rattle.ctd_lint_report.specs.calls.Kinds.{lint_kind_named};
 ghost use Rattle.ctd_lint_tool.specs.calls.Usage.{IsLintFault, TellsUnknown, first_unknown, unknown_in};
 ghost use Rattle.ctd_lint_tool.specs.inner.Usage.{IsFoundIn};
 
-use crate::kind::LintKind;
 use crate::words::spelled_out;
 use clap::{Arg, ArgAction, ArgMatches, Command, Error};
 use ctd_arguments::{
     UsageFault, define_option, fault_for, flag, is_set, option, presets_of, texts_of, value_of,
 };
-use ctd_program::Presets;
+use ctd_lint_report::{LintKind, LintSetup};
 use ctd_token::Bytes;
 use std::alloc::{AllocError, Global};
-
-/// What the command line asks for.
-pub(crate) struct LintSetup {
-    /// The names of the programs' files.
-    pub(crate) programs: Vec<Bytes>,
-    /// The names that presets give values.
-    pub(crate) presets: Presets,
-    /// The kinds that are left out.
-    pub(crate) ignored: Vec<LintKind>,
-    /// Whether a line tells of verdicts.
-    pub(crate) verdicts: bool,
-    /// Whether the traps of elements and of arrays in UNIQUE are shown too.
-    pub(crate) elements: bool,
-}
-
-impl Drop for LintSetup {
-    fn drop(self) {
-        let LintSetup {
-            programs: _,
-            presets: _,
-            ignored: _,
-            verdicts: _,
-            elements: _,
-        } = self;
-    }
-}
 
 /// Why the words ask for no program.
 #[derive(Drop)]

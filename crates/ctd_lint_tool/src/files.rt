@@ -7,12 +7,10 @@ ghost use Rattle.ctd_report.specs.Written.{WritesOneOf, before_after};
 ghost use Rattle.ctd_lint_tool.specs.calls.FileReport.{IsNamedReport};
 ghost use Rattle.ctd_lint_tool.specs.calls.Run.{stand};
 ghost use Rattle.ctd_lint_tool.specs.inner.Run.{LeavesRun};
-ghost use Rattle.ctd_lint_tool.specs.calls.Text.{open_line};
+ghost use Rattle.ctd_lint_report.specs.calls.Text.{open_line};
 
-use crate::command_line::LintSetup;
-use crate::lint::{NO_WARNINGS, lint};
 use crate::programs::Programs;
-use crate::text::open_text;
+use ctd_lint_report::{LintSetup, NO_WARNINGS, lint, open_text};
 use ctd_report::{NO_VERDICT, Sink, ToolFault, write_report};
 use ctd_source::Source;
 use ctd_token::Bytes;

@@ -4,12 +4,8 @@
 
 mod command_line;
 mod files;
-mod kind;
-mod lint;
 mod process;
 mod programs;
-mod text;
-mod traps;
 mod usage;
 mod words;
 

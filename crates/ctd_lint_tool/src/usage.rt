@@ -7,7 +7,7 @@ ghost use Rattle.ctd_report.specs.Written.{EndsWithReport, before_after};
 ghost use Rattle.ctd_lint_tool.specs.calls.FileReport.{unknown_kind_text, usage_report};
 
 use crate::command_line::LintFault;
-use crate::lint::NO_WARNINGS;
+use ctd_lint_report::NO_WARNINGS;
 use ctd_report::{NO_VERDICT, Sink, ToolFault, write_report};
 use ctd_token::Bytes;
 use std::alloc::{AllocError, Global};

@@ -8,9 +8,9 @@ use Rattle.clap.specs.declared.builder.ArgAction.TheVariants.{Append, Set, SetTr
 use Rattle.ctd_arguments.specs.CommandLine.{option_rule}
 use Rattle.ctd_arguments.specs.Usage.{ArePresetsOf}
 use Rattle.ctd_arguments.specs.calls.Usage.{is_on}
-use Rattle.ctd_lint_tool.specs.declared.command_line.LintSetup.{LintSetup}
-use Rattle.ctd_lint_tool.specs.declared.kind.LintKind.{LintKind}
-use Rattle.ctd_lint_tool.specs.calls.Kinds.{lint_kind_named}
+use Rattle.ctd_lint_report.specs.declared.setup.LintSetup.{LintSetup}
+use Rattle.ctd_lint_report.specs.declared.kind.LintKind.{LintKind}
+use Rattle.ctd_lint_report.specs.calls.Kinds.{lint_kind_named}
 use Rattle.ctd_lint_tool.specs.calls.Words.{spelled_out}
 
 -- -D, --define

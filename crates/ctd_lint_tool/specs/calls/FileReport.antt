@@ -3,10 +3,10 @@ use Rattle.ctd_lint_tool.specs.declared.command_line.LintFault.TheVariants as fa
 use Rattle.std.specs.Prelude.{◌≡◌, ◌++◌, ℕ, List, None, Option, Some, codes}
 use Rattle.ctd_source.specs.declared.source.Source.{Ghosts}
 use Rattle.ctd_report.specs.Report.{Report, on_err, on_out}
-use Rattle.ctd_lint_tool.specs.declared.command_line.LintSetup.{LintSetup}
+use Rattle.ctd_lint_report.specs.declared.setup.LintSetup.{LintSetup}
 use Rattle.ctd_lint_tool.specs.declared.command_line.LintFault.{LintFault}
-use Rattle.ctd_lint_tool.specs.calls.Report.{IsLintReport, call}
-use Rattle.ctd_lint_tool.specs.calls.Text.{open_line}
+use Rattle.ctd_lint_report.specs.calls.Report.{IsLintReport, call}
+use Rattle.ctd_lint_report.specs.calls.Text.{open_line}
 
 -- the program of this name was opened, and the report is that of what its source gave from then on; or it could not be opened, and the report says so
 pub data IsNamedReport {F S : Type 0} (opens : F → List ℕ → Option S → F → Type 0) (G : Ghosts S) (name : List ℕ) (setup : LintSetup) (old new : F) (report : Report) : Type 0 where

@@ -14,7 +14,7 @@ use Rattle.ctd_report.specs.Writer.{new_sink}
 use Rattle.ctd_report.specs.Written.{FailsMidway, EndsWithReport, WritesAll, before_after}
 use Rattle.ctd_process.specs.Process.{Args, Begins, Gives, words_in}
 use Rattle.ctd_lint_tool.specs.declared.command_line.LintFault.{LintFault}
-use Rattle.ctd_lint_tool.specs.declared.command_line.LintSetup.{LintSetup}
+use Rattle.ctd_lint_report.specs.declared.setup.LintSetup.{LintSetup}
 use Rattle.ctd_lint_tool.specs.declared.process.Answered.{Answered}
 use Rattle.ctd_lint_tool.specs.calls.CommandLine.{IsLintSetup}
 use Rattle.ctd_lint_tool.specs.calls.FileReport.{IsNamedReport, usage_report}

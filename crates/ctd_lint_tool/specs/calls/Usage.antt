@@ -10,7 +10,7 @@ use Rattle.ctd_arguments.specs.Usage.{ArePresetsOf, fault_by_kind}
 use Rattle.ctd_arguments.specs.calls.Usage.{HasNoPresets}
 use Rattle.ctd_lint_tool.specs.declared.command_line.LintFault.{LintFault}
 use Rattle.ctd_lint_tool.specs.calls.CommandLine.{errors_in, found_in, parts}
-use Rattle.ctd_lint_tool.specs.calls.Kinds.{lint_kind_named}
+use Rattle.ctd_lint_report.specs.calls.Kinds.{lint_kind_named}
 
 -- the fault here that a fault of the checker's words is; this command line has neither steps nor a flag to generate
 abbrev pub lint_fault : UsageFault → LintFault

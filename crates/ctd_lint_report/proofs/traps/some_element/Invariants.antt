@@ -1,0 +1,6 @@
+use Rattle.std.proofs.Common.{◌≡◌, drop}
+use Rattle.ctd_lint_report.specs.calls.Traps.{some_element}
+use Rattle.ctd_lint_report.proofs.traps.some_element.Given as goal
+
+abbrev pub invariant-loop-trap : goal.invariant-loop-trap
+invariant-loop-trap l = some_element (drop l.trap-index l.traps) ≡ some_element l.traps

@@ -1,0 +1,77 @@
+-- The kinds of traps, and what --ignore names.
+use Rattle.ctd_known.specs.declared.faults.TrapKind.TheVariants as traps
+use Rattle.ctd_findings.specs.declared.kind.Rank.TheVariants as ranks
+use Rattle.ctd_lint_report.specs.declared.kind.LintKind.TheVariants as kinds
+use Rattle.std.specs.Prelude.{ℕ, Bool, true, false, List, [], ◌∷◌, codes, Option, Some, None, if◌then◌else◌}
+use Rattle.std.specs.Str.{bytes_eq}
+use Rattle.ctd_known.specs.declared.faults.TrapKind.{TrapKind}
+use Rattle.ctd_findings.specs.declared.kind.Kind.{Kind}
+use Rattle.ctd_findings.specs.declared.kind.Rank.{Rank}
+use Rattle.ctd_findings.specs.calls.Kinds.{kind_name, kind_named}
+use Rattle.ctd_lint_report.specs.declared.kind.LintKind.{LintKind}
+
+-- all kinds of traps
+abbrev pub all_traps : List TrapKind
+all_traps = traps.NoValue ∷ traps.NoElement ∷ traps.WrongType ∷ traps.Overflow ∷ traps.DivisionByZero ∷ traps.BadExponent ∷ traps.BadCount ∷ traps.OtherShape ∷ []
+
+-- the name of a kind of traps
+abbrev pub trap_name : TrapKind → List ℕ
+trap_name traps.NoValue = codes "no-value-here"
+trap_name traps.NoElement = codes "no-element-here"
+trap_name traps.WrongType = codes "wrong-type-here"
+trap_name traps.Overflow = codes "overflow"
+trap_name traps.DivisionByZero = codes "division-by-zero"
+trap_name traps.BadExponent = codes "bad-exponent"
+trap_name traps.BadCount = codes "bad-count"
+trap_name traps.OtherShape = codes "other-shape"
+
+-- what a kind of traps says, without the name of a variable
+abbrev pub trap_text : TrapKind → List ℕ
+trap_text traps.NoValue = codes "may be without a value here"
+trap_text traps.NoElement = codes "may have an element without a value here"
+trap_text traps.WrongType = codes "may be a string here where a number is wanted, or a number where a string is wanted"
+trap_text traps.Overflow = codes "may overflow"
+trap_text traps.DivisionByZero = codes "may divide by zero"
+trap_text traps.BadExponent = codes "may be a bad exponent"
+trap_text traps.BadCount = codes "may be a bad count"
+trap_text traps.OtherShape = codes "may be arrays with different indices"
+
+-- whether a trap is that of an element without a value
+abbrev pub is_element : TrapKind → Bool
+is_element traps.NoElement = true
+is_element _ = false
+
+-- whether a trap is that of arrays in UNIQUE
+abbrev pub is_shape : TrapKind → Bool
+is_shape traps.OtherShape = true
+is_shape _ = false
+
+-- whether a trap is neither of an element nor of arrays in UNIQUE, of which most are listed though no data can spring them
+abbrev pub is_covered : TrapKind → Bool
+is_covered traps.NoElement = false
+is_covered traps.OtherShape = false
+is_covered _ = true
+
+-- how sure it is that a trap is a mistake
+abbrev pub trap_rank : TrapKind → Rank
+trap_rank kind = if is_covered kind then ranks.Warning else ranks.Note
+
+-- the first of some kinds of traps that has this name
+abbrev pub trap_named_among : List TrapKind → List ℕ → Option TrapKind
+trap_named_among [] name = None
+trap_named_among (k ∷ rest) name = if bytes_eq (trap_name k) name then Some k else trap_named_among rest name
+
+-- the name of a kind of findings or of traps
+abbrev pub lint_kind_name : LintKind → List ℕ
+lint_kind_name (kinds.Finding kind) = kind_name kind
+lint_kind_name (kinds.Trap kind) = trap_name kind
+
+-- a kind of findings, or one of traps, if there is one
+abbrev pub either_kind : Option Kind → Option TrapKind → Option LintKind
+either_kind (Some kind) trap = Some (kinds.Finding kind)
+either_kind None (Some kind) = Some (kinds.Trap kind)
+either_kind None None = None
+
+-- the kind of findings or of traps that has this name, if there is one
+abbrev pub lint_kind_named : List ℕ → Option LintKind
+lint_kind_named name = either_kind (kind_named name) (trap_named_among all_traps name)

@@ -1,0 +1,139 @@
+//! The kinds of traps, and the kinds that the command line names.
+
+ghost use Rattle.std.specs.Prelude.{◌≡◌};
+ghost use Rattle.ctd_lint_report.specs.calls.Kinds.{is_covered, is_element, is_shape, lint_kind_name, lint_kind_named, trap_name, trap_named_among, trap_rank, trap_text};
+
+use ctd_findings::{Kind, Rank};
+use ctd_known::TrapKind;
+
+/// All kinds of traps.
+const TRAPS: [TrapKind; 8] = [
+    TrapKind::NoValue,
+    TrapKind::NoElement,
+    TrapKind::WrongType,
+    TrapKind::Overflow,
+    TrapKind::DivisionByZero,
+    TrapKind::BadExponent,
+    TrapKind::BadCount,
+    TrapKind::OtherShape,
+];
+
+/// The kind of a finding or of a trap.
+#[derive(Clone, Copy)]
+pub enum LintKind {
+    /// A likely mistake.
+    Finding(Kind),
+    /// Where a run may stop without a verdict.
+    Trap(TrapKind),
+}
+
+/// The name of a kind of traps, as `bad-count`.
+pub(crate) fn trap_name(kind: TrapKind) -> &'static str
+    ensures { result.now ≡ trap_name kind }
+{
+    match kind {
+        TrapKind::NoValue => "no-value-here",
+        TrapKind::NoElement => "no-element-here",
+        TrapKind::WrongType => "wrong-type-here",
+        TrapKind::Overflow => "overflow",
+        TrapKind::DivisionByZero => "division-by-zero",
+        TrapKind::BadExponent => "bad-exponent",
+        TrapKind::BadCount => "bad-count",
+        TrapKind::OtherShape => "other-shape",
+    }
+}
+
+/// What a kind of traps says, without the name of a variable.
+pub(crate) fn trap_text(kind: TrapKind) -> &'static str
+    ensures { result.now ≡ trap_text kind }
+{
+    match kind {
+        TrapKind::NoValue => "may be without a value here",
+        TrapKind::NoElement => "may have an element without a value here",
+        TrapKind::WrongType =>
+            "may be a string here where a number is wanted, or a number where a string is wanted",
+        TrapKind::Overflow => "may overflow",
+        TrapKind::DivisionByZero => "may divide by zero",
+        TrapKind::BadExponent => "may be a bad exponent",
+        TrapKind::BadCount => "may be a bad count",
+        TrapKind::OtherShape => "may be arrays with different indices",
+    }
+}
+
+/// Whether a trap is that of an element without a value.
+pub(crate) fn is_element(kind: TrapKind) -> bool
+    ensures { result ≡ is_element kind }
+{
+    match kind {
+        TrapKind::NoElement => true,
+        _ => false,
+    }
+}
+
+/// Whether a trap is that of arrays in UNIQUE.
+pub(crate) fn is_shape(kind: TrapKind) -> bool
+    ensures { result ≡ is_shape kind }
+{
+    match kind {
+        TrapKind::OtherShape => true,
+        _ => false,
+    }
+}
+
+/// Whether a trap is neither of an element nor of arrays in UNIQUE.
+pub(crate) fn is_covered(kind: TrapKind) -> bool
+    ensures { result ≡ is_covered kind }
+{
+    match kind {
+        TrapKind::NoElement | TrapKind::OtherShape => false,
+        _ => true,
+    }
+}
+
+/// How sure it is that a trap is a mistake.
+pub(crate) fn trap_rank(kind: TrapKind) -> Rank
+    ensures { result ≡ trap_rank kind }
+{
+    if is_covered(kind) {
+        Rank::Warning
+    } else {
+        Rank::Note
+    }
+}
+
+/// The first of some kinds of traps that has this name.
+fn trap_named_among(kinds: &[TrapKind], name: &str) -> Option<TrapKind>
+    ensures { result ≡ trap_named_among kinds.now name.now }
+{
+    for kind in kinds {
+        if trap_name(*kind) == name {
+            return Some(*kind);
+        }
+    }
+    None
+}
+
+impl LintKind {
+    /// The name of a kind.
+    pub(crate) fn name(self) -> &'static str
+        ensures { result.now ≡ lint_kind_name self }
+    {
+        match self {
+            LintKind::Finding(kind) => kind.name(),
+            LintKind::Trap(kind) => trap_name(kind),
+        }
+    }
+
+    /// The kind of this name, if there is one.
+    pub fn named(name: &str) -> Option<LintKind>
+        ensures { result ≡ lint_kind_named name.now }
+    {
+        match Kind::named(name) {
+            Some(kind) => Some(LintKind::Finding(kind)),
+            None => match trap_named_among(&TRAPS, name) {
+                Some(kind) => Some(LintKind::Trap(kind)),
+                None => None,
+            },
+        }
+    }
+}

@@ -1,0 +1,13 @@
+//! What is written of a program of the checktestdata language: what it cannot mean, and where it may stop without a verdict.
+#![tactic(auto)]
+
+mod kind;
+mod program;
+mod setup;
+mod text;
+mod traps;
+
+pub use kind::LintKind;
+pub use program::{NO_WARNINGS, lint};
+pub use setup::LintSetup;
+pub use text::open_text;

@@ -1,0 +1,154 @@
+//! A program, read, and the report of its findings.
+
+ghost use Rattle.std.specs.Prelude.{◌≡◌, ◌++◌, IfOk, false};
+ghost use Rattle.ctd_source.specs.declared.source.Seen.TheVariants.{Going};
+ghost use Rattle.ctd_report.specs.Report.{on_err};
+ghost use Rattle.ctd_report.specs.calls.Written.{Leaves};
+ghost use Rattle.ctd_report.specs.Written.{WritesOneOf, before_after};
+ghost use Rattle.ctd_lint_report.specs.calls.Report.{IsLintReport, call, findings_status, program_lines, program_report, program_status, verdict_status, traps_status};
+ghost use Rattle.ctd_lint_report.specs.calls.Text.{error_line, kept};
+ghost use Rattle.ctd_lint_report.specs.calls.Traps.{kept_traps};
+
+use crate::kind::{LintKind, trap_rank};
+use crate::setup::LintSetup;
+use crate::text::{error_text, findings_text, is_ignored};
+use crate::traps::{is_shown, verdict_text};
+use ctd_findings::{Finding, Rank, findings};
+use ctd_loader::Plan;
+use ctd_report::{NO_VERDICT, Sink, ToolFault, write_report};
+use ctd_source::Source;
+use ctd_token::{Bytes, LoadFault, LoadKind};
+use ctd_traps::{Finding as Trap, TrapList, traps};
+use std::alloc::{AllocError, Global};
+
+/// The status of a program without warnings.
+pub const NO_WARNINGS: u8 = 0;
+
+/// The status of a program with warnings.
+const WARNINGS: u8 = 1;
+
+/// The status for some findings, but for those of kinds that are left out.
+fn status_of(found: &[Finding], ignored: &[LintKind]) -> u8
+    ensures { result ≡ findings_status (kept ignored.now found.now) }
+{
+    for finding in found {
+        let kind = finding.remark.kind;
+        if !is_ignored(kind.name(), ignored) && kind.rank() == Rank::Warning {
+            return WARNINGS;
+        }
+    }
+    NO_WARNINGS
+}
+
+/// The status for some traps, but for those that are not shown.
+fn traps_status(setup: &LintSetup, traps: &[Trap]) -> u8
+    ensures { result ≡ traps_status (kept_traps setup.now traps.now) }
+{
+    for trap in traps {
+        let kind = trap.kind;
+        if is_shown(kind, setup) && trap_rank(kind) == Rank::Warning {
+            return WARNINGS;
+        }
+    }
+    NO_WARNINGS
+}
+
+/// The status for the traps of a program, as far as they are told and shown.
+fn verdict_status(setup: &LintSetup, told: &Option<TrapList<'_>>) -> u8
+    ensures { result ≡ verdict_status setup.now told.now }
+{
+    match told {
+        Some(list) => traps_status(setup, list.findings.as_slice()),
+        None => NO_WARNINGS,
+    }
+}
+
+/// The status for findings and traps.
+fn program_status(setup: &LintSetup, found: &[Finding], told: &Option<TrapList<'_>>) -> u8
+    ensures { result ≡ program_status setup.now found.now told.now }
+{
+    let own = status_of(found, setup.ignored.as_slice());
+    own.max(verdict_status(setup, told))
+}
+
+/// The lines of findings and traps.
+fn program_text(
+    alloc: Global,
+    setup: &LintSetup,
+    file: &Bytes,
+    found: &[Finding],
+    told: &Option<TrapList<'_>>,
+) -> Result<Vec<u8>, AllocError>
+    ensures { IfOk result (λ text. text.items ≡ program_lines file.now setup.now found.now told.now) }
+{
+    let mut text = findings_text(alloc, file.as_slice(), found, setup.ignored.as_slice())?;
+    let lines = verdict_text(alloc, file.as_slice(), setup, told)?;
+    text.extend_from_slice(lines.as_slice())?;
+    Ok(text)
+}
+
+/// Writes the findings and the traps of a program, and returns the status.
+fn write_program<O: Sink, E: Sink>(
+    alloc: Global,
+    setup: &LintSetup,
+    file: &Bytes,
+    found: &[Finding],
+    told: &Option<TrapList<'_>>,
+    out: &mut O,
+    err: &mut E,
+) -> Result<u8, ToolFault>
+    requires out_works { O.has_failed out.old ≡ false }
+    requires err_works { E.has_failed err.old ≡ false }
+    ensures written { Leaves (before_after O.Sink out.old out.new) (before_after E.Sink err.old err.new)
+        (program_report file.now setup.now found.now told.now) result }
+{
+    let text = program_text(alloc, setup, file, found, told)?;
+    let status = program_status(setup, found, told);
+    write_report(text.as_slice(), &[], status, out, err)
+}
+
+/// Writes why a program is refused, and returns the status.
+fn write_refusal<O: Sink, E: Sink>(
+    alloc: Global,
+    file: &Bytes,
+    fault: &LoadFault,
+    out: &mut O,
+    err: &mut E,
+) -> Result<u8, ToolFault>
+    requires out_works { O.has_failed out.old ≡ false }
+    requires err_works { E.has_failed err.old ≡ false }
+    ensures written { Leaves (before_after O.Sink out.old out.new) (before_after E.Sink err.old err.new) (on_err (error_line file.now fault.now)) result }
+{
+    let text = error_text(alloc, file.as_slice(), fault)?;
+    write_report(&[], text.as_slice(), NO_VERDICT, out, err)
+}
+
+/// Reads the program in a file and writes a line for each finding and trap, and returns the status. A program that is refused has a line on standard error.
+///
+/// `Write` is returned where a stream failed, which then holds a part of its text from the start, and the other stream nothing.
+/// `Memory` is returned where memory ran out: nothing was written.
+pub fn lint<P: Source, O: Sink, E: Sink>(
+    alloc: Global,
+    setup: &LintSetup,
+    file: &Bytes,
+    program: &mut P,
+    out: &mut O,
+    err: &mut E,
+) -> Result<u8, ToolFault>
+    requires program_going { P.seen program.old ≡ Going }
+    requires out_works { O.has_failed out.old ≡ false }
+    requires err_works { E.has_failed err.old ≡ false }
+    ensures written { WritesOneOf (before_after O.Sink out.old out.new) (before_after E.Sink err.old err.new)
+        (IsLintReport file.now setup.now (call P.Source program.old program.new)) result }
+{
+    let plan = match Plan::load(alloc, program) {
+        Ok(plan) => plan,
+        Err(fault) => match fault.kind {
+            LoadKind::Memory => return Err(ToolFault::Memory),
+            _ => return write_refusal(alloc, file, &fault, out, err),
+        },
+    };
+    let found = findings(alloc, plan.commands(), &setup.presets)?;
+    let told = traps(alloc, plan.commands(), &setup.presets)?;
+    write_program(alloc, setup, file, found.as_slice(), &told, out, err)
+}

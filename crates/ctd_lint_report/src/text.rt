@@ -1,0 +1,176 @@
+//! How findings and faults are written: as compilers do, so that editors find their places.
+
+ghost use Rattle.std.specs.Prelude.{◌≡◌, ◌++◌, decimal, OnOk, IfOk};
+ghost use Rattle.ctd_lint_report.specs.calls.Text.{error_line, fault_place_text, finding_line, findings_lines, is_ignored, kept, kind_text, name_text, open_line, place_text, rank_text, remark_text};
+
+use crate::kind::LintKind;
+use ctd_findings::{Finding, Kind, Rank, Remark};
+use ctd_token::{Bytes, LoadFault, Place};
+use itoa::Buffer;
+use std::alloc::{AllocError, Global};
+
+/// What a kind of findings says, without the name of a variable.
+fn kind_text(kind: Kind) -> &'static str
+    ensures { result.now ≡ kind_text kind }
+{
+    match kind {
+        Kind::UnknownPreset => "the program does not mention this name",
+        Kind::Unreachable => "never reached: the loop before does not end",
+        Kind::AfterEof => "nothing can come here: EOF before it asks for the end of the data",
+        Kind::NoValue => "nothing gives this name a value (give it a default by SET, or one by -D)",
+        Kind::Unread => "nothing reads this variable",
+        Kind::OwnReads => "only its own assignments read this variable",
+        Kind::WrongSort =>
+            "a number stands where a string is wanted, or a string where a number is wanted",
+        Kind::LiteralIndex =>
+            "nothing reads this counter, and the loop sets an element by a literal index",
+        Kind::CounterSet => "a command in the loop sets its counter too",
+        Kind::CounterBehind =>
+            "the counter is read behind the loop, where it is the number of turns",
+        Kind::RangeTrue => "the test is true for all numbers that INT gives its variables",
+        Kind::RangeFalse => "the test is false for all numbers that INT gives its variables",
+        Kind::RepeatsBounds => "the test asks for no more than the bounds of INT",
+        Kind::KeptArray =>
+            "each turn of this loop also sees what earlier turns put into this array (see UNSET)",
+        Kind::AlwaysTrue => "the test is true whatever the data are",
+        Kind::AlwaysFalse => "the test is false whatever the data are",
+        Kind::SameSides => "the two sides of a comparison are the same",
+        Kind::SameNames => "UNIQUE has a name twice",
+        Kind::EmptyRange => "the least integer is above the greatest",
+        Kind::EmptyString => "the string is empty",
+        Kind::EmptyPattern => "the pattern is empty",
+        Kind::LetterRange => "A-z has six signs that are no letters, from [ to `",
+        Kind::HiddenAlternative => "an alternative is never taken: an earlier one is its beginning",
+        Kind::Caret => "a match always begins here, so ^ has no effect",
+        Kind::Dollar => "$ is the end of the window, not of a line",
+        Kind::NoBound => "the pattern has no bound on its length",
+        Kind::LineFeed => "the pattern matches a line feed too",
+    }
+}
+
+/// The word of a rank.
+pub(crate) fn rank_text(rank: Rank) -> &'static str
+    ensures { result.now ≡ rank_text rank }
+{
+    match rank {
+        Rank::Note => "note",
+        Rank::Warning => "warning",
+    }
+}
+
+/// Appends the name that a remark is about, if there is one.
+fn write_name(name: &Option<Bytes>, text: &mut Vec<u8>) -> Result<(), AllocError>
+    ensures { OnOk result (text.new.items ≡ text.old.items ++ name_text name.now) }
+{
+    let Some(name) = name else {
+        return Ok(());
+    };
+    text.extend_from_slice(b": ")?;
+    text.extend_from_slice(name.as_slice())
+}
+
+/// Appends what a remark says, with the name of its kind.
+fn write_remark(remark: &Remark, text: &mut Vec<u8>) -> Result<(), AllocError>
+    ensures { OnOk result (text.new.items ≡ text.old.items ++ remark_text remark.now) }
+{
+    text.extend_from_slice(rank_text(remark.kind.rank()).as_bytes())?;
+    text.extend_from_slice(b": ")?;
+    text.extend_from_slice(kind_text(remark.kind).as_bytes())?;
+    write_name(&remark.name, text)?;
+    text.extend_from_slice(b" [")?;
+    text.extend_from_slice(remark.kind.name().as_bytes())?;
+    text.extend_from_slice(b"]\n")
+}
+
+/// Appends a number.
+fn write_number(number: u32, text: &mut Vec<u8>) -> Result<(), AllocError>
+    ensures { OnOk result (text.new.items ≡ text.old.items ++ decimal number) }
+{
+    text.extend_from_slice(Buffer::new().format(number).as_bytes())
+}
+
+/// Appends a place behind the name of a file.
+pub(crate) fn write_place(place: Place, text: &mut Vec<u8>) -> Result<(), AllocError>
+    ensures { OnOk result (text.new.items ≡ text.old.items ++ place_text place) }
+{
+    text.push(b':')?;
+    write_number(place.line, text)?;
+    text.push(b':')?;
+    write_number(place.column, text)?;
+    Ok(())
+}
+
+/// Appends the line of a finding in a file.
+fn write_finding(file: &[u8], finding: &Finding, text: &mut Vec<u8>) -> Result<(), AllocError>
+    ensures { OnOk result (text.new.items ≡ text.old.items ++ finding_line file.now finding.now) }
+{
+    text.extend_from_slice(file)?;
+    write_place(finding.place, text)?;
+    text.extend_from_slice(b": ")?;
+    write_remark(&finding.remark, text)
+}
+
+/// Whether what has a kind of this name is left out.
+pub(crate) fn is_ignored(name: &str, ignored: &[LintKind]) -> bool
+    ensures { result ≡ is_ignored ignored.now name.now }
+{
+    for left_out in ignored {
+        if left_out.name() == name {
+            return true;
+        }
+    }
+    false
+}
+
+/// The lines of the findings in a file, but for those of kinds that are left out.
+pub(crate) fn findings_text(
+    alloc: Global,
+    file: &[u8],
+    found: &[Finding],
+    ignored: &[LintKind],
+) -> Result<Vec<u8>, AllocError>
+    ensures { IfOk result (λ text. text.items ≡ findings_lines file.now (kept ignored.now found.now)) }
+{
+    let mut text = Vec::new(alloc);
+    for finding in found {
+        if !is_ignored(finding.remark.kind.name(), ignored) {
+            write_finding(file, finding, &mut text)?;
+        }
+    }
+    Ok(text)
+}
+
+/// Appends the place of a fault, where it has one.
+fn write_fault_place(place: Option<Place>, text: &mut Vec<u8>) -> Result<(), AllocError>
+    ensures { OnOk result (text.new.items ≡ text.old.items ++ fault_place_text place) }
+{
+    match place {
+        Some(place) => write_place(place, text),
+        None => Ok(()),
+    }
+}
+
+/// The line of a program that is refused.
+pub(crate) fn error_text(
+    alloc: Global,
+    file: &[u8],
+    fault: &LoadFault,
+) -> Result<Vec<u8>, AllocError>
+    ensures { IfOk result (λ text. text.items ≡ error_line file.now fault.now) }
+{
+    let mut text = file.to_vec(alloc)?;
+    write_fault_place(fault.place, &mut text)?;
+    text.extend_from_slice(b": error: ")?;
+    text.extend_from_slice(fault.kind.text().as_bytes())?;
+    text.push(b'\n')?;
+    Ok(text)
+}
+
+/// The line of a program that cannot be opened.
+pub fn open_text(alloc: Global, file: &[u8]) -> Result<Vec<u8>, AllocError>
+    ensures { IfOk result (λ text. text.items ≡ open_line file.now) }
+{
+    let mut text = file.to_vec(alloc)?;
+    text.extend_from_slice(b": error: cannot open\n")?;
+    Ok(text)
+}

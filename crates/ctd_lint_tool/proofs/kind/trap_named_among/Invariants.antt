@@ -1,6 +1,0 @@
-use Rattle.std.proofs.Common.{◌≡◌, drop}
-use Rattle.ctd_lint_tool.specs.calls.Kinds.{trap_named_among}
-use Rattle.ctd_lint_tool.proofs.kind.trap_named_among.Given as goal
-
-abbrev pub invariant-loop-kind : goal.invariant-loop-kind
-invariant-loop-kind l = trap_named_among (drop l.kind-index l.kinds) l.name ≡ trap_named_among l.kinds l.name

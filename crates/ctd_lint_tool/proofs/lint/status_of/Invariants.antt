@@ -1,7 +1,0 @@
-use Rattle.std.proofs.Common.{◌≡◌, drop}
-use Rattle.ctd_lint_tool.specs.calls.Report.{findings_status}
-use Rattle.ctd_lint_tool.specs.calls.Text.{kept}
-use Rattle.ctd_lint_tool.proofs.lint.status_of.Given as goal
-
-abbrev pub invariant-loop-finding : goal.invariant-loop-finding
-invariant-loop-finding l = findings_status (kept l.ignored (drop l.finding-index l.found)) ≡ findings_status (kept l.ignored l.found)

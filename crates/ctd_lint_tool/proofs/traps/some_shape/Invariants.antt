@@ -1,6 +1,0 @@
-use Rattle.std.proofs.Common.{◌≡◌, drop}
-use Rattle.ctd_lint_tool.specs.calls.Traps.{some_shape}
-use Rattle.ctd_lint_tool.proofs.traps.some_shape.Given as goal
-
-abbrev pub invariant-loop-trap : goal.invariant-loop-trap
-invariant-loop-trap l = some_shape (drop l.trap-index l.traps) ≡ some_shape l.traps
