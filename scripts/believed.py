@@ -4,6 +4,7 @@
 Each crate's definitions stand in three places: right in specs/ what the theorem of the tool reaches, which has to be believed; in specs/calls/
 what else the contracts of public calls reach; in specs/inner/ what only the contracts of private functions and the proofs use. A definition
 reaches what it names, a contract what its clauses name, and a type what its model names. Proofs reach nothing: the prover has read them.
+A second list has what the sentences of `ctd-lint --verdicts` rest on besides.
 It fails too where a proof stands outside of specs/inner/, where a definition has no line in plain words above it, and where a definition to be
 believed has a word that cannot be followed.
 """
@@ -21,6 +22,10 @@ PAGE = 'docs/TRUST.md'
 # The calls whose contracts are the theorem of the tool, and the module that has it.
 THEOREM = {('ctd_tool', name) for name in ('answer', 'run_words', 'run_tool')}
 THEOREM_MODULE = 'ctd_tool.specs.Theorem'
+# The call on whose contract the sentences of `ctd-lint --verdicts` rest, and what it says of all else that is written: a parameter of the theorem,
+# which holds whatever it is.
+VERDICTS = ('ctd_lint_tool', 'answer')
+PARAMETER = ('ctd_lint_report.specs.calls.Report', 'AreRemarks')
 # What the toolchain calls a fact, besides what begins with Is.
 FACTS = {'Consumes', 'CmpEqualImpliesEq', 'IfSome', 'IfOk', 'IfErr', 'All'}
 REASONS = {
@@ -155,13 +160,13 @@ class Repository:
                     roots |= {('code',) + item.key, ('invariant',) + item.key}
         return roots
 
-    def reached(self, roots):
-        """Each node that is reached, with the one before it on the way."""
+    def reached(self, roots, without=frozenset()):
+        """Each node that is reached, with the one before it on the way; some are passed over."""
         before, queue = {root: None for root in roots}, deque(sorted(roots))
         while queue:
             node = queue.popleft()
             for other in sorted(self.edges.get(node, ())):
-                if other not in before and not self.is_proof(other):
+                if other not in before and other not in without and not self.is_proof(other):
                     before[other] = node
                     queue.append(other)
         return before
@@ -169,6 +174,10 @@ class Repository:
     def theorem(self):
         """What the theorem of the tool reaches."""
         return self.reached({('code', *call) for call in THEOREM})
+
+    def verdicts(self):
+        """What the sentences of ctd-lint on verdicts rest on."""
+        return self.reached({('code', *VERDICTS)}, {PARAMETER})
 
     def definitions(self):
         """Each definition with the path of its module, in reading order: the theorem first, then from the lowest crate up."""
@@ -210,26 +219,50 @@ def definitions_table(repository):
     return [row('Crate', 'Definitions', 'Lines', 'What they say'), row(*['---'] * 4), *rows, row('', f'in {len(rows)} files', total, '')]
 
 
+def verdicts_table(repository):
+    """The definitions and types of code on which the sentences of ctd-lint rest besides those of the first tables, from the lowest crate up."""
+    reached, theorem = repository.verdicts(), repository.theorem()
+    rows, total = [], 0
+    for path in dict.fromkeys(path for path, _ in repository.definitions()):
+        nodes = [(path, definition.name) for definition in repository.modules[path].definitions]
+        found = [repository.homes[node] for node in nodes if node in reached and node not in theorem]
+        if found:
+            size = sum(definition.size() for definition in found)
+            total += size
+            names = ', '.join(f'`{definition.name}`' for definition in found)
+            rows.append(row(path.split('.')[0], f'[`{path.split(".")[-1]}`](../{repository.show(path)})', size, names))
+    first = code_items(repository, theorem)
+    code, lines = code_rows(repository, [item for item in code_items(repository, reached) if item not in first])
+    head = [row('Crate', 'Definitions or code', 'Lines', 'Names'), row(*['---'] * 4)]
+    return [*head, *rows, *code, row('', f'in {len(rows)} files of definitions', total, ''), row('', f'in {len(code)} files of code', lines, '')]
+
+
 def code_table(repository):
     """The types, traits and constants of the code that these definitions name."""
-    theorem = repository.theorem()
+    rows, total = code_rows(repository, code_items(repository, repository.theorem()))
+    return [row('Crate', 'Code', 'Lines', 'Types, traits and constants'), row(*['---'] * 4), *rows, row('', f'in {len(rows)} files', total, '')]
+
+
+def code_items(repository, reached):
+    """The types, traits and constants of the code that definitions among some nodes name."""
     named = set()
     for path, definition in repository.definitions():
-        if (path, definition.name) in theorem:
+        if (path, definition.name) in reached:
             named |= repository.edges[path, definition.name]
-    found, total = {}, 0
-    for source in repository.sources:
-        for item in source.items:
-            node = ('code', *item.key)
-            if item.kind and node in theorem and (node in named or item.kind == 'trait'):
-                found.setdefault(item.file, []).append(item)
+    items = [item for source in repository.sources for item in source.items if item.kind and ('code', *item.key) in reached]
+    return [item for item in items if item.kind == 'trait' or ('code', *item.key) in named]
+
+
+def code_rows(repository, items):
+    """A row for each file that has some of these items, and how many lines they have in all."""
+    found = {}
+    for item in items:
+        found.setdefault(item.file, []).append(item)
     rows = []
-    for file, items in found.items():
-        size = sum(item.size for item in items)
-        total += size
-        crate, place = items[0].key[0], file.relative_to(repository.root)
-        rows.append(row(crate, f'[`{file.name}`](../{place})', size, ', '.join(f'`{item.key[1]}`' for item in items)))
-    return [row('Crate', 'Code', 'Lines', 'Types, traits and constants'), row(*['---'] * 4), *rows, row('', f'in {len(rows)} files', total, '')]
+    for file, inside in found.items():
+        crate, place = inside[0].key[0], file.relative_to(repository.root)
+        rows.append(row(crate, f'[`{file.name}`](../{place})', sum(item.size for item in inside), ', '.join(f'`{item.key[1]}`' for item in inside)))
+    return rows, sum(item.size for item in items)
 
 
 def kit_table(repository):
@@ -248,7 +281,7 @@ def kit_table(repository):
     return [row('Module of the toolchain', 'Words', 'Lines that they lead to'), row(*['---'] * 3), *rows, total]
 
 
-TABLES = {'definitions': definitions_table, 'code': code_table, 'toolchain': kit_table}
+TABLES = {'definitions': definitions_table, 'code': code_table, 'toolchain': kit_table, 'verdicts': verdicts_table}
 
 
 def renewed(repository, page):
@@ -266,10 +299,14 @@ def renewed(repository, page):
 
 def failures(repository):
     """What is wrong with the definitions, each in one line."""
-    places = repository.places()
-    for call in sorted(THEOREM):
-        if not any(item.key == call for source in repository.sources for item in source.items):
-            yield f'{call[0]} has no call {call[1]}, whose contract is a part of the theorem'
+    places, verdicts = repository.places(), repository.verdicts()
+    calls = {item.key for source in repository.sources for item in source.items}
+    for call in sorted(THEOREM - calls):
+        yield f'{call[0]} has no call {call[1]}, whose contract is a part of the theorem'
+    if VERDICTS not in calls:
+        yield f'{VERDICTS[0]} has no call {VERDICTS[1]}, on whose contract the sentences of ctd-lint rest'
+    if PARAMETER not in repository.homes:
+        yield f'{PARAMETER[0]} has no definition {PARAMETER[1]}, which is passed over'
     for path, definition in repository.definitions():
         node, where = (path, definition.name), repository.folder(path)
         if where != 'inner' and repository.is_proof(node):
@@ -278,7 +315,7 @@ def failures(repository):
             yield f'{repository.show(path)}: {definition.name} {REASONS[places[node]]}'
         if not definition.described:
             yield f'{repository.show(path)}: {definition.name} has no line in plain words above it'
-        if where == '':
+        if where == '' or node in verdicts:
             for word in unknown_words(repository.modules[path], definition):
                 yield f'{repository.show(path)}: {definition.name} names {word}, which its module neither defines nor imports'
     for file, name in repository.lost_imports():
@@ -297,7 +334,7 @@ def late_names(repository):
 
 def way_to(repository, name):
     """By which way a definition is reached, from it to the contract."""
-    for nodes in (repository.theorem(), repository.reached(repository.public_calls())):
+    for nodes in (repository.theorem(), repository.verdicts(), repository.reached(repository.public_calls())):
         for node in nodes:
             if '.'.join(node).endswith(f'.{name}'):
                 while node is not None:

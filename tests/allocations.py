@@ -73,6 +73,11 @@ LONG_NAMES = b"""INT(1,9,vertices) NEWLINE
 SET(neighbour[longestname,vertices]=vertices,neighbour["nearest"]=longestname)
 ASSERT(UNIQUE(neighbour) && INARRAY(longestname,neighbour) && neighbour["nearest"]==3) UNSET(neighbour,vertices)
 """
+# What ctd-lint has to guess about: loops in loops, branches whose states stay apart, and a trap at the end.
+LOOPS = b"""INT(1,9,n) SET(sum=0)
+REPI(i,n,SPACE) INT(0,9,x) SET(sum=sum+x) WHILE(MATCH("-")) STRING("-") IF(x>5) SET(last=x) END END END
+ASSERT(sum/n>last)
+"""
 LONG_LINE = b'REGEX("([a-z]+ )*",line) REGEX("[0-9]",digit) NEWLINE'
 
 
@@ -197,10 +202,14 @@ def command_lines(folder: Path) -> dict[str, CommandLine]:
 def lint_lines(folder: Path) -> dict[str, CommandLine]:
     """Command lines of ctd-lint by what they do."""
     (folder / "false.ctd").write_bytes(b"INT(1,9,longestname) ASSERT(1==2)")
-    names = {name: str(folder / name) for name in ["false.ctd", "open.ctd", "none.ctd"]}
+    (folder / "loops.ctd").write_bytes(LOOPS)
+    names = {name: str(folder / name) for name in ["false.ctd", "loops.ctd", "open.ctd", "none.ctd"]}
+    loops = names["loops.ctd"]
+    trap = f"{loops}:3:1: risk: may be without a value here: last [no-value-here]\n{loops}: places that may stop a run without a verdict: at most 1\n".encode()
     finding = f"{names['false.ctd']}:1:22: warning: the test is false whatever the data are [always-false]\n".encode()
     lines: dict[str, tuple[list[str], Left]] = {
         "findings": (["--ignore=unread,caret", "-D", "longestname=3", names["false.ctd"]], (1, finding, b"")),
+        "traps": (["--verdicts", loops], (1, trap, b"")),
         "a program that is refused": ([names["open.ctd"]], (2, b"", f"{names['open.ctd']}:1:9: error: syntax error\n".encode())),
         "a program that is not there": ([names["none.ctd"]], (2, b"", f"{names['none.ctd']}: error: cannot open\n".encode())),
         "a kind that there is not": (["--ignore=caret,longestname", names["false.ctd"]], (2, b"", b"ctd-lint: unknown kind: longestname\n")),

@@ -237,18 +237,22 @@ REPOSITORY = {
     "crates/low/specs/calls/Calls.antt": "-- Calls.\nuse Rattle.std.specs.Prelude.{ℕ}\n\n-- What a call of low does.\npub called : ℕ → ℕ\ncalled n = n\n",
     "crates/low/src/lib.rt": "pub use low::low;\nmod low;\n",
     "crates/low/src/low.rt": "ghost use Rattle.low.specs.calls.Calls.{called};\npub fn low()\n    ensures { called 1 ≡ 1 }\n{\n}\n",
-    "crates/high/specs/Lib.antt": "pub mod Theorem\n",
+    "crates/high/specs/Lib.antt": "pub mod Theorem\npub mod calls\n",
+    "crates/high/specs/calls.antt": "pub mod Verdicts\n",
+    "crates/high/specs/calls/Verdicts.antt": "-- Verdicts.\nuse Rattle.low.specs.Base.{base}\nuse Rattle.std.specs.Prelude.{ℕ, ◌≡◌}\n\n-- A help.\nsaid : ℕ → ℕ\nsaid n = base n\n\n-- Says.\npub Says : (ℕ → ℕ) → ℕ → Type 0\nSays f n = f n ≡ said n\n\n-- A text.\ntext : ℕ → ℕ\ntext n = n\n\n-- Remarks.\npub remark : ℕ → ℕ\nremark n = text n\n",
     "crates/high/specs/Theorem.antt": "-- It.\nuse Rattle.low.specs.Base.{base}\nuse Rattle.std.specs.Prelude.{ℕ, ◌≡◌}\n\n-- Holds.\npub Holds : ℕ → Type 0\nHolds n = base n ≡ n\n",
-    "crates/high/src/lib.rt": "pub use high::high;\nmod high;\n",
+    "crates/high/src/lib.rt": "pub use high::high;\npub use lint::lint;\nmod high;\nmod lint;\n",
     "crates/high/src/high.rt": "ghost use Rattle.high.specs.Theorem.{Holds};\npub fn high()\n    ensures { Holds 1 }\n{\n}\n",
+    "crates/high/src/lint.rt": "ghost use Rattle.high.specs.calls.Verdicts.{Says, remark};\npub fn lint()\n    ensures { Says remark 1 }\n{\n}\n",
 }
 
 
 class Places(unittest.TestCase):
     def setUp(self) -> None:
         self.folder = Path(self.enterContext(tempfile.TemporaryDirectory()))
-        self.addCleanup(setattr, believed, "THEOREM", believed.THEOREM)
-        believed.THEOREM = {("high", "high")}
+        for name, value in {"THEOREM": {("high", "high")}, "VERDICTS": ("high", "lint"), "PARAMETER": ("high.specs.calls.Verdicts", "remark")}.items():
+            self.addCleanup(setattr, believed, name, getattr(believed, name))
+            setattr(believed, name, value)
 
     def failures(self, **changes: str) -> list[str]:
         """What is wrong with the repository where some of its files are others."""
@@ -370,6 +374,22 @@ class Places(unittest.TestCase):
     def test_a_theorem_that_is_gone(self) -> None:
         believed.THEOREM = {("high", "high"), ("high", "gone")}
         self.assertEqual(self.failures(), ["high has no call gone, whose contract is a part of the theorem"])
+
+    def test_the_second_list_has_what_the_first_lacks_and_not_what_the_parameter_reaches(self) -> None:
+        self.failures()
+        rows = believed.verdicts_table(believed.Repository(self.folder))
+        self.assertEqual(rows[2], "| high | [`Verdicts`](../crates/high/specs/calls/Verdicts.antt) | 4 | `said`, `Says` |")
+        self.assertEqual(rows[3:], ["|  | in 1 files of definitions | 4 |  |", "|  | in 0 files of code | 0 |  |"])
+
+    def test_a_second_list_whose_call_or_parameter_is_gone(self) -> None:
+        believed.VERDICTS = ("high", "gone")
+        self.assertEqual(self.failures(), ["high has no call gone, on whose contract the sentences of ctd-lint rest"])
+        believed.VERDICTS, believed.PARAMETER = ("high", "lint"), ("high.specs.calls.Verdicts", "gone")
+        self.assertEqual(self.failures(), ["high.specs.calls.Verdicts has no definition gone, which is passed over"])
+
+    def test_a_word_of_the_second_list_that_cannot_be_followed(self) -> None:
+        text = REPOSITORY["crates/high/specs/calls/Verdicts.antt"].replace("said n = base n", "said n = unheard n")
+        self.assertEqual(len(self.failures(**{"crates/high/specs/calls/Verdicts.antt": text})), 1)
 
 
 class Toolchain(unittest.TestCase):

@@ -19,7 +19,7 @@ from pathlib import Path
 from markdown_blocks import INDENTED, Block, Command, anchors, blocks, commands, links
 from results import TOP, checker_to_test, print_results
 
-GUIDES = ["TUTORIAL", "COOKBOOK", "MIGRATION", "INTEGRATION", "FAQ", "MISTAKES"]
+GUIDES = ["TUTORIAL", "COOKBOOK", "MIGRATION", "INTEGRATION", "MISTAKES"]
 DOCUMENTS = ["README.md", "SECURITY.md", "examples/README.md", *(f"docs/{name}.md" for name in GUIDES)]
 SESSIONS = ["console", INDENTED]
 OUT_OF_TIME = 60
@@ -125,12 +125,22 @@ def results_of(name: str, checker: Path, folder: Path) -> Iterator[tuple[int, st
         yield number, fault_of_link(document, link)
 
 
+def fault_of_speed() -> str | None:
+    """Whether README's two numbers on speed are those that bench/README.md measured."""
+    rows = [line.split() for line in (TOP / "bench/README.md").read_text().splitlines()]
+    ratio = {row[0]: row[4] for row in rows if len(row) > 4 and row[0] in ["integers", "arithmetic"]}
+    wanted = f"{ratio['integers']} times as long as by a C program for just that, and arithmetic alone {ratio['arithmetic']} times"
+    return None if wanted in " ".join((TOP / "README.md").read_text().split()) else f"does not say {wanted!r}"
+
+
 def all_results(checker: Path) -> Iterator[tuple[str, list[str]]]:
     """The results of each document, which has a folder of its own."""
     for name in DOCUMENTS:
         with tempfile.TemporaryDirectory() as folder:
             for number, fault in results_of(name, checker, Path(folder)):
                 yield f"{name}, line {number}", [] if fault is None else [fault]
+    fault = fault_of_speed()
+    yield "README.md, speed", [] if fault is None else [fault]
 
 
 if __name__ == "__main__":

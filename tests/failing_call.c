@@ -3,13 +3,16 @@
    READ_FAILS=N, WRITE_FAILS=N  the Nth of these calls fails, counted from 1; none where it is 0
    FAILS_WITH=NUMBER            with the error of this number; where it is 0 it moves no byte
    READ_MOST=N, WRITE_MOST=N    a call moves at most so many bytes; any number where it is 0
+   OPEN_FAILS=PATH              this path cannot be opened
    CALLS_TOLD=FILE              where the process writes at its end how often it read and wrote, and how many bytes its reads gave of standard
                                 input and of other files */
 #define _GNU_SOURCE
 #include <errno.h>
 #include <fcntl.h>
+#include <stdarg.h>
 #include <stdio.h>
 #include <stdlib.h>
+#include <string.h>
 #include <sys/syscall.h>
 #include <unistd.h>
 
@@ -58,3 +61,18 @@ ssize_t read(int file, void *bytes, size_t count) {
 ssize_t write(int file, const void *bytes, size_t count) {
     return call(&writes, SYS_write, file, (void *)bytes, count);
 }
+
+int open(const char *path, int flags, ...) {
+    const char *closed = getenv("OPEN_FAILS");
+    va_list words;
+    va_start(words, flags);
+    unsigned mode = flags & O_CREAT ? va_arg(words, unsigned) : 0;
+    va_end(words);
+    if (closed && strcmp(path, closed) == 0) {
+        errno = EACCES;
+        return -1;
+    }
+    return (int)syscall(SYS_openat, AT_FDCWD, path, flags, mode);
+}
+
+int open64(const char *path, int flags, ...) __attribute__((alias("open")));

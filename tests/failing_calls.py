@@ -1,5 +1,6 @@
 #!/usr/bin/env python3
-"""Runs the built checker and ctd-lint with one read or write of the process failing, each in turn, and counts its reads and writes.
+"""Runs the built checker and ctd-lint with one read or write of the process failing, each in turn, and counts its reads and writes. Where a stream is
+closed and `/` cannot be opened in its place, no file may stand for it.
 
 A call that fails, with whatever error, is made once: an interrupted one is not made again. So each run has to end as it stands here, with so
 many calls, though the calls behind the failing one would be served. The last line counts the runs that did so, as passed, and the others.
@@ -45,12 +46,13 @@ class Left:
 
 @dataclass(frozen=True)
 class Case:
-    """The words of a run, which calls of it fail, and what it has to leave."""
+    """The words of a run, which calls of it fail, what it has to leave, and the number of a stream that is closed."""
 
     name: str
     words: list[str]
-    calls: dict[str, int]
+    calls: dict[str, int | str]
     wanted: Left
+    closed: int | None = None
 
 
 class Checker:
@@ -66,11 +68,12 @@ class Checker:
         """What a run leaves, whose standard input has the data that fit."""
         told = self.folder / "told"
         told.unlink(missing_ok=True)
-        calls = {name: str(number) for name, number in case.calls.items()}
+        calls = {name: str(value) for name, value in case.calls.items()}
+        close = None if case.closed is None else lambda: os.close(case.closed)
         environment = {**os.environ, "LD_PRELOAD": str(self.library), "CALLS_TOLD": str(told), **calls}
         with (self.folder / "right.in").open("rb") as data:
             ended = subprocess.run(
-                [self.program, *case.words], stdin=data, capture_output=True, cwd=self.folder, env=environment, check=False
+                [self.program, *case.words], stdin=data, capture_output=True, cwd=self.folder, env=environment, check=False, preexec_fn=close
             )
         reads, writes, *_ = map(int, told.read_text().split())
         return Left(ended.returncode, ended.stdout, ended.stderr, reads, writes)
@@ -121,9 +124,16 @@ def unfailing() -> Iterator[Case]:
         yield Case("each call moves a byte", words, {"READ_MOST": 1, "WRITE_MOST": 1}, Left(0, FITS, b"", reads, len(FITS)))
 
 
+def without_folder(words: list[str], err: bytes) -> Iterator[Case]:
+    """Runs with a closed stream and no folder to hold its number: the first file would get it, so it is not opened."""
+    for stream in [0, 1, 2]:
+        yield Case(f"stream {stream} is closed", words, {"OPEN_FAILS": "/"}, Left(2, b"", b"" if stream == 2 else err, 0, 1), stream)
+
+
 def cases() -> Iterator[Case]:
     """All runs."""
     yield from unfailing()
+    yield from without_folder(["p.ctd", "right.in"], b"checktestdata: cannot open p.ctd\n")
     for error in ERRORS:
         yield from failing_reads(error)
     for error in [*ERRORS, TAKES_NONE]:
@@ -135,6 +145,7 @@ def lint_cases() -> Iterator[Case]:
     words = ["false.ctd", "space.ctd"]
     yield Case("no call fails", words, {}, Left(1, FINDING, b"", 4, 1))
     yield Case("each call moves a byte", words, {"READ_MOST": 1, "WRITE_MOST": 1}, Left(1, FINDING, b"", 13 + 6, len(FINDING)))
+    yield from without_folder(["space.ctd"], b"space.ctd: error: cannot open\n")
     for error in ERRORS:
         for turn in [1, 2]:
             yield Case(f"read {turn}", words, {"READ_FAILS": turn, "FAILS_WITH": error}, Left(2, b"", NOT_READ, turn + 2, 1))

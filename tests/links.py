@@ -3,7 +3,7 @@
 
 A link leads to a file or a folder, and with a `#` to a heading of it or to an `<a id="..">`. In docs/DESIGN.md, names that stand before "in" and a
 link are words of the file that the link leads to. docs/LANGUAGE.md has a link to each row of the table with an `<a id="..">`. What CONTRIBUTING.md has
-between backticks, if it is the name of a file or a word of the code, is there. The messages in the tables of docs/FAQ.md stand in docs/LANGUAGE.md.
+between backticks, if it is the name of a file or a word of the code, is there.
 
 The last line counts the links and names that are right, as passed, and the others. usage: tests/links.py [FOLDER]
 With FOLDER only the links of the documents below it are followed, such as those that are installed."""
@@ -18,7 +18,6 @@ from markdown_blocks import anchors, lines_of_text, links
 TOP = Path(__file__).resolve().parent.parent
 CONTRIBUTING = TOP / "CONTRIBUTING.md"
 DESIGN = TOP / "docs/DESIGN.md"
-FAQ = TOP / "docs/FAQ.md"
 LANGUAGE = TOP / "docs/LANGUAGE.md"
 MARK = re.compile(r'<a id="([^"]+)"></a>')
 NAMED = re.compile(r"((?:`\w+`(?:, |,? and )?)+)\sin\s\[`[^\]]*`\]\(([^)]+)\)")
@@ -88,15 +87,6 @@ def faults_of_code(document: Path) -> Iterator[tuple[int, str | None]]:
                 yield number, None if code in words else f"nothing here is called {code}"
 
 
-def faults_of_messages(document: Path) -> Iterator[tuple[int, str | None]]:
-    """For each message that begins a row of a document the number of its line, and whether docs/LANGUAGE.md lacks it."""
-    language = LANGUAGE.read_text()
-    for number, line in lines_of_text(document):
-        first = line.split("|")[1] if line.startswith("| `") else ""
-        for message in re.findall(r"`((?!checktestdata: )[^`]+)`", first):
-            yield number, None if f"`{message}`" in language else f"{LANGUAGE.name} has no message {message}"
-
-
 def results(folder: Path | None) -> Iterator[tuple[Path, int, str | None]]:
     """For each link, row and name of the documents the number of its line, and what is wrong with it."""
     for document in documents(folder):
@@ -111,8 +101,6 @@ def results(folder: Path | None) -> Iterator[tuple[Path, int, str | None]]:
         yield DESIGN, number, fault
     for number, fault in faults_of_code(CONTRIBUTING):
         yield CONTRIBUTING, number, fault
-    for number, fault in faults_of_messages(FAQ):
-        yield FAQ, number, fault
 
 
 def main() -> int:

@@ -21,6 +21,7 @@ from typing import Any
 
 from markdown_blocks import blocks
 from tables import unfolded
+from traps_told import EVERY
 
 TOP = Path(__file__).resolve().parent.parent
 LINTER = TOP / "crates/ctd_lint/out/ctd_lint"
@@ -34,7 +35,6 @@ MEGABYTE = 1_048_576
 # Where the kinds of findings are listed, and how a line that has some of them begins.
 LISTS = {
     "man/ctd-lint.1": ".It Cm ",
-    "docs/TUTORIAL.md": "| `",
     "completions/bash/ctd-lint": "    local kinds=",
     "completions/zsh/_ctd-lint": "    _values -s , kind ",
     "completions/fish/ctd-lint.fish": "set --local kinds ",
@@ -50,8 +50,8 @@ Hostile = tuple[str, str, int]
 Table = dict[str, Any]
 
 
-def told(table: Table, findings: list[list[Any]], verdict: str | None = None) -> Left:
-    """What a program with these findings and traps leaves, and with this said of verdicts."""
+def told(table: Table, findings: list[list[Any]], verdict: str | None = None, accepted: int | None = None) -> Left:
+    """What a program with these findings and traps leaves, and with this said of verdicts; the status of that may be accepted by the words."""
     lines, status = "", 0
     for line, column, kind, *names in findings:
         rank, text = (table["kinds"] | table["traps"])[kind]
@@ -60,6 +60,7 @@ def told(table: Table, findings: list[list[Any]], verdict: str | None = None) ->
         status = max(status, int(rank == "warning"))
     if verdict is not None:
         lines += f"F: {verdict}\n"
+        status = max(status, int(verdict != EVERY) if accepted is None else accepted)
     return status, lines, ""
 
 
@@ -68,7 +69,7 @@ def rows(table: Table) -> Iterator[Case]:
     no_traps = ["--ignore=" + ",".join(table["traps"])]
     for row in table["findings"]:
         words = row.get("words", []) + ([] if "traps" in row else no_traps)
-        yield f"row {row['program']}", unfolded(row["program"]), words, told(table, row["findings"] + row.get("traps", []), row.get("verdict"))
+        yield f"row {row['program']}", unfolded(row["program"]), words, told(table, row["findings"] + row.get("traps", []), row.get("verdict"), row.get("status"))
     for row in table["refusals"]:
         yield f"row {row['program']}", unfolded(row["program"]), row.get("words", []), (2, "", row["line"] + "\n")
 
@@ -135,7 +136,7 @@ class Linter:
         status, times = -1, []
         for _ in range(TRIES):
             before = resource.getrusage(resource.RUSAGE_CHILDREN)
-            status, _, _ = self.run(text, ["--verdicts=all"])
+            status, _, _ = self.run(text, ["--elements"])
             after = resource.getrusage(resource.RUSAGE_CHILDREN)
             times.append(after.ru_utime - before.ru_utime + after.ru_stime - before.ru_stime)
         return status, min(times)

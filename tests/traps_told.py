@@ -22,7 +22,7 @@ CONDITIONS = {
     f"{EVERY}, if arrays in UNIQUE have values at the same indices": ["other-shape"],
     f"{EVERY}, if elements have values where they are read, and arrays in UNIQUE at the same indices": ["no-element-here", "other-shape"],
 }
-LINE = re.compile(r"[^:]*:(\d+):(\d+): (?:warning|note): .* \[([a-z-]+)\]")
+LINE = re.compile(r"[^:]*:(\d+):(\d+): (?:warning|risk|note): .* \[([a-z-]+)\]")
 
 # The line and the column of a command, and the kind of a trap.
 Told = tuple[int, int, str]

@@ -13,7 +13,6 @@ NAMES = {
     "TUTORIAL": "Tutorial",
     "LANGUAGE": "Language",
     "COOKBOOK": "Cookbook",
-    "FAQ": "Messages",
     "MIGRATION": "Migration",
     "INTEGRATION": "Scripts and packages",
     "DESIGN": None,

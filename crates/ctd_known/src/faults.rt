@@ -4,7 +4,28 @@ ghost use Rattle.std.specs.Prelude.{◌≡◌, true};
 ghost use Rattle.ctd_outcome.specs.declared.reason.Fault.{Fault};
 ghost use Rattle.ctd_known.specs.calls.Faults.{IsAmong, IsOfKind};
 
-/// Which faults of a value there may be, and the indices of the first names, alone and of an array, that may have no value, where there are any.
+/// A variable, or an element of an array, by the index of its name, and the least and the greatest number that it may be, as far as they are known.
+#[derive(Clone, Copy)]
+pub struct Operand {
+    pub name: usize,
+    pub is_element: bool,
+    pub least: Option<i128>,
+    pub most: Option<i128>,
+}
+
+/// The first variable of a command that is to blame for a fault of a kind, where one is.
+#[derive(Clone, Copy)]
+pub struct Blame {
+    pub no_value: Option<usize>,
+    pub no_element: Option<usize>,
+    pub wrong_type: Option<Operand>,
+    pub overflow: Option<Operand>,
+    pub division_by_zero: Option<Operand>,
+    pub exponent: Option<Operand>,
+    pub count: Option<Operand>,
+}
+
+/// Which faults of a value there may be, and what is to blame for each.
 #[derive(Clone, Copy)]
 pub struct Faults {
     pub no_value: bool,
@@ -15,9 +36,19 @@ pub struct Faults {
     pub exponent: bool,
     pub count: bool,
     pub shape: bool,
-    pub name: Option<usize>,
-    pub array: Option<usize>,
+    pub blame: Blame,
 }
+
+/// Nothing is to blame.
+pub const NO_BLAME: Blame = Blame {
+    no_value: None,
+    no_element: None,
+    wrong_type: None,
+    overflow: None,
+    division_by_zero: None,
+    exponent: None,
+    count: None,
+};
 
 /// No fault.
 pub fn no_faults() -> Faults {
@@ -30,8 +61,20 @@ pub fn no_faults() -> Faults {
         exponent: false,
         count: false,
         shape: false,
-        name: None,
-        array: None,
+        blame: NO_BLAME,
+    }
+}
+
+/// What is to blame for the faults of two lists.
+fn first_blame(a: Blame, b: Blame) -> Blame {
+    Blame {
+        no_value: a.no_value.or(b.no_value),
+        no_element: a.no_element.or(b.no_element),
+        wrong_type: a.wrong_type.or(b.wrong_type),
+        overflow: a.overflow.or(b.overflow),
+        division_by_zero: a.division_by_zero.or(b.division_by_zero),
+        exponent: a.exponent.or(b.exponent),
+        count: a.count.or(b.count),
     }
 }
 
@@ -49,8 +92,7 @@ pub fn both(a: Faults, b: Faults) -> Faults
         exponent: a.exponent | b.exponent,
         count: a.count | b.count,
         shape: a.shape | b.shape,
-        name: a.name.or(b.name),
-        array: a.array.or(b.array),
+        blame: first_blame(a.blame, b.blame),
     }
 }
 

@@ -12,6 +12,6 @@ mod stop;
 pub use assign::{Ground, assign_alone, assign_element, clear, listed};
 pub use cases::{Case, are_within, join_cases, pay_each, widen_cases, with_all, with_case};
 pub use facts::{Kinds, Lengths, NameFacts, copy_of, facts_of, index_of, replace_facts};
-pub use faults::{Faults, TrapKind, both, has, no_faults};
+pub use faults::{Blame, Faults, NO_BLAME, Operand, TrapKind, both, has, no_faults};
 pub use steps::after_step;
 pub use stop::Stop;

@@ -1,4 +1,4 @@
-//! The ctd-lint program: tells what a program of the checktestdata language cannot mean, and where it may stop without a verdict.
+//! The ctd-lint program: reports likely mistakes in a program of the checktestdata language, and where it may stop without a verdict.
 #![tactic(auto)]
 
 use ctd_lint_tool::{System, answer};

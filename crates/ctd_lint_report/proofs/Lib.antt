@@ -1,2 +1,2 @@
 pub mod Reports
-pub mod Outlook
+pub mod VerdictText

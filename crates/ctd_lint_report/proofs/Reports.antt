@@ -10,18 +10,28 @@ use Rattle.ctd_findings.specs.declared.finding.Finding.{Finding}
 use Rattle.ctd_findings.specs.calls.Findings.{findings_of}
 use Rattle.ctd_lint_report.specs.declared.setup.LintSetup.{LintSetup}
 use Rattle.ctd_traps.specs.declared.program.TrapList.{TrapList}
-use Rattle.ctd_lint_report.specs.calls.Report.{IsLintReport, call, program_report}
+use Rattle.ctd_lint_report.specs.calls.Report.{AreRemarks, IsLintReport, call, program_report, remarks_of}
 use Rattle.ctd_lint_report.specs.calls.Text.{error_line}
 use Rattle.ctd_lint_report.specs.calls.Traps.{AreTraps}
 
 module _ {V P : Type 0} (tree_of : V → CommandList) (G : Ghosts P) (file : List ℕ) (setup : LintSetup) (old new : P) where
   -- a program that was loaded, its findings and its traps
-  pub reports_findings : (plan : V) (found : List Finding) (told : Option TrapList) → LoadsFrom tree_of G old new (Ok plan) → found ≡ findings_of (tree_of plan) setup.presets
-      → AreTraps (tree_of plan) setup.presets told → IsLintReport file setup (call G old new) (program_report file setup found told)
-  reports_findings plan found told l is are =
-      inl (record { tree = tree_of plan; text = l.bytes; gave_text = l.gave; loads = l.answer; told = told; traps = are; report_is = ap (λ fs. program_report file setup fs told) is })
+  pub reports_program : (plan : V) (found : List Finding) (told : Option TrapList) → LoadsFrom tree_of G old new (Ok plan) → found ≡ findings_of (tree_of plan) setup.presets
+      → AreTraps (tree_of plan) setup.presets told → IsLintReport AreRemarks file setup (call G old new) (program_report file setup (remarks_of file setup found told) told)
+  reports_program plan found told l is are =
+      inl (record {
+        tree = tree_of plan;
+        text = l.bytes;
+        gave_text = l.gave;
+        loads = l.answer;
+        told = told;
+        traps = are;
+        remarks = remarks_of file setup found told;
+        remarked = ap (λ fs. remarks_of file setup fs told) is;
+        report_is = refl;
+      })
 
   -- a program that was refused
   pub reports_refusal : (fault : LoadFault) → LoadsFrom tree_of G old new (Err fault) → fault.kind ≢ Memory
-      → IsLintReport file setup (call G old new) (on_err (error_line file fault))
+      → IsLintReport AreRemarks file setup (call G old new) (on_err (error_line file fault))
   reports_refusal fault l other = inr (record { fault = fault; text = l.bytes; gave_text = l.gave; within = l.short; fails = l.answer other; report_is = refl })

@@ -1,5 +1,6 @@
 -- What the contracts of public calls say.
 pub mod Kinds
-pub mod Text
 pub mod Traps
+pub mod Reasons
+pub mod Text
 pub mod Report

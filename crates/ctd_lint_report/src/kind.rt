@@ -1,9 +1,9 @@
 //! The kinds of traps, and the kinds that the command line names.
 
 ghost use Rattle.std.specs.Prelude.{◌≡◌};
-ghost use Rattle.ctd_lint_report.specs.calls.Kinds.{is_covered, is_element, is_shape, lint_kind_name, lint_kind_named, trap_name, trap_named_among, trap_rank, trap_text};
+ghost use Rattle.ctd_lint_report.specs.calls.Kinds.{is_element, is_ignored, is_mistyped, is_shape, is_shown_by_default, lint_kind_name, lint_kind_named, trap_name, trap_named_among, trap_text};
 
-use ctd_findings::{Kind, Rank};
+use ctd_findings::Kind;
 use ctd_known::TrapKind;
 
 /// All kinds of traps.
@@ -43,7 +43,7 @@ pub(crate) fn trap_name(kind: TrapKind) -> &'static str
     }
 }
 
-/// What a kind of traps says, without the name of a variable.
+/// What a kind of traps says, without the reason.
 pub(crate) fn trap_text(kind: TrapKind) -> &'static str
     ensures { result.now ≡ trap_text kind }
 {
@@ -80,24 +80,23 @@ pub(crate) fn is_shape(kind: TrapKind) -> bool
     }
 }
 
+/// Whether a trap is of a wrong type.
+pub(crate) fn is_mistyped(kind: TrapKind) -> bool
+    ensures { result ≡ is_mistyped kind }
+{
+    match kind {
+        TrapKind::WrongType => true,
+        _ => false,
+    }
+}
+
 /// Whether a trap is neither of an element nor of arrays in UNIQUE.
-pub(crate) fn is_covered(kind: TrapKind) -> bool
-    ensures { result ≡ is_covered kind }
+pub(crate) fn is_shown_by_default(kind: TrapKind) -> bool
+    ensures { result ≡ is_shown_by_default kind }
 {
     match kind {
         TrapKind::NoElement | TrapKind::OtherShape => false,
         _ => true,
-    }
-}
-
-/// How sure it is that a trap is a mistake.
-pub(crate) fn trap_rank(kind: TrapKind) -> Rank
-    ensures { result ≡ trap_rank kind }
-{
-    if is_covered(kind) {
-        Rank::Warning
-    } else {
-        Rank::Note
     }
 }
 
@@ -136,4 +135,16 @@ impl LintKind {
             },
         }
     }
+}
+
+/// Whether what has a kind of this name is left out.
+pub(crate) fn is_ignored(name: &str, ignored: &[LintKind]) -> bool
+    ensures { result ≡ is_ignored ignored.now name.now }
+{
+    for left_out in ignored {
+        if left_out.name() == name {
+            return true;
+        }
+    }
+    false
 }

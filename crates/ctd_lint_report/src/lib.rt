@@ -1,8 +1,9 @@
-//! What is written of a program of the checktestdata language: what it cannot mean, and where it may stop without a verdict.
+//! What is written of a program of the checktestdata language: its likely mistakes, and where it may stop without a verdict.
 #![tactic(auto)]
 
 mod kind;
 mod program;
+mod reason;
 mod setup;
 mod text;
 mod traps;

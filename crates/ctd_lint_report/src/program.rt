@@ -1,30 +1,31 @@
-//! A program, read, and the report of its findings.
+//! A program, read, and the report on it.
 
-ghost use Rattle.std.specs.Prelude.{◌≡◌, ◌++◌, IfOk, false};
+ghost use Rattle.std.specs.Prelude.{◌≡◌, IfOk, false};
 ghost use Rattle.ctd_source.specs.declared.source.Seen.TheVariants.{Going};
 ghost use Rattle.ctd_report.specs.Report.{on_err};
 ghost use Rattle.ctd_report.specs.calls.Written.{Leaves};
 ghost use Rattle.ctd_report.specs.Written.{WritesOneOf, before_after};
-ghost use Rattle.ctd_lint_report.specs.calls.Report.{IsLintReport, call, findings_status, program_lines, program_report, program_status, verdict_status, traps_status};
+ghost use Rattle.ctd_lint_report.specs.calls.Reasons.{reason_of};
+ghost use Rattle.ctd_lint_report.specs.calls.Report.{AreRemarks, IsLintReport, call, findings_status, is_of_wrong_type, mistyped_places, names_of, program_lines, program_report, program_status, remarks_of};
 ghost use Rattle.ctd_lint_report.specs.calls.Text.{error_line, kept};
-ghost use Rattle.ctd_lint_report.specs.calls.Traps.{kept_traps};
+ghost use Rattle.ctd_lint_report.specs.calls.Traps.{verdict_lines, verdict_status};
 
-use crate::kind::{LintKind, trap_rank};
+use crate::kind::{LintKind, is_ignored};
 use crate::setup::LintSetup;
-use crate::text::{error_text, findings_text, is_ignored};
-use crate::traps::{is_shown, verdict_text};
-use ctd_findings::{Finding, Rank, findings};
+use crate::text::{error_text, findings_text};
+use crate::traps::{some_open, too_large_text, traps_text, write_verdict_line};
+use ctd_findings::{Finding, Kind, Rank, findings};
 use ctd_loader::Plan;
 use ctd_report::{NO_VERDICT, Sink, ToolFault, write_report};
 use ctd_source::Source;
-use ctd_token::{Bytes, LoadFault, LoadKind};
-use ctd_traps::{Finding as Trap, TrapList, traps};
+use ctd_token::{Bytes, LoadFault, LoadKind, Place};
+use ctd_traps::{TrapList, traps};
 use std::alloc::{AllocError, Global};
 
 /// The status of a program without warnings.
 pub const NO_WARNINGS: u8 = 0;
 
-/// The status of a program with warnings.
+/// The status of a program with warnings, and where `--verdicts` does not find that every data file gets a verdict.
 const WARNINGS: u8 = 1;
 
 /// The status for some findings, but for those of kinds that are left out.
@@ -40,35 +41,81 @@ fn status_of(found: &[Finding], ignored: &[LintKind]) -> u8
     NO_WARNINGS
 }
 
-/// The status for some traps, but for those that are not shown.
-fn traps_status(setup: &LintSetup, traps: &[Trap]) -> u8
-    ensures { result ≡ traps_status (kept_traps setup.now traps.now) }
-{
-    for trap in traps {
-        let kind = trap.kind;
-        if is_shown(kind, setup) && trap_rank(kind) == Rank::Warning {
-            return WARNINGS;
-        }
-    }
-    NO_WARNINGS
-}
-
-/// The status for the traps of a program, as far as they are told and shown.
+/// The status that `--verdicts` asks for.
 fn verdict_status(setup: &LintSetup, told: &Option<TrapList<'_>>) -> u8
     ensures { result ≡ verdict_status setup.now told.now }
 {
-    match told {
-        Some(list) => traps_status(setup, list.findings.as_slice()),
-        None => NO_WARNINGS,
+    let Some(list) = told else {
+        return WARNINGS;
+    };
+    if some_open(list.findings.as_slice(), setup.ignored.as_slice()) {
+        WARNINGS
+    } else {
+        NO_WARNINGS
     }
 }
 
 /// The status for findings and traps.
-fn program_status(setup: &LintSetup, found: &[Finding], told: &Option<TrapList<'_>>) -> u8
-    ensures { result ≡ program_status setup.now found.now told.now }
+fn program_status(
+    file: &Bytes,
+    setup: &LintSetup,
+    found: &[Finding],
+    told: &Option<TrapList<'_>>,
+) -> u8
+    ensures { result ≡ program_status setup.now (remarks_of file.now setup.now found.now told.now) told.now }
 {
     let own = status_of(found, setup.ignored.as_slice());
+    if !setup.verdicts {
+        return own;
+    }
     own.max(verdict_status(setup, told))
+}
+
+/// Whether a finding is of a wrong type.
+fn is_of_wrong_type(kind: Kind) -> bool
+    ensures { result ≡ is_of_wrong_type kind }
+{
+    match kind {
+        Kind::WrongSort => true,
+        _ => false,
+    }
+}
+
+/// The places of findings that tell of a wrong type, but for those of kinds that are left out.
+fn mistyped_places(
+    alloc: Global,
+    found: &[Finding],
+    ignored: &[LintKind],
+) -> Result<Vec<Place>, AllocError>
+    ensures { IfOk result (λ places. places.items ≡ mistyped_places (kept ignored.now found.now)) }
+{
+    let mut places = Vec::new(alloc);
+    for finding in found {
+        let kind = finding.remark.kind;
+        if !is_ignored(kind.name(), ignored) && is_of_wrong_type(kind) {
+            places.push(finding.place)?;
+        }
+    }
+    Ok(places)
+}
+
+/// What is written of the traps of a program, but for wrong types of which findings at these places tell.
+fn verdict_text(
+    alloc: Global,
+    file: &[u8],
+    setup: &LintSetup,
+    mistyped: &[Place],
+    told: &Option<TrapList<'_>>,
+) -> Result<Vec<u8>, AllocError>
+    ensures { IfOk result (λ text. text.items ≡ verdict_lines file.now setup.now (reason_of (names_of told.now)) mistyped.now told.now) }
+{
+    let Some(list) = told else {
+        return too_large_text(alloc, file);
+    };
+    let traps = list.findings.as_slice();
+    let mut text = traps_text(alloc, file, setup, mistyped, list.names.as_slice(), traps)?;
+    write_verdict_line(file, setup, traps, &mut text)?;
+    Ok(text)
 }
 
 /// The lines of findings and traps.
@@ -79,10 +126,12 @@ fn program_text(
     found: &[Finding],
     told: &Option<TrapList<'_>>,
 ) -> Result<Vec<u8>, AllocError>
-    ensures { IfOk result (λ text. text.items ≡ program_lines file.now setup.now found.now told.now) }
+    ensures { IfOk result (λ text. text.items ≡ program_lines file.now setup.now (remarks_of file.now setup.now found.now told.now) told.now) }
 {
-    let mut text = findings_text(alloc, file.as_slice(), found, setup.ignored.as_slice())?;
-    let lines = verdict_text(alloc, file.as_slice(), setup, told)?;
+    let ignored = setup.ignored.as_slice();
+    let mut text = findings_text(alloc, file.as_slice(), found, ignored)?;
+    let mistyped = mistyped_places(alloc, found, ignored)?;
+    let lines = verdict_text(alloc, file.as_slice(), setup, mistyped.as_slice(), told)?;
     text.extend_from_slice(lines.as_slice())?;
     Ok(text)
 }
@@ -100,10 +149,10 @@ fn write_program<O: Sink, E: Sink>(
     requires out_works { O.has_failed out.old ≡ false }
     requires err_works { E.has_failed err.old ≡ false }
     ensures written { Leaves (before_after O.Sink out.old out.new) (before_after E.Sink err.old err.new)
-        (program_report file.now setup.now found.now told.now) result }
+        (program_report file.now setup.now (remarks_of file.now setup.now found.now told.now) told.now) result }
 {
     let text = program_text(alloc, setup, file, found, told)?;
-    let status = program_status(setup, found, told);
+    let status = program_status(file, setup, found, told);
     write_report(text.as_slice(), &[], status, out, err)
 }
 
@@ -139,7 +188,7 @@ pub fn lint<P: Source, O: Sink, E: Sink>(
     requires out_works { O.has_failed out.old ≡ false }
     requires err_works { E.has_failed err.old ≡ false }
     ensures written { WritesOneOf (before_after O.Sink out.old out.new) (before_after E.Sink err.old err.new)
-        (IsLintReport file.now setup.now (call P.Source program.old program.new)) result }
+        (IsLintReport AreRemarks file.now setup.now (call P.Source program.old program.new)) result }
 {
     let plan = match Plan::load(alloc, program) {
         Ok(plan) => plan,

@@ -1,14 +1,11 @@
-//! For what a report is asked.
+//! What the report of a program is asked for.
 
 use crate::kind::LintKind;
 use ctd_program::Presets;
-use ctd_token::Bytes;
 
-/// What the command line asks for.
+/// What the report of each program is asked for.
 pub struct LintSetup {
-    /// The names of the programs' files.
-    pub programs: Vec<Bytes>,
-    /// The names that presets give values.
+    /// The presets of the checks.
     pub presets: Presets,
     /// The kinds that are left out.
     pub ignored: Vec<LintKind>,
@@ -21,7 +18,6 @@ pub struct LintSetup {
 impl Drop for LintSetup {
     fn drop(self) {
         let LintSetup {
-            programs: _,
             presets: _,
             ignored: _,
             verdicts: _,

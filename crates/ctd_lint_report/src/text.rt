@@ -1,9 +1,10 @@
 //! How findings and faults are written: as compilers do, so that editors find their places.
 
 ghost use Rattle.std.specs.Prelude.{◌≡◌, ◌++◌, decimal, OnOk, IfOk};
-ghost use Rattle.ctd_lint_report.specs.calls.Text.{error_line, fault_place_text, finding_line, findings_lines, is_ignored, kept, kind_text, name_text, open_line, place_text, rank_text, remark_text};
+ghost use Rattle.ctd_lint_report.specs.calls.Text.{error_line, fault_place_text, finding_line, findings_lines, kept, kind_text, name_text, open_line, rank_text, remark_text};
+ghost use Rattle.ctd_lint_report.specs.calls.Traps.{place_text};
 
-use crate::kind::LintKind;
+use crate::kind::{LintKind, is_ignored};
 use ctd_findings::{Finding, Kind, Rank, Remark};
 use ctd_token::{Bytes, LoadFault, Place};
 use itoa::Buffer;
@@ -49,7 +50,7 @@ fn kind_text(kind: Kind) -> &'static str
 }
 
 /// The word of a rank.
-pub(crate) fn rank_text(rank: Rank) -> &'static str
+fn rank_text(rank: Rank) -> &'static str
     ensures { result.now ≡ rank_text rank }
 {
     match rank {
@@ -108,18 +109,6 @@ fn write_finding(file: &[u8], finding: &Finding, text: &mut Vec<u8>) -> Result<(
     write_place(finding.place, text)?;
     text.extend_from_slice(b": ")?;
     write_remark(&finding.remark, text)
-}
-
-/// Whether what has a kind of this name is left out.
-pub(crate) fn is_ignored(name: &str, ignored: &[LintKind]) -> bool
-    ensures { result ≡ is_ignored ignored.now name.now }
-{
-    for left_out in ignored {
-        if left_out.name() == name {
-            return true;
-        }
-    }
-    false
 }
 
 /// The lines of the findings in a file, but for those of kinds that are left out.

@@ -1,68 +1,63 @@
 //! How traps are written, and what they say of verdicts.
 
-ghost use Rattle.std.specs.Prelude.{◌≡◌, ◌++◌, decimal, OnOk, IfOk, if◌then◌else◌, [], option_map};
-ghost use Rattle.ctd_lint_report.specs.calls.Kinds.{is_covered, trap_name};
-ghost use Rattle.ctd_lint_report.specs.calls.Text.{name_text};
-ghost use Rattle.ctd_lint_report.specs.calls.Traps.{condition_text, every_text, is_shown, kept_traps, name_at, outlook_line, outlook_text, places_text, some_covered, some_element, some_shape, verdict_lines, trap_line, trap_remark, traps_lines, too_large_line};
+ghost use Rattle.std.specs.Prelude.{◌≡◌, ◌++◌, OnOk, IfOk, if◌then◌else◌, []};
+ghost use Rattle.std.specs.List.{list_any};
+ghost use Rattle.ctd_lint_report.specs.calls.Kinds.{is_shown_by_default, trap_name};
+ghost use Rattle.ctd_lint_report.specs.calls.Reasons.{reason_of};
+ghost use Rattle.ctd_lint_report.specs.calls.Traps.{condition_text, every_text, is_kind_shown, is_open, is_place_before, is_same_place, is_shown, is_told_already, kept_traps, places_behind, places_text, some_element, some_shape, some_shown_by_default, too_large_line, trap_line, traps_lines, verdict_line, verdict_text};
 
-use crate::kind::{is_covered, is_element, is_shape, trap_name, trap_rank, trap_text};
+use crate::kind::{
+    LintKind, is_element, is_ignored, is_mistyped, is_shape, is_shown_by_default, trap_name,
+    trap_text,
+};
+use crate::reason::write_reason;
 use crate::setup::LintSetup;
-use crate::text::{is_ignored, rank_text, write_place};
+use crate::text::write_place;
 use ctd_known::TrapKind;
-use ctd_traps::{Finding as Trap, TrapList};
+use ctd_token::Place;
+use ctd_traps::Finding as Trap;
 use itoa::Buffer;
 use std::alloc::{AllocError, Global};
 
-/// Whether traps of a kind are shown.
-pub(crate) fn is_shown(kind: TrapKind, setup: &LintSetup) -> bool
-    ensures { result ≡ is_shown setup.now (is_covered kind) (trap_name kind) }
+/// Whether two places are the same.
+fn is_same_place(a: Place, b: Place) -> bool
+    ensures { result ≡ is_same_place a b }
 {
-    (is_covered(kind) || setup.elements) && !is_ignored(trap_name(kind), setup.ignored.as_slice())
+    a.line == b.line && a.column == b.column
 }
 
-/// The name of a variable by its index, if there is one.
-fn name_at<'n>(names: &[&'n [u8]], index: Option<usize>) -> Option<&'n [u8]>
-    ensures { option_map (λ name. name.now) result ≡ name_at names.now index }
+/// Whether a place is among others.
+fn is_among(place: Place, places: &[Place]) -> bool
+    ensures { result ≡ list_any (λ p. is_same_place p place) places.now }
 {
-    match index {
-        Some(index) => names.get(index).copied(),
-        None => None,
+    for other in places {
+        if is_same_place(*other, place) {
+            return true;
+        }
     }
+    false
 }
 
-/// Appends the name of a variable, if there is one.
-fn write_variable(name: Option<&[u8]>, text: &mut Vec<u8>) -> Result<(), AllocError>
-    ensures { OnOk result (text.new.items ≡ text.old.items ++ name_text (option_map (λ n. n.now) name.entry)) }
+/// Whether a trap is of a wrong type, of which a finding at its place tells.
+fn is_told_already(mistyped: &[Place], trap: &Trap) -> bool
+    ensures { result ≡ is_told_already mistyped.now trap.now }
 {
-    let Some(name) = name else {
-        return Ok(());
-    };
-    text.extend_from_slice(b": ")?;
-    text.extend_from_slice(name)
+    is_mistyped(trap.kind) && is_among(trap.place, mistyped)
 }
 
-/// Appends the name of a variable by its index, if there is one.
-fn write_name_at(
-    names: &[&[u8]],
-    index: Option<usize>,
-    text: &mut Vec<u8>,
-) -> Result<(), AllocError>
-    ensures { OnOk result (text.new.items ≡ text.old.items ++ name_text (name_at names.now index)) }
+/// Whether traps of a kind are shown.
+fn is_kind_shown(kind: TrapKind, setup: &LintSetup) -> bool
+    ensures { result ≡ is_kind_shown setup.now (is_shown_by_default kind) (trap_name kind) }
 {
-    write_variable(name_at(names, index), text)
+    (is_shown_by_default(kind) || setup.elements)
+        && !is_ignored(trap_name(kind), setup.ignored.as_slice())
 }
 
-/// Appends what a trap says, with the name of its kind.
-fn write_trap_remark(names: &[&[u8]], trap: &Trap, text: &mut Vec<u8>) -> Result<(), AllocError>
-    ensures { OnOk result (text.new.items ≡ text.old.items ++ trap_remark trap.now.kind (name_at names.now trap.now.name)) }
+/// Whether a trap is shown.
+fn is_shown(setup: &LintSetup, mistyped: &[Place], trap: &Trap) -> bool
+    ensures { result ≡ is_shown setup.now mistyped.now trap.now }
 {
-    text.extend_from_slice(rank_text(trap_rank(trap.kind)).as_bytes())?;
-    text.extend_from_slice(b": ")?;
-    text.extend_from_slice(trap_text(trap.kind).as_bytes())?;
-    write_name_at(names, trap.name, text)?;
-    text.extend_from_slice(b" [")?;
-    text.extend_from_slice(trap_name(trap.kind).as_bytes())?;
-    text.extend_from_slice(b"]\n")
+    is_kind_shown(trap.kind, setup) && !is_told_already(mistyped, trap)
 }
 
 /// Appends the line of a trap in a file.
@@ -72,27 +67,32 @@ fn write_trap(
     trap: &Trap,
     text: &mut Vec<u8>,
 ) -> Result<(), AllocError>
-    ensures { OnOk result (text.new.items ≡ text.old.items ++ trap_line file.now names.now trap.now) }
+    ensures { OnOk result (text.new.items ≡ text.old.items ++ trap_line file.now (reason_of names.now) trap.now) }
 {
     text.extend_from_slice(file)?;
     write_place(trap.place, text)?;
-    text.extend_from_slice(b": ")?;
-    write_trap_remark(names, trap, text)
+    text.extend_from_slice(b": risk: ")?;
+    text.extend_from_slice(trap_text(trap.kind).as_bytes())?;
+    write_reason(names, trap.operand, text)?;
+    text.extend_from_slice(b" [")?;
+    text.extend_from_slice(trap_name(trap.kind).as_bytes())?;
+    text.extend_from_slice(b"]\n")
 }
 
 /// The lines of the traps that are shown.
-fn traps_text(
+pub(crate) fn traps_text(
     alloc: Global,
     file: &[u8],
     setup: &LintSetup,
+    mistyped: &[Place],
     names: &[&[u8]],
     traps: &[Trap],
 ) -> Result<Vec<u8>, AllocError>
-    ensures { IfOk result (λ text. text.items ≡ traps_lines file.now names.now (kept_traps setup.now traps.now)) }
+    ensures { IfOk result (λ text. text.items ≡ traps_lines file.now (reason_of names.now) (kept_traps setup.now mistyped.now traps.now)) }
 {
     let mut text = Vec::new(alloc);
     for trap in traps {
-        if is_shown(trap.kind, setup) {
+        if is_shown(setup, mistyped, trap) {
             write_trap(file, names, trap, &mut text)?;
         }
     }
@@ -100,11 +100,11 @@ fn traps_text(
 }
 
 /// Whether some traps are neither of elements nor of arrays in UNIQUE.
-fn some_covered(traps: &[Trap]) -> bool
-    ensures { result ≡ some_covered traps.now }
+fn some_shown_by_default(traps: &[Trap]) -> bool
+    ensures { result ≡ some_shown_by_default traps.now }
 {
     for trap in traps {
-        if is_covered(trap.kind) {
+        if is_shown_by_default(trap.kind) {
             return true;
         }
     }
@@ -148,6 +148,31 @@ fn condition_text(element: bool, shape: bool) -> &'static str
     }
 }
 
+/// Whether a place is that of the trap before, if there is one.
+fn is_place_before(before: Option<Place>, place: Place) -> bool
+    ensures { result ≡ is_place_before before place }
+{
+    match before {
+        Some(before) => is_same_place(before, place),
+        None => false,
+    }
+}
+
+/// At how many places traps stand. Those one after the other at one place count once.
+fn count_places(traps: &[Trap]) -> usize
+    ensures { result ≡ places_behind None traps.now }
+{
+    let mut count = 0;
+    let mut before = None;
+    for trap in traps {
+        if !is_place_before(before, trap.place) {
+            count += 1;
+        }
+        before = Some(trap.place);
+    }
+    count
+}
+
 /// Appends that so many places may stop a run.
 fn write_places(count: usize, text: &mut Vec<u8>) -> Result<(), AllocError>
     ensures { OnOk result (text.new.items ≡ text.old.items ++ places_text count) }
@@ -172,59 +197,57 @@ fn write_every(condition: &str, text: &mut Vec<u8>) -> Result<(), AllocError>
 }
 
 /// Appends what traps say of verdicts.
-fn write_outlook(traps: &[Trap], text: &mut Vec<u8>) -> Result<(), AllocError>
-    ensures { OnOk result (text.new.items ≡ text.old.items ++ outlook_text traps.now) }
+fn write_verdict(traps: &[Trap], text: &mut Vec<u8>) -> Result<(), AllocError>
+    ensures { OnOk result (text.new.items ≡ text.old.items ++ verdict_text traps.now) }
 {
-    if some_covered(traps) {
-        return write_places(traps.len(), text);
+    if some_shown_by_default(traps) {
+        return write_places(count_places(traps), text);
     }
     write_every(condition_of(traps), text)
 }
 
 /// Appends the line that tells of verdicts, if it is asked for.
-fn write_outlook_line(
+pub(crate) fn write_verdict_line(
     file: &[u8],
     setup: &LintSetup,
     traps: &[Trap],
     text: &mut Vec<u8>,
 ) -> Result<(), AllocError>
-    ensures { OnOk result (text.new.items ≡ text.old.items ++ (if setup.now.verdicts then outlook_line file.now traps.now else [])) }
+    ensures { OnOk result (text.new.items ≡ text.old.items ++ (if setup.now.verdicts then verdict_line file.now traps.now else [])) }
 {
     if !setup.verdicts {
         return Ok(());
     }
     text.extend_from_slice(file)?;
     text.extend_from_slice(b": ")?;
-    write_outlook(traps, text)?;
+    write_verdict(traps, text)?;
     text.extend_from_slice(b"\n")
 }
 
-/// The line that says that it cannot be told, if it is asked for.
-fn too_large_text(alloc: Global, file: &[u8], setup: &LintSetup) -> Result<Vec<u8>, AllocError>
-    ensures { IfOk result (λ text. text.items ≡ (if setup.now.verdicts then too_large_line file.now else [])) }
+/// The line that says that it cannot be told where a run may stop.
+pub(crate) fn too_large_text(alloc: Global, file: &[u8]) -> Result<Vec<u8>, AllocError>
+    ensures { IfOk result (λ text. text.items ≡ too_large_line file.now) }
 {
-    if !setup.verdicts {
-        return Ok(Vec::new(alloc));
-    }
     let mut text = file.to_vec(alloc)?;
     text.extend_from_slice(b": too large to tell\n")?;
     Ok(text)
 }
 
-/// What is written of the traps of a program.
-pub(crate) fn verdict_text(
-    alloc: Global,
-    file: &[u8],
-    setup: &LintSetup,
-    told: &Option<TrapList<'_>>,
-) -> Result<Vec<u8>, AllocError>
-    ensures { IfOk result (λ text. text.items ≡ verdict_lines file.now setup.now told.now) }
+/// Whether traps of a kind leave open whether each data file gets a verdict.
+fn is_open(kind: TrapKind, ignored: &[LintKind]) -> bool
+    ensures { result ≡ is_open ignored.now kind }
 {
-    let Some(list) = told else {
-        return too_large_text(alloc, file, setup);
-    };
-    let traps = list.findings.as_slice();
-    let mut text = traps_text(alloc, file, setup, list.names.as_slice(), traps)?;
-    write_outlook_line(file, setup, traps, &mut text)?;
-    Ok(text)
+    is_shown_by_default(kind) || !is_ignored(trap_name(kind), ignored)
+}
+
+/// Whether some traps leave that open.
+pub(crate) fn some_open(traps: &[Trap], ignored: &[LintKind]) -> bool
+    ensures { result ≡ list_any (λ t. is_open ignored.now t.kind) traps.now }
+{
+    for trap in traps {
+        if is_open(trap.kind, ignored) {
+            return true;
+        }
+    }
+    false
 }

@@ -1,4 +1,3 @@
 pub mod UsageWritten
 pub mod UsageFaults
 pub mod RunLemmas
-pub mod Spelled

@@ -15,6 +15,7 @@ use Rattle.ctd_lint_report.specs.declared.setup.LintSetup.{LintSetup}
 use Rattle.ctd_lint_tool.specs.calls.FileReport.{usage_report}
 use Rattle.ctd_lint_tool.specs.calls.Usage.{IsLintFault}
 use Rattle.ctd_lint_tool.specs.calls.Run.{FailsMidwayAt, EndsArgs, EndsIn, EndsInFault, EndsWords, IsReportOf, Lints, Means, RunsOutAt, Stand, bad_words, no_room, of_fault, one_more}
+use Rattle.ctd_lint_tool.specs.calls.Opening.{WasAskedFor}
 use Rattle.ctd_lint_tool.specs.inner.Run.{LeavesRun}
 
 -- one of two kinds of reports
@@ -50,7 +51,7 @@ module _ {F S O E : Type 0} (m : Means F S O E) (setup : LintSetup) (names : Lis
 
   -- the run stopped at a program
   pub stops : (fault : ToolFault) → WritesOneOf (before_after m.out between.out new.out) (before_after m.err between.err new.err) (IsReportOf m setup name between new) (Err fault)
-      → m.asks between.files name new.files → LeavesRun m setup names first new (Err fault)
+      → WasAskedFor m.opens m.closes m.asks between.files name new.files → LeavesRun m setup names first new (Err fault)
   stops Write h asked = record {
     at = record { name = name; later = later; status = status; between = between; linted = subst (λ r. Lints m setup names first r status between) is linted };
     breaks = record { report = h.0; is = h.1; part = h.2 };

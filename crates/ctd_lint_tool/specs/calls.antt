@@ -1,5 +1,4 @@
 -- What the contract of `answer` reaches.
-pub mod Words
 pub mod CommandLine
 pub mod Opening
 pub mod FileReport

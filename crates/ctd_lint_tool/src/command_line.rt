@@ -8,7 +8,6 @@ ghost use Rattle.ctd_lint_report.specs.calls.Kinds.{lint_kind_named};
 ghost use Rattle.ctd_lint_tool.specs.calls.Usage.{IsLintFault, TellsUnknown, first_unknown, unknown_in};
 ghost use Rattle.ctd_lint_tool.specs.inner.Usage.{IsFoundIn};
 
-use crate::words::spelled_out;
 use clap::{Arg, ArgAction, ArgMatches, Command, Error};
 use ctd_arguments::{
     UsageFault, define_option, fault_for, flag, is_set, option, presets_of, texts_of, value_of,
@@ -16,6 +15,23 @@ use ctd_arguments::{
 use ctd_lint_report::{LintKind, LintSetup};
 use ctd_token::Bytes;
 use std::alloc::{AllocError, Global};
+
+/// What the words ask for.
+pub(crate) struct Setup {
+    /// The names of the programs' files.
+    pub(crate) programs: Vec<Bytes>,
+    /// What the report of each is asked for.
+    pub(crate) report: LintSetup,
+}
+
+impl Drop for Setup {
+    fn drop(self) {
+        let Setup {
+            programs: _,
+            report: _,
+        } = self;
+    }
+}
 
 /// Why the words ask for no program.
 #[derive(Drop)]
@@ -167,33 +183,32 @@ fn programs_of(alloc: Global, matches: &ArgMatches<'_>) -> Result<Vec<Bytes>, Li
 }
 
 /// What is asked for by the values that clap found.
-fn setup_of(alloc: Global, matches: &ArgMatches<'_>) -> Result<LintSetup, LintFault>
+fn setup_of(alloc: Global, matches: &ArgMatches<'_>) -> Result<Setup, LintFault>
     ensures setup { IfOk result (λ s. (words : List Text) → IsFoundIn words (rows_of (found_of matches.now)) → IsLintSetup words s) }
     ensures fault { IfErr result (λ f. (words : List Text) → IsFoundIn words (rows_of (found_of matches.now)) → IsLintFault words f) }
 {
     let programs = programs_of(alloc, matches)?;
     let presets = presets_of(alloc, value_of(matches, "define"))?;
     let ignored = kinds_of(alloc, value_of(matches, "ignore"))?;
-    Ok(LintSetup {
-        programs,
+    let report = LintSetup {
         presets,
         ignored,
         verdicts: is_set(matches, "verdicts"),
         elements: is_set(matches, "elements"),
-    })
+    };
+    Ok(Setup { programs, report })
 }
 
-/// What the words ask for: after the program's own name the options and flags, and PROGRAM once or more. `--verdicts=all` stands for both flags.
+/// What the words ask for: after the program's own name the options and flags, and PROGRAM once or more.
 ///
 /// The first of these that applies is the fault: a word that is not UTF-8 (Words); what clap refuses, or answers with the
 /// help or the version (Words, Help, Version); BadPreset; UnknownKind. Memory may come at any of them.
-pub(crate) fn settings(alloc: Global, words: &[Bytes]) -> Result<LintSetup, LintFault>
+pub(crate) fn settings(alloc: Global, words: &[Bytes]) -> Result<Setup, LintFault>
     ensures setup { IfOk result (IsLintSetup words.now) }
     ensures fault { IfErr result (IsLintFault words.now) }
 {
     let texts = texts_of(alloc, words)?;
-    let spelled = spelled_out(alloc, texts.as_slice())?;
-    match matches_in(alloc, spelled.as_slice()) {
+    match matches_in(alloc, texts.as_slice()) {
         Ok(matches) => setup_of(alloc, &matches),
         Err(error) => Err(fault_for(&error).into()),
     }

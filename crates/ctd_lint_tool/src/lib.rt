@@ -1,4 +1,4 @@
-//! What the command line ctd-lint does: it reads programs of the checktestdata language, and tells of each what it cannot mean, and where it may stop
+//! What the command line ctd-lint does: it reads programs of the checktestdata language, and reports likely mistakes in each, and where it may stop
 //! without a verdict.
 #![tactic(auto)]
 
@@ -7,7 +7,7 @@ mod files;
 mod process;
 mod programs;
 mod usage;
-mod words;
 
 pub use ctd_process::System;
 pub use process::{Answered, answer};
+pub use programs::ClosableFiles;

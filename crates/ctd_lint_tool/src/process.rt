@@ -2,12 +2,13 @@
 
 ghost use Rattle.std.specs.Prelude.{◌≡◌, false};
 ghost use Rattle.ctd_process.specs.Process.{StartsOn};
+ghost use Rattle.ctd_lint_report.specs.calls.Report.{AreRemarks};
 ghost use Rattle.ctd_lint_tool.specs.calls.Opening.{AsksFor, OpensProgram};
 ghost use Rattle.ctd_lint_tool.specs.calls.Run.{EndsArgs, EndsLint, EndsWords, stand};
 
 use crate::command_line::{LintFault, settings};
 use crate::files::lint_all;
-use crate::programs::Programs;
+use crate::programs::{ClosableFiles, Programs};
 use crate::usage::{memory_status, usage_status};
 use ctd_process::{Host, copy_words};
 use ctd_report::{NO_VERDICT, Sink, ToWrite, ToolFault};
@@ -45,14 +46,15 @@ fn answer_words<P: Programs, O: Sink, E: Sink>(
     requires out_works { O.has_failed out.old ≡ false }
     requires err_works { E.has_failed err.old ≡ false }
     ensures { EndsWords
-        (record { opens = P.opens_program; asks = P.asks_for; source = P.Program.Source; out = O.Sink; err = E.Sink })
+        (record { opens = P.opens_program; asks = P.asks_for; closes = P.closes_program; source = P.Program.Source; out = O.Sink; err = E.Sink; remarks = AreRemarks })
         words.now (stand programs.old out.old err.old) (stand programs.new out.new err.new) result }
 {
     let setup = match settings(alloc, words) {
         Ok(setup) => setup,
         Err(fault) => return usage_status(alloc, &fault, out, err),
     };
-    match lint_all(alloc, &setup, setup.programs.as_slice(), programs, out, err) {
+    let names = setup.programs.as_slice();
+    match lint_all(alloc, &setup.report, names, programs, out, err) {
         Ok(status) => status,
         Err(ToolFault::Write) => NO_VERDICT,
         Err(ToolFault::Memory) => memory_status(out, err),
@@ -70,7 +72,7 @@ fn answer_args<P: Programs, O: Sink, E: Sink>(
     requires out_works { O.has_failed out.old ≡ false }
     requires err_works { E.has_failed err.old ≡ false }
     ensures { EndsArgs
-        (record { opens = P.opens_program; asks = P.asks_for; source = P.Program.Source; out = O.Sink; err = E.Sink })
+        (record { opens = P.opens_program; asks = P.asks_for; closes = P.closes_program; source = P.Program.Source; out = O.Sink; err = E.Sink; remarks = AreRemarks })
         args (stand programs.old out.old err.old) (stand programs.new out.new err.new) result }
 {
     let args = match args {
@@ -89,10 +91,10 @@ fn answer_args<P: Programs, O: Sink, E: Sink>(
 }
 
 /// Answers the words of the process with a status.
-pub fn answer<H: Host>(alloc: Global, host: &mut H) -> Answered<H::Out, H::Err>
+pub fn answer<H: Host + ClosableFiles>(alloc: Global, host: &mut H) -> Answered<H::Out, H::Err>
     ensures { EndsLint
         (record { gives_out = H.gives_out; gives_err = H.gives_err; gives_args = H.gives_args; opens = H.opens; takes_input = H.takes_input })
-        (record { opens = OpensProgram H.opens (StartsOn H.File.remaining ⟦<FromRead<BufReader<H::File>> as Source>⟧); asks = AsksFor H.opens; source = ⟦<FromRead<BufReader<H::File>> as Source>⟧; out = ⟦<ToWrite<H::Out> as Sink>⟧; err = ⟦<ToWrite<H::Err> as Sink>⟧ })
+        (record { opens = OpensProgram H.opens (StartsOn H.File.remaining ⟦<FromRead<BufReader<H::File>> as Source>⟧); asks = AsksFor H.opens; closes = H.closes; source = ⟦<FromRead<BufReader<H::File>> as Source>⟧; out = ⟦<ToWrite<H::Out> as Sink>⟧; err = ⟦<ToWrite<H::Err> as Sink>⟧; remarks = AreRemarks })
         host.old host.new result }
 {
     let mut out = ToWrite::new(host.out());

@@ -15,12 +15,11 @@ use std::alloc::{AllocError, Global};
 /// The text of the help.
 const HELP: &str = "\
 Usage: ctd-lint [OPTION]... PROGRAM...
-Tell what each PROGRAM cannot mean, and where it may stop without a verdict.
+Report likely mistakes in each PROGRAM, and where it may stop without a verdict.
   -D, --define=<name>=<value>[,...]  preset variables
       --ignore=<kind>[,...]          leave out findings of these kinds
       --verdicts                     tell whether every data file gets a verdict
       --elements                     show elements that may have no value too
-      --verdicts=all                 do both
   -h, --help                         show this text
   -V, --version                      show the version
 ";

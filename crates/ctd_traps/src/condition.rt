@@ -15,7 +15,9 @@ ghost use Rattle.ctd_known.specs.calls.Faults.{IsAmong};
 
 use crate::cut::cut_both;
 use crate::expression::{Found, inspect, may_be_number, may_be_text, text_faults};
-use ctd_known::{Faults, Ground, Kinds, NameFacts, Stop, both, copy_of, no_faults};
+use ctd_known::{
+    Blame, Faults, Ground, Kinds, NO_BLAME, NameFacts, Stop, both, copy_of, no_faults,
+};
 use ctd_program::{Compare, Expr, Test};
 use ctd_range::opposite_of;
 use ctd_token::Name;
@@ -71,8 +73,19 @@ fn may_mix(a: Kinds, b: Kinds) -> bool
 fn compare_faults(a: Found, b: Found) -> Faults
     ensures { (by : Compare) (k : ℕ) (left right : Result Value Fault) → IsFound a k left → IsFound b k right → FailsBy result (compares by left right) }
 {
+    let wrong_type = may_mix(a.kinds, b.kinds);
+    let operand = if wrong_type {
+        a.operand.or(b.operand)
+    } else {
+        None
+    };
+    let blame = Blame {
+        wrong_type: operand,
+        ..NO_BLAME
+    };
     let mixed = Faults {
-        wrong_type: may_mix(a.kinds, b.kinds),
+        wrong_type,
+        blame,
         ..no_faults()
     };
     both(both(a.faults, b.faults), mixed)

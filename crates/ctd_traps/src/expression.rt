@@ -17,16 +17,20 @@ ghost use Rattle.ctd_traps.specs.inner.Found.{IsFound, Gives, AllFailBy, FailsBy
 ghost use Rattle.ctd_known.specs.calls.Faults.{IsAmong};
 ghost use Rattle.ctd_traps.specs.inner.Operators.{IsComputed, AreOperands, HasOperator, Operates, IsWithinRanges, operate, measured, negated};
 
-use ctd_known::{Faults, Kinds, Lengths, NameFacts, Stop, both, facts_of, index_of, no_faults};
+use ctd_known::{
+    Blame, Faults, Kinds, Lengths, NO_BLAME, NameFacts, Operand, Stop, both, facts_of, index_of,
+    no_faults,
+};
 use ctd_program::Expr;
 use ctd_range::{Computed, Range};
 use ctd_token::Name;
 
-/// What an expression may give: values, and faults.
+/// What an expression may give: values, and faults. Of the variables in it the one with the most values is to blame for what it gives.
 #[derive(Clone, Copy)]
 pub(crate) struct Found {
     pub(crate) kinds: Kinds,
     pub(crate) faults: Faults,
+    pub(crate) operand: Option<Operand>,
 }
 
 /// A number and no other.
@@ -45,6 +49,7 @@ fn of_number(n: i128) -> Found
             number: Some(range),
         },
         faults: no_faults(),
+        operand: None,
     }
 }
 
@@ -63,20 +68,76 @@ fn of_text(bytes: &[u8]) -> Found
             number: None,
         },
         faults: no_faults(),
+        operand: None,
     }
+}
+
+/// A variable, or an element of an array, that may have these values, by the index of its name.
+fn operand_of(index: Option<usize>, is_element: bool, kinds: Kinds) -> Option<Operand> {
+    let (least, most) = match kinds.number {
+        Some(range) => (
+            if range.low > i128::MIN {
+                Some(range.low)
+            } else {
+                None
+            },
+            if range.high < i128::MAX {
+                Some(range.high)
+            } else {
+                None
+            },
+        ),
+        None => (None, None),
+    };
+    match index {
+        Some(name) => Some(Operand {
+            name,
+            is_element,
+            least,
+            most,
+        }),
+        None => None,
+    }
+}
+
+/// How many numbers lie between the ends of an operand, as far as they can be counted.
+fn width_of(operand: Operand) -> i128 {
+    match (operand.least, operand.most) {
+        (Some(least), Some(most)) => most.saturating_sub(least),
+        _ => i128::MAX,
+    }
+}
+
+/// Of two operands the one with more numbers, or the only one.
+fn wider(a: Option<Operand>, b: Option<Operand>) -> Option<Operand> {
+    match (a, b) {
+        (Some(one), Some(other)) if width_of(one) < width_of(other) => Some(other),
+        (Some(one), _) => Some(one),
+        (None, other) => other,
+    }
+}
+
+/// What is to blame, where there is such a fault.
+fn blame_if(fault: bool, operand: Option<Operand>) -> Option<Operand> {
+    if fault { operand } else { None }
 }
 
 /// The value of a name without indices.
 fn of_name(index: Option<usize>, facts: NameFacts) -> Found
     ensures { (k : ℕ) (value : Option Value) → MayHave facts k value → IsFound result k (value_or_undefined value) }
 {
+    let blame = Blame {
+        no_value: if facts.may_lack { index } else { None },
+        ..NO_BLAME
+    };
     Found {
         kinds: facts.alone,
         faults: Faults {
             no_value: facts.may_lack,
-            name: if facts.may_lack { index } else { None },
+            blame,
             ..no_faults()
         },
+        operand: operand_of(index, false, facts.alone),
     }
 }
 
@@ -94,14 +155,19 @@ fn of_element(index: Option<usize>, facts: NameFacts, indices: Faults) -> Found
     ensures value { (k : ℕ) (value : Option Value) → ((v : Value) → value ≡ Some v → MayBe facts.elements k v) → IsFound result k (value_or_undefined value) }
     ensures indices { (f : Fault) → IsAmong indices f → IsAmong result.faults f }
 {
+    let blame = Blame {
+        no_element: index,
+        ..NO_BLAME
+    };
     let lacks = Faults {
         no_element: true,
-        array: index,
+        blame,
         ..no_faults()
     };
     Found {
         kinds: facts.elements,
         faults: both(lacks, indices),
+        operand: operand_of(index, true, facts.elements),
     }
 }
 
@@ -183,6 +249,7 @@ fn no_value() -> Found {
             number: None,
         },
         faults: no_faults(),
+        operand: None,
     }
 }
 
@@ -201,6 +268,7 @@ fn of_computed(computed: Computed) -> Found
             exponent: computed.has_bad_exponent,
             ..no_faults()
         },
+        operand: None,
     }
 }
 
@@ -223,17 +291,43 @@ fn with_faults(found: Found, faults: Faults) -> Found
     Found {
         kinds: found.kinds,
         faults: both(found.faults, faults),
+        operand: found.operand,
     }
 }
 
-/// The same, with the fault of a wrong type where this is so.
-fn with_type_fault(found: Found, wrong_type: bool) -> Found
+/// The same of an operation on two operands, of which the wider is to blame for an overflow, and the second for what it divides by or raises to.
+fn with_operands(found: Found, a: Option<Operand>, b: Option<Operand>) -> Found
+    ensures kinds { result.kinds ≡ found.kinds }
+    ensures own { (f : Fault) → IsAmong found.faults f → IsAmong result.faults f }
+{
+    let operand = wider(a, b);
+    let faults = found.faults;
+    let blame = Blame {
+        overflow: blame_if(faults.overflow, operand),
+        division_by_zero: blame_if(faults.division_by_zero, b),
+        exponent: blame_if(faults.exponent, b),
+        ..faults.blame
+    };
+    Found {
+        kinds: found.kinds,
+        faults: Faults { blame, ..faults },
+        operand,
+    }
+}
+
+/// The same, with the fault of a wrong type where this is so, for which an operand is to blame.
+fn with_type_fault(found: Found, wrong_type: bool, operand: Option<Operand>) -> Found
     ensures kinds { result.kinds ≡ found.kinds }
     ensures own { (f : Fault) → IsAmong found.faults f → IsAmong result.faults f }
     ensures wrong_type { wrong_type ≡ true → IsAmong result.faults WrongType }
 {
+    let blame = Blame {
+        wrong_type: blame_if(wrong_type, operand),
+        ..NO_BLAME
+    };
     let faults = Faults {
         wrong_type,
+        blame,
         ..no_faults()
     };
     with_faults(found, faults)
@@ -244,7 +338,9 @@ fn apply(operator: Operator, a: Found, b: Found) -> Found
     ensures { (k : ℕ) (left right : Result Value Fault) → IsFound a k left → IsFound b k right → IsFound result k (arithmetic (operate operator) left right) }
 {
     let (numbers, wrong_type) = operands(a.kinds, b.kinds);
-    let own = with_type_fault(operate(operator, numbers), wrong_type);
+    let mistyped = if may_be_text(a.kinds) { a } else { b };
+    let computed = with_operands(operate(operator, numbers), a.operand, b.operand);
+    let own = with_type_fault(computed, wrong_type, mistyped.operand);
     with_faults(with_faults(own, a.faults), b.faults)
 }
 
@@ -276,7 +372,8 @@ fn negate_number(kinds: Kinds) -> Found
 fn negate(a: Found) -> Found
     ensures { (k : ℕ) (r : Result Value Fault) → IsFound a k r → IsFound result k (negated r) }
 {
-    let own = with_type_fault(negate_number(a.kinds), may_be_text(a.kinds));
+    let computed = with_operands(negate_number(a.kinds), a.operand, None);
+    let own = with_type_fault(computed, may_be_text(a.kinds), a.operand);
     with_faults(own, a.faults)
 }
 
@@ -296,6 +393,7 @@ fn of_length(lengths: Lengths) -> Found
             number: Some(range),
         },
         faults: no_faults(),
+        operand: None,
     }
 }
 
@@ -313,7 +411,7 @@ fn measure_text(kinds: Kinds) -> Found
 fn measure(a: Found) -> Found
     ensures { (k : ℕ) (r : Result Value Fault) → IsFound a k r → IsFound result k (measured r) }
 {
-    let own = with_type_fault(measure_text(a.kinds), may_be_number(a.kinds));
+    let own = with_type_fault(measure_text(a.kinds), may_be_number(a.kinds), a.operand);
     with_faults(own, a.faults)
 }
 
@@ -321,14 +419,14 @@ fn measure(a: Found) -> Found
 pub(crate) fn text_faults(a: Found) -> Faults
     ensures { (k : ℕ) (r : Result Value Fault) → IsFound a k r → FailsBy result (as_text r) }
 {
-    with_type_fault(a, may_be_number(a.kinds)).faults
+    with_type_fault(a, may_be_number(a.kinds), a.operand).faults
 }
 
 /// The faults of an expression that has to be a number.
 pub(crate) fn number_faults(a: Found) -> Faults
     ensures { (k : ℕ) (r : Result Value Fault) → IsFound a k r → FailsBy result (as_number r) }
 {
-    with_type_fault(a, may_be_text(a.kinds)).faults
+    with_type_fault(a, may_be_text(a.kinds), a.operand).faults
 }
 
 /// What an expression may give; none where a name in it is not listed.

@@ -5,17 +5,17 @@ ghost use Rattle.ctd_traps.specs.calls.Traps.{fault_of_kind, traps_of};
 ghost use Rattle.ctd_traps.specs.inner.Holds.{AreListed, ArePart};
 ghost use Rattle.ctd_known.specs.calls.Faults.{IsOfKind};
 
-use ctd_known::{Faults, TrapKind, has};
+use ctd_known::{Faults, Operand, TrapKind, has};
 use ctd_token::Place;
 use std::alloc::AllocError;
 
-/// The place of a command at which a run may stop, how, and the index of the variable in the names of the traps, where there is one: the first
-/// of its kind in the command.
+/// The place of a command at which a run may stop, how, and the variable that is to blame, where there is one: the first of its kind in the command.
+/// Its name is the one at its index in the names of the traps.
 #[derive(Clone, Copy)]
 pub struct Finding {
     pub place: Place,
     pub kind: TrapKind,
-    pub name: Option<usize>,
+    pub operand: Option<Operand>,
 }
 
 /// The kinds of traps.
@@ -30,12 +30,43 @@ const KINDS: [TrapKind; 8] = [
     TrapKind::OtherShape,
 ];
 
-/// The index of the name of which a finding tells, if there is one.
-fn name_of(faults: &Faults, kind: TrapKind) -> Option<usize> {
+/// A name, or an array, of whose values nothing is told.
+fn named(index: Option<usize>) -> Option<Operand> {
+    match index {
+        Some(name) => Some(Operand {
+            name,
+            is_element: false,
+            least: None,
+            most: None,
+        }),
+        None => None,
+    }
+}
+
+/// The same variable, of whose values nothing is told.
+fn name_alone(operand: Option<Operand>) -> Option<Operand> {
+    match operand {
+        Some(operand) => Some(Operand {
+            least: None,
+            most: None,
+            ..operand
+        }),
+        None => None,
+    }
+}
+
+/// The variable that is to blame for a kind of faults, if there is one.
+fn operand_of(faults: &Faults, kind: TrapKind) -> Option<Operand> {
+    let blame = faults.blame;
     match kind {
-        TrapKind::NoValue => faults.name,
-        TrapKind::NoElement => faults.array,
-        _ => None,
+        TrapKind::NoValue => named(blame.no_value),
+        TrapKind::NoElement => named(blame.no_element),
+        TrapKind::WrongType => name_alone(blame.wrong_type),
+        TrapKind::Overflow => blame.overflow,
+        TrapKind::DivisionByZero => blame.division_by_zero,
+        TrapKind::BadExponent => blame.exponent,
+        TrapKind::BadCount => blame.count,
+        TrapKind::OtherShape => None,
     }
 }
 
@@ -55,7 +86,7 @@ fn report_kind(
     findings.push(Finding {
         place,
         kind,
-        name: name_of(faults, kind),
+        operand: operand_of(faults, kind),
     })?;
     Ok(())
 }

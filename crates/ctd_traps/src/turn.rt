@@ -15,8 +15,8 @@ use crate::assign::assign;
 use crate::divide::divide;
 use crate::expression::{inspect, number_faults};
 use ctd_known::{
-    Case, Faults, Ground, Kinds, NameFacts, Stop, after_step, both, join_cases, no_faults,
-    with_case,
+    Blame, Case, Faults, Ground, Kinds, NO_BLAME, NameFacts, Stop, after_step, both, join_cases,
+    no_faults, with_case,
 };
 use ctd_program::{Expr, Loop, LoopGuard, Var};
 use ctd_range::{Range, less};
@@ -72,8 +72,14 @@ fn count_turns(e: &Expr, ground: Ground<'_>, known: &[NameFacts]) -> Result<Turn
     ensures { IfOk result (λ t. Counts (facts_in ground.entry known.now) (expr_tree e.now) t) }
 {
     let count = inspect(e, ground.names, known)?;
+    let is_bad = may_be_no_count(count.kinds);
+    let blame = Blame {
+        count: if is_bad { count.operand } else { None },
+        ..NO_BLAME
+    };
     let bad = Faults {
-        count: may_be_no_count(count.kinds),
+        count: is_bad,
+        blame,
         ..no_faults()
     };
     Ok(Turns {

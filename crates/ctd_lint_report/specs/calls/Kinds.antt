@@ -1,12 +1,11 @@
 -- The kinds of traps, and what --ignore names.
 use Rattle.ctd_known.specs.declared.faults.TrapKind.TheVariants as traps
-use Rattle.ctd_findings.specs.declared.kind.Rank.TheVariants as ranks
 use Rattle.ctd_lint_report.specs.declared.kind.LintKind.TheVariants as kinds
 use Rattle.std.specs.Prelude.{ℕ, Bool, true, false, List, [], ◌∷◌, codes, Option, Some, None, if◌then◌else◌}
+use Rattle.std.specs.List.{list_any}
 use Rattle.std.specs.Str.{bytes_eq}
 use Rattle.ctd_known.specs.declared.faults.TrapKind.{TrapKind}
 use Rattle.ctd_findings.specs.declared.kind.Kind.{Kind}
-use Rattle.ctd_findings.specs.declared.kind.Rank.{Rank}
 use Rattle.ctd_findings.specs.calls.Kinds.{kind_name, kind_named}
 use Rattle.ctd_lint_report.specs.declared.kind.LintKind.{LintKind}
 
@@ -25,7 +24,7 @@ trap_name traps.BadExponent = codes "bad-exponent"
 trap_name traps.BadCount = codes "bad-count"
 trap_name traps.OtherShape = codes "other-shape"
 
--- what a kind of traps says, without the name of a variable
+-- what a kind of traps says, without the reason
 abbrev pub trap_text : TrapKind → List ℕ
 trap_text traps.NoValue = codes "may be without a value here"
 trap_text traps.NoElement = codes "may have an element without a value here"
@@ -46,15 +45,16 @@ abbrev pub is_shape : TrapKind → Bool
 is_shape traps.OtherShape = true
 is_shape _ = false
 
--- whether a trap is neither of an element nor of arrays in UNIQUE, of which most are listed though no data can spring them
-abbrev pub is_covered : TrapKind → Bool
-is_covered traps.NoElement = false
-is_covered traps.OtherShape = false
-is_covered _ = true
+-- whether a trap is of a wrong type
+abbrev pub is_mistyped : TrapKind → Bool
+is_mistyped traps.WrongType = true
+is_mistyped _ = false
 
--- how sure it is that a trap is a mistake
-abbrev pub trap_rank : TrapKind → Rank
-trap_rank kind = if is_covered kind then ranks.Warning else ranks.Note
+-- whether a trap is neither of an element nor of arrays in UNIQUE, of which most are listed though no data can spring them
+abbrev pub is_shown_by_default : TrapKind → Bool
+is_shown_by_default traps.NoElement = false
+is_shown_by_default traps.OtherShape = false
+is_shown_by_default _ = true
 
 -- the first of some kinds of traps that has this name
 abbrev pub trap_named_among : List TrapKind → List ℕ → Option TrapKind
@@ -75,3 +75,7 @@ either_kind None None = None
 -- the kind of findings or of traps that has this name, if there is one
 abbrev pub lint_kind_named : List ℕ → Option LintKind
 lint_kind_named name = either_kind (kind_named name) (trap_named_among all_traps name)
+
+-- whether what has a kind of this name is left out
+abbrev pub is_ignored : List LintKind → List ℕ → Bool
+is_ignored ignored name = list_any (λ k. bytes_eq (lint_kind_name k) name) ignored

@@ -1,23 +1,27 @@
 -- What ctd-lint writes of a program.
+use Rattle.ctd_findings.specs.declared.kind.Kind.TheVariants as kinds
 use Rattle.ctd_findings.specs.declared.kind.Rank.TheVariants as ranks
-use Rattle.std.specs.Prelude.{◌≡◌, ◌⊎◌, ◌+◌, ◌≤◌, ◌++◌, ℕ, List, [], ◌∷◌, length, max, Option, Some, None}
+use Rattle.std.specs.Prelude.{◌≡◌, ◌⊎◌, ◌+◌, ◌≤◌, ◌++◌, ℕ, Bool, true, false, List, [], ◌∷◌, length, max, Option, Some, None, if◌then◌else◌}
+use Rattle.std.specs.Borrow.{Bor}
 use Rattle.ctd_source.specs.declared.source.Source.{Ghosts}
 use Rattle.ctd_source.specs.SourceReads.{GaveBytes}
 use Rattle.ctd_token.specs.declared.fault.LoadFault.{LoadFault}
 use Rattle.ctd_token.specs.declared.limits.TheConstants.{PROGRAM_LIMIT}
+use Rattle.ctd_token.specs.declared.text.Place.{Place}
 use Rattle.ctd_program.specs.Tree.{CommandList}
 use Rattle.ctd_loader.specs.Loading.{Loads, MayFail}
 use Rattle.ctd_report.specs.Report.{Report, on_err, on_out}
 use Rattle.ctd_findings.specs.declared.finding.Finding.{Finding}
+use Rattle.ctd_findings.specs.declared.kind.Kind.{Kind}
 use Rattle.ctd_findings.specs.declared.kind.Rank.{Rank}
 use Rattle.ctd_findings.specs.calls.Findings.{findings_of}
 use Rattle.ctd_findings.specs.calls.Kinds.{rank}
 use Rattle.ctd_lint_report.specs.declared.setup.LintSetup.{LintSetup}
 use Rattle.ctd_traps.specs.declared.finding.Finding.{Finding as Trap}
 use Rattle.ctd_traps.specs.declared.program.TrapList.{TrapList}
-use Rattle.ctd_lint_report.specs.calls.Kinds.{trap_rank}
+use Rattle.ctd_lint_report.specs.calls.Reasons.{reason_of}
 use Rattle.ctd_lint_report.specs.calls.Text.{error_line, findings_lines, kept}
-use Rattle.ctd_lint_report.specs.calls.Traps.{AreTraps, kept_traps, verdict_lines}
+use Rattle.ctd_lint_report.specs.calls.Traps.{AreTraps, verdict_lines, verdict_status}
 
 -- a source as a call begins and as it ends
 pub record Call {S : Type 0} (G : Ghosts S) : Type 0 where
@@ -28,47 +32,40 @@ pub record Call {S : Type 0} (G : Ghosts S) : Type 0 where
 abbrev pub call : {S : Type 0} (G : Ghosts S) → S → S → Call G
 call G old new = record { old = old; new = new }
 
--- the status for a finding of a rank, where that of the others is known
-abbrev pub status_with : Rank → ℕ → ℕ
-status_with ranks.Note others = others
-status_with ranks.Warning others = 1
+-- what a report says besides traps and verdicts: the lines of findings, the status that these ask for, the places where one tells of a wrong type, and the reason of each trap
+pub record Remarks : Type 0 where
+  pub lines : List ℕ
+  pub status : ℕ
+  pub mistyped : List Place
+  pub reason : Trap → List ℕ
 
--- the status: 1 where a finding is a warning, else 0
-abbrev pub findings_status : List Finding → ℕ
-findings_status [] = 0
-findings_status (f ∷ rest) = status_with (rank f.remark.kind) (findings_status rest)
+-- which remarks a report may have on a program in a file, whose traps are told
+abbrev pub Remarking : Type 1
+Remarking = List ℕ → LintSetup → CommandList → Option TrapList → Remarks → Type 0
 
--- the status: 1 where a trap is a warning, else 0
-abbrev pub traps_status : List Trap → ℕ
-traps_status [] = 0
-traps_status (t ∷ rest) = status_with (trap_rank t.kind) (traps_status rest)
+-- the remarks, then the traps, and then the line that tells of verdicts, if it is asked for
+abbrev pub program_lines : List ℕ → LintSetup → Remarks → Option TrapList → List ℕ
+program_lines file setup remarks told = remarks.lines ++ verdict_lines file setup remarks.reason remarks.mistyped told
 
--- the status for the traps of a program that are shown
-abbrev pub verdict_status : LintSetup → Option TrapList → ℕ
-verdict_status setup None = 0
-verdict_status setup (Some list) = traps_status (kept_traps setup list.findings.items)
+-- the status: that of the remarks, and where verdicts are asked for the greater of it and theirs
+abbrev pub program_status : LintSetup → Remarks → Option TrapList → ℕ
+program_status setup remarks told = if setup.verdicts then max remarks.status (verdict_status setup told) else remarks.status
 
--- the status for findings and traps: the greater one
-abbrev pub program_status : LintSetup → List Finding → Option TrapList → ℕ
-program_status setup found told = max (findings_status (kept setup.ignored.items found)) (verdict_status setup told)
+-- the report on a program in a file
+abbrev pub program_report : List ℕ → LintSetup → Remarks → Option TrapList → Report
+program_report file setup remarks told = on_out (program_lines file setup remarks told) (program_status setup remarks told)
 
--- The lines of the findings, then those of the traps, and then the one that tells of verdicts, if it is asked for.
-abbrev pub program_lines : List ℕ → LintSetup → List Finding → Option TrapList → List ℕ
-program_lines file setup found told = findings_lines file (kept setup.ignored.items found) ++ verdict_lines file setup told
-
--- the report of the findings and traps in a file
-abbrev pub program_report : List ℕ → LintSetup → List Finding → Option TrapList → Report
-program_report file setup found told = on_out (program_lines file setup found told) (program_status setup found told)
-
--- The source gave the text of a program, and the report is that of the program's findings and of all its traps, but for those that are left out.
-pub record ReportsFindings {P : Type 0} {G : Ghosts P} (file : List ℕ) (setup : LintSetup) (program : Call G) (report : Report) : Type 0 where
+-- The source gave the text of a program, and the report is that of all the program's traps, with such remarks.
+pub record ReportsProgram {P : Type 0} {G : Ghosts P} (IsRemark : Remarking) (file : List ℕ) (setup : LintSetup) (program : Call G) (report : Report) : Type 0 where
   pub tree : CommandList
   pub text : List ℕ
   pub gave_text : GaveBytes G program.old program.new text
   pub loads : Loads text (G.seen program.new) tree
   pub told : Option TrapList
   pub traps : AreTraps tree setup.presets told
-  pub report_is : report ≡ program_report file setup (findings_of tree setup.presets) told
+  pub remarks : Remarks
+  pub remarked : IsRemark file setup tree told remarks
+  pub report_is : report ≡ program_report file setup remarks told
 
 -- the source gave a text that may have this fault, and the report is that of the fault
 pub record ReportsRefusal {P : Type 0} {G : Ghosts P} (file : List ℕ) (program : Call G) (report : Report) : Type 0 where
@@ -80,5 +77,43 @@ pub record ReportsRefusal {P : Type 0} {G : Ghosts P} (file : List ℕ) (program
   pub report_is : report ≡ on_err (error_line file fault)
 
 -- what is reported of the program in a file
-abbrev pub IsLintReport : {P : Type 0} {G : Ghosts P} → List ℕ → LintSetup → Call G → Report → Type 0
-IsLintReport file setup program report = ReportsFindings file setup program report ⊎ ReportsRefusal file program report
+abbrev pub IsLintReport : {P : Type 0} {G : Ghosts P} → Remarking → List ℕ → LintSetup → Call G → Report → Type 0
+IsLintReport IsRemark file setup program report = ReportsProgram IsRemark file setup program report ⊎ ReportsRefusal file program report
+
+-- the status for a finding of a rank, where that of the others is known
+abbrev pub status_with : Rank → ℕ → ℕ
+status_with ranks.Note others = others
+status_with ranks.Warning others = 1
+
+-- the status: 1 where a finding is a warning, else 0
+abbrev pub findings_status : List Finding → ℕ
+findings_status [] = 0
+findings_status (f ∷ rest) = status_with (rank f.remark.kind) (findings_status rest)
+
+-- whether a finding is of a wrong type
+abbrev pub is_of_wrong_type : Kind → Bool
+is_of_wrong_type kinds.WrongSort = true
+is_of_wrong_type _ = false
+
+-- the places of findings that tell of a wrong type
+abbrev pub mistyped_places : List Finding → List Place
+mistyped_places [] = []
+mistyped_places (f ∷ rest) = if is_of_wrong_type f.remark.kind then f.place ∷ mistyped_places rest else mistyped_places rest
+
+-- the names to which traps refer
+abbrev pub names_of : Option TrapList → List (Bor (List ℕ))
+names_of None = []
+names_of (Some list) = list.names.items
+
+-- the remarks of some findings, but for those that are left out
+abbrev pub remarks_of : List ℕ → LintSetup → List Finding → Option TrapList → Remarks
+remarks_of file setup found told = record {
+  lines = findings_lines file (kept setup.ignored.items found);
+  status = findings_status (kept setup.ignored.items found);
+  mistyped = mistyped_places (kept setup.ignored.items found);
+  reason = reason_of (names_of told);
+}
+
+-- the remarks are those of the findings of a program
+abbrev pub AreRemarks : Remarking
+AreRemarks file setup tree told remarks = remarks ≡ remarks_of file setup (findings_of tree setup.presets) told

@@ -1,20 +1,20 @@
 -- The lines that ctd-lint writes.
 use Rattle.ctd_findings.specs.declared.kind.Kind.TheVariants as kinds
 use Rattle.ctd_findings.specs.declared.kind.Rank.TheVariants as ranks
-use Rattle.std.specs.Prelude.{ℕ, Bool, List, [], ◌∷◌, ◌++◌, codes, Option, Some, None, if◌then◌else◌}
+use Rattle.std.specs.Prelude.{ℕ, List, [], ◌∷◌, ◌++◌, codes, Option, Some, None, if◌then◌else◌}
 use Rattle.std.specs.Fmt.{decimal}
-use Rattle.std.specs.List.{list_any}
-use Rattle.std.specs.Str.{bytes_eq}
 use Rattle.ctd_token.specs.FaultText as faults
 use Rattle.ctd_token.specs.declared.fault.LoadFault.{LoadFault}
 use Rattle.ctd_token.specs.declared.text.Place.{Place}
+use Rattle.ctd_known.specs.declared.faults.Operand.{Operand}
 use Rattle.ctd_findings.specs.declared.finding.Finding.{Finding}
 use Rattle.ctd_findings.specs.declared.finding.Remark.{Remark}
 use Rattle.ctd_findings.specs.declared.kind.Kind.{Kind}
 use Rattle.ctd_findings.specs.declared.kind.Rank.{Rank}
 use Rattle.ctd_findings.specs.calls.Kinds.{kind_name, rank}
 use Rattle.ctd_lint_report.specs.declared.kind.LintKind.{LintKind}
-use Rattle.ctd_lint_report.specs.calls.Kinds.{lint_kind_name}
+use Rattle.ctd_lint_report.specs.calls.Kinds.{is_ignored}
+use Rattle.ctd_lint_report.specs.calls.Traps.{place_text}
 
 -- what a kind of findings says, without the name of a variable
 abbrev pub kind_text : Kind → List ℕ
@@ -60,10 +60,6 @@ name_text (Some name) = codes ": " ++ name
 abbrev pub remark_text : Remark → List ℕ
 remark_text r = rank_text (rank r.kind) ++ codes ": " ++ kind_text r.kind ++ name_text r.name ++ codes " [" ++ kind_name r.kind ++ codes "]\n"
 
--- a place behind the name of a file
-abbrev pub place_text : Place → List ℕ
-place_text p = codes ":" ++ decimal p.line ++ codes ":" ++ decimal p.column
-
 -- the line of a finding in a file
 abbrev pub finding_line : List ℕ → Finding → List ℕ
 finding_line file f = file ++ place_text f.place ++ codes ": " ++ remark_text f.remark
@@ -72,10 +68,6 @@ finding_line file f = file ++ place_text f.place ++ codes ": " ++ remark_text f.
 abbrev pub findings_lines : List ℕ → List Finding → List ℕ
 findings_lines file [] = []
 findings_lines file (f ∷ rest) = finding_line file f ++ findings_lines file rest
-
--- whether what has a kind of this name is left out
-abbrev pub is_ignored : List LintKind → List ℕ → Bool
-is_ignored ignored name = list_any (λ k. bytes_eq (lint_kind_name k) name) ignored
 
 -- the findings that are not left out
 abbrev pub kept : List LintKind → List Finding → List Finding

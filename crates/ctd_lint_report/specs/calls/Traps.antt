@@ -1,52 +1,59 @@
 -- The lines of traps, and the line that tells of verdicts.
-use Rattle.std.specs.Prelude.{ℕ, Bool, true, false, not, ◌||◌, ◌&&◌, List, [], ◌∷◌, ◌++◌, codes, length, Option, Some, None, IfSome, if◌then◌else◌, option_map}
-use Rattle.std.specs.Borrow.{Bor}
+use Rattle.std.specs.Prelude.{ℕ, Bool, not, ◌||◌, ◌&&◌, ◌+◌, List, [], ◌∷◌, ◌++◌, codes, Option, Some, None, IfSome, if◌then◌else◌, nat_eq, false}
 use Rattle.std.specs.Fmt.{decimal}
-use Rattle.std.specs.List.{list_any, slice_get}
+use Rattle.std.specs.List.{list_any}
+use Rattle.ctd_token.specs.declared.text.Place.{Place}
 use Rattle.ctd_program.specs.Tree.{CommandList}
 use Rattle.ctd_program.specs.declared.preset.Preset.{Preset}
 use Rattle.ctd_traps.specs.declared.finding.Finding.{Finding as Trap}
-use Rattle.ctd_known.specs.declared.faults.TrapKind.{TrapKind}
 use Rattle.ctd_traps.specs.declared.program.TrapList.{TrapList}
 use Rattle.ctd_traps.specs.calls.Traps.{HasEachTrap, traps_of}
+use Rattle.ctd_lint_report.specs.declared.kind.LintKind.{LintKind}
 use Rattle.ctd_lint_report.specs.declared.setup.LintSetup.{LintSetup}
-use Rattle.ctd_lint_report.specs.calls.Kinds.{is_covered, is_element, is_shape, trap_name, trap_rank, trap_text}
-use Rattle.ctd_lint_report.specs.calls.Text.{is_ignored, name_text, place_text, rank_text}
+use Rattle.ctd_known.specs.declared.faults.TrapKind.{TrapKind}
+use Rattle.ctd_lint_report.specs.calls.Kinds.{is_element, is_ignored, is_mistyped, is_shape, is_shown_by_default, trap_name, trap_text}
 
 -- These are all places at which a run of a program may stop by a fault of a value, if they are told.
 abbrev pub AreTraps : CommandList → List Preset → Option TrapList → Type 0
 AreTraps program presets told = IfSome told (λ list. HasEachTrap program presets (traps_of list.findings.items))
 
+-- whether two places are the same
+abbrev pub is_same_place : Place → Place → Bool
+is_same_place p q = nat_eq p.line q.line && nat_eq p.column q.column
+
+-- whether a trap is of a wrong type, of which a finding at its place tells
+abbrev pub is_told_already : List Place → Trap → Bool
+is_told_already mistyped t = is_mistyped t.kind && list_any (λ p. is_same_place p t.place) mistyped
+
 -- whether traps of a kind are shown: those of elements and arrays only where that is asked for
-abbrev pub is_shown : LintSetup → Bool → List ℕ → Bool
-is_shown setup covered name = (covered || setup.elements) && not (is_ignored setup.ignored.items name)
+abbrev pub is_kind_shown : LintSetup → Bool → List ℕ → Bool
+is_kind_shown setup by_default name = (by_default || setup.elements) && not (is_ignored setup.ignored.items name)
+
+-- whether a trap is shown
+abbrev pub is_shown : LintSetup → List Place → Trap → Bool
+is_shown setup mistyped t = is_kind_shown setup (is_shown_by_default t.kind) (trap_name t.kind) && not (is_told_already mistyped t)
 
 -- the traps that are shown
-abbrev pub kept_traps : LintSetup → List Trap → List Trap
-kept_traps setup [] = []
-kept_traps setup (t ∷ rest) = if is_shown setup (is_covered t.kind) (trap_name t.kind) then t ∷ kept_traps setup rest else kept_traps setup rest
+abbrev pub kept_traps : LintSetup → List Place → List Trap → List Trap
+kept_traps setup mistyped [] = []
+kept_traps setup mistyped (t ∷ rest) = if is_shown setup mistyped t then t ∷ kept_traps setup mistyped rest else kept_traps setup mistyped rest
 
--- the name of a variable by its index, if there is one
-abbrev pub name_at : List (Bor (List ℕ)) → Option ℕ → Option (List ℕ)
-name_at names None = None
-name_at names (Some index) = option_map (λ name. name.now) (slice_get names index)
-
--- what a trap says, with the name of its kind
-abbrev pub trap_remark : TrapKind → Option (List ℕ) → List ℕ
-trap_remark kind name = rank_text (trap_rank kind) ++ codes ": " ++ trap_text kind ++ name_text name ++ codes " [" ++ trap_name kind ++ codes "]\n"
+-- a place behind the name of a file
+abbrev pub place_text : Place → List ℕ
+place_text p = codes ":" ++ decimal p.line ++ codes ":" ++ decimal p.column
 
 -- the line of a trap in a file
-abbrev pub trap_line : List ℕ → List (Bor (List ℕ)) → Trap → List ℕ
-trap_line file names t = file ++ place_text t.place ++ codes ": " ++ trap_remark t.kind (name_at names t.name)
+abbrev pub trap_line : List ℕ → (Trap → List ℕ) → Trap → List ℕ
+trap_line file reason t = file ++ place_text t.place ++ codes ": risk: " ++ trap_text t.kind ++ reason t ++ codes " [" ++ trap_name t.kind ++ codes "]\n"
 
 -- a line for each trap
-abbrev pub traps_lines : List ℕ → List (Bor (List ℕ)) → List Trap → List ℕ
-traps_lines file names [] = []
-traps_lines file names (t ∷ rest) = trap_line file names t ++ traps_lines file names rest
+abbrev pub traps_lines : List ℕ → (Trap → List ℕ) → List Trap → List ℕ
+traps_lines file reason [] = []
+traps_lines file reason (t ∷ rest) = trap_line file reason t ++ traps_lines file reason rest
 
 -- whether some traps are neither of elements nor of arrays
-abbrev pub some_covered : List Trap → Bool
-some_covered traps = list_any (λ t. is_covered t.kind) traps
+abbrev pub some_shown_by_default : List Trap → Bool
+some_shown_by_default traps = list_any (λ t. is_shown_by_default t.kind) traps
 
 -- whether some are of elements
 abbrev pub some_element : List Trap → Bool
@@ -63,6 +70,16 @@ condition_text true false = codes ", if elements have values where they are read
 condition_text false true = codes ", if arrays in UNIQUE have values at the same indices"
 condition_text true true = codes ", if elements have values where they are read, and arrays in UNIQUE at the same indices"
 
+-- whether a place is that of the trap before, if there is one
+abbrev pub is_place_before : Option Place → Place → Bool
+is_place_before None p = false
+is_place_before (Some q) p = is_same_place q p
+
+-- how many more places traps have; those one after the other at one place count once
+abbrev pub places_behind : Option Place → List Trap → ℕ
+places_behind before [] = 0
+places_behind before (t ∷ rest) = (if is_place_before before t.place then 0 else 1) + places_behind (Some t.place) rest
+
 -- that so many places may stop a run
 abbrev pub places_text : ℕ → List ℕ
 places_text count = codes "places that may stop a run without a verdict: at most " ++ decimal count
@@ -72,19 +89,28 @@ abbrev pub every_text : List ℕ → List ℕ
 every_text condition = codes "every data file gets a verdict" ++ condition
 
 -- what these traps say of verdicts
-abbrev pub outlook_text : List Trap → List ℕ
-outlook_text traps = if some_covered traps then places_text (length traps) else every_text (condition_text (some_element traps) (some_shape traps))
+abbrev pub verdict_text : List Trap → List ℕ
+verdict_text traps = if some_shown_by_default traps then places_text (places_behind None traps) else every_text (condition_text (some_element traps) (some_shape traps))
 
 -- the line that tells it of a file
-abbrev pub outlook_line : List ℕ → List Trap → List ℕ
-outlook_line file traps = file ++ codes ": " ++ outlook_text traps ++ codes "\n"
+abbrev pub verdict_line : List ℕ → List Trap → List ℕ
+verdict_line file traps = file ++ codes ": " ++ verdict_text traps ++ codes "\n"
 
 -- the line where it cannot be told
 abbrev pub too_large_line : List ℕ → List ℕ
 too_large_line file = file ++ codes ": too large to tell\n"
 
--- what is written of the traps of a program: a line for each that is shown, and the last line, if it is asked for
-abbrev pub verdict_lines : List ℕ → LintSetup → Option TrapList → List ℕ
-verdict_lines file setup None = if setup.verdicts then too_large_line file else []
-verdict_lines file setup (Some list) =
-    traps_lines file list.names.items (kept_traps setup list.findings.items) ++ (if setup.verdicts then outlook_line file list.findings.items else [])
+-- what is written of the traps of a program: a line for each that is shown, and the last line, if it is asked for; or that they cannot be told
+abbrev pub verdict_lines : List ℕ → LintSetup → (Trap → List ℕ) → List Place → Option TrapList → List ℕ
+verdict_lines file setup reason mistyped None = too_large_line file
+verdict_lines file setup reason mistyped (Some list) =
+    traps_lines file reason (kept_traps setup mistyped list.findings.items) ++ (if setup.verdicts then verdict_line file list.findings.items else [])
+
+-- whether traps of a kind leave open whether each data file gets a verdict: not where they are of elements or arrays, and --ignore accepts them
+abbrev pub is_open : List LintKind → TrapKind → Bool
+is_open ignored kind = is_shown_by_default kind || not (is_ignored ignored (trap_name kind))
+
+-- the status that --verdicts asks for: 0 where each data file gets a verdict, be it under conditions that --ignore accepts, else 1
+abbrev pub verdict_status : LintSetup → Option TrapList → ℕ
+verdict_status setup None = 1
+verdict_status setup (Some list) = if list_any (λ t. is_open setup.ignored.items t.kind) list.findings.items then 1 else 0

@@ -8,10 +8,9 @@ use Rattle.clap.specs.declared.builder.ArgAction.TheVariants.{Append, Set, SetTr
 use Rattle.ctd_arguments.specs.CommandLine.{option_rule}
 use Rattle.ctd_arguments.specs.Usage.{ArePresetsOf}
 use Rattle.ctd_arguments.specs.calls.Usage.{is_on}
-use Rattle.ctd_lint_report.specs.declared.setup.LintSetup.{LintSetup}
+use Rattle.ctd_lint_tool.specs.declared.command_line.Setup.{Setup}
 use Rattle.ctd_lint_report.specs.declared.kind.LintKind.{LintKind}
 use Rattle.ctd_lint_report.specs.calls.Kinds.{lint_kind_named}
-use Rattle.ctd_lint_tool.specs.calls.Words.{spelled_out}
 
 -- -D, --define
 abbrev pub define_rule : Rule
@@ -43,11 +42,11 @@ linter = with_rule (with_rule (with_rule (with_rule (with_rule bare_linter defin
 
 -- what clap finds in the words
 abbrev pub found_in : List Text → List Row
-found_in words = matches_of linter (spelled_out words)
+found_in words = matches_of linter words
 
 -- the errors that clap finds in them
 abbrev pub errors_in : List Text → List ErrorKind
-errors_in words = fault_of linter (spelled_out words)
+errors_in words = fault_of linter words
 
 -- the parts of a text between commas
 abbrev pub parts : Text → List Text
@@ -63,10 +62,10 @@ abbrev pub IsTaken : List Text → Type 0
 IsTaken words = All IsUtf8 words × (errors_in words ≡ [])
 
 -- the words are texts that clap takes, name these programs, presets and kinds, and ask for this of verdicts and elements
-pub record IsLintSetup (words : List Text) (s : LintSetup) : Type 0 where
+pub record IsLintSetup (words : List Text) (s : Setup) : Type 0 where
   pub taken : IsTaken words
   pub programs : all_of (codes "PROGRAM") (found_in words) ≡ Some s.programs.items
-  pub presets : ArePresetsOf (first_of (codes "define") (found_in words)) s.presets
-  pub ignored : AreKindsOf (first_of (codes "ignore") (found_in words)) s.ignored.items
-  pub verdicts : s.verdicts ≡ is_on (codes "verdicts") (found_in words)
-  pub elements : s.elements ≡ is_on (codes "elements") (found_in words)
+  pub presets : ArePresetsOf (first_of (codes "define") (found_in words)) s.report.presets
+  pub ignored : AreKindsOf (first_of (codes "ignore") (found_in words)) s.report.ignored.items
+  pub verdicts : s.report.verdicts ≡ is_on (codes "verdicts") (found_in words)
+  pub elements : s.report.elements ≡ is_on (codes "elements") (found_in words)

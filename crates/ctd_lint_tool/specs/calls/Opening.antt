@@ -16,3 +16,8 @@ OpensProgram opens starts old name None new = opens old name None new
 pub record AsksFor {F R : Type 0} (opens : F → List ℕ → Option R → F → Type 0) (old : F) (name : List ℕ) (new : F) : Type 0 where
   pub file : Option R
   pub opened : opens old name file new
+
+-- a program of this name was asked for, whatever came of it; where its source was made, it was handed back
+pub data WasAskedFor {F S : Type 0} (opens : F → List ℕ → Option S → F → Type 0) (closes : F → S → F → Type 0) (asks : F → List ℕ → F → Type 0) (old : F) (name : List ℕ) (new : F) : Type 0 where
+  not_read : asks old name new → WasAskedFor opens closes asks old name new
+  handed_back : (program after : S) (between : F) → opens old name (Some program) between → closes between after new → WasAskedFor opens closes asks old name new

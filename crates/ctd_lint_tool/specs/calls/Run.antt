@@ -17,16 +17,21 @@ use Rattle.ctd_lint_tool.specs.declared.command_line.LintFault.{LintFault}
 use Rattle.ctd_lint_report.specs.declared.setup.LintSetup.{LintSetup}
 use Rattle.ctd_lint_tool.specs.declared.process.Answered.{Answered}
 use Rattle.ctd_lint_tool.specs.calls.CommandLine.{IsLintSetup}
+use Rattle.ctd_lint_report.specs.calls.Report.{Remarking}
+use Rattle.ctd_lint_tool.specs.declared.command_line.Setup.{Setup}
 use Rattle.ctd_lint_tool.specs.calls.FileReport.{IsNamedReport, usage_report}
+use Rattle.ctd_lint_tool.specs.calls.Opening.{WasAskedFor}
 use Rattle.ctd_lint_tool.specs.calls.Usage.{IsLintFault}
 
--- what opening a program and asking for one do, and what its source and the two streams tell
+-- what opening a program, asking for one and handing its source back do, what its source and the two streams tell, and which remarks a report may have
 pub record Means (F S O E : Type 0) : Type 1 where
   pub opens : F → List ℕ → Option S → F → Type 0
   pub asks : F → List ℕ → F → Type 0
+  pub closes : F → S → F → Type 0
   pub source : sources.Ghosts S
   pub out : sinks.Ghosts O
   pub err : sinks.Ghosts E
+  pub remarks : Remarking
 
 -- the files and the two streams, at one time
 pub record Stand (F O E : Type 0) : Type 0 where
@@ -40,7 +45,7 @@ stand files out err = record { files = files; out = out; err = err }
 
 -- this is the report of the program of this name, which was asked for: of what its source gave, or that it could not be opened
 abbrev pub IsReportOf : {F S O E : Type 0} → Means F S O E → LintSetup → List ℕ → Stand F O E → Stand F O E → Report → Type 0
-IsReportOf m setup name old new report = IsNamedReport m.opens m.source name setup old.files new.files report
+IsReportOf m setup name old new report = IsNamedReport m.opens m.closes m.source m.remarks name setup old.files new.files report
 
 -- between the two times one of these reports was written, or broke off in a stream that failed, and the process ends with this status
 abbrev pub EndsIn : {F S O E : Type 0} → Means F S O E → Stand F O E → Stand F O E → (Report → Type 0) → ℕ → Type 0
@@ -84,7 +89,7 @@ pub record FailsMidwayAt {F S O E : Type 0} (m : Means F S O E) (setup : LintSet
 -- memory ran out at a program, of which nothing was written
 pub record RunsOutAt {F S O E : Type 0} (m : Means F S O E) (setup : LintSetup) (names : List (List ℕ)) (first last : Stand F O E) : Type 0 where
   pub at : StopsAt m setup names first
-  pub asked : m.asks at.between.files at.name last.files
+  pub asked : WasAskedFor m.opens m.closes m.asks at.between.files at.name last.files
   pub no_out : last.out ≡ at.between.out
   pub no_err : last.err ≡ at.between.err
 
@@ -96,7 +101,7 @@ pub data EndsRun {F S O E : Type 0} (m : Means F S O E) (setup : LintSetup) (nam
 
 -- the words name programs, and just these were linted; or they have this fault, which was told
 pub data EndsWords {F S O E : Type 0} (m : Means F S O E) (words : List (List ℕ)) (first last : Stand F O E) (status : ℕ) : Type 0 where
-  of_programs : (s : LintSetup) → IsLintSetup words s → EndsRun m s s.programs.items first last status → EndsWords m words first last status
+  of_programs : (s : Setup) → IsLintSetup words s → EndsRun m s.report s.programs.items first last status → EndsWords m words first last status
   of_fault : (fault : LintFault) → IsLintFault words fault → EndsInFault m first last fault status → EndsWords m words first last status
 
 -- the system gave words, and just these were answered; or it gave none; or no memory was left for them

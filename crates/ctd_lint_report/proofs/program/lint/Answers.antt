@@ -3,10 +3,10 @@ use Rattle.ctd_program.specs.calls.View.{command_trees}
 use Rattle.ctd_report.specs.Report.{on_err}
 use Rattle.ctd_report.proofs.WrittenLemmas.{Leaves-WritesOneOf}
 use Rattle.ctd_findings.specs.calls.Findings.{findings_of}
-use Rattle.ctd_lint_report.specs.calls.Report.{program_report}
+use Rattle.ctd_lint_report.specs.calls.Report.{program_report, remarks_of}
 use Rattle.ctd_lint_report.specs.calls.Text.{error_line}
 use Rattle.ctd_lint_report.specs.calls.Traps.{AreTraps}
-use Rattle.ctd_lint_report.proofs.Reports.{reports_findings, reports_refusal}
+use Rattle.ctd_lint_report.proofs.Reports.{reports_program, reports_refusal}
 use Rattle.ctd_lint_report.proofs.program.lint.Goals as goal
 
 pub returns : goal.returns
@@ -15,8 +15,8 @@ returns g c =
     let found = c.as_slice.result.now in
     let is = c.as_slice.ensures.value ∙ c.in_ok-found.ensures ∙ ap (λ p. findings_of (command_trees p) setup.presets) c.commands.ensures.whole in
     record {
-      written = Leaves-WritesOneOf _ _ _ (program_report c.args.file.now setup found c.in_ok-told.told) c.write_program.result
-          (reports_findings command_trees g.P.Source c.args.file.now setup c.args.program.now _ c.in-Ok.plan found c.in_ok-told.told c.in-Ok.ensures.loads is
+      written = Leaves-WritesOneOf _ _ _ (program_report c.args.file.now setup (remarks_of c.args.file.now setup found c.in_ok-told.told) c.in_ok-told.told) c.write_program.result
+          (reports_program command_trees g.P.Source c.args.file.now setup c.args.program.now _ c.in-Ok.plan found c.in_ok-told.told c.in-Ok.ensures.loads is
           (subst (λ p. AreTraps (command_trees p) setup.presets c.in_ok-told.told) c.commands-2.ensures.whole c.in_ok-told.ensures.each))
           c.write_program.ensures.written;
     }

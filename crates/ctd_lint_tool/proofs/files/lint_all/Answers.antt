@@ -1,5 +1,6 @@
 use Rattle.std.proofs.Common.{◌∙◌, ◌∷◌, ◌+◌, ap, drop, rules, sym}
 use Rattle.std.proofs.lemmas.List.{drop_more}
+use Rattle.ctd_lint_report.specs.calls.Report.{AreRemarks}
 use Rattle.ctd_lint_tool.specs.calls.Run.{no_program, stand}
 use Rattle.ctd_lint_tool.specs.inner.Run.{LeavesRun}
 use Rattle.ctd_lint_tool.proofs.RunLemmas.{goes_on, holds_on_return, stops}
@@ -19,7 +20,7 @@ loop-name-preserved g c = record {
 
 pub returns-in_err-own-clause-run : goal.returns-in_err-own-clause-run
 returns-in_err-own-clause-run g c = holds_on_return
-    (λ r. LeavesRun (record { opens = g.P.Programs.opens_program; asks = g.P.Programs.asks_for; source = g.P.Program.Source; out = g.O.Sink; err = g.E.Sink }) c.args.setup.now c.args.names.now (stand c.args.programs.now c.args.out.now c.args.err.now) (stand c.lint_named.new.programs c.lint_named.new.out c.lint_named.new.err) r)
+    (λ r. LeavesRun (record { opens = g.P.Programs.opens_program; asks = g.P.Programs.asks_for; closes = g.P.Programs.closes_program; source = g.P.Program.Source; out = g.O.Sink; err = g.E.Sink; remarks = AreRemarks }) c.args.setup.now c.args.names.now (stand c.args.programs.now c.args.out.now c.args.err.now) (stand c.lint_named.new.programs c.lint_named.new.out c.lint_named.new.err) r)
     c.in_err-own.field-0.0 c.from_residual.result c.from_residual.ensures
     (stops _ _ _ _ _ _ _ _ _ _
     (drop_more c.args.names.now c.loop-name.name-index _ c.loop-name-test.true ∙ ap (λ x. x ∷ drop (c.loop-name.name-index + 1) c.args.names.now) (sym c.name-item.is))

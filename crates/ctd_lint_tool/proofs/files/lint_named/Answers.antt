@@ -2,17 +2,18 @@ use Rattle.std.proofs.Common.{refl, rules}
 use Rattle.ctd_report.specs.Report.{on_err}
 use Rattle.ctd_report.proofs.WrittenLemmas.{Leaves-WritesOneOf, WritesOneOf-weaker}
 use Rattle.ctd_lint_tool.specs.calls.FileReport.{not_opened, of_program}
+use Rattle.ctd_lint_tool.specs.calls.Opening.{handed_back, not_read}
 use Rattle.ctd_lint_report.specs.calls.Text.{open_line}
 use Rattle.ctd_lint_tool.proofs.files.lint_named.Goals as goal
 
 pub returns-in-Some : goal.returns-in-Some
 returns-in-Some g c = record {
-  written = WritesOneOf-weaker _ _ _ _ c.lint.result (λ report is. of_program c.in-Some.program c.lint.new.program (search rules) is) c.lint.ensures.written;
-  asked = search rules;
+  written = WritesOneOf-weaker _ _ _ _ c.lint.result (λ report is. of_program c.in-Some.program c.lint.new.program _ (search rules) is c.close_program.ensures) c.lint.ensures.written;
+  asked = handed_back c.in-Some.program c.lint.new.program _ (search rules) c.close_program.ensures;
 }
 
 pub returns-in-None : goal.returns-in-None
 returns-in-None g c = record {
   written = Leaves-WritesOneOf _ _ _ (on_err (open_line c.args.name.now)) c.write_unopened.result (not_opened (search rules) refl) c.write_unopened.ensures.written;
-  asked = search rules;
+  asked = not_read (search rules);
 }

@@ -8,7 +8,7 @@ returns-then-not-has c = record { more = λ t h. h; listed = λ is. absurd (cc (
 
 pub returns : goal.returns
 returns c =
-    let finding : Finding = record { place = c.args.place; kind = c.args.kind; name = c.name_of.result } in
+    let finding : Finding = record { place = c.args.place; kind = c.args.kind; operand = c.operand_of.result } in
     record {
       more = part_left c.args.findings.now.items (finding ∷ []) c.push.new.self.items c.in_ok-push.ensures.items;
       listed = λ is. pushed c.args.findings.now.items c.push.new.self.items finding c.in_ok-push.ensures.items;

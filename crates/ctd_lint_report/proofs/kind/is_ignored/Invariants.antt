@@ -1,6 +1,6 @@
 use Rattle.std.proofs.Common.{◌≡◌, drop}
-use Rattle.ctd_lint_report.specs.calls.Text.{is_ignored}
-use Rattle.ctd_lint_report.proofs.text.is_ignored.Given as goal
+use Rattle.ctd_lint_report.specs.calls.Kinds.{is_ignored}
+use Rattle.ctd_lint_report.proofs.kind.is_ignored.Given as goal
 
 abbrev pub invariant-loop-left_out : goal.invariant-loop-left_out
 invariant-loop-left_out l = is_ignored (drop l.left_out-index l.ignored) l.name ≡ is_ignored l.ignored l.name

@@ -1,0 +1,7 @@
+use Rattle.std.proofs.Common.{◌≡◌, drop}
+use Rattle.std.specs.List.{list_any}
+use Rattle.ctd_lint_report.specs.calls.Traps.{is_open}
+use Rattle.ctd_lint_report.proofs.traps.some_open.Given as goal
+
+abbrev pub invariant-loop-trap : goal.invariant-loop-trap
+invariant-loop-trap l = list_any (λ t. is_open l.ignored t.kind) (drop l.trap-index l.traps) ≡ list_any (λ t. is_open l.ignored t.kind) l.traps

@@ -1,0 +1,6 @@
+use Rattle.std.proofs.Common.{◌≡◌, drop}
+use Rattle.ctd_lint_report.specs.calls.Traps.{some_shown_by_default}
+use Rattle.ctd_lint_report.proofs.traps.some_shown_by_default.Given as goal
+
+abbrev pub invariant-loop-trap : goal.invariant-loop-trap
+invariant-loop-trap l = some_shown_by_default (drop l.trap-index l.traps) ≡ some_shown_by_default l.traps
