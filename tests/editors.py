@@ -363,6 +363,7 @@ class TextMate(unittest.TestCase):
         for line, parts in [
             ("a b.ctd:2:13: warning: the string is empty [empty-string]", ("a b.ctd", "2", "13", "warning", "the string is empty", "empty-string")),
             ("a.ctd:1:1: note: nothing reads this variable: n [unread]", ("a.ctd", "1", "1", "note", "nothing reads this variable: n", "unread")),
+            ("a.ctd:3:7: risk: may overflow: n is 9 [overflow]", ("a.ctd", "3", "7", "risk", "may overflow: n is 9", "overflow")),
             ("a.ctd:1:6: error: syntax error", ("a.ctd", "1", "6", "error", "syntax error", None)),
         ]:
             with self.subTest(line):

@@ -16,12 +16,12 @@ export function placesIn(message) {
   return { spot: numbers(spot), place: numbers(place) };
 }
 
-// The findings in the lines of ctd-lint, `FILE:LINE:COLUMN: RANK: TEXT` or `ctd-lint: TEXT`: each with its rank (error, warning or note), its text,
+// The findings in the lines of ctd-lint, `FILE:LINE:COLUMN: RANK: TEXT` or `ctd-lint: TEXT`: each with its rank (error, warning, risk or note), its text,
 // and its place, or null where it has none.
 export function findingsIn(lines) {
   const found = [];
   for (const line of lines.split("\n")) {
-    const [, row, column, rank, text] = /^program(?::(\d+):(\d+))?: (error|warning|note): (.*)$/.exec(line) ?? [];
+    const [, row, column, rank, text] = /^program(?::(\d+):(\d+))?: (error|warning|risk|note): (.*)$/.exec(line) ?? [];
     const fault = /^ctd-lint: (.*)$/.exec(line);
     if (text) found.push({ place: row ? { line: Number(row), column: Number(column) } : null, rank, text });
     else if (fault) found.push({ place: null, rank: "error", text: fault[1] });
