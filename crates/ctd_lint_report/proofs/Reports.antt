@@ -1,5 +1,5 @@
 -- What is reported of a program, put together from what loading promises.
-use Rattle.std.proofs.Common.{◌≡◌, ◌≢◌, ℕ, List, Ok, Err, Option, inl, inr, refl, ap}
+use Rattle.std.proofs.Common.{◌≢◌, ℕ, All, List, Ok, Err, Option, inl, inr, refl}
 use Rattle.ctd_source.specs.declared.source.Source.{Ghosts}
 use Rattle.ctd_token.specs.declared.fault.LoadFault.{LoadFault}
 use Rattle.ctd_token.specs.declared.fault.LoadKind.TheVariants.{Memory}
@@ -7,7 +7,7 @@ use Rattle.ctd_program.specs.Tree.{CommandList}
 use Rattle.ctd_loader.specs.calls.Loading.{LoadsFrom}
 use Rattle.ctd_report.specs.Report.{on_err}
 use Rattle.ctd_findings.specs.declared.finding.Finding.{Finding}
-use Rattle.ctd_findings.specs.calls.Findings.{findings_of}
+use Rattle.ctd_findings.specs.calls.Findings.{IsPlaced, places_of}
 use Rattle.ctd_lint_report.specs.declared.setup.LintSetup.{LintSetup}
 use Rattle.ctd_traps.specs.declared.program.TrapList.{TrapList}
 use Rattle.ctd_lint_report.specs.calls.Report.{IsLintReport, call, program_report}
@@ -16,10 +16,10 @@ use Rattle.ctd_lint_report.specs.calls.Traps.{AreTraps}
 
 module _ {V P : Type 0} (tree_of : V → CommandList) (G : Ghosts P) (file : List ℕ) (setup : LintSetup) (old new : P) where
   -- a program that was loaded, its findings and its traps
-  pub reports_findings : (plan : V) (found : List Finding) (told : Option TrapList) → LoadsFrom tree_of G old new (Ok plan) → found ≡ findings_of (tree_of plan) setup.presets
+  pub reports_findings : (plan : V) (found : List Finding) (told : Option TrapList) → LoadsFrom tree_of G old new (Ok plan) → All (IsPlaced (places_of (tree_of plan))) found
       → AreTraps (tree_of plan) setup.presets told → IsLintReport file setup (call G old new) (program_report file setup found told)
-  reports_findings plan found told l is are =
-      inl (record { tree = tree_of plan; text = l.bytes; gave_text = l.gave; loads = l.answer; told = told; traps = are; report_is = ap (λ fs. program_report file setup fs told) is })
+  reports_findings plan found told l placed are =
+      inl (record { tree = tree_of plan; text = l.bytes; gave_text = l.gave; loads = l.answer; found = found; placed = placed; told = told; traps = are; report_is = refl })
 
   -- a program that was refused
   pub reports_refusal : (fault : LoadFault) → LoadsFrom tree_of G old new (Err fault) → fault.kind ≢ Memory

@@ -1,6 +1,6 @@
 -- What ctd-lint writes of a program.
 use Rattle.ctd_findings.specs.declared.kind.Rank.TheVariants as ranks
-use Rattle.std.specs.Prelude.{◌≡◌, ◌⊎◌, ◌+◌, ◌≤◌, ◌++◌, ℕ, List, [], ◌∷◌, length, max, Option, Some, None}
+use Rattle.std.specs.Prelude.{◌≡◌, ◌⊎◌, ◌+◌, ◌≤◌, ◌++◌, ℕ, List, [], ◌∷◌, All, length, max, Option, Some, None}
 use Rattle.ctd_source.specs.declared.source.Source.{Ghosts}
 use Rattle.ctd_source.specs.SourceReads.{GaveBytes}
 use Rattle.ctd_token.specs.declared.fault.LoadFault.{LoadFault}
@@ -10,7 +10,7 @@ use Rattle.ctd_loader.specs.Loading.{Loads, MayFail}
 use Rattle.ctd_report.specs.Report.{Report, on_err, on_out}
 use Rattle.ctd_findings.specs.declared.finding.Finding.{Finding}
 use Rattle.ctd_findings.specs.declared.kind.Rank.{Rank}
-use Rattle.ctd_findings.specs.calls.Findings.{findings_of}
+use Rattle.ctd_findings.specs.calls.Findings.{IsPlaced, places_of}
 use Rattle.ctd_findings.specs.calls.Kinds.{rank}
 use Rattle.ctd_lint_report.specs.declared.setup.LintSetup.{LintSetup}
 use Rattle.ctd_traps.specs.declared.finding.Finding.{Finding as Trap}
@@ -60,15 +60,17 @@ program_lines file setup found told = findings_lines file (kept setup.ignored.it
 abbrev pub program_report : List ℕ → LintSetup → List Finding → Option TrapList → Report
 program_report file setup found told = on_out (program_lines file setup found told) (program_status setup found told)
 
--- The source gave the text of a program, and the report is that of the program's findings and of all its traps, but for those that are left out.
+-- The source gave the text of a program, and the report is that of findings, each with the place of a command, and of all traps of the program, but for those that are left out.
 pub record ReportsFindings {P : Type 0} {G : Ghosts P} (file : List ℕ) (setup : LintSetup) (program : Call G) (report : Report) : Type 0 where
   pub tree : CommandList
   pub text : List ℕ
   pub gave_text : GaveBytes G program.old program.new text
   pub loads : Loads text (G.seen program.new) tree
+  pub found : List Finding
+  pub placed : All (IsPlaced (places_of tree)) found
   pub told : Option TrapList
   pub traps : AreTraps tree setup.presets told
-  pub report_is : report ≡ program_report file setup (findings_of tree setup.presets) told
+  pub report_is : report ≡ program_report file setup found told
 
 -- the source gave a text that may have this fault, and the report is that of the fault
 pub record ReportsRefusal {P : Type 0} {G : Ghosts P} (file : List ℕ) (program : Call G) (report : Report) : Type 0 where
