@@ -2,9 +2,9 @@
 # built program; install, uninstall: PREFIX and DESTDIR as usual; deb, dist: a Debian package and an archive of the built program, in out/.
 # lib: builds the libraries for C and Python, and installs them as install does; page: makes the page for the browser in web/out; test-lib and
 # test-page test these (docs/EMBEDDING.md). fuzz: compares the checker with a reference in Python on COUNT generated cases of a SEED, or,
-# with MODE=--verdicts, the faults by which it stops with what ctd-lint tells. nightly:
-# tests that take too long for test. bench: times the checker beside C written by hand (bench/README.md). portable: makes the programs as one C
-# file each, in out/, and packs that of the checker into portable/; test-portable: tests it for other systems (portable/README.md).
+# with MODE=--verdicts or --findings, what ctd-lint tells with runs. nightly: tests that take too long for test. bench: times the checker beside C
+# written by hand (bench/README.md). portable: makes the programs as one C file each, in out/, and packs that of the checker into portable/;
+# test-portable: tests it for other systems (portable/README.md).
 #
 # Without the toolchain the checker is compiled from the packed C file, if that was made of these sources, and ctd-lint is left out.
 version := 1.0

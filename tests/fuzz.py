@@ -11,7 +11,10 @@ others.
 
 With --verdicts it compares the built checker with the built ctd-lint: each fault of a value by which a run stops has to be told, as a trap
 at its place, and no such run may be of a program of which ctd-lint says that every data file gets a verdict. The last line counts the faults
-that are told, as passed, and the others. With --self-test too it sees that a report without the lines of a kind is complained of."""
+that are told, as passed, and the others. With --self-test too it sees that a report without the lines of a kind is complained of.
+
+With --findings it holds what ctd-lint finds against the runs of the reference: variables that count for nothing, and commands that no run passes. The
+last line counts such findings, as passed, and the cases with a wrong one. With --self-test too it sees that wrong ones are complained of."""
 import argparse
 import multiprocessing
 import os
@@ -25,6 +28,8 @@ from pathlib import Path
 from fuzzing.case import Case
 from fuzzing.cases import case_of
 from fuzzing.checker import Checker
+from fuzzing.findings import IDLE_KINDS, STOP_KINDS, Held, hold, wrong_claims_seen
+from fuzzing.findings import complaints_of as complaints_of_findings
 from fuzzing.shrink import shrink
 from fuzzing.verdicts import Comparison, Linter, complaints_of, wrong_reports_seen
 from fuzzing.verdicts import compare as compare_verdicts
@@ -184,6 +189,39 @@ def fuzz_verdicts(program: Path, linter: Path, seed: int, numbers: range, jobs: 
     return print_counts(found.kinds.total() - len(found.untold), len(found.untold) + len(missing))
 
 
+def hold_part(program: Path, linter: Path, seed: int, numbers: Sequence[int]) -> Held:
+    """Holds what ctd-lint finds in the programs of the cases of these numbers against their runs."""
+    with checker_in_folder(program) as checker:
+        return hold(checker, Linter(linter), seed, numbers)
+
+
+def fuzz_findings(program: Path, linter: Path, seed: int, numbers: range, jobs: int) -> int:
+    """Holds findings against runs, and prints cases with a wrong one. Of many cases some have to have each kind."""
+    held = Held()
+    with multiprocessing.Pool(jobs) as pool:
+        for part in pool.starmap(hold_part, [(program, linter, seed, numbers[job::jobs]) for job in range(jobs)]):
+            held.add(part)
+    with checker_in_folder(program) as checker:
+        for number in sorted(held.wrong)[:MOST_PRINTED]:
+            case = shrink(case_of(seed, number), lambda case: bool(complaints_of_findings(case, checker, Linter(linter))))
+            print(f"fuzz: case {number} of seed {seed} has a wrong finding; made smaller:\n{case}")
+            print("\n".join(complaints_of_findings(case, checker, Linter(linter))))
+    missing = [kind for kind in (*IDLE_KINDS, *STOP_KINDS) if kind not in held.kinds] if len(numbers) >= MANY_CASES else []
+    for kind in missing:
+        print(f"fuzz: no finding is of the kind {kind}")
+    print("fuzz: " + ", ".join(f"{name}: {count}" for name, count in sorted(held.kinds.items())))
+    return print_counts(held.kinds.total(), len(held.wrong) + len(missing))
+
+
+def self_test_of_findings(seed: int) -> int:
+    """Counts the wrong findings that are complained of in some case."""
+    passed = failed = 0
+    for name, number in wrong_claims_seen(seed, CASES_OF_SELF_TEST):
+        print(f"fuzz: {name}: " + (f"not seen by {CASES_OF_SELF_TEST} cases" if number is None else f"seen by case {number}"))
+        passed, failed = passed + (number is not None), failed + (number is None)
+    return print_counts(passed, failed)
+
+
 def self_test_of_verdicts(program: Path, linter: Path, seed: int) -> int:
     """Counts the wrong reports that are complained of in some case."""
     passed = failed = 0
@@ -204,15 +242,18 @@ def main() -> int:
     parser.add_argument("--case", type=int, help="prints the case of this number and its answers")
     parser.add_argument("--self-test", action="store_true", help="looks for wrong bodies in the reference")
     parser.add_argument("--verdicts", action="store_true", help="compares the checker with ctd-lint")
+    parser.add_argument("--findings", action="store_true", help="holds what ctd-lint finds against runs")
     parser.add_argument("--linter", type=Path, default=BUILT_LINTER, help="the ctd-lint (default: the one that was built here)")
     given = parser.parse_args()
     program, linter = given.checker.resolve(), given.linter.resolve()
-    for needed in [program, *([linter] if given.verdicts else [])]:
+    for needed in [program, *([linter] if given.verdicts or given.findings else [])]:
         if not needed.is_file():
             parser.error(f"there is no {needed}: make build makes it")
     numbers = range(given.first, given.first + given.count)
     if given.verdicts:
         return self_test_of_verdicts(program, linter, given.seed) if given.self_test else fuzz_verdicts(program, linter, given.seed, numbers, given.jobs)
+    if given.findings:
+        return self_test_of_findings(given.seed) if given.self_test else fuzz_findings(program, linter, given.seed, numbers, given.jobs)
     if given.self_test:
         return self_test(program, given.seed)
     if given.case is None:

@@ -41,5 +41,6 @@ if [ "$failed" -eq 0 ]; then
     count tests/links.py
     count tests/fuzz.py
     count tests/fuzz.py --verdicts
+    count tests/fuzz.py --findings
 fi
 end_of_counts

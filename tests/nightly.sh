@@ -10,6 +10,7 @@ cd "$(dirname "${BASH_SOURCE[0]}")/.." || exit
 count tests/tables.py crates/checktestdata/out/checktestdata tests/tables/nightly
 count tests/fuzz.py --count "${COUNT:-100000}" --seed "${SEED:-1}"
 count tests/fuzz.py --verdicts --count "${COUNT:-100000}" --seed "${SEED:-1}"
+count tests/fuzz.py --findings --count "${COUNT:-100000}" --seed "${SEED:-1}"
 count tests/cover.py crates/checktestdata/out/checktestdata 10000
 rm -f out/ctd-lint
 portable/build.sh ctd_lint out/ctd-lint.c && portable/compile.sh out/ctd-lint.c out/ctd-lint

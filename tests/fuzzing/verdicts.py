@@ -53,17 +53,22 @@ class Linter:
     def __init__(self, program: Path) -> None:
         self.program = program
 
-    def report(self, case: Case) -> Report | None:
-        """What it tells of the program, with the presets of the case; none where the words of the case ask for no check."""
+    def output(self, case: Case) -> str:
+        """What it writes of the program, with the presets of the case; nothing where the words of the case ask for no check."""
         try:
             given = sort_words([word.decode() for word in case.words])
         except (Asked, Misused, UnicodeDecodeError):
-            return None
+            return ""
         define = given.options.get("define")
         presets = [] if define is None else [f"--define={define}"]
         words = [self.program, "--verdicts", "--elements", *presets, "--", given.files[0]]
         done = subprocess.run(words, stdin=subprocess.DEVNULL, capture_output=True, text=True, errors="replace", check=False)
-        return report_of(done.stdout)
+        return done.stdout
+
+    def report(self, case: Case) -> Report | None:
+        """What it tells of the program of a case, if it tells something."""
+        output = self.output(case)
+        return report_of(output) if output else None
 
 
 def stop_of(answer: Answer) -> Stop | None:

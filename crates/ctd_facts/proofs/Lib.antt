@@ -1,5 +1,4 @@
 pub mod Everywhere
 pub mod Facts
 pub mod InRange
-pub mod OneTree
 pub mod RangeMaps

@@ -7,7 +7,8 @@ use Rattle.std.proofs.lemmas.Slice.Eq.{bytes_eq-Decides}
 use Rattle.ctd_names.specs.declared.block.CommandInBlock.{CommandInBlock}
 use Rattle.ctd_facts.specs.declared.ranges.Bounds.{Bounds}
 use Rattle.ctd_facts.specs.calls.Ranges.{NamedRange, joined, range_among, range_given, widened}
-use Rattle.ctd_names.specs.calls.Listed.{in_block, in_blocks}
+use Rattle.ctd_names.specs.calls.Listed.{trees_of}
+use Rattle.ctd_program.specs.calls.View.{command_tree}
 
 chosen : (old : List ℕ → Option Bounds) (set name : List ℕ) (b : Bounds) (same : Bool) → bytes_eq set name ≡ same → cond same (Some (joined (old set) b)) (old name) ≡ cond same (Some (joined (old name) b)) (old name)
 chosen old set name b true is = ap (λ n. Some (joined (old n) b)) ((bytes_eq-Decides set name).0 is)
@@ -18,11 +19,11 @@ pub set_is_widened : (old : List ℕ → Option Bounds) (r : NamedRange) (name :
 set_is_widened old r name = chosen old r.name name r.bounds (bytes_eq r.name name) refl
 
 -- the next command is taken into the map
-pub one_widened : (commands : List CommandInBlock) (i : ℕ) (x : CommandInBlock) (name : List ℕ) (before after : Option Bounds) (given : Option NamedRange) (all : Option Bounds) → i < length commands → x ≡ get_or commands i x → given ≡ range_given (in_block x).command
-    → after ≡ widened name before given → range_among name before (in_blocks (drop i commands)) ≡ all → range_among name after (in_blocks (drop (i + 1) commands)) ≡ all
+pub one_widened : (commands : List CommandInBlock) (i : ℕ) (x : CommandInBlock) (name : List ℕ) (before after : Option Bounds) (given : Option NamedRange) (all : Option Bounds) → i < length commands → x ≡ get_or commands i x → given ≡ range_given (command_tree x.command.now)
+    → after ≡ widened name before given → range_among name before (trees_of (drop i commands)) ≡ all → range_among name after (trees_of (drop (i + 1) commands)) ≡ all
 one_widened commands i x name before after given all inside is given_is widens so_far =
-    let rest = in_blocks (drop (i + 1) commands) in
+    let rest = trees_of (drop (i + 1) commands) in
     ap (λ b. range_among name b rest) (widens ∙ ap (widened name before) given_is)
-    ∙ ap (λ (y : CommandInBlock). range_among name (widened name before (range_given (in_block y).command)) rest) is
-    ∙ sym (at_drop_more (λ xs. range_among name before (in_blocks xs)) commands i x inside)
+    ∙ ap (λ (y : CommandInBlock). range_among name (widened name before (range_given (command_tree y.command.now))) rest) is
+    ∙ sym (at_drop_more (λ xs. range_among name before (trees_of xs)) commands i x inside)
     ∙ so_far

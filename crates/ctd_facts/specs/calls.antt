@@ -4,6 +4,4 @@ pub mod Facts
 pub mod Known
 pub mod LiteralValues
 pub mod Ranges
-pub mod Same
-pub mod Sides
 pub mod Sorts

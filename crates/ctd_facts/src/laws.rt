@@ -9,8 +9,6 @@ ghost use Rattle.ctd_value.specs.Val.{number_of};
 ghost use Rattle.ctd_facts.specs.calls.Decided.{IsOrUndefined, KeepsTo, range_truth};
 ghost use Rattle.ctd_facts.specs.calls.LiteralValues.{literal_number, literal_truth};
 ghost use Rattle.ctd_facts.specs.declared.ranges.Bounds.{Bounds};
-ghost use Rattle.ctd_facts.specs.calls.Same.{same};
-ghost use Rattle.std.specs.Bool.{Decides};
 
 /// A test that is true, or false, by its literals is so whatever the variables and the data are.
 pub fn literal_truth_is_the_truth()
@@ -25,9 +23,4 @@ pub fn literal_number_is_the_number()
 /// A test that the ranges of its variables decide has this answer wherever each of them has a number of its range, or is without a value.
 pub fn range_truth_is_the_truth()
     ensures always { (range : List ℕ → Option Bounds) (t : TestTree) (b : Bool) → range_truth range t ≡ Some b → (h : Bindings) → KeepsTo range h → (d : TestData) (p : ℕ) → IsOrUndefined b (truth t h d p) }
-{}
-
-/// Two expressions that count as the same are one tree, and one tree counts as the same.
-pub fn same_is_one_tree()
-    ensures always { (t u : ExprTree) → Decides (same t u) (t ≡ u) }
 {}

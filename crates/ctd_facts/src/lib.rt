@@ -1,4 +1,4 @@
-//! What is known of a program whatever the data are: values by literals, the sorts and the ranges of names, expressions that are one tree.
+//! What is known of a program whatever the data are: values by literals, the sorts and the ranges of names.
 #![tactic(auto)]
 
 mod decided;
@@ -6,16 +6,12 @@ mod known;
 mod laws;
 mod literal;
 mod ranges;
-mod same;
-mod sides;
 mod sort;
 
 pub use decided::undecided_truth;
 pub use known::{Known, known_of};
 pub use laws::{
     literal_number_is_the_number, literal_truth_is_the_truth, range_truth_is_the_truth,
-    same_is_one_tree,
 };
 pub use literal::{literal_number, literal_truth};
-pub use sides::{has_same_names, has_same_sides};
 pub use sort::has_wrong_sort;

@@ -5,8 +5,9 @@ ghost use Rattle.ctd_program.specs.calls.View.{command_tree, expr_list, expr_tre
 ghost use Rattle.ctd_names.specs.calls.Collector.{Adds, mentions_in};
 ghost use Rattle.ctd_facts.specs.calls.Known.{bounds_at, range_known};
 ghost use Rattle.ctd_facts.specs.inner.Views.{given_at};
-ghost use Rattle.ctd_names.specs.calls.Listed.{has_name, in_blocks, name_at};
+ghost use Rattle.ctd_names.specs.calls.Listed.{has_name, trees_of};
 ghost use Rattle.ctd_facts.specs.calls.LiteralValues.{literal_number, no_variables};
+ghost use Rattle.ctd_names.specs.inner.Views.{name_at};
 ghost use Rattle.ctd_names.specs.calls.Names.{is_among, preset_names};
 ghost use Rattle.ctd_names.specs.calls.Roles.{role_names};
 ghost use Rattle.ctd_names.specs.declared.roles.Role.TheVariants.{Gives};
@@ -159,7 +160,7 @@ fn list_all_without_range<'p>(
     found: &mut Collector<MentionedName<'p>>,
 )
     requires { nothing.now ≡ no_variables }
-    ensures adds { Adds (mentions_in found.old) (all_without_range (in_blocks commands.now)) (mentions_in found.new) }
+    ensures adds { Adds (mentions_in found.old) (all_without_range (trees_of commands.now)) (mentions_in found.new) }
 {
     for entry in commands {
         list_without_range(alloc, entry.command, nothing, found);
@@ -174,7 +175,7 @@ fn names_given_otherwise<'p>(
     nothing: &Store,
 ) -> Result<NameSet<'p>, AllocError>
     requires { nothing.now ≡ no_variables }
-    ensures members { IfOk result (λ set. (name : List ℕ) → has_name name set ≡ is_among name (role_names Gives (all_without_range (in_blocks commands.now)) ++ preset_names presets.now)) }
+    ensures members { IfOk result (λ set. (name : List ℕ) → has_name name set ≡ is_among name (role_names Gives (all_without_range (trees_of commands.now)) ++ preset_names presets.now)) }
 {
     let mut found = Collector::new(alloc);
     list_all_without_range(alloc, commands, nothing, &mut found);
@@ -226,7 +227,7 @@ impl<'p> RangeMap<'p> {
         nothing: &Store,
     ) -> Result<RangeMap<'p>, AllocError>
         requires { nothing.now ≡ no_variables }
-        ensures ranges { IfOk result (λ map. (name : List ℕ) → bounds_at name map ≡ range_among name None (in_blocks commands.now)) }
+        ensures ranges { IfOk result (λ map. (name : List ℕ) → bounds_at name map ≡ range_among name None (trees_of commands.now)) }
     {
         let mut map = RangeMap {
             bounds: BTreeMap::new(alloc),
@@ -248,7 +249,7 @@ impl<'p> Ranges<'p> {
         nothing: &Store,
     ) -> Result<Ranges<'p>, AllocError>
         requires { nothing.now ≡ no_variables }
-        ensures ranges { IfOk result (λ ranges. (name : List ℕ) → range_known ranges name ≡ range_in (in_blocks commands.now) presets.now name) }
+        ensures ranges { IfOk result (λ ranges. (name : List ℕ) → range_known ranges name ≡ range_in (trees_of commands.now) presets.now name) }
     {
         let map = RangeMap::of(alloc, commands, nothing)?;
         let others = names_given_otherwise(alloc, commands, presets, nothing)?;

@@ -1,3 +1,4 @@
 -- What only the proofs of this crate use.
-pub mod Listed
-pub mod Marks
+pub mod Placed
+pub mod Sides
+pub mod Truths

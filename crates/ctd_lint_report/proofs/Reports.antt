@@ -1,5 +1,5 @@
 -- What is reported of a program, put together from what loading promises.
-use Rattle.std.proofs.Common.{◌≡◌, ◌≢◌, ℕ, List, Ok, Err, Option, inl, inr, refl, ap}
+use Rattle.std.proofs.Common.{◌≢◌, ℕ, All, List, Ok, Err, Option, inl, inr, refl}
 use Rattle.ctd_source.specs.declared.source.Source.{Ghosts}
 use Rattle.ctd_token.specs.declared.fault.LoadFault.{LoadFault}
 use Rattle.ctd_token.specs.declared.fault.LoadKind.TheVariants.{Memory}
@@ -7,7 +7,7 @@ use Rattle.ctd_program.specs.Tree.{CommandList}
 use Rattle.ctd_loader.specs.calls.Loading.{LoadsFrom}
 use Rattle.ctd_report.specs.Report.{on_err}
 use Rattle.ctd_findings.specs.declared.finding.Finding.{Finding}
-use Rattle.ctd_findings.specs.calls.Findings.{findings_of}
+use Rattle.ctd_findings.specs.calls.Findings.{IsPlaced, places_of}
 use Rattle.ctd_lint_report.specs.declared.setup.LintSetup.{LintSetup}
 use Rattle.ctd_traps.specs.declared.program.TrapList.{TrapList}
 use Rattle.ctd_lint_report.specs.calls.Report.{AreRemarks, IsLintReport, call, program_report, remarks_of}
@@ -16,9 +16,9 @@ use Rattle.ctd_lint_report.specs.calls.Traps.{AreTraps}
 
 module _ {V P : Type 0} (tree_of : V → CommandList) (G : Ghosts P) (file : List ℕ) (setup : LintSetup) (old new : P) where
   -- a program that was loaded, its findings and its traps
-  pub reports_program : (plan : V) (found : List Finding) (told : Option TrapList) → LoadsFrom tree_of G old new (Ok plan) → found ≡ findings_of (tree_of plan) setup.presets
+  pub reports_program : (plan : V) (found : List Finding) (told : Option TrapList) → LoadsFrom tree_of G old new (Ok plan) → All (IsPlaced (places_of (tree_of plan))) found
       → AreTraps (tree_of plan) setup.presets told → IsLintReport AreRemarks file setup (call G old new) (program_report file setup (remarks_of file setup found told) told)
-  reports_program plan found told l is are =
+  reports_program plan found told l placed are =
       inl (record {
         tree = tree_of plan;
         text = l.bytes;
@@ -27,7 +27,7 @@ module _ {V P : Type 0} (tree_of : V → CommandList) (G : Ghosts P) (file : Lis
         told = told;
         traps = are;
         remarks = remarks_of file setup found told;
-        remarked = ap (λ fs. remarks_of file setup fs told) is;
+        remarked = record { found = found; placed = placed; remarks_are = refl };
         report_is = refl;
       })
 

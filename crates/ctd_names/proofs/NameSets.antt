@@ -2,7 +2,7 @@
 use Rattle.std.proofs.Common.{◌≡◌, ℕ, ◌+◌, ◌<◌, List, [], ◌∷◌, ◌||◌, true, false, refl, sym, ap, ◌∙◌, Bool, length, drop, get_or, ◌≤◌, Some, None, if◌then◌else◌}
 use Rattle.std.proofs.lemmas.List.{at_drop_more, drop_all}
 use Rattle.std.specs.Borrow.{Bor}
-use Rattle.ctd_names.specs.declared.found.Collector.{Collector}
+use Rattle.ctd_names.specs.declared.collector.Collector.{Collector}
 use Rattle.ctd_names.specs.declared.name_set.NameSet.{NameSet}
 use Rattle.ctd_names.specs.calls.Names.{is_among}
 use Rattle.ctd_names.specs.calls.Collector.{names_in}

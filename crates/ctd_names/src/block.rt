@@ -1,14 +1,14 @@
 //! The commands of a program, one after the other.
 
-ghost use Rattle.std.specs.Prelude.{◌≡◌, None, IfOk};
+ghost use Rattle.std.specs.Prelude.{◌≡◌, IfOk};
 ghost use Rattle.ctd_program.specs.inner.View.{boxed_separator};
 ghost use Rattle.ctd_program.specs.calls.View.{command_tree, command_trees};
-ghost use Rattle.ctd_names.specs.calls.Block.{all_commands, commands_behind, commands_within, separator_command};
+ghost use Rattle.ctd_names.specs.calls.Commands.{all_commands, commands_within, separator_commands};
 ghost use Rattle.ctd_names.specs.calls.Collector.{Adds};
-ghost use Rattle.ctd_names.specs.inner.Views.{blocks_in};
-ghost use Rattle.ctd_names.specs.calls.Listed.{in_blocks};
+ghost use Rattle.ctd_names.specs.inner.Views.{trees_in};
+ghost use Rattle.ctd_names.specs.calls.Listed.{trees_of};
 
-use crate::found::Collector;
+use crate::collector::Collector;
 use ctd_program::{Action, Choice, Command, Loop};
 use std::alloc::{AllocError, Global};
 
@@ -23,7 +23,7 @@ pub struct CommandInBlock<'p> {
 /// Adds the commands of a list, and those in them.
 #[cycle(block)]
 fn list_block<'p>(commands: &'p [Command], found: &mut Collector<CommandInBlock<'p>>)
-    ensures adds { Adds (blocks_in found.old) (commands_behind None (command_trees commands.now)) (blocks_in found.new) }
+    ensures adds { Adds (trees_in found.old) (all_commands (command_trees commands.now)) (trees_in found.new) }
 {
     let mut previous = None;
     for (i, command) in commands.iter().enumerate() {
@@ -41,7 +41,7 @@ fn list_block<'p>(commands: &'p [Command], found: &mut Collector<CommandInBlock<
 /// Adds the commands in a command.
 #[cycle(block)]
 fn list_within<'p>(command: &'p Command, found: &mut Collector<CommandInBlock<'p>>)
-    ensures adds { Adds (blocks_in found.old) (commands_within (command_tree command.now)) (blocks_in found.new) }
+    ensures adds { Adds (trees_in found.old) (commands_within (command_tree command.now)) (trees_in found.new) }
 {
     match &command.action {
         Action::Loop(repeated) => {
@@ -67,7 +67,7 @@ fn list_within<'p>(command: &'p Command, found: &mut Collector<CommandInBlock<'p
 /// Adds a separator, if there is one.
 #[cycle(block)]
 fn list_separator<'p>(between: &'p Option<Box<Command>>, found: &mut Collector<CommandInBlock<'p>>)
-    ensures adds { Adds (blocks_in found.old) (separator_command (boxed_separator between.now)) (blocks_in found.new) }
+    ensures adds { Adds (trees_in found.old) (separator_commands (boxed_separator between.now)) (trees_in found.new) }
 {
     match between {
         Some(command) => {
@@ -87,7 +87,7 @@ pub fn all_commands(
     alloc: Global,
     commands: &[Command],
 ) -> Result<Vec<CommandInBlock<'_>>, AllocError>
-    ensures all { IfOk result (λ found. in_blocks found.items ≡ all_commands (command_trees commands.now)) }
+    ensures all { IfOk result (λ found. trees_of found.items ≡ all_commands (command_trees commands.now)) }
 {
     let mut found = Collector::new(alloc);
     list_block(commands, &mut found);

@@ -4,15 +4,14 @@ ghost use Rattle.std.specs.Prelude.{◌++◌, ◌∷◌, [], ◌≡◌, None, If
 ghost use Rattle.ctd_program.specs.calls.View.{boxed_target, command_tree, command_trees, expr_list, expr_tree, guard_tree, target, test_tree, var_tree};
 ghost use Rattle.ctd_program.specs.declared.tree.Loop.{out-Loop};
 ghost use Rattle.ctd_names.specs.calls.Collector.{Adds, mentions_in};
-ghost use Rattle.ctd_names.specs.inner.Views.{assigned_trees};
-ghost use Rattle.ctd_names.specs.calls.Listed.{in_blocks, mentions_at, name_at};
-ghost use Rattle.ctd_names.specs.calls.Mentions.{all_mentions, assignment_mentions, assignments_mentions, body_mentions, counter_mentions, expr_mentions, guard_mentions, has_indices, index_mentions, loops_mentions, mention, mentions, read_use, sets_use, target_mentions, test_mentions, variable_mentions};
+ghost use Rattle.ctd_names.specs.inner.Views.{assigned_trees, name_at};
+ghost use Rattle.ctd_names.specs.calls.Listed.{mentions_at, trees_of};
+ghost use Rattle.ctd_names.specs.calls.Mentions.{all_mentions, assignment_mentions, assignments_mentions, counter_mentions, expr_mentions, guard_mentions, has_indices, index_mentions, mention, mentions, read_use, sets_use, target_mentions, test_mentions, variable_mentions};
 ghost use Rattle.ctd_names.specs.declared.mentions.Use.TheVariants.{LooksAtAll};
 ghost use Rattle.ctd_names.specs.declared.sort.Sort.TheVariants.{Number};
 
 use crate::block::CommandInBlock;
-use crate::found::Collector;
-use crate::loops::loop_body;
+use crate::collector::Collector;
 use crate::sort::{Sort, form_sort};
 use ctd_program::{
     Action, Assignment, Command, Element, Expr, IntArguments, Loop, LoopGuard, Test, Var,
@@ -41,22 +40,22 @@ pub enum Use {
 #[derive(Clone, Copy)]
 pub struct MentionedName<'p> {
     pub name: &'p Name,
-    pub how: Use,
+    pub used_as: Use,
 }
 
 /// Adds a name.
-fn list_one<'p>(how: Use, name: &'p Name, found: &mut Collector<MentionedName<'p>>)
-    ensures adds { Adds (mentions_in found.old) (mention how name.now ∷ []) (mentions_in found.new) }
+fn list_one<'p>(used_as: Use, name: &'p Name, found: &mut Collector<MentionedName<'p>>)
+    ensures adds { Adds (mentions_in found.old) (mention used_as name.now ∷ []) (mentions_in found.new) }
 {
-    found.add(MentionedName { name, how });
+    found.add(MentionedName { name, used_as });
 }
 
 /// Adds names.
-fn list_each<'p>(how: Use, names: &'p [Name], found: &mut Collector<MentionedName<'p>>)
-    ensures adds { Adds (mentions_in found.old) (map (mention how) names.now) (mentions_in found.new) }
+fn list_each<'p>(used_as: Use, names: &'p [Name], found: &mut Collector<MentionedName<'p>>)
+    ensures adds { Adds (mentions_in found.old) (map (mention used_as) names.now) (mentions_in found.new) }
 {
     for name in names {
-        list_one(how, name, found);
+        list_one(used_as, name, found);
     }
 }
 
@@ -150,14 +149,14 @@ fn list_test<'p>(t: &'p Test, found: &mut Collector<MentionedName<'p>>)
 
 /// Adds the names in a variable that is used in this way.
 fn list_variable<'p>(
-    how: Use,
+    used_as: Use,
     assigned: Option<&Name>,
     v: &'p Var,
     found: &mut Collector<MentionedName<'p>>,
 )
-    ensures adds { Adds (mentions_in found.old) (variable_mentions how (name_at assigned.entry) (var_tree v.now)) (mentions_in found.new) }
+    ensures adds { Adds (mentions_in found.old) (variable_mentions used_as (name_at assigned.entry) (var_tree v.now)) (mentions_in found.new) }
 {
-    list_one(how, &v.name, found);
+    list_one(used_as, &v.name, found);
     list_indices(assigned, v.indices.as_slice(), found)
 }
 
@@ -263,15 +262,6 @@ pub fn list_mentions<'p>(command: &'p Command, found: &mut Collector<MentionedNa
     }
 }
 
-/// Adds the names in the commands of a list, but for those in a command.
-fn list_body<'p>(commands: &'p [Command], found: &mut Collector<MentionedName<'p>>)
-    ensures adds { Adds (mentions_in found.old) (body_mentions (command_trees commands.now)) (mentions_in found.new) }
-{
-    for command in commands {
-        list_mentions(command, found);
-    }
-}
-
 /// The names in a command.
 pub fn mentions_of<'p>(
     alloc: Global,
@@ -289,37 +279,11 @@ pub fn all_mentions<'p>(
     alloc: Global,
     commands: &[CommandInBlock<'p>],
 ) -> Result<Vec<MentionedName<'p>>, AllocError>
-    ensures all { IfOk result (λ found. mentions_at found.items ≡ all_mentions (in_blocks commands.now)) }
+    ensures all { IfOk result (λ found. mentions_at found.items ≡ all_mentions (trees_of commands.now)) }
 {
     let mut found = Collector::new(alloc);
     for entry in commands {
         list_mentions(entry.command, &mut found);
-    }
-    found.finish()
-}
-
-/// The names in the commands of a list, but for those in a command.
-pub fn body_mentions<'p>(
-    alloc: Global,
-    commands: &'p [Command],
-) -> Result<Vec<MentionedName<'p>>, AllocError>
-    ensures all { IfOk result (λ found. mentions_at found.items ≡ body_mentions (command_trees commands.now)) }
-{
-    let mut found = Collector::new(alloc);
-    list_body(commands, &mut found);
-    found.finish()
-}
-
-/// The names in what the loops among some commands do in each turn.
-pub fn loops_mentions<'p>(
-    alloc: Global,
-    commands: &'p [Command],
-) -> Result<Vec<MentionedName<'p>>, AllocError>
-    ensures all { IfOk result (λ found. mentions_at found.items ≡ loops_mentions (command_trees commands.now)) }
-{
-    let mut found = Collector::new(alloc);
-    for command in commands {
-        list_body(loop_body(command), &mut found);
     }
     found.finish()
 }

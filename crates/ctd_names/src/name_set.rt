@@ -6,7 +6,7 @@ ghost use Rattle.ctd_names.specs.calls.Listed.{has_name};
 ghost use Rattle.ctd_names.specs.inner.Views.{HasMore};
 ghost use Rattle.ctd_names.specs.calls.Sets.{IsSetOf};
 
-use crate::found::Collector;
+use crate::collector::Collector;
 use ctd_token::Name;
 use std::alloc::Global;
 use std::collections::BTreeSet;

@@ -1,10 +1,10 @@
 //! Names one after the other.
 
-ghost use Rattle.std.specs.Prelude.{◌∷◌, [], ◌≡◌};
+ghost use Rattle.std.specs.Prelude.{◌∷◌, []};
 ghost use Rattle.ctd_names.specs.calls.Collector.{Adds, names_in};
-ghost use Rattle.ctd_names.specs.calls.Names.{is_in, preset_names};
+ghost use Rattle.ctd_names.specs.calls.Names.{preset_names};
 
-use crate::found::Collector;
+use crate::collector::Collector;
 use ctd_program::Preset;
 use ctd_token::Name;
 
@@ -25,9 +25,7 @@ pub(crate) fn list_presets<'p>(presets: &'p [Preset], found: &mut Collector<&'p 
 }
 
 /// Whether a name is one of these.
-pub fn is_in(name: &Name, names: &[Name]) -> bool
-    ensures { result ≡ is_in name.now names.now }
-{
+pub fn is_in(name: &Name, names: &[Name]) -> bool {
     for other in names {
         if other.as_slice() == name.as_slice() {
             return true;

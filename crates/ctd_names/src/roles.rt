@@ -3,11 +3,11 @@
 ghost use Rattle.std.specs.Prelude.{◌≡◌, ◌++◌};
 ghost use Rattle.ctd_names.specs.calls.Collector.{Adds, names_in};
 ghost use Rattle.ctd_names.specs.calls.Listed.{mentions_at};
-ghost use Rattle.ctd_names.specs.calls.Names.{is_among, preset_names};
+ghost use Rattle.ctd_names.specs.calls.Names.{preset_names};
 ghost use Rattle.ctd_names.specs.calls.Roles.{has_role, role_names};
 ghost use Rattle.ctd_names.specs.calls.Sets.{HasNames};
 
-use crate::found::Collector;
+use crate::collector::Collector;
 use crate::mentions::{MentionedName, Use};
 use crate::name_set::NameSet;
 use crate::names::{list_name, list_presets};
@@ -44,10 +44,10 @@ pub enum Role {
 }
 
 /// Whether a use has a role.
-pub fn has_role(role: Role, how: Use) -> bool
-    ensures { result ≡ has_role role how }
+pub fn has_role(role: Role, used_as: Use) -> bool
+    ensures { result ≡ has_role role used_as }
 {
-    match how {
+    match used_as {
         Use::Reads => matches!(
             role,
             Role::Mentions | Role::Reads | Role::ReadsElsewhere | Role::Needs
@@ -75,18 +75,16 @@ fn list_in_role<'p>(role: Role, mentions: &[MentionedName<'p>], found: &mut Coll
     ensures adds { Adds (names_in found.old) (role_names role (mentions_at mentions.now)) (names_in found.new) }
 {
     for m in mentions {
-        if has_role(role, m.how) {
+        if has_role(role, m.used_as) {
             list_name(m.name, found);
         }
     }
 }
 
 /// Whether a name has a role in one of the places where it stands.
-pub(crate) fn is_in_role(name: &Name, role: Role, mentions: &[MentionedName]) -> bool
-    ensures { result ≡ is_among name.now (role_names role (mentions_at mentions.now)) }
-{
+pub fn is_in_role(name: &Name, role: Role, mentions: &[MentionedName]) -> bool {
     for m in mentions {
-        if has_role(role, m.how) && name.as_slice() == m.name.as_slice() {
+        if has_role(role, m.used_as) && name.as_slice() == m.name.as_slice() {
             return true;
         }
     }

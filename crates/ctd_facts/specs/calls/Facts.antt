@@ -1,7 +1,7 @@
 -- What is asked of the names of a program as a whole.
 use Rattle.std.specs.Prelude.{ℕ, Bool, not, ◌&&◌, List, ◌++◌, Option}
 use Rattle.ctd_program.specs.declared.preset.Preset.{Preset}
-use Rattle.ctd_names.specs.calls.Block.{InBlock}
+use Rattle.ctd_program.specs.Tree.{CommandTree}
 use Rattle.ctd_names.specs.declared.roles.Role.{Role}
 use Rattle.ctd_names.specs.declared.roles.Role.TheVariants as roles
 use Rattle.ctd_names.specs.calls.Mentions.{all_mentions}
@@ -14,10 +14,6 @@ use Rattle.ctd_facts.specs.declared.ranges.Bounds.{Bounds}
 pub record Facts : Type 0 where
   -- something gives it a value
   pub is_given : List ℕ → Bool
-  -- something reads it
-  pub is_read : List ℕ → Bool
-  -- something reads it that is no assignment to it
-  pub is_read_elsewhere : List ℕ → Bool
   -- it is given values, and they are numbers
   pub is_number : List ℕ → Bool
   -- it is given values, and they are strings
@@ -25,45 +21,27 @@ pub record Facts : Type 0 where
   -- the range of the numbers that INT gives it, where nothing else gives it values
   pub range : List ℕ → Option Bounds
 
--- whether a name has a role in some commands
-abbrev pub has_role_in : Role → List InBlock → List ℕ → Bool
-has_role_in role commands name = is_among name (role_names role (all_mentions commands))
-
--- whether it has, or a preset gives it a value
-abbrev pub has_role_or_preset : Role → List InBlock → List Preset → List ℕ → Bool
+-- whether a name has a role in some commands, or a preset gives it a value
+abbrev pub has_role_or_preset : Role → List CommandTree → List Preset → List ℕ → Bool
 has_role_or_preset role commands presets name = is_among name (role_names role (all_mentions commands) ++ preset_names presets)
 
 -- whether a program or a preset gives a name a value
-abbrev pub is_given_in : List InBlock → List Preset → List ℕ → Bool
+abbrev pub is_given_in : List CommandTree → List Preset → List ℕ → Bool
 is_given_in = has_role_or_preset roles.Gives
 
--- whether a program reads a name
-abbrev pub is_read_in : List InBlock → List ℕ → Bool
-is_read_in = has_role_in roles.Reads
-
--- whether a name is read elsewhere than in its own assignments
-abbrev pub is_read_elsewhere_in : List InBlock → List ℕ → Bool
-is_read_elsewhere_in = has_role_in roles.ReadsElsewhere
-
 -- whether a name is given values, and they are numbers
-abbrev pub is_number_in : List InBlock → List Preset → List ℕ → Bool
+abbrev pub is_number_in : List CommandTree → List Preset → List ℕ → Bool
 is_number_in commands presets name = is_given_in commands presets name && not (has_role_or_preset roles.GivesNoNumber commands presets name)
 
 -- whether a name is given values, and they are strings
-abbrev pub is_text_in : List InBlock → List Preset → List ℕ → Bool
+abbrev pub is_text_in : List CommandTree → List Preset → List ℕ → Bool
 is_text_in commands presets name = is_given_in commands presets name && not (has_role_or_preset roles.GivesNoText commands presets name)
 
 -- the facts of a program, where these presets are given
-abbrev pub facts_of : List InBlock → List Preset → Facts
+abbrev pub facts_of : List CommandTree → List Preset → Facts
 facts_of commands presets = record {
   is_given = is_given_in commands presets;
-  is_read = is_read_in commands;
-  is_read_elsewhere = is_read_elsewhere_in commands;
   is_number = is_number_in commands presets;
   is_text = is_text_in commands presets;
   range = range_in commands presets;
 }
-
--- whether a program mentions a name
-abbrev pub is_mentioned_in : List InBlock → List ℕ → Bool
-is_mentioned_in = has_role_in roles.Mentions

@@ -21,8 +21,6 @@ range_known ranges name = if has_name name ranges.others then None else bounds_a
 abbrev pub facts_known : Known → Facts
 facts_known known = record {
   is_given = λ name. has_name name known.given;
-  is_read = λ name. has_name name known.read;
-  is_read_elsewhere = λ name. has_name name known.read_elsewhere;
   is_number = λ name. has_name name known.given && not (has_name name known.not_numbers);
   is_text = λ name. has_name name known.given && not (has_name name known.not_texts);
   range = range_known known.ranges;

@@ -6,7 +6,6 @@ use Rattle.std.specs.Str.{bytes_eq}
 use Rattle.ctd_program.specs.declared.preset.Preset.{Preset}
 use Rattle.ctd_program.specs.Tree.{ExprTree, ExprList, VarTree, CommandTree}
 use Rattle.ctd_facts.specs.declared.ranges.Bounds.{Bounds}
-use Rattle.ctd_names.specs.calls.Block.{InBlock}
 use Rattle.ctd_facts.specs.calls.LiteralValues.{literal_number}
 use Rattle.ctd_names.specs.calls.Mentions.{Mention, mentions}
 use Rattle.ctd_names.specs.calls.Names.{is_among, preset_names}
@@ -73,9 +72,9 @@ abbrev pub mentions_without_range : CommandTree → List Mention
 mentions_without_range c = if is_some (range_given c) then [] else mentions c
 
 -- in some commands
-abbrev pub all_without_range : List InBlock → List Mention
+abbrev pub all_without_range : List CommandTree → List Mention
 all_without_range [] = []
-all_without_range (x ∷ rest) = mentions_without_range x.command ++ all_without_range rest
+all_without_range (c ∷ rest) = mentions_without_range c ++ all_without_range rest
 
 -- two ranges and what lies between them
 abbrev pub joined : Option Bounds → Bounds → Bounds
@@ -88,10 +87,10 @@ widened name so_far None = so_far
 widened name so_far (Some r) = if bytes_eq r.name name then Some (joined so_far r.bounds) else so_far
 
 -- the range of a name so far, and what some commands give the name
-abbrev pub range_among : List ℕ → Option Bounds → List InBlock → Option Bounds
+abbrev pub range_among : List ℕ → Option Bounds → List CommandTree → Option Bounds
 range_among name so_far [] = so_far
-range_among name so_far (x ∷ rest) = range_among name (widened name so_far (range_given x.command)) rest
+range_among name so_far (c ∷ rest) = range_among name (widened name so_far (range_given c)) rest
 
 -- The range of a name: from the least bound of the INT commands that set it to the greatest. A name that a preset or another command gives a value has none.
-abbrev pub range_in : List InBlock → List Preset → List ℕ → Option Bounds
+abbrev pub range_in : List CommandTree → List Preset → List ℕ → Option Bounds
 range_in commands presets name = if is_among name (role_names roles.Gives (all_without_range commands) ++ preset_names presets) then None else range_among name None commands

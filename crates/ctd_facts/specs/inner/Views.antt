@@ -11,4 +11,4 @@ given_at (Some r) = Some (record { name = r.name.now; bounds = r.bounds })
 
 -- whether memory was enough for the names that are known
 abbrev pub has_all : Known → Bool
-has_all known = known.given.is_complete && (known.read.is_complete && (known.read_elsewhere.is_complete && (known.not_numbers.is_complete && known.not_texts.is_complete)))
+has_all known = known.given.is_complete && known.not_numbers.is_complete && known.not_texts.is_complete

@@ -1,7 +1,7 @@
 -- What ctd-lint writes of a program.
 use Rattle.ctd_findings.specs.declared.kind.Kind.TheVariants as kinds
 use Rattle.ctd_findings.specs.declared.kind.Rank.TheVariants as ranks
-use Rattle.std.specs.Prelude.{◌≡◌, ◌⊎◌, ◌+◌, ◌≤◌, ◌++◌, ℕ, Bool, true, false, List, [], ◌∷◌, length, max, Option, Some, None, if◌then◌else◌}
+use Rattle.std.specs.Prelude.{◌≡◌, ◌⊎◌, ◌+◌, ◌≤◌, ◌++◌, ℕ, Bool, true, false, List, [], ◌∷◌, All, length, max, Option, Some, None, if◌then◌else◌}
 use Rattle.std.specs.Borrow.{Bor}
 use Rattle.ctd_source.specs.declared.source.Source.{Ghosts}
 use Rattle.ctd_source.specs.SourceReads.{GaveBytes}
@@ -14,7 +14,7 @@ use Rattle.ctd_report.specs.Report.{Report, on_err, on_out}
 use Rattle.ctd_findings.specs.declared.finding.Finding.{Finding}
 use Rattle.ctd_findings.specs.declared.kind.Kind.{Kind}
 use Rattle.ctd_findings.specs.declared.kind.Rank.{Rank}
-use Rattle.ctd_findings.specs.calls.Findings.{findings_of}
+use Rattle.ctd_findings.specs.calls.Findings.{IsPlaced, places_of}
 use Rattle.ctd_findings.specs.calls.Kinds.{rank}
 use Rattle.ctd_lint_report.specs.declared.setup.LintSetup.{LintSetup}
 use Rattle.ctd_traps.specs.declared.finding.Finding.{Finding as Trap}
@@ -114,6 +114,8 @@ remarks_of file setup found told = record {
   reason = reason_of (names_of told);
 }
 
--- the remarks are those of the findings of a program
-abbrev pub AreRemarks : Remarking
-AreRemarks file setup tree told remarks = remarks ≡ remarks_of file setup (findings_of tree setup.presets) told
+-- the remarks are those of some findings, each of which has the place of a command
+pub record AreRemarks (file : List ℕ) (setup : LintSetup) (program : CommandList) (told : Option TrapList) (remarks : Remarks) : Type 0 where
+  pub found : List Finding
+  pub placed : All (IsPlaced (places_of program)) found
+  pub remarks_are : remarks ≡ remarks_of file setup found told

@@ -1,7 +1,7 @@
 -- What is found piece by piece, as long as there is memory for it.
 use Rattle.std.specs.Prelude.{◌≡◌, ◌++◌, ℕ, List, Option, Some, None, if◌then◌else◌}
 use Rattle.std.specs.Borrow.{Bor}
-use Rattle.ctd_names.specs.declared.found.Collector.{Collector}
+use Rattle.ctd_names.specs.declared.collector.Collector.{Collector}
 use Rattle.ctd_names.specs.declared.mentions.MentionedName.{MentionedName}
 use Rattle.ctd_names.specs.calls.Mentions.{Mention}
 use Rattle.ctd_names.specs.calls.Names.{NameList}

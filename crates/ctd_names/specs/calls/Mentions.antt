@@ -4,21 +4,19 @@ use Rattle.ctd_names.specs.declared.sort.Sort.TheVariants as sorts
 use Rattle.ctd_names.specs.declared.mentions.Use.TheVariants as uses
 use Rattle.std.specs.Prelude.{ℕ, Bool, true, false, List, [], ◌∷◌, ◌++◌, map, Option, Some, None, if◌then◌else◌}
 use Rattle.std.specs.Str.{bytes_eq}
-use Rattle.ctd_program.specs.Tree.{ExprTree, ExprList, VarTree, TestTree, GuardTree, CommandTree, CommandList}
+use Rattle.ctd_program.specs.Tree.{ExprTree, ExprList, VarTree, TestTree, GuardTree, CommandTree}
 use Rattle.ctd_names.specs.declared.sort.Sort.{Sort}
 use Rattle.ctd_names.specs.declared.mentions.Use.{Use}
-use Rattle.ctd_names.specs.calls.Block.{InBlock}
-use Rattle.ctd_names.specs.calls.Loops.{loop_body}
 use Rattle.ctd_names.specs.calls.Sort.{form_sort}
 
 -- a name in a command, and what the command does with it there
 pub record Mention : Type 0 where
   pub name : List ℕ
-  pub how : Use
+  pub used_as : Use
 
 -- a name that is used in this way
 abbrev pub mention : Use → List ℕ → Mention
-mention how name = record { name = name; how = how }
+mention used_as name = record { name = name; used_as = used_as }
 
 -- how a name is read, where an assignment to a variable reads it or something else does
 abbrev pub read_use : Option (List ℕ) → List ℕ → Use
@@ -58,7 +56,7 @@ test_mentions (Tree.in_array e name) = expr_mentions None e ++ mention uses.Look
 
 -- the names in a variable that is used in this way: its own, and those in its indices
 abbrev pub variable_mentions : Use → Option (List ℕ) → VarTree → List Mention
-variable_mentions how assigned v = mention how v.name ∷ index_mentions assigned v.indices
+variable_mentions used_as assigned v = mention used_as v.name ∷ index_mentions assigned v.indices
 
 -- whether there are indices
 abbrev pub has_indices : ExprList → Bool
@@ -108,16 +106,6 @@ mentions (Tree.loop place guard counter separator body) = counter_mentions count
 mentions (Tree.choice place t then_do else_do) = test_mentions t
 
 -- the names in some commands
-abbrev pub all_mentions : List InBlock → List Mention
+abbrev pub all_mentions : List CommandTree → List Mention
 all_mentions [] = []
-all_mentions (x ∷ rest) = mentions x.command ++ all_mentions rest
-
--- the names in the commands of a list, but for those in a command
-abbrev pub body_mentions : CommandList → List Mention
-body_mentions Tree.done = []
-body_mentions (Tree.then c rest) = mentions c ++ body_mentions rest
-
--- the names in what the loops among some commands do in each turn
-abbrev pub loops_mentions : CommandList → List Mention
-loops_mentions Tree.done = []
-loops_mentions (Tree.then c rest) = body_mentions (loop_body c) ++ loops_mentions rest
+all_mentions (c ∷ rest) = mentions c ++ all_mentions rest

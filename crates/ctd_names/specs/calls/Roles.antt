@@ -55,4 +55,4 @@ has_role roles.Fills = by_use false false false false sets_element false
 -- the names that have a role where they stand
 abbrev pub role_names : Role → List Mention → NameList
 role_names role [] = []
-role_names role (m ∷ rest) = if has_role role m.how then m.name ∷ role_names role rest else role_names role rest
+role_names role (m ∷ rest) = if has_role role m.used_as then m.name ∷ role_names role rest else role_names role rest

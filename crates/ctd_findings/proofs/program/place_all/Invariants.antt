@@ -1,5 +1,5 @@
-use Rattle.ctd_findings.specs.calls.Findings.{findings_at}
 use Rattle.ctd_names.specs.calls.Collector.{Adds, items_in}
+use Rattle.ctd_findings.specs.inner.Placed.{findings_at}
 use Rattle.ctd_findings.proofs.program.place_all.Given as goal
 
 abbrev pub invariant-loop-remark : goal.invariant-loop-remark

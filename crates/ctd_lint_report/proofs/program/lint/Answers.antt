@@ -1,8 +1,9 @@
-use Rattle.std.proofs.Common.{ap, subst, ◌∙◌}
+use Rattle.std.proofs.Common.{All, List, subst, sym}
 use Rattle.ctd_program.specs.calls.View.{command_trees}
 use Rattle.ctd_report.specs.Report.{on_err}
 use Rattle.ctd_report.proofs.WrittenLemmas.{Leaves-WritesOneOf}
-use Rattle.ctd_findings.specs.calls.Findings.{findings_of}
+use Rattle.ctd_findings.specs.declared.finding.Finding.{Finding}
+use Rattle.ctd_findings.specs.calls.Findings.{IsPlaced, places_of}
 use Rattle.ctd_lint_report.specs.calls.Report.{program_report, remarks_of}
 use Rattle.ctd_lint_report.specs.calls.Text.{error_line}
 use Rattle.ctd_lint_report.specs.calls.Traps.{AreTraps}
@@ -13,10 +14,11 @@ pub returns : goal.returns
 returns g c =
     let setup = c.args.setup.now in
     let found = c.as_slice.result.now in
-    let is = c.as_slice.ensures.value ∙ c.in_ok-found.ensures ∙ ap (λ p. findings_of (command_trees p) setup.presets) c.commands.ensures.whole in
+    let placed = subst (λ (fs : List Finding). All (IsPlaced (places_of (command_trees c.in-Ok.plan))) fs) (sym c.as_slice.ensures.value)
+    (subst (λ p. All (IsPlaced (places_of (command_trees p))) c.in_ok-found.found.items) c.commands.ensures.whole c.in_ok-found.ensures.placed) in
     record {
       written = Leaves-WritesOneOf _ _ _ (program_report c.args.file.now setup (remarks_of c.args.file.now setup found c.in_ok-told.told) c.in_ok-told.told) c.write_program.result
-          (reports_program command_trees g.P.Source c.args.file.now setup c.args.program.now _ c.in-Ok.plan found c.in_ok-told.told c.in-Ok.ensures.loads is
+          (reports_program command_trees g.P.Source c.args.file.now setup c.args.program.now _ c.in-Ok.plan found c.in_ok-told.told c.in-Ok.ensures.loads placed
           (subst (λ p. AreTraps (command_trees p) setup.presets c.in_ok-told.told) c.commands-2.ensures.whole c.in_ok-told.ensures.each))
           c.write_program.ensures.written;
     }

@@ -1,7 +1,7 @@
 use Rattle.std.proofs.Common.{[], ◌∷◌, List, ap, sym, ◌∙◌, arith}
 use Rattle.std.proofs.lemmas.Grind.{common_steps}
 use Rattle.ctd_program.specs.calls.View.{expr_list}
-use Rattle.ctd_names.specs.calls.Listed.{name_at}
+use Rattle.ctd_names.specs.inner.Views.{name_at}
 use Rattle.ctd_names.specs.calls.Mentions.{Mention, expr_mentions, index_mentions, mention}
 use Rattle.ctd_names.specs.declared.mentions.Use.{Use}
 use Rattle.ctd_names.proofs.Additions.{adds_both}
@@ -16,7 +16,7 @@ list_expr-returns-in-Element t c =
     record {
       adds = adds_both _ _ _ (mention c.read_use-in-Element.result c.deref.result.now.name ∷ []) rest _
           c.list_one-in-Element.ensures.adds c.list_indices.ensures.adds
-          (ap (expr_mentions assigned) tree ∙ ap (λ (how : Use). mention how c.deref.result.now.name ∷ rest) (sym c.read_use-in-Element.ensures));
+          (ap (expr_mentions assigned) tree ∙ ap (λ (used_as : Use). mention used_as c.deref.result.now.name ∷ rest) (sym c.read_use-in-Element.ensures));
     }
 
 pub list_indices-loop-index-preserved : goal.list_indices-loop-index-preserved

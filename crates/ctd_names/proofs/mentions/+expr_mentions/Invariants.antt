@@ -1,7 +1,7 @@
 use Rattle.std.proofs.Common.{drop}
 use Rattle.ctd_program.specs.calls.View.{expr_list}
 use Rattle.ctd_names.specs.calls.Collector.{mentions_in}
-use Rattle.ctd_names.specs.calls.Listed.{name_at}
+use Rattle.ctd_names.specs.inner.Views.{name_at}
 use Rattle.ctd_names.specs.calls.Mentions.{index_mentions}
 use Rattle.ctd_names.proofs.Additions.{Leads}
 use Rattle.ctd_names.proofs.mentions.+expr_mentions.Given as goal

@@ -9,4 +9,4 @@ returns c = λ n h each.
     let r = val (expr_tree c.args.e.now) h in
     let found = c.in_ok-count.ensures n h each in
     turns_counted c.in_ok-count.count (record { faults = c.both.result; least = c.least_of.result; most = c.most_of.result }) n r found (c.least_of.ensures n) (c.most_of.ensures n)
-    (count_fails c.in_ok-count.count c.number_faults.result c.both.result c.may_be_no_count.result n r found (c.number_faults.ensures n r found) c.both.ensures.first (λ is. c.both.ensures.second Count is) (λ good. c.may_be_no_count.ensures good n))
+    (count_fails c.in_ok-count.count c.number_faults.result c.both.result c.may_be_no_count-is_bad.result n r found (c.number_faults.ensures n r found) c.both.ensures.first (λ is. c.both.ensures.second Count is) (λ good. c.may_be_no_count-is_bad.ensures good n))

@@ -1,0 +1,76 @@
+//! Remarks on arrays that each turn of a loop fills, and in which what the turns before put may still stand.
+
+use crate::command::remark_about_if;
+use crate::finding::Remark;
+use crate::kind::Kind;
+use crate::loops::{counter_name, loop_body};
+use crate::read_names::{ReadNames, names_with};
+use ctd_names::{Collector, MentionedName, Role, has_role, list_mentions};
+use ctd_program::Command;
+use std::alloc::{AllocError, Global};
+
+/// Adds the names in some commands, but for those in commands that stand in them.
+fn list_body<'p>(commands: &'p [Command], found: &mut Collector<MentionedName<'p>>) {
+    for command in commands {
+        list_mentions(command, found);
+    }
+}
+
+/// The names in some commands, but for those in commands that stand in them.
+fn body_mentions<'p>(
+    alloc: Global,
+    commands: &'p [Command],
+) -> Result<Vec<MentionedName<'p>>, AllocError> {
+    let mut found = Collector::new(alloc);
+    list_body(commands, &mut found);
+    found.finish()
+}
+
+/// The names in what the loops among some commands do in each turn.
+fn loops_mentions<'p>(
+    alloc: Global,
+    commands: &'p [Command],
+) -> Result<Vec<MentionedName<'p>>, AllocError> {
+    let mut found = Collector::new(alloc);
+    for command in commands {
+        list_body(loop_body(command), &mut found);
+    }
+    found.finish()
+}
+
+/// Adds a remark for each array at which a body looks as a whole, which its loops fill and it does not forget.
+fn list_kept_in<'p>(
+    alloc: Global,
+    body: &'p [Command],
+    found: &mut Collector<Remark>,
+) -> Result<(), AllocError> {
+    let own = body_mentions(alloc, body)?;
+    let loops = loops_mentions(alloc, body)?;
+    let filled = names_with(alloc, Role::Fills, loops.as_slice())?;
+    let unset = names_with(alloc, Role::Forgets, own.as_slice())?;
+    for m in &own {
+        if has_role(Role::LooksAtAll, m.used_as) {
+            let is_kept = filled.contains(m.name) && !unset.contains(m.name);
+            remark_about_if(alloc, is_kept, Kind::KeptArray, m.name, found);
+        }
+    }
+    Ok(())
+}
+
+/// Adds the remarks on the arrays of a loop, if nothing reads its counter.
+pub(crate) fn list_kept<'p>(
+    alloc: Global,
+    command: &'p Command,
+    read: &ReadNames<'p>,
+    found: &mut Collector<Remark>,
+) {
+    if let Some(name) = counter_name(command)
+        && read.anywhere.contains(name)
+    {
+        return;
+    }
+    match list_kept_in(alloc, loop_body(command), found) {
+        Ok(()) => (),
+        Err(_) => found.fail(),
+    }
+}

@@ -1,0 +1,168 @@
+//! Loops: their counters, and what their bodies set.
+
+use ctd_program::{Action, Assignment, Choice, Command, Expr, Loop, LoopGuard, Var};
+use ctd_token::Name;
+
+/// Whether an expression is a numeral.
+fn is_numeral(e: &Expr) -> bool {
+    match e {
+        Expr::Numeral(_) => true,
+        Expr::Name(_) | Expr::Text(_) | Expr::Element(_) | Expr::Strlen(_) => false,
+        Expr::Minus(_) | Expr::Add(_, _) | Expr::Sub(_, _) | Expr::Mul(_, _) => false,
+        Expr::Div(_, _) | Expr::Rem(_, _) | Expr::Pow(_, _) => false,
+    }
+}
+
+/// Whether a variable is an element whose indices are numerals.
+fn is_fixed(variable: &Option<Var>) -> bool {
+    let Some(v) = variable else {
+        return false;
+    };
+    let indices = v.indices.as_slice();
+    for index in indices {
+        if !is_numeral(index) {
+            return false;
+        }
+    }
+    !indices.is_empty()
+}
+
+/// Whether INT or REGEX sets an element whose indices are numerals.
+fn sets_fixed(command: &Command) -> bool {
+    match &command.action {
+        Action::Int(int) => is_fixed(&int.target),
+        Action::Regex(regex) => is_fixed(&regex.target),
+        Action::Space | Action::Newline | Action::Eof | Action::String(_) => false,
+        Action::Assert(_) | Action::Set(_) | Action::Unset(_) => false,
+        Action::Loop(_) | Action::If(_) => false,
+    }
+}
+
+/// Whether one of these commands does.
+pub(crate) fn some_set_fixed(commands: &[Command]) -> bool {
+    for command in commands {
+        if sets_fixed(command) {
+            return true;
+        }
+    }
+    false
+}
+
+/// Whether there is a variable, and it has this name.
+fn is_named(name: &Name, variable: &Option<Var>) -> bool {
+    match variable {
+        Some(v) => v.name.as_slice() == name.as_slice(),
+        None => false,
+    }
+}
+
+/// Whether there is a counter, and it has this name.
+fn is_counter(name: &Name, counter: &Option<Box<Var>>) -> bool {
+    match counter {
+        Some(v) => v.name.as_slice() == name.as_slice(),
+        None => false,
+    }
+}
+
+/// Whether an assignment sets this name.
+fn assigns(name: &Name, assignments: &[Assignment]) -> bool {
+    for a in assignments {
+        if a.target.name.as_slice() == name.as_slice() {
+            return true;
+        }
+    }
+    false
+}
+
+/// Whether a command, or one in it, gives this name a value.
+///
+/// It makes no list, since it is asked of each loop with a counter, and loops may stand in loops.
+#[cycle(is_set)]
+pub(crate) fn is_set_by(name: &Name, command: &Command) -> bool {
+    match &command.action {
+        Action::Int(int) => is_named(name, &int.target),
+        Action::Regex(regex) => is_named(name, &regex.target),
+        Action::Set(assignments) => assigns(name, assignments.as_slice()),
+        Action::Loop(repeated) => {
+            let Loop {
+                counter,
+                between,
+                body,
+                ..
+            } = &**repeated;
+            is_counter(name, counter)
+                | is_set_between(name, between)
+                | is_set_in(name, body.as_slice())
+        }
+        Action::If(choice) => {
+            let Choice {
+                then_do,
+                else_do,
+                ..
+            } = &**choice;
+            is_set_in(name, then_do.as_slice()) | is_set_in(name, else_do.as_slice())
+        }
+        Action::Space | Action::Newline | Action::Eof | Action::String(_) => false,
+        Action::Assert(_) | Action::Unset(_) => false,
+    }
+}
+
+/// Whether a separator does.
+#[cycle(is_set)]
+fn is_set_between(name: &Name, between: &Option<Box<Command>>) -> bool {
+    match between {
+        Some(command) => is_set_by(name, command),
+        None => false,
+    }
+}
+
+/// Whether one of these commands does.
+#[cycle(is_set)]
+pub(crate) fn is_set_in(name: &Name, commands: &[Command]) -> bool {
+    for command in commands {
+        if is_set_by(name, command) {
+            return true;
+        }
+    }
+    false
+}
+
+/// A loop, if a command is one.
+pub(crate) fn loop_of(command: &Command) -> Option<&Loop> {
+    match &command.action {
+        Action::Loop(repeated) => Some(&**repeated),
+        Action::Space | Action::Newline | Action::Eof | Action::Int(_) => None,
+        Action::String(_) | Action::Regex(_) | Action::Assert(_) => None,
+        Action::Set(_) | Action::Unset(_) | Action::If(_) => None,
+    }
+}
+
+/// The commands that each turn of a loop does: none where a command is no loop.
+pub(crate) fn loop_body(command: &Command) -> &[Command] {
+    match loop_of(command) {
+        Some(repeated) => repeated.body.as_slice(),
+        None => &[],
+    }
+}
+
+/// The name of the counter of a loop, if it has one.
+fn name_of_counter(repeated: &Loop) -> Option<&Name> {
+    match &repeated.counter {
+        Some(v) => Some(&v.name),
+        None => None,
+    }
+}
+
+/// The name of the counter of a loop, if a command is one and has one.
+pub(crate) fn counter_name(command: &Command) -> Option<&Name> {
+    name_of_counter(loop_of(command)?)
+}
+
+/// The name of the counter of REPI.
+pub(crate) fn turns_counter(command: &Command) -> Option<&Name> {
+    let repeated = loop_of(command)?;
+    match &repeated.guard {
+        LoopGuard::Times(_) => name_of_counter(repeated),
+        LoopGuard::While(_) => None,
+    }
+}

@@ -1,6 +1,0 @@
-use Rattle.std.proofs.Common.{arith}
-use Rattle.std.proofs.lemmas.Grind.{common_steps}
-use Rattle.ctd_names.proofs.behind.is_read_behind.Goals as goal
-
-pub loop-command-preserved : goal.loop-command-preserved
-loop-command-preserved c = grind (arith, common_steps)

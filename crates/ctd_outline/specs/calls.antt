@@ -1,4 +1,0 @@
--- What the contracts of public calls say.
-pub mod Outline
-pub mod LineFeeds
-pub mod Alternatives
