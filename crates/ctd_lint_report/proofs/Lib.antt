@@ -1,2 +1,4 @@
 pub mod Reports
 pub mod VerdictText
+pub mod Statuses
+pub mod Appended

@@ -1,30 +1,52 @@
 //! Why a trap is one: the variable that is to blame, and the numbers that it may be.
 
-ghost use Rattle.std.specs.Prelude.{◌≡◌, ◌++◌, OnOk};
+ghost use Rattle.std.specs.Prelude.{◌≡◌, ◌++◌, OnOk, option_map};
 ghost use Rattle.std.specs.Fmt.{signed_decimal};
-ghost use Rattle.ctd_lint_report.specs.calls.Reasons.{bounds_text, operand_text, reason_text};
+ghost use Rattle.ctd_lint_report.specs.calls.Reasons.{between_text, bounds_text, least_text, most_text, name_at, operand_text, reason_text, same_text};
 
 use ctd_known::Operand;
 use itoa::Buffer;
 use std::alloc::AllocError;
 
-/// Appends words and a number behind them.
-fn write_bound(words: &str, bound: i128, text: &mut Vec<u8>) -> Result<(), AllocError>
-    ensures { OnOk result (text.new.items ≡ text.old.items ++ words.now ++ signed_decimal bound) }
+/// Appends a number.
+fn write_number(number: i128, text: &mut Vec<u8>) -> Result<(), AllocError>
+    ensures { OnOk result (text.new.items ≡ text.old.items ++ signed_decimal number) }
 {
-    text.extend_from_slice(words.as_bytes())?;
-    text.extend_from_slice(Buffer::new().format(bound).as_bytes())
+    text.extend_from_slice(Buffer::new().format(number).as_bytes())
 }
 
-/// Appends that a number lies between two others, or is that one.
-fn write_between(least: i128, most: i128, text: &mut Vec<u8>) -> Result<(), AllocError>
-    ensures { OnOk result (text.new.items ≡ text.old.items ++ bounds_text (Some least) (Some most)) }
+/// Appends that a number is this one.
+fn write_same(number: i128, text: &mut Vec<u8>) -> Result<(), AllocError>
+    ensures { OnOk result (text.new.items ≡ text.old.items ++ same_text number) }
 {
-    if least == most {
-        return write_bound(" is ", least, text);
-    }
-    write_bound(" is only known to be from ", least, text)?;
-    write_bound(" to ", most, text)
+    text.extend_from_slice(b" is ")?;
+    text.extend_from_slice(Buffer::new().format(number).as_bytes())
+}
+
+/// Appends that a number is at least this one.
+fn write_least(least: i128, text: &mut Vec<u8>) -> Result<(), AllocError>
+    ensures { OnOk result (text.new.items ≡ text.old.items ++ least_text least) }
+{
+    text.extend_from_slice(b" is only known to be at least ")?;
+    write_number(least, text)
+}
+
+/// Appends that a number is at most this one.
+fn write_most(most: i128, text: &mut Vec<u8>) -> Result<(), AllocError>
+    ensures { OnOk result (text.new.items ≡ text.old.items ++ most_text most) }
+{
+    text.extend_from_slice(b" is only known to be at most ")?;
+    write_number(most, text)
+}
+
+/// Appends that a number is from one to another.
+fn write_between(least: i128, most: i128, text: &mut Vec<u8>) -> Result<(), AllocError>
+    ensures { OnOk result (text.new.items ≡ text.old.items ++ between_text least most) }
+{
+    text.extend_from_slice(b" is only known to be from ")?;
+    write_number(least, text)?;
+    text.extend_from_slice(b" to ")?;
+    write_number(most, text)
 }
 
 /// Appends what is known of a number by its least and its greatest value, if it has these.
@@ -37,10 +59,23 @@ fn write_bounds(
 {
     match (least, most) {
         (None, None) => Ok(()),
-        (Some(least), None) => write_bound(" is only known to be at least ", least, text),
-        (None, Some(most)) => write_bound(" is only known to be at most ", most, text),
-        (Some(least), Some(most)) => write_between(least, most, text),
+        (Some(least), None) => write_least(least, text),
+        (None, Some(most)) => write_most(most, text),
+        (Some(least), Some(most)) => {
+            if least == most {
+                write_same(least, text)
+            } else {
+                write_between(least, most, text)
+            }
+        }
     }
+}
+
+/// The name of a variable by its index, if there is one.
+fn name_at<'n>(names: &[&'n [u8]], index: usize) -> Option<&'n [u8]>
+    ensures { option_map (λ name. name.now) result ≡ name_at names.now index }
+{
+    names.get(index).copied()
 }
 
 /// Appends a name, or that of an array with the sign of an element.
@@ -49,7 +84,7 @@ fn write_operand(
     operand: Operand,
     text: &mut Vec<u8>,
 ) -> Result<(), AllocError>
-    ensures { OnOk result (text.new.items ≡ text.old.items ++ operand_text name.entry operand) }
+    ensures { OnOk result (text.new.items ≡ text.old.items ++ operand_text (option_map (λ n. n.now) name.entry) operand) }
 {
     let Some(name) = name else {
         return Ok(());
@@ -73,6 +108,6 @@ pub(crate) fn write_reason(
         return Ok(());
     };
     text.extend_from_slice(b": ")?;
-    write_operand(names.get(operand.name).copied(), operand, text)?;
+    write_operand(name_at(names, operand.name), operand, text)?;
     write_bounds(operand.least, operand.most, text)
 }

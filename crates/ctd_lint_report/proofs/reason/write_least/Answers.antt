@@ -1,0 +1,11 @@
+use Rattle.std.proofs.Common.{codes, rules}
+use Rattle.std.specs.Int.{w128}
+use Rattle.std.specs.Fmt.{signed_decimal}
+use Rattle.std.proofs.lemmas.Int.{to_z-of_z}
+use Rattle.ctd_lint_report.proofs.Appended.{then_more}
+use Rattle.ctd_lint_report.proofs.reason.write_least.Goals as goal
+
+pub returns : goal.returns
+returns c =
+    let number = simp (to_z-of_z w128 c.args.least (search rules)) at c.write_number.ensures in
+    then_more c.write_number.result c.args.text.now.items _ _ (codes " is only known to be at least ") (signed_decimal c.args.least) c.in_ok-extend_from_slice.ensures.items number
