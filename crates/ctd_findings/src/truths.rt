@@ -15,6 +15,7 @@ ghost use Rattle.ctd_findings.specs.inner.Truths.{is_above, remark_if, truth_rem
 use crate::command::{remark_about, remark_if};
 use crate::finding::Remark;
 use crate::kind::Kind;
+use crate::loops::loop_of;
 use ctd_facts::{Known, literal_number, literal_truth, undecided_truth};
 use ctd_names::{Collector, MentionedName, NameSet, Role, has_role};
 use ctd_program::{Action, Command, Expr, IntArguments, LoopGuard, Test};
@@ -130,22 +131,17 @@ pub(crate) fn list_without_value<'p>(
     }
 }
 
-/// The test of WHILE, if a command is one.
-fn while_test(command: &Command) -> Option<&Test> {
-    match &command.action {
-        Action::Loop(repeated) => guard_test(&repeated.guard),
-        Action::Space | Action::Newline | Action::Eof | Action::Int(_) => None,
-        Action::String(_) | Action::Regex(_) | Action::Assert(_) => None,
-        Action::Set(_) | Action::Unset(_) | Action::If(_) => None,
-    }
-}
-
 /// The test of a loop, if it is WHILE.
 pub(crate) fn guard_test(guard: &LoopGuard) -> Option<&Test> {
     match guard {
         LoopGuard::Times(_) => None,
         LoopGuard::While(t) => Some(t),
     }
+}
+
+/// The test of WHILE, if a command is one.
+fn while_test(command: &Command) -> Option<&Test> {
+    guard_test(&loop_of(command)?.guard)
 }
 
 /// Whether a command is a WHILE whose test is true by its literals, so that it does not end.
