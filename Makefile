@@ -70,7 +70,7 @@ else
 $(all_built): $(sources) $(wildcard $(packed))
 	$(call need_c_file,$(@F))
 	@echo '$(call by_c,$(@F))' >&2
-	@portable/compile.sh $(@F) $@ -O2
+	@portable/compile.sh $(@F) $@
 endif
 
 portable:

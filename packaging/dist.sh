@@ -17,7 +17,7 @@ trap 'rm -rf "$work"' EXIT
 declare -A commands=([x86_64-linux]=cc [aarch64-linux]=aarch64-linux-gnu-gcc [x86_64-windows]='x86_64-w64-mingw32-gcc zip' [wasm]="${WASM_CC:-clang-16} wasm-ld-16")
 declare -A packages=([x86_64-linux]='gcc libc6-dev' [aarch64-linux]='gcc-aarch64-linux-gnu' [x86_64-windows]='gcc-mingw-w64-x86-64 zip'
     [wasm]='clang-16 lld-16 libclang-rt-16-dev-wasm32 wasi-libc')
-declare -A words=([x86_64-linux]='-O2 -static -s' [aarch64-linux]='-O2 -static -s' [x86_64-windows]='-O2 -static -s -Wl,--stack,8388608 -lshell32')
+declare -A words=([x86_64-linux]='-static -s' [aarch64-linux]='-static -s' [x86_64-windows]='-static -s -Wl,--stack,8388608 -lshell32')
 declare -A where=([x86_64-linux]='any Linux on x86-64' [aarch64-linux]='any Linux on ARM of 64 bits' [x86_64-windows]='Windows 10 or later on x86-64'
     [wasm]='any system with Node 20 or later, or another runtime for WebAssembly that has WASI')
 

@@ -1,6 +1,7 @@
 #!/bin/sh
 # Compiles a program from the packed C file: portable/compile.sh checktestdata|ctd-lint RESULT [WORD..]. Further words are for the compiler, CC, which
-# is cc by default. The file is compiled in four parts, side by side, with -O1: LLVM has optimised the program before, and -O2 takes twice as long.
+# is cc by default. The file is compiled in four parts, side by side, with -O1: LLVM has optimised the program before, and -O2 takes
+# twice as long and makes it no faster.
 set -eu
 here=$(cd "$(dirname "$0")" && pwd)
 name=$1

@@ -14,7 +14,8 @@ need() {
     exit
 }
 
-[ -f "$packed" ] || { echo "$packed is not there, and $(scripts/missing_toolchain.sh)" && exit; }
+toolchain=$(scripts/missing_toolchain.sh)
+[ -f "$packed" ] || { echo "$packed is not there${toolchain:+, and $toolchain}" && exit; }
 compiler=${CC:-cc}
 for command in "${compiler%% *}" awk find grep sed sort xargs; do
     need "$command"
@@ -27,8 +28,8 @@ if [ -n "$changed" ]; then
     # shellcheck disable=SC2086
     set -- "$1" $changed
     more=$(($# - 2))
-    renewing='`make` with the Rattle toolchain (rattle-kit-13f) proves and compiles what stands here'
-    [ -n "$(scripts/missing_toolchain.sh)" ] || renewing='`make portable` makes it anew'
+    # shellcheck disable=SC2016
+    renewing=${toolchain:+'`make` with the Rattle toolchain (rattle-kit-13f) proves and compiles what stands here'}
     echo "$packed is older than $2$([ $more -eq 0 ] || echo " and $more more"): \`portable/compile.sh $1 out/$1\` compiles it all the same, as the" \
-        "version that it is; $renewing"
+        "version that it is; ${renewing:-\`make portable\` makes it anew}"
 fi

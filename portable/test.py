@@ -85,6 +85,7 @@ class Way:
 WAYS = [
     Way("x86-64, GCC", "gcc"),
     Way("x86-64, GCC, -O0", "gcc", ("-O0",)),
+    Way("x86-64, GCC, -O2", "gcc", ("-O2",)),
     Way("x86-64, clang", "clang"),
     Way("x86-64, musl, static", "musl-gcc", ("-static",)),
     Way("x86-64, GCC with sanitizers", "gcc", ("-O1", "-fsanitize=undefined,address", "-fno-sanitize-recover")),
