@@ -2,6 +2,7 @@
 # Runs a program of this checkout in place of the script that reads this, with its words. That script says in `name` which, checktestdata or ctd-lint.
 top=$(cd "$(dirname "${BASH_SOURCE[0]}")/.." && pwd)
 packed=portable/checktestdata.c.xz
+# shellcheck disable=SC2154
 crate=${name//-/_}
 program=$top/crates/$crate/out/$crate
 compiled=$top/out/$name

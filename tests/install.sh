@@ -212,6 +212,7 @@ compiled a b" "$(here "./$program" a b)"
 fi
 
 # The archives that documents name are those that make dist makes.
+# shellcheck disable=SC2016
 systems=$(sed -n 's/^\t@packaging\/dist\.sh \$(version) //p' Makefile)
 expect 'the archives in docs/BUILDING.md' same "$(for system in $systems; do echo "checktestdata-$version-$system"; done | LC_ALL=C sort)" \
     "$(grep -o "checktestdata-$version-[a-z0-9_-]*" docs/BUILDING.md | LC_ALL=C sort -u)"

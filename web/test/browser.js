@@ -51,6 +51,7 @@ export class Tab extends AnyTab {
     this.errors = [];
     const words = ["--headless=new", "--no-sandbox", "--disable-gpu", "--remote-debugging-pipe", `--user-data-dir=${this.home}`];
     this.child = spawn(process.env.CHROMIUM ?? "chromium", words, { stdio: ["ignore", "ignore", "ignore", "pipe", "pipe"] });
+    process.on("exit", () => this.child.kill());
     this.child.on("error", (error) => {
       console.error(`no browser: ${error.message}`);
       process.exit(1);

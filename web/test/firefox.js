@@ -6,33 +6,43 @@ import os from "node:os";
 import path from "node:path";
 import { AnyTab } from "./browser.js";
 
-const PORT = 2829;
 const OUT_OF_TIME = 600_000; // milliseconds
-const PREFERENCES = `user_pref("marionette.port", ${PORT});\n`;
+
+// A port on which nothing listens.
+function freePort() {
+  const server = net.createServer();
+  return new Promise((done) => server.listen(0, "127.0.0.1", () => {
+    const { port } = server.address();
+    server.close(() => done(port));
+  }));
+}
 
 // One tab of a new browser. $FIREFOX is the program.
 export class FirefoxTab extends AnyTab {
   // The tab, or null where there is no Firefox.
   static async open() {
     const tab = new FirefoxTab();
-    if (!(await tab.#start())) return null;
-    await tab.#connect();
-    await tab.#send("WebDriver:NewSession", { capabilities: { alwaysMatch: { timeouts: { script: OUT_OF_TIME } } } });
+    const port = await freePort();
+    if (!(await tab.#start(port))) return null;
+    await tab.#connect(port);
+    await tab.#send("WebDriver:NewSession", { capabilities: { alwaysMatch: {} } });
+    await tab.#send("WebDriver:SetTimeouts", { script: OUT_OF_TIME });
     return tab;
   }
 
-  #start() {
+  #start(port) {
     this.home = fs.mkdtempSync(path.join(os.tmpdir(), "firefox-"));
-    fs.writeFileSync(path.join(this.home, "user.js"), PREFERENCES);
+    fs.writeFileSync(path.join(this.home, "user.js"), `user_pref("marionette.port", ${port});\n`);
     const words = ["--headless", "--marionette", "--no-remote", "--profile", this.home];
     this.child = spawn(process.env.FIREFOX ?? "firefox-esr", words, { stdio: "ignore", env: { ...process.env, HOME: this.home } });
+    process.on("exit", () => this.child.kill());
     return new Promise((done) => this.child.on("spawn", () => done(true)).on("error", () => done(false)));
   }
 
   // Waits until the browser listens. A message is the length of its JSON, a colon and that.
-  async #connect() {
+  async #connect(port) {
     for (let turn = 0; turn < 600 && !this.socket; turn++) {
-      const socket = net.connect(PORT, "127.0.0.1");
+      const socket = net.connect(port, "127.0.0.1");
       this.socket = await new Promise((done) => socket.on("connect", () => done(socket)).on("error", () => done(null)));
       if (!this.socket) await new Promise((done) => setTimeout(done, 100));
     }
