@@ -1,8 +1,8 @@
 # shellcheck shell=bash
-# Runs a program of this checkout in place of the script that reads this, with its words. That script says in `name` which, checktestdata or ctd-lint.
-top=$(cd "$(dirname "${BASH_SOURCE[0]}")/.." && pwd)
-packed=portable/checktestdata.c.xz
 # shellcheck disable=SC2154
+# Runs a program of this checkout, in `top`, in place of the script that reads this, and with its words. That script says in `name` which one it is,
+# checktestdata or ctd-lint.
+packed=portable/checktestdata.c.xz
 crate=${name//-/_}
 program=$top/crates/$crate/out/$crate
 compiled=$top/out/$name
