@@ -90,7 +90,10 @@ pack() {
     make --silent install-built BUILT="$stage/programs" strip= DESTDIR="$stage/$name" PREFIX=
     case $1 in
         *-windows) for_windows "$stage/$name" ;;
-        wasm) cp "$work"/modules/{checktestdata,ctd-lint}.wasm "$stage/$name/bin" ;;
+        wasm)
+            cp "$work"/modules/{checktestdata,ctd-lint}.wasm "$stage/$name/bin"
+            cp /usr/share/doc/wasi-libc/copyright "$stage/$name/wasi-libc-license.txt"
+            ;;
     esac
     cp LICENSE-MIT LICENSE-APACHE NOTICE "$stage/$name"
     how='They were compiled by the toolchain that proved them.'
