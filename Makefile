@@ -1,12 +1,12 @@
 # build: prove and compile the programs, with all processors (scripts/crates.mk); test: rebuild every proof and test from scratch, then run the
-# built program; install, uninstall: PREFIX and DESTDIR as usual; deb, dist: a Debian package and an archive of the built program, in out/.
+# built program; install, uninstall: PREFIX and DESTDIR as usual; deb, dist: a Debian package and archives of the built programs, in out/.
 # lib: builds the libraries for C and Python, and installs them as install does; page: makes the page for the browser in web/out; test-lib and
 # test-page test these (docs/EMBEDDING.md). fuzz: compares the checker with a reference in Python on COUNT generated cases of a SEED, or,
 # with MODE=--verdicts or --findings, what ctd-lint tells with runs. nightly: tests that take too long for test. bench: times the checker beside C
-# written by hand (bench/README.md). portable: makes the programs as one C file each, in out/, and packs that of the checker into portable/;
-# test-portable: tests it for other systems (portable/README.md).
+# written by hand (bench/README.md). portable: makes both programs as one C file, and packs it into portable/; test-portable: tests it for other
+# systems; wasm: compiles it for WebAssembly, in out/wasm (portable/README.md).
 #
-# Without the toolchain the checker is compiled from the packed C file, if that was made of these sources, and ctd-lint is left out.
+# Without the toolchain the programs are compiled from the packed C file, if that was made of these sources.
 version := 1.0
 
 PREFIX ?= /usr/local
@@ -30,7 +30,7 @@ SEED ?= 1
 # What is installed: programs that are built, each in the crate of its name, and companions in tools/, each with completions in
 # completions/ and a man page in man/; further man pages, and texts.
 has_toolchain := $(shell command -v rt)
-programs := checktestdata $(if $(has_toolchain),ctd-lint)
+programs := checktestdata ctd-lint
 companions := ctd-show ctd-cover ctd-mutate ctd-package
 modules := ctd_changes.py ctd_companion.py ctd_coverage.py ctd_problem.py ctd_program.py ctd_questions.py ctd_ranges.py ctd_untried.py ctd_values.py
 commands := $(programs) $(companions)
@@ -45,13 +45,15 @@ sources := HANDLES crates.txt $(shell find crates -name out -prune -o \( -name '
 need_toolchain = $(if $(missing),$(error $(missing)))
 missing = $(shell scripts/missing_toolchain.sh)
 packed := portable/checktestdata.c.xz
-is_current = $(shell portable/is_current.sh 2>/dev/null && echo yes)
-by_c := compiling $(packed), made of these sources: the Rattle toolchain, which proves them, is not here
+# Stops where a program cannot be compiled from the packed C file, and says why: PROGRAM, a variable for the script that looks.
+need_c_file = $(if $(obstacle),$(error $(obstacle)))
+obstacle = $(shell $(2) portable/obstacle.sh $(1))
+by_c = compiling $(1) from $(packed), made of these sources: the Rattle toolchain, which proves them, is not here
 embedded := crates/ctd_capi/out/build/libctd_capi.a
-lint_module := crates/ctd_lint/out/build/ctd_lint.bc
+modules_made := out/wasm/made
 strip := $(if $(shell command -v strip),-s)
 
-.PHONY: build build-lib test nightly test-lib test-page test-portable fuzz bench install install-built lib page portable uninstall deb dist clean
+.PHONY: build build-lib test nightly test-lib test-page test-portable fuzz bench install install-built lib wasm page page-needs portable uninstall deb dist clean
 
 build: $(all_built)
 
@@ -66,26 +68,19 @@ $(all_built) &: $(sources)
 	@touch $(all_built)
 else
 $(all_built): $(sources) $(wildcard $(packed))
-	$(if $(is_current),,$(need_toolchain))
-	@echo '$(by_c), so ctd-lint is left out' >&2
-	@portable/compile.sh $(packed) $@
+	$(call need_c_file,$(@F))
+	@echo '$(call by_c,$(@F))' >&2
+	@portable/compile.sh $(@F) $@
 endif
 
-# The checker first, since both are made over the same libraries.
 portable:
 	$(need_toolchain)
 	@portable/pack.sh
-	@portable/build.sh ctd_lint out/ctd-lint.c
 
-# The programs come first, since all are made over the same libraries. Both rules keep the LLVM module of the crate, for the page.
+# The programs come first, since all are made over the same libraries.
 $(embedded): $(sources) | build
 	$(need_toolchain)
-	+@scripts/keep_module.sh ctd_capi $(@F)
-	@touch $@
-
-$(lint_module): $(sources) | build
-	$(need_toolchain)
-	+@scripts/keep_module.sh ctd_lint ctd_lint.o
+	+@$(make_crates) $@
 	@touch $@
 
 ifdef has_toolchain
@@ -93,14 +88,26 @@ embed/out/libchecktestdata.so.1: $(embedded) embed/link.sh
 	@embed/link.sh
 else
 embed/out/libchecktestdata.so.1: $(sources) $(wildcard $(packed))
-	$(if $(is_current),,$(need_toolchain))
-	@echo '$(by_c)' >&2
+	$(call need_c_file,checktestdata)
+	@echo '$(call by_c,the library)' >&2
 	@portable/library.sh embed/out
 endif
 
 build-lib: embed/out/libchecktestdata.so.1
 
-page: $(embedded) $(lint_module)
+wasm: $(modules_made)
+
+# The script itself says what is missing of its compiler, which is not that of the system.
+$(modules_made): $(sources) $(wildcard $(packed)) portable/wasm.sh
+	$(foreach program,$(programs),$(call need_c_file,$(program),CC=sh))
+	@portable/wasm.sh $(@D)
+	@touch $@
+
+# What is missing for the page is said before anything is compiled for it.
+page-needs:
+	@web/needs.sh
+
+page: page-needs $(modules_made)
 	@web/build.sh
 
 test:
@@ -120,10 +127,10 @@ test-portable:
 	@portable/test.py
 
 fuzz: build
-	@tests/fuzz.py $(MODE) --count $(COUNT) --seed $(SEED)
+	@tests/fuzz.py $(call built,checktestdata) --linter $(call built,ctd-lint) $(MODE) --count $(COUNT) --seed $(SEED)
 
 bench: build
-	@bench/whole_runs.py
+	@bench/whole_runs.py --checker $(call built,checktestdata)
 
 # Installs one file: MODE, FROM, FOLDER, NAME. BSD and macOS have no install -D.
 put = mkdir -p '$(DESTDIR)$(3)' && install -m $(1) $(2) '$(DESTDIR)$(3)/$(4)'
@@ -173,7 +180,7 @@ deb: build
 	@packaging/deb.sh $(version)
 
 dist: build
-	@packaging/dist.sh $(version) x86_64-linux aarch64-linux x86_64-windows
+	@packaging/dist.sh $(version) x86_64-linux aarch64-linux x86_64-windows wasm
 
 clean:
 	rm -rf out crates/*/out embed/out embed/python/build embed/python/*.egg-info web/out

@@ -1,6 +1,5 @@
 #!/usr/bin/env bash
-# Makes the libraries for C in embed/out: libchecktestdata.a and libchecktestdata.so, of what scripts/keep_module.sh compiled and the heap of the
-# toolchain.
+# Makes the libraries for C in embed/out: libchecktestdata.a and libchecktestdata.so, of what scripts/crates.mk compiled and the heap of the toolchain.
 set -eu
 top=$(cd "$(dirname "${BASH_SOURCE[0]}")/.." && pwd)
 kit=$(dirname "$(rt doc)")

@@ -32,9 +32,12 @@ printf '%s (%s) unstable; urgency=medium\n\n  * Version %s.\n\n -- %s  %s\n' "$n
     gzip -9n >"$documents/changelog.Debian.gz"
 install -D -m 644 packaging/debian/lintian-overrides "$stage/usr/share/lintian/overrides/$name"
 
+# (what make builds without the toolchain comes by way of C)
+by_c=(-e '/@BY_C@/d')
+command -v rt >/dev/null || by_c=(-e '/@BY_C@/r packaging/debian/by_c' "${by_c[@]}")
 size=$(du --summarize --apparent-size --block-size=1024 "$stage" | cut -f 1)
 mkdir "$stage/DEBIAN"
-sed -e "s|@VERSION@|$version|; s|@MAINTAINER@|$maintainer|; s|@SIZE@|$size|; s|@ARCHITECTURE@|$architecture|; s|@LIBC@|$(needed_libc "$stage/usr/bin/checktestdata")|" packaging/debian/control >"$stage/DEBIAN/control"
+sed "${by_c[@]}" -e "s|@VERSION@|$version|; s|@MAINTAINER@|$maintainer|; s|@SIZE@|$size|; s|@ARCHITECTURE@|$architecture|; s|@LIBC@|$(needed_libc "$stage/usr/bin/checktestdata")|" packaging/debian/control >"$stage/DEBIAN/control"
 (cd "$stage" && find usr -type f -print0 | sort --zero-terminated | xargs --null md5sum >DEBIAN/md5sums)
 settle "$stage"
 dpkg-deb --build --root-owner-group -Zxz "$stage" "$package" >/dev/null

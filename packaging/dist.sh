@@ -2,8 +2,9 @@
 # Makes an archive of the programs, companions, man pages and documents for each of some systems in out/, and its SHA-256 sum.
 # usage: packaging/dist.sh VERSION SYSTEM.. (make dist)
 #
-# For x86_64-linux the programs are linked statically from what was compiled of them; for aarch64-linux and x86_64-windows they are compiled from
-# their C files. A system is left out, and that is said, where its compiler is not there. OUT names another folder.
+# For x86_64-linux the programs are linked statically from what the toolchain compiled of them, if it did; else, and for other systems, they are
+# compiled from their C file: aarch64-linux, x86_64-windows, and wasm, WebAssembly with WASI. Of a system whose compiler is not there no archive is
+# made, and it is said which package of Debian has it. OUT names another folder.
 set -eu
 cd "$(dirname "${BASH_SOURCE[0]}")/.."
 . packaging/common.sh
@@ -12,10 +13,13 @@ shift
 work=$(mktemp -d)
 trap 'rm -rf "$work"' EXIT
 
-# What each system needs: its compiler, the words for it, and where its programs run.
-declare -A compiler=([x86_64-linux]=cc [aarch64-linux]=aarch64-linux-gnu-gcc [x86_64-windows]=x86_64-w64-mingw32-gcc)
+# What each system needs: the commands, the packages of Debian that have them, words for the compiler, which comes first, and where its programs run.
+declare -A commands=([x86_64-linux]=cc [aarch64-linux]=aarch64-linux-gnu-gcc [x86_64-windows]='x86_64-w64-mingw32-gcc zip' [wasm]="${WASM_CC:-clang-16} wasm-ld-16")
+declare -A packages=([x86_64-linux]='gcc libc6-dev' [aarch64-linux]='gcc-aarch64-linux-gnu' [x86_64-windows]='gcc-mingw-w64-x86-64 zip'
+    [wasm]='clang-16 lld-16 libclang-rt-16-dev-wasm32 wasi-libc')
 declare -A words=([x86_64-linux]='-static -s' [aarch64-linux]='-static -s' [x86_64-windows]='-static -s -Wl,--stack,8388608 -lshell32')
-declare -A where=([x86_64-linux]='any Linux on x86-64' [aarch64-linux]='any Linux on ARM of 64 bits' [x86_64-windows]='Windows 10 or later on x86-64')
+declare -A where=([x86_64-linux]='any Linux on x86-64' [aarch64-linux]='any Linux on ARM of 64 bits' [x86_64-windows]='Windows 10 or later on x86-64'
+    [wasm]='any system with Node 20 or later, or another runtime for WebAssembly that has WASI')
 
 # object PROGRAM: the object file that the toolchain made of a program, in make build or in the gate, whichever came later.
 object() {
@@ -26,19 +30,23 @@ object() {
     [ ! -e "$made" ] || echo "$made"
 }
 
-# make_program SYSTEM PROGRAM FILE: compiles or links a program; nothing is made of a program that has no C file.
+# is_by_c SYSTEM: whether the programs for a system are compiled from the C file.
+is_by_c() {
+    [ "$1" != x86_64-linux ] || [ -z "$(object checktestdata)" ] || [ -z "$(object ctd-lint)" ]
+}
+
+# make_program SYSTEM PROGRAM FILE: compiles or links a program.
 make_program() {
-    local made c_file=out/$2.c kit
-    made=$([ "$1" != x86_64-linux ] || object "$2")
-    [ "$2" != checktestdata ] || c_file=portable/checktestdata.c.xz
-    if [ -n "$made" ]; then
+    local kit
+    if ! is_by_c "$1"; then
         kit=$(dirname "$(rt doc)")
-        cc -static -s -Wl,--gc-sections "$made" "$kit/c/libos_c.a" "$kit/c/liblibc_c.a" -o "$3"
-    elif [ -e "$c_file" ]; then
-        # shellcheck disable=SC2086
-        CC=${compiler[$1]} portable/compile.sh "$c_file" "$3" ${words[$1]}
+        cc -static -s -Wl,--gc-sections "$(object "$2")" "$kit/c/libos_c.a" "$kit/c/liblibc_c.a" -o "$3"
+    elif [ "$1" = wasm ]; then
+        portable/wasm.sh "$work/modules" "$2"
+        install -m 755 packaging/wasm/run.js "$3"
     else
-        echo "dist: $1 is without $2: there is no $c_file, which make portable makes" >&2
+        # shellcheck disable=SC2086
+        CC=${commands[$1]%% *} portable/compile.sh "$2" "$3" ${words[$1]}
     fi
 }
 
@@ -74,19 +82,23 @@ archive() {
 
 # pack SYSTEM: makes the archive of a system.
 pack() {
-    local name=checktestdata-$version-$1 stage=$work/$1 made=() program names file how
+    local name=checktestdata-$version-$1 stage=$work/$1 file how
     mkdir -p "$stage/programs"
     for program in checktestdata ctd-lint; do
         make_program "$1" "$program" "$stage/programs/$program"
-        [ ! -e "$stage/programs/$program" ] || made+=("$program")
     done
-    make --silent install-built BUILT="$stage/programs" programs="${made[*]}" strip= DESTDIR="$stage/$name" PREFIX=
-    [[ $1 != *-windows ]] || for_windows "$stage/$name"
+    make --silent install-built BUILT="$stage/programs" strip= DESTDIR="$stage/$name" PREFIX=
+    case $1 in
+        *-windows) for_windows "$stage/$name" ;;
+        wasm)
+            cp "$work"/modules/{checktestdata,ctd-lint}.wasm "$stage/$name/bin"
+            cp /usr/share/doc/wasi-libc/copyright "$stage/$name/wasi-libc-license.txt"
+            ;;
+    esac
     cp LICENSE-MIT LICENSE-APACHE NOTICE "$stage/$name"
-    names=${made[*]}
     how='They were compiled by the toolchain that proved them.'
-    [ -n "$([ "$1" != x86_64-linux ] || object checktestdata)" ] || how='They were compiled from the proved programs as C; TRUST.md in share/doc says what that adds to what is trusted.'
-    sed -e "s|@VERSION@|$version|g; s|@HOW@|$how|; s|@WHERE@|${where[$1]}|g; s|@PROGRAMS@|${names// /\` and \`}|g" "packaging/archive/${1#*-}.md" >"$stage/$name/README.md"
+    ! is_by_c "$1" || how='They were compiled from the proved programs as C; TRUST.md in share/doc says what that adds to what is trusted.'
+    sed -e "s|@VERSION@|$version|g; s|@HOW@|$how|; s|@WHERE@|${where[$1]}|g" "packaging/archive/${1#*-}.md" >"$stage/$name/README.md"
     (cd "$stage/$name" && find . -type f -printf '%P\0' | sort --zero-terminated | xargs --null sha256sum >"$stage/sums" && mv "$stage/sums" SHA256SUMS)
     settle "$stage/$name"
     file=$(archive "$1" "$stage" "$name")
@@ -94,10 +106,22 @@ pack() {
     echo "$out/$file"
 }
 
+# why_not SYSTEM: in one line why no archive can be made for a system, if that is so.
+why_not() {
+    local command
+    for command in ${commands[$1]}; do
+        command -v "$command" >/dev/null || { echo "no command $command (in Debian: apt install ${packages[$1]})" && return; }
+    done
+    ! is_by_c "$1" || for program in checktestdata ctd-lint; do
+        CC=${commands[$1]%% *} portable/obstacle.sh "$program"
+    done | head -n 1
+}
+
 for system in "$@"; do
-    if command -v "${compiler[$system]}" >/dev/null; then
+    reason=$(why_not "$system")
+    if [ -z "$reason" ]; then
         pack "$system"
     else
-        echo "dist: left out $system: ${compiler[$system]} is not there" >&2
+        echo "dist: no archive for $system: $reason" >&2
     fi
 done

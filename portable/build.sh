@@ -1,6 +1,6 @@
 #!/usr/bin/env bash
-# Makes a proved program one C file: portable/build.sh CRATE RESULT.c. It needs the Rattle toolchain and Python 3. What of the crates is not
-# proved yet is proved first. The same sources and toolchain give the same bytes.
+# Makes C of a proved program: portable/build.sh CRATE RESULT.c. It needs the Rattle toolchain and Python 3. What of the crates is not proved yet
+# is proved first. The same sources and toolchain give the same bytes.
 set -eu
 top=$(cd "$(dirname "${BASH_SOURCE[0]}")/.." && pwd)
 crate=$1
@@ -43,7 +43,7 @@ fi
 [ -e "$module" ] || rm -f "$object"
 "${make[@]}" "$object"
 
-# To WebAssembly, position independent: not with wide-arithmetic, of which LLVM 22 reads a result too early.
+# To WebAssembly and from there to C, position independent: not with wide-arithmetic, of which LLVM 22 reads a result too early.
 clang=("$kit/toolchain/bin/clang" --no-default-config)
 wasm=("${clang[@]}" --target=wasm64-unknown-unknown -mcpu=mvp -mbulk-memory -msign-ext -mmutable-globals -mnontrapping-fptoint -msimd128)
 "${clang[@]}" --target=x86_64-unknown-linux-gnu -x ir "$module" -S -emit-llvm -O0 -Xclang -disable-llvm-passes -o "$work/x86.ll"
@@ -53,19 +53,6 @@ python3 portable/retarget.py "$work/x86.ll" "$work/wasm.ll" "$layout"
 ln -s "$kit/toolchain/bin/clang" "$work/wasm-ld"
 "$work/wasm-ld" -mwasm64 --experimental-pic -pie --no-entry --allow-undefined --export=ctd_main --gc-sections -O2 "$work/wasm.o" -o "$work/program.wasm"
 
-# To C. The host file comes last, since it includes more of the system.
-{
-    echo "/* ${crate//_/-}, of the proved program, made with $(rt version). How to compile it and what is tested of it: portable/README.md. */"
-    printf '#ifndef _WIN32\n#define _POSIX_C_SOURCE 200809L\n#endif\n'
-    cat portable/host.h portable/runtime.h
-    python3 portable/wasm_to_c.py "$work/program.wasm"
-    echo '#if IN_PART(0)'
-    cat portable/run.c
-    echo '#ifdef CHECKTESTDATA_LIBRARY'
-    cat embed/checktestdata.h portable/library.c
-    echo '#else'
-    cat portable/host.c
-    printf '#endif\n#endif\n'
-} >"$work/program.c"
 mkdir -p "$(dirname "$result")"
+python3 portable/wasm_to_c.py "$work/program.wasm" >"$work/program.c"
 mv "$work/program.c" "$result"

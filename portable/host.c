@@ -1,10 +1,9 @@
-/* The system for the proved program: files, streams and the command line, of POSIX (Linux, macOS, BSD) and of Windows. No proof covers this
+/* The system for the proved program: files, streams and the command line, of POSIX (Linux, macOS, BSD), WASI and Windows. No proof covers this
  * file. It stands for what the toolchain's std says of the system: a file gives its bytes in order, a write takes a part of what it is given
  * or fails, and an error has a number.
  */
 #include <errno.h>
 #include <fcntl.h>
-#include <signal.h>
 #include <sys/stat.h>
 #ifdef _WIN32
 #define WIN32_LEAN_AND_MEAN
@@ -13,6 +12,9 @@
 #include <io.h>
 #else
 #include <unistd.h>
+#ifndef __wasi__ /* which has no signals */
+#include <signal.h>
+#endif
 #endif
 
 /* The most bytes of one read or write: some systems refuse more than INT_MAX. */
@@ -137,7 +139,13 @@ int main(void) {
 }
 #else
 int main(int argc, char **argv) {
+#ifdef __wasi__
+    /* A process of WASI begins in no folder: who gives it all folders names the one that it stands in. */
+    const char *folder = getenv("PWD");
+    if (folder) (void)!chdir(folder);
+#else
     signal(SIGPIPE, SIG_IGN);
+#endif
     word_count = (size_t)argc;
     words = argv;
     return ctd_run(program_stack);

@@ -1,5 +1,5 @@
-#if __SIZEOF_POINTER__ != 8
-#error "checktestdata needs a system of 64 bits"
+#if __SIZEOF_POINTER__ != 8 && !defined(__wasm32__)
+#error "checktestdata needs a system of 64 bits, or WebAssembly"
 #endif
 #if __BYTE_ORDER__ != __ORDER_LITTLE_ENDIAN__
 #error "checktestdata needs a little-endian processor"

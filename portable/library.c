@@ -1,8 +1,18 @@
 /* The system for the proved program as a library: its two files and its streams are in memory. No proof covers this file. At its start the
  * program opens a folder once, by whose number it sees that no stream is closed. Then it opens the file of the program, and then that of the
- * data, or it reads the data from standard input. */
+ * data, or it reads the data from standard input.
+ *
+ * With -DCTD_LINT it is ctd-lint, by the same call, and reads no data. No text of the checker is longer than what is kept of it; of the findings
+ * of ctd-lint the first are kept. */
 #define FIRST_FILE 3
 #define PROGRAM_FILE 4
+#ifdef CTD_LINT
+#define NAME "ctd-lint"
+#define TEXT_SIZE 65536
+#else
+#define NAME "checktestdata"
+#define TEXT_SIZE CHECKTESTDATA_TEXT_SIZE
+#endif
 
 /* Bytes that are read, and how many of them were. */
 struct given {
@@ -10,9 +20,9 @@ struct given {
     size_t length, taken;
 };
 
-/* Bytes that were written. Those that do not fit are counted. */
+/* Bytes that were written. Those for which there is no room are counted. */
 struct taken {
-    char bytes[CHECKTESTDATA_TEXT_SIZE];
+    char bytes[TEXT_SIZE];
     size_t length;
 };
 
@@ -53,7 +63,8 @@ SHARED int64_t ctd_read(int32_t file, void *buffer, uint64_t size) {
 
 SHARED int64_t ctd_write(int32_t file, const void *buffer, uint64_t size) {
     struct taken *to = file == 1 ? &call->out : &call->err;
-    if (to->length + size <= sizeof to->bytes) memcpy(to->bytes + to->length, buffer, size);
+    size_t room = to->length < sizeof to->bytes ? sizeof to->bytes - to->length : 0;
+    if (room > 0) memcpy(to->bytes + to->length, buffer, size < room ? size : room);
     to->length += size;
     return (int64_t)size;
 }
@@ -64,7 +75,8 @@ SHARED int32_t ctd_close(int32_t file) {
 }
 
 static size_t give(const struct taken *text, char *to, size_t size) {
-    if (text->length <= size && text->length <= sizeof text->bytes) memcpy(to, text->bytes, text->length);
+    size_t kept = text->length < sizeof text->bytes ? text->length : sizeof text->bytes;
+    if (kept <= size) memcpy(to, text->bytes, kept);
     return text->length;
 }
 
@@ -74,7 +86,7 @@ __attribute__((visibility("default")))
 uint8_t checktestdata_run(const char *words, size_t words_length, const void *program, size_t program_length, const void *testdata,
                           size_t testdata_length, char *out, size_t out_size, char *err, size_t err_size,
                           struct checktestdata_lengths *lengths) {
-    static const char no_memory[] = "checktestdata: out of memory\n";
+    static const char no_memory[] = NAME ": out of memory\n";
     struct call this = {.words = {words, words_length, 0},
                         .program = {program, program_length, 0},
                         .data = {testdata, testdata_length, 0},

@@ -7,7 +7,7 @@ mkdir -p "$1"
 work=$(mktemp -d)
 trap 'rm -rf "$work"' EXIT
 "$here/unpack.sh" >"$work/library.c"
-${CC:-cc} -O2 -fPIC -fvisibility=hidden -DCHECKTESTDATA_LIBRARY -c -o "$work/library.o" "$work/library.c"
+${CC:-cc} -O1 -fPIC -fvisibility=hidden -DCHECKTESTDATA_LIBRARY -c -o "$work/library.o" "$work/library.c"
 rm -f "$1/libchecktestdata.a"
 ar rcs "$1/libchecktestdata.a" "$work/library.o"
 ${CC:-cc} -shared -o "$1/libchecktestdata.so.1" "$work/library.o"

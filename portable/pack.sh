@@ -1,10 +1,10 @@
 #!/usr/bin/env bash
-# Makes the C file of the checker again, as out/checktestdata.c, and packs it into this folder with the sums of its sources.
+# Makes the C file of both programs again, as out/checktestdata.c, and packs it into this folder with the sums of its sources.
 set -eu
 cd "$(dirname "${BASH_SOURCE[0]}")/.."
 # The sums are taken first, so that a source that changes meanwhile is seen.
 mkdir -p out
 portable/sums.sh >out/checktestdata.c.sums
-portable/build.sh checktestdata out/checktestdata.c
+portable/whole.sh out/checktestdata.c
 mv out/checktestdata.c.sums portable/checktestdata.c.sums
 cmp --silent out/checktestdata.c <(xz -dc portable/checktestdata.c.xz 2>/dev/null) || xz -9e --threads=1 <out/checktestdata.c >portable/checktestdata.c.xz

@@ -143,8 +143,8 @@ INLINE void host___lshrti3(u64 to, u64 a, u64 b, u32 n) { answer(to, join(a, b) 
 INLINE void host___ashrti3(u64 to, u64 a, u64 b, u32 n) { answer(to, (u128)((s128)join(a, b) >> (n & 127))); }
 
 /* What the program calls of the system. */
-INLINE u64 host_ctd_alloc(u64 size) { return (u64)(uintptr_t)malloc(size); }
-INLINE u64 host_ctd_resize(u64 block, u64 size) { return (u64)(uintptr_t)realloc(at(block), size); }
+INLINE u64 host_ctd_alloc(u64 size) { return size > SIZE_MAX ? 0 : (u64)(uintptr_t)malloc((size_t)size); }
+INLINE u64 host_ctd_resize(u64 block, u64 size) { return size > SIZE_MAX ? 0 : (u64)(uintptr_t)realloc(at(block), (size_t)size); }
 INLINE void host_ctd_free(u64 block) { free(at(block)); }
 INLINE u32 host_ctd_open(u64 path, u32 flags) { return (u32)ctd_open(at(path), (s32)flags); }
 INLINE u64 host_ctd_read(u32 file, u64 to, u64 size) { return (u64)ctd_read((s32)file, at(to), size); }

@@ -1,6 +1,7 @@
 #!/usr/bin/env python3
-"""Tries the packed C file on the systems that this machine has compilers and emulators for: each program runs the rows of tests/tables/. The last
-line counts what passed and failed, and what is missing is said before. usage: portable/test.py [WAY..] (make test-portable)"""
+"""Tries the packed C file on the systems that this machine has compilers and emulators for: the checker runs the rows of tests/tables/, and ctd-lint what
+tests/lint.py has. The last line counts what passed and failed, and what is missing is said before. usage: portable/test.py [WAY..]
+(make test-portable)"""
 from __future__ import annotations
 
 import argparse
@@ -9,24 +10,24 @@ import shutil
 import subprocess
 import sys
 import tempfile
-from collections.abc import Iterator
+import tomllib
+from collections.abc import Callable, Iterator
 from contextlib import contextmanager, nullcontext
 from dataclasses import dataclass
 from pathlib import Path
 
 TOP = Path(__file__).resolve().parent.parent
 PORTABLE = TOP / "portable"
-PACKED = PORTABLE / "checktestdata.c.xz"
-LINT_FILE = TOP / "out/ctd-lint.c"
 sys.path.insert(0, str(TOP / "tests"))
+import lint
 import tables
 from results import print_counts
 
 AARCH64 = "aarch64-unknown-linux-gnu"
 # The compilers for systems that are refused, and what these lack.
 REFUSED = [
-    (("gcc", "-m32"), "a system of 64 bits"),
-    (("clang", "--target=i686-linux-gnu"), "a system of 64 bits"),
+    (("gcc", "-m32"), "a system of 64 bits, or WebAssembly"),
+    (("clang", "--target=i686-linux-gnu"), "a system of 64 bits, or WebAssembly"),
     (("clang", "--target=s390x-linux-gnu"), "a little-endian processor"),
     (("s390x-linux-gnu-gcc",), "a little-endian processor"),
 ]
@@ -53,6 +54,8 @@ NOT_ON_WINDOWS = {
     "process: a name is opened as it stands: a name with a line feed and a letter of two bytes": LINE_FEED,
     "process: a message has a name as it stands: data with a blank at the end of its name that are not there": BLANK_AT_THE_END,
 }
+# The rows that Node cannot have.
+NOT_UNDER_NODE: dict[str, str] = {}
 # How long a run may take: emulators and sanitizers are slow.
 OUT_OF_TIME = 600
 
@@ -71,6 +74,10 @@ class Way:
     def is_windows(self) -> bool:
         return self.runner == "wine"
 
+    @property
+    def is_wasm(self) -> bool:
+        return self.runner == "node"
+
     def missing(self) -> list[str]:
         return [tool for tool in (self.compiler, self.runner, *(["wineserver", "setarch"] if self.is_windows else [])) if tool and not shutil.which(tool)]
 
@@ -78,12 +85,14 @@ class Way:
 WAYS = [
     Way("x86-64, GCC", "gcc"),
     Way("x86-64, GCC, -O0", "gcc", ("-O0",)),
+    Way("x86-64, GCC, -O2", "gcc", ("-O2",)),
     Way("x86-64, clang", "clang"),
     Way("x86-64, musl, static", "musl-gcc", ("-static",)),
     Way("x86-64, GCC with sanitizers", "gcc", ("-O1", "-fsanitize=undefined,address", "-fno-sanitize-recover")),
     Way("aarch64, static", "aarch64-linux-gnu-gcc", ("-static",), "qemu-aarch64-static"),
     Way("riscv64, static", "riscv64-linux-gnu-gcc", ("-static",), "qemu-riscv64-static"),
     Way("Windows", "x86_64-w64-mingw32-gcc", WINDOWS, "wine", frozenset(NOT_ON_WINDOWS)),
+    Way("wasm32, WASI", "clang-16", (), "node", frozenset(NOT_UNDER_NODE)),
 ]
 OFFICIAL = Way("aarch64, the toolchain's own target, static", "aarch64-linux-gnu-gcc", (), "qemu-aarch64-static")
 
@@ -114,19 +123,24 @@ def wine_settings(folder: Path) -> Iterator[dict[str, str]]:
 
 
 @contextmanager
-def command(way: Way, folder: Path, program: Path) -> Iterator[Path]:
-    """A command that runs a program, by an emulator if it needs one."""
-    if not way.runner:
-        yield program
-        return
-    script = folder / "checktestdata"
+def runner(way: Way, folder: Path) -> Iterator[Callable[[Path], Path]]:
+    """What gives a command that runs a program, by an emulator if it needs one."""
     with wine_settings(folder / "wine") if way.is_windows else nullcontext(dict[str, str]()) as settings:
         words = [f"{name}={value}" for name, value in settings.items()]
         # Without `setarch -R` the heap of Wine may lie over 0x7ffe0000, where Wine needs a page; it then ends with status 1 and without a word.
-        runner = f"{'setarch -R ' if way.is_windows else ''}{shutil.which(way.runner)}"
-        script.write_text(f'#!/bin/sh\n{" ".join(words)} exec {runner} "{program}" "$@"\n')
-        script.chmod(0o755)
-        yield script
+        emulator = f"{'setarch -R ' if way.is_windows else ''}{shutil.which(way.runner)}"
+
+        def command(program: Path) -> Path:
+            # What runs a module of WebAssembly is a script already.
+            if not way.runner or way.is_wasm:
+                return program
+            script = folder / "commands" / program.stem
+            script.parent.mkdir(exist_ok=True)
+            script.write_text(f'#!/bin/sh\n{" ".join(words)} exec {emulator} "{program}" "$@"\n')
+            script.chmod(0o755)
+            return script
+
+        yield command
 
 
 def rows_of_tables(way: Way, program: Path, counts: Counts) -> None:
@@ -144,9 +158,26 @@ def rows_of_tables(way: Way, program: Path, counts: Counts) -> None:
     print(f"portable: {way.name}: {counts.passed - passed} passed, {counts.failed - failed} failed{without}", flush=True)
 
 
-def compiled(way: Way, folder: Path) -> Path:
-    program = folder / ("program.exe" if way.is_windows else "program")
-    subprocess.run([PORTABLE / "compile.sh", PACKED, program, *way.words], env={**os.environ, "CC": way.compiler}, check=True)
+def rows_of_lint(way: Way, program: Path, counts: Counts) -> None:
+    """Runs what tests/lint.py has, but for its limits of time and memory."""
+    passed, failed = counts.passed, counts.failed
+    lint.OUT_OF_TIME = lint.TIME_LIMIT = OUT_OF_TIME
+    lint.MEMORY_LIMIT, lint.TRIES = sys.maxsize, 1
+    with tempfile.TemporaryDirectory() as folder:
+        table = tomllib.loads((TOP / "tests/lint.toml").read_text())
+        for name, wanted, found in lint.outcomes(lint.Linter(program, Path(folder)), table):
+            counts.add(f"{way.name}: ctd-lint: {name}", "" if found == wanted else f"{found}, wanted {wanted}")
+    print(f"portable: {way.name}: ctd-lint: {counts.passed - passed} passed, {counts.failed - failed} failed", flush=True)
+
+
+def compiled(way: Way, folder: Path, name: str) -> Path:
+    """One of the two programs, compiled from the packed file."""
+    program = folder / (f"{name}.exe" if way.is_windows else name)
+    if way.is_wasm:
+        subprocess.run([PORTABLE / "wasm.sh", folder, name], check=True)
+        shutil.copy(TOP / "packaging/wasm/run.js", program)
+    else:
+        subprocess.run([PORTABLE / "compile.sh", name, program, *way.words], env={**os.environ, "CC": way.compiler}, check=True)
     return program
 
 
@@ -163,9 +194,11 @@ def try_way(way: Way, counts: Counts) -> None:
     with tempfile.TemporaryDirectory() as scratch:
         folder = Path(scratch)
         try:
-            program = official(folder) if way is OFFICIAL else compiled(way, folder)
-            with command(way, folder, program) as run:
-                rows_of_tables(way, run, counts)
+            with runner(way, folder) as command:
+                checker = official(folder) if way is OFFICIAL else compiled(way, folder, "checktestdata")
+                rows_of_tables(way, command(checker), counts)
+                if way is not OFFICIAL:
+                    rows_of_lint(way, command(compiled(way, folder, "ctd-lint")), counts)
         except subprocess.CalledProcessError as failure:
             counts.add(way.name, str(failure))
 
@@ -215,17 +248,6 @@ def libraries(folder: Path) -> Iterator[tuple[str, str]]:
     yield "pip install ./embed/python", "" if ran_there.stdout == wanted else f"{ran_there.stdout!r} {ran_there.stderr}"
 
 
-def linter(folder: Path) -> Iterator[tuple[str, str]]:
-    """ctd-lint from its C file, if that was made."""
-    if not LINT_FILE.exists():
-        print(f"portable: left out ctd-lint: there is no {LINT_FILE.relative_to(TOP)}, which make portable makes", flush=True)
-        return
-    program = folder / "ctd-lint"
-    subprocess.run([PORTABLE / "compile.sh", LINT_FILE, program, "-Werror"], check=True)
-    ran = subprocess.run([TOP / "tests/lint.py", program], check=False)
-    yield "tests/lint.py", f"status {ran.returncode}" if ran.returncode else ""
-
-
 def compiled_only(folder: Path) -> Iterator[tuple[str, str]]:
     with open(folder / "checktestdata.c", "wb") as file:
         subprocess.run([PORTABLE / "unpack.sh"], stdout=file, check=True)
@@ -234,7 +256,7 @@ def compiled_only(folder: Path) -> Iterator[tuple[str, str]]:
 
 
 # What is tried otherwise than by the rows of the tables.
-OTHERS = {Way("compiled only", "clang"): compiled_only, Way("libraries", "gcc"): libraries, Way("ctd-lint", "gcc"): linter}
+OTHERS = {Way("compiled only", "clang"): compiled_only, Way("libraries", "gcc"): libraries}
 
 
 def try_other(way: Way, counts: Counts) -> None:
@@ -247,7 +269,7 @@ def try_other(way: Way, counts: Counts) -> None:
 
 
 def main() -> int:
-    parser = argparse.ArgumentParser(description="Tries the packed C file of the checker on other systems.")
+    parser = argparse.ArgumentParser(description="Tries the packed C file on other systems.")
     parser.add_argument("ways", nargs="*", metavar="WAY", help="a part of the name of a way; all, if there is none")
     wanted = parser.parse_args().ways
     counts = Counts()

@@ -60,8 +60,9 @@ class Build(unittest.TestCase):
         self.scratch = Path(self.enterContext(tempfile.TemporaryDirectory(prefix="a copy ")))
         self.top = self.scratch / "top"
         self.top.mkdir()
-        for name in ["Makefile", "HANDLES", "crates.txt", "checktestdata"]:
-            shutil.copy(TOP / name, self.top)
+        (self.top / "portable").mkdir()
+        for name in ["Makefile", "HANDLES", "crates.txt", "checktestdata", "ctd-lint", "portable/obstacle.sh"]:
+            shutil.copy(TOP / name, self.top / name)
         shutil.copytree(TOP / "scripts", self.top / "scripts")
         for crate in LIBRARIES:
             (self.top / "crates" / crate / "src").mkdir(parents=True)
@@ -126,6 +127,7 @@ class Build(unittest.TestCase):
         self.assertEqual((ran.returncode, ran.stdout), (0, ""), ran)
         self.assertIn("checktestdata", self.proved())
         self.assertEqual(self.run_in_copy("./checktestdata", STUB_FAILS="ctd_token").returncode, 0)
+        self.assertEqual((self.run_in_copy("./ctd-lint", STUB_FAILS="ctd_token").returncode, self.proved()), (0, []))
 
     def test_a_static_library_is_made_by_the_given_compiler(self) -> None:
         ran = self.run_in_copy("make", "-f", "scripts/crates.mk", LIBRARY, TOOLCHAIN="/another/compiler")

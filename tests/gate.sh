@@ -2,7 +2,7 @@
 # Sees that the definitions stand where docs/TRUST.md says, and rebuilds every proof and test from scratch (rt ci). Then it runs the program that
 # this built: on the rows of tables, with streams that are closed or full, with reads, writes and allocations failing, on the examples, as the
 # documents say, beside its companions, installed and packed, and at last on generated cases, of which a reference in Python knows the answers. The C
-# file of the program is made again, and what is compiled from it runs the tables too.
+# file of both programs is made again, what is compiled from it runs the tables too, and a fresh clone is used without the toolchain.
 # The rules of the build are tried with a stub for the prover.
 # The last line counts what passed and failed in all.
 set -u
@@ -21,6 +21,7 @@ if [ "$failed" -eq 0 ]; then
     count tests/tables.py
     count tests/portable.py
     count tests/library.sh
+    count tests/fresh_clone.sh
     count tests/process.sh
     count tests/lint.py
     count tests/verdicts.py

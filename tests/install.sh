@@ -144,23 +144,29 @@ expect 'uninstall leaves no documents' test ! -e "$documents"
 expect 'install with another prefix' quiet_make install-built DESTDIR="$stage" PREFIX=/opt/tools
 expect 'another prefix' test -x "$stage/opt/tools/bin/ctd-show"
 
-# Without the toolchain one line is written, whatever is asked for.
+# Without the toolchain and the packed C file one line is written, whatever is asked for.
 mkdir -p "$work/bare/crates"
-cp -r Makefile HANDLES crates.txt checktestdata scripts tests embed web portable "$work/bare"
+cp -r Makefile HANDLES crates.txt checktestdata ctd-lint scripts tests embed web portable "$work/bare"
 rm -f "$work/bare/portable/checktestdata.c.xz"
 if PATH=/usr/bin:/bin command -v rt >/dev/null; then
     echo 'install: left out what is said without the toolchain: rt is in /usr/bin'
 else
-    line='the Rattle toolchain is missing (no command rt): install rattle-kit-13f to build, or take the built program from the package checktestdata-nagdimot or the archive checktestdata-VERSION-x86_64-linux.tar.gz'
+    toolchain='the Rattle toolchain is missing (no command rt): install rattle-kit-13f to build, or take the built program from the package checktestdata-nagdimot or the archive checktestdata-VERSION-x86_64-linux.tar.gz'
+    line="portable/checktestdata.c.xz is not there, and $toolchain"
     without() { (cd "$work/bare" && env PATH=/usr/bin:/bin "$@" 2>&1); }
-    expect './checktestdata without the toolchain' same "checktestdata: $line" "$(without ./checktestdata p.ctd d.in)"
-    for goal in build install deb dist test bench fuzz lib page test-lib test-page; do
-        expect "make $goal without the toolchain" same "Makefile: *** $line.  Stop." "$(without make "$goal" | sed 's/^Makefile:[0-9]*/Makefile/')"
+    stopped() { without make "$1" | sed 's/^Makefile:[0-9]*/Makefile/'; }
+    for program in checktestdata ctd-lint; do
+        expect "./$program without the toolchain" same "$program: $line" "$(without "./$program" p.ctd d.in)"
+    done
+    for goal in build install deb dist bench fuzz lib wasm test-lib; do
+        expect "make $goal without the toolchain" same "Makefile: *** $line.  Stop." "$(stopped "$goal")"
+    done
+    for goal in test portable; do
+        expect "make $goal without the toolchain" same "Makefile: *** $toolchain.  Stop." "$(stopped "$goal")"
     done
 fi
 
-# Without the toolchain, but with a packed C file that is of these sources: the checker is compiled from it. A stub stands for the compiler.
-compiling='compiling portable/checktestdata.c.xz, made of these sources'
+# Without the toolchain, but with a packed C file that is of these sources: the programs are compiled from it. A stub stands for the compiler.
 copy=$work/copy
 cat >"$work/cc" <<'END'
 #!/bin/sh
@@ -178,19 +184,39 @@ if ! PATH=/usr/bin:/bin command -v rt >/dev/null; then
     tar --create --exclude=out --exclude=.git . | tar --extract --directory="$copy"
     : | xz >"$copy/portable/checktestdata.c.xz"
     here portable/sums.sh >"$copy/portable/checktestdata.c.sums"
-    expect 'the first use compiles the packed file' same "checktestdata: $compiling, in about a minute; \`make\` proves and compiles them here
-compiled a b" "$(here ./checktestdata a b)"
-    expect 'the second use does not' same 'compiled c' "$(here ./checktestdata c)"
+    for program in checktestdata ctd-lint; do
+        expect "the first use of ./$program compiles the packed file" same "$program: compiling portable/checktestdata.c.xz, made of these sources, in about half a minute
+compiled a b" "$(here "./$program" a b)"
+        expect 'the second use does not' same 'compiled c' "$(here "./$program" c)"
+    done
     expect 'make does not compile what is there' same '' "$(here make --silent)"
     rm -r "$copy/out"
-    expect 'make compiles the packed file' same "$compiling: the Rattle toolchain, which proves them, is not here, so ctd-lint is left out" "$(here make)"
+    compiling() { echo "compiling $1 from portable/checktestdata.c.xz, made of these sources: the Rattle toolchain, which proves them, is not here"; }
+    expect 'make compiles the packed file' same "$(compiling checktestdata && compiling ctd-lint)" "$(here make)"
     expect 'make install without the toolchain' here make install strip= DESTDIR="$copy/stage"
-    expect 'what it installs' same 'checktestdata ctd-cover ctd-mutate ctd-package ctd-show' "$(cd "$copy/stage/usr/local/bin" && echo *)"
+    expect 'what it installs' same 'checktestdata ctd-cover ctd-lint ctd-mutate ctd-package ctd-show' "$(cd "$copy/stage/usr/local/bin" && echo *)"
     rm -r "$copy/out"
+    mkdir "$work/few"
+    for command in awk bash cat dirname find grep readlink sed sort xz; do
+        ln -s "$(command -v "$command")" "$work/few/$command"
+    done
+    expect 'a command that is missing is named' same 'checktestdata: no command xargs, which compiling portable/checktestdata.c.xz takes: install it' "$(here env PATH="$work/few" ./checktestdata a)"
     echo '// another source' >>"$copy/crates/ctd_tool/src/lib.rt"
+    # shellcheck disable=SC2016
+    line='portable/checktestdata.c.xz is older than crates/ctd_tool/src/lib.rt: `portable/compile.sh checktestdata out/checktestdata` compiles it all the same, as the version that it is; `make` with the Rattle toolchain (rattle-kit-13f) proves and compiles what stands here'
     expect 'a packed file of other sources is not used' same "checktestdata: $line" "$(here ./checktestdata a b)"
     expect 'make does not use it either' same "Makefile: *** $line.  Stop." "$(here make | sed 's/^Makefile:[0-9]*/Makefile/')"
+    expect 'it is compiled all the same' here portable/compile.sh checktestdata out/checktestdata
+    expect 'and runs' same 'compiled a b' "$(here ./checktestdata a b)"
+    expect 'ctd-lint is not of that source' same 'compiled a' "$(here ./ctd-lint a | tail -n 1)"
 fi
+
+# The archives that documents name are those that make dist makes.
+# shellcheck disable=SC2016
+systems=$(sed -n 's/^\t@packaging\/dist\.sh \$(version) //p' Makefile)
+expect 'the archives in docs/BUILDING.md' same "$(for system in $systems; do echo "checktestdata-$version-$system"; done | LC_ALL=C sort)" \
+    "$(grep -o "checktestdata-$version-[a-z0-9_-]*" docs/BUILDING.md | LC_ALL=C sort -u)"
+expect 'the archive in docs/INTEGRATION.md' same "checktestdata-$version-x86_64-linux" "$(grep -oE 'checktestdata-[0-9.]+-[a-z0-9_-]+' docs/INTEGRATION.md | sort -u)"
 
 # Each crate of the toolchain that crates.txt names is in NOTICE.
 ours=$(sed 's/:.*//' crates.txt)
@@ -200,7 +226,7 @@ done
 expect 'the version of the grammar for VS Code' grep -q "\"version\": \"$version.0\"" editors/vscode/package.json
 
 if has shellcheck 'the form of the scripts'; then
-    expect 'shellcheck' shellcheck -x checktestdata .ci/run scripts/*.sh packaging/*.sh tests/*.sh embed/*.sh web/*.sh portable/*.sh
+    expect 'shellcheck' shellcheck -x checktestdata ctd-lint .ci/run scripts/*.sh packaging/*.sh tests/*.sh embed/*.sh web/*.sh portable/*.sh
     expect 'shellcheck of the completions' shellcheck --shell=bash completions/bash/*
 fi
 

@@ -1,6 +1,6 @@
 #!/usr/bin/env python3
-"""Sees that the packed C file of the checker is what these sources give: its sums are theirs, and made again it is the same, byte for byte. And
-compiles it, and runs the program on the rows of tests/tables/. The last line counts what passed and failed."""
+"""Sees that the packed C file is what these sources give: its sums are theirs, and made again it is the same, byte for byte. And compiles both
+programs of it, and runs the checker on the rows of tests/tables/ and ctd-lint in tests/lint.py. The last line counts what passed and failed."""
 from __future__ import annotations
 
 import difflib
@@ -39,10 +39,16 @@ def faults_of_bytes(packed: bytes, folder: Path) -> list[str]:
         print(f"portable: left out whether the file is the same when it is made again: it was made with another toolchain than {kit}")
         return []
     made = folder / "again.c"
-    ran = subprocess.run([PORTABLE / "build.sh", "checktestdata", made], cwd=TOP, check=False)
+    ran = subprocess.run([PORTABLE / "whole.sh", made], cwd=TOP, check=False)
     if ran.returncode:
-        return [f"build.sh ended with status {ran.returncode}"]
+        return [f"whole.sh ended with status {ran.returncode}"]
     return [] if made.read_bytes() == packed else [f"it is another file: {MEND}"]
+
+
+def faults_of(*words: str | Path) -> list[str]:
+    """Whether a command ends with another status than 0."""
+    ran = subprocess.run(words, stdout=sys.stderr, check=False)
+    return [f"it ended with status {ran.returncode}"] if ran.returncode else []
 
 
 def results(folder: Path) -> Iterator[tuple[str, Sequence[str]]]:
@@ -53,11 +59,13 @@ def results(folder: Path) -> Iterator[tuple[str, Sequence[str]]]:
     yield "the sources of the packed file", faults_of_sums()
     with ThreadPoolExecutor() as pool:
         again = pool.submit(faults_of_bytes, packed, folder)
-        program = folder / "checktestdata"
-        ran = subprocess.run([PORTABLE / "compile.sh", PACKED, program, "-Werror"], check=False)
-        yield "the compiler", [f"it ended with status {ran.returncode}"] if ran.returncode else []
-        if ran.returncode == 0:
-            yield from all_results(program, TABLES)
+        checker, linter = folder / "checktestdata", folder / "ctd-lint"
+        for program in checker, linter:
+            yield f"compiling {program.name}", faults_of(PORTABLE / "compile.sh", program.name, program, "-Werror")
+        if checker.exists():
+            yield from all_results(checker, TABLES)
+        if linter.exists():
+            yield "tests/lint.py", faults_of(TOP / "tests/lint.py", linter)
         yield "the packed file, made again", again.result()
 
 

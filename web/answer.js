@@ -45,7 +45,6 @@ export class Answer {
 
   checking() {
     this.#clear("checking", "Checking…");
-    this.reveal();
   }
 
   stopped() {
@@ -65,7 +64,6 @@ export class Answer {
     part("cost").textContent = `status ${status}, ${milliseconds.toFixed(1)} ms, ${Math.round(memory / 2 ** 20)} MiB of memory`;
     if (isStale) this.outdate();
     else this.#showPlaces(placesIn(message), around);
-    this.reveal();
   }
 
   // Says of a verdict that it is one on other texts or options.

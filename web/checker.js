@@ -5,10 +5,14 @@ import { findingsIn } from "./message.js";
 // ctd-lint the first count.
 const TEXT_SIZE = 1 << 16;
 
-// One instance of a module. Its memory only grows, so each run takes a new one.
+// An address of the modules has 32 bits.
+const MEMORY = 2 ** 32;
+
+// One instance of a module, which is the library of embed/checktestdata.h. Its memory only grows, so each run takes a new one.
 class Instance {
   static async start(module) {
     const { exports } = await WebAssembly.instantiate(module, {});
+    exports._initialize();
     return new this(exports);
   }
 
@@ -18,14 +22,14 @@ class Instance {
 
   // Reserves some bytes of the module's memory.
   reserve(size) {
-    const start = this.exports.ctd_room(BigInt(size || 1));
-    if (start === 0n) throw new Error(`there is no memory for ${size} bytes`);
+    const start = size < MEMORY ? this.exports.malloc(size || 1) >>> 0 : 0;
+    if (start === 0) throw new Error(`there is no memory for ${size} bytes`);
     return { start, size };
   }
 
   // The bytes at a place in the memory. The view is valid until the memory grows.
   bytesAt(start, size) {
-    return new Uint8Array(this.exports.memory.buffer, Number(start), Number(size));
+    return new Uint8Array(this.exports.memory.buffer, start, size);
   }
 
   // Copies bytes into the memory.
@@ -35,14 +39,14 @@ class Instance {
     return place;
   }
 
-  // Runs an exported function on the words of a command line and on bytes in the memory: the status and both texts.
-  call(name, words, ...inputs) {
+  // Runs the program of the module on the words of a command line and on bytes in the memory: the status and both texts.
+  call(words, program, testdata) {
     const texts = [TEXT_SIZE, TEXT_SIZE].map((size) => this.reserve(size));
-    const lengths = this.reserve(16);
-    const places = [this.copy(new TextEncoder().encode(words.join("\0"))), ...inputs, ...texts];
-    const status = this.exports[name](...places.flatMap(({ start, size }) => [start, BigInt(size)]), lengths.start);
-    const sizes = new BigUint64Array(this.bytesAt(lengths.start, 16).slice().buffer);
-    const [out, err] = texts.map(({ start, size }, i) => this.#text(start, Math.min(Number(sizes[i]), size)));
+    const lengths = this.reserve(8);
+    const places = [this.copy(new TextEncoder().encode(words.join("\0"))), program, testdata, ...texts];
+    const status = this.exports.checktestdata_run(...places.flatMap(({ start, size }) => [start, size]), lengths.start);
+    const sizes = new Uint32Array(this.bytesAt(lengths.start, 8).slice().buffer);
+    const [out, err] = texts.map(({ start, size }, i) => this.#text(start, Math.min(sizes[i], size)));
     return { status, out, err };
   }
 
@@ -55,7 +59,7 @@ export class Checker extends Instance {
   // Checks data against a program, both in the memory. `options` are words of the command line, such as ["-w", "-D", "n=5"].
   run(options, program, testdata) {
     const began = performance.now();
-    const answer = this.call("checktestdata_run", ["checktestdata", ...options, "--", "program", "testdata"], program, testdata);
+    const answer = this.call(["checktestdata", ...options, "--", "program", "testdata"], program, testdata);
     return { ...answer, milliseconds: performance.now() - began };
   }
 }
@@ -63,7 +67,7 @@ export class Checker extends Instance {
 export class Linter extends Instance {
   // What ctd-lint says of a program in the memory.
   findings(options, program) {
-    const { out, err } = this.call("ctd_run", ["ctd-lint", ...options, "--", "program"], program);
+    const { out, err } = this.call(["ctd-lint", ...options, "--", "program"], program, this.reserve(0));
     return findingsIn(err + out);
   }
 }

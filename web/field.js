@@ -1,4 +1,5 @@
 // One of the two texts of the page: an editor, and a file that stands in its place where the editor cannot hold it.
+import CodeMirror from "./editor.js";
 import { END, LINE_FEED, columnIn } from "./message.js";
 
 // Files with more bytes are checked but not shown.

@@ -1,4 +1,5 @@
 // What can be said of the program without data, under its editor and in it, a moment after each change.
+import { startWorker } from "./program.js";
 
 const PAUSE = 300; // milliseconds
 const MOST = 50;
@@ -35,7 +36,7 @@ export class Findings {
   }
 
   async #ask() {
-    this.worker ??= new Worker(new URL("worker.js", import.meta.url), { type: "module" });
+    this.worker ??= startWorker();
     const brokeOff = (reason) => [{ place: null, rank: "error", text: `ctd-lint broke off: ${reason}` }];
     try {
       const job = await this.job();

@@ -1,4 +1,6 @@
 // The highlighting of programs: a mode of CodeMirror that is made of the grammar for VS Code.
+import grammar from "made/grammar.json";
+import CodeMirror from "./editor.js";
 
 // The class of CodeMirror for the first words of a name in the grammar. A name without one has no colour.
 const CLASSES = {
@@ -38,9 +40,4 @@ function statesOf(patterns) {
   return states;
 }
 
-// Defines the mode `checktestdata` from the text of the grammar.
-export async function defineMode() {
-  const response = await fetch(new URL("checktestdata.tmLanguage.json", import.meta.url));
-  const { patterns } = await response.json();
-  CodeMirror.defineSimpleMode("checktestdata", statesOf(patterns));
-}
+CodeMirror.defineSimpleMode("checktestdata", statesOf(grammar.patterns));

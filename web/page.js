@@ -2,24 +2,20 @@
 import { Answer } from "./answer.js";
 import { Field } from "./field.js";
 import { Findings } from "./findings.js";
-import { defineMode } from "./mode.js";
+import { modules, startWorker } from "./program.js";
+import "./mode.js";
+import examples from "made/examples.json";
 
 const part = (id) => document.getElementById(id);
-const WORKER = new URL("worker.js", import.meta.url);
-
-async function compile(name) {
-  const response = await fetch(new URL(name, import.meta.url));
-  return WebAssembly.compile(await response.arrayBuffer());
-}
-
-const [checker, linter] = ["checktestdata.wasm", "ctd-lint.wasm"].map(compile);
+// What the page begins with, unless a link has a program.
+const FIRST_EXAMPLE = "graph: loop.in, does not fit";
 
 // The check that runs: its worker, and whether a text or an option changed since it began. Null where none runs.
 let running = null;
 
 const program = new Field(
   "program",
-  { options: { screenReaderLabel: "Program", lineWrapping: true, matchBrackets: true, indentUnit: 4 } },
+  { options: { mode: "checktestdata", screenReaderLabel: "Program", lineWrapping: true, matchBrackets: true, indentUnit: 4 } },
   () => {
     changed();
     findings.later();
@@ -36,7 +32,7 @@ const data = new Field(
 );
 const answer = new Answer({ data, program });
 const findings = new Findings(program, part("findings"), async () => ({
-  module: await linter,
+  module: await modules.linter,
   options: presetOption(),
   program: program.blob(),
 }));
@@ -64,22 +60,29 @@ function end() {
   part("stop").ariaDisabled = "true";
 }
 
-// Begins a check, in place of one that runs.
-async function check() {
+// Begins a check, in place of one that runs. `reveal` brings its answer in sight.
+async function check(reveal) {
   end();
   part("stop").ariaDisabled = "false";
   answer.checking();
-  const run = { worker: new Worker(WORKER, { type: "module" }), isStale: false };
+  reveal();
+  const run = { worker: startWorker(), isStale: false };
   running = run;
   const finish = ({ error, ...shown }) => {
     end();
     if (error) answer.brokeOff(error);
     else answer.show(shown, run.isStale);
+    reveal();
   };
   run.worker.onmessage = (event) => finish(event.data);
   run.worker.onerror = (event) => finish({ error: event.message });
   const job = { job: "check", options: options(), program: program.blob(), data: data.blob() };
-  run.worker.postMessage({ ...job, module: await checker });
+  run.worker.postMessage({ ...job, module: await modules.checker });
+}
+
+// Begins a check that the user asks for.
+function checkNow() {
+  check(() => answer.reveal());
 }
 
 // A link holds the program and the options behind its #, which a browser does not send anywhere.
@@ -90,13 +93,15 @@ function link() {
   return new URL(`#${parts}`, location.href).href;
 }
 
+// Opens what a link holds, and says whether it holds a program.
 function openLink() {
   const parts = new URLSearchParams(location.hash.slice(1));
-  if (!parts.has("program")) return;
+  if (!parts.has("program")) return false;
   program.set(parts.get("program"));
   for (const id of ["presets", "steps"]) part(id).value = parts.get(id) ?? "";
   part("whitespace").checked = parts.has("whitespace");
   changed();
+  return true;
 }
 
 async function copyLink() {
@@ -110,25 +115,25 @@ async function copyLink() {
 }
 
 // Lists the examples: a group for each program, with its data.
-async function listExamples() {
-  const groups = await fetch(new URL("examples.json", import.meta.url)).then((response) => response.json());
-  const all = new Map();
-  for (const { title, program, data } of groups) {
+function listExamples() {
+  for (const { title, data } of examples) {
     const group = document.createElement("optgroup");
     group.label = title;
-    for (const { name, text } of data) {
-      group.append(new Option(name, name));
-      all.set(name, { name, program, data: text });
-    }
+    group.append(...data.map(({ name }) => new Option(name, name)));
     part("examples").append(group);
   }
-  part("examples").onchange = () => {
-    const example = all.get(part("examples").value);
-    if (!example) return;
-    program.set(example.program);
-    data.set(example.data);
-    part("examples").value = example.name;
-  };
+  part("examples").onchange = () => showExample(part("examples").value);
+}
+
+function showExample(name) {
+  for (const example of examples) {
+    for (const { name: found, text } of example.data) {
+      if (found !== name) continue;
+      program.set(example.program);
+      data.set(text);
+      part("examples").value = name;
+    }
+  }
 }
 
 // A file that is dropped beside the editors does not leave the page.
@@ -137,7 +142,7 @@ function keepPage(event) {
 }
 
 function listen() {
-  part("check").onclick = check;
+  part("check").onclick = checkNow;
   part("stop").onclick = () => {
     if (!running) return;
     end();
@@ -147,7 +152,7 @@ function listen() {
   for (const id of ["whitespace", "presets", "steps"]) part(id).oninput = changed;
   part("presets").addEventListener("input", () => findings.later());
   document.addEventListener("keydown", (event) => {
-    if (event.key === "Enter" && (event.ctrlKey || event.metaKey) && !part("check").disabled) check();
+    if (event.key === "Enter" && (event.ctrlKey || event.metaKey) && !part("check").disabled) checkNow();
   });
   for (const kind of ["dragover", "drop"]) document.addEventListener(kind, keepPage);
   window.onhashchange = openLink;
@@ -156,11 +161,11 @@ function listen() {
 async function start() {
   data.editor.getInputField().setAttribute("aria-describedby", "data-hint");
   listen();
-  openLink();
   listExamples();
-  defineMode().then(() => program.editor.setOption("mode", "checktestdata"));
+  const isLink = openLink();
+  if (!isLink) showExample(FIRST_EXAMPLE);
   try {
-    await Promise.all([checker, linter]);
+    await Promise.all(Object.values(modules));
   } catch (error) {
     answer.cannotRun(error.message);
     return;
@@ -168,6 +173,7 @@ async function start() {
   part("check").disabled = false;
   answer.ready();
   findings.later();
+  if (!isLink) check(() => {});
 }
 
 start();

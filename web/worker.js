@@ -10,7 +10,7 @@ async function load(instance, data) {
   for (;;) {
     const { done, value } = await reader.read();
     if (done) return place;
-    instance.bytesAt(place.start + BigInt(offset), value.length).set(value);
+    instance.bytesAt(place.start + offset, value.length).set(value);
     offset += value.length;
   }
 }

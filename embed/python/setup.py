@@ -12,8 +12,9 @@ PORTABLE = Path(__file__).resolve().parent.parent.parent / "portable"
 class BuildWithLibrary(build_py):
     def run(self) -> None:
         super().run()
-        if subprocess.run([PORTABLE / "is_current.sh"], check=False).returncode:
-            sys.exit("portable/checktestdata.c.xz was made of other sources than those that stand here: make portable renews it")
+        obstacle = subprocess.run([PORTABLE / "obstacle.sh", "checktestdata"], stdout=subprocess.PIPE, text=True, check=True).stdout
+        if obstacle:
+            sys.exit(obstacle.rstrip())
         subprocess.run([PORTABLE / "library.sh", self.build_lib], check=True)
         for name in "libchecktestdata.a", "libchecktestdata.so":
             (Path(self.build_lib) / name).unlink()

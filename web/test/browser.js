@@ -1,4 +1,4 @@
-// A headless Chromium that is asked over a pipe, and a server for the page. No package is needed.
+// A headless Chromium that is asked over a pipe, what all browsers have, and a server for the page. No package is needed.
 import { spawn } from "node:child_process";
 import fs from "node:fs";
 import http from "node:http";
@@ -7,12 +7,12 @@ import path from "node:path";
 
 const TYPES = { ".html": "text/html", ".css": "text/css", ".js": "text/javascript", ".json": "application/json", ".wasm": "application/wasm" };
 
-// Serves the files of a folder to this machine, and gives the address.
-export function serve(folder) {
+// Serves the files of some folders to this machine, and gives the address. Of two files with one name that of the first folder counts.
+export function serve(...folders) {
   const server = http.createServer((request, response) => {
     const name = path.normalize(new URL(request.url, "http://localhost").pathname);
-    const file = path.join(folder, name === "/" ? "index.html" : name);
-    if (!fs.existsSync(file)) return response.writeHead(404).end();
+    const file = folders.map((folder) => path.join(folder, name === "/" ? "index.html" : name)).find((it) => fs.existsSync(it));
+    if (!file) return response.writeHead(404).end();
     response.writeHead(200, { "content-type": TYPES[path.extname(file)] ?? "text/plain" }).end(fs.readFileSync(file));
   });
   return new Promise((done) =>
@@ -20,18 +20,30 @@ export function serve(folder) {
   );
 }
 
-// One tab of a new browser. $CHROMIUM is the program.
-export class Tab {
-  static async open(url) {
+// A tab of a browser, which can `evaluate`.
+export class AnyTab {
+  // Waits until an expression is true in the page.
+  async wait(expression) {
+    for (let turn = 0; turn < 2400; turn++) {
+      if (await this.evaluate(`Boolean(${expression})`)) return;
+      await new Promise((done) => setTimeout(done, 50));
+    }
+    throw new Error(`waited too long for ${expression}`);
+  }
+}
+
+// One tab of a new Chromium. $CHROMIUM is the program.
+export class Tab extends AnyTab {
+  static async open() {
     const tab = new Tab();
     const { targetId } = await tab.#send("Target.createTarget", { url: "about:blank" });
     tab.session = (await tab.#send("Target.attachToTarget", { targetId, flatten: true })).sessionId;
     for (const domain of ["Page", "Runtime", "Log"]) await tab.ask(`${domain}.enable`);
-    await tab.ask("Page.navigate", { url });
     return tab;
   }
 
   constructor() {
+    super();
     this.home = fs.mkdtempSync(path.join(os.tmpdir(), "chromium-"));
     this.waiting = new Map();
     this.count = 0;
@@ -39,6 +51,7 @@ export class Tab {
     this.errors = [];
     const words = ["--headless=new", "--no-sandbox", "--disable-gpu", "--remote-debugging-pipe", `--user-data-dir=${this.home}`];
     this.child = spawn(process.env.CHROMIUM ?? "chromium", words, { stdio: ["ignore", "ignore", "ignore", "pipe", "pipe"] });
+    process.on("exit", () => this.child.kill());
     this.child.on("error", (error) => {
       console.error(`no browser: ${error.message}`);
       process.exit(1);
@@ -80,13 +93,8 @@ export class Tab {
     return result.value;
   }
 
-  // Waits until an expression is true in the page.
-  async wait(expression) {
-    for (let turn = 0; turn < 2400; turn++) {
-      if (await this.evaluate(`Boolean(${expression})`)) return;
-      await new Promise((done) => setTimeout(done, 50));
-    }
-    throw new Error(`waited too long for ${expression}`);
+  go(url) {
+    return this.ask("Page.navigate", { url });
   }
 
   // Types a key, with Shift (8), Ctrl (2) or none held.

@@ -4,10 +4,16 @@ import fs from "node:fs";
 import path from "node:path";
 import { expect, out, web } from "./tests.js";
 
+// The page begins with an example and its verdict.
+export async function testStart(page) {
+  expect("the first example", await page.evaluate("examples.value"), "graph: loop.in, does not fit");
+  const message = fs.readFileSync(path.join(web, "..", "examples", "graph", "loop.txt"), "utf8");
+  expect("its verdict", await page.answer(), ["rejected", "✗ The data do not fit", message]);
+}
+
 export async function testExamples(page) {
-  const groups = JSON.parse(fs.readFileSync(path.join(out, "examples.json"), "utf8"));
+  const groups = JSON.parse(execFileSync("python3", [path.join(web, "examples.py"), path.join(web, "..", "examples")]).toString());
   const folders = fs.readdirSync(path.join(web, "..", "examples"), { withFileTypes: true }).filter((it) => it.isDirectory());
-  await page.tab.wait(`document.querySelectorAll("#examples option").length > 1`);
   const labels = await page.evaluate(`[...document.querySelectorAll("#examples optgroup")].map((it) => it.label.split(":")[0])`);
   expect("a group for each example", [...labels].sort(), folders.map((it) => it.name).sort());
   expect("the first groups", labels.slice(0, 5), ["numbers", "list", "graph", "grids", "names"]);
@@ -37,7 +43,7 @@ export async function testDocuments(page) {
   }
   const foreign = await page.evaluate(`performance.getEntriesByType("resource").map(({ name }) => name).filter((name) => !name.startsWith(location.origin) && !name.startsWith("data:"))`);
   expect("what comes from elsewhere", foreign, []);
-  await page.tab.ask("Page.navigate", { url: `${page.address}/docs/TUTORIAL.html` });
+  await page.tab.go(`${page.address}/docs/TUTORIAL.html`);
   await page.tab.wait(`document.querySelector(".opener a")`);
   const program = await page.evaluate(`document.querySelector(".language-ctd").textContent`);
   await page.evaluate(`document.querySelector(".opener a").click()`);
@@ -45,25 +51,18 @@ export async function testDocuments(page) {
   expect("a program of the tutorial opens in the page", await page.text("program"), program.trimEnd());
 }
 
-// Runs rows in the page, without the worker, since each is short.
-const RUN_ROWS = `async (rows) => {
-  const { Checker } = await import("/checker.js");
-  window.compiled ??= await WebAssembly.compile(await (await fetch("/checktestdata.wasm")).arrayBuffer());
-  const bytes = (text) => Uint8Array.from(text, (it) => it.charCodeAt(0));
-  const answers = [];
-  for (const [options, program, data] of rows) {
-    const checker = await Checker.start(window.compiled);
-    const { status, out, err } = checker.run(options, checker.copy(bytes(program)), checker.copy(bytes(data)));
-    answers.push([status, out, err]);
-  }
-  return answers;
-}`;
-
+// Without the worker, since each row is short.
 export async function testTables(page) {
-  const rows = JSON.parse(execFileSync("python3", [path.join(web, "test", "rows.py")], { maxBuffer: 1 << 28 }).toString());
+  const text = execFileSync("python3", [path.join(web, "test", "rows.py")], { maxBuffer: 1 << 28 });
+  const file = path.join(out, "rows.json");
+  fs.writeFileSync(file, text);
+  await page.evaluate(`document.head.append(Object.assign(document.createElement("script"), { type: "module", src: "/test/run_rows.js" }))`);
+  await page.tab.wait(`document.documentElement.dataset.rows === "ready"`);
+  fs.rmSync(file);
+  const rows = JSON.parse(text.toString());
   for (let from = 0; from < rows.length; from += 100) {
     const part = rows.slice(from, from + 100);
-    const answers = await page.evaluate(`(${RUN_ROWS})(${JSON.stringify(part.map(({ row }) => row))})`);
+    const answers = await page.evaluate(`runRows(${from}, ${from + 100})`);
     part.forEach(({ name, wanted, stops }, i) => {
       if (stops) expect(name, /step limit reached/.test(answers[i][2]), true);
       else expect(name, answers[i], wanted);

@@ -91,6 +91,8 @@ export async function testFindings(page) {
 
 export async function testKeyboard(page) {
   const { tab } = page;
+  await page.set("program", "");
+  await page.set("data", "");
   const focused = () => tab.evaluate(`document.activeElement.closest(".CodeMirror")?.closest("section").id ?? document.activeElement.id`);
   await page.evaluate(`${page.editor("program")}.focus()`);
   await tab.type("INT(1,5)");

@@ -59,6 +59,7 @@ export async function testFiles(page) {
 
 export async function testPaste(page) {
   await page.set("program", "INT(1,9) NEWLINE INT(1,9) NEWLINE");
+  await page.set("data", "");
   await page.paste("data", "5\r\n6\r\n");
   expect("pasted text gets line feeds", await page.text("data"), "5\n6\n");
   expect("and is checked so", await page.check(), "testdata ok!\n");

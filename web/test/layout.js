@@ -25,6 +25,8 @@ export async function testLayout(page) {
     await tab.ask("Emulation.setDeviceMetricsOverride", { width, height, deviceScaleFactor: 1, mobile: width < 600 });
     await tab.ask("Emulation.setEmulatedMedia", { features: [{ name: "prefers-color-scheme", value: scheme }] });
     await page.open();
+    expect(`${name}: the page begins at its top`, await tab.evaluate("scrollY"), 0);
+    await tab.screenshot(path.join(out, `${name}-start.png`));
     await page.set("program", PROGRAM);
     await page.set("data", DATA);
     expect(`${name}: Check is in sight`, await page.isInSight("check"), true);

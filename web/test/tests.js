@@ -3,6 +3,7 @@ import path from "node:path";
 
 export const web = path.join(path.dirname(new URL(import.meta.url).pathname), "..");
 export const out = path.join(web, "out");
+export const modules = path.join(web, "..", "out", "wasm");
 export const counts = { passed: 0, failed: 0 };
 
 export function expect(name, actual, wanted) {
@@ -21,11 +22,11 @@ export class Page {
     this.address = address;
   }
 
-  // Opens an address below that of the page, and waits for the checker.
+  // Opens an address below that of the page, and waits for the checker, and for the check with which the page begins.
   async open(rest = "index.html") {
-    await this.tab.ask("Page.navigate", { url: "about:blank" });
-    await this.tab.ask("Page.navigate", { url: `${this.address}/${rest}` });
-    await this.tab.wait(`document.getElementById("check") && !document.getElementById("check").disabled`);
+    await this.tab.go("about:blank");
+    await this.tab.go(`${this.address}/${rest}`);
+    await this.tab.wait(`document.getElementById("check") && !check.disabled && result.dataset.state !== "checking"`);
   }
 
   evaluate(expression) {
@@ -38,10 +39,9 @@ export class Page {
 
   // Sets the text of an editor, or the value of another field.
   async set(id, text) {
-    const field = `document.getElementById(${JSON.stringify(id)})`;
-    const value = JSON.stringify(text);
+    const [field, value] = [`document.getElementById(${JSON.stringify(id)})`, JSON.stringify(text)];
     if (id === "program" || id === "data") await this.evaluate(`${this.editor(id)}.setValue(${value})`);
-    else await this.evaluate(`${field}.value = ${value}; ${field}.dispatchEvent(new Event("input")); ${field}.dispatchEvent(new Event("change"))`);
+    else await this.evaluate(`${field}.value = ${value}, ["input", "change"].forEach((kind) => ${field}.dispatchEvent(new Event(kind)))`);
   }
 
   text(id) {
