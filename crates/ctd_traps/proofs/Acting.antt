@@ -18,9 +18,8 @@ use Rattle.ctd_value.specs.Fault.{◌>>=◌}
 use Rattle.ctd_outcome.specs.declared.reason.Fault.TheVariants as faults
 use Rattle.ctd_value.specs.Val.{in_count, key, number_of, text_of, val, vals}
 use Rattle.ctd_value.specs.Truth.{truth}
-use Rattle.ctd_outcome.specs.declared.reason.Reason.TheVariants.{AssertFailed}
-use Rattle.ctd_command.specs.State.{State, Effect, done, rejected, faulty, Act, evaluate, proceed, lift, return, reject}
-use Rattle.ctd_command.specs.Commands.{answer, assert, assign_key, give_value, int, integer, keep, match_bytes, set, set_to, string, unset_all}
+use Rattle.ctd_command.specs.State.{State, Effect, done, rejected, faulty, Act, evaluate, proceed, lift}
+use Rattle.ctd_command.specs.Commands.{answer, assign_key, give_value, int, integer, keep, match_bytes, set, set_to, string, unset_all}
 use Rattle.ctd_command.specs.Regex.{leading_match, regex}
 use Rattle.ctd_range.specs.declared.range.Range.{Range}
 use Rattle.ctd_range.specs.calls.Ranges.{IsIn}
@@ -36,7 +35,7 @@ use Rattle.ctd_traps.proofs.Applying.{AreFaults}
 use Rattle.ctd_traps.specs.declared.turn.Turns.{Turns}
 use Rattle.ctd_traps.specs.inner.Divides.{Divides, DividesTo}
 use Rattle.ctd_traps.specs.inner.Walk.{IsCounted, Acts, Assigns, ByTurn, ClearsAll, Fits, IsAssigned, KeepsValue, Stays, StaysIn}
-use Rattle.ctd_traps.proofs.Fits.{Between, Same, Short, integer_fits, leading_fits, match_fits, then_fits}
+use Rattle.ctd_traps.proofs.Fits.{evaluation_fits, Between, Same, Short, integer_fits, leading_fits, match_fits, then_fits}
 
 -- what is known stays so where the variables are as they were
 pub stays_same : (pins : Variables) (known : List Known) (n : ℕ) (s t : State) → t.store ≡ s.store → Stays pins known n s → Stays pins known n t
@@ -122,10 +121,25 @@ pub same_acts : (pinned known : List Known) (f : Faults) (m : Act ⊤) → ((d :
 same_acts pinned known f m fits pins d n s stand stays = same_stays f pins known n s (m d s) stays (fits d s)
 
 -- STRING
-pub string_acts : (pinned known : List Known) (e : ExprTree) (a : Found) (f : Faults) → Gives known e a → ((k : ℕ) (r : Result Value Fault) → IsFound a k r → FailsBy f (as_text r)) → Acts pinned known known f (string e)
-string_acts pinned known e a f gives fails pins d n s stand stays =
-    then_fits f (λ _ t. t ≡ s) (λ _ t. Stays pins known n t) (evaluate (text_of e) d s) (λ bytes t. match_bytes bytes d t) (text_fits f s (as_text (val e s.store)) (fails n (val e s.store) (gives n s.store stays.1)))
-    (λ bytes t at. subst (λ (w : State). Fits f (λ _ t. Stays pins known n t) (match_bytes bytes d w)) (sym at) (same_stays f pins known n s (match_bytes bytes d s) stays (match_fits f bytes d s)))
+text_at : (a : Found) (k : ℕ) (r : Result Value Fault) (bytes : List ℕ) → IsFound a k r → as_text r ≡ Ok bytes → MayBe a.kinds k (values.Text bytes)
+text_at a k (Ok (values.Text bs)) bytes found is = let same : bs ≡ bytes = cc is in subst (λ l. MayBe a.kinds k (values.Text l)) same found
+text_at a k (Ok (values.Int x)) bytes found is = absurd (cc is)
+text_at a k (Err why) bytes found is = absurd (cc is)
+
+pub string_acts : (pinned known after : List Known) (e : ExprTree) (a : Found) (f : Faults) → Gives known e a → ((k : ℕ) (r : Result Value Fault) → IsFound a k r → FailsBy f (as_text r)) → ((k : ℕ) (bytes : List ℕ) → MayBe a.kinds k (values.Text bytes) → after ≡ known) → Acts pinned known after f (string e)
+string_acts pinned known after e a f gives fails same pins d n s stand stays =
+    let r : Result Value Fault = val e s.store in
+    let found : IsFound a n r = gives n s.store stays.1 in
+    then_fits f (λ bytes t. (as_text r ≡ Ok bytes) × (t ≡ s)) (λ _ t. Stays pins after n t) (evaluate (text_of e) d s) (λ bytes t. match_bytes bytes d t) (evaluation_fits f (as_text r) s (fails n r found))
+    (λ bytes t at. subst (λ (w : State). Fits f (λ _ t. Stays pins after n t) (match_bytes bytes d w)) (sym at.1)
+    (same_stays f pins after n s (match_bytes bytes d s) (stays.0, subst (λ l. EachStands l n s.store) (sym (same n bytes (text_at a n r bytes found at.0))) stays.1) (match_fits f bytes d s)))
+
+-- where there is no value to assign, all is so
+pub assigns_some : (pinned known left after : List Known) (target : VarTree) (kinds : Kinds) (f : Faults) → ((k : ℕ) (v : Value) → MayBe kinds k v → left ≡ known) → Assigns pinned left target kinds after f → Assigns pinned known target kinds after f
+assigns_some pinned known left after target kinds f same assigns pins n h v stand is each may = assigns pins n h v stand is (subst (λ l. EachStands l n h) (sym (same n v may)) each) may
+
+pub keeps_nothing : (pinned known left : List Known) (kinds : Kinds) (f : Faults) → ((k : ℕ) (v : Value) → MayBe kinds k v → left ≡ known) → KeepsValue pinned known None kinds left f
+keeps_nothing pinned known left kinds f same pins d n s v stand stays may = subst (λ l. Fits f (λ _ t. Stays pins l n t) (keep None v d s)) (sym (same n v may)) (keeps_none pinned known kinds f pins d n s v stand stays may)
 
 -- REGEX
 pub regex_acts : (pinned known after : List Known) (literal : List ℕ) (target : Option VarTree) (kinds : Kinds) (f : Faults) → ((k : ℕ) (bytes : List ℕ) → length bytes ≤ WINDOW → MayBe kinds k (values.Text bytes)) → KeepsValue pinned known target kinds after f → Acts pinned known after f (regex literal target)
@@ -141,16 +155,6 @@ answer_fits_in pins on_true others f n s (Err why) pinned among = among
 
 pub answer_fits : (pins : Variables) (cases on_true others : List (List Known)) (f : Faults) (t : TestTree) (d : TestData) (n : ℕ) (s : State) → Divides cases t on_true others f → StaysIn pins cases n s → Fits f (λ b u. ByTurn (StaysIn pins on_true n) (StaysIn pins others n) b u) (answer t d s)
 answer_fits pins cases on_true others f t d n s divides stays = answer_fits_in pins on_true others f n s (truth t s.store d s.offset) stays.0 (divides n s.store d s.offset stays.1)
-
--- ASSERT
-assert_then : (pins : Variables) (on_true others : List (List Known)) (f : Faults) (n : ℕ) (d : TestData) (b : Bool) (t : State) → ByTurn (StaysIn pins on_true n) (StaysIn pins others n) b t → Fits {A = ⊤} f (λ _ u. StaysIn pins on_true n u) ((if b then return {A = ⊤} tt else reject AssertFailed) d t)
-assert_then pins on_true others f n d true t stays = stays
-assert_then pins on_true others f n d false t stays = tt
-
-pub assert_fits : (pins : Variables) (cases on_true others : List (List Known)) (f : Faults) (t : TestTree) → Divides cases t on_true others f → (d : TestData) (n : ℕ) (s : State) → StaysIn pins cases n s → Fits f (λ _ u. StaysIn pins on_true n u) (assert t d s)
-assert_fits pins cases on_true others f t divides d n s stays =
-    then_fits f (λ b u. ByTurn (StaysIn pins on_true n) (StaysIn pins others n) b u) (λ _ u. StaysIn pins on_true n u) (answer t d s) (λ b u. (if b then return {A = ⊤} tt else reject AssertFailed) d u)
-    (answer_fits pins cases on_true others f t d n s divides stays) (λ b u here. assert_then pins on_true others f n d b u here)
 
 -- SET
 pub one_acts : (pinned known after : List Known) (target : VarTree) (e : ExprTree) (g : Found) (own f : Faults) → Gives known e g → Assigns pinned known target g.kinds after own → AreFaults g.faults f → AreFaults own f → Acts pinned known after f (give_value (target, e))

@@ -96,6 +96,15 @@ nothing_cuts known e by kinds k h v w each is may compare = each
 pub both_cut : (known first after : List Known) (by other_by : Compare) (a b : ExprTree) (one other : Kinds) → Cuts known a by other first → Cuts first b other_by one after → ((v w : Value) → MayCompare by v w → MayCompare other_by w v) → CutsBoth known by a b one other after
 both_cut known first after by other_by a b one other cuts cuts_more turn k h v w each is_v is_w may_v may_w compare = cuts_more k h w v (cuts k h v w each is_v may_w compare) is_w may_v (turn v w compare)
 
+-- values of no kind
+pub no_value : (kinds : Kinds) (k : ℕ) (v : Value) → kinds.text ≡ None → ((r : Range) → kinds.number ≡ Some r → (n : ℕ) (x : ℤ) → IsIn r n x → ⊥) → MayBe kinds k v → ⊥
+no_value kinds k (values.Int x) none empty may = empty may.0 may.1 k x may.2
+no_value kinds k (values.Text bytes) none empty may = absurd (cc (none, may.1))
+
+-- where no two values compare so, all is so
+pub possible_cut : (known left after : List Known) (by : Compare) (a b : ExprTree) (one other kinds : Kinds) → ((k : ℕ) (v w : Value) → MayBe one k v → MayBe other k w → MayCompare by v w → MayBe kinds k v) → ((k : ℕ) (v : Value) → MayBe kinds k v → left ≡ known) → CutsBoth left by a b one other after → CutsBoth known by a b one other after
+possible_cut known left after by a b one other kinds possible same cuts k h v w each is_v is_w may_v may_w compare = cuts k h v w (subst (λ l. EachStands l k h) (sym (same k v (possible k v w may_v may_w compare))) each) is_v is_w may_v may_w compare
+
 -- a comparison
 decided : (if_true if_false : List Known) (f : Faults) (by other : Compare) (k : ℕ) (h : Bindings) (x y : ℤ) (b : Bool) → b ≡ holds_by by (int_cmp x y) → ((o : Ordering) → holds_by by o ≡ false → holds_by other o ≡ true)
     → (Relates by x y → EachStands if_true k h) → (Relates other x y → EachStands if_false k h) → Decides if_true if_false f k h (Ok b)

@@ -11,15 +11,12 @@ use Rattle.ctd_store.specs.declared.value.Value.TheVariants as values
 use Rattle.ctd_store.specs.Store.{Bindings, Variables, value_at}
 use Rattle.ctd_outcome.specs.declared.reason.Fault.{Fault}
 use Rattle.ctd_value.specs.Val.{count}
-use Rattle.ctd_outcome.specs.declared.outcome.Site.{Site}
-use Rattle.ctd_outcome.specs.declared.outcome.Site.TheVariants.{At}
 use Rattle.ctd_command.specs.State.{State, Effect, done, rejected, faulty, evaluate, proceed, return}
 use Rattle.ctd_command.specs.Commands.{answer}
 use Rattle.ctd_check.specs.Loops.{Guard, Loop, times, while_true, goes_on, guard_of, take_turn}
 use Rattle.ctd_check.specs.calls.Loops.{loop_of}
 use Rattle.ctd_check.specs.inner.Loops.{count_turn}
-use Rattle.ctd_check.specs.Run.{RunResult, all_done, stopped}
-use Rattle.ctd_check.specs.calls.BigSteps.{command_has_no_step, command_is_done, command_rejects, command_fails, loop_starts, loop_fails, separator_before}
+use Rattle.ctd_check.specs.calls.BigSteps.{separator_before}
 use Rattle.ctd_range.specs.declared.range.Range.{Range}
 use Rattle.ctd_range.specs.calls.Ranges.{IsIn}
 use Rattle.ctd_known.specs.declared.faults.Faults.{Faults}
@@ -27,19 +24,21 @@ use Rattle.ctd_known.specs.declared.facts.Kinds.{Kinds}
 use Rattle.ctd_known.specs.declared.facts.NameFacts.{NameFacts}
 use Rattle.ctd_known.specs.calls.Facts.{Known, EachStands, MayBe, MayHave, NameStands, PinsStand, at_key}
 use Rattle.ctd_traps.specs.inner.Found.{FailsBy}
-use Rattle.ctd_known.specs.calls.Faults.{IsAmong}
 use Rattle.ctd_known.specs.calls.Changed.{PaysStep}
 use Rattle.ctd_traps.proofs.Applying.{AreFaults}
-use Rattle.ctd_traps.specs.calls.Traps.{IsOfValue, Trap}
+use Rattle.ctd_traps.specs.calls.Events as happenings
+use Rattle.ctd_traps.specs.calls.Events.{Event, Events, begins, answers, fails}
+use Rattle.ctd_traps.specs.declared.note.Noted.{Noted}
 use Rattle.ctd_traps.specs.declared.turn.Turns.{Turns}
 use Rattle.ctd_traps.specs.inner.Divides.{Divides}
 use Rattle.ctd_known.specs.calls.Cases.{OneStands, TellsCase, TellsCases, TellsJoined}
-use Rattle.ctd_traps.specs.inner.Holds.{AreListed, Holds, HoldsAlone}
+use Rattle.ctd_traps.specs.inner.Holds.{Holds}
+use Rattle.ctd_traps.specs.inner.Noted.{AreNoted, IsPart, NotedIn, noted_in}
 use Rattle.ctd_traps.specs.inner.Walk.{Assigns, ByTurn, Counts, CountsEach, CountsLast, CountsTurn, Enters, Fits, IsCounted, IsGuard, Starts, StartsIn, Stays, StaysIn, first_turn, later_turn}
-use Rattle.ctd_traps.specs.inner.Triples.{Before, CommandKeeps, Ends, IsListed, Keeps, Listing, Splits}
-use Rattle.ctd_traps.specs.inner.PostFixpoint.{IsPostFixpoint, among}
-use Rattle.ctd_traps.proofs.Keeping.{no_steps}
-use Rattle.ctd_traps.proofs.PostFixpoint.{post_fixpoints_hold}
+use Rattle.ctd_traps.specs.inner.Triples.{CommandLeads, Leads, Leaves, Splits}
+use Rattle.ctd_traps.specs.inner.PostFixpoint.{IsPostFixpoint}
+use Rattle.ctd_traps.proofs.Leading.{StartsSafe, start_leads}
+use Rattle.ctd_traps.proofs.PostFixpoint.{post_fixpoints_lead}
 use Rattle.ctd_traps.proofs.Fits.{evaluation_fits, then_fits}
 use Rattle.ctd_traps.proofs.Acting.{answer_fits, set_fits}
 use Rattle.ctd_known.proofs.Joining.{RestOr, case_done, cases_done}
@@ -49,8 +48,13 @@ pub counts_some : (pinned known after : List Known) (target : VarTree) (turn : R
 counts_some pinned known after target turn kinds f is assigns pins d k n s inside stand stays =
     set_fits pinned known after target kinds f assigns pins d n s (values.Int (pos k)) stand stays (subst (λ ks. MayBe ks n (values.Int (pos k))) (sym is) (turn, refl, inside))
 
-pub counts_none : (pinned known : List Known) (turn : Range) (f : Faults) → CountsTurn pinned known None turn known f
+counts_none : (pinned known : List Known) (turn : Range) (f : Faults) → CountsTurn pinned known None turn known f
 counts_none pinned known turn f pins d k n s inside stand stays = stays
+
+pub counts_nothing : (pinned known left : List Known) (turn : Range) (kinds : Kinds) (f : Faults) → kinds ≡ record { text = None; number = Some turn } → ((k : ℕ) (v : Value) → MayBe kinds k v → left ≡ known) → CountsTurn pinned known None turn left f
+counts_nothing pinned known left turn kinds f is same pins d k n s inside stand stays =
+    let may : MayBe kinds n (values.Int (pos k)) = subst (λ ks. MayBe ks n (values.Int (pos k))) (sym is) (turn, refl, inside) in
+    subst (λ l. Fits f (λ _ t. Stays pins l n t) (count_turn None k d s)) (sym (same n (values.Int (pos k)) may)) (counts_none pinned known turn f pins d k n s inside stand stays)
 
 -- the begin of a turn
 more_fits : {A : Type 0} (f g : Faults) (P : A → State → Type 0) (a : Effect A) → AreFaults f g → Fits f P a → Fits g P a
@@ -68,7 +72,7 @@ in_counts most m n up = record { low = omega (arith, ints); high = omega (arith,
 abbrev pub CountsSo : (pinned : List Known) → Option VarTree → Range → List (List Known) → Faults → ℕ → Bindings → Type 0
 CountsSo pinned counter turn after f m h = (pins : Variables) (d : TestData) (k n : ℕ) (s : State) → m ≡ suc n → h ≡ s.store → IsIn turn n (pos k) → PinsStand pinned pins → s.store.pins ≡ pins → Fits f (λ _ t. StaysIn pins after n t) (count_turn counter k d s)
 
-fits_in : {A : Type 0} (f g : Faults) (P Q : A → State → Type 0) (a : Effect A) → AreFaults f g → ((x : A) (t : State) → P x t → Q x t) → Fits f P a → Fits g Q a
+pub fits_in : {A : Type 0} (f g : Faults) (P Q : A → State → Type 0) (a : Effect A) → AreFaults f g → ((x : A) (t : State) → P x t → Q x t) → Fits f P a → Fits g Q a
 fits_in f g P Q (done x t) more wider fits = wider x t fits
 fits_in f g P Q (rejected reason consumed) more wider fits = tt
 fits_in f g P Q (faulty fault consumed) more wider fits = more fault fits
@@ -131,6 +135,11 @@ enters_while pinned cases after on_true others t counter turn turns f g all coun
     (more_fits f all (λ _ t. StaysIn pins after n t) (count_turn loop.counter k d s) more_f (subst (λ c. Fits f (λ _ t. StaysIn pins after n t) (count_turn c k d s)) (sym same) (counts pins d k n s inside stand stays)))
     (λ _ u here. more_fits g all (λ b v. ByTurn (StaysIn pins on_true n) (StaysIn pins others n) b v) (goes_on loop.guard k d u) more_g (while_goes pins after on_true others g t d k n turns loop.guard u divides guard here))
 
+pub never_starts : (guard : GuardTree) (turns : Turns) → turns.most < turns.least → ((t : TestTree) → guard ≡ Tree.while t → ⊥) → (started : Guard) → IsGuard guard turns started → ⊥
+never_starts (Tree.turns e) turns less counts (times n) is = omega (arith, less, is.0, is.1)
+never_starts (Tree.turns e) turns less counts (while_true u) is = is
+never_starts (Tree.while t) turns less counts started is = counts t refl
+
 -- a loop starts
 counted_fails : (turns : Turns) (r : Result ℕ Fault) → IsCounted turns r → FailsBy turns.faults r
 counted_fails turns (Ok n) counted = tt
@@ -150,27 +159,29 @@ starts_in cases known slice guard turns lent joined starts d n s one = starts d 
 pub starts_nowhere : (cases : List (List Known)) (guard : GuardTree) (turns : Turns) → cases ≡ [] → StartsIn cases guard turns
 starts_nowhere cases guard turns is d n s one = absurd (subst (λ l. OneStands l n s.store) is one)
 
--- faults that are listed
-pub listed_fault : (traps : List Trap) (place : Place) (f : Faults) (why : Fault) → AreListed traps place f → IsOfValue why → IsAmong f why → among traps (At place) why
-listed_fault traps place f why listed of_value is = (place, refl, listed why of_value is)
-
-pub splits_in : (traps : List Trap) (place : Place) (f : Faults) (inside outside : State → Type 0) (a : Effect Bool) → AreListed traps place f → Fits f (λ b t. ByTurn inside outside b t) a → Splits (among traps) (At place) inside outside a
-splits_in traps place f inside outside (done true t) listed fits = fits
-splits_in traps place f inside outside (done false t) listed fits = fits
-splits_in traps place f inside outside (rejected reason consumed) listed fits = tt
-splits_in traps place f inside outside (faulty fault consumed) listed fits = λ of_value. listed_fault traps place f fault listed of_value fits
-
-pub weaker_splits : (traps : List Trap) (site : Site) (P Q P' Q' : State → Type 0) (a : Effect Bool) → ((t : State) → P t → P' t) → ((t : State) → Q t → Q' t) → Splits (among traps) site P Q a → Splits (among traps) site P' Q' a
-weaker_splits traps site P Q P' Q' (done true t) p q splits = p t splits
-weaker_splits traps site P Q P' Q' (done false t) p q splits = q t splits
-weaker_splits traps site P Q P' Q' (rejected reason consumed) p q splits = tt
-weaker_splits traps site P Q P' Q' (faulty fault consumed) p q splits = splits
-
 pub holds_of : (pins : Variables) (cases : List (List Known)) (n : ℕ) (t : State) → n < 2 ^ 64 → StaysIn pins cases n t → Holds pins cases n t
 holds_of pins cases n t steps stays = record { steps = steps; pinned = stays.0; one = stays.1 }
 
-pub holds_alone_of : (pins : Variables) (known : List Known) (n : ℕ) (t : State) → n < 2 ^ 64 → Stays pins known n t → HoldsAlone pins known n t
-holds_alone_of pins known n t steps stays = record { steps = steps; pinned = stays.0; each = stays.1 }
+-- what is noted in fewer is noted in more
+pub noted_more : (a b : Noted) (place : Place) (event : Event) (cases : List (List Known)) → IsPart a b → NotedIn a place event cases → NotedIn b place event cases
+noted_more a b place event cases part noted n h one = part place event (noted n h one)
+
+pub faults_more : (a b : Noted) (place : Place) (f : Faults) → IsPart a b → AreNoted a place f → AreNoted b place f
+faults_more a b place f part noted why of_value is = part place (fails why) (noted why of_value is)
+
+-- a test, or the begin of a turn, whose answers and faults are noted
+pub splits_noted : (noted : Noted) (place : Place) (f : Faults) (pins : Variables) (inside outside : List (List Known)) (n : ℕ) (a : Effect Bool) → n < 2 ^ 64 → NotedIn noted place (answers true) inside → NotedIn noted place (answers false) outside → AreNoted noted place f →
+    Fits f (λ b t. ByTurn (StaysIn pins inside n) (StaysIn pins outside n) b t) a → Splits (noted_in noted) place (Holds pins inside n) (Holds pins outside n) a
+splits_noted noted place f pins inside outside n (done true t) less if_true if_false faults fits = record { event = if_true n t.store fits.1; holds = holds_of pins inside n t less fits }
+splits_noted noted place f pins inside outside n (done false t) less if_true if_false faults fits = record { event = if_false n t.store fits.1; holds = holds_of pins outside n t less fits }
+splits_noted noted place f pins inside outside n (rejected reason consumed) less if_true if_false faults fits = tt
+splits_noted noted place f pins inside outside n (faulty fault consumed) less if_true if_false faults fits = λ of_value. faults fault of_value fits
+
+pub weaker_splits : (events : Events) (place : Place) (P Q R : State → Type 0) (a : Effect Bool) → ((t : State) → Q t → R t) → Splits events place P Q a → Splits events place P R a
+weaker_splits events place P Q R (done true t) more splits = splits
+weaker_splits events place P Q R (done false t) more splits = record { event = splits.event; holds = more t splits.holds }
+weaker_splits events place P Q R (rejected reason consumed) more splits = splits
+weaker_splits events place P Q R (faulty fault consumed) more splits = splits
 
 pub tells_holds : (pins : Variables) (cases others : List (List Known)) → TellsCases cases others → (n : ℕ) (s : State) → Holds pins cases n s → Holds pins others n s
 tells_holds pins cases others tells n s here = record { steps = here.steps; pinned = here.pinned; one = tells n s.store here.one }
@@ -215,65 +226,64 @@ pub holds_fewer : (pins : Variables) (cases : List (List Known)) (n : ℕ) (s : 
 holds_fewer pins cases n s here = record { steps = omega (arith, here.steps); pinned = here.pinned; one = one_fewer cases n s.store here.one }
 
 -- a turn begins where one more step was left
-begins : (pinned : List Known) (cases inside outside after : List (List Known)) (pins : Variables) (traps : List Trap) (d : TestData) (loop : Loop) (guard : GuardTree) (turns : Turns) (counter : Option VarTree) (turn : Range) (f : Faults) (k n : ℕ) (s : State) →
-    IsGuard guard turns loop.guard → loop.counter ≡ counter → Enters pinned cases guard turns counter turn inside outside f → TellsCases outside after → AreListed traps loop.place f → PinsStand pinned pins → IsIn turn n (pos k) → Holds pins cases (suc n) s
-    → Splits (among traps) (At loop.place) (Holds pins inside n) (Holds pins after n) (take_turn loop k d s)
-begins pinned cases inside outside after pins traps d loop guard turns counter turn f k n s is same enters tells listed stand inside_range here =
+begins_so : (pinned : List Known) (cases inside outside after : List (List Known)) (pins : Variables) (noted : Noted) (d : TestData) (loop : Loop) (guard : GuardTree) (turns : Turns) (counter : Option VarTree) (turn : Range) (f : Faults) (k n : ℕ) (s : State) →
+    IsGuard guard turns loop.guard → loop.counter ≡ counter → Enters pinned cases guard turns counter turn inside outside f → TellsCases outside after → NotedIn noted loop.place (answers true) inside → NotedIn noted loop.place (answers false) outside → AreNoted noted loop.place f →
+    PinsStand pinned pins → IsIn turn n (pos k) → Holds pins cases (suc n) s → Splits (noted_in noted) loop.place (Holds pins inside n) (Holds pins after n) (take_turn loop k d s)
+begins_so pinned cases inside outside after pins noted d loop guard turns counter turn f k n s is same enters tells if_true if_false faults stand inside_range here =
     let less : n < 2 ^ 64 = omega (arith, here.steps) in
-    weaker_splits traps (At loop.place) (StaysIn pins inside n) (StaysIn pins outside n) (Holds pins inside n) (Holds pins after n) (take_turn loop k d s)
-    (λ t stays. holds_of pins inside n t less stays) (λ t stays. tells_holds pins outside after tells n t (holds_of pins outside n t less stays))
-    (splits_in traps loop.place f (StaysIn pins inside n) (StaysIn pins outside n) (take_turn loop k d s) listed
-    (enters pins d k n s loop is same inside_range stand (here.pinned, here.one)))
+    weaker_splits (noted_in noted) loop.place (Holds pins inside n) (Holds pins outside n) (Holds pins after n) (take_turn loop k d s) (tells_holds pins outside after tells n)
+    (splits_noted noted loop.place f pins inside outside n (take_turn loop k d s) less if_true if_false faults (enters pins d k n s loop is same inside_range stand (here.pinned, here.one)))
 
 -- a loop whose guess was checked
-pub record LoopParts (pinned : List Known) (cases guess first_inside first_outside later_inside later_outside before end after : List (List Known)) (place : Place) (guard : GuardTree) (turns : Turns) (counter : Option VarTree) (sep : Separator) (body : CommandList) (first later : Faults) (pins : Variables) (d : TestData) (traps : List Trap) : Type 0 where
+pub record LoopParts (pinned : List Known) (cases guess first_inside first_outside later_inside later_outside before end after : List (List Known)) (place : Place) (guard : GuardTree) (turns : Turns) (counter : Option VarTree) (sep : Separator) (body : CommandList) (first later : Faults) (pins : Variables) (d : TestData) (noted : Noted) : Type 0 where
   pub stand : PinsStand pinned pins
   pub starts : StartsIn cases guard turns
   pub first_enters : Enters pinned cases guard turns counter first_turn first_inside first_outside first
   pub later_enters : Enters pinned guess guard turns counter later_turn later_inside later_outside later
-  pub first_listed : AreListed traps place first
-  pub later_listed : AreListed traps place later
-  pub start_listed : AreListed traps place turns.faults
+  pub begun : NotedIn noted place begins cases
+  pub gone : (started : Guard) → IsGuard guard turns started → NotedIn noted place happenings.goes_on cases
+  pub first_true : NotedIn noted place (answers true) first_inside
+  pub first_false : NotedIn noted place (answers false) first_outside
+  pub later_true : NotedIn noted place (answers true) later_inside
+  pub later_false : NotedIn noted place (answers false) later_outside
+  pub first_noted : AreNoted noted place first
+  pub later_noted : AreNoted noted place later
+  pub start_noted : AreNoted noted place turns.faults
   pub first_before : TellsCases first_inside before
-  pub separator : (k : ℕ) → Keeps d (among traps) (Holds pins later_inside) (separator_before (suc k) sep) (Holds pins before)
-  pub body_keeps : Keeps d (among traps) (Holds pins before) body (Holds pins end)
+  pub separator : (k : ℕ) → Leads d (noted_in noted) (Holds pins later_inside) (separator_before (suc k) sep) (Holds pins before)
+  pub body_leads : Leads d (noted_in noted) (Holds pins before) body (Holds pins end)
   pub again : TellsCases end guess
   pub first_after : TellsCases first_outside after
   pub later_after : TellsCases later_outside after
 
-started : {pinned : List Known} {cases guess first_inside first_outside later_inside later_outside before end after : List (List Known)} {place : Place} {guard : GuardTree} {turns : Turns} {counter : Option VarTree} {sep : Separator} {body : CommandList} {first later : Faults} {pins : Variables} {d : TestData} {traps : List Trap} →
-    LoopParts pinned cases guess first_inside first_outside later_inside later_outside before end after place guard turns counter sep body first later pins d traps → (g : Guard) → IsGuard guard turns g →
-    IsPostFixpoint d pins traps (loop_of place g counter sep body) (record { first = cases; later = guess; first_inside = first_inside; later_inside = later_inside; before_body = before; after_body = end; after = after })
-started {pinned} {cases} {guess} {first_inside} {first_outside} {later_inside} {later_outside} {before} {end} {after} {place} {guard} {turns} {counter} {sep} {body} {first} {later} {pins} {d} {traps} p g is = record {
-  first_begin = λ n s here. begins pinned cases first_inside first_outside after pins traps d (loop_of place g counter sep body) guard turns counter first_turn first 0 n s is refl p.first_enters p.first_after p.first_listed p.stand (first_in n) here;
-  later_begin = λ k n s less here. begins pinned guess later_inside later_outside after pins traps d (loop_of place g counter sep body) guard turns counter later_turn later (suc k) n s is refl p.later_enters p.later_after p.later_listed p.stand (later_in k n less) here;
+started : {pinned : List Known} {cases guess first_inside first_outside later_inside later_outside before end after : List (List Known)} {place : Place} {guard : GuardTree} {turns : Turns} {counter : Option VarTree} {sep : Separator} {body : CommandList} {first later : Faults} {pins : Variables} {d : TestData} {noted : Noted} →
+    LoopParts pinned cases guess first_inside first_outside later_inside later_outside before end after place guard turns counter sep body first later pins d noted → (g : Guard) → IsGuard guard turns g →
+    IsPostFixpoint d pins (noted_in noted) (loop_of place g counter sep body) (record { first = cases; later = guess; first_inside = first_inside; later_inside = later_inside; before_body = before; after_body = end; after = after })
+started {pinned} {cases} {guess} {first_inside} {first_outside} {later_inside} {later_outside} {before} {end} {after} {place} {guard} {turns} {counter} {sep} {body} {first} {later} {pins} {d} {noted} p g is = record {
+  first_begin = λ n s here. begins_so pinned cases first_inside first_outside after pins noted d (loop_of place g counter sep body) guard turns counter first_turn first 0 n s is refl p.first_enters p.first_after p.first_true p.first_false p.first_noted p.stand (first_in n) here;
+  later_begin = λ k n s less here. begins_so pinned guess later_inside later_outside after pins noted d (loop_of place g counter sep body) guard turns counter later_turn later (suc k) n s is refl p.later_enters p.later_after p.later_true p.later_false p.later_noted p.stand (later_in k n less) here;
   first_body = λ n s here. tells_holds pins first_inside before p.first_before n s here;
   separator = p.separator;
-  body = p.body_keeps;
+  body = p.body_leads;
   again = λ n s here. tells_holds pins end guess p.again n s here;
 }
 
 -- how the start of a loop ends
-guard_done : (cases : List (List Known)) (guard : GuardTree) (turns : Turns) (d : TestData) (n : ℕ) (s : State) (g : Guard) → StartsIn cases guard turns → OneStands cases n s.store → guard_of guard d s ≡ done g s → IsGuard guard turns g
-guard_done cases guard turns d n s g starts each is = (subst (Fits turns.faults (λ g t. IsGuard guard turns g × (t ≡ s))) is (starts d n s each)).0
+start_leaves : (noted : Noted) (place : Place) (guard : GuardTree) (turns : Turns) (P : Guard → State → Type 0) (s : State) (a : Effect Guard) → AreNoted noted place turns.faults → ((g : Guard) → IsGuard guard turns g → P g s) →
+    Fits turns.faults (λ g t. IsGuard guard turns g × (t ≡ s)) a → Leaves (noted_in noted) place P a
+start_leaves noted place guard turns P s (done g t) faults go fits = subst (P g) (sym fits.1) (go g fits.0)
+start_leaves noted place guard turns P s (rejected reason consumed) faults go fits = tt
+start_leaves noted place guard turns P s (faulty fault consumed) faults go fits = λ of_value. faults fault of_value fits
 
-guard_fails : (cases : List (List Known)) (guard : GuardTree) (turns : Turns) (place : Place) (traps : List Trap) (d : TestData) (n : ℕ) (s : State) (fault : _) (consumed : ℕ) → StartsIn cases guard turns → OneStands cases n s.store → AreListed traps place turns.faults → guard_of guard d s ≡ faulty fault consumed → IsListed (among traps) (At place) fault
-guard_fails cases guard turns place traps d n s fault consumed starts each listed is of_value = listed_fault traps place turns.faults fault listed of_value (subst (Fits turns.faults (λ g t. IsGuard guard turns g × (t ≡ s))) is (starts d n s each))
-
-fewer_ends : (traps : Listing) (m n : ℕ) (after : Before) (e : RunResult) → m ≤ n → Ends traps m after e → Ends traps n after e
-fewer_ends traps m n after (all_done t l) less ends = (le_trans ends.0 less, ends.1)
-fewer_ends traps m n after (stopped outcome consumed l) less ends = ends
-
-pub loop_command : (pinned : List Known) (cases guess first_inside first_outside later_inside later_outside before end after : List (List Known)) (place : Place) (guard : GuardTree) (turns : Turns) (counter : Option VarTree) (sep : Separator) (body : CommandList) (first later : Faults) (pins : Variables) (d : TestData) (traps : List Trap) →
-    LoopParts pinned cases guess first_inside first_outside later_inside later_outside before end after place guard turns counter sep body first later pins d traps → CommandKeeps d (among traps) (Holds pins cases) (Tree.loop place guard counter sep body) (Holds pins after)
-loop_command pinned cases guess first_inside first_outside later_inside later_outside before end after place guard turns counter sep body first later pins d traps p n s e here (command_has_no_step) = no_steps (among traps) (At place)
-loop_command pinned cases guess first_inside first_outside later_inside later_outside before end after place guard turns counter sep body first later pins d traps p n s e here (loop_starts {n = m} {guard = g} is run) =
-    let held : Holds pins cases m s = holds_fewer pins cases m s here in
-    fewer_ends (among traps) m n (Holds pins after) e (omega arith)
-    (post_fixpoints_hold d pins traps (loop_of place g counter sep body) (record { first = cases; later = guess; first_inside = first_inside; later_inside = later_inside; before_body = before; after_body = end; after = after })
-    (started p g (guard_done cases guard turns d m s g p.starts held.one is)) m s e held run)
-loop_command pinned cases guess first_inside first_outside later_inside later_outside before end after place guard turns counter sep body first later pins d traps p n s e here (loop_fails {n = m} {fault} is) =
-    guard_fails cases guard turns place traps d m s fault _ p.starts (holds_fewer pins cases m s here).one p.start_listed is
-loop_command pinned cases guess first_inside first_outside later_inside later_outside before end after place guard turns counter sep body first later pins d traps p n s e here (command_is_done simple is) = elim simple [ ]
-loop_command pinned cases guess first_inside first_outside later_inside later_outside before end after place guard turns counter sep body first later pins d traps p n s e here (command_rejects simple is) = elim simple [ ]
-loop_command pinned cases guess first_inside first_outside later_inside later_outside before end after place guard turns counter sep body first later pins d traps p n s e here (command_fails simple is) = elim simple [ ]
+pub loop_command : (pinned : List Known) (cases guess first_inside first_outside later_inside later_outside before end after : List (List Known)) (place : Place) (guard : GuardTree) (turns : Turns) (counter : Option VarTree) (sep : Separator) (body : CommandList) (first later : Faults) (pins : Variables) (d : TestData) (noted : Noted) →
+    LoopParts pinned cases guess first_inside first_outside later_inside later_outside before end after place guard turns counter sep body first later pins d noted → CommandLeads d (noted_in noted) (Holds pins cases) (Tree.loop place guard counter sep body) (Holds pins after)
+loop_command pinned cases guess first_inside first_outside later_inside later_outside before end after place guard turns counter sep body first later pins d noted p =
+    start_leads d (noted_in noted) place guard counter sep body (Holds pins cases) (Holds pins after)
+    (λ n s here. p.begun (suc n) s.store here.one)
+    (λ n s here. let held : Holds pins cases n s = holds_fewer pins cases n s here in
+    start_leaves noted place guard turns (λ g t. StartsSafe d (noted_in noted) place n (Holds pins after) (loop_of place g counter sep body) t) s (guard_of guard d s) p.start_noted
+    (λ g is. record {
+      gone = p.gone g is n s.store held.one;
+      safe = λ ts next. post_fixpoints_lead d pins (noted_in noted) (loop_of place g counter sep body) (record { first = cases; later = guess; first_inside = first_inside; later_inside = later_inside; before_body = before; after_body = end; after = after }) (started p g is) n ts s held next;
+    })
+    (p.starts d n s held.one))

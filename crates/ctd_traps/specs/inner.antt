@@ -4,6 +4,8 @@ pub mod Operators
 pub mod Compared
 pub mod Divides
 pub mod Holds
+pub mod Noted
+pub mod Absent
 pub mod Triples
 pub mod PostFixpoint
 pub mod Walk

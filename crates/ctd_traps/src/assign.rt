@@ -6,6 +6,7 @@ ghost use Rattle.ctd_command.specs.Commands.{set};
 ghost use Rattle.ctd_traps.specs.inner.Walk.{Acts, Assigns, ClearsAll, KeepsValue};
 ghost use Rattle.ctd_known.specs.calls.Facts.{pins_in, facts_in};
 
+use crate::cut::expect_value;
 use crate::expression::{examine_indices, inspect};
 use ctd_known::{
     Faults, Ground, Kinds, NameFacts, Stop, assign_alone, assign_element, both, clear, no_faults,
@@ -13,8 +14,8 @@ use ctd_known::{
 use ctd_program::{Assignment, Var};
 use ctd_token::Name;
 
-/// Gives a variable one of some values, and gives the faults of its indices.
-pub(crate) fn assign(
+/// Gives a variable one of some values, of which there may be none, and gives the faults of its indices.
+fn assign_some(
     ground: Ground<'_>,
     variable: &Var,
     kinds: Kinds,
@@ -37,6 +38,19 @@ pub(crate) fn assign(
     }
 }
 
+/// Gives a variable one of some values, and gives the faults of its indices.
+pub(crate) fn assign(
+    ground: Ground<'_>,
+    variable: &Var,
+    kinds: Kinds,
+    known: &mut [NameFacts],
+) -> Result<Faults, Stop>
+    ensures { IfOk result (λ faults. Assigns (pins_in ground.entry) (facts_in ground.entry known.old) (var_tree variable.now) kinds (facts_in ground.entry known.new) faults) }
+{
+    expect_value(kinds, known);
+    assign_some(ground, variable, kinds, known)
+}
+
 /// Gives a target, if there is one, one of some values.
 pub(crate) fn keep(
     ground: Ground<'_>,
@@ -48,7 +62,10 @@ pub(crate) fn keep(
 {
     match variable {
         Some(variable) => assign(ground, variable, kinds, known),
-        None => Ok(no_faults()),
+        None => {
+            expect_value(kinds, known);
+            Ok(no_faults())
+        }
     }
 }
 

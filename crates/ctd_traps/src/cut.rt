@@ -1,6 +1,6 @@
 //! What is known where two expressions compare so.
 
-ghost use Rattle.std.specs.Prelude.{◌≡◌, ℕ, ℤ, Some, IfOk, OnOk};
+ghost use Rattle.std.specs.Prelude.{◌≡◌, true, ℕ, ℤ, Some, IfOk, OnOk};
 ghost use Rattle.ctd_program.specs.calls.View.{expr_tree};
 ghost use Rattle.ctd_program.specs.declared.tree.Compare.{Compare};
 ghost use Rattle.ctd_store.specs.declared.value.Value.{Value};
@@ -24,6 +24,44 @@ fn turned(by: Compare) -> Compare
         Compare::AtLeast => Compare::AtMost,
         Compare::Equal => Compare::Equal,
         Compare::Unequal => Compare::Unequal,
+    }
+}
+
+/// Whether there is no value of these kinds.
+fn has_no_value(kinds: Kinds) -> bool
+    ensures { result ≡ true → (k : ℕ) (v : Value) → MayBe kinds k v → ⊥ }
+{
+    if kinds.text.is_some() {
+        return false;
+    }
+    match kinds.number {
+        Some(range) => is_empty(range),
+        None => true,
+    }
+}
+
+/// Makes what is known that of no run: the entry behind the last name, which no variable has, neither has a value nor lacks one. No contract
+/// speaks of it, since all is so where no run comes.
+fn leave_out(known: &mut [NameFacts]) {
+    let none = Kinds {
+        text: None,
+        number: None,
+    };
+    if let Some(entry) = known.last_mut() {
+        *entry = NameFacts {
+            may_lack: false,
+            alone: none,
+            elements: none,
+        };
+    }
+}
+
+/// Expects a value of these kinds: where there is none, no run comes.
+pub(crate) fn expect_value(kinds: Kinds, known: &mut [NameFacts])
+    ensures { (k : ℕ) (v : Value) → MayBe kinds k v → known.new ≡ known.old }
+{
+    if has_no_value(kinds) {
+        leave_out(known);
     }
 }
 
@@ -85,6 +123,24 @@ fn cut(
     }
 }
 
+/// What is left of what is known where two expressions compare so.
+fn cut_each(
+    ground: Ground<'_>,
+    known: Vec<NameFacts>,
+    by: Compare,
+    a: &Expr,
+    b: &Expr,
+    one: Kinds,
+    other: Kinds,
+) -> Result<Vec<NameFacts>, Stop>
+    ensures { IfOk result (λ after. CutsBoth (facts_in ground.entry known.items) by (expr_tree a.now) (expr_tree b.now) one other (facts_in ground.entry after.items)) }
+{
+    let mut after = known;
+    cut(ground, after.as_mut_slice(), a, by, other)?;
+    cut(ground, after.as_mut_slice(), b, turned(by), one)?;
+    Ok(after)
+}
+
 /// What is known where two expressions, which may be of these kinds, compare so.
 pub(crate) fn cut_both(
     ground: Ground<'_>,
@@ -97,8 +153,7 @@ pub(crate) fn cut_both(
 ) -> Result<Vec<NameFacts>, Stop>
     ensures { IfOk result (λ after. CutsBoth (facts_in ground.entry known.now) by (expr_tree a.now) (expr_tree b.now) one other (facts_in ground.entry after.items)) }
 {
-    let mut after = copy_of(ground.alloc, known)?;
-    cut(ground, after.as_mut_slice(), a, by, other)?;
-    cut(ground, after.as_mut_slice(), b, turned(by), one)?;
-    Ok(after)
+    let mut possible = copy_of(ground.alloc, known)?;
+    expect_value(cut_kinds(by, one, other), possible.as_mut_slice());
+    cut_each(ground, possible, by, a, b, one, other)
 }

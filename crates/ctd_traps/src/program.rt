@@ -5,14 +5,18 @@ ghost use Rattle.ctd_program.specs.calls.View.{command_trees};
 ghost use Rattle.ctd_store.specs.Store.{Variables, value_of, with_pin};
 ghost use Rattle.ctd_store.specs.inner.Store.{pins_of};
 ghost use Rattle.ctd_traps.specs.calls.Traps.{HasEachTrap, traps_of};
+ghost use Rattle.ctd_traps.specs.calls.Events.{HasEachEvent, NeverHappens, events_of};
+ghost use Rattle.ctd_traps.specs.calls.Laws.{ComesAsItRuns, EachEndIsReached};
+ghost use Rattle.ctd_traps.specs.inner.Noted.{noted_in};
 ghost use Rattle.ctd_known.specs.calls.Cases.{TellsCase, cases_in};
 ghost use Rattle.ctd_known.specs.calls.Facts.{MayBe, PinsStand, pins_in, named_facts, facts_in};
 ghost use Rattle.std.specs.Borrow.{Bor};
 
 use crate::finding::Finding;
 use crate::names::{Mentioned, mentioned_in};
+use crate::never::absent_in;
+use crate::note::{Note, Noted, nothing_noted};
 use crate::walk::walk;
-use ctd_check::big_steps_are_the_run;
 use ctd_known::{
     Case, Ground, Kinds, Lengths, NameFacts, Stop, assign_alone, assign_element, copy_of, with_case,
 };
@@ -29,7 +33,7 @@ const NONE: Kinds = Kinds {
     number: None,
 };
 
-/// What is known where no name has a value.
+/// What is known where no name has a value. Behind the names there is one entry more, for a case in which no run can be.
 fn unset(alloc: Global, names: &[&[u8]]) -> Result<Vec<NameFacts>, AllocError>
     ensures { IfOk result (λ known. (q : List (Bor (List ℕ))) → PinsStand (named_facts q known.items) []) }
 {
@@ -42,6 +46,7 @@ fn unset(alloc: Global, names: &[&[u8]]) -> Result<Vec<NameFacts>, AllocError>
     for _ in names {
         known.push(facts)?;
     }
+    known.push(facts)?;
     Ok(known)
 }
 
@@ -96,10 +101,11 @@ fn pin_all(without: Ground<'_>, presets: &[Preset]) -> Result<Vec<NameFacts>, St
     Ok(known)
 }
 
-/// The traps of a program: the findings, and the names to which they refer.
+/// The traps of a program: the findings, what never happens, and the names to which the findings refer.
 #[derive(Drop)]
 pub struct TrapList<'p> {
     pub findings: Vec<Finding>,
+    pub never: Vec<Note>,
     pub names: Vec<&'p [u8]>,
 }
 
@@ -124,17 +130,16 @@ fn first_case(ground: Ground<'_>) -> Result<Vec<Case>, Stop>
     with_case(ground, Vec::new(ground.alloc), known)
 }
 
-/// The places at which a run of some commands with these names may stop by a fault of a value.
-fn findings_of(
+/// Where a run of some commands with these names may stop by a fault of a value, and what else may happen where.
+fn events_in(
     alloc: Global,
     commands: &[Command],
     presets: &Presets,
     names: &[&[u8]],
     passes: u64,
-) -> Result<Vec<Finding>, Stop>
-    ensures { IfOk result (λ found. HasEachTrap (command_trees commands.now) presets.now (traps_of found.items)) }
+) -> Result<Noted, Stop>
+    ensures { IfOk result (λ noted. HasEachEvent (command_trees commands.now) presets.now (noted_in noted)) }
 {
-    big_steps_are_the_run();
     let pinned = known_before(alloc, presets, names)?;
     let ground = Ground {
         alloc,
@@ -142,29 +147,44 @@ fn findings_of(
         pinned: pinned.as_slice(),
     };
     let first = first_case(ground)?;
-    let mut findings = Vec::new(alloc);
+    let mut noted = nothing_noted(alloc);
     let mut budget = passes;
-    walk(commands, ground, first, &mut findings, &mut budget)?;
-    Ok(findings)
+    walk(commands, ground, first, &mut noted, &mut budget)?;
+    Ok(noted)
 }
 
-/// The places at which a run of some commands may stop by a fault of a value, whatever the data, the mode and the limit of steps; none where
-/// they are too large to tell. An error where memory ran out.
+/// The places at which a run of some commands may stop by a fault of a value, and what never happens in a run, whatever the data, the mode and
+/// the limit of steps; none where they are too large to tell. An error where memory ran out.
 pub fn traps<'p>(
     alloc: Global,
     commands: &'p [Command],
     presets: &'p Presets,
 ) -> Result<Option<TrapList<'p>>, AllocError>
     ensures each { IfOk result (λ told. IfSome told (λ found. HasEachTrap (command_trees commands.now) presets.now (traps_of found.findings.items))) }
+    ensures never { IfOk result (λ told. IfSome told (λ found. NeverHappens (command_trees commands.now) presets.now (events_of found.never.items))) }
 {
     let Mentioned { names, cost } = mentioned_in(alloc, commands, presets)?;
     let passes = BUDGET / cost.max(1);
     if passes == 0 {
         return Ok(None);
     }
-    match findings_of(alloc, commands, presets, names.as_slice(), passes) {
-        Ok(findings) => Ok(Some(TrapList { findings, names })),
+    match events_in(alloc, commands, presets, names.as_slice(), passes) {
+        Ok(noted) => {
+            let Noted { findings, events } = noted;
+            let never = absent_in(alloc, commands, events.as_slice())?;
+            Ok(Some(TrapList {
+                findings,
+                never,
+                names,
+            }))
+        }
         Err(Stop::Memory) => Err(AllocError),
         Err(Stop::NotTold) => Ok(None),
     }
 }
+
+/// What comes of a run, by the relation in which events are told, is the run: that relation leaves out nothing and adds nothing.
+pub fn events_are_of_the_run()
+    ensures comes { ComesAsItRuns }
+    ensures ends { EachEndIsReached }
+{}

@@ -10,6 +10,7 @@ ghost use Rattle.ctd_known.specs.calls.Facts.{MayBe, pins_in, facts_in};
 ghost use Rattle.ctd_traps.specs.inner.Walk.{Acts};
 
 use crate::assign::keep;
+use crate::cut::expect_value;
 use crate::expression::{inspect, number_faults, text_faults};
 use ctd_known::{Faults, Ground, Kinds, Lengths, NameFacts, Stop, both};
 use ctd_program::{Expr, IntArguments, RegexArguments};
@@ -52,11 +53,20 @@ pub(crate) fn take_integer(
     Ok(both(bounds, kept))
 }
 
-/// The faults that STRING may have, which gives no variable a value.
-pub(crate) fn take_string(e: &Expr, ground: Ground<'_>, known: &[NameFacts]) -> Result<Faults, Stop>
-    ensures { IfOk result (λ faults. Acts (pins_in ground.entry) (facts_in ground.entry known.now) (facts_in ground.entry known.now) faults (string (expr_tree e.now))) }
+/// Does what STRING does, which gives no variable a value.
+pub(crate) fn take_string(
+    e: &Expr,
+    ground: Ground<'_>,
+    known: &mut [NameFacts],
+) -> Result<Faults, Stop>
+    ensures { IfOk result (λ faults. Acts (pins_in ground.entry) (facts_in ground.entry known.old) (facts_in ground.entry known.new) faults (string (expr_tree e.now))) }
 {
     let found = inspect(e, ground.names, known)?;
+    let text = Kinds {
+        text: found.kinds.text,
+        number: None,
+    };
+    expect_value(text, known);
     Ok(text_faults(found))
 }
 

@@ -6,12 +6,14 @@ ghost use Rattle.ctd_store.specs.declared.value.Value.TheVariants as values;
 ghost use Rattle.ctd_range.specs.calls.Ranges.{IsIn};
 ghost use Rattle.ctd_range.specs.inner.Ranges.{IsCount};
 ghost use Rattle.ctd_known.specs.calls.Facts.{MayBe, pins_in, facts_in};
-ghost use Rattle.ctd_traps.specs.inner.Walk.{Counts, CountsEach, CountsLast, CountsTurn, Enters, Starts, StartsIn, first_turn};
+ghost use Rattle.ctd_traps.specs.inner.Walk.{Counts, CountsEach, CountsLast, CountsTurn, Enters, IsGuard, Starts, StartsIn, first_turn};
 ghost use Rattle.ctd_program.specs.declared.tree.Loop.{out-Loop};
 ghost use Rattle.ctd_known.specs.calls.Cases.{cases_in};
+ghost use Rattle.ctd_check.specs.Loops.{Guard};
 
 use crate::act::ActedCases;
 use crate::assign::assign;
+use crate::cut::expect_value;
 use crate::divide::divide;
 use crate::expression::{inspect, number_faults};
 use ctd_known::{
@@ -49,13 +51,13 @@ fn most_of(kinds: Kinds) -> u64
     }
 }
 
-/// How many turns a number of these kinds gives at least.
+/// How many turns a number of these kinds gives at least: more than at most where there is none.
 fn least_of(kinds: Kinds) -> u64
     ensures { (k n : ℕ) → n < 2 ^ 64 → MayBe kinds k (values.Int (pos n)) → result ≤ n }
 {
     match kinds.number {
         Some(range) => u64::try_from(range.low).unwrap_or(0),
-        None => 0,
+        None => 1,
     }
 }
 
@@ -103,6 +105,16 @@ fn start(guard: &LoopGuard, ground: Ground<'_>, known: &[NameFacts]) -> Result<T
     }
 }
 
+/// Whether a loop may start: a count is at least, and at most, so large.
+pub(crate) fn may_start(guard: &LoopGuard, turns: Turns) -> bool
+    ensures { result ≡ false → (started : Guard) → IsGuard (guard_tree guard.now) turns started → ⊥ }
+{
+    match guard {
+        LoopGuard::Times(_) => turns.least <= turns.most,
+        LoopGuard::While(_) => true,
+    }
+}
+
 /// How a loop may start in some cases.
 fn start_each(guard: &LoopGuard, ground: Ground<'_>, cases: &[Case]) -> Result<Turns, Stop>
     ensures { IfOk result (λ t. StartsIn (cases_in ground.entry cases.now) (guard_tree guard.now) t) }
@@ -146,7 +158,10 @@ fn count_turn(
     };
     match counter {
         Some(variable) => assign(ground, variable, kinds, known),
-        None => Ok(no_faults()),
+        None => {
+            expect_value(kinds, known);
+            Ok(no_faults())
+        }
     }
 }
 

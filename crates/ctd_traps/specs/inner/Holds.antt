@@ -5,18 +5,12 @@ use Rattle.ctd_store.specs.Store.{Variables}
 use Rattle.ctd_outcome.specs.declared.reason.Fault.{Fault}
 use Rattle.ctd_command.specs.State.{State}
 use Rattle.ctd_known.specs.declared.faults.Faults.{Faults}
-use Rattle.ctd_known.specs.calls.Facts.{Known, EachStands}
+use Rattle.ctd_known.specs.calls.Facts.{Known}
 use Rattle.ctd_known.specs.calls.Faults.{IsAmong}
 use Rattle.ctd_known.specs.calls.Cases.{OneStands}
 use Rattle.ctd_traps.specs.calls.Traps.{Trap, IsOfValue}
 
--- all that is known is so of a state with these pins, where so many steps are left
-pub record HoldsAlone (pins : Variables) (known : List Known) (n : ℕ) (s : State) : Type 0 where
-  pub steps : n < 2 ^ 64
-  pub pinned : s.store.pins ≡ pins
-  pub each : EachStands known n s.store
-
--- all that is known in one of the cases is so
+-- all that is known in one of the cases is so of a state with these pins, where so many steps are left
 pub record Holds (pins : Variables) (cases : List (List Known)) (n : ℕ) (s : State) : Type 0 where
   pub steps : n < 2 ^ 64
   pub pinned : s.store.pins ≡ pins

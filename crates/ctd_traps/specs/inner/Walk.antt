@@ -2,8 +2,7 @@
 use Rattle.std.specs.Prelude.{◌≡◌, ◌≤◌, ℕ, suc, pos, ◌-◌, ◌^◌, Bool, true, false, ⊤, List, fold, Option, Result, Ok, Err}
 use Rattle.ctd_source.specs.TestData.{TestData}
 use Rattle.ctd_program.specs.Tree
-use Rattle.ctd_program.specs.Tree.{ExprTree, VarTree, GuardTree, CommandTree, CommandList, Separator}
-use Rattle.ctd_check.specs.calls.Run.{place_of}
+use Rattle.ctd_program.specs.Tree.{ExprTree, VarTree, TestTree, GuardTree, CommandTree, CommandList, Separator}
 use Rattle.ctd_token.specs.declared.text.Place.{Place}
 use Rattle.ctd_program.specs.declared.tree.Loop.{Loop, out-Loop}
 use Rattle.ctd_program.specs.declared.tree.Choice.{Choice, out-Choice}
@@ -17,20 +16,21 @@ use Rattle.ctd_command.specs.State.{State, Effect, done, rejected, faulty, Act}
 use Rattle.ctd_command.specs.Commands.{keep}
 use Rattle.ctd_check.specs.Loops.{Guard, Loop as Started, while_true, times, take_turn, guard_of}
 use Rattle.ctd_check.specs.inner.Loops.{count_turn}
-use Rattle.ctd_check.specs.calls.BigSteps.{separator_before}
+use Rattle.ctd_check.specs.calls.BigSteps.{IsSimple, separator_before}
 use Rattle.ctd_range.specs.declared.range.Range.{Range}
 use Rattle.ctd_range.specs.calls.Ranges.{IsIn}
-use Rattle.ctd_traps.specs.calls.Traps.{Trap, traps_of}
-use Rattle.ctd_traps.specs.declared.finding.Finding.{Finding}
+use Rattle.ctd_traps.specs.calls.Events.{begins, answers}
+use Rattle.ctd_traps.specs.declared.note.Noted.{Noted}
 use Rattle.ctd_known.specs.declared.faults.Faults.{Faults}
 use Rattle.ctd_known.specs.declared.facts.Kinds.{Kinds}
 use Rattle.ctd_traps.specs.declared.turn.Turns.{Turns}
 use Rattle.ctd_known.specs.calls.Cases.{OneStands, TellsCases}
 use Rattle.ctd_known.specs.calls.Facts.{Known, EachStands, MayBe, PinsStand}
-use Rattle.ctd_traps.specs.inner.Holds.{AreListed, ArePart, Holds, HoldsAlone}
+use Rattle.ctd_traps.specs.inner.Divides.{Divides}
+use Rattle.ctd_traps.specs.inner.Holds.{Holds}
+use Rattle.ctd_traps.specs.inner.Noted.{AreNoted, IsPart, NotedIn, noted_in}
 use Rattle.ctd_known.specs.calls.Faults.{IsAmong}
-use Rattle.ctd_traps.specs.inner.PostFixpoint.{among}
-use Rattle.ctd_traps.specs.inner.Triples.{Keeps, CommandKeeps}
+use Rattle.ctd_traps.specs.inner.Triples.{Leads, CommandLeads}
 
 -- what is known is so of a state with these pins
 abbrev pub Stays : Variables → List Known → ℕ → State → Type 0
@@ -68,25 +68,58 @@ KeepsValue pinned known target kinds after f = (pins : Variables) (d : TestData)
 abbrev pub ClearsAll : (pinned known : List Known) → List (List ℕ) → List Known → Type 0
 ClearsAll pinned known names after = (pins : Variables) (n : ℕ) (h : Bindings) → PinsStand pinned pins → h.pins ≡ pins → EachStands known n h → EachStands after n (fold unset h names)
 
--- a command keeps what is known, or stops by one of these faults
+-- a command that has no test and no others in it
+abbrev pub IsPlain : CommandTree → Type 0
+IsPlain (Tree.space place) = ⊤
+IsPlain (Tree.newline place) = ⊤
+IsPlain (Tree.eof place) = ⊤
+IsPlain (Tree.int place low high to) = ⊤
+IsPlain (Tree.string place e) = ⊤
+IsPlain (Tree.regex place literal to) = ⊤
+IsPlain (Tree.assert place t) = ⊥
+IsPlain (Tree.set place assignments) = ⊤
+IsPlain (Tree.unset place names) = ⊤
+IsPlain (Tree.loop place guard counter sep body) = ⊥
+IsPlain (Tree.choice place t then_do else_do) = ⊥
+
+-- a plain command does one act, of which this holds
+pub record Does (c : CommandTree) (so : Act ⊤ → Type 0) : Type 0 where
+  pub act : Act ⊤
+  pub simple : IsSimple c act
+  pub plain : IsPlain c
+  pub holds : so act
+
+-- a plain command keeps what is known, or stops by one of these faults
 abbrev pub ActKeeps : (pinned known after : List Known) → Faults → CommandTree → Type 0
-ActKeeps pinned known after f c = (pins : Variables) (d : TestData) (all : List Trap) → PinsStand pinned pins → AreListed all (place_of c) f → CommandKeeps d (among all) (HoldsAlone pins known) c (HoldsAlone pins after)
+ActKeeps pinned known after f c = Does c (Acts pinned known after f)
 
--- the same, of cases
+-- an act leads to some cases, or stops by one of these faults
+abbrev pub ActsTo : (pinned : List Known) (after : List (List Known)) → Faults → ℕ → Bindings → Act ⊤ → Type 0
+ActsTo pinned after f n h m = (pins : Variables) (d : TestData) (s : State) → s.store ≡ h → PinsStand pinned pins → h.pins ≡ pins → Fits f (λ _ t. StaysIn pins after n t) (m d s)
+
+-- a plain command leads from some cases to others, or stops by one of these faults
 abbrev pub ActsKeep : (pinned : List Known) (cases after : List (List Known)) → Faults → CommandTree → Type 0
-ActsKeep pinned cases after f c = (pins : Variables) (d : TestData) (all : List Trap) → PinsStand pinned pins → AreListed all (place_of c) f → CommandKeeps d (among all) (Holds pins cases) c (Holds pins after)
+ActsKeep pinned cases after f c = (n : ℕ) (h : Bindings) → OneStands cases n h → Does c (ActsTo pinned after f n h)
 
--- commands lead from some cases to others, or stop at a trap of a list that has all that were found
-abbrev pub WalkKeeps : (pinned : List Known) (cases after : List (List Known)) → List Finding → CommandList → Type 0
-WalkKeeps pinned cases after found cs = (pins : Variables) (d : TestData) (all : List Trap) → PinsStand pinned pins → ArePart (traps_of found) all → Keeps d (among all) (Holds pins cases) cs (Holds pins after)
+-- commands lead from some cases to others, and all that happens in them is noted in what has all these notes
+abbrev pub WalkKeeps : (pinned : List Known) (cases after : List (List Known)) → Noted → CommandList → Type 0
+WalkKeeps pinned cases after noted cs = (pins : Variables) (d : TestData) (all : Noted) → PinsStand pinned pins → IsPart noted all → Leads d (noted_in all) (Holds pins cases) cs (Holds pins after)
 
 -- the same of a command
-abbrev pub StepKeeps : (pinned : List Known) (cases after : List (List Known)) → List Finding → CommandTree → Type 0
-StepKeeps pinned cases after found c = (pins : Variables) (d : TestData) (all : List Trap) → PinsStand pinned pins → ArePart (traps_of found) all → CommandKeeps d (among all) (Holds pins cases) c (Holds pins after)
+abbrev pub StepKeeps : (pinned : List Known) (cases after : List (List Known)) → Noted → CommandTree → Type 0
+StepKeeps pinned cases after noted c = (pins : Variables) (d : TestData) (all : Noted) → PinsStand pinned pins → IsPart noted all → CommandLeads d (noted_in all) (Holds pins cases) c (Holds pins after)
 
 -- the same of the separator of a loop
-abbrev pub SeparatorKeeps : (pinned : List Known) (cases after : List (List Known)) → List Finding → Separator → Type 0
-SeparatorKeeps pinned cases after found sep = (pins : Variables) (d : TestData) (all : List Trap) (k : ℕ) → PinsStand pinned pins → ArePart (traps_of found) all → Keeps d (among all) (Holds pins cases) (separator_before (suc k) sep) (Holds pins after)
+abbrev pub SeparatorKeeps : (pinned : List Known) (cases after : List (List Known)) → Noted → Separator → Type 0
+SeparatorKeeps pinned cases after noted sep = (pins : Variables) (d : TestData) (all : Noted) (k : ℕ) → PinsStand pinned pins → IsPart noted all → Leads d (noted_in all) (Holds pins cases) (separator_before (suc k) sep) (Holds pins after)
+
+-- what a test of a command gives in some cases, of which all is noted
+pub record Asks (cases if_true if_false : List (List Known)) (t : TestTree) (f : Faults) (noted : Noted) (place : Place) : Type 0 where
+  pub divides : Divides cases t if_true if_false f
+  pub begun : NotedIn noted place begins cases
+  pub true_noted : NotedIn noted place (answers true) if_true
+  pub false_noted : NotedIn noted place (answers false) if_false
+  pub faults_noted : AreNoted noted place f
 
 -- how a loop goes on that has started, and that has at least and at most so many turns if it counts them
 abbrev pub IsGuard : GuardTree → Turns → Guard → Type 0
@@ -142,36 +175,37 @@ first_turn = record { low = pos 0; high = pos 0; rise = 0; fall = 0 }
 abbrev pub later_turn : Range
 later_turn = record { low = pos 1; high = pos (2 ^ 64 - 1); rise = 0; fall = 1 }
 
--- how a later turn begins by a guess, and all faults of the loop are listed
-pub record BeginsLater (pinned : List Known) (guess : List (List Known)) (turns : Turns) (first : Faults) (inside outside : List (List Known)) (later : Faults) (found : List Finding) (place : Place) (l : Loop) : Type 0 where
+-- how a later turn begins by a guess, and all that may happen where a turn begins is noted
+pub record BeginsLater (pinned : List Known) (guess : List (List Known)) (turns : Turns) (first_inside first_outside : List (List Known)) (first : Faults) (inside outside : List (List Known)) (later : Faults) (noted : Noted) (place : Place) (l : Loop) : Type 0 where
   pub enters : Enters pinned guess (guard_tree (out-Loop l).guard) turns (boxed_target (out-Loop l).counter) later_turn inside outside later
-  pub start_listed : AreListed (traps_of found) place turns.faults
-  pub first_listed : AreListed (traps_of found) place first
-  pub later_listed : AreListed (traps_of found) place later
+  pub start_noted : AreNoted noted place turns.faults
+  pub first_noted : AreNoted noted place first
+  pub later_noted : AreNoted noted place later
+  pub first_true : NotedIn noted place (answers true) first_inside
+  pub first_false : NotedIn noted place (answers false) first_outside
+  pub later_true : NotedIn noted place (answers true) inside
+  pub later_false : NotedIn noted place (answers false) outside
 
 -- the cases behind IF, and those behind each of its branches
 pub record AreBranches (yes no after : List (List Known)) : Type 0 where
   pub yes_after : TellsCases yes after
   pub no_after : TellsCases no after
 
--- the cases behind a loop, with all that was found in it
-pub record Concludes (first later : List (List Known)) (found all : List Finding) (after : List (List Known)) : Type 0 where
+-- the cases behind a loop, with all that was noted in it
+pub record Concludes (first later : List (List Known)) (inside noted : Noted) (after : List (List Known)) : Type 0 where
   pub first_after : TellsCases first after
   pub later_after : TellsCases later after
-  pub listed : ArePart (traps_of found) (traps_of all)
+  pub part : IsPart inside noted
 
 -- a later turn leads from a guess to the cases behind the loop, and each turn to the cases at its end
-pub record RoundKeeps (pinned : List Known) (guess : List (List Known)) (turns : Turns) (first_inside : List (List Known)) (first : Faults) (outside end : List (List Known)) (found : List Finding) (place : Place) (l : Loop) : Type 0 where
+pub record RoundKeeps (pinned : List Known) (guess : List (List Known)) (turns : Turns) (first_inside first_outside : List (List Known)) (first : Faults) (outside end : List (List Known)) (noted : Noted) (place : Place) (l : Loop) : Type 0 where
   pub later_inside : List (List Known)
   pub later : Faults
   pub before : List (List Known)
-  pub enters : Enters pinned guess (guard_tree (out-Loop l).guard) turns (boxed_target (out-Loop l).counter) later_turn later_inside outside later
-  pub start_listed : AreListed (traps_of found) place turns.faults
-  pub first_listed : AreListed (traps_of found) place first
-  pub later_listed : AreListed (traps_of found) place later
-  pub separates : SeparatorKeeps pinned later_inside before found (boxed_separator (out-Loop l).between)
+  pub begun : BeginsLater pinned guess turns first_inside first_outside first later_inside outside later noted place l
+  pub separates : SeparatorKeeps pinned later_inside before noted (boxed_separator (out-Loop l).between)
   pub first_before : TellsCases first_inside before
-  pub body : WalkKeeps pinned before end found (command_list (out-Loop l).body)
+  pub body : WalkKeeps pinned before end noted (command_list (out-Loop l).body)
 
 -- the tree of a loop of the code at a place
 abbrev pub loop_at : Place → Loop → CommandTree

@@ -28,7 +28,7 @@ pub returns-in-String : goal.returns-in-String
 returns-in-String c =
     let pinned = pins_in c.args.ground in
     let known = facts_in c.args.ground c.args.known.now in
-    let after = known in
+    let after = facts_in c.args.ground c.take_string.new.known in
     let command = c.args.command.now in
     let held = c.deref-in-String.result.now in
     if_ok_more (λ (f : Faults). Acts pinned known after f (string (expr_tree held))) (λ (f : Faults). ActKeeps pinned known after f (command_tree command)) c.take_string.result

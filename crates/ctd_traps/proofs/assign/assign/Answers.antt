@@ -1,16 +1,19 @@
-use Rattle.std.proofs.Common.{subst}
+use Rattle.std.proofs.Common.{ap}
+use Rattle.ctd_program.specs.calls.View.{var_tree}
 use Rattle.ctd_known.specs.calls.Facts.{pins_in, facts_in}
+use Rattle.ctd_known.specs.declared.faults.Faults.{Faults}
+use Rattle.ctd_known.proofs.Results.{if_ok_more}
 use Rattle.ctd_traps.specs.inner.Walk.{Assigns}
-use Rattle.ctd_traps.proofs.Acting.{element_assigns, var_is}
+use Rattle.ctd_traps.proofs.Acting.{assigns_some}
 use Rattle.ctd_traps.proofs.assign.assign.Goals as goal
 
-pub returns-in_ok-assign_element-in-Some : goal.returns-in_ok-assign_element-in-Some
-returns-in_ok-assign_element-in-Some c =
-    let pinned = pins_in c.args.ground in
-    let known = facts_in c.args.ground c.args.known.now in
-    let after = facts_in c.args.ground c.assign_element.new.known in
-    let name = c.as_slice-name.result.now in
-    let es = c.as_slice-indices.result.now in
-    let faults = c.in-Some.faults in
-    subst (λ v. Assigns pinned known v c.args.kinds after faults) (var_is c.args.variable.now name es c.as_slice-name.ensures.whole c.as_slice-indices.ensures)
-    (element_assigns pinned known after name es c.args.kinds faults c.in-Some.ensures.some c.in-Some.ensures.fail c.in_ok-assign_element-in-Some.ensures)
+pub returns : goal.returns
+returns c =
+    let g = c.args.ground in
+    let pinned = pins_in g in
+    let known = facts_in g c.args.known.now in
+    let left = facts_in g c.expect_value.new.known in
+    let after = facts_in g c.assign_some.new.known in
+    let variable = var_tree c.args.variable.now in
+    if_ok_more (λ (f : Faults). Assigns pinned left variable c.args.kinds after f) (λ (f : Faults). Assigns pinned known variable c.args.kinds after f) c.assign_some.result
+    (λ f so. assigns_some pinned known left after variable c.args.kinds f (λ k v may. ap (facts_in g) (c.expect_value.ensures k v may)) so) c.assign_some.ensures

@@ -8,3 +8,8 @@ pub loop-preserved : goal.loop-preserved
 loop-preserved c = λ q.
     let before = c.loop.known.items in
     subst (λ l. PinsStand l []) (sym (ap (named_facts q) c.in_ok-push.ensures.items ∙ facts_push q before _)) (one_more_name (named_facts q before) _ refl (c.loop.invariant q))
+
+pub returns : goal.returns
+returns c = λ q.
+    let before = c.loop.known.items in
+    subst (λ l. PinsStand l []) (sym (ap (named_facts q) c.in_ok-push-2.ensures.items ∙ facts_push q before _)) (one_more_name (named_facts q before) _ refl (c.loop.invariant q))

@@ -1,11 +1,11 @@
-use Rattle.std.proofs.Common.{None, Some, refl, sym}
+use Rattle.std.proofs.Common.{None, Some, ap, refl, sym}
 use Rattle.ctd_program.specs.calls.View.{var_tree}
 use Rattle.ctd_known.specs.calls.Facts.{pins_in, facts_in}
 use Rattle.ctd_known.specs.declared.facts.Kinds.{Kinds}
 use Rattle.ctd_known.specs.declared.faults.Faults.{Faults}
 use Rattle.ctd_known.proofs.Results.{if_ok_more}
 use Rattle.ctd_traps.specs.inner.Walk.{Assigns, CountsTurn}
-use Rattle.ctd_traps.proofs.Turning.{counts_none, counts_some}
+use Rattle.ctd_traps.proofs.Turning.{counts_nothing, counts_some}
 use Rattle.ctd_traps.proofs.turn.count_turn.Goals as goal
 
 pub returns-in-Some : goal.returns-in-Some
@@ -20,4 +20,7 @@ returns-in-Some c =
     (λ f so. counts_some pinned known after variable c.args.turn kinds f refl so) c.assign.ensures)
 
 pub returns-in-None : goal.returns-in-None
-returns-in-None c = rw c.in-None.is (counts_none (pins_in c.args.ground) (facts_in c.args.ground c.args.known.now) c.args.turn c.no_faults.result)
+returns-in-None c =
+    let g = c.args.ground in
+    let kinds : Kinds = record { text = None; number = Some c.args.turn } in
+    rw c.in-None.is (counts_nothing (pins_in g) (facts_in g c.args.known.now) (facts_in g c.expect_value.new.known) c.args.turn kinds c.no_faults.result refl (λ k v may. ap (facts_in g) (c.expect_value.ensures k v may)))

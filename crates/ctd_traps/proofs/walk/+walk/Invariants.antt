@@ -1,7 +1,6 @@
 use Rattle.std.proofs.Common.{drop}
 use Rattle.ctd_program.specs.calls.View.{command_trees}
-use Rattle.ctd_traps.specs.calls.Traps.{traps_of}
-use Rattle.ctd_traps.specs.inner.Holds.{ArePart}
+use Rattle.ctd_traps.specs.inner.Noted.{IsPart}
 use Rattle.ctd_traps.proofs.Walking.{WalkLeads}
 use Rattle.ctd_known.specs.calls.Facts.{pins_in}
 use Rattle.ctd_known.specs.calls.Cases.{cases_in}
@@ -9,9 +8,9 @@ use Rattle.ctd_traps.proofs.walk.+walk.Given as goal
 
 abbrev pub invariant-walk-loop-command : goal.invariant-walk-loop-command
 invariant-walk-loop-command l = record {
-  more : ArePart (traps_of l.initial.findings.items) (traps_of l.findings.items);
-  leads : WalkLeads (pins_in l.ground) (cases_in l.ground l.initial.after.items) (cases_in l.ground l.after.items) l.findings.items (command_trees (drop l.command-index l.commands)) (command_trees l.commands);
+  more : IsPart l.initial.noted l.noted;
+  leads : WalkLeads (pins_in l.ground) (cases_in l.ground l.initial.after.items) (cases_in l.ground l.after.items) l.noted (command_trees (drop l.command-index l.commands)) (command_trees l.commands);
 }
 
 abbrev pub invariant-repeat-loop-round : goal.invariant-repeat-loop-round
-invariant-repeat-loop-round l = ArePart (traps_of l.initial.findings.items) (traps_of l.findings.items)
+invariant-repeat-loop-round l = IsPart l.initial.noted l.noted

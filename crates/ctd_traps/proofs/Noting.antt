@@ -1,0 +1,43 @@
+-- Notes that are added to others.
+use Rattle.std.proofs.Common.{◌≡◌, ◌++◌, List, [], ◌∷◌, Contains, refl, ap, sym, subst, ◌∙◌}
+use Rattle.std.proofs.lemmas.List.Elements.{Contains-append_left, Contains-append_right, Contains-push}
+use Rattle.ctd_token.specs.declared.text.Place.{Place}
+use Rattle.ctd_traps.specs.calls.Traps.{traps_of}
+use Rattle.ctd_traps.specs.calls.Events.{PlacedEvent, answers, begins, event_of, event_of_kind, events_of, fails, goes_on}
+use Rattle.ctd_traps.specs.declared.note.EventKind.{EventKind}
+use Rattle.ctd_traps.specs.declared.note.EventKind.TheVariants as kinds
+use Rattle.ctd_traps.specs.declared.note.Note.{Note}
+use Rattle.ctd_traps.specs.declared.note.Noted.{Noted}
+use Rattle.ctd_traps.specs.inner.Holds.{ArePart}
+use Rattle.ctd_traps.specs.inner.Noted.{IsPart, noted_in}
+
+pub events_both : (a b : List Note) → events_of (a ++ b) ≡ events_of a ++ events_of b
+events_both [] b = refl
+events_both (x ∷ a) b = ap (λ l. event_of x ∷ l) (events_both a b)
+
+-- all events of one list are in another
+abbrev pub HaveEvents : List Note → List Note → Type 0
+HaveEvents some all = (e : PlacedEvent) → Contains (events_of some) e → Contains (events_of all) e
+
+pub events_left : (a b all : List Note) → all ≡ a ++ b → HaveEvents a all
+events_left a b all is e has = subst (λ l. Contains l e) (sym (ap events_of is ∙ events_both a b)) (Contains-append_left (events_of a) (events_of b) e has)
+
+pub events_right : (a b all : List Note) → all ≡ a ++ b → HaveEvents b all
+events_right a b all is e has = subst (λ l. Contains l e) (sym (ap events_of is ∙ events_both a b)) (Contains-append_right (events_of a) (events_of b) e has)
+
+pub event_pushed : (a all : List Note) (x : Note) → all ≡ a ++ x ∷ [] → Contains (events_of all) (event_of x)
+event_pushed a all x is = subst (λ l. Contains l (event_of x)) (sym (ap events_of is ∙ events_both a (x ∷ []))) (Contains-push (events_of a) (event_of x))
+
+-- what is noted grows with its two lists
+pub part_of : (old new : Noted) → ArePart (traps_of old.findings.items) (traps_of new.findings.items) → HaveEvents old.events.items new.events.items → IsPart old new
+part_of old new traps events place begins is = events (record { place = place; event = begins }) is
+part_of old new traps events place goes_on is = events (record { place = place; event = goes_on }) is
+part_of old new traps events place (answers b) is = events (record { place = place; event = answers b }) is
+part_of old new traps events place (fails fault) is = traps (record { place = place; fault = fault }) is
+
+-- an event of a kind is noted, if it is among the events
+pub kind_noted : (noted : Noted) (place : Place) (kind : EventKind) → Contains (events_of noted.events.items) (record { place = place; event = event_of_kind kind }) → noted_in noted place (event_of_kind kind)
+kind_noted noted place kinds.Begins has = has
+kind_noted noted place kinds.GoesOn has = has
+kind_noted noted place kinds.IsTrue has = has
+kind_noted noted place kinds.IsFalse has = has

@@ -1,0 +1,13 @@
+use Rattle.std.specs.Prelude.{true}
+use Rattle.ctd_traps.specs.calls.Events.{answers}
+use Rattle.ctd_traps.proofs.note.note_answers.Goals as goal
+
+pub returns : goal.returns
+returns c =
+    let first = c.in_ok-note_event.ensures in
+    let second = c.in_ok-note_event-2.ensures in
+    record {
+      more = λ place event is. second.more place event (first.more place event is);
+      on_true = λ g n h one. second.more c.args.place (answers true) (first.event g n h one);
+      on_false = second.event;
+    }

@@ -1,0 +1,81 @@
+-- What happens in the runs of a program, and what never does: the theorem.
+use Rattle.ctd_program.specs.Tree
+use Rattle.std.specs.Prelude.{◌≡◌, ◌<◌, ◌^◌, ℕ, suc, true, false, Bool, List, [], ◌∷◌, ◌++◌, map, Contains}
+use Rattle.ctd_source.specs.TestData.{TestData}
+use Rattle.ctd_token.specs.declared.text.Place.{Place}
+use Rattle.ctd_program.specs.declared.mode.Mode.{Mode}
+use Rattle.ctd_program.specs.declared.preset.Preset.{Preset}
+use Rattle.ctd_program.specs.Tree.{TestTree, CommandList, CommandTree}
+use Rattle.ctd_check.specs.calls.Run.{place_of}
+use Rattle.ctd_outcome.specs.declared.reason.Fault.{Fault}
+use Rattle.ctd_outcome.specs.declared.outcome.Site.TheVariants.{At}
+use Rattle.ctd_command.specs.State.{State, done, faulty}
+use Rattle.ctd_command.specs.Commands.{answer}
+use Rattle.ctd_command.specs.Blanks.{first_skip}
+use Rattle.ctd_check.specs.Loops.{Loop, Task, start, turn, finish, tasks, take_turn}
+use Rattle.ctd_check.specs.Run.{perform, site_of, at_start}
+use Rattle.ctd_traps.specs.calls.Traps.{IsOfValue}
+use Rattle.ctd_traps.specs.declared.note.EventKind.{EventKind}
+use Rattle.ctd_traps.specs.declared.note.EventKind.TheVariants as kinds
+use Rattle.ctd_traps.specs.declared.note.Note.{Note}
+
+-- over some data, a run comes from a state with tasks and steps left to another: at once, or by a task that is done
+pub data Comes (d : TestData) : ℕ → List Task → State → ℕ → List Task → State → Type 0 where
+  at_once : {n : ℕ} {ts : List Task} {s : State} → Comes d n ts s n ts s
+  by_step : {n m : ℕ} {task : Task} {more rest us : List Task} {s t u : State} →
+      perform task d s ≡ done more t → Comes d n (more ++ rest) t m us u → Comes d (suc n) (task ∷ rest) s m us u
+
+-- a command begins; it is done, or leads to others; a test, or the begin of a turn, gives an answer; a fault of a value stops the run
+pub data Event : Type 0 where
+  begins : Event
+  goes_on : Event
+  answers : (b : Bool) → Event
+  fails : (fault : Fault) → Event
+
+-- what happens, and at which place, where a run does a task
+pub data Happens (d : TestData) : Task → State → Place → Event → Type 0 where
+  command_begins : {c : CommandTree} {s : State} → Happens d (start c) s (place_of c) begins
+  command_goes_on : {c : CommandTree} {more : List Task} {s t : State} →
+      perform (start c) d s ≡ done more t → Happens d (start c) s (place_of c) goes_on
+  assert_answers : {place : Place} {test : TestTree} {b : Bool} {s t : State} →
+      answer test d s ≡ done b t → Happens d (start (Tree.assert place test)) s place (answers b)
+  if_answers : {place : Place} {test : TestTree} {then_do else_do : CommandList} {b : Bool} {s t : State} →
+      answer test d s ≡ done b t → Happens d (start (Tree.choice place test then_do else_do)) s place (answers b)
+  turn_answers : {loop : Loop} {k : ℕ} {b : Bool} {s t : State} →
+      take_turn loop k d s ≡ done b t → Happens d (turn loop k) s loop.place (answers b)
+  task_fails : {task : Task} {place : Place} {fault : Fault} {consumed : ℕ} {s : State} →
+      site_of task ≡ At place → IsOfValue fault → perform task d s ≡ faulty fault consumed → Happens d task s place (fails fault)
+
+-- which events may happen at which places
+abbrev pub Events : Type 1
+Events = Place → Event → Type 0
+
+-- Whatever the mode, the data and the limit of steps are: all that happens in a run, once a step is there for it, is one of these events.
+abbrev pub HasEachEvent : CommandList → List Preset → Events → Type 0
+HasEachEvent program presets events = (mode : Mode) (d : TestData) (steps n : ℕ) (s t : State) (task : Task) (rest : List Task) (place : Place) (event : Event) →
+    steps < 2 ^ 64 → first_skip d (at_start mode presets) ≡ done tt s →
+    Comes d steps (tasks program ++ finish ∷ []) s (suc n) (task ∷ rest) t → Happens d task t place event → events place event
+
+-- an event at a place
+pub record PlacedEvent : Type 0 where
+  pub place : Place
+  pub event : Event
+
+-- Nothing that is listed ever happens, whatever the mode, the data and the limit of steps are.
+abbrev pub NeverHappens : CommandList → List Preset → List PlacedEvent → Type 0
+NeverHappens program presets never = HasEachEvent program presets (λ place event. Contains never (record { place = place; event = event }) → ⊥)
+
+-- the event of a kind
+abbrev pub event_of_kind : EventKind → Event
+event_of_kind kinds.Begins = begins
+event_of_kind kinds.GoesOn = goes_on
+event_of_kind kinds.IsTrue = answers true
+event_of_kind kinds.IsFalse = answers false
+
+-- the event of a note
+abbrev pub event_of : Note → PlacedEvent
+event_of note = record { place = note.place; event = event_of_kind note.kind }
+
+-- the events of some notes
+abbrev pub events_of : List Note → List PlacedEvent
+events_of notes = map event_of notes
