@@ -22,6 +22,7 @@ use ctd_program::{Action, Command, Expr, Test};
 use ctd_token::{Bytes, Name};
 use ctd_value::Store;
 use std::alloc::{AllocError, Global};
+use std::collections::BTreeSet;
 
 /// Adds a remark where this is so.
 pub(crate) fn remark_if(is_so: bool, kind: Kind, found: &mut Collector<Remark>)
@@ -191,7 +192,33 @@ fn list_own(alloc: Global, command: &Command, nothing: &Store, found: &mut Colle
     }
 }
 
-/// The remarks on a command.
+/// Which of some remarks say what none before them says.
+fn are_new(alloc: Global, remarks: &[Remark]) -> Result<Vec<bool>, AllocError> {
+    let mut seen = BTreeSet::new(alloc);
+    let mut new = Vec::new(alloc);
+    for remark in remarks {
+        let name: &[u8] = match &remark.name {
+            Some(name) => name.as_slice(),
+            None => &[],
+        };
+        new.push(seen.insert((remark.kind.name(), name))?)?;
+    }
+    Ok(new)
+}
+
+/// The remarks, each once.
+fn each_once(alloc: Global, remarks: Vec<Remark>) -> Result<Vec<Remark>, AllocError> {
+    let new = are_new(alloc, remarks.as_slice())?;
+    let mut once = Vec::new(alloc);
+    for (remark, is_new) in remarks.into_iter().zip(new) {
+        if is_new {
+            once.push(remark)?;
+        }
+    }
+    Ok(once)
+}
+
+/// The remarks on a command, each once.
 pub(crate) fn command_remarks<'p>(
     alloc: Global,
     entry: &CommandInBlock<'p>,
@@ -215,5 +242,5 @@ pub(crate) fn command_remarks<'p>(
     list_test_range(alloc, command, known, &mut found);
     list_kept(alloc, command, read, &mut found);
     list_own(alloc, command, &known.nothing, &mut found);
-    found.finish()
+    each_once(alloc, found.finish()?)
 }

@@ -8,7 +8,7 @@ ghost use Rattle.ctd_source.specs.declared.from_read.FromRead.{FromRead as Sourc
 ghost use Rattle.ctd_source.specs.declared.source.Seen.TheVariants.{Going};
 ghost use Rattle.ctd_lint_tool.specs.calls.Opening.{AsksFor, OpensProgram};
 
-use ctd_process::{Files, System, buffered_source};
+use ctd_process::{Files, System, SystemFile, buffered_source};
 use ctd_source::{FromRead, Source};
 use std::alloc::{AllocError, Global};
 use std::io::BufReader;
@@ -29,7 +29,7 @@ impl ClosableFiles for System<'_> {
     // The contracts of std tell nothing of the system.
     ghost closes = { λ _ _ _. ⊤ };
 
-    fn close(&mut self, source: FromRead<BufReader<Self::File>>) {
+    fn close(&mut self, source: FromRead<BufReader<SystemFile>>) {
         drop(source);
     }
 }
