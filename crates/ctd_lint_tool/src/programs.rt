@@ -29,7 +29,9 @@ impl ClosableFiles for System<'_> {
     // The contracts of std tell nothing of the system.
     ghost closes = { λ _ _ _. ⊤ };
 
-    fn close(&mut self, source: FromRead<BufReader<SystemFile>>) {
+    fn close(&mut self, source: FromRead<BufReader<SystemFile>>)
+        ensures { ⊤ }
+    {
         drop(source);
     }
 }
