@@ -1,5 +1,5 @@
 // What can be said of the program without data, under its editor and in it, a moment after each change.
-import { startWorker } from "./program.js";
+import { startWorker } from "./engine.js";
 
 const PAUSE = 300; // milliseconds
 const MOST = 50;

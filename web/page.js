@@ -2,7 +2,7 @@
 import { Answer } from "./answer.js";
 import { Field } from "./field.js";
 import { Findings } from "./findings.js";
-import { modules, startWorker } from "./program.js";
+import { modules, startWorker } from "./engine.js";
 import "./mode.js";
 import examples from "made/examples.json";
 
