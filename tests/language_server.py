@@ -48,7 +48,7 @@ def python_with_library() -> str | None:
 PYTHON = python_with_library()
 if PYTHON not in (None, sys.executable):
     # (the client of this test needs the library too)
-    os.execv(PYTHON, [PYTHON, *sys.argv])
+    os.execv(str(PYTHON), [str(PYTHON), *sys.argv])
 if PYTHON:
     from pylsp_jsonrpc.endpoint import Endpoint
     from pylsp_jsonrpc.exceptions import JsonRpcException

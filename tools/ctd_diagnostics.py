@@ -12,7 +12,6 @@ from pathlib import Path
 
 from ctd_companion import Answer, Checker, Place, find_program, printable, text_of
 from ctd_document import Document
-from ctd_program import PIECE
 from ctd_symbols import head_end, open_part, preset_mentions, tokens_in
 from ctd_text import Text
 from ctd_values import expected_line
@@ -131,13 +130,12 @@ def refusal(checker: str, program: str, document: Document, presets: str, answer
 
 def token_end(text: Text, start: int) -> int:
     """The offset behind the token that begins at an offset: a string that is not closed goes to the end of its line."""
-    found = PIECE.match(text.data, start)
-    kind = found and found.lastgroup
-    if found is None or kind is None or found.start(kind) != start:
+    kind, _, offset, end = next(tokens_in(text.data, start))
+    if offset != start:
         return start
     if kind == "unfinished":
         return text.line_end(start)
-    return text.character_end(start) if kind == "unexpected" else found.end(kind)
+    return text.character_end(start) if kind == "unexpected" else end
 
 
 def findings(document: Document, written: str, program: str) -> list[Diagnostic]:

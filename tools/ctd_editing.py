@@ -181,7 +181,7 @@ def folds(document: Document) -> list[Json]:
         end = otherwise.offset if otherwise else block.end
         found.append({"startLine": document.line(block.offset) - 1, "endLine": document.line(end) - 2})
     found += comment_folds(document)
-    return sorted((fold for fold in found if fold["startLine"] < fold["endLine"]), key=lambda fold: fold["startLine"])
+    return sorted((fold for fold in found if fold["startLine"] < fold["endLine"]), key=lambda fold: int(fold["startLine"]))
 
 
 def comment_folds(document: Document) -> Iterator[Json]:

@@ -198,8 +198,10 @@ class Server:
             if is_wanted():
                 self.publish(document.uri, told, version=document.version)
 
-    def publish(self, uri: str, told: list[Json], **more: int) -> None:
-        self.endpoint.notify("textDocument/publishDiagnostics", {"uri": uri, "diagnostics": told, **more})
+    def publish(self, uri: str, told: list[Json], version: int | None = None) -> None:
+        """Tells the diagnostics of a file, of one of its versions where it is open."""
+        of_version = {} if version is None else {"version": version}
+        self.endpoint.notify("textDocument/publishDiagnostics", {"uri": uri, "diagnostics": told, **of_version})
 
     def rename(self, document: Document, position: Json, new: str) -> Json:
         """The edits of all places of a name. Raises JsonRpcException where it cannot have the other one."""
@@ -211,8 +213,9 @@ class Server:
     def actions(self, given: Json) -> list[Json]:
         """What a user can have done: all data checked."""
         wanted = given.get("context", {}).get("only", ["source"])
-        command = {"title": "Check all data", "command": CHECK_DATA, "arguments": [self.document(given).uri]}
-        return [{"title": command["title"], "kind": "source", "command": command}] if "source" in wanted else []
+        title, arguments = "Check all data", [self.document(given).uri]
+        action = {"title": title, "kind": "source", "command": {"title": title, "command": CHECK_DATA, "arguments": arguments}}
+        return [action] if "source" in wanted else []
 
     def execute(self, given: Json) -> Callable[[], None]:
         """Runs a command of a client; the one that there is has the program as its argument."""
@@ -230,12 +233,12 @@ class Server:
                 faults, summary = data_faults(self.tools.checker, program, define, lambda: self.phase is Phase.OPEN)
             except NotWanted:
                 return
-            except CannotCheck as fault:
-                self.tell(str(fault), Severity.ERROR)
+            except CannotCheck as reason:
+                self.tell(str(reason), Severity.ERROR)
                 return
             told: dict[str, list[Json]] = {uri: [] for uri in self.faulty}
-            for fault in faults:
-                told.setdefault(fault.file.as_uri(), []).append(fault_value(fault))
+            for one in faults:
+                told.setdefault(one.file.as_uri(), []).append(fault_value(one))
             for uri, values in told.items():
                 self.publish(uri, values)
             self.faulty = {uri for uri, values in told.items() if values}
@@ -257,8 +260,8 @@ def saved_program(document: Document) -> Path:
 
 def diagnostic_value(text: Text, found: Diagnostic) -> Json:
     """A diagnostic in the values of the protocol."""
-    value = {"range": text.span(found.start, found.end), "severity": found.severity, "source": found.source, "message": found.message}
-    return {**value, "code": found.kind} if found.kind else value
+    code = {"code": found.kind} if found.kind else {}
+    return {"range": text.span(found.start, found.end), "severity": found.severity, "source": found.source, "message": found.message, **code}
 
 
 def fault_value(fault: DataFault) -> Json:
