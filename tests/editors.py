@@ -364,6 +364,7 @@ class TextMate(unittest.TestCase):
         pattern = matchers["ctd-lint"]
         for line, parts in [
             ("a b.ctd:2:13: warning: the string is empty [empty-string]", ("a b.ctd", "2", "13", "warning", "the string is empty", "empty-string")),
+            ("a.ctd:2:1: risk: may divide by zero [division-by-zero]", ("a.ctd", "2", "1", "risk", "may divide by zero", "division-by-zero")),
             ("a.ctd:1:1: note: nothing reads this variable: n [unread]", ("a.ctd", "1", "1", "note", "nothing reads this variable: n", "unread")),
             ("a.ctd:1:6: error: syntax error", ("a.ctd", "1", "6", "error", "syntax error", None)),
         ]:

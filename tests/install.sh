@@ -78,6 +78,7 @@ share/checktestdata/tools/ctd_symbols.py
 share/checktestdata/tools/ctd_text.py
 share/checktestdata/tools/ctd_untried.py
 share/checktestdata/tools/ctd_values.py
+share/checktestdata/vscode/extension.js
 share/checktestdata/vscode/language-configuration.json
 share/checktestdata/vscode/package.json
 share/checktestdata/vscode/syntaxes/checktestdata.tmLanguage.json
