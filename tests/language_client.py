@@ -121,7 +121,7 @@ class Client:
 
     def close(self) -> tuple[int, bytes]:
         """Ends the connection as the protocol says. Gives the status of the server, and what it wrote on standard error."""
-        self.request("shutdown")
+        assert self.request("shutdown") is None
         self.notify("exit")
         with self.process:
             status, err = self.process.wait(OUT_OF_TIME), self.process.stderr.read()

@@ -72,6 +72,13 @@ class Names(ServerTest):
         self.assertEqual(client.ask("prepareRename", 1, 12), span(1, 11, 12))
         self.assertIsNone(client.ask("prepareRename", 1, 1))
 
+    def test_a_rename_of_one_version(self) -> None:
+        client = self.client(capabilities={"workspace": {"workspaceEdit": {"documentChanges": True}}})
+        client.open("INT(1,9,n)")
+        edits = [{"range": span(0, 8, 9), "newText": "m"}]
+        wanted = {"documentChanges": [{"textDocument": {"uri": client.uri, "version": 1}, "edits": edits}]}
+        self.assertEqual(client.ask("rename", 0, 8, newName="m"), wanted)
+
     def test_a_rename_of_a_program_that_is_refused(self) -> None:
         text = "INT(1,9,n) NEWLINE REP(n\n SET(m=n) $ END"
         self.assertEqual(self.renamed(self.opened(text), 0, 23, "k", text), "INT(1,9,k) NEWLINE REP(k\n SET(m=k) $ END")

@@ -151,10 +151,10 @@ class Protocol(ServerTest):
         client.notify("initialized")
         client.open("INT(1,9,n) NEWLINE")
         self.assertEqual(client.ask("hover", 0, 1)["range"], span(0, 0, 3))
+        for method in ("$/setTrace", "textDocument/didSave", "workspace/other"):
+            client.notify(method, value="off")
         client.notify("textDocument/didClose", textDocument={"uri": client.uri})
-        self.assertIsNone(client.request("shutdown"))
-        client.notify("exit")
-        self.assertEqual(client.process.wait(OUT_OF_TIME), 0)
+        self.assertEqual(client.close(), (0, b""))
 
     def assert_refused(self, code: int, client: Client, method: str, **parameters: Any) -> None:
         with self.assertRaises(JsonRpcException) as caught:

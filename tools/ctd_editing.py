@@ -11,7 +11,7 @@ from ctd_manual import TESTS, Entry, manual
 from ctd_program import NAME, Refused, commands_of
 from ctd_ranges import ranges_of
 from ctd_symbols import Block, Use, names_of_presets, next_tokens, part_at
-from ctd_text import Json, Text
+from ctd_text import Json
 
 NAME_FORM = re.compile("[a-z][a-z0-9]*")
 # A word or a name that may still be typed, at the end of a text.

@@ -62,6 +62,7 @@ class Server:
         self.waiting: dict[str, threading.Timer] = {}
         self.presets = ""
         self.with_snippets = False
+        self.with_versions = False
         # what was last told to be wrong with data, and a lock for one check of data at a time
         self.faulty: set[str] = set()
         self.checking_data = threading.Lock()
@@ -110,8 +111,9 @@ class Server:
         raise JsonRpcException(f"the connection is {self.phase.value}", INVALID_REQUEST)
 
     def initialize(self, given: Json) -> Json:
-        completion = given.get("capabilities", {}).get("textDocument", {}).get("completion", {})
-        self.with_snippets = bool(completion.get("completionItem", {}).get("snippetSupport"))
+        client = given.get("capabilities", {})
+        self.with_snippets = is_set(client, "textDocument", "completion", "completionItem", "snippetSupport")
+        self.with_versions = is_set(client, "workspace", "workspaceEdit", "documentChanges")
         self.phase = Phase.OPEN
         self.configure(given.get("initializationOptions"))
         return {"capabilities": CAPABILITIES, "serverInfo": {"name": NAME, "version": VERSION}}
@@ -200,15 +202,21 @@ class Server:
 
     def publish(self, uri: str, told: list[Json], version: int | None = None) -> None:
         """Tells the diagnostics of a file, of one of its versions where it is open."""
-        of_version = {} if version is None else {"version": version}
-        self.endpoint.notify("textDocument/publishDiagnostics", {"uri": uri, "diagnostics": told, **of_version})
+        given: Json = {"uri": uri, "diagnostics": told}
+        if version is not None:
+            given["version"] = version
+        self.endpoint.notify("textDocument/publishDiagnostics", given)
 
     def rename(self, document: Document, position: Json, new: str) -> Json:
-        """The edits of all places of a name. Raises JsonRpcException where it cannot have the other one."""
+        """The edits of all places of a name, of this version of the text alone if the client can tell. Raises JsonRpcException where it cannot
+        have the other one."""
         try:
-            return {"changes": {document.uri: rename(document, position, new, self.presets)}}
+            edits = rename(document, position, new, self.presets)
         except CannotRename as fault:
             raise JsonRpcException(str(fault), REQUEST_FAILED) from fault
+        if self.with_versions:
+            return {"documentChanges": [{"textDocument": {"uri": document.uri, "version": document.version}, "edits": edits}]}
+        return {"changes": {document.uri: edits}}
 
     def actions(self, given: Json) -> list[Json]:
         """What a user can have done: all data checked."""
@@ -245,6 +253,14 @@ class Server:
             self.tell(summary, Severity.WARNING if faults else Severity.INFORMATION)
 
 
+def is_set(client: Json, *names: str) -> bool:
+    """Whether a client says that it can do something, by the names that lead there among its capabilities."""
+    value: Any = client
+    for name in names:
+        value = value.get(name) if isinstance(value, dict) else None
+    return bool(value)
+
+
 def saved_program(document: Document) -> Path:
     """The file of a program. Raises CannotCheck where it does not have the text of the editor: the tools would check another program."""
     parts = urlsplit(document.uri)
@@ -271,8 +287,10 @@ def fault_value(fault: DataFault) -> Json:
     return {"range": range_in(fault.file, fault.in_data), "severity": Severity.ERROR, "source": "checktestdata", "message": fault.message, **related}
 
 
-def keep_tracebacks_to_faults() -> None:
-    """Has the library write no traceback for what a client is told anyway, or for a client that went away."""
+def keep_log_to_faults() -> None:
+    """Has the library write nothing of messages that need no answer, of what a client is told anyway, and of a client that went away."""
     expected = (JsonRpcException, OSError)
     for name in ("endpoint", "streams"):
-        logging.getLogger(f"pylsp_jsonrpc.{name}").addFilter(lambda record: not (record.exc_info and isinstance(record.exc_info[1], expected)))
+        logger = logging.getLogger(f"pylsp_jsonrpc.{name}")
+        logger.setLevel(logging.ERROR)
+        logger.addFilter(lambda record: not (record.exc_info and isinstance(record.exc_info[1], expected)))
