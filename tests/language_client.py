@@ -69,7 +69,7 @@ class Client:
         assert self.process.stdin and self.process.stdout and self.process.stderr
         self.told: queue.Queue[tuple[str, Json]] = queue.Queue()
         self.numbers, self.uri = itertools.count(), ""
-        takers = {method: self.taker(method) for method in ("textDocument/publishDiagnostics", "window/showMessage")}
+        takers = {method: self.taker(method) for method in ("textDocument/publishDiagnostics", "window/showMessage", "window/logMessage")}
         self.endpoint = Endpoint(takers, JsonRpcStreamWriter(self.process.stdin).write)
         self.listener = threading.Thread(target=JsonRpcStreamReader(self.process.stdout).listen, args=[self.endpoint.consume], daemon=True)
         self.listener.start()

@@ -56,6 +56,17 @@ class Start(unittest.TestCase):
         self.assertEqual(self.run_server("--none")[0], 2)
 
     @unittest.skipUnless(PYTHON, NO_LIBRARY)
+    def test_what_is_no_protocol(self) -> None:
+        for sent, told in [
+            ("hello\n", "standard input has no messages of the Language Server Protocol"),
+            ("Content-Length: x\r\n\r\n", "standard input has no messages of the Language Server Protocol"),
+            ("Content-Length: 1\r\n\r\n5", "a message of standard input is no object of JSON"),
+        ]:
+            call = [sys.executable, str(SERVER), "--checker", str(CHECKER)]
+            ran = subprocess.run(call, input=sent, capture_output=True, text=True, timeout=OUT_OF_TIME, check=False)
+            self.assertEqual((ran.returncode, ran.stdout, ran.stderr), (2, "", f"ctd-language-server: {told}\n"))
+
+    @unittest.skipUnless(PYTHON, NO_LIBRARY)
     def test_on_a_terminal(self) -> None:
         ours, theirs = os.openpty()
         ran = subprocess.run([sys.executable, str(SERVER), "--checker", str(CHECKER)], stdin=theirs, capture_output=True, timeout=OUT_OF_TIME, check=False)

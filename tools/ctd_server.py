@@ -42,6 +42,24 @@ CAPABILITIES = {
 }
 
 
+class BadStream(Exception):
+    """What comes is no message of the protocol: a line that says so."""
+
+
+class Reader(JsonRpcStreamReader):
+    """A reader of the library that ends at a wrong header, where that one would go on with what it read last."""
+
+    @staticmethod
+    def _content_length(line: bytes) -> int:
+        try:
+            length = JsonRpcStreamReader._content_length(line)
+        except ValueError:
+            length = None
+        if length is None:
+            raise BadStream("standard input has no messages of the Language Server Protocol")
+        return int(length)
+
+
 class Phase(Enum):
     """How far a connection is: a client first asks to initialize, and at last to shut down."""
 
@@ -55,7 +73,7 @@ class Server:
 
     def __init__(self, tools: Tools, reading: IO[bytes], writing: IO[bytes]) -> None:
         self.tools = tools
-        self.reader = JsonRpcStreamReader(reading)
+        self.reader = Reader(reading)
         self.endpoint = Endpoint(self, JsonRpcStreamWriter(writing).write)
         self.phase = Phase.NEW
         self.documents: dict[str, Document] = {}
@@ -69,7 +87,7 @@ class Server:
         self.publishing = threading.Lock()
         self.methods: dict[str, Callable[[Json], Any]] = {
             "initialize": self.initialize,
-            "initialized": lambda _: None,
+            "initialized": self.initialized,
             "shutdown": self.shut_down,
             "exit": self.exit,
             "workspace/didChangeConfiguration": lambda given: self.configure((given.get("settings") or {}).get("checktestdata")),
@@ -89,14 +107,21 @@ class Server:
         }
 
     def serve(self) -> int:
-        """Answers until the client ends the connection. Gives the status of the protocol: 0 where it had asked to shut down."""
-        self.reader.listen(self.endpoint.consume)
-        status = int(self.phase is not Phase.SHUT_DOWN)
-        self.phase = Phase.SHUT_DOWN
-        for uri in list(self.documents):
-            self.forget(uri)
-        self.endpoint.shutdown()
-        return status
+        """Answers until the client ends the connection. Gives the status of the protocol: 0 where it had asked to shut down. Raises BadStream."""
+        try:
+            self.reader.listen(self.consume)
+            return int(self.phase is not Phase.SHUT_DOWN)
+        finally:
+            # what is at work is not wanted any more, and ends
+            self.phase = Phase.SHUT_DOWN
+            for uri in list(self.documents):
+                self.forget(uri)
+            self.endpoint.shutdown()
+
+    def consume(self, message: object) -> None:
+        if not isinstance(message, dict):
+            raise BadStream("a message of standard input is no object of JSON")
+        self.endpoint.consume(message)
 
     def __getitem__(self, method: str) -> Callable[[Json], Any]:
         """What handles a method, by the phase of the connection. Raises KeyError for one that there is not."""
@@ -117,6 +142,10 @@ class Server:
         self.phase = Phase.OPEN
         self.configure(given.get("initializationOptions"))
         return {"capabilities": CAPABILITIES, "serverInfo": {"name": NAME, "version": VERSION}}
+
+    def initialized(self, _: Json) -> None:
+        if self.tools.linter is None:
+            self.endpoint.notify("window/logMessage", {"type": Severity.WARNING, "message": "ctd-lint is not there, so only refusals are told"})
 
     def shut_down(self, _: Json) -> None:
         self.phase = Phase.SHUT_DOWN
