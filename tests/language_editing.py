@@ -91,7 +91,7 @@ class Names(ServerTest):
             (1, 11, "j", "j is the name of another variable"),
             (1, 11, "N", "N is no name: a name is a small letter, and then small letters and digits"),
             (1, 11, "n1\n", "n1\\n is no name: a name is a small letter, and then small letters and digits"),
-            (1, 1, "m", "here stands no name of a variable"),
+            (1, 1, "m", "there is no variable here"),
             (7, 14, "m", "b has a preset in the settings, which would stay as it is"),
         ]:
             with self.subTest(new), self.assertRaises(JsonRpcException) as caught:

@@ -310,6 +310,13 @@ echo "not a finding"; exit 1"""
         text = "# preset: ax=1,x=2\nINT(1,ax) NEWLINE"
         self.assertEqual(self.findings(script, text), [(2, "the program does not mention: x", "unknown-preset", span(0, 15, 16))])
 
+    def test_of_the_whole_program(self) -> None:
+        self.assertEqual(self.findings('echo "$program: too large to tell"', "SPACE\nSPACE"), [(3, "too large to tell", "", span(0, 0, 5))])
+
+    def test_a_linter_that_fails(self) -> None:
+        for script, told in [("echo out of memory >&2; exit 2", "out of memory"), ("exit 139", "ended with status 139")]:
+            self.assertEqual(self.findings(script, "SPACE"), [(3, f"ctd-lint tells nothing: {told}", "", span(0, 0, 5))])
+
     def test_too_many(self) -> None:
         script = 'seq 1500 | sed "s,.*,$program:1:1: note: & [unread],"; echo "$program:1:1: warning: bad [x]"'
         found = self.findings(script, "SPACE")
@@ -387,7 +394,7 @@ class Data(ServerTest):
         wrong.write_text("4\n")
         client.request("workspace/executeCommand", command="ctd.checkData", arguments=[program.as_uri()])
         self.assertEqual(client.next_told("textDocument/publishDiagnostics", wrong.as_uri())["diagnostics"], [])
-        self.assertEqual(client.next_told("window/showMessage"), {"type": 3, "message": "0 files do not fit"})
+        self.assertEqual(client.next_told("window/showMessage"), {"type": 3, "message": "all data fit"})
 
     def test_what_cannot_be_checked(self) -> None:
         program = self.write("n.ctd", "SPACE")

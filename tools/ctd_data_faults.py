@@ -86,7 +86,7 @@ def faults_of_folder(run: Run, program: Path, define: Sequence[str]) -> tuple[li
         if said is None or said[1] in (printable(str(program)), printable(str(program.parent))):
             raise CannotCheck(line)
         faults.append(DataFault(Path(said[1]), said[4], place_of(said[2], said[3]), program, place_of(said[5], said[6])))
-    return faults, "1 file does not fit" if len(faults) == 1 else f"{len(faults)} files do not fit"
+    return faults, {0: "all data fit", 1: "1 file does not fit"}.get(len(faults), f"{len(faults)} files do not fit")
 
 
 def range_in(file: Path, place: Place | None) -> Json:

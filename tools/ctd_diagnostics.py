@@ -10,15 +10,15 @@ from dataclasses import dataclass
 from enum import IntEnum
 from pathlib import Path
 
-from ctd_companion import Answer, Checker, Place, find_program, printable, text_of
+from ctd_companion import FITS, REJECTED, Answer, Checker, Place, find_program, printable, text_of
 from ctd_document import Document
 from ctd_symbols import head_end, open_part, preset_mentions, tokens_in
 from ctd_text import Text
 from ctd_values import expected_line
 
 LINTER = "ctd-lint"
-# A line of ctd-lint behind the name of the file.
-FINDING = re.compile(r":(\d+):(\d+): ([a-z]+): (.*?)(?: \[([a-z-]+)\])?")
+# A line of ctd-lint behind the name of the file: the place, the rank, the text and the kind. What is said of the whole program has the text alone.
+FINDING = re.compile(r"(?::(\d+):(\d+))?: (?:([a-z]+): )?(.*?)(?: \[([a-z-]+)\])?")
 # How many findings an editor gets.
 MOST_FINDINGS = 1000
 # How often it is looked whether a result is still wanted, in seconds.
@@ -78,6 +78,9 @@ def diagnostics(tools: Tools, document: Document, presets: str, is_wanted: Calla
         if tools.linter is None:
             return []
         ran = run_while([tools.linter, *define, "--", program], is_wanted)
+        if ran.returncode not in (FITS, REJECTED):
+            told = text_of(ran.stderr).strip().removeprefix(program) or f"ended with status {ran.returncode}"
+            return [of_all(document.text, f"{LINTER} tells nothing: {printable(told)}")]
         return findings(document, text_of(ran.stdout), program)
 
 
@@ -146,9 +149,13 @@ def findings(document: Document, written: str, program: str) -> list[Diagnostic]
         shown = sorted(lines, key=severity_of)[:MOST_FINDINGS]
     found = [finding(document, parts) for parts in shown]
     if len(lines) > len(shown):
-        left_out = f"{len(lines) - len(shown)} more findings are not shown"
-        found.append(Diagnostic(0, document.text.line_end(0), Severity.INFORMATION, LINTER, left_out))
+        found.append(of_all(document.text, f"{len(lines) - len(shown)} more findings are not shown"))
     return found
+
+
+def of_all(text: Text, message: str) -> Diagnostic:
+    """What is said of a whole program, at its first line."""
+    return Diagnostic(0, text.line_end(0), Severity.INFORMATION, LINTER, message)
 
 
 def severity_of(parts: re.Match[str]) -> Severity:
@@ -158,6 +165,8 @@ def severity_of(parts: re.Match[str]) -> Severity:
 def finding(document: Document, parts: re.Match[str]) -> Diagnostic:
     """The finding of a line. It marks the name with which its text ends, or else the head of the command."""
     text, message, kind = document.text, parts[4], parts[5] or ""
+    if parts[1] is None:
+        return of_all(text, message)
     start = text.offset_at(Place(int(parts[1]), int(parts[2])))
     end = head_end(text.data, start) if token_end(text, start) > start else text.line_end(start)
     name = message.rpartition(": ")[2].encode()

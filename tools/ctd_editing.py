@@ -7,11 +7,17 @@ from collections.abc import Iterator, Sequence
 
 from ctd_companion import printable
 from ctd_document import Document
-from ctd_manual import TESTS, Entry, manual
+from ctd_manual import COMMANDS, Entry, manual
 from ctd_program import NAME, Refused, commands_of
 from ctd_ranges import ranges_of
 from ctd_symbols import Block, Use, names_of_presets, next_tokens, part_at
 from ctd_text import Json
+
+# Numbers of the protocol: kinds of completions, that one is a snippet, and kinds of symbols, of which an array stands for a loop and a boolean
+# for a branch.
+FUNCTION, VARIABLE, KEYWORD = 3, 6, 14
+SNIPPET = 2
+BOOLEAN, ARRAY = 17, 18
 
 NAME_FORM = re.compile("[a-z][a-z0-9]*")
 # A word or a name that may still be typed, at the end of a text.
@@ -105,7 +111,7 @@ def rename(document: Document, position: Json, new: str, presets: str) -> list[J
     or where not all of its places are known."""
     mention = document.mention_at(position)
     if mention is None:
-        raise CannotRename("here stands no name of a variable")
+        raise CannotRename("there is no variable here")
     old, others = mention.name, document.symbols.names() | names_of_presets(presets)
     if not NAME_FORM.fullmatch(new):
         raise CannotRename(f"{printable(new)} is no name: a name is a small letter, and then small letters and digits")
@@ -127,22 +133,22 @@ def completions(document: Document, position: Json, with_snippets: bool) -> list
     tokens = next_tokens(data[:start])
     words = [entry for word, entry in manual().items() if tokens is None or word in tokens]
     items = [item for entry in words for item in word_items(entry, with_snippets)]
-    items += [{"label": word, "kind": 14} for word in ("ELSE", "END") if tokens is None or word in tokens]
+    items += [{"label": word, "kind": KEYWORD} for word in ("ELSE", "END") if tokens is None or word in tokens]
     if tokens is None or NAME in tokens:
         names = {mention.name for mention in document.symbols.mentions if mention.offset != start}
-        items += [{"label": name.decode(), "kind": 6} for name in sorted(names)]
+        items += [{"label": name.decode(), "kind": VARIABLE} for name in sorted(names)]
     return items
 
 
 def word_items(entry: Entry, with_snippets: bool) -> Iterator[Json]:
     """The completions of a word: alone, or with each of its forms to fill in."""
-    kind = 3 if f"| `{entry.word}" in TESTS else 14
+    kind = KEYWORD if f"`{entry.word}" in COMMANDS else FUNCTION
     shared = {"kind": kind, "documentation": entry.meaning}
     if not with_snippets:
         yield {**shared, "label": entry.word, "detail": ", ".join(entry.forms)}
         return
     for form in entry.forms:
-        yield {**shared, "label": form, "filterText": entry.word, "insertText": snippet(form), "insertTextFormat": 2}
+        yield {**shared, "label": form, "filterText": entry.word, "insertText": snippet(form), "insertTextFormat": SNIPPET}
 
 
 def snippet(form: str) -> str:
@@ -164,7 +170,7 @@ def outline(document: Document) -> list[Json]:
     def symbol(block: Block, depth: int) -> Json:
         return {
             "name": document.head(block.offset),
-            "kind": 17 if block.word in ("IF", "ELSE") else 18,
+            "kind": BOOLEAN if block.word in ("IF", "ELSE") else ARRAY,
             "range": document.text.span(block.offset, max(block.end, block.head_end)),
             "selectionRange": document.text.span(block.offset, block.head_end),
             "children": symbols(block.inner, depth + 1),

@@ -28,8 +28,10 @@ CHECK_DATA = "ctd.checkData"
 DELAY = 0.2
 # Codes of errors of the protocol.
 INVALID_REQUEST, NOT_INITIALIZED, INVALID_PARAMETERS, REQUEST_FAILED = -32600, -32002, -32602, -32803
+# How a client tells changes: by the range that each of them replaces.
+INCREMENTAL = 2
 CAPABILITIES = {
-    "textDocumentSync": {"openClose": True, "change": 2},
+    "textDocumentSync": {"openClose": True, "change": INCREMENTAL},
     "completionProvider": {},
     "hoverProvider": True,
     "definitionProvider": True,
