@@ -259,6 +259,11 @@ class Refusals(ServerTest):
         self.assertEqual(self.refusal("# preset: n=5\n# ü preset: x\n# preset: n=ü,m=3\nINT(1,n) NEWLINE"), ("bad preset", span(2, 10, 17)))
         self.assertEqual(self.refusal("\nSPACE", initializationOptions={"presets": "n="}), ("bad preset in the settings: n=", span(0, 0, 0)))
 
+    def test_presets_that_no_command_line_can_have(self) -> None:
+        client = self.client(initializationOptions={"presets": "n=5\0"})
+        client.open("SPACE")
+        self.assertEqual(client.next_told("window/showMessage"), {"type": 1, "message": "cannot check: embedded null byte"})
+
     def test_settings_that_are_wrong(self) -> None:
         client = self.client(initializationOptions={"presets": 5})
         self.assertEqual(client.next_told("window/showMessage"), {"type": 1, "message": "the setting presets is no text, such as n=5"})

@@ -223,8 +223,9 @@ class Server:
             found = diagnostics(self.tools, document, presets, is_wanted)
         except NotWanted:
             return
-        except OSError as error:
-            self.tell(f"cannot check: {error.strerror or error}", Severity.ERROR)
+        except (OSError, ValueError) as error:
+            # (no word of a command line can have a byte 0, as presets might)
+            self.tell(f"cannot check: {error}", Severity.ERROR)
             return
         told = [diagnostic_value(document.text, one) for one in found]
         with self.publishing:
