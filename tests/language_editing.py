@@ -7,7 +7,10 @@ from typing import Any
 
 from language_client import NO_LIBRARY, PYTHON, Client, Json, JsonRpcException, ServerTest, span
 from language_client import tearDownModule  # noqa: F401
+from results import TOP
 
+from ctd_program import cut, expected, states
+from ctd_symbols import next_tokens
 from ctd_text import Text
 
 PROGRAM = """# preset: maxn=9,k="n"
@@ -195,6 +198,14 @@ class Completions(ServerTest):
         ]:
             with self.subTest(before):
                 self.assertEqual(self.labels(before), wanted)
+
+    def test_what_follows_is_what_the_parser_wants(self) -> None:
+        """The part of a text that is still open goes on as all of it does, behind each token of each example."""
+        for program in sorted((TOP / "examples").rglob("*.ctd")):
+            text = program.read_bytes()
+            tokens = cut(text)[:-1]
+            for index, token in enumerate(tokens, 1):
+                self.assertEqual(next_tokens(text[: token.end]), set(expected(states(), tokens[:index])), text[: token.end])
 
     def test_names_stand_anywhere_in_the_text(self) -> None:
         self.assertEqual(self.labels("# preset: top=3\nINT(1,", ",x)\nREPI(i,n) a END # y"), {"STRLEN", "a", "i", "n", "top", "x"})

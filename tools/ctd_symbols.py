@@ -208,11 +208,12 @@ def open_part(text: bytes) -> tuple[bytes, bool]:
     # where each word begins whose parenthesis or block is open, and whether that is a block; a bracket in an expression has no word
     opened: list[tuple[int, bool]] = []
     end = 0
-    for kind, spelling, offset, token_end in tokens_in(text):
+    for found in PIECE.finditer(text):
+        kind = found.lastgroup or ""
+        if kind in ("end", "unfinished"):
+            break
+        spelling, end = found[kind], found.end()
         in_commands = not opened or opened[-1][1]
-        if kind == "end":
-            return b" ".join(kept) + b" ", b"#" not in text[end:offset].rpartition(b"\n")[2]
-        end = token_end
         if spelling == b"END" and opened and in_commands:
             start, _ = opened.pop()
             kept.append(spelling)
@@ -230,7 +231,8 @@ def open_part(text: bytes) -> tuple[bytes, bool]:
                 del kept[start:]
         elif not (in_commands and spelling in (b"SPACE", b"NEWLINE", b"EOF")):
             kept.append(spelling)
-    return b" ".join(kept), False
+    last_line = text[end:].rpartition(b"\n")[2]
+    return b" ".join(kept) + b" ", kind == "end" and b"#" not in last_line
 
 
 def next_tokens(text: bytes) -> set[str] | None:
