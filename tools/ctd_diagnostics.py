@@ -173,6 +173,6 @@ def finding(document: Document, parts: re.Match[str]) -> Diagnostic:
     if kind == "unknown-preset":
         given = [one for preset in document.presets for one in preset_mentions(preset) if one.name == name]
         start, end = (given[0].offset, given[0].end) if given else (0, text.line_end(0))
-    named = next((token for token in tokens_in(text.data[:end], start) if token.kind == "name" and token.text == name), None)
-    start, end = (named.offset, named.end) if named else (start, end)
+    named = next((token for token in tokens_in(text.data[start:end]) if token.kind == "name" and token.text == name), None)
+    start, end = (start + named.offset, start + named.end) if named else (start, end)
     return Diagnostic(start, end, severity_of(parts), LINTER, message, kind)
