@@ -462,7 +462,9 @@ class Show(CompanionTest):
 
     def test_no_module_is_of_posix_alone(self) -> None:
         missing = {name: None for name in ["fcntl", "grp", "pty", "pwd", "resource", "syslog", "termios", "tty"]}
-        modules = sorted(path.stem for path in TOOLS.glob("*.py"))
+        # (one needs a library, which may not be there)
+        without_library = set() if importlib.util.find_spec("pylsp_jsonrpc") else {"ctd_server"}
+        modules = sorted({path.stem for path in TOOLS.glob("*.py")} - without_library)
         script = f"import sys; sys.modules.update({missing}); sys.path.insert(0, {str(TOOLS)!r}); import {', '.join(modules)}"
         subprocess.run([sys.executable, "-B", "-c", script], timeout=OUT_OF_TIME, check=True)
 

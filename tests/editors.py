@@ -24,7 +24,7 @@ from results import TOP, checker_to_test, run_unit_tests
 
 CHECKER = checker_to_test()
 LINTER = TOP / "crates/ctd_lint/out/ctd_lint"
-COMMANDS = ["checktestdata", "ctd-lint", "ctd-show", "ctd-cover", "ctd-mutate", "ctd-package"]
+COMMANDS = ["checktestdata", "ctd-lint", "ctd-show", "ctd-cover", "ctd-mutate", "ctd-package", "ctd-language-server"]
 OUT_OF_TIME = 20
 # What is on the help and not offered: it is refused.
 NOT_OFFERED = {"--generate"}
@@ -136,6 +136,7 @@ class Completions(unittest.TestCase):
         ("ctd-show --gc\t pro\t data.in da\t", ["--gcc", "program.ctd", "data.in", "data.in"]),
         ("ctd-cover --tab\t pro\t data.in da\t", ["--table", "program.ctd", "data.in", "data.in"]),
         ("ctd-package --js\t --verb\t package", ["--json", "--verbose", "package"]),
+        ("ctd-language-server --ver\t", ["--version"]),
         ("ctd-mutate --only trail\t pro\t da\t", ["--only", "trailing-space", "program.ctd", "data.in"]),
         ("ctd-mutate --only plus,trail\t pro\t da\t", ["--only", "plus,trailing-space", "program.ctd", "data.in"]),
         ("ctd-mutate --ignore plus,hu\t pro\t da\t", ["--ignore", "plus,huge", "program.ctd", "data.in"]),
@@ -185,6 +186,7 @@ class Completions(unittest.TestCase):
                 ("ctd-cover program.ctd data.in da", "data.in"),
                 ("ctd-package --js", "--json"),
                 ("ctd-package pack", "package/"),
+                ("ctd-language-server --ch", "--checker"),
                 ("ctd-mutate --only trail", "trailing-space"),
                 ("ctd-mutate --only plus,trail", "plus,trailing-space"),
                 ("ctd-mutate --ignore=plus,trail", "--ignore=plus,trailing-space"),
@@ -362,6 +364,7 @@ class TextMate(unittest.TestCase):
         pattern = matchers["ctd-lint"]
         for line, parts in [
             ("a b.ctd:2:13: warning: the string is empty [empty-string]", ("a b.ctd", "2", "13", "warning", "the string is empty", "empty-string")),
+            ("a.ctd:2:1: risk: may divide by zero [division-by-zero]", ("a.ctd", "2", "1", "risk", "may divide by zero", "division-by-zero")),
             ("a.ctd:1:1: note: nothing reads this variable: n [unread]", ("a.ctd", "1", "1", "note", "nothing reads this variable: n", "unread")),
             ("a.ctd:3:7: risk: may overflow: n is 9 [overflow]", ("a.ctd", "3", "7", "risk", "may overflow: n is 9", "overflow")),
             ("a.ctd:1:6: error: syntax error", ("a.ctd", "1", "6", "error", "syntax error", None)),

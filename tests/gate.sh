@@ -35,6 +35,7 @@ if [ "$failed" -eq 0 ]; then
     count tests/package.py
     count tests/mistakes.py
     count tests/editors.py
+    count tests/language_server.py
     count tests/build.py
     count tests/install.sh
     count tests/examples.py

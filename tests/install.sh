@@ -44,40 +44,54 @@ quiet_make() { make --silent --no-print-directory "$@"; }
 expect 'make install' quiet_make install-built DESTDIR="$stage"
 wanted='bin/checktestdata
 bin/ctd-cover
+bin/ctd-language-server
 bin/ctd-lint
 bin/ctd-mutate
 bin/ctd-package
 bin/ctd-show
 share/bash-completion/completions/checktestdata
 share/bash-completion/completions/ctd-cover
+share/bash-completion/completions/ctd-language-server
 share/bash-completion/completions/ctd-lint
 share/bash-completion/completions/ctd-mutate
 share/bash-completion/completions/ctd-package
 share/bash-completion/completions/ctd-show
 share/checktestdata/tools/ctd-cover
+share/checktestdata/tools/ctd-language-server
 share/checktestdata/tools/ctd-mutate
 share/checktestdata/tools/ctd-package
 share/checktestdata/tools/ctd-show
 share/checktestdata/tools/ctd_changes.py
 share/checktestdata/tools/ctd_companion.py
 share/checktestdata/tools/ctd_coverage.py
+share/checktestdata/tools/ctd_data_faults.py
+share/checktestdata/tools/ctd_diagnostics.py
+share/checktestdata/tools/ctd_document.py
+share/checktestdata/tools/ctd_editing.py
+share/checktestdata/tools/ctd_manual.py
 share/checktestdata/tools/ctd_problem.py
 share/checktestdata/tools/ctd_program.py
 share/checktestdata/tools/ctd_questions.py
 share/checktestdata/tools/ctd_ranges.py
+share/checktestdata/tools/ctd_server.py
+share/checktestdata/tools/ctd_symbols.py
+share/checktestdata/tools/ctd_text.py
 share/checktestdata/tools/ctd_untried.py
 share/checktestdata/tools/ctd_values.py
+share/checktestdata/vscode/extension.js
 share/checktestdata/vscode/language-configuration.json
 share/checktestdata/vscode/package.json
 share/checktestdata/vscode/syntaxes/checktestdata.tmLanguage.json
 share/fish/vendor_completions.d/checktestdata.fish
 share/fish/vendor_completions.d/ctd-cover.fish
+share/fish/vendor_completions.d/ctd-language-server.fish
 share/fish/vendor_completions.d/ctd-lint.fish
 share/fish/vendor_completions.d/ctd-mutate.fish
 share/fish/vendor_completions.d/ctd-package.fish
 share/fish/vendor_completions.d/ctd-show.fish
 share/man/man1/checktestdata.1
 share/man/man1/ctd-cover.1
+share/man/man1/ctd-language-server.1
 share/man/man1/ctd-lint.1
 share/man/man1/ctd-mutate.1
 share/man/man1/ctd-package.1
@@ -90,6 +104,7 @@ share/vim/vimfiles/ftplugin/checktestdata.vim
 share/vim/vimfiles/syntax/checktestdata.vim
 share/zsh/site-functions/_checktestdata
 share/zsh/site-functions/_ctd-cover
+share/zsh/site-functions/_ctd-language-server
 share/zsh/site-functions/_ctd-lint
 share/zsh/site-functions/_ctd-mutate
 share/zsh/site-functions/_ctd-package
@@ -125,7 +140,7 @@ cp "$work/number.ctd" "$work/package/input_validators"
 cp "$work/right.in" "$package/sample"
 cp "$work/wrong.in" "$package/invalid_inputs"
 expect 'ctd-package finds the checker and ctd-lint beside it' same $'ctd-lint: input_validators/number.ctd: 0 findings\n2 checked, 2 as they have to be, 0 not' "$("$prefix/bin/ctd-package" "$work/package" | grep -v ctd-cover)"
-for companion in ctd-show ctd-cover ctd-mutate ctd-package; do
+for companion in ctd-show ctd-cover ctd-mutate ctd-package ctd-language-server; do
     without=$(cd "$work" && PATH=$work/none "$prefix/bin/$companion" number.ctd right.in 2>&1 || echo "status $?")
     expect "$companion without Python" same "$companion: Python is missing (no command python3): install version 3.9 or later"$'\nstatus 2' "$without"
 done
@@ -194,7 +209,7 @@ compiled a b" "$(here "./$program" a b)"
     compiling() { echo "compiling $1 from portable/checktestdata.c.xz, made of these sources: the Rattle toolchain, which proves them, is not here"; }
     expect 'make compiles the packed file' same "$(compiling checktestdata && compiling ctd-lint)" "$(here make)"
     expect 'make install without the toolchain' here make install strip= DESTDIR="$copy/stage"
-    expect 'what it installs' same 'checktestdata ctd-cover ctd-lint ctd-mutate ctd-package ctd-show' "$(cd "$copy/stage/usr/local/bin" && echo *)"
+    expect 'what it installs' same 'checktestdata ctd-cover ctd-language-server ctd-lint ctd-mutate ctd-package ctd-show' "$(cd "$copy/stage/usr/local/bin" && echo *)"
     rm -r "$copy/out"
     mkdir "$work/few"
     for command in awk bash cat dirname find grep readlink sed sort xz; do
@@ -255,7 +270,7 @@ if has readelf 'the archive and the package'; then
             expect "$relation" same checktestdata "$(field $relation)"
         done
         expect 'what the package depends on' same "libc6 (>= $libc)" "$(field Depends)"
-        expect 'what the companions need' same 'python3:any (>= 3.9)' "$(field Recommends)"
+        expect 'what the companions need' same 'python3:any (>= 3.9), python3-pylsp-jsonrpc' "$(field Recommends)"
         dpkg-deb --extract "$package" "$work/package"
         expect 'the program in the package' same "checktestdata $version (whole-number profile)" "$("$work/package/usr/bin/checktestdata" --version)"
         expect 'a companion in the package' "$work/package/usr/bin/ctd-show" "$work/number.ctd" "$work/right.in"

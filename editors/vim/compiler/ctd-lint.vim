@@ -5,4 +5,4 @@ endif
 let b:current_compiler = 'ctd-lint'
 
 CompilerSet makeprg=ctd-lint\ %:S
-CompilerSet errorformat=%f:%l:%c:\ %trror:\ %m,%f:%l:%c:\ %tarning:\ %m,%f:%l:%c:\ %tote:\ %m,%f:%l:%c:\ risk:\ %m,%f:\ %trror:\ %m
+CompilerSet errorformat=%f:%l:%c:\ %trror:\ %m,%f:%l:%c:\ %tarning:\ %m,%f:%l:%c:\ %tisk:\ %m,%f:%l:%c:\ %tote:\ %m,%f:\ %trror:\ %m

@@ -1,0 +1,178 @@
+"""What the checker and ctd-lint say of a program that is being edited, each with the part of the text that it is about."""
+from __future__ import annotations
+
+import os
+import re
+import subprocess
+import tempfile
+from collections.abc import Callable, Sequence
+from dataclasses import dataclass
+from enum import IntEnum
+from pathlib import Path
+
+from ctd_companion import FITS, REJECTED, Answer, Checker, Place, find_program, printable, text_of
+from ctd_document import Document
+from ctd_symbols import head_end, open_part, preset_mentions, tokens_in
+from ctd_text import Text
+from ctd_values import expected_line
+
+LINTER = "ctd-lint"
+# A line of ctd-lint behind the name of the file: the place, the rank, the text and the kind. What is said of the whole program has the text alone.
+FINDING = re.compile(r"(?::(\d+):(\d+))?: (?:([a-z]+): )?(.*?)(?: \[([a-z-]+)\])?")
+# How many findings an editor gets.
+MOST_FINDINGS = 1000
+# How often it is looked whether a result is still wanted, in seconds.
+POLL = 0.05
+
+
+class Severity(IntEnum):
+    """How grave something is, by the numbers of the protocol."""
+
+    ERROR = 1
+    WARNING = 2
+    INFORMATION = 3
+    HINT = 4
+
+
+SEVERITY_OF_RANK = {"error": Severity.ERROR, "warning": Severity.WARNING, "risk": Severity.INFORMATION, "note": Severity.HINT}
+
+
+class NotWanted(Exception):
+    """The text has changed since, so nobody wants to know what was found in it."""
+
+
+@dataclass(frozen=True)
+class Diagnostic:
+    """What a tool says of a part of a text, between two offsets. A finding has a kind."""
+
+    start: int
+    end: int
+    severity: Severity
+    source: str
+    message: str
+    kind: str = ""
+
+
+@dataclass(frozen=True)
+class Tools:
+    """The paths of the checker, and of ctd-lint where it is there."""
+
+    checker: str
+    linter: str | None
+
+    @staticmethod
+    def beside(checker: str) -> Tools:
+        return Tools(checker, find_program(LINTER, Path(checker).parent))
+
+
+def diagnostics(tools: Tools, document: Document, presets: str, is_wanted: Callable[[], bool]) -> list[Diagnostic]:
+    """What is to be said of a program: why it is refused, or else what ctd-lint finds. The presets are those that it does not have itself.
+    Raises NotWanted as soon as the result is not wanted any more."""
+    with tempfile.TemporaryDirectory(prefix="ctd-language-server-") as folder:
+        program = os.path.join(folder, "program.ctd")
+        Path(program).write_bytes(document.text.data)
+        define = define_option(document, presets)
+        answer = load(tools.checker, program, define)
+        if answer.in_data is None:
+            return [refusal(tools.checker, program, document, presets, answer)]
+        if tools.linter is None:
+            return []
+        ran = run_while([tools.linter, *define, "--", program], is_wanted)
+        if ran.returncode not in (FITS, REJECTED):
+            told = text_of(ran.stderr).strip().removeprefix(program) or f"ended with status {ran.returncode}"
+            return [of_all(document.text, f"{LINTER} tells nothing: {printable(told)}")]
+        return findings(document, text_of(ran.stdout), program)
+
+
+def define_option(document: Document, others: str) -> list[str]:
+    """The option that gives a program its own presets and others. The own come last, since of two for a variable the last counts."""
+    return option_of([others, *(text_of(preset.text) for preset in document.presets)])
+
+
+def option_of(presets: Sequence[str]) -> list[str]:
+    given = [preset for preset in presets if preset]
+    return [f"--define={','.join(given)}"] if given else []
+
+
+def load(checker: str, program: str, define: Sequence[str]) -> Answer:
+    """The answer of the checker where no step may be taken: it has a place in the data just where the program is not refused."""
+    with open(os.devnull, "rb") as data:
+        return Checker(checker, program, ["--max-steps=0", *define]).check_file(data)[0]
+
+
+def run_while(words: Sequence[str], is_wanted: Callable[[], bool]) -> subprocess.CompletedProcess[bytes]:
+    """Runs a command as long as its result is wanted. Raises NotWanted where it ends before."""
+    with subprocess.Popen(words, stdin=subprocess.DEVNULL, stdout=subprocess.PIPE, stderr=subprocess.PIPE) as process:
+        while True:
+            try:
+                out, err = process.communicate(timeout=POLL)
+                return subprocess.CompletedProcess(words, process.returncode, out, err)
+            except subprocess.TimeoutExpired:
+                if not is_wanted():
+                    process.kill()
+                    raise NotWanted from None
+
+
+def refusal(checker: str, program: str, document: Document, presets: str, answer: Answer) -> Diagnostic:
+    """Why a program is refused, at the token to which the answer points; a comment with presets that are wrong is marked."""
+    text, message = document.text, answer.message
+    start, end = 0, text.line_end(0)
+    if message == "bad preset":
+        wrong = next((one for one in document.presets if load(checker, program, option_of([text_of(one.text)])).message == message), None)
+        if wrong:
+            start, end = wrong.offset, wrong.end
+        else:
+            message = f"bad preset in the settings: {printable(presets)}"
+    elif answer.in_program:
+        start = text.offset_at(answer.in_program)
+        end = token_end(text, start)
+        if message == "syntax error":
+            message = f"{message}: {expected_line(open_part(text.data[:start])[0] + text.data[start:end])}"
+    return Diagnostic(start, end, Severity.ERROR, "checktestdata", message)
+
+
+def token_end(text: Text, start: int) -> int:
+    """The offset behind the token that begins at an offset: a string that is not closed goes to the end of its line."""
+    kind, _, offset, end = next(tokens_in(text.data, start))
+    if offset != start:
+        return start
+    if kind == "unfinished":
+        return text.line_end(start)
+    return text.character_end(start) if kind == "unexpected" else end
+
+
+def findings(document: Document, written: str, program: str) -> list[Diagnostic]:
+    """The findings in what ctd-lint wrote of a program; where there are too many, the gravest."""
+    lines = [parts for line in written.splitlines() if (parts := FINDING.fullmatch(line.removeprefix(program)))]
+    shown = lines
+    if len(lines) > MOST_FINDINGS:
+        shown = sorted(lines, key=severity_of)[:MOST_FINDINGS]
+    found = [finding(document, parts) for parts in shown]
+    if len(lines) > len(shown):
+        found.append(of_all(document.text, f"{len(lines) - len(shown)} more findings are not shown"))
+    return found
+
+
+def of_all(text: Text, message: str) -> Diagnostic:
+    """What is said of a whole program, at its first line."""
+    return Diagnostic(0, text.line_end(0), Severity.INFORMATION, LINTER, message)
+
+
+def severity_of(parts: re.Match[str]) -> Severity:
+    return SEVERITY_OF_RANK.get(parts[3], Severity.INFORMATION)
+
+
+def finding(document: Document, parts: re.Match[str]) -> Diagnostic:
+    """The finding of a line. It marks the name with which its text ends, or else the head of the command."""
+    text, message, kind = document.text, parts[4], parts[5] or ""
+    if parts[1] is None:
+        return of_all(text, message)
+    start = text.offset_at(Place(int(parts[1]), int(parts[2])))
+    end = head_end(text.data, start) if token_end(text, start) > start else text.line_end(start)
+    name = message.rpartition(": ")[2].encode()
+    if kind == "unknown-preset":
+        given = [one for preset in document.presets for one in preset_mentions(preset) if one.name == name]
+        start, end = (given[0].offset, given[0].end) if given else (0, text.line_end(0))
+    named = next((token for token in tokens_in(text.data[start:end]) if token.kind == "name" and token.text == name), None)
+    start, end = (start + named.offset, start + named.end) if named else (start, end)
+    return Diagnostic(start, end, severity_of(parts), LINTER, message, kind)
