@@ -223,9 +223,9 @@ class Flow:
             state.at_most(Sum({}).plus(count, -1))
             state.assign_name(count_of(command), count)
         state.assign_name(turn_of(command), constant(0))
-        state = self.counted(command, state)
-        none = possible(lambda: self.goes_on(command, state.copy(), False)) if part in (Part.ANY, Part.NONE) else None
-        first = possible(lambda: self.goes_on(command, state.copy(), True)) if part is not Part.NONE else None
+        begun = self.counted(command, state)
+        none = possible(lambda: self.goes_on(command, begun.copy(), False)) if part in (Part.ANY, Part.NONE) else None
+        first = possible(lambda: self.goes_on(command, begun.copy(), True)) if part is not Part.NONE else None
         if part is Part.ANY:
             return self.left(command, [none, self.turns(command, first, None)])
         if part is Part.NONE:
