@@ -32,8 +32,7 @@ SEED ?= 1
 has_toolchain := $(shell command -v rt)
 programs := checktestdata ctd-lint
 companions := ctd-show ctd-cover ctd-mutate ctd-package ctd-language-server
-modules := ctd_changes.py ctd_companion.py ctd_coverage.py ctd_data_faults.py ctd_diagnostics.py ctd_document.py ctd_editing.py ctd_manual.py ctd_problem.py \
-	ctd_program.py ctd_questions.py ctd_ranges.py ctd_server.py ctd_symbols.py ctd_text.py ctd_untried.py ctd_values.py
+modules := $(sort $(notdir $(wildcard tools/ctd_*.py)))
 commands := $(programs) $(companions)
 manuals := $(commands:=.1) checktestdata.5
 texts := README.md CHANGELOG.md SECURITY.md LICENSE-MIT LICENSE-APACHE NOTICE

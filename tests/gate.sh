@@ -32,6 +32,8 @@ if [ "$failed" -eq 0 ]; then
     count tests/companions.py
     count tests/values.py
     count tests/cover.py
+    count tests/flow.py
+    count tests/jury.py
     count tests/package.py
     count tests/mistakes.py
     count tests/editors.py

@@ -61,20 +61,28 @@ share/checktestdata/tools/ctd-language-server
 share/checktestdata/tools/ctd-mutate
 share/checktestdata/tools/ctd-package
 share/checktestdata/tools/ctd-show
+share/checktestdata/tools/ctd_bounds.py
 share/checktestdata/tools/ctd_changes.py
 share/checktestdata/tools/ctd_companion.py
 share/checktestdata/tools/ctd_coverage.py
 share/checktestdata/tools/ctd_data_faults.py
+share/checktestdata/tools/ctd_decisions.py
 share/checktestdata/tools/ctd_diagnostics.py
 share/checktestdata/tools/ctd_document.py
 share/checktestdata/tools/ctd_editing.py
+share/checktestdata/tools/ctd_equal.py
+share/checktestdata/tools/ctd_flow.py
 share/checktestdata/tools/ctd_manual.py
+share/checktestdata/tools/ctd_patterns.py
+share/checktestdata/tools/ctd_presets.py
 share/checktestdata/tools/ctd_problem.py
 share/checktestdata/tools/ctd_program.py
 share/checktestdata/tools/ctd_questions.py
 share/checktestdata/tools/ctd_ranges.py
 share/checktestdata/tools/ctd_server.py
+share/checktestdata/tools/ctd_state.py
 share/checktestdata/tools/ctd_symbols.py
+share/checktestdata/tools/ctd_takers.py
 share/checktestdata/tools/ctd_text.py
 share/checktestdata/tools/ctd_untried.py
 share/checktestdata/tools/ctd_values.py
@@ -101,6 +109,7 @@ share/vim/vimfiles/compiler/checktestdata.vim
 share/vim/vimfiles/compiler/ctd-lint.vim
 share/vim/vimfiles/ftdetect/checktestdata.vim
 share/vim/vimfiles/ftplugin/checktestdata.vim
+share/vim/vimfiles/indent/checktestdata.vim
 share/vim/vimfiles/syntax/checktestdata.vim
 share/zsh/site-functions/_checktestdata
 share/zsh/site-functions/_ctd-cover
@@ -260,6 +269,7 @@ if has readelf 'the archive and the package'; then
     expect 'a companion in the archive' "$work/$archive/bin/ctd-show" "$work/number.ctd" "$work/right.in"
     expect 'the program in the archive needs no library' same '' "$(readelf --dynamic --wide "$work/$archive/bin/checktestdata" | grep NEEDED)"
     expect 'the archive says what it runs on' grep -q ': any Linux on x86-64' "$work/$archive/README.md"
+    expect 'what the archive says to try' same 'testdata ok!' "$(cd "$work/$archive" && sh -c "$(sed -n 's,^    \(bin/checktestdata .*\),\1,p' README.md)")"
     expect 'the archive has no mark that is not filled in' same '' "$(grep -o '@[A-Z]*@' "$work/$archive/README.md")"
     if has dpkg-deb 'the package'; then
         package=$OUT/checktestdata-nagdimot_$version-1_$(dpkg --print-architecture).deb
