@@ -31,7 +31,7 @@ SEED ?= 1
 # completions/ and a man page in man/; further man pages, and texts.
 has_toolchain := $(shell command -v rt)
 programs := checktestdata $(if $(has_toolchain),ctd-lint)
-companions := ctd-show ctd-cover ctd-mutate ctd-package
+companions := ctd-show ctd-cover ctd-mutate ctd-package ctd-validate
 modules := ctd_changes.py ctd_companion.py ctd_coverage.py ctd_problem.py ctd_program.py ctd_questions.py ctd_ranges.py ctd_untried.py ctd_values.py
 commands := $(programs) $(companions)
 manuals := $(commands:=.1) checktestdata.5

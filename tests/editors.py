@@ -24,7 +24,7 @@ from results import TOP, checker_to_test, run_unit_tests
 
 CHECKER = checker_to_test()
 LINTER = TOP / "crates/ctd_lint/out/ctd_lint"
-COMMANDS = ["checktestdata", "ctd-lint", "ctd-show", "ctd-cover", "ctd-mutate", "ctd-package"]
+COMMANDS = ["checktestdata", "ctd-lint", "ctd-show", "ctd-cover", "ctd-mutate", "ctd-package", "ctd-validate"]
 OUT_OF_TIME = 20
 # What is on the help and not offered: it is refused.
 NOT_OFFERED = {"--generate"}
@@ -136,6 +136,7 @@ class Completions(unittest.TestCase):
         ("ctd-show --gc\t pro\t data.in da\t", ["--gcc", "program.ctd", "data.in", "data.in"]),
         ("ctd-cover --tab\t pro\t data.in da\t", ["--table", "program.ctd", "data.in", "data.in"]),
         ("ctd-package --js\t --verb\t package", ["--json", "--verbose", "package"]),
+        ("ctd-validate --feed\t package pro\t n=5", ["--feedback", "package", "program.ctd", "n=5"]),
         ("ctd-mutate --only trail\t pro\t da\t", ["--only", "trailing-space", "program.ctd", "data.in"]),
         ("ctd-mutate --only plus,trail\t pro\t da\t", ["--only", "plus,trailing-space", "program.ctd", "data.in"]),
         ("ctd-mutate --ignore plus,hu\t pro\t da\t", ["--ignore", "plus,huge", "program.ctd", "data.in"]),
@@ -185,6 +186,8 @@ class Completions(unittest.TestCase):
                 ("ctd-cover program.ctd data.in da", "data.in"),
                 ("ctd-package --js", "--json"),
                 ("ctd-package pack", "package/"),
+                ("ctd-validate --feed", "--feedback"),
+                ("ctd-validate pro", "program.ctd"),
                 ("ctd-mutate --only trail", "trailing-space"),
                 ("ctd-mutate --only plus,trail", "plus,trailing-space"),
                 ("ctd-mutate --ignore=plus,trail", "--ignore=plus,trailing-space"),

@@ -48,16 +48,19 @@ bin/ctd-lint
 bin/ctd-mutate
 bin/ctd-package
 bin/ctd-show
+bin/ctd-validate
 share/bash-completion/completions/checktestdata
 share/bash-completion/completions/ctd-cover
 share/bash-completion/completions/ctd-lint
 share/bash-completion/completions/ctd-mutate
 share/bash-completion/completions/ctd-package
 share/bash-completion/completions/ctd-show
+share/bash-completion/completions/ctd-validate
 share/checktestdata/tools/ctd-cover
 share/checktestdata/tools/ctd-mutate
 share/checktestdata/tools/ctd-package
 share/checktestdata/tools/ctd-show
+share/checktestdata/tools/ctd-validate
 share/checktestdata/tools/ctd_changes.py
 share/checktestdata/tools/ctd_companion.py
 share/checktestdata/tools/ctd_coverage.py
@@ -76,12 +79,14 @@ share/fish/vendor_completions.d/ctd-lint.fish
 share/fish/vendor_completions.d/ctd-mutate.fish
 share/fish/vendor_completions.d/ctd-package.fish
 share/fish/vendor_completions.d/ctd-show.fish
+share/fish/vendor_completions.d/ctd-validate.fish
 share/man/man1/checktestdata.1
 share/man/man1/ctd-cover.1
 share/man/man1/ctd-lint.1
 share/man/man1/ctd-mutate.1
 share/man/man1/ctd-package.1
 share/man/man1/ctd-show.1
+share/man/man1/ctd-validate.1
 share/man/man5/checktestdata.5
 share/vim/vimfiles/compiler/checktestdata.vim
 share/vim/vimfiles/compiler/ctd-lint.vim
@@ -93,7 +98,8 @@ share/zsh/site-functions/_ctd-cover
 share/zsh/site-functions/_ctd-lint
 share/zsh/site-functions/_ctd-mutate
 share/zsh/site-functions/_ctd-package
-share/zsh/site-functions/_ctd-show'
+share/zsh/site-functions/_ctd-show
+share/zsh/site-functions/_ctd-validate'
 installed() { (cd "$prefix" && find . ! -type d ! -path './share/doc/*' -printf '%P\n' | LC_ALL=C sort); }
 expect 'all is installed, and nothing else' same "$wanted" "$(installed)"
 documents=$prefix/share/doc/checktestdata
@@ -124,8 +130,9 @@ mkdir -p "$package/sample" "$package/invalid_inputs" "$work/package/input_valida
 cp "$work/number.ctd" "$work/package/input_validators"
 cp "$work/right.in" "$package/sample"
 cp "$work/wrong.in" "$package/invalid_inputs"
+expect 'ctd-validate finds the checker beside it' same $'testdata ok!\nstatus 42' "$(beside ctd-validate <"$work/right.in" || echo "status $?")"
 expect 'ctd-package finds the checker and ctd-lint beside it' same $'ctd-lint: input_validators/number.ctd: 0 findings\n2 checked, 2 as they have to be, 0 not' "$("$prefix/bin/ctd-package" "$work/package" | grep -v ctd-cover)"
-for companion in ctd-show ctd-cover ctd-mutate ctd-package; do
+for companion in ctd-show ctd-cover ctd-mutate ctd-package ctd-validate; do
     without=$(cd "$work" && PATH=$work/none "$prefix/bin/$companion" number.ctd right.in 2>&1 || echo "status $?")
     expect "$companion without Python" same "$companion: Python is missing (no command python3): install version 3.9 or later"$'\nstatus 2' "$without"
 done
@@ -185,7 +192,7 @@ compiled a b" "$(here ./checktestdata a b)"
     rm -r "$copy/out"
     expect 'make compiles the packed file' same "$compiling: the Rattle toolchain, which proves them, is not here, so ctd-lint is left out" "$(here make)"
     expect 'make install without the toolchain' here make install strip= DESTDIR="$copy/stage"
-    expect 'what it installs' same 'checktestdata ctd-cover ctd-mutate ctd-package ctd-show' "$(cd "$copy/stage/usr/local/bin" && echo *)"
+    expect 'what it installs' same 'checktestdata ctd-cover ctd-mutate ctd-package ctd-show ctd-validate' "$(cd "$copy/stage/usr/local/bin" && echo *)"
     rm -r "$copy/out"
     echo '// another source' >>"$copy/crates/ctd_tool/src/lib.rt"
     expect 'a packed file of other sources is not used' same "checktestdata: $line" "$(here ./checktestdata a b)"
