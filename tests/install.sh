@@ -68,7 +68,10 @@ share/checktestdata/tools/ctd_problem.py
 share/checktestdata/tools/ctd_program.py
 share/checktestdata/tools/ctd_questions.py
 share/checktestdata/tools/ctd_ranges.py
+share/checktestdata/tools/ctd_reduce.py
+share/checktestdata/tools/ctd_second.py
 share/checktestdata/tools/ctd_untried.py
+share/checktestdata/tools/ctd_validators.py
 share/checktestdata/tools/ctd_values.py
 share/checktestdata/vscode/language-configuration.json
 share/checktestdata/vscode/package.json
