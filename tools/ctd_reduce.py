@@ -2,12 +2,14 @@
 from __future__ import annotations
 
 import re
-from collections.abc import Callable, Iterator
+from collections.abc import Callable, Iterable, Iterator
 from dataclasses import dataclass, field
 from hashlib import sha256
 
 # How many questions are asked of a file. The checker answers most of them by itself, in a few milliseconds.
 MOST_QUESTIONS = 2000
+# Runs of fewer pieces are cut wherever they begin.
+EACH_START = 5
 NUMBER = re.compile(rb"(?<![\w.+-])-?[0-9]{1,30}(?![\w.])")
 LINE = re.compile(rb"[^\n]*\n|[^\n]+")
 WORD = re.compile(rb"[^\s]+")
@@ -29,10 +31,20 @@ class Cut:
 Cuts = Callable[[bytes, int], Iterator[Cut]]
 
 
+def sizes(total: int) -> list[int]:
+    """How many of so many pieces are cut at once: the powers of 2 and 3, since cases are often of three lines; large ones first."""
+    return sorted({3, *(2**power for power in range(total.bit_length()))} if total else (), reverse=True)
+
+
+def starts(total: int, size: int) -> Iterable[int]:
+    """The pieces with which a run of so many can begin: each for short ones, and for others those behind whole runs."""
+    return range(0, total, 1 if size < EACH_START else size)
+
+
 def line_cuts(data: bytes, size: int) -> Iterator[Cut]:
     """Runs of lines."""
     lines = [found.span() for found in LINE.finditer(data)]
-    for first in range(0, len(lines), size):
+    for first in starts(len(lines), size):
         run = lines[first : first + size]
         yield Cut(run[0][0], run[0][0], run[-1][1], len(run), len(lines))
 
@@ -41,7 +53,7 @@ def word_cuts(data: bytes, size: int) -> Iterator[Cut]:
     """Runs of words of a line, with what parts them from a neighbour."""
     for line in LINE.finditer(data):
         words = [found.span() for found in WORD.finditer(data, *line.span())]
-        for first in range(0, len(words), size):
+        for first in starts(len(words), size):
             last = min(first + size, len(words)) - 1
             start, end = words[first][0], words[last][1]
             if last + 1 < len(words):
@@ -102,13 +114,11 @@ class Reduction:
 
     def cut_all(self, cuts: Cuts) -> None:
         """Makes all cuts of a kind that can be made, large ones first."""
-        size = max((cut.total for cut in cuts(self.data, 1)), default=0)
-        while size and self.left:
+        for size in sizes(max((cut.total for cut in cuts(self.data, 1)), default=0)):
             behind, runs = 0, cuts(self.data, size)
             while self.left and (cut := next(runs, None)):
                 if cut.at >= behind and self.takes_cut(cut):
                     behind, runs = cut.at, cuts(self.data, size)
-            size //= 2
 
     def takes_cut(self, cut: Cut) -> bool:
         """Whether a cut can be made, alone or together with a smaller count in front of it."""
