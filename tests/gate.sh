@@ -33,6 +33,7 @@ if [ "$failed" -eq 0 ]; then
     count tests/cover.py
     count tests/package.py
     count tests/validators.py
+    count tests/statement.py
     count tests/mistakes.py
     count tests/editors.py
     count tests/build.py

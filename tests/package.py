@@ -147,7 +147,7 @@ class Checks(PackageTest):
         self.put({"data/secret/2.in": "101\n"})
         ran = self.run_tool("--json", "p")
         whole = json.loads(ran.stdout)
-        self.assertEqual((ran.returncode, whole["package"], sorted(whole)), (1, "p", ["checks", "cover", "lint", "package"]))
+        self.assertEqual((ran.returncode, whole["package"], sorted(whole)), (1, "p", ["checks", "cover", "lint", "package", "statement"]))
         for check in whole["checks"]:
             self.assertGreaterEqual(check.pop("seconds"), 0)
         same = {"program": "input_validators/n.ctd", "has_to_fit": True, "options": []}
