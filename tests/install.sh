@@ -65,12 +65,15 @@ share/checktestdata/tools/ctd_changes.py
 share/checktestdata/tools/ctd_companion.py
 share/checktestdata/tools/ctd_coverage.py
 share/checktestdata/tools/ctd_limits.py
+share/checktestdata/tools/ctd_others.py
 share/checktestdata/tools/ctd_problem.py
 share/checktestdata/tools/ctd_program.py
 share/checktestdata/tools/ctd_questions.py
 share/checktestdata/tools/ctd_ranges.py
 share/checktestdata/tools/ctd_reduce.py
+share/checktestdata/tools/ctd_report.py
 share/checktestdata/tools/ctd_second.py
+share/checktestdata/tools/ctd_shares.py
 share/checktestdata/tools/ctd_statement.py
 share/checktestdata/tools/ctd_untried.py
 share/checktestdata/tools/ctd_validators.py

@@ -5,6 +5,8 @@ that were worked out by hand.
 The last line counts what passed and failed. usage: tests/validators.py [PROGRAM]"""
 from __future__ import annotations
 
+import importlib.util
+import shutil
 import subprocess
 import sys
 import unittest
@@ -281,6 +283,89 @@ class Against(CompanionTest):
             with self.subTest(command):
                 ran = self.run_tool("--against", command, "number.ctd", "1.in")
                 self.assertEqual((ran.returncode, ran.stdout, ran.stderr.decode()), (2, b"", f"ctd-mutate: {told}\n"))
+
+
+class Packages(CompanionTest):
+    """ctd-package with several validators."""
+
+    tool = "ctd-package"
+    # A validator that takes the greatest number as a flag.
+    SECOND = """import sys
+greatest = 10
+for flag in sys.argv[1:]:
+    name, _, value = flag.partition("=")
+    greatest = int(value)
+line = open(0, newline="").read()
+number = int(line)
+if line != f"{number}\\n":
+    sys.exit("wrong form")
+if not 1 <= number <= greatest:
+    print("too large", file=sys.stderr)
+    sys.exit(43)
+sys.exit(42)
+"""
+
+    def setUp(self) -> None:
+        super().setUp()
+        self.put({"input_validators/n.ctd": "SET(maxn=10) INT(1,maxn) NEWLINE", "data/sample/1.in": "10\n"})
+
+    def put(self, files: dict[str, str]) -> None:
+        for name, text in files.items():
+            path = self.folder / "p" / name
+            path.parent.mkdir(parents=True, exist_ok=True)
+            path.write_text(text)
+
+    def told(self, *words: str) -> tuple[int, list[str]]:
+        """The status, and the lines but those of ctd-lint and ctd-cover."""
+        ran = self.run_tool(*words, "p")
+        self.assertEqual(ran.stderr, b"")
+        return ran.returncode, [line for line in ran.stdout.decode().splitlines() if not line.startswith(("ctd-lint: ", "ctd-cover: "))]
+
+    def test_both_agree(self) -> None:
+        # (what is no number is 0 here, and then of a wrong form)
+        self.put({"input_validators/second.py": self.SECOND.replace("int(line)", "int(line) if line.strip().isascii() and line.strip().isdigit() else 0")})
+        status, lines = self.told("-v")
+        first = ["data/sample/1.in: testdata ok!", "2 checked, 2 as they have to be, 0 not"]
+        self.assertEqual((status, [lines[0], lines[-1]]), (0, first))
+        self.assertEqual(len(lines), 3)
+        self.assertRegex(lines[1], r"^ctd-mutate: input_validators/n.ctd: against input_validators/second.py: (\d+) compared, \1 agree, 0 disagree, 0 without verdict$")
+
+    @unittest.skipUnless(importlib.util.find_spec("yaml"), "PyYAML is not there")
+    def test_what_the_other_rejects(self) -> None:
+        self.put({"input_validators/second.py": self.SECOND, "data/invalid_inputs/word.in": "x\n", "data/invalid_inputs/large.in": "11\n"})
+        self.put({"data/secret/testdata.yaml": "input_validator_flags: maxn=20", "data/secret/1.in": "20\n"})
+        self.put({"data/secret/small/testdata.yaml": "input_validator_flags: maxn=5", "data/secret/small/1.in": "6\n"})
+        status, lines = self.told()
+        wanted = [
+            "data/secret/small/1.in (--define=maxn=5): line 1 column 1: value out of range (program line 1 column 14)",
+            "data/secret/small/1.in (--define=maxn=5): input_validators/second.py: too large",
+            "data/invalid_inputs/word.in: has to be rejected, and has no verdict: crashed: ValueError: invalid literal for int() with base 10: 'x\\\\n'",
+        ]
+        self.assertEqual((status, lines[:3], lines[-1]), (2, wanted, "8 checked, 5 as they have to be, 3 not"))
+
+    def test_one_of_them_may_reject_an_invalid_input(self) -> None:
+        self.put({"input_validators/n.ctd": "INT(1,99) NEWLINE", "input_validators/second.py": self.SECOND, "data/invalid_inputs/large.in": "11\n"})
+        status, lines = self.told()
+        self.assertEqual((status, lines[-1]), (0, "3 checked, 3 as they have to be, 0 not"))
+
+    def test_what_they_do_not_agree_on(self) -> None:
+        self.put({"input_validators/n.ctd": "INT(1,99) SPACE INT(1,99) NEWLINE", "data/sample/1.in": "10 10\n"})
+        self.put({"input_validators/run.py": "import sys\na, b = map(int, sys.stdin.read().split(' '))\nsys.exit(42 if a < 11 and b < 11 else 43)\n"})
+        status, lines = self.told()
+        self.assertEqual((status, lines[0]), (0, "input_validators/n.ctd accepts, input_validators/run.py rejects"))
+        self.assertIn(r'  data/sample/1.in:1: "10·10\n" → "11·10\n": reduced to "11·1\n"', lines)
+
+    @unittest.skipUnless(shutil.which("cc") and shutil.which("make"), "there is no C compiler, or no make")
+    def test_sources(self) -> None:
+        program = '#include <stdio.h>\n#include "limit.h"\nint main(void) { int n; return scanf("%d", &n) == 1 && n <= LIMIT ? 42 : 43; }\n'
+        self.put({"input_validators/second.c": program, "input_validators/limit.h": "#define LIMIT 9\n"})
+        self.put({"input_validators/third/run": "#!/bin/sh\nexit 43\n", "input_validators/README": "", "input_validators/a.java": "", "input_validators/b.c": "x"})
+        (self.folder / "p/input_validators/third/run").chmod(0o755)
+        status, lines = self.told()
+        wanted = ["data/sample/1.in: input_validators/second.c: rejected", "data/sample/1.in: input_validators/third: rejected"]
+        self.assertEqual((status, lines[:2], lines[2]), (1, wanted, "ctd-mutate: input_validators/a.java: left out: it has to be compiled"))
+        self.assertTrue(lines[3].startswith("ctd-mutate: input_validators/b.c: left out: it cannot be compiled: "), lines[3])
+        self.assertIn('  data/sample/1.in: as it is: reduced to "10\\n"', lines)
 
 
 class Reductions(unittest.TestCase):
