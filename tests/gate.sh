@@ -34,6 +34,7 @@ if [ "$failed" -eq 0 ]; then
     count tests/package.py
     count tests/validators.py
     count tests/statement.py
+    count tests/parts.py
     count tests/mistakes.py
     count tests/editors.py
     count tests/build.py
