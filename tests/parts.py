@@ -83,7 +83,8 @@ class Parts(CompanionTest):
     def test_a_part_alone(self) -> None:
         # five small files, the largest first: 3.in, 4.in, then by name and kind
         taken = [json.loads((self.folder / self.report(f"{number}/2")).read_text()) for number in (1, 2)]
-        self.assertEqual([[check["file"] for check in part["checks"]] for part in taken], [["data/sample/1.in", "data/secret/3.in", "data/invalid_inputs/0.in"], ["data/secret/2.in", "data/secret/4.in"]])
+        files = [["data/sample/1.in", "data/secret/3.in", "data/invalid_inputs/0.in"], ["data/secret/2.in", "data/secret/4.in"]]
+        self.assertEqual([[check["file"] for check in part["checks"]] for part in taken], files)
         self.assertEqual([part["part"] for part in taken], [{"number": 1, "of": 2}, {"number": 2, "of": 2}])
 
     def test_merged_again_as_json_and_junit(self) -> None:

@@ -140,11 +140,12 @@ class Differences(PackageTest):
 
     def test_either_side_alone(self) -> None:
         text = r"$n \le 10^5$, $-10^9 \le a_i \le 10^9$, and $k \ge 12$"
-        told = self.differences({"problem_statement/problem.tex": text})
+        name = "problem_statement/problem.tex"
+        told = self.differences({name: text})
         # of the bounds 1 counts for nothing; 12 is nearest to 100000 by its logarithm
-        self.assertEqual(told, ["problem_statement/problem.tex:1:52: note: no program has this limit: 12; the nearest is 100000 (input_validators/n.ctd:1:10)"])
-        told = self.differences({"problem_statement/problem.tex": r"$n \le 10^5$, $a_i \le 10^9$"})
-        self.assertEqual(told, ["input_validators/n.ctd:3:18: note: no statement has this bound: -1000000000; the nearest is 100000 (problem_statement/problem.tex:1:8)"])
+        self.assertEqual(told, [f"{name}:1:52: note: no program has this limit: 12; the nearest is 100000 (input_validators/n.ctd:1:10)"])
+        told = self.differences({name: r"$n \le 10^5$, $a_i \le 10^9$"})
+        self.assertEqual(told, [f"input_validators/n.ctd:3:18: note: no statement has this bound: -1000000000; the nearest is 100000 ({name}:1:8)"])
 
     @unittest.skipUnless(importlib.util.find_spec("yaml"), "PyYAML is not there")
     def test_flags(self) -> None:
@@ -158,7 +159,8 @@ class Differences(PackageTest):
         self.assertEqual(told, wanted)
 
     def test_a_program_that_is_refused(self) -> None:
-        self.assertEqual(self.differences({"input_validators/n.ctd": "INT(1,10", "problem_statement/p.md": "$n < 5$"}), ["problem_statement/p.md:1:6: note: no program has this limit: 5"])
+        told = self.differences({"input_validators/n.ctd": "INT(1,10", "problem_statement/p.md": "$n < 5$"})
+        self.assertEqual(told, ["problem_statement/p.md:1:6: note: no program has this limit: 5"])
 
     def test_the_report(self) -> None:
         self.put({"problem_statement/p.md": r"$n \le 10^5$, $|a_i| \le 10^9$"})

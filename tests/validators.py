@@ -199,7 +199,7 @@ class Against(CompanionTest):
                 self.assertEqual((status, lines[0]), (1, "wrong.ctd accepts, second.py rejects"))
                 self.assertIn(f"  {mistake.told}", lines)
                 status, lines = self.told(*call, "right.ctd", *names)
-                self.assertEqual((status, [line.partition(" compared, ")[2].partition("agree, ")[2] for line in lines]), (0, ["0 disagree, 0 without verdict"]))
+                self.assertEqual((status, [line.partition(" agree, ")[2] for line in lines]), (0, ["0 disagree, 0 without verdict"]))
 
     def test_what_the_other_may_end_with(self) -> None:
         accepts, rejects, none = "", "number.ctd accepts, {} rejects", "number.ctd accepts, {} has no verdict"
@@ -326,7 +326,8 @@ sys.exit(42)
         self.put({"input_validators/second.py": self.SECOND.replace("int(line)", "int(line) if line.strip().isascii() and line.strip().isdigit() else 0")})
         status, lines = self.told()
         self.assertEqual((status, len(lines), lines[-1]), (0, 2, "2 checked, 2 as they have to be, 0 not"))
-        self.assertRegex(lines[0], r"^ctd-mutate: input_validators/n.ctd: against input_validators/second.py: (\d+) compared, \1 agree, 0 disagree, 0 without verdict$")
+        told = "ctd-mutate: input_validators/n.ctd: against input_validators/second.py: "
+        self.assertRegex(lines[0], rf"^{told}(\d+) compared, \1 agree, 0 disagree, 0 without verdict$")
 
     @unittest.skipUnless(importlib.util.find_spec("yaml"), "PyYAML is not there")
     def test_what_the_other_rejects(self) -> None:
@@ -357,7 +358,8 @@ sys.exit(42)
     def test_sources(self) -> None:
         program = '#include <stdio.h>\n#include "limit.h"\nint main(void) { int n; return scanf("%d", &n) == 1 && n <= LIMIT ? 42 : 43; }\n'
         self.put({"input_validators/second.c": program, "input_validators/limit.h": "#define LIMIT 9\n"})
-        self.put({"input_validators/third/run": "#!/bin/sh\nexit 43\n", "input_validators/README": "", "input_validators/a.java": "", "input_validators/b.c": "x"})
+        self.put({"input_validators/third/run": "#!/bin/sh\nexit 43\n", "input_validators/README": ""})
+        self.put({"input_validators/a.java": "", "input_validators/b.c": "x"})
         (self.folder / "p/input_validators/third/run").chmod(0o755)
         status, lines = self.told()
         wanted = ["data/sample/1.in: input_validators/second.c: rejected", "data/sample/1.in: input_validators/third: rejected"]

@@ -151,7 +151,8 @@ def merge(paths: Sequence[Path]) -> Report:
     for path, report in reports.items():
         name = printable(str(path))
         if (report.package, report.part.of) != (first.package, first.part.of):
-            raise BadReport(f"{name}: is part {report.part.number} of {report.part.of} of {printable(report.package)}, and not of the same package and parts")
+            part = f"part {report.part.number} of {report.part.of} of {report.package}"
+            raise BadReport(f"{name}: is {part}, and not of the same package and parts")
         if report.data != first.data:
             raise BadReport(f"{name}: was made of other files or flags")
         if report.part.number in named:
