@@ -32,7 +32,7 @@ SEED ?= 1
 has_toolchain := $(shell command -v rt)
 programs := checktestdata $(if $(has_toolchain),ctd-lint)
 companions := ctd-show ctd-cover ctd-mutate ctd-package ctd-validate
-modules := ctd_changes.py ctd_companion.py ctd_coverage.py ctd_limits.py ctd_others.py ctd_problem.py ctd_program.py ctd_questions.py ctd_ranges.py ctd_reduce.py ctd_report.py ctd_second.py ctd_shares.py ctd_statement.py ctd_untried.py ctd_validators.py ctd_values.py
+modules := $(sort $(notdir $(wildcard tools/ctd_*.py)))
 commands := $(programs) $(companions)
 manuals := $(commands:=.1) checktestdata.5
 texts := README.md CHANGELOG.md SECURITY.md LICENSE-MIT LICENSE-APACHE NOTICE

@@ -340,8 +340,8 @@ class Cover(CompanionTest):
         self.write("data/small/testdata.yaml", "input_validator_flags: maxn=2")
         note, counts = "p.ctd:1:13: note: INT: took ", "1 command watched in 1 file, 1 not fully tried\n"
         sample = f"data/sample:\n{note}1..1 of 1..9: the greatest is never taken (data/sample/1.in:1:1)\n{counts}"
-        small = f"data/small (--define=maxn=2):\n{note}2..2 of 1..maxn: the least is never taken (data/small/1.in:1:1)\n{counts}"
-        deep = f"data/small/deep (--define=maxn=2):\n{note}2..2 of 1..maxn: the least is never taken (data/small/deep/1.in:1:1)\n{counts}"
+        small = f"data/small (--define=maxn=2):\n{note}2..2 of 1..2: the least is never taken (data/small/1.in:1:1)\n{counts}"
+        deep = f"data/small/deep (--define=maxn=2):\n{note}2..2 of 1..2: the least is never taken (data/small/deep/1.in:1:1)\n{counts}"
         self.assert_run(1, sample + small + deep, "--groups", "p.ctd", "data")
 
     def test_standard_input(self) -> None:

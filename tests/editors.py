@@ -239,6 +239,14 @@ class Vim(unittest.TestCase):
         assert isinstance(names, list)
         return names
 
+    def test_indent(self) -> None:
+        """The examples get their own indent again, and a program with blocks in strings and comments that of its blocks."""
+        odd = 'REP(2) # IF(\n    STRING("END")\nEND IF(ISEOF)\n    EOF\nELSE\n    REP(1) SPACE END NEWLINE\nEND\n'
+        for text in [odd, *(program.read_text() for program in programs())]:
+            (self.folder / "sample.ctd").write_text(re.sub("^ +", "", text, flags=re.MULTILINE))
+            script = "filetype indent on\nedit sample.ctd\nset shiftwidth=4 expandtab\nnormal gg=G\n"
+            self.assertEqual(self.run_vim(script, "getline(1, '$')"), text.splitlines())
+
     def test_a_sample(self) -> None:
         (self.folder / "sample.ctd").write_text(SAMPLE)
         names = self.groups(self.folder / "sample.ctd")

@@ -61,11 +61,17 @@ share/checktestdata/tools/ctd-mutate
 share/checktestdata/tools/ctd-package
 share/checktestdata/tools/ctd-show
 share/checktestdata/tools/ctd-validate
+share/checktestdata/tools/ctd_bounds.py
 share/checktestdata/tools/ctd_changes.py
 share/checktestdata/tools/ctd_companion.py
 share/checktestdata/tools/ctd_coverage.py
+share/checktestdata/tools/ctd_decisions.py
+share/checktestdata/tools/ctd_equal.py
+share/checktestdata/tools/ctd_flow.py
 share/checktestdata/tools/ctd_limits.py
 share/checktestdata/tools/ctd_others.py
+share/checktestdata/tools/ctd_patterns.py
+share/checktestdata/tools/ctd_presets.py
 share/checktestdata/tools/ctd_problem.py
 share/checktestdata/tools/ctd_program.py
 share/checktestdata/tools/ctd_questions.py
@@ -74,7 +80,9 @@ share/checktestdata/tools/ctd_reduce.py
 share/checktestdata/tools/ctd_report.py
 share/checktestdata/tools/ctd_second.py
 share/checktestdata/tools/ctd_shares.py
+share/checktestdata/tools/ctd_state.py
 share/checktestdata/tools/ctd_statement.py
+share/checktestdata/tools/ctd_takers.py
 share/checktestdata/tools/ctd_untried.py
 share/checktestdata/tools/ctd_validators.py
 share/checktestdata/tools/ctd_values.py
@@ -100,6 +108,7 @@ share/vim/vimfiles/compiler/checktestdata.vim
 share/vim/vimfiles/compiler/ctd-lint.vim
 share/vim/vimfiles/ftdetect/checktestdata.vim
 share/vim/vimfiles/ftplugin/checktestdata.vim
+share/vim/vimfiles/indent/checktestdata.vim
 share/vim/vimfiles/syntax/checktestdata.vim
 share/zsh/site-functions/_checktestdata
 share/zsh/site-functions/_ctd-cover

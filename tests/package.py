@@ -14,7 +14,7 @@ import unittest
 from pathlib import Path
 from xml.etree import ElementTree
 
-from companions import CompanionTest
+from companions import CHECKER, CompanionTest
 from results import TOP, run_unit_tests
 
 sys.path.insert(0, str(TOP / "tools"))
@@ -45,6 +45,13 @@ class PackageTest(CompanionTest):
         self.assertEqual(ran.stderr, b"")
         lines = ran.stdout.decode().splitlines()
         return ran.returncode, [line for line in lines if not line.startswith(("ctd-lint: ", "ctd-cover: ", "ctd-mutate: "))]
+
+
+    def write_linter(self, script: str) -> None:
+        """The checker, and beside it a ctd-lint that does what a script says."""
+        self.write_checker(f'exec {CHECKER} "$@"')
+        self.write("ctd-lint", f"#!/bin/sh\n{script}\n")
+        (self.folder / "ctd-lint").chmod(0o755)
 
 
 class Checks(PackageTest):
@@ -87,7 +94,7 @@ class Checks(PackageTest):
 
     def test_what_lint_and_cover_say(self) -> None:
         self.put({"input_validators/n.ctd": "SET(maxn=100) INT(1,maxn,n) NEWLINE"})
-        self.write_linter()
+        self.write_linter('for last; do :; done\necho "$last:1:15: note: nothing reads this variable: n [unread]"')
         ran = self.run_tool("p", checker="./checktestdata")
         self.assertEqual(
             ran.stdout.decode().splitlines(),
@@ -101,14 +108,6 @@ class Checks(PackageTest):
         ran = self.run_tool("-v", "p", checker="./checktestdata")
         note = "input_validators/n.ctd:1:15: note: INT: took 1..1 of 1..100: the greatest is never taken (p/data/sample/1.in:1:1)"
         self.assertIn(note, ran.stdout.decode().splitlines())
-
-    def write_linter(self) -> None:
-        """The checker, and beside it a ctd-lint that has one finding."""
-        from companions import CHECKER
-
-        self.write_checker(f'exec {CHECKER} "$@"')
-        self.write("ctd-lint", '#!/bin/sh\nfor last; do :; done\necho "$last:1:15: note: nothing reads this variable: n [unread]"\n')
-        (self.folder / "ctd-lint").chmod(0o755)
 
     def test_a_step_limit(self) -> None:
         self.put({"data/invalid_inputs/zero.in": "0\n"})
@@ -207,6 +206,36 @@ class Flags(PackageTest):
             "7 checked, 4 as they have to be, 3 not",
         ]
         self.assertEqual(self.told(), (1, wanted))
+
+    @unittest.skipUnless(HAS_YAML, "PyYAML is not there")
+    def test_the_newer_key(self) -> None:
+        self.put({"data/secret/1.in": "6\n", "data/secret/test_group.yaml": "input_validator_args: [maxn=5]\noutput_validator_args: [x]\n"})
+        self.assertEqual(self.told(), (1, [f"data/secret/1.in (--define=maxn=5): {OUT_OF_RANGE}", "2 checked, 1 as they have to be, 1 not"]))
+
+    @unittest.skipUnless(HAS_YAML, "PyYAML is not there")
+    def test_keys_and_presets_that_are_misspelled(self) -> None:
+        self.put({"data/secret/small/1.in": "1\n"})
+        for text, told in [
+            ("input_validator_flags: -D maxm=2", "p/data/secret/small: the flags have a preset of maxm, which no program has"),
+            ("input_validator_flag: maxn=2", "p/data/secret/small/testdata.yaml: unknown key input_validator_flag; did you mean input_validator_flags?"),
+            ("input_validators_args: maxn=2", "p/data/secret/small/testdata.yaml: unknown key input_validators_args; did you mean input_validator_args?"),
+            (
+                "input_validator_args: maxn=2\ninput_validator_flags: maxn=2",
+                "p/data/secret/small/testdata.yaml: has both input_validator_flags and input_validator_args",
+            ),
+        ]:
+            self.put({"data/secret/small/testdata.yaml": text})
+            ran = self.run_tool("p")
+            self.assertEqual((ran.returncode, ran.stdout, ran.stderr.decode()), (2, b"", f"ctd-package: {told}\n"))
+
+    @unittest.skipUnless(HAS_YAML, "PyYAML is not there")
+    def test_lint_gets_the_presets_of_each_group(self) -> None:
+        self.put({"data/secret/a/testdata.yaml": "input_validator_flags: maxn=5", "data/secret/a/1.in": "1\n"})
+        self.put({"data/secret/b/testdata.yaml": "input_validator_flags: -w maxn=7", "data/secret/b/1.in": "1\n"})
+        self.write_linter('for last; do :; done\necho "$last:1:1: note: $1"')
+        ran = self.run_tool("p", checker="./checktestdata")
+        found = [line for line in ran.stdout.decode().splitlines() if "note: -" in line]
+        self.assertEqual(found, [f"input_validators/n.ctd:1:1: note: --define=maxn={number}" for number in (5, 7)])
 
     @unittest.skipUnless(HAS_YAML, "PyYAML is not there")
     def test_settings_that_cannot_be_read(self) -> None:

@@ -6,7 +6,6 @@ The last line counts what passed and failed. usage: tests/values.py [PROGRAM]"""
 from __future__ import annotations
 
 import sys
-from unittest.mock import patch
 
 from companions import CHECKER, OUT_OF_TIME, CompanionTest
 from results import TOP, run_unit_tests
@@ -25,10 +24,10 @@ class Values(CompanionTest):
         self.write("p.ctd", program)
         self.write("1.in", data)
         checker = Checker(str(CHECKER), str(self.folder / "p.ctd"), words)
-        with (self.folder / "1.in").open("rb") as opened, patch.object(ctd_values, "SECONDS", float(OUT_OF_TIME)):
+        with (self.folder / "1.in").open("rb") as opened:
             answer, file = checker.check_file(opened)
             self.assertNotEqual(answer.status, FITS)
-            return ctd_values.value_lines(checker, answer, file, 0)
+            return ctd_values.value_lines(checker, answer, file, 0, float(OUT_OF_TIME))
 
     def assert_values(self, wanted: str, program: str, data: str | bytes, *words: str) -> None:
         with self.subTest(program=program, data=data):
@@ -54,27 +53,54 @@ class Values(CompanionTest):
         least = "-170141183460469231731687303715884105728"
         self.assert_values(f"value out of range: 5; bounds n = {least} .. m = 4", "SET(n=-2^126*2,m=4) INT(n,m)", "5")
         for number in (511, 512, 513, -20, -21, -513, 10**9, 10**18 + 1, 2**126 + 12345, -(10**30)):
-            self.assert_values(f"assertion failed: n = {number}", f"SET(n={number}) ASSERT(n==5)", "")
+            self.assert_values(f"assertion failed: n = {number} == 5", f"SET(n={number}) ASSERT(n==5)", "")
 
     def test_an_assertion(self) -> None:
-        self.assert_values("assertion failed: sum = 200001, n = 3", "SET(sum=200001,n=3) ASSERT(sum<=200000 || n>3)", "")
-        self.assert_values("assertion failed: a[i] = 7, i = 3", "SET(a[3]=7,i=3) ASSERT(a[i]<a[i])", "")
-        self.assert_values("assertion failed: a[b[0],i] = 7, b[0] = 1, i = 3", "SET(b[0]=1,i=3,a[1,3]=7) ASSERT(a[b[0],i]<7)", "")
+        self.assert_values("assertion failed: sum = 200001 <= 200000, n = 3 > 3", "SET(sum=200001,n=3) ASSERT(sum<=200000 || n>3)", "")
+        self.assert_values("assertion failed: a[i] = 7 < a[i] = 7, i = 3", "SET(a[3]=7,i=3) ASSERT(a[i]<a[i])", "")
+        self.assert_values("assertion failed: a[b[0],i] = 7 < 7, b[0] = 1, i = 3", "SET(b[0]=1,i=3,a[1,3]=7) ASSERT(a[b[0],i]<7)", "")
 
     def test_the_place_is_the_one_that_fails(self) -> None:
-        self.assert_values("assertion failed: i = 6", "REPI(i,9) ASSERT(i<6) END", "")
-        self.assert_values("assertion failed: i = 2", "SET(k=0) REPI(i,9,ASSERT(i<2)) SET(k=k+1) END", "")
+        self.assert_values("assertion failed: i = 6 < 6", "REPI(i,9) ASSERT(i<6) END", "")
+        self.assert_values("assertion failed: i = 2 < 2", "SET(k=0) REPI(i,9,ASSERT(i<2)) SET(k=k+1) END", "")
+
+    def test_the_side_of_and_that_fails(self) -> None:
+        program = "SET(a=3,b=5) ASSERT(a<4 && (b-a>2 && b<9))"
+        self.assert_values("assertion failed: b-a = 2 > 2, b = 5, a = 3", program, "")
+        self.assert_values('assertion failed: STRLEN(s[i]) = 3 <= 2, s[i] = "abc", i = 1', 'SET(i=1) REGEX("[a-z]*",s[i]) ASSERT(i>0 && STRLEN(s[i])<=2)', "abc")
+        self.assert_values('assertion failed: MATCH("x") is false', 'SET(a=3) ASSERT(a<4 && MATCH("x"))', "y")
+        self.assert_values("assertion failed: a = 3", "SET(a=3) ASSERT(a<4 && !(a<4))", "")
+
+    def test_a_bound_with_a_name(self) -> None:
+        self.assert_values("assertion failed: sum = 12 <= maxsum = 10", "SET(maxsum=10) INT(0,99,sum) ASSERT(sum<=maxsum)", "12")
+        self.assert_values("assertion failed: a = -3 >= -2", "INT(-9,9,a) ASSERT(a>=-2)", "-3")
+
+    def test_equal_elements_with_two_indices(self) -> None:
+        program = "REPI(i,2,NEWLINE) REPI(j,3,SPACE) INT(0,99,d[i{0},j{1}]) END END ASSERT(UNIQUE(d))"
+        self.assert_values("assertion failed: d[0,1] = d[1,2] = 7", program.format("", ""), "1 7 2\n3 4 7")
+        self.assert_values("assertion failed: d[1,2] = d[2,0] = 7", program.format("+1", ""), "1 3 7\n7 4 5")
+        pairs = "REPI(i,2,NEWLINE) REPI(j,2,SPACE) INT(0,9,u[i,j+1]) SET(v[i,j+1]=i) END END ASSERT(UNIQUE(u,v))"
+        self.assert_values("assertion failed: (u[1,1],v[1,1]) = (u[1,2],v[1,2]) = (5,1)", pairs, "5 6\n5 5")
+
+    def test_equal_elements_of_many(self) -> None:
+        """The pair of a large array comes in the time that a run may take."""
+        self.write("p.ctd", "INT(1,200000,n) NEWLINE REPI(i,n,SPACE) INT(1,1000000,a[i]) END ASSERT(UNIQUE(a)) NEWLINE")
+        numbers = [*range(1, 200_001)]
+        numbers[199_998] = 12
+        self.write("1.in", f"200000\n{' '.join(map(str, numbers))}\n")
+        ran = self.run_tool("p.ctd", "1.in")
+        self.assertEqual(ran.stdout.decode().splitlines()[-1], "assertion failed: a[11] = a[199998] = 12")
 
     def test_a_variable_without_a_value_is_left_out(self) -> None:
-        self.assert_values("assertion failed: n = 1", "SET(n=1) ASSERT(n>1 && m==2)", "")
+        self.assert_values("assertion failed: n = 1 > 1", "SET(n=1) ASSERT(n>1 && m==2)", "")
 
     def test_strings(self) -> None:
-        self.assert_values('assertion failed: s = "ab"', 'REGEX("[a-z]*",s) ASSERT(s!="ab")', "ab")
-        self.assert_values('assertion failed: s = ""', 'REGEX("[a-z]*",s) ASSERT(s!="")', "")
-        self.assert_values(r'assertion failed: s = "\"\\\n\t\r\000\377 z"', 'REGEX("(?s-u).*",s) ASSERT(s=="x")', b'"\\\n\t\r\0\xff z')
-        self.assert_values(f'assertion failed: s = "{40 * "x"}"', 'REGEX("x*",s) ASSERT(s=="x")', 40 * "x")
-        self.assert_values(f'assertion failed: s = "{40 * "x"}"…', 'REGEX("x*",s) ASSERT(s=="x")', 41 * "x")
-        self.assert_values('assertion failed: t = "ab", s["x"] = "b"', 'SET(t="ab",s["x"]="b") ASSERT(t<s["x"] && STRLEN(t)<2)', "")
+        self.assert_values('assertion failed: s = "ab" != "ab"', 'REGEX("[a-z]*",s) ASSERT(s!="ab")', "ab")
+        self.assert_values('assertion failed: s = "" != ""', 'REGEX("[a-z]*",s) ASSERT(s!="")', "")
+        self.assert_values(r'assertion failed: s = "\"\\\n\t\r\000\377 z" == "x"', 'REGEX("(?s-u).*",s) ASSERT(s=="x")', b'"\\\n\t\r\0\xff z')
+        self.assert_values(f'assertion failed: s = "{40 * "x"}" == "x"', 'REGEX("x*",s) ASSERT(s=="x")', 40 * "x")
+        self.assert_values(f'assertion failed: s = "{40 * "x"}"… == "x"', 'REGEX("x*",s) ASSERT(s=="x")', 41 * "x")
+        self.assert_values('assertion failed: STRLEN(t) = 2 < 2, t = "ab"', 'SET(t="ab",s["x"]="b") ASSERT(t<s["x"] && STRLEN(t)<2)', "")
 
     def test_equal_elements(self) -> None:
         for start in (0, 1):
@@ -83,7 +109,7 @@ class Values(CompanionTest):
         # the first element that was there before
         self.assert_values("assertion failed: a[0] = a[1] = 7", "REPI(i,5,SPACE) INT(0,9,a[i]) END ASSERT(UNIQUE(a))", "7 7 1 1 7")
         pairs = "REPI(i,3,NEWLINE) INT(0,9,u[i]) SPACE INT(0,9,v[i]) END ASSERT(i>2 && UNIQUE(u,v))"
-        self.assert_values("assertion failed: i = 3, (u[0],v[0]) = (u[2],v[2]) = (1,2)", pairs, "1 2\n1 3\n1 2")
+        self.assert_values("assertion failed: (u[0],v[0]) = (u[2],v[2]) = (1,2)", pairs, "1 2\n1 3\n1 2")
         words = 'REPI(i,3,SPACE) REGEX("[a-z]+",w[i]) END ASSERT(UNIQUE(w))'
         self.assert_values('assertion failed: w[1] = w[2] = "b"', words, "a b b")
         # indices that are neither 0..n-1 nor 1..n
@@ -112,19 +138,35 @@ class Values(CompanionTest):
         self.assert_values("value out of range: 6; bounds 1 .. n = 5", "SET(n=9) INT(1,n)", " 6", "-w", "--define=n=5")
 
     def test_names_of_ours_are_not_those_of_the_program(self) -> None:
-        self.assert_values("assertion failed: q0q = 4, q1qruns = 5", "SET(q0q=4,q1qruns=5) ASSERT(q0q==q1qruns)", "")
+        self.assert_values("assertion failed: q0q = 4 == q1qruns = 5", "SET(q0q=4,q1qruns=5) ASSERT(q0q==q1qruns)", "")
 
     def test_many_values(self) -> None:
         names = [f"n{number}" for number in range(10)]
         program = "SET(" + ",".join(f"{name}=1" for name in names) + ") ASSERT(" + "+".join(names) + "==0)"
-        self.assert_values("assertion failed: " + ", ".join(f"{name} = 1" for name in names[:8]) + ", and 2 more", program, "")
+        self.assert_values("assertion failed: " + "+".join(names) + " = 10 == 0, " + ", ".join(f"{name} = 1" for name in names[:8]) + ", and 2 more", program, "")
 
     def test_a_run_that_takes_long(self) -> None:
-        self.write_checker(f'sleep 1.2\nexec {CHECKER} "$@"')
         self.write("p.ctd", "SET(n=1) ASSERT(n==2)")
         self.write("1.in", "")
-        ran = self.run_tool("p.ctd", "1.in", checker="./checktestdata")
-        self.assertEqual(ran.stdout.decode().splitlines()[-1], "values left out: asking for them takes longer than a second")
+        ran = self.run_tool("--values=1e-9", "p.ctd", "1.in")
+        told = "values left out: asking for them takes longer than 1e-09 s; --values gives more time"
+        self.assertEqual(ran.stdout.decode().splitlines()[-1], told)
+
+    def test_no_values(self) -> None:
+        self.write("p.ctd", "SET(n=1) ASSERT(n==2)")
+        self.write("1.in", "")
+        self.assertNotIn(b"n = 1", self.run_tool("--values=0", "p.ctd", "1.in").stdout)
+
+    def test_the_time_goes_by_what_a_check_takes(self) -> None:
+        self.assertEqual([ctd_values.seconds_for(check, None) for check in (0.001, 0.1, 100)], [1, 15, 30])
+        self.assertEqual(ctd_values.seconds_for(100, 2.5), 2.5)
+
+    def test_a_time_that_is_none(self) -> None:
+        self.write("p.ctd", "EOF")
+        for text in ("x", "-1", "inf", "nan"):
+            ran = self.run_tool(f"--values={text}", "p.ctd", "-")
+            self.assertEqual((ran.stdout, ran.returncode), (b"", 2))
+            self.assertIn(b"argument --values: invalid", ran.stderr)
 
     def test_below_the_lines_of_the_data_and_of_the_program(self) -> None:
         self.write("p.ctd", "INT(1,2)")
@@ -143,6 +185,21 @@ class Values(CompanionTest):
 class Expected(CompanionTest):
     tool = "ctd-show"
 
+    def test_what_is_wrong_with_a_pattern(self) -> None:
+        self.write("1.in", "")
+        for pattern, told in [
+            ("[a-z", "bad pattern: unterminated character set at byte 1 of the pattern"),
+            ("a(b", "bad pattern: missing ), unterminated subpattern at byte 2 of the pattern"),
+            ("*a", "bad pattern: nothing to repeat at byte 1 of the pattern"),
+            ("(?=a)", "bad pattern: there is no look-ahead and no look-behind"),
+            ("(a)\\\\1", "bad pattern: there are no back references"),
+            ("\\351", "bad pattern: byte 1 of the pattern is no UTF-8"),
+        ]:
+            with self.subTest(pattern):
+                self.write("p.ctd", f'SPACE REGEX("{pattern}") REGEX("[")')
+                ran = self.run_tool("p.ctd", "1.in")
+                self.assertEqual((ran.returncode, ran.stdout.decode().splitlines()[-1]), (2, told))
+
     def test_what_could_stand_there(self) -> None:
         self.write("1.in", "")
         for program, expected in [
@@ -158,8 +215,10 @@ class Expected(CompanionTest):
             ("INT(,2)", "an expression"),
             ("IF() END", "a test"),
             ("SPACE )", "a command or the end of the program"),
-            ("REP(1) SPACE", "a command or END"),
-            ("IF(ISEOF) SPACE", "a command or ELSE or END"),
+            ("REP(1) SPACE", "a command or END (REP of line 1 column 1 is open)"),
+            ("IF(ISEOF) SPACE", "a command or ELSE or END (IF of line 1 column 1 is open)"),
+            ("REP(2)\n  IF(ISEOF) END\n  WHILE(ISEOF) SPACE END\n", "a command or END (REP of line 1 column 1 is open)"),
+            ("REP(2)\n  IF(ISEOF) EOF ELSE\n SPACE", "a command or END (IF of line 2 column 3 is open)"),
         ]:
             with self.subTest(program):
                 self.write("p.ctd", program)

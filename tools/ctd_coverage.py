@@ -1,15 +1,18 @@
 """What files of test data try of a program: the things that are watched, and the copies of the program that ask for them."""
 from __future__ import annotations
 
-import re
-from collections.abc import Callable, Iterator, Mapping, Sequence
+from collections.abc import Callable, Mapping, Sequence
 from dataclasses import dataclass, field
-from typing import FrozenSet
 
 from ctd_companion import Place
-from ctd_program import TEXT, Command, Node, Token, Tree
-from ctd_questions import GREATEST, LEAST, Asker, CannotAsk, Copy, Question, bytes_before, number_asked, numeral
-from ctd_ranges import Range, all_commands, range_of, ranges_of
+from ctd_decisions import Effect, decisions, numbers_of, tight_comparisons
+from ctd_flow import LOOPS, Apart, Condition, Flow, Happening, Holds, Matched, Part, Took
+from ctd_patterns import alternatives_of, lengths_of
+from ctd_presets import Preset
+from ctd_program import Command, Tree
+from ctd_questions import GREATEST, LEAST, Asker, CannotAsk, Copy, Question, bytes_before, literal, number_asked, numeral
+from ctd_ranges import Range
+from ctd_takers import parted_integers
 
 # How often one number is found anew in one file, before the copy keeps the greatest itself.
 MOST_RECORDS = 12
@@ -56,6 +59,9 @@ class Thing:
     def stays(self, best: int) -> bytes:
         return b"%b%b%b" % (self.expression, b"<=" if self.sign > 0 else b">=", numeral(best))
 
+
+# How the names of things begin that are parts of a test.
+TIGHT, DECIDED = "tight: ", "decided by: "
 
 # What was found of the things that happened.
 Findings = Mapping[Thing, Found]
@@ -169,6 +175,8 @@ class Block:
     commands: list[Command]
     is_entered: Callable[[Findings], bool]
     parent: Block | None = None
+    # what may happen that a run comes here
+    ways: Sequence[Happening] = ()
 
     def is_run(self, found: Findings) -> bool:
         """Whether some file runs these commands."""
@@ -182,22 +190,37 @@ class Watched:
     command: Command
     block: Block
     things: dict[str, Thing] = field(default_factory=dict)
-    # for an INT its bounds, for a loop its turns, for a REGEX its lengths: what is known of them
-    low: Range | None = None
-    high: Range | None = None
+    # what happens where a thing does, for those of which it is asked whether they can be
+    happenings: dict[str, Happening] = field(default_factory=dict)
+    # for an INT its bounds, for a REGEX its lengths: what is known of them
+    low: Range = Range()
+    high: Range = Range()
+
+    def watch(self, name: str, thing: Thing | None, conditions: Sequence[Condition] = (), part: Part = Part.ANY) -> None:
+        """Adds something that may happen here, with a thing where it is asked for by itself."""
+        self.happenings[name] = Happening(self.command, conditions, part)
+        if thing:
+            self.things[name] = thing
+
+    def add_decisions(self, skeleton: Skeleton, wanted: bool | None) -> list[Thing]:
+        """Watches the sides of && and || in the test, which has to have a value, or may have both."""
+        for effect in decisions(self.command.arguments[0], wanted):
+            self.watch(f"{DECIDED}{text_of(skeleton, effect)}", skeleton.thing_of_effect(effect), effect.conditions)
+        return [thing for name, thing in self.things.items() if name.startswith(DECIDED)]
 
 
 class Skeleton:
     """A program with the places in it at which questions can be put."""
 
-    def __init__(self, text: bytes, commands: list[Command], fresh: bytes, presets: Sequence[bytes]) -> None:
+    def __init__(self, text: bytes, commands: list[Command], fresh: bytes, presets: Sequence[Preset]) -> None:
         self.text, self.fresh = text, fresh
         self.pieces: list[Piece] = []
         self.at = 0
         self.watched: list[Watched] = []
         self.blocks: list[Block] = []
         self.taken: set[bytes] = set()
-        self.known = ranges_of(commands, presets)
+        self.flow = Flow(commands, presets)
+        self.numbers = numbers_of(commands, presets)
         self.parted = parted_integers(commands)
         self.add_block(Block(commands, lambda found: True))
         self.verbatim(len(text))
@@ -277,6 +300,20 @@ class Skeleton:
     def source(self, tree: Tree) -> bytes:
         return self.text[tree.offset : tree.end]
 
+    def condition(self, one: Condition) -> bytes:
+        """A condition of a part of a test as a test."""
+        if isinstance(one, Holds):
+            return b"%b(%b)" % (b"" if one.wanted else b"!", self.source(one.test))
+        assert isinstance(one, Apart)
+        return b"(%b)==(%b)%b" % (self.source(one.left), self.source(one.right), b"%+d" % one.distance if one.distance else b"")
+
+    def thing_of_effect(self, effect: Effect) -> Thing:
+        return Thing(test=b"!(%b)" % b"&&".join(map(self.condition, effect.conditions)))
+
+
+def text_of(skeleton: Skeleton, effect: Effect) -> str:
+    return skeleton.source(effect.part).decode("utf-8", "backslashreplace")
+
 
 @dataclass(eq=False)
 class ThingQuestion(Question):
@@ -307,60 +344,65 @@ def add_taker(skeleton: Skeleton, watched: Watched, behind: int, target: Tree | 
 
 
 def add_integer(skeleton: Skeleton, watched: Watched) -> None:
-    low, high, *target = watched.command.arguments
+    command = watched.command
+    low, high, *target = command.arguments
     name = skeleton.variable()
     skeleton.taken.add(name)
-    watched.low, watched.high = range_of(low, skeleton.known), range_of(high, skeleton.known)
-    is_taken = watched.command in skeleton.parted
-    things = watched.things
+    watched.low, watched.high = skeleton.flow.range_at(command, low), skeleton.flow.range_at(command, high)
+    is_taken = command in skeleton.parted
     for bound, tree, known in (("low", low, watched.low), ("high", high, watched.high)):
-        if known is None or known.only is None:
-            things[bound] = Thing(test=b"%b!=(%b)" % (name, skeleton.source(tree)))
-    things["least"] = Thing(expression=name, sign=-1, bound=watched.low and watched.low.least, is_taken=is_taken)
-    things["greatest"] = Thing(expression=name, sign=1, bound=watched.high and watched.high.greatest, is_taken=is_taken)
+        thing = Thing(test=b"%b!=(%b)" % (name, skeleton.source(tree))) if known.only is None else None
+        watched.watch(bound, thing, [Took(tree)])
+    watched.things["least"] = Thing(expression=name, sign=-1, bound=watched.low.least, is_taken=is_taken)
+    watched.things["greatest"] = Thing(expression=name, sign=1, bound=watched.high.greatest, is_taken=is_taken)
     add_taker(skeleton, watched, high.end, target[0] if target else None, name)
 
 
 def add_regex(skeleton: Skeleton, watched: Watched) -> None:
     pattern, *target = watched.command.arguments
     name = skeleton.variable()
-    watched.low, watched.high = lengths_of(pattern)
-    length = b"STRLEN(%b)" % name
-    watched.things["least"] = Thing(expression=length, sign=-1, bound=watched.low.least if watched.low else 0)
-    watched.things["greatest"] = Thing(expression=length, sign=1, bound=watched.high.greatest if watched.high else None)
+    length, lengths = b"STRLEN(%b)" % name, lengths_of(pattern)
+    watched.low, watched.high = Range(lengths.least, lengths.least), Range(lengths.greatest, lengths.greatest)
+    watched.things["least"] = Thing(expression=length, sign=-1, bound=lengths.least or 0)
+    watched.things["greatest"] = Thing(expression=length, sign=1, bound=lengths.greatest)
+    watched.watch("low", None, [Matched(None, watched.low)])
+    watched.watch("high", None, [Matched(None, watched.high)])
+    alternatives = alternatives_of(pattern)
+    for one in alternatives if len(alternatives) > 1 else []:
+        watched.watch(one.decode(), Thing(test=b"%b!=%b" % (name, literal(one))), [Matched(frozenset({one}), Range())])
     add_taker(skeleton, watched, pattern.end, target[0] if target else None, name)
 
 
 def add_choice(skeleton: Skeleton, watched: Watched) -> None:
     command, block = watched.command, watched.block
     yes, no = Thing(test=b"0!=0"), Thing(test=b"0!=0")
-    watched.things.update(true=yes, false=no)
+    watched.watch("true", yes, part=Part.TRUE)
+    watched.watch("false", no, part=Part.FALSE)
+    skeleton.verbatim(command.offset)
+    skeleton.put_all(watched.add_decisions(skeleton, None))
     skeleton.verbatim(command.head_end)
     skeleton.put_all([yes])
-    skeleton.add_block(Block(command.body, lambda found: yes in found, block))
+    skeleton.add_block(Block(command.body, lambda found: yes in found, block, [watched.happenings["true"]]))
     if command.otherwise is None:
         skeleton.verbatim(command.end - len("END"))
         skeleton.put_all([no], b" ELSE ")
     else:
         skeleton.verbatim(command.else_end)
         skeleton.put_all([no])
-        skeleton.add_block(Block(command.otherwise, lambda found: no in found, block))
+        skeleton.add_block(Block(command.otherwise, lambda found: no in found, block, [watched.happenings["false"]]))
 
 
 def add_loop(skeleton: Skeleton, watched: Watched) -> None:
     """A loop: of REP and REPI the count tells the turns before the first; of WHILE and WHILEI a variable of ours counts them."""
     command, is_counted = watched.command, watched.command.word.startswith("REP")
-    count = range_of(command.arguments[-1], skeleton.known) if is_counted else None
     turns = b"(%b)" % skeleton.source(command.arguments[-1]) if is_counted else skeleton.variable()
-    if count is None or count.least <= 0:
-        watched.things["none"] = Thing(test=turns + b"!=0")
-    if count is None or count.least <= 1 <= count.greatest:
-        watched.things["one"] = Thing(test=turns + b"!=1")
-    more = Thing(test=turns + b"<=1")
-    if count is None or count.greatest > 1:
-        watched.things["more"] = more
-    watched.things["most"] = Thing(expression=turns, sign=1, bound=count and count.greatest)
-    one, things = watched.things.get("one"), list(watched.things.values())
+    one, more = Thing(test=turns + b"!=1"), Thing(test=turns + b"<=1")
+    watched.watch("none", Thing(test=turns + b"!=0"), part=Part.NONE)
+    watched.watch("one", one, part=Part.ONE)
+    watched.watch("more", more, part=Part.MORE)
+    most = skeleton.flow.range_at(command, command.arguments[-1]).greatest if is_counted else None
+    watched.things["most"] = Thing(expression=turns, sign=1, bound=most)
+    things = list(watched.things.values())
 
     def unless_closed(text: bytes) -> Piece:
         return lambda copy, run: copy.add(text) if any(run.is_open(thing) for thing in things) else None
@@ -371,12 +413,14 @@ def add_loop(skeleton: Skeleton, watched: Watched) -> None:
     else:
         skeleton.insert(unless_closed(b"SET(%b=0) " % turns))
     if command.separator:
-        skeleton.add_separator(command.separator, Block([command.separator], lambda found: more in found, watched.block))
+        between = Block([command.separator], lambda found: more in found, watched.block, [watched.happenings["more"]])
+        skeleton.add_separator(command.separator, between)
     skeleton.verbatim(command.head_end)
     if not is_counted:
         skeleton.insert(unless_closed(b" SET(%b=%b+1) " % (turns, turns)))
         skeleton.put_all([more])
-    skeleton.add_block(Block(command.body, lambda found: one in found or more in found, watched.block))
+    ways = [watched.happenings["one"], watched.happenings["more"]]
+    skeleton.add_block(Block(command.body, lambda found: one in found or more in found, watched.block, ways))
 
 
 def end_loop(skeleton: Skeleton, watched: Watched) -> None:
@@ -385,10 +429,9 @@ def end_loop(skeleton: Skeleton, watched: Watched) -> None:
 
 
 def add_assertion(skeleton: Skeleton, watched: Watched) -> None:
-    for comparison in comparisons(watched.command.arguments[0]):
-        left, sign, right = comparison.parts
-        if test := tightness(skeleton, left, sign.symbol, right):
-            watched.things[skeleton.source(comparison).decode("utf-8", "backslashreplace")] = Thing(test=test)
+    for effect in tight_comparisons(watched.command.arguments[0], skeleton.numbers):
+        watched.watch(f"{TIGHT}{text_of(skeleton, effect)}", skeleton.thing_of_effect(effect), effect.conditions)
+    watched.add_decisions(skeleton, True)
 
 
 def end_assertion(skeleton: Skeleton, watched: Watched) -> None:
@@ -396,98 +439,5 @@ def end_assertion(skeleton: Skeleton, watched: Watched) -> None:
 
 
 Maker = Callable[[Skeleton, Watched], None]
-LOOPS = ("REP", "REPI", "WHILE", "WHILEI")
 MAKERS: dict[str, Maker] = {"INT": add_integer, "REGEX": add_regex, "IF": add_choice, "ASSERT": add_assertion, **{word: add_loop for word in LOOPS}}
 ENDINGS: dict[str, Maker] = {"ASSERT": end_assertion, **{word: end_loop for word in LOOPS}}
-
-
-def comparisons(test: Tree) -> Iterator[Node]:
-    """The comparisons that are all true where a test is true."""
-    if isinstance(test, Node):
-        symbols = [part.symbol for part in test.parts]
-        if test.symbol == "both":
-            yield from comparisons(test.parts[0])
-            yield from comparisons(test.parts[2])
-        elif test.symbol == "plain" and symbols[0] == "(" and len(symbols) == 3:
-            yield from comparisons(test.parts[1])
-        elif test.symbol == "plain" and len(symbols) == 3 and symbols[1] in ("<", ">", "<=", ">="):
-            yield test
-
-
-def tightness(skeleton: Skeleton, left: Tree, sign: str, right: Tree) -> bytes | None:
-    """A test that is false where a comparison that is true is so by the least margin: both sides are equal, or numbers that differ by 1."""
-    first, second = skeleton.source(left), skeleton.source(right)
-    if sign in ("<=", ">="):
-        return b"(%b)!=(%b)" % (first, second)
-    if not any(is_number(side) or range_of(side, skeleton.known) for side in (left, right)):
-        return None
-    small, large = (first, second) if sign == "<" else (second, first)
-    return b"(%b)!=(%b)-1" % (small, large)
-
-
-def is_number(tree: Tree) -> bool:
-    """Whether the text of an expression says that it is a number."""
-    if isinstance(tree, Token):
-        return isinstance(tree.value, int)
-    if tree.symbol == "atom" and len(tree.parts) == 3:
-        return is_number(tree.parts[1])
-    return tree.symbol != "variable"
-
-
-def lengths_of(pattern: Tree) -> tuple[Range | None, Range | None]:
-    """The least and greatest length of what a pattern matches, where it is one class of ASCII with a number of repetitions."""
-    assert isinstance(pattern, Token) and pattern.symbol == TEXT and isinstance(pattern.value, bytes)
-    found = re.fullmatch(rb"\[[ -Z_-~]+\]\{([0-9]{1,7})(?:,([0-9]{1,7}))?\}", pattern.value)
-    if not found:
-        return None, None
-    least, greatest = int(found[1]), int(found[2] or found[1])
-    return Range(least, least), Range(greatest, greatest)
-
-
-BLANK, OTHER = "a blank", "anything else"
-
-
-Taken = FrozenSet[str]
-
-
-def parted_integers(commands: Sequence[Command]) -> set[Command]:
-    """The INTs before which a SPACE or a NEWLINE took something, or nothing did: what they take begins behind a blank, or at the start."""
-    takers = Takers()
-    takers.behind_all(commands, frozenset())
-    return {command for command in all_commands(commands) if command.word == "INT"} - takers.unparted
-
-
-@dataclass
-class Takers:
-    """What may have been taken last behind a command, by what it may have been before it; and the INTs that are not parted."""
-
-    known: dict[tuple[Command, Taken], Taken] = field(default_factory=dict)
-    unparted: set[Command] = field(default_factory=set)
-
-    def behind_all(self, commands: Sequence[Command], before: Taken) -> Taken:
-        for command in commands:
-            if (command, before) not in self.known:
-                self.known[command, before] = self.behind(command, before)
-            before = self.known[command, before]
-        return before
-
-    def behind(self, command: Command, before: Taken) -> Taken:
-        if command.word in ("SPACE", "NEWLINE"):
-            return frozenset({BLANK})
-        if command.word == "INT":
-            if OTHER in before:
-                self.unparted.add(command)
-            return frozenset({OTHER})
-        if command.word in ("STRING", "REGEX"):
-            # (a string may be empty)
-            return before | {OTHER}
-        if command.word == "IF":
-            return self.behind_all(command.body, before) | self.behind_all(command.otherwise or [], before)
-        if command.word in LOOPS:
-            turn = [command.separator, *command.body] if command.separator else command.body
-            behind = self.behind_all(command.body, before)
-            # what a turn may find before it grows at most twice, since there are two things to be taken
-            for _ in range(2):
-                behind |= self.behind_all(turn, behind)
-            return before | behind
-        return before

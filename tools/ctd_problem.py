@@ -3,18 +3,26 @@ from __future__ import annotations
 
 import os
 import shlex
-from collections.abc import Iterator, Sequence
+from collections.abc import Iterator, Mapping, Sequence
 from dataclasses import dataclass
+from difflib import get_close_matches
 from pathlib import Path
 
 from ctd_companion import DATA_SUFFIX
+from ctd_presets import presets_in
+from ctd_program import NAME, Refused, cut
 
 PROGRAM_FOLDERS = ("input_validators", "input_format_validators")
 PROGRAM_SUFFIX = ".ctd"
 VALID_FOLDERS = ("sample", "secret")
 INVALID_FOLDERS = ("invalid_inputs", "invalid_input")
 SETTINGS = ("testdata.yaml", "test_group.yaml")
-FLAGS = "input_validator_flags"
+# The key of the flags, and that of the newer format.
+FLAGS, ARGUMENTS = "input_validator_flags", "input_validator_args"
+# Keys of the format that are nearly those, and mean flags of other programs.
+OTHER_KEYS = ("output_validator_flags", "output_validator_args")
+# How near a key has to be to one of these to be taken for it, of 1.
+NEAR = 0.8
 
 
 class BadPackage(Exception):
@@ -50,7 +58,21 @@ def package_in(folder: Path) -> Package:
     data = list(all_data(folder))
     if not any(one.has_to_fit for one in data):
         raise BadPackage(f"no files *{DATA_SUFFIX} in {' or '.join(f'data/{name}' for name in VALID_FOLDERS)}")
+    refuse_unknown_presets(folder, programs, data)
     return Package(folder, programs, data)
+
+
+def refuse_unknown_presets(folder: Path, programs: Sequence[Path], data: Sequence[DataInPackage]) -> None:
+    """Raises BadPackage for a preset of a group whose name stands in no program."""
+    try:
+        names = {token.value for program in programs for token in cut((folder / program).read_bytes()) if token.symbol == NAME}
+        unknown = [(one.group, preset.name) for one in data for preset in presets_in(one.options) if preset.name.encode() not in names]
+    except (OSError, Refused):
+        # (the checker will tell)
+        return
+    if unknown:
+        group, name = unknown[0]
+        raise BadPackage(f"{folder / group}: the flags have a preset of {name}, which no program has")
 
 
 def programs_below(folder: Path) -> list[Path]:
@@ -96,10 +118,21 @@ def flags_in(folder: Path, inherited: tuple[str, ...]) -> tuple[str, ...]:
     for name in SETTINGS:
         path = folder / name
         if path.is_file():
-            flags = read_settings(path).get(FLAGS)
-            if flags is not None:
-                return options_of(path, words_of(path, flags))
+            settings = read_settings(path)
+            refuse_misspelled(path, settings)
+            for key in (FLAGS, ARGUMENTS):
+                if settings.get(key) is not None:
+                    return options_of(path, words_of(path, key, settings[key]), key)
     return inherited
+
+
+def refuse_misspelled(path: Path, settings: Mapping[object, object]) -> None:
+    """Raises BadPackage for a key that is nearly one of those that are read."""
+    for key in settings:
+        if isinstance(key, str) and key not in OTHER_KEYS and (near := get_close_matches(key, (FLAGS, ARGUMENTS), 1, NEAR)) and key != near[0]:
+            raise BadPackage(f"{path}: unknown key {key}; did you mean {near[0]}?")
+    if settings.get(FLAGS) is not None and settings.get(ARGUMENTS) is not None:
+        raise BadPackage(f"{path}: has both {FLAGS} and {ARGUMENTS}")
 
 
 def read_settings(path: Path) -> dict[object, object]:
@@ -120,19 +153,19 @@ def read_settings(path: Path) -> dict[object, object]:
     return settings
 
 
-def words_of(path: Path, flags: object) -> list[str]:
+def words_of(path: Path, key: str, flags: object) -> list[str]:
     """The words of flags, which are a text as for a shell, or a list."""
     if isinstance(flags, list) and all(isinstance(one, (str, int)) for one in flags):
         return [str(one) for one in flags]
     if not isinstance(flags, str):
-        raise BadPackage(f"{path}: {FLAGS} is neither a text nor a list")
+        raise BadPackage(f"{path}: {key} is neither a text nor a list")
     try:
         return shlex.split(flags)
     except ValueError as fault:
-        raise BadPackage(f"{path}: {FLAGS}: {fault}") from fault
+        raise BadPackage(f"{path}: {key}: {fault}") from fault
 
 
-def options_of(path: Path, words: Sequence[str]) -> tuple[str, ...]:
+def options_of(path: Path, words: Sequence[str], key: str = FLAGS) -> tuple[str, ...]:
     """Flags as options of the checker: its own options, and presets without -D. Of presets given apart one option is made."""
     presets, options, waiting = [], [], list(reversed(words))
     while waiting:
@@ -148,5 +181,5 @@ def options_of(path: Path, words: Sequence[str]) -> tuple[str, ...]:
         elif equals and "a" <= word[:1] <= "z":
             presets.append(word)
         else:
-            raise BadPackage(f"{path}: {FLAGS}: {word} is no option of checktestdata and no preset")
+            raise BadPackage(f"{path}: {key}: {word} is no option of checktestdata and no preset")
     return tuple(sorted(set(options)) + ([f"--define={','.join(presets)}"] if presets else []))

@@ -118,6 +118,11 @@ def numeral(number: int) -> bytes:
     return b"(-%d-1)" % GREATEST if number == LEAST else b"%d" % number if number >= 0 else b"(%d)" % number
 
 
+def literal(value: bytes) -> bytes:
+    """A string as an expression."""
+    return b'"%b"' % b"".join(b"\\%03o" % byte for byte in value)
+
+
 def fresh_name(text: bytes, options: Sequence[str]) -> bytes:
     """A beginning of names that neither a program nor the presets of a command line have."""
     names = {token.value for token in cut(text) if token.symbol == NAME}
@@ -146,7 +151,9 @@ class Asker:
         # (a seek of the file object might stay within what it holds, and leave the descriptor where the last run left it)
         os.lseek(self.data.fileno(), self.origin, os.SEEK_SET)
         self.runs += 1
-        left = None if self.due is None else max(self.due - time.monotonic(), 0.001)
+        left = None if self.due is None else self.due - time.monotonic()
+        if left is not None and left <= 0:
+            raise OutOfTime
         try:
             answer, _ = Checker(self.checker.path, str(self.copy_file), without_step_limit(self.checker.options)).check_file(self.data, left)
         except subprocess.TimeoutExpired as late:
@@ -178,6 +185,8 @@ Ask = Callable[[Sequence[Question]], Question]
 def number_asked(expression: bytes, ask: Ask, least: int = LEAST, greatest: int = GREATEST) -> int:
     """The value of an expression at the place where the questions are asked, which lies between two bounds."""
     steps: Sequence[int] = [step for step in COARSE if least < step <= greatest]
+    if greatest - least < ROUND**2:
+        steps = range(least + 1, greatest + 1, -(-(greatest - least) // ROUND) or 1)
     while least < greatest:
         questions = {Question(b"ASSERT(%b>=%b) " % (expression, numeral(step))): step for step in steps}
         last = Question(b"ASSERT(0!=0) ")

@@ -1,12 +1,11 @@
-"""What is known of numbers of a program without running it: the least and the greatest value that an expression can have."""
+"""The least and the greatest value that an expression can have, and what all of a program has."""
 from __future__ import annotations
 
-from collections.abc import Iterable, Iterator, Mapping
+from collections.abc import Iterable, Iterator
 from dataclasses import dataclass
 from itertools import product
-from typing import Optional
 
-from ctd_program import NAME, NUMERAL, Command, Node, Token, Tree
+from ctd_program import Command, Token, Tree
 
 # No power with a larger exponent is a number of the language, but those of 0 and 1.
 MOST_EXPONENT = 127
@@ -15,18 +14,21 @@ LIMIT = 2**127
 
 @dataclass(frozen=True)
 class Range:
-    """The least and the greatest value."""
+    """The least and the greatest value; None for one that is not known."""
 
-    least: int
-    greatest: int
+    least: int | None = None
+    greatest: int | None = None
 
     @property
     def only(self) -> int | None:
         """The value, where there is one."""
         return self.least if self.least == self.greatest else None
 
-
-Known = Optional[Range]
+    def joined(self, other: Range) -> Range:
+        """The range of what lies in one of two."""
+        least = None if self.least is None or other.least is None else min(self.least, other.least)
+        greatest = None if self.greatest is None or other.greatest is None else max(self.greatest, other.greatest)
+        return Range(least, greatest)
 
 
 def all_commands(commands: Iterable[Command]) -> Iterator[Command]:
@@ -47,54 +49,61 @@ def name_of(tree: Tree) -> bytes:
     return token.value
 
 
-def ranges_of(commands: Iterable[Command], presets: Iterable[bytes]) -> dict[bytes, Range]:
-    """The ranges of the variables without indices that one command alone gives a value, an INT or a SET, and no preset."""
-    given: dict[bytes, list[tuple[Tree, Tree] | None]] = {name: [None] for name in presets}
-    for command in all_commands(commands):
-        arguments = command.arguments
-        if command.word == "INT" and len(arguments) > 2:
-            given.setdefault(name_of(arguments[2]), []).append((arguments[0], arguments[1]) if isinstance(arguments[2], Token) else None)
-        elif command.word == "SET":
-            for target, value in zip(arguments[::2], arguments[1::2]):
-                given.setdefault(name_of(target), []).append((value, value) if isinstance(target, Token) else None)
-        elif command.word == "REGEX" and len(arguments) > 1:
-            given.setdefault(name_of(arguments[1]), []).append(None)
-        elif command.word in ("REPI", "WHILEI"):
-            given.setdefault(name_of(arguments[0]), []).append(None)
-    known: dict[bytes, Range] = {}
-    for name, ways in given.items():
-        if len(ways) == 1 and ways[0] is not None:
-            least, greatest = (range_of(bound, known) for bound in ways[0])
-            if least and greatest and least.least <= greatest.greatest:
-                known[name] = Range(least.least, greatest.greatest)
-    return known
+def operation_range(operator: str, left: Range, right: Range) -> Range:
+    """The range of a product, a quotient, a remainder or a power."""
+    if left.only is not None and right.only is not None:
+        value = value_of(operator, left.only, right.only)
+        return Range(value, value)
+    if operator == "*":
+        return product_range(left, right)
+    if right.least is None or right.least < (0 if operator == "^" else 1):
+        return Range()
+    return {"/": quotient_range, "%": remainder_range, "^": power_range}[operator](left, right)
 
 
-def range_of(tree: Tree, known: Mapping[bytes, Range]) -> Known:
-    """The range of an expression; None where nothing is known of it."""
-    if isinstance(tree, Token):
-        if tree.symbol == NUMERAL and isinstance(tree.value, int):
-            return Range(tree.value, tree.value)
-        return known.get(name_of(tree)) if tree.symbol == NAME else None
-    if tree.symbol == "atom" and len(tree.parts) == 3:
-        return range_of(tree.parts[1], known)
-    if len(tree.parts) == 2:
-        inner = range_of(tree.parts[1], known)
-        return inner and Range(-inner.greatest, -inner.least)
-    return operation_range(tree, known) if tree.symbol in ("expr", "product", "power") else None
+def product_range(left: Range, right: Range) -> Range:
+    if left.least is None or left.greatest is None or right.least is None or right.greatest is None:
+        is_positive = left.least is not None and right.least is not None and left.least >= 0 and right.least >= 0
+        return Range(left.least * right.least, None) if is_positive else Range()  # type: ignore[operator]
+    ends = [one * other for one, other in product((left.least, left.greatest), (right.least, right.greatest))]
+    return Range(min(ends), max(ends))
 
 
-def operation_range(tree: Node, known: Mapping[bytes, Range]) -> Known:
-    """The range of an operation: for numbers alone its value, and of sums, differences and products also what the ends say."""
-    left, operator, right = range_of(tree.parts[0], known), tree.parts[1].symbol, range_of(tree.parts[2], known)
-    if left is None or right is None:
-        return None
-    both = left.only is not None and right.only is not None
-    if operator not in "+-*" and not both:
-        return None
-    ends = [value_of(operator, *pair) for pair in product((left.least, left.greatest), (right.least, right.greatest))]
-    values = [end for end in ends if end is not None and -LIMIT <= end < LIMIT]
-    return Range(min(values), max(values)) if len(values) == len(ends) else None
+def quotient_range(left: Range, right: Range) -> Range:
+    """The range of a quotient by a number above 0: it is nearest to 0 where that is largest."""
+
+    def end(value: int | None, is_least: bool) -> int | None:
+        if value is None:
+            return None
+        is_inner = (value > 0) == is_least
+        divisor = right.greatest if is_inner else right.least
+        return 0 if divisor is None else value_of("/", value, divisor)
+
+    return Range(end(left.least, True), end(left.greatest, False))
+
+
+def remainder_range(left: Range, right: Range) -> Range:
+    """The range of a remainder by a number above 0, which has the sign of the dividend."""
+    assert right.least is not None
+    if left.least is not None and left.least >= 0 and left.greatest is not None and left.greatest < right.least:
+        return left
+    most = None if right.greatest is None else right.greatest - 1
+    least = 0 if left.least is not None and left.least >= 0 else None if most is None else -most
+    greatest = 0 if left.greatest is not None and left.greatest <= 0 else most
+    if left.greatest is not None and left.greatest > 0 and (greatest is None or left.greatest < greatest):
+        greatest = left.greatest
+    return Range(least, greatest)
+
+
+def power_range(left: Range, right: Range) -> Range:
+    """The range of a power of a number that is not below 0."""
+    if left.least is None or left.least < 0 or right.least is None:
+        return Range()
+    least = value_of("^", left.least, right.least) if left.least else 0
+    greatest = None
+    if left.greatest is not None and right.greatest is not None:
+        greatest = value_of("^", max(left.greatest, 1), right.greatest)
+    return Range(least, greatest)
 
 
 def value_of(operator: str, left: int, right: int) -> int | None:

@@ -1,17 +1,18 @@
 """What files of test data do not try of a program: how all files are asked, and what is said of each command."""
 from __future__ import annotations
 
-import re
 import shutil
 import sys
 import tempfile
 import threading
-from collections.abc import Iterator, Sequence
+from collections.abc import Iterable, Iterator, Sequence
 from dataclasses import dataclass, field
 from pathlib import Path
 
 from ctd_companion import FITS, STANDARD_INPUT, Checker, DataFile, Progress, open_data, results_in_order
-from ctd_coverage import LOOPS, FileRun, Findings, Skeleton, Watched, merged
+from ctd_coverage import DECIDED, TIGHT, FileRun, Findings, Skeleton, Watched, merged
+from ctd_flow import LOOPS
+from ctd_presets import presets_in
 from ctd_program import Command, commands_of
 from ctd_questions import Asker, CannotAsk, fresh_name, place_at
 from ctd_ranges import Range
@@ -78,8 +79,7 @@ def skeleton_of(checker: Checker) -> Skeleton:
     if not Path(checker.program).is_file():
         raise CannotAsk("the program is no file, and cannot be read again")
     text = Path(checker.program).read_bytes()
-    presets = [name.encode() for option in checker.options if option.startswith("--define=") for name in re.findall("[a-z][a-z0-9]*", option[9:])]
-    return Skeleton(text, commands_of(text), fresh_name(text, checker.options), presets)
+    return Skeleton(text, commands_of(text), fresh_name(text, checker.options), list(presets_in(checker.options)))
 
 
 def fitting(checker: Checker, files: Sequence[DataFile], shop: Workshop, jobs: int) -> Iterator[HeldFile | str]:
@@ -132,12 +132,13 @@ def cover(checker: Checker, given: Sequence[DataFile], jobs: int) -> Coverage:
 
 @dataclass(frozen=True)
 class Seen:
-    """What was seen of a command; what was not, if anything; and what a note of that has besides."""
+    """What was seen of a command; what was not, if anything; what a note of that has besides; and what no data can show."""
 
     seen: str
     untried: str = ""
     before: str = ""
     behind: str = ""
+    dead: str = ""
 
 
 @dataclass(frozen=True)
@@ -172,7 +173,8 @@ def rows(coverage: Coverage) -> list[Row]:
 def never_run(skeleton: Skeleton, found: Findings) -> Iterator[tuple[Command, Seen]]:
     """The first command of each list of commands that no file runs, where what stands around the list is run."""
     for block in skeleton.blocks:
-        if block.commands and not block.is_entered(found) and (block.parent is None or block.parent.is_run(found)):
+        can_be_run = any(skeleton.flow.can_be(way) for way in block.ways)
+        if block.commands and not block.is_entered(found) and (block.parent is None or block.parent.is_run(found)) and can_be_run:
             count = len(block.commands)
             yield block.commands[0], Seen("never run", "no file runs this command" if count == 1 else f"no file runs these {count} commands")
 
@@ -184,9 +186,9 @@ def row_of(skeleton: Skeleton, command: Command, what: Seen) -> Row:
     return Row(place.line, place.column, shown(head), what)
 
 
-def bound_text(skeleton: Skeleton, watched: Watched, index: int, known: Range | None) -> str:
+def bound_text(skeleton: Skeleton, watched: Watched, index: int, known: Range) -> str:
     """A bound of an INT: its number, or what the program says."""
-    return str(known.only) if known and known.only is not None else shown(skeleton.source(watched.command.arguments[index]), 20)
+    return str(known.only) if known.only is not None else shown(skeleton.source(watched.command.arguments[index]), 20)
 
 
 def seen_range(watched: Watched, found: Findings) -> str:
@@ -194,70 +196,100 @@ def seen_range(watched: Watched, found: Findings) -> str:
     return f"{least.value} ({least.spot}) .. {greatest.value} ({greatest.spot})"
 
 
+def missed_of(skeleton: Skeleton, watched: Watched, found: Findings, names: Iterable[str]) -> list[str]:
+    """Those of the things with these names that did not happen, and can."""
+    missed = [name for name in names if watched.things[name] not in found]
+    return [name for name in missed if skeleton.flow.can_be(watched.happenings[name])]
+
+
+def missed_bounds(skeleton: Skeleton, watched: Watched, found: Findings) -> list[str]:
+    """Which of the ends of an INT or of the lengths of a REGEX were not taken, and can be."""
+    missed = []
+    for bound, end, known in (("low", "least", watched.low), ("high", "greatest", watched.high)):
+        is_taken = watched.things[bound] in found if bound in watched.things else known.only in (None, found[watched.things[end]].value)
+        if not is_taken and skeleton.flow.can_be(watched.happenings[bound]):
+            missed.append(end)
+    return missed
+
+
 def missing_bounds(missed: Sequence[str]) -> str:
     return "neither bound is ever taken" if len(missed) == 2 else f"the {missed[0]} is never taken" if missed else ""
 
 
 def of_integer(skeleton: Skeleton, watched: Watched, found: Findings) -> Seen:
-    things = watched.things
-    least, greatest = found[things["least"]], found[things["greatest"]]
-    missed = []
-    for bound, name, end, known in (("low", "least", least, watched.low), ("high", "greatest", greatest, watched.high)):
-        if not (things[bound] in found if bound in things else known is not None and end.value == known.only):
-            missed.append(name)
+    missed = missed_bounds(skeleton, watched, found)
     low, high = bound_text(skeleton, watched, 0, watched.low), bound_text(skeleton, watched, 1, watched.high)
-    spots = [str(end.spot) for name, end in (("least", least), ("greatest", greatest)) if name in missed]
-    before = f"took {least.value}..{greatest.value} of {low}..{high}: "
-    return Seen(f"{seen_range(watched, found)} of {low}..{high}", missing_bounds(missed), before, f" ({', '.join(spots)})")
+    ends = {name: found[watched.things[name]] for name in ("least", "greatest")}
+    before = f"took {ends['least'].value}..{ends['greatest'].value} of {low}..{high}: "
+    return Seen(f"{seen_range(watched, found)} of {low}..{high}", missing_bounds(missed), before, f" ({', '.join(str(ends[name].spot) for name in missed)})")
 
 
 def of_regex(skeleton: Skeleton, watched: Watched, found: Findings) -> Seen:
-    least, greatest = found[watched.things["least"]], found[watched.things["greatest"]]
+    words = [name for name in watched.things if name not in ("least", "greatest")]
     seen = f"{seen_range(watched, found)} bytes"
-    if not (watched.low and watched.high):
+    if words:
+        missed = missed_of(skeleton, watched, found, words)
+        return Seen(seen, f"never took {quoted(missed)}" if missed else "")
+    low, high = watched.low.only, watched.high.only
+    if low is None or high is None:
         return Seen(seen)
-    low, high = watched.low.least, watched.high.greatest
-    missed = [name for name, end, bound in (("least", least, low), ("greatest", greatest, high)) if end.value != bound]
-    return Seen(f"{seen} of {low}..{high}", missing_bounds(missed), f"took {least.value}..{greatest.value} of {low}..{high} bytes: ")
+    least, greatest = (found[watched.things[name]].value for name in ("least", "greatest"))
+    return Seen(f"{seen} of {low}..{high}", missing_bounds(missed_bounds(skeleton, watched, found)), f"took {least}..{greatest} of {low}..{high} bytes: ")
+
+
+def quoted(words: Iterable[str]) -> str:
+    return ", ".join(f'"{shown(word.encode())}"' for word in words)
 
 
 def of_choice(skeleton: Skeleton, watched: Watched, found: Findings) -> Seen:
     seen = [name for name in ("true", "false") if watched.things[name] in found]
-    missed = [name for name in ("true", "false") if name not in seen]
-    return Seen(", ".join(seen), f"the test is never {missed[0]}" if missed else "")
+    missed = missed_of(skeleton, watched, found, ("true", "false"))
+    # (a preset may well leave a choice no choice)
+    dead = [] if skeleton.flow.presets else [name for name in ("true", "false") if name not in (*seen, *missed)]
+    untried = [*(f"the test is never {name}" for name in missed), *undecided(skeleton, watched, found)]
+    return Seen(", ".join(seen), ", ".join(untried), dead=f"no data make the test {dead[0]}" if dead else "")
+
+
+def undecided(skeleton: Skeleton, watched: Watched, found: Findings) -> list[str]:
+    """What is said of the sides of a test that never decide it."""
+    missed = missed_of(skeleton, watched, found, [name for name in watched.things if name.startswith(DECIDED)])
+    return [f"never {shown(name.encode())}" for name in missed]
 
 
 TURNS = {"none": ("no turn", "never without a turn"), "one": ("one turn", "never with one turn alone"), "more": ("more turns", "never with more than one turn")}
 
 
 def of_loop(skeleton: Skeleton, watched: Watched, found: Findings) -> Seen:
-    names = [name for name in TURNS if name in watched.things]
-    seen = [TURNS[name][0] for name in names if watched.things[name] in found]
-    missed = [TURNS[name][1] for name in names if watched.things[name] not in found]
+    seen = [told for name, (told, _) in TURNS.items() if watched.things[name] in found]
+    missed = [TURNS[name][1] for name in missed_of(skeleton, watched, found, TURNS)]
     most = found[watched.things["most"]]
     return Seen(f"{', '.join(seen) or 'turns'}; at most {most.value} ({most.spot})", ", ".join(missed))
 
 
 def of_assertion(skeleton: Skeleton, watched: Watched, found: Findings) -> Seen:
-    seen = [f"{shown(name.encode())} ({found[thing].spot})" for name, thing in watched.things.items() if thing in found]
-    missed = [shown(name.encode()) for name, thing in watched.things.items() if thing not in found]
-    return Seen(f"tight: {', '.join(seen)}" if seen else "", f"never tight: {', '.join(missed)}" if missed else "")
+    tight = {name: shown(name.removeprefix(TIGHT).encode()) for name in watched.things if name.startswith(TIGHT)}
+    seen = [f"{told} ({found[watched.things[name]].spot})" for name, told in tight.items() if watched.things[name] in found]
+    missed = [tight[name] for name in missed_of(skeleton, watched, found, tight)]
+    never = [f"never tight: {', '.join(missed)}"] if missed else []
+    return Seen(f"tight: {', '.join(seen)}" if seen else "", ", ".join([*never, *undecided(skeleton, watched, found)]))
 
 
 SAYERS = {"INT": of_integer, "REGEX": of_regex, "IF": of_choice, "ASSERT": of_assertion, **{word: of_loop for word in LOOPS}}
 
 
 def notes(program: str, said: Sequence[Row]) -> Iterator[str]:
-    """What was not tried, in the form of compilers."""
+    """What was not tried, in the form of compilers, and what no data can try."""
     for row in said:
         if what := row.what.untried:
             word = "" if what.startswith("no file") else f"{row.command.partition('(')[0]}: "
             yield f"{program}:{row.line}:{row.column}: note: {word}{row.what.before}{what}{row.what.behind}"
+        if row.what.dead:
+            yield f"{program}:{row.line}:{row.column}: note: {row.command.partition('(')[0]}: {row.what.dead}"
 
 
 def table(said: Sequence[Row]) -> Iterator[str]:
     """All that was seen, in columns."""
-    cells = [("place", "command", "seen", "not tried"), *((f"{row.line}:{row.column}", row.command, row.what.seen, row.what.untried) for row in said)]
+    cells = [("place", "command", "seen", "not tried"), *((f"{row.line}:{row.column}", row.command, row.what.seen, ", ".join(filter(None, (row.what.untried, row.what.dead)))) for row in said)]
     widths = [max(len(row[column]) for row in cells) for column in range(3)]
     for row in cells:
         yield "  ".join([f"{cell:{width}}" for cell, width in zip(row, widths)] + [row[3]]).rstrip()

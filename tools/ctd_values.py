@@ -12,31 +12,40 @@ from pathlib import Path
 from typing import IO, Union
 
 from ctd_companion import Answer, Checker
-from ctd_program import END, NAME, NUMERAL, TEXT, Command, Node, Refused, Token, Tree, commands_of
-from ctd_questions import Asker, CannotAsk, Copy, EndedOtherwise, OutOfTime, Question, fresh_name, line_offset, number_asked, offset_at
+from ctd_decisions import operands_of
+from ctd_equal import equal_elements
+from ctd_patterns import pattern_fault
+from ctd_program import BLOCKS, END, NAME, NUMERAL, TEXT, Command, Node, Refused, Token, Tree, commands_of, cut
+from ctd_questions import Asker, CannotAsk, Copy, EndedOtherwise, OutOfTime, Question, fresh_name, line_offset, literal, number_asked, offset_at, place_at
 from ctd_ranges import all_commands, name_of
+from ctd_state import SIGNS, in_parentheses, is_variable
 
-SECONDS = 1.0
+# How long asking may take: so many times as long as the check, but no less than a second and no more than some.
+TIMES, LEAST_SECONDS, MOST_SECONDS = 150, 1.0, 30.0
 # How many bytes of a string and of a number in the data are shown, and how many values.
 STRING_ROOM = 40
 MOST_VALUES = 8
-MOST_ELEMENTS = 2**20
-LEFT_OUT = "values left out: asking for them takes longer than a second"
+LEFT_OUT = "values left out: asking for them takes longer than {:.3g} s; --values gives more time"
 
 Value = Union[int, bytes]
 
 
-def value_lines(checker: Checker, answer: Answer, data: IO[bytes], origin: int) -> list[str]:
-    """What is shown of a fault: the values of the variables in its command, or what could stand at a syntax error; nothing where there is
-    none of it."""
+def seconds_for(check: float, given: float | None) -> float:
+    """How long asking for values may take, where a check takes so long, or the command line says it."""
+    return min(max(TIMES * check, LEAST_SECONDS), MOST_SECONDS) if given is None else given
+
+
+def value_lines(checker: Checker, answer: Answer, data: IO[bytes], origin: int, seconds: float) -> list[str]:
+    """What is shown of a fault: the values of the variables in its command, or what could stand where a program is refused; nothing where there
+    is none of it. Asking may take so many seconds; with 0 nothing is asked."""
     try:
         if not Path(checker.program).is_file():
             # (a pipe cannot be read again)
             return []
         text = Path(checker.program).read_bytes()
         if answer.is_of_the_call:
-            return [expected_line(text)] if answer.message == "syntax error" else []
-        if answer.in_program is None or answer.message == "step limit reached":
+            return refused_lines(text, answer)
+        if answer.in_program is None or answer.message == "step limit reached" or not seconds:
             return []
         # Programs nest deeply, and each level takes some calls.
         sys.setrecursionlimit(max(sys.getrecursionlimit(), 10_000))
@@ -45,11 +54,11 @@ def value_lines(checker: Checker, answer: Answer, data: IO[bytes], origin: int) 
         if not found:
             return []
         with tempfile.TemporaryDirectory() as folder:
-            asker = Asker(checker, data, Path(folder) / "copy.ctd", origin, time.monotonic() + SECONDS)
+            asker = Asker(checker, data, Path(folder) / "copy.ctd", origin, time.monotonic() + seconds)
             fault = Fault(text, *found[0], answer, asker, fresh_name(text, checker.options))
             return [f"{answer.message}: {told}" for told in [fault.told()] if told]
     except OutOfTime:
-        return [LEFT_OUT]
+        return [LEFT_OUT.format(seconds)]
     except (OSError, CannotAsk, EndedOtherwise, Refused):
         return []
 
@@ -75,8 +84,36 @@ SINGLE = {NAME: "a name", NUMERAL: "a number", TEXT: "a string", END: "the end o
 ORDER = [",", ")", "]", "=", "[", "(", "&&", "||", "!", *(title for title, _ in GROUPS), *SINGLE.values()]
 
 
+def refused_lines(text: bytes, answer: Answer) -> list[str]:
+    """What is told of a program that is refused: what could stand at a syntax error, or what is wrong with a pattern."""
+    if answer.message == "syntax error":
+        return [expected_line(text)]
+    if answer.message == "bad pattern" and answer.in_program:
+        offset = offset_at(text, answer.in_program)
+        token = next((token for token in cut(text) if token.offset == offset and isinstance(token.value, bytes)), None)
+        if token and (told := pattern_fault(token.value)):  # type: ignore[arg-type]
+            return [f"bad pattern: {told}"]
+    return []
+
+
+def open_command(text: bytes, offset: int) -> str:
+    """The last command before an offset that has no END there, with its place; an empty text where there is none."""
+    opened: list[Token] = []
+    for token in cut(text):
+        if token.offset >= offset:
+            break
+        if token.symbol in BLOCKS:
+            opened.append(token)
+        elif token.symbol == "END":
+            opened.pop()
+    if not opened:
+        return ""
+    place = place_at(text, opened[-1].offset)
+    return f"{opened[-1].symbol} of line {place.line} column {place.column} is open"
+
+
 def expected_line(text: bytes) -> str:
-    """What could stand where a program has a syntax error."""
+    """What could stand where a program has a syntax error, and which command is open where END could."""
     try:
         commands_of(text)
     except Refused as refused:
@@ -87,7 +124,8 @@ def expected_line(text: bytes) -> str:
                 groups.append(title)
         choices = [*groups, *(SINGLE.get(one, one) for one in sorted(rest))]
         choices.sort(key=lambda one: ORDER.index(one) if one in ORDER else len(ORDER))
-        return f"expected {' or '.join(choices)}"
+        told = open_command(text, refused.offset or 0) if "END" in rest else ""
+        return f"expected {' or '.join(choices)}{f' ({told})' if told else ''}"
     return ""
 
 
@@ -107,16 +145,6 @@ def variables_in(tree: Tree) -> Iterator[Tree]:
         yield from variables_in(part)
 
 
-def uniques_in(tree: Tree) -> Iterator[Node]:
-    """The UNIQUEs that have to be true where a test is."""
-    if isinstance(tree, Node):
-        if tree.parts[0].symbol == "UNIQUE":
-            yield tree
-        elif tree.symbol == "both" or (tree.symbol == "plain" and len(tree.parts) == 3 and tree.parts[0].symbol == "("):
-            for part in tree.parts:
-                yield from uniques_in(part)
-
-
 def quoted(value: Value, length: int) -> str:
     """A value as it is shown: a string in quotes, cut where it is long."""
     if isinstance(value, int):
@@ -124,10 +152,6 @@ def quoted(value: Value, length: int) -> str:
     marks = {0x22: '\\"', 0x5C: "\\\\", 0x0A: "\\n", 0x09: "\\t", 0x0D: "\\r"}
     text = "".join(marks.get(byte) or (chr(byte) if 0x20 <= byte < 0x7F else f"\\{byte:03o}") for byte in value)
     return f'"{text}"' + ("…" if length > len(value) else "")
-
-
-def literal(value: bytes) -> bytes:
-    return b'"%b"' % b"".join(b"\\%03o" % byte for byte in value)
 
 
 @dataclass
@@ -158,17 +182,15 @@ class Fault:
         variables = self.read_variables(trees)
         if command.word == "INT" and message == "value out of range":
             return self.told_of_range(variables)
-        uniques = [unique for tree in trees if command.word == "ASSERT" for unique in uniques_in(tree)]
-        if not variables and not uniques:
+        if not variables and command.word != "ASSERT":
             return ""
         if message == "assertion failed":
             self.condition = b"!(%b)" % self.source(command.arguments[0])
         else:
             self.count()
-        told = self.values(variables)
-        for unique in uniques:
-            told += self.equal_elements([name_of(part) for part in unique.parts if part.symbol == NAME])
-        return ", ".join(told)
+        if command.word == "ASSERT":
+            return ", ".join(self.told_of_test(command.arguments[0]))
+        return ", ".join(self.values(variables))
 
     def read_variables(self, trees: Sequence[Tree]) -> list[bytes]:
         """The variables that the command reads, each once; of a variable that it sets, those in its indices."""
@@ -244,24 +266,73 @@ class Fault:
                 told.append(f"{shown(expression)} = {value}")
         return told + ([f"and {len(expressions) - MOST_VALUES} more"] if len(expressions) > MOST_VALUES else [])
 
-    def value(self, expression: bytes, setting: bytes = b"") -> str | None:
+    def number(self, expression: bytes, least: int, greatest: int, setting: bytes) -> int:
+        """The value of an expression that is a number between two others, behind commands that set variables of ours."""
+        return number_asked(expression, lambda questions: self.ask(questions, setting), least, greatest)
+
+    def value(self, expression: bytes) -> str | None:
         """The value of an expression as it is shown; None where it has none."""
-
-        def ask(questions: Sequence[Question]) -> Question:
-            return self.ask(questions, setting)
-
         try:
-            return str(number_asked(expression, ask))
+            return str(number_asked(expression, self.ask))
         except EndedOtherwise as other:
             if other.question is None or other.message != "wrong type":
                 return None
-        length = number_asked(b"STRLEN(%b)" % expression, ask, 0)
+        length = number_asked(b"STRLEN(%b)" % expression, self.ask, 0)
         value = b""
         while len(value) < min(length, STRING_ROOM):
             questions = [Question(b"ASSERT(%b>=%b) " % (expression, literal(value + bytes([byte])))) for byte in range(1, 256)]
             last = Question(b"ASSERT(0!=0) ")
-            value += bytes([[*questions, last].index(ask([*questions, last]))])
+            value += bytes([[*questions, last].index(self.ask([*questions, last]))])
         return quoted(value, length)
+
+    # a test that is false
+
+    def told_of_test(self, test: Tree) -> list[str]:
+        """What is told of a test that is false: the values in the parts that make it so."""
+        parts = self.false_parts(test)
+        told: dict[str, None] = {}
+        for part in parts:
+            told.update(dict.fromkeys(self.told_of_part(part)))
+        told.pop("", None)
+        if not told and len(self.conjuncts(test)) > 1:
+            return [f"{shown(self.source(part))} is false" for part in parts]
+        return list(told)
+
+    def conjuncts(self, test: Tree) -> list[Tree]:
+        """The sides of a test with &&, or the test itself."""
+        inner = in_parentheses(test)
+        return operands_of(inner) if isinstance(inner, Node) and inner.symbol == "both" else [test]
+
+    def false_parts(self, test: Tree) -> list[Tree]:
+        """The first side of && that is false, or of || all sides, in each the same."""
+        sides = self.conjuncts(test)
+        if len(sides) > 1:
+            questions = [Question(b"ASSERT(%b) " % self.source(side)) for side in sides]
+            return self.false_parts(sides[questions.index(self.ask(questions))])
+        inner = in_parentheses(test)
+        if isinstance(inner, Node) and inner.symbol == "test":
+            return [part for side in operands_of(inner) for part in self.false_parts(side)]
+        return [inner]
+
+    def told_of_part(self, part: Tree) -> list[str]:
+        """Both sides of a comparison, two equal elements, or the values of variables."""
+        if isinstance(part, Node) and part.parts[0].symbol == "UNIQUE":
+            return [equal_elements(self, [name_of(name) for name in part.parts if name.symbol == NAME])]
+        variables = self.read_variables([part])
+        if not (isinstance(part, Node) and len(part.parts) == 3 and part.parts[1].symbol in SIGNS):
+            return self.values(variables)
+        left, sign, right = part.parts
+        sides = [self.side(left), self.side(right)]
+        rest = self.values([one for one in variables if one not in (self.source(left), self.source(right))])
+        return [f"{sides[0]} {sign.symbol} {sides[1]}", *rest] if all(sides) else self.values(variables)
+
+    def side(self, tree: Tree) -> str:
+        """A side of a comparison with its value; an empty text where it has none."""
+        source = self.source(tree)
+        if isinstance(tree, Token) and tree.symbol != NAME or re.fullmatch(rb"-\s*[0-9]+", source):
+            return shown(source)
+        value = self.value(b"(%b)" % source if not is_variable(tree) else source)
+        return f"{shown(source)} = {value}" if value is not None else ""
 
     # a value out of range
 
@@ -298,57 +369,6 @@ class Fault:
         found = re.match(rb"-?[0-9]*", data.read(2 * STRING_ROOM))
         number = found[0].decode() if found else ""
         return number if len(number) <= STRING_ROOM else number[:STRING_ROOM] + "…"
-
-    # elements that are equal
-
-    def equal_elements(self, names: Sequence[bytes]) -> list[str]:
-        """Two equal elements of arrays, where their indices are 0..n-1 or 1..n."""
-        for first in (0, 1):
-            end = self.end_of(names[0], first)
-            if end > first:
-                return self.equal_below(names, first, end)
-        return []
-
-    def has_element(self, name: bytes, index: int) -> bool:
-        """Whether an array has an element of an index."""
-        try:
-            self.ask([Question(b"ASSERT(INARRAY(%b[%d],%b)) " % (name, index, name)), Question(b"ASSERT(0!=0) ")])
-        except EndedOtherwise as other:
-            if other.message == "variable has no value":
-                return False
-            raise
-        return True
-
-    def end_of(self, name: bytes, first: int) -> int:
-        """The index behind the elements from a first one on."""
-        if not self.has_element(name, first):
-            return first
-        least, step = first, 1
-        while step < MOST_ELEMENTS and self.has_element(name, least + step):
-            least, step = least + step, step * 2
-        most = least + step
-        while most - least > 1:
-            middle = (least + most) // 2
-            least, most = (middle, most) if self.has_element(name, middle) else (least, middle)
-        return most
-
-    def equal_below(self, names: Sequence[bytes], first: int, end: int) -> list[str]:
-        """Two equal elements with indices from `first` to before `end`: the copy notes for each value the index at which it came last."""
-        one, other, turn, seen = (self.fresh + name for name in (b"one", b"other", b"turn", b"seen"))
-        element = b"%b[%b]" % (seen, b",".join(b"%b[%b]" % (name, turn) for name in names))
-        loop = b"WHILEI(%b,%b<%d&&%b<0) %%b END\n" % (turn, turn, end, other)
-        body = b"IF(%b>=%d) IF(%b>=0) SET(%b=%b,%b=%b) ELSE SET(%b=%b) END END" % (turn, first, element, one, element, other, turn, element, turn)
-        fill = b"IF(%b>=%d) SET(%b=-1) END" % (turn, first, element)
-        setting = b"SET(%b=-1,%b=-1)\n" % (one, other) + loop % fill + loop % body
-        indices = [self.value(name, setting) for name in (one, other)]
-        if None in indices or "-1" in indices:
-            return []
-        groups = [",".join(f"{name.decode()}[{index}]" for name in names) for index in indices]
-        values = [self.value(b"%b[%b]" % (name, str(indices[0]).encode()), b"") for name in names]
-        if len(names) > 1:
-            groups = [f"({group})" for group in groups]
-        value = values[0] if len(values) == 1 else f"({','.join(str(one) for one in values)})"
-        return [f"{groups[0]} = {groups[1]} = {value}"]
 
 
 def shown(source: bytes) -> str:
