@@ -3,12 +3,14 @@ from __future__ import annotations
 
 import re
 from collections.abc import Iterable, Iterator, Mapping, Sequence
+from contextlib import suppress
 from dataclasses import dataclass
 from math import log
 from pathlib import Path
 
 from ctd_companion import printable
 from ctd_limits import Mention, Statement, statement_in
+from ctd_presets import presets_in
 from ctd_problem import SETTINGS, Package
 from ctd_program import NAME, NUMERAL, TEXT, Command, Node, Refused, Token, Tree, commands_of
 from ctd_questions import place_at
@@ -18,7 +20,6 @@ STATEMENT_FOLDERS = ("problem_statement", "statement")
 STATEMENT_SUFFIXES = (".tex", ".md")
 # Numbers that stand in programs and statements for much else.
 COMMON = (-1, 0, 1)
-PRESET = re.compile(r"(?:^|,)([a-z][a-z0-9]*(?:\[[^\]]*\])?)=(-?[0-9]{1,39})(?=,|$)")
 REPETITION = re.compile(rb"\{([0-9]{1,7})(?:,([0-9]{1,7})?)?\}")
 COMPARISONS = ("<", ">", "<=", ">=")
 
@@ -117,18 +118,21 @@ def numbers_of(package: Package) -> Numbers:
             parts.append(numbers_in((package.folder / program).read_bytes(), printable(program.as_posix())))
         except Refused:
             continue
-    flags: dict[tuple[str, ...], str] = {}
-    for data in package.data:
-        flags.setdefault(data.options, data.group)
-    presets = [
-        mention(int(found[2]), f"{printable(settings_of(package.folder, group))}: {found[1]}={found[2]}")
-        for options, group in flags.items()
-        for option in options
-        if option.startswith("--define=")
-        for found in PRESET.finditer(option[len("--define=") :])
-    ]
+    presets = list(presets_of(package))
     bounds = [bound for part in parts for bound in part.bounds] + presets
     return Numbers(bounds, frozenset({bound.value for bound in presets}.union(*(part.all for part in parts))))
+
+
+def presets_of(package: Package) -> Iterator[Mention]:
+    """The numbers that the flags of groups give to variables, each with the first group that has these flags."""
+    groups: dict[tuple[str, ...], str] = {}
+    for data in package.data:
+        groups.setdefault(data.options, data.group)
+    for options, group in groups.items():
+        with suppress(Refused):
+            for preset in presets_in(options):
+                if isinstance(preset.value, int):
+                    yield mention(preset.value, f"{printable(settings_of(package.folder, group))}: {preset.name}={preset.value}")
 
 
 def settings_of(folder: Path, group: str) -> str:
