@@ -354,6 +354,13 @@ sys.exit(42)
         self.assertEqual((status, lines[0]), (0, "input_validators/n.ctd accepts, input_validators/run.py rejects"))
         self.assertIn(r'  data/sample/1.in:1: "10·10\n" → "11·10\n": reduced to "11·1\n"', lines)
 
+    def test_a_wrapper_finds_the_checker(self) -> None:
+        self.put({"input_validators/validate.sh": '#!/bin/sh\nexec ctd-validate "$(dirname "$0")/n.ctd" "$@"\n'})
+        (self.folder / "p/input_validators/validate.sh").chmod(0o755)
+        status, lines = self.told()
+        self.assertEqual((status, lines[-1]), (0, "2 checked, 2 as they have to be, 0 not"))
+        self.assertIn(" 0 disagree, 0 without verdict", lines[0])
+
     @unittest.skipUnless(shutil.which("cc") and shutil.which("make"), "there is no C compiler, or no make")
     def test_sources(self) -> None:
         program = '#include <stdio.h>\n#include "limit.h"\nint main(void) { int n; return scanf("%d", &n) == 1 && n <= LIMIT ? 42 : 43; }\n'
@@ -397,9 +404,12 @@ class Reductions(unittest.TestCase):
 
     def test_questions_are_bounded(self) -> None:
         asked: list[bytes] = []
+        # of 60,000 bytes each question counts twice, and once where fewer than 32,768 are left
         data = b"1 2 3\n" * 10_000
         self.assertEqual(Reduction(data, lambda smaller: bool(asked.append(smaller)), left=50).whole(), data)
-        self.assertEqual((len(asked), len(set(asked))), (50, 50))
+        # (the last of them may count for more than is left)
+        self.assertIn(sum(1 + len(smaller) // 32768 for smaller in asked), (50, 51))
+        self.assertEqual(len(asked), len(set(asked)))
 
 
 if __name__ == "__main__":

@@ -6,8 +6,11 @@ from collections.abc import Callable, Iterable, Iterator
 from dataclasses import dataclass, field
 from hashlib import sha256
 
-# How many questions are asked of a file. The checker answers most of them by itself, in a few milliseconds.
+# How many questions are asked of a file, each for so many bytes. The checker answers most of them by itself, in a few milliseconds.
 MOST_QUESTIONS = 2000
+BYTES_OF_A_QUESTION = 32768
+# How many bytes in front of a cut, and at the start of the data, are looked at for a number that may count.
+NEAR = 4096
 # Runs of fewer pieces are cut wherever they begin.
 EACH_START = 5
 NUMBER = re.compile(rb"(?<![\w.+-])-?[0-9]{1,30}(?![\w.])")
@@ -72,7 +75,7 @@ def letter_cuts(data: bytes, size: int) -> Iterator[Cut]:
 
 def counts_before(data: bytes, cut: Cut) -> Iterator[tuple[re.Match[bytes], int]]:
     """Numbers in front of a cut that may count its pieces, or parts that they make up, each with the number that it would then be."""
-    numbers = list(NUMBER.finditer(data, 0, cut.start))
+    numbers = [*NUMBER.finditer(data, 0, min(NEAR, cut.start)), *NUMBER.finditer(data, max(NEAR, cut.start - NEAR), cut.start)]
     exact = [found for found in numbers if int(found[0]) in (cut.total, cut.total - 1)]
     for found in {found.start(): found for found in (*exact[-2:], *numbers[:2], *numbers[-2:])}.values():
         for less in {cut.count, 1}:
@@ -82,7 +85,7 @@ def counts_before(data: bytes, cut: Cut) -> Iterator[tuple[re.Match[bytes], int]
 
 @dataclass
 class Reduction:
-    """Data that become smaller while they stay like those at first: `is_like` says so. No more questions are asked than are left."""
+    """Data that become smaller while they stay like those at first: `is_like` says so. What is left is counted down with each question."""
 
     data: bytes
     is_like: Callable[[bytes], bool]
@@ -103,10 +106,10 @@ class Reduction:
     def takes(self, data: bytes) -> bool:
         """Whether other data are like those at first; they then take their place."""
         digest = sha256(data).digest()
-        if digest in self.asked or not self.left:
+        if digest in self.asked or self.left <= 0:
             return False
         self.asked.add(digest)
-        self.left -= 1
+        self.left -= 1 + len(data) // BYTES_OF_A_QUESTION
         if not self.is_like(data):
             return False
         self.data = data
@@ -116,7 +119,7 @@ class Reduction:
         """Makes all cuts of a kind that can be made, large ones first."""
         for size in sizes(max((cut.total for cut in cuts(self.data, 1)), default=0)):
             behind, runs = 0, cuts(self.data, size)
-            while self.left and (cut := next(runs, None)):
+            while self.left > 0 and (cut := next(runs, None)):
                 if cut.at >= behind and self.takes_cut(cut):
                     behind, runs = cut.at, cuts(self.data, size)
 
@@ -131,7 +134,7 @@ class Reduction:
     def lower_numbers(self) -> None:
         """Brings each number nearer to 0."""
         behind = 0
-        while self.left and (found := NUMBER.search(self.data, behind)):
+        while self.left > 0 and (found := NUMBER.search(self.data, behind)):
             behind = found.start() + len(self.lowered(found))
 
     def lowered(self, found: re.Match[bytes]) -> bytes:
