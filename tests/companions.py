@@ -724,6 +724,24 @@ class Mutate(CompanionTest):
         self.assertEqual((ran.stdout, ran.returncode), (b"", 2))
         self.assertIn(b"no kind none; --kinds lists them", ran.stderr)
 
+    def test_sides_that_look_alike_are_shown_where_they_differ(self) -> None:
+        self.write("anything.ctd", ANYTHING)
+        self.write("right.in", f"{'a' * 100}1\n{'a' * 100}2\n")
+        lines = self.run_tool("--only", "exchanged-lines,doubled-line", "anything.ctd", "right.in").stdout.decode().splitlines()
+        front = f"…{'a' * 20}"
+        exchanged = f'  right.in:1: "{front}1\\n{"a" * 18}…" → "{front}2\\n{"a" * 18}…"'
+        doubled = f'  right.in:2: "…{"a" * 18}2\\n" → "…{"a" * 18}2\\n{"a" * 20}…"'
+        self.assertIn(exchanged, lines)
+        self.assertIn(doubled, lines)
+
+    def test_huge_numbers_may_fit_where_a_pattern_takes_them(self) -> None:
+        self.write("right.in", "5\n")
+        for pattern, status, title in [("[0-9]{1,39}", 0, "should not fit: 1 made, 1 rejected"), ("[0-9]{1,100}", 0, "may fit: 1 made, 0 rejected, 1"), ("[0-9]+", 1, "should not fit: 1 made, 0 rejected, 1")]:
+            with self.subTest(pattern):
+                self.write("string.ctd", f'REGEX("{pattern}") NEWLINE')
+                ran = self.run_tool("--only", "huge", "string.ctd", "right.in")
+                self.assertEqual((ran.returncode, ran.stdout.decode().splitlines()[-1][: len(title)]), (status, title))
+
     def test_a_long_line_is_cut_around_the_change(self) -> None:
         self.write("anything.ctd", ANYTHING)
         self.write("right.in", "a" * 100 + "b" + "1" * 100 + "\n")

@@ -331,6 +331,47 @@ class Cover(CompanionTest):
             "b",
         )
 
+    def test_groups_leave_out_what_has_to_be_rejected(self) -> None:
+        self.write("p.ctd", "INT(1,9) NEWLINE")
+        for name, text in (("sample/1.in", "1\n"), ("invalid_inputs/1.in", "0\n"), ("invalid_inputs/deep/1.in", "0\n"), ("invalid_input/1.in", "0\n")):
+            (self.folder / "data" / name).parent.mkdir(parents=True, exist_ok=True)
+            self.write(f"data/{name}", text)
+        note = "p.ctd:1:1: note: INT: took 1..1 of 1..9: the greatest is never taken (data/sample/1.in:1:1)\n"
+        self.assert_run(1, f"data/sample:\n{note}1 command watched in 1 file, 1 not fully tried\n", "-g", "p.ctd", "data")
+        ran = self.run_tool("-g", "p.ctd", "data/invalid_inputs")
+        told = b"ctd-cover: all data lie in a folder of data that have to be rejected\n"
+        self.assertEqual((ran.returncode, ran.stdout, ran.stderr), (2, b"", told))
+
+    def test_words_of_a_list(self) -> None:
+        program = 'REGEX("to|c\\\\.c|bcc") NEWLINE'
+        self.assertEqual(self.told(program, "to\n", "c.c\n", "bcc\n")[0], 0)
+        self.assertEqual(self.told(program, "to\n", "to\n", "bcc\n")[1][0], '1:1: note: REGEX: never took "c.c"')
+        # the second is never taken whatever the data are, and one word alone is nothing to choose from
+        self.assertEqual(self.told('REGEX("(pop|popall|push)") NEWLINE', "pop\n", "push\n", "pop\n")[0], 0)
+        self.assertEqual(self.told('REGEX("pop") NEWLINE', "pop\n", "pop\n", "pop\n")[0], 0)
+
+    def test_sides_that_decide(self) -> None:
+        program = "INT(0,9,a) SPACE INT(0,9,b) NEWLINE ASSERT(a<8 || b<8)"
+        self.assertEqual(self.told(program, "0 0\n", "7 9\n", "9 7\n")[0], 0)
+        self.assertEqual(self.told(program, "0 0\n", "7 9\n", "9 6\n")[1], ["1:37: note: ASSERT: never tight: b<8", "3 commands watched in 3 files, 1 not fully tried"])
+        self.assertEqual(self.told(program, "0 0\n", "7 9\n", "0 9\n")[1][1], "1:37: note: ASSERT: never decided by b<8")
+
+    def test_sides_of_a_choice(self) -> None:
+        program = "INT(1,9,a) SPACE INT(1,9,b) NEWLINE IF(!(a==1 && b==1)) NEWLINE END"
+        self.assertEqual(self.told(program, "1 1\n", "9 1\n\n", "1 9\n\n")[0], 0)
+        self.assertEqual(self.told(program, "1 1\n", "9 9\n\n", "9 1\n\n")[1][0], "1:37: note: IF: never decided by b==1")
+
+    def test_sides_are_asked_only_where_they_are_evaluated(self) -> None:
+        program = "INT(0,4,n) NEWLINE ASSERT(n==0 || 4%n==0 && n<5)"
+        self.assertEqual(self.told(program, "0\n", "4\n", "2\n")[1], ["2 commands watched in 3 files, 0 not fully tried"])
+        program = "INT(1,3,n) NEWLINE REPI(i,n) INT(0,9,a[i]) NEWLINE ASSERT(i==0 || a[i-1]<=a[i]) END"
+        self.assertEqual(self.told(program, "1\n0\n", "3\n0\n9\n9\n", "2\n5\n5\n")[0], 0)
+
+    def test_a_comparison_under_not(self) -> None:
+        program = "INT(0,9,a) NEWLINE ASSERT(!(a>=5))"
+        self.assertEqual(self.told(program, "0\n", "4\n")[0], 0)
+        self.assertEqual(self.told(program, "0\n", "3\n")[1][0], "1:20: note: ASSERT: never tight: a>=5")
+
     @unittest.skipUnless(importlib.util.find_spec("yaml"), "PyYAML is not there")
     def test_groups_with_flags(self) -> None:
         self.write("p.ctd", "SET(maxn=9) INT(1,maxn) NEWLINE")

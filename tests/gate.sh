@@ -31,6 +31,7 @@ if [ "$failed" -eq 0 ]; then
     count tests/companions.py
     count tests/values.py
     count tests/cover.py
+    count tests/flow.py
     count tests/jury.py
     count tests/package.py
     count tests/validators.py

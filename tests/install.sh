@@ -243,6 +243,7 @@ if has readelf 'the archive and the package'; then
     expect 'a companion in the archive' "$work/$archive/bin/ctd-show" "$work/number.ctd" "$work/right.in"
     expect 'the program in the archive needs no library' same '' "$(readelf --dynamic --wide "$work/$archive/bin/checktestdata" | grep NEEDED)"
     expect 'the archive says what it runs on' grep -q ': any Linux on x86-64' "$work/$archive/README.md"
+    expect 'what the archive says to try' same 'testdata ok!' "$(cd "$work/$archive" && sh -c "$(sed -n 's,^    \(bin/checktestdata .*\),\1,p' README.md)")"
     expect 'the archive has no mark that is not filled in' same '' "$(grep -o '@[A-Z]*@' "$work/$archive/README.md")"
     if has dpkg-deb 'the package'; then
         package=$OUT/checktestdata-nagdimot_$version-1_$(dpkg --print-architecture).deb

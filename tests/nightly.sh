@@ -1,7 +1,7 @@
 #!/usr/bin/env bash
 # What takes too long for the gate, on the programs that were built: rows of tests/tables/nightly/, 100,000 generated cases with a reference and with
-# ctd-lint, 10,000 programs that ctd-cover puts together again, ctd-lint from its C file, the libraries and the page. The last line counts what
-# passed and failed.
+# ctd-lint, 10,000 programs that ctd-cover puts together again, 3,000 of which nothing may happen that it calls impossible, ctd-lint from its C file,
+# the libraries and the page. The last line counts what passed and failed.
 set -u
 cd "$(dirname "${BASH_SOURCE[0]}")/.." || exit
 # shellcheck source=tests/counting.sh
@@ -11,6 +11,7 @@ count tests/tables.py crates/checktestdata/out/checktestdata tests/tables/nightl
 count tests/fuzz.py --count "${COUNT:-100000}" --seed "${SEED:-1}"
 count tests/fuzz.py --verdicts --count "${COUNT:-100000}" --seed "${SEED:-1}"
 count tests/cover.py crates/checktestdata/out/checktestdata 10000
+count tests/flow.py crates/checktestdata/out/checktestdata 3000 "${SEED:-1}"
 rm -f out/ctd-lint
 portable/build.sh ctd_lint out/ctd-lint.c && portable/compile.sh out/ctd-lint.c out/ctd-lint
 count tests/lint.py out/ctd-lint

@@ -61,7 +61,7 @@ class Thing:
 
 
 # How the names of things begin that are parts of a test.
-TIGHT, DECIDED = "tight: ", "decided by: "
+TIGHT, DECIDED = "tight: ", "decided by "
 
 # What was found of the things that happened.
 Findings = Mapping[Thing, Found]

@@ -99,6 +99,7 @@ class Flow:
     steps: list[int] = field(default_factory=list)
     effort: Effort = field(default_factory=lambda: Effort(WALK))
     is_known: bool = True
+    is_recording: bool = True
 
     def __post_init__(self) -> None:
         self.place_all(self.commands, None)
@@ -109,8 +110,6 @@ class Flow:
         except (TooLong, RecursionError):
             self.is_known = False
         self.is_recording = False
-
-    is_recording = True
 
     # what is asked
 
@@ -223,9 +222,9 @@ class Flow:
             state.at_most(Sum({}).plus(count, -1))
             state.assign_name(count_of(command), count)
         state.assign_name(turn_of(command), constant(0))
-        state = self.counted(command, state)
-        none = possible(lambda: self.goes_on(command, state.copy(), False)) if part in (Part.ANY, Part.NONE) else None
-        first = possible(lambda: self.goes_on(command, state.copy(), True)) if part is not Part.NONE else None
+        begun = self.counted(command, state)
+        none = possible(lambda: self.goes_on(command, begun.copy(), False)) if part in (Part.ANY, Part.NONE) else None
+        first = possible(lambda: self.goes_on(command, begun.copy(), True)) if part is not Part.NONE else None
         if part is Part.ANY:
             return self.left(command, [none, self.turns(command, first, None)])
         if part is Part.NONE:
@@ -259,8 +258,10 @@ class Flow:
         if state is None:
             return None, None
         state.assign_name(turn_of(command), state.known_term(turn_of(command)).plus(constant(1)))
-        counted = possible(lambda: self.counted(command, state))
-        if counted is None:
+        # (a counter may have an index that has no value)
+        try:
+            counted = self.counted(command, state)
+        except Never:
             return None, None
         end = possible(lambda: self.goes_on(command, counted.copy(), False))
         more = possible(lambda: self.goes_on(command, counted.copy(), True))

@@ -167,7 +167,9 @@ def words_of(path: Path, key: str, flags: object) -> list[str]:
 
 def options_of(path: Path, words: Sequence[str], key: str = FLAGS) -> tuple[str, ...]:
     """Flags as options of the checker: its own options, and presets without -D. Of presets given apart one option is made."""
-    presets, options, waiting = [], [], list(reversed(words))
+    presets: list[str] = []
+    options: list[str] = []
+    waiting = list(reversed(words))
     while waiting:
         word = waiting.pop()
         name, equals, value = word.partition("=")

@@ -426,7 +426,7 @@ COMPARED: Mapping[str, Callable[[bytes, bytes], bool]] = {
 }
 
 
-def possible(way: Callable[[], State]) -> State | None:
+def possible(way: Callable[[], State | None]) -> State | None:
     """The state to which a way leads; None where no run goes it."""
     try:
         return way()

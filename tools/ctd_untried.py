@@ -269,9 +269,11 @@ def of_loop(skeleton: Skeleton, watched: Watched, found: Findings) -> Seen:
 def of_assertion(skeleton: Skeleton, watched: Watched, found: Findings) -> Seen:
     tight = {name: shown(name.removeprefix(TIGHT).encode()) for name in watched.things if name.startswith(TIGHT)}
     seen = [f"{told} ({found[watched.things[name]].spot})" for name, told in tight.items() if watched.things[name] in found]
-    missed = [tight[name] for name in missed_of(skeleton, watched, found, tight)]
+    sides = undecided(skeleton, watched, found)
+    # (of a side that never decides that is enough)
+    missed = [tight[name] for name in missed_of(skeleton, watched, found, tight) if f"never {DECIDED}{tight[name]}" not in sides]
     never = [f"never tight: {', '.join(missed)}"] if missed else []
-    return Seen(f"tight: {', '.join(seen)}" if seen else "", ", ".join([*never, *undecided(skeleton, watched, found)]))
+    return Seen(f"tight: {', '.join(seen)}" if seen else "", ", ".join([*never, *sides]))
 
 
 SAYERS = {"INT": of_integer, "REGEX": of_regex, "IF": of_choice, "ASSERT": of_assertion, **{word: of_loop for word in LOOPS}}
