@@ -31,7 +31,7 @@ SEED ?= 1
 # completions/ and a man page in man/; further man pages, and texts.
 has_toolchain := $(shell command -v rt)
 programs := checktestdata ctd-lint
-companions := ctd-show ctd-cover ctd-mutate ctd-package ctd-language-server
+companions := ctd-show ctd-cover ctd-mutate ctd-package ctd-validate ctd-language-server
 modules := $(sort $(notdir $(wildcard tools/ctd_*.py)))
 commands := $(programs) $(companions)
 manuals := $(commands:=.1) checktestdata.5

@@ -761,7 +761,7 @@ class Both(CompanionTest):
 
     def test_help_and_version(self) -> None:
         version = self.written_by(CHECKER, "--version").split()[1]
-        for tool in [*self.TOOLS, "ctd-cover", "ctd-package"]:
+        for tool in [*self.TOOLS, "ctd-cover", "ctd-package", "ctd-validate"]:
             with self.subTest(tool):
                 shown = self.written_by(TOOLS / tool, "--help")
                 self.assertTrue(shown.startswith(f"usage: {tool} [-h]"))

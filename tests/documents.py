@@ -35,7 +35,7 @@ class Reader:
         self.status = 0
         (folder / "checktestdata").symlink_to(checker)
         (folder / "ctd-lint").symlink_to(TOP / "crates/ctd_lint/out/ctd_lint")
-        for companion in ["ctd-show", "ctd-mutate", "ctd-cover", "ctd-package"]:
+        for companion in ["ctd-show", "ctd-mutate", "ctd-cover", "ctd-package", "ctd-validate"]:
             (folder / companion).symlink_to(TOP / "tools" / companion)
         (folder / "examples").symlink_to(TOP / "examples")
         # a make in a document is not one of the make that runs the tests

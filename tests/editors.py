@@ -24,7 +24,7 @@ from results import TOP, checker_to_test, run_unit_tests
 
 CHECKER = checker_to_test()
 LINTER = TOP / "crates/ctd_lint/out/ctd_lint"
-COMMANDS = ["checktestdata", "ctd-lint", "ctd-show", "ctd-cover", "ctd-mutate", "ctd-package", "ctd-language-server"]
+COMMANDS = ["checktestdata", "ctd-lint", "ctd-show", "ctd-cover", "ctd-mutate", "ctd-package", "ctd-validate", "ctd-language-server"]
 OUT_OF_TIME = 20
 # What is on the help and not offered: it is refused.
 NOT_OFFERED = {"--generate"}
@@ -137,6 +137,7 @@ class Completions(unittest.TestCase):
         ("ctd-cover --tab\t pro\t data.in da\t", ["--table", "program.ctd", "data.in", "data.in"]),
         ("ctd-package --js\t --verb\t package", ["--json", "--verbose", "package"]),
         ("ctd-language-server --ver\t", ["--version"]),
+        ("ctd-validate --feed\t package pro\t n=5", ["--feedback", "package", "program.ctd", "n=5"]),
         ("ctd-mutate --only trail\t pro\t da\t", ["--only", "trailing-space", "program.ctd", "data.in"]),
         ("ctd-mutate --only plus,trail\t pro\t da\t", ["--only", "plus,trailing-space", "program.ctd", "data.in"]),
         ("ctd-mutate --ignore plus,hu\t pro\t da\t", ["--ignore", "plus,huge", "program.ctd", "data.in"]),
@@ -187,6 +188,8 @@ class Completions(unittest.TestCase):
                 ("ctd-package --js", "--json"),
                 ("ctd-package pack", "package/"),
                 ("ctd-language-server --ch", "--checker"),
+                ("ctd-validate --feed", "--feedback"),
+                ("ctd-validate pro", "program.ctd"),
                 ("ctd-mutate --only trail", "trailing-space"),
                 ("ctd-mutate --only plus,trail", "plus,trailing-space"),
                 ("ctd-mutate --ignore=plus,trail", "--ignore=plus,trailing-space"),

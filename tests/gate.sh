@@ -35,6 +35,9 @@ if [ "$failed" -eq 0 ]; then
     count tests/flow.py
     count tests/jury.py
     count tests/package.py
+    count tests/validators.py
+    count tests/statement.py
+    count tests/parts.py
     count tests/mistakes.py
     count tests/editors.py
     count tests/language_server.py

@@ -49,6 +49,7 @@ bin/ctd-lint
 bin/ctd-mutate
 bin/ctd-package
 bin/ctd-show
+bin/ctd-validate
 share/bash-completion/completions/checktestdata
 share/bash-completion/completions/ctd-cover
 share/bash-completion/completions/ctd-language-server
@@ -56,11 +57,13 @@ share/bash-completion/completions/ctd-lint
 share/bash-completion/completions/ctd-mutate
 share/bash-completion/completions/ctd-package
 share/bash-completion/completions/ctd-show
+share/bash-completion/completions/ctd-validate
 share/checktestdata/tools/ctd-cover
 share/checktestdata/tools/ctd-language-server
 share/checktestdata/tools/ctd-mutate
 share/checktestdata/tools/ctd-package
 share/checktestdata/tools/ctd-show
+share/checktestdata/tools/ctd-validate
 share/checktestdata/tools/ctd_bounds.py
 share/checktestdata/tools/ctd_changes.py
 share/checktestdata/tools/ctd_companion.py
@@ -72,19 +75,27 @@ share/checktestdata/tools/ctd_document.py
 share/checktestdata/tools/ctd_editing.py
 share/checktestdata/tools/ctd_equal.py
 share/checktestdata/tools/ctd_flow.py
+share/checktestdata/tools/ctd_limits.py
 share/checktestdata/tools/ctd_manual.py
+share/checktestdata/tools/ctd_others.py
 share/checktestdata/tools/ctd_patterns.py
 share/checktestdata/tools/ctd_presets.py
 share/checktestdata/tools/ctd_problem.py
 share/checktestdata/tools/ctd_program.py
 share/checktestdata/tools/ctd_questions.py
 share/checktestdata/tools/ctd_ranges.py
+share/checktestdata/tools/ctd_reduce.py
+share/checktestdata/tools/ctd_report.py
+share/checktestdata/tools/ctd_second.py
 share/checktestdata/tools/ctd_server.py
+share/checktestdata/tools/ctd_shares.py
 share/checktestdata/tools/ctd_state.py
+share/checktestdata/tools/ctd_statement.py
 share/checktestdata/tools/ctd_symbols.py
 share/checktestdata/tools/ctd_takers.py
 share/checktestdata/tools/ctd_text.py
 share/checktestdata/tools/ctd_untried.py
+share/checktestdata/tools/ctd_validators.py
 share/checktestdata/tools/ctd_values.py
 share/checktestdata/vscode/extension.js
 share/checktestdata/vscode/language-configuration.json
@@ -97,6 +108,7 @@ share/fish/vendor_completions.d/ctd-lint.fish
 share/fish/vendor_completions.d/ctd-mutate.fish
 share/fish/vendor_completions.d/ctd-package.fish
 share/fish/vendor_completions.d/ctd-show.fish
+share/fish/vendor_completions.d/ctd-validate.fish
 share/man/man1/checktestdata.1
 share/man/man1/ctd-cover.1
 share/man/man1/ctd-language-server.1
@@ -104,6 +116,7 @@ share/man/man1/ctd-lint.1
 share/man/man1/ctd-mutate.1
 share/man/man1/ctd-package.1
 share/man/man1/ctd-show.1
+share/man/man1/ctd-validate.1
 share/man/man5/checktestdata.5
 share/vim/vimfiles/compiler/checktestdata.vim
 share/vim/vimfiles/compiler/ctd-lint.vim
@@ -117,7 +130,8 @@ share/zsh/site-functions/_ctd-language-server
 share/zsh/site-functions/_ctd-lint
 share/zsh/site-functions/_ctd-mutate
 share/zsh/site-functions/_ctd-package
-share/zsh/site-functions/_ctd-show'
+share/zsh/site-functions/_ctd-show
+share/zsh/site-functions/_ctd-validate'
 installed() { (cd "$prefix" && find . ! -type d ! -path './share/doc/*' -printf '%P\n' | LC_ALL=C sort); }
 expect 'all is installed, and nothing else' same "$wanted" "$(installed)"
 documents=$prefix/share/doc/checktestdata
@@ -148,6 +162,7 @@ mkdir -p "$package/sample" "$package/invalid_inputs" "$work/package/input_valida
 cp "$work/number.ctd" "$work/package/input_validators"
 cp "$work/right.in" "$package/sample"
 cp "$work/wrong.in" "$package/invalid_inputs"
+expect 'ctd-validate finds the checker beside it' same $'testdata ok!\nstatus 42' "$(beside ctd-validate <"$work/right.in" || echo "status $?")"
 expect 'ctd-package finds the checker and ctd-lint beside it' same $'ctd-lint: input_validators/number.ctd: 0 findings\n2 checked, 2 as they have to be, 0 not' "$("$prefix/bin/ctd-package" "$work/package" | grep -v ctd-cover)"
 for companion in ctd-show ctd-cover ctd-mutate ctd-package ctd-language-server; do
     without=$(cd "$work" && PATH=$work/none "$prefix/bin/$companion" number.ctd right.in 2>&1 || echo "status $?")
@@ -218,7 +233,7 @@ compiled a b" "$(here "./$program" a b)"
     compiling() { echo "compiling $1 from portable/checktestdata.c.xz, made of these sources: the Rattle toolchain, which proves them, is not here"; }
     expect 'make compiles the packed file' same "$(compiling checktestdata && compiling ctd-lint)" "$(here make)"
     expect 'make install without the toolchain' here make install strip= DESTDIR="$copy/stage"
-    expect 'what it installs' same 'checktestdata ctd-cover ctd-language-server ctd-lint ctd-mutate ctd-package ctd-show' "$(cd "$copy/stage/usr/local/bin" && echo *)"
+    expect 'what it installs' same 'checktestdata ctd-cover ctd-language-server ctd-lint ctd-mutate ctd-package ctd-show ctd-validate' "$(cd "$copy/stage/usr/local/bin" && echo *)"
     rm -r "$copy/out"
     mkdir "$work/few"
     for command in awk bash cat dirname find grep readlink sed sort xz; do

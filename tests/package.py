@@ -40,11 +40,11 @@ class PackageTest(CompanionTest):
         self.put({"input_validators/n.ctd": PROGRAM, "data/sample/1.in": "1\n", "data/sample/1.ans": "x\n"})
 
     def told(self, *words: str) -> tuple[int, list[str]]:
-        """The status, and the lines but those of ctd-lint and ctd-cover."""
+        """The status, and the lines but those that begin with the name of another companion."""
         ran = self.run_tool(*words, "p")
         self.assertEqual(ran.stderr, b"")
         lines = ran.stdout.decode().splitlines()
-        return ran.returncode, [line for line in lines if not line.startswith(("ctd-lint: ", "ctd-cover: "))]
+        return ran.returncode, [line for line in lines if not line.startswith(("ctd-lint: ", "ctd-cover: ", "ctd-mutate: "))]
 
 
     def write_linter(self, script: str) -> None:
@@ -77,6 +77,8 @@ class Checks(PackageTest):
         wanted = [
             "data/secret/2.in: line 2 column 1: assertion failed (program line 1 column 22)",
             "data/invalid_inputs/odd.in: has to be rejected, and fits",
+            "input_validators/n.ctd accepts, input_validators/odd/odd.ctd rejects",
+            r'  data/secret/2.in: as it is: reduced to "2\n": assertion failed',
             "7 checked, 5 as they have to be, 2 not",
         ]
         self.assertEqual(self.told(), (1, wanted))
@@ -146,7 +148,7 @@ class Checks(PackageTest):
         self.put({"data/secret/2.in": "101\n"})
         ran = self.run_tool("--json", "p")
         whole = json.loads(ran.stdout)
-        self.assertEqual((ran.returncode, whole["package"], sorted(whole)), (1, "p", ["checks", "cover", "lint", "package"]))
+        self.assertEqual((ran.returncode, whole["package"], sorted(whole)), (1, "p", ["against", "checks", "cover", "data", "lint", "package", "part", "statement"]))
         for check in whole["checks"]:
             self.assertGreaterEqual(check.pop("seconds"), 0)
         same = {"program": "input_validators/n.ctd", "has_to_fit": True, "options": []}

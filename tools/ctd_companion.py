@@ -290,13 +290,19 @@ def positive(text: str) -> int:
     return number
 
 
-def parser_of_checks(name: str, description: str, epilog: str) -> argparse.ArgumentParser:
+def parser_of_a_checker(name: str, description: str, epilog: str) -> argparse.ArgumentParser:
     """A command line with the options that all companions have, and no files."""
     words = argparse.ArgumentParser(prog=name, description=description, epilog=epilog, allow_abbrev=False)
     words.add_argument("-V", "--version", action="version", version=f"{name} {VERSION}")
+    words.add_argument("--checker", metavar="PATH", help="the checker (default: beside this program, or on PATH)")
+    return words
+
+
+def parser_of_checks(name: str, description: str, epilog: str) -> argparse.ArgumentParser:
+    """A command line for many checks."""
+    words = parser_of_a_checker(name, description, epilog)
     jobs = min(os.cpu_count() or 1, 8)
     words.add_argument("-j", "--jobs", metavar="N", type=positive, default=jobs, help="run N checks at once (default: one for each processor, at most 8)")
-    words.add_argument("--checker", metavar="PATH", help="the checker (default: beside this program, or on PATH)")
     words.add_argument("--max-steps", metavar="N", action="append", default=[], help="given to the checker: stop a check after N steps")
     return words
 

@@ -5,6 +5,7 @@ complete -c ctd-show -s w -l whitespace-ok -d 'The blanks of the data may differ
 complete -c ctd-show -l max-steps -x -d 'Stop a check after so many steps'
 complete -c ctd-show -s j -l jobs -x -d 'Run so many checks at once'
 complete -c ctd-show -s q -l quiet -d 'Say nothing of files that fit'
+complete -c ctd-show -l shard -x -d 'Take the K-th of N parts of the files'
 complete -c ctd-show -l gcc -d 'One line for each fault, in the form of compilers'
 complete -c ctd-show -l values -x -d 'How long asking for values may take'
 complete -c ctd-show -l checker -r -d 'The checker'
