@@ -164,7 +164,7 @@ cp "$work/right.in" "$package/sample"
 cp "$work/wrong.in" "$package/invalid_inputs"
 expect 'ctd-validate finds the checker beside it' same $'testdata ok!\nstatus 42' "$(beside ctd-validate <"$work/right.in" || echo "status $?")"
 expect 'ctd-package finds the checker and ctd-lint beside it' same $'ctd-lint: input_validators/number.ctd: 0 findings\n2 checked, 2 as they have to be, 0 not' "$("$prefix/bin/ctd-package" "$work/package" | grep -v ctd-cover)"
-for companion in ctd-show ctd-cover ctd-mutate ctd-package ctd-language-server; do
+for companion in ctd-show ctd-cover ctd-mutate ctd-package ctd-validate ctd-language-server; do
     without=$(cd "$work" && PATH=$work/none "$prefix/bin/$companion" number.ctd right.in 2>&1 || echo "status $?")
     expect "$companion without Python" same "$companion: Python is missing (no command python3): install version 3.9 or later"$'\nstatus 2' "$without"
 done
