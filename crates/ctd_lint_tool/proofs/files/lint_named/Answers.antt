@@ -8,8 +8,8 @@ use Rattle.ctd_lint_tool.proofs.files.lint_named.Goals as goal
 
 pub returns-in-Some : goal.returns-in-Some
 returns-in-Some g c = record {
-  written = WritesOneOf-weaker _ _ _ _ c.lint.result (λ report is. of_program c.in-Some.program c.lint.new.program _ (search rules) is c.close_program.ensures) c.lint.ensures.written;
-  asked = handed_back c.in-Some.program c.lint.new.program _ (search rules) c.close_program.ensures;
+  written = WritesOneOf-weaker _ _ _ _ c.lint-status.result (λ report is. of_program c.in-Some.program c.lint-status.new.program _ (search rules) is c.close_program.ensures) c.lint-status.ensures.written;
+  asked = handed_back c.in-Some.program c.lint-status.new.program _ (search rules) c.close_program.ensures;
 }
 
 pub returns-in-None : goal.returns-in-None
