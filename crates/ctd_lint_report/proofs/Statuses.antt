@@ -1,5 +1,5 @@
 -- The status that a list of traps asks for.
-use Rattle.std.proofs.Common.{◌≡◌, ◌∙◌, ℕ, List, Bool, Option, Some, ap, subst, sym, if◌then◌else◌}
+use Rattle.std.proofs.Common.{◌≡◌, ◌∙◌, List, Bool, Option, Some, ap, sym, if◌then◌else◌}
 use Rattle.std.specs.List.{list_any}
 use Rattle.ctd_traps.specs.declared.finding.Finding.{Finding as Trap}
 use Rattle.ctd_traps.specs.declared.program.TrapList.{TrapList}
