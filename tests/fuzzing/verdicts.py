@@ -61,7 +61,7 @@ class Linter:
             return ""
         define = given.options.get("define")
         presets = [] if define is None else [f"--define={define}"]
-        words = [self.program, "--verdicts", "--elements", *presets, "--", given.files[0]]
+        words = [self.program, "--verdicts", "--elements", "--ignore=wrong-type", *presets, "--", given.files[0]]
         done = subprocess.run(words, stdin=subprocess.DEVNULL, capture_output=True, text=True, errors="replace", check=False)
         return done.stdout
 
