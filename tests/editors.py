@@ -311,7 +311,7 @@ class Vim(unittest.TestCase):
         script = "edit a\\ program.ctd\nunlet b:current_compiler\ncompiler ctd-lint\nsilent make!\nsilent cc 2"
         value = "[map(getqflist(), {_, one -> [bufname(one.bufnr), one.lnum, one.col, one.type, one.text]}), line('.')]"
         found, line = self.run_vim(script, value)
-        self.assertEqual([one[:4] for one in found], [["a program.ctd", 1, 1, "n"], ["a program.ctd", 2, 1, "w"], ["a program.ctd", 2, 1, "w"]])
+        self.assertEqual([one[:4] for one in found], [["a program.ctd", 1, 1, "n"], ["a program.ctd", 2, 1, "w"], ["a program.ctd", 2, 1, "r"]])
         self.assertEqual([one[4].split()[-1] for one in found], ["[unread]", "[no-value]", "[no-value-here]"])
         self.assertEqual(line, 2)
 
