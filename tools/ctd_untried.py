@@ -261,7 +261,7 @@ TURNS = {"none": ("no turn", "never without a turn"), "one": ("one turn", "never
 
 def of_loop(skeleton: Skeleton, watched: Watched, found: Findings) -> Seen:
     seen = [told for name, (told, _) in TURNS.items() if watched.things[name] in found]
-    missed = [TURNS[name][1] for name in missed_of(skeleton, watched, found, TURNS)]
+    missed = [*(TURNS[name][1] for name in missed_of(skeleton, watched, found, TURNS)), *undecided(skeleton, watched, found)]
     most = found[watched.things["most"]]
     return Seen(f"{', '.join(seen) or 'turns'}; at most {most.value} ({most.spot})", ", ".join(missed))
 
