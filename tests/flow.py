@@ -1,6 +1,7 @@
 #!/usr/bin/env python3
-"""Sees that what ctd-cover does not ask for cannot be: on rows of which it was worked out by hand what can be, and on generated programs that compute with numbers from the data, in loops, branches and arrays,
-nothing that happens where data fit is called impossible, and no value lies outside of its range.
+"""Sees that what ctd-cover does not ask for cannot be: on rows of which it was worked out by hand what can be; and on generated programs that
+compute with numbers from the data, in loops, branches and arrays, nothing that happens where data fit is called impossible, and no value lies
+outside of its range.
 
 The last line counts what passed and failed. usage: tests/flow.py [PROGRAM [CASES [SEED]]]"""
 from __future__ import annotations
