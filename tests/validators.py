@@ -293,8 +293,8 @@ class Packages(CompanionTest):
     SECOND = """import sys
 greatest = 10
 for flag in sys.argv[1:]:
-    name, _, value = flag.partition("=")
-    greatest = int(value)
+    if flag != "-D":
+        greatest = int(flag.partition("=")[2])
 line = open(0, newline="").read()
 number = int(line)
 if line != f"{number}\\n":
@@ -333,7 +333,7 @@ sys.exit(42)
     def test_what_the_other_rejects(self) -> None:
         self.put({"input_validators/second.py": self.SECOND, "data/invalid_inputs/word.in": "x\n", "data/invalid_inputs/large.in": "11\n"})
         self.put({"data/secret/testdata.yaml": "input_validator_flags: maxn=20", "data/secret/1.in": "20\n"})
-        self.put({"data/secret/small/testdata.yaml": "input_validator_flags: maxn=5", "data/secret/small/1.in": "6\n"})
+        self.put({"data/secret/small/testdata.yaml": "input_validator_flags: -D maxn=5", "data/secret/small/1.in": "6\n"})
         status, lines = self.told()
         wanted = [
             "data/secret/small/1.in (--define=maxn=5): line 1 column 1: value out of range (program line 1 column 14)",

@@ -35,7 +35,7 @@ class Other:
 
     def judge(self, package: Package, data: DataInPackage) -> Answer:
         """What it says of a file; a rejection has some text."""
-        command = CommandValidator(self.path.name, [*self.words, *flags_of(data.options)], SECONDS)
+        command = CommandValidator(self.path.name, [*self.words, *data.flags], SECONDS)
         answer = command.judge(str(package.folder / data.path))
         return Answer(REJECTED, "rejected", "rejected") if answer.status == REJECTED and not answer.line else answer
 
@@ -48,13 +48,6 @@ class Opinions:
     options: Sequence[str]
     lines: Sequence[str]
     summary: str
-
-
-def flags_of(options: Sequence[str]) -> list[str]:
-    """The flags of a group as words for a validator: a preset is a word such as maxn=10."""
-    # (a comma in a string or in an index parts nothing)
-    presets = [re.findall(r'(?:"(?:[^"\\]|\\.)*"|\[[^\]]*\]|[^,])+', one.partition("=")[2]) if one.startswith("--define=") else [one] for one in options]
-    return [word for words in presets for word in words]
 
 
 def others_in(package: Package, shop: Path) -> tuple[list[Other], list[tuple[str, str]]]:
@@ -102,18 +95,18 @@ def opinions(checker: str, package: Package, others: Sequence[Other], options: S
     """What the first program and each other validator say of the smallest file of each group and of wrong files made from it, apart for each
     choice of flags."""
     first, *programs = package.programs
-    by_flags: dict[tuple[str, ...], dict[str, Path]] = {}
+    by_flags: dict[tuple[tuple[str, ...], tuple[str, ...]], dict[str, Path]] = {}
     for data in package.data:
         if data.has_to_fit:
-            of_groups = by_flags.setdefault(data.options, {})
+            of_groups = by_flags.setdefault((data.options, data.flags), {})
             of_groups[data.group] = min(of_groups.get(data.group, data.path), data.path, key=lambda path: size_of(package.folder / path))
-    for flags, of_groups in by_flags.items():
-        given = [*options, *flags]
+    for (own, flags), of_groups in by_flags.items():
+        given = [*options, *own]
         for program in programs:
             yield opinions_of(checker, package, given, first, (str(program), ()), list(of_groups.values()), jobs)
         for other in others:
-            shown = shlex.join([str(other.path), *flags_of(flags)])
-            yield opinions_of(checker, package, given, first, (shown, [*other.words, *flags_of(flags)]), list(of_groups.values()), jobs)
+            shown = shlex.join([str(other.path), *flags])
+            yield opinions_of(checker, package, given, first, (shown, [*other.words, *flags]), list(of_groups.values()), jobs)
 
 
 def opinions_of(
