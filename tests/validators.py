@@ -402,6 +402,19 @@ class Reductions(unittest.TestCase):
                 self.assertTrue(is_kept(data))
                 self.assertEqual(Reduction(data, is_kept).whole().strip(), least.strip())
 
+    def test_one_case_of_many(self) -> None:
+        def has_cases(data: bytes) -> bool:
+            first, *lines = data.split(b"\n")
+            cases = list(zip(lines[0:-1:2], lines[1:-1:2]))
+            is_right = all(count == b"%d" % len(row.split()) for count, row in cases)
+            return data.endswith(b"\n") and len(lines) % 2 == 1 and first == b"%d" % len(cases) and is_right and b"99" in data.split()
+
+        rows = [b" ".join([b"7"] * (1 + case % 5)) for case in range(500)]
+        rows[321] = b"7 99 7"
+        data = b"%d\n" % len(rows) + b"".join(b"%d\n%b\n" % (len(row.split()), row) for row in rows)
+        self.assertTrue(has_cases(data))
+        self.assertEqual(Reduction(data, has_cases).whole(), b"1\n1\n99\n")
+
     def test_questions_are_bounded(self) -> None:
         asked: list[bytes] = []
         # of 60,000 bytes each question counts twice, and once where fewer than 32,768 are left
