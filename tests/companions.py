@@ -736,7 +736,11 @@ class Mutate(CompanionTest):
 
     def test_huge_numbers_may_fit_where_a_pattern_takes_them(self) -> None:
         self.write("right.in", "5\n")
-        for pattern, status, title in [("[0-9]{1,39}", 0, "should not fit: 1 made, 1 rejected"), ("[0-9]{1,100}", 0, "may fit: 1 made, 0 rejected, 1"), ("[0-9]+", 1, "should not fit: 1 made, 0 rejected, 1")]:
+        for pattern, status, title in [
+            ("[0-9]{1,39}", 0, "should not fit: 1 made, 1 rejected"),
+            ("[0-9]{1,100}", 0, "may fit: 1 made, 0 rejected, 1"),
+            ("[0-9]+", 1, "should not fit: 1 made, 0 rejected, 1"),
+        ]:
             with self.subTest(pattern):
                 self.write("string.ctd", f'REGEX("{pattern}") NEWLINE')
                 ran = self.run_tool("--only", "huge", "string.ctd", "right.in")

@@ -367,6 +367,11 @@ class Cover(CompanionTest):
         program = "INT(1,3,n) NEWLINE REPI(i,n) INT(0,9,a[i]) NEWLINE ASSERT(i==0 || a[i-1]<=a[i]) END"
         self.assertEqual(self.told(program, "1\n0\n", "3\n0\n9\n9\n", "2\n5\n5\n")[0], 0)
 
+    def test_sides_of_a_loop(self) -> None:
+        program = 'INT(0,2,n) SPACE WHILEI(i,i<n && !MATCH("x")) REGEX("[a-z]") END REGEX("x?") NEWLINE'
+        self.assertEqual(self.told(program, "0 \n", "1 a\n", "2 ax\n", "2 ab\n")[0], 0)
+        self.assertEqual(self.told(program, "0 \n", "1 a\n", "2 ab\n", "2 ab\n")[1][0], '1:18: note: WHILEI: never decided by !MATCH("x")')
+
     def test_a_comparison_under_not(self) -> None:
         program = "INT(0,9,a) NEWLINE ASSERT(!(a>=5))"
         self.assertEqual(self.told(program, "0\n", "4\n")[0], 0)

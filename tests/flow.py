@@ -1,6 +1,7 @@
 #!/usr/bin/env python3
-"""Sees that what ctd-cover does not ask for cannot be: on rows of which it was worked out by hand what can be, and on generated programs that compute with numbers from the data, in loops, branches and arrays,
-nothing that happens where data fit is called impossible, and no value lies outside of its range.
+"""Sees that what ctd-cover does not ask for cannot be: on rows of which it was worked out by hand what can be; and on generated programs that
+compute with numbers from the data, in loops, branches and arrays, nothing that happens where data fit is called impossible, and no value lies
+outside of its range.
 
 The last line counts what passed and failed. usage: tests/flow.py [PROGRAM [CASES [SEED]]]"""
 from __future__ import annotations
@@ -69,6 +70,10 @@ ROWS = [
     ("INT(1,9,n) REP(n) END", "n=3", ["REP1 none", "REP1 one"]),
     ("INT(1,9,n) REP(n,IF(n==1) SPACE END) END", "", ["REP1 none", "IF1 true"]),
     ("INT(1,5,n) REPI(i,n) INT(0,9,a[i]) END REPI(j,n-1) ASSERT(a[j]<=a[j+1]) END", "", ["REPI1 none"]),
+    # where the two are the same, the loop ends, and the assertion fails
+    ("SET(slot=5) INT(1,9,n) WHILE(slot!=0 && slot!=n) SET(slot=slot-1) END ASSERT(slot==0)", "", ["INT1 low", "WHILE1 none", "WHILE1 one", "WHILE1 decided by slot!=n"]),
+    ("INT(1,9,n) SET(i=0) WHILE(i<n && i<20) SET(i=i+1) END", "", ["WHILE1 none", "WHILE1 decided by i<20"]),
+    ("INT(1,9,n) WHILEI(i,i<n && !ISEOF) END", "", []),
     ("INT(1,20,n) SET(d=0,x=n) WHILE(x>0) SET(x=x/10,d=d+1) END ASSERT(d<3)", "", ["WHILE1 none"]),
 ]
 

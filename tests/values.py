@@ -126,6 +126,7 @@ class Values(CompanionTest):
 
     def test_runs_without_a_verdict(self) -> None:
         self.assert_values("division by zero: n = 3, m = 0", "SET(n=3,m=0) ASSERT(n/m==1)", "")
+        self.assert_values("division by zero: n = 3, m = 0", "SET(n=3,m=0) ASSERT(n>1 && n/m==1)", "")
         self.assert_values("variable has no value: i = 2", "SET(a[0]=1,a[1]=1) REPI(i,3) SET(b=a[i]) END", "")
         self.assert_values("bad count: n = -1", "SET(n=-1) REP(n) EOF END", "")
         self.assert_values('wrong type: n = 3, s = "x"', 'SET(n=3,s="x") IF(n<s) EOF END', "")

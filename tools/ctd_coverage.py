@@ -202,10 +202,10 @@ class Watched:
         if thing:
             self.things[name] = thing
 
-    def add_decisions(self, skeleton: Skeleton, wanted: bool | None) -> list[Thing]:
+    def add_decisions(self, skeleton: Skeleton, wanted: bool | None, part: Part = Part.ANY) -> list[Thing]:
         """Watches the sides of && and || in the test, which has to have a value, or may have both."""
-        for effect in decisions(self.command.arguments[0], wanted):
-            self.watch(f"{DECIDED}{text_of(skeleton, effect)}", skeleton.thing_of_effect(effect), effect.conditions)
+        for effect in decisions(self.command.arguments[-1], wanted):
+            self.watch(f"{DECIDED}{text_of(skeleton, effect)}", skeleton.thing_of_effect(effect), effect.conditions, part)
         return [thing for name, thing in self.things.items() if name.startswith(DECIDED)]
 
 
@@ -403,6 +403,8 @@ def add_loop(skeleton: Skeleton, watched: Watched) -> None:
     most = skeleton.flow.range_at(command, command.arguments[-1]).greatest if is_counted else None
     watched.things["most"] = Thing(expression=turns, sign=1, bound=most)
     things = list(watched.things.values())
+    # (a separator comes between the test and the commands, and may change what the test is about)
+    sides = [] if is_counted or command.separator else watched.add_decisions(skeleton, None, Part.TEST)
 
     def unless_closed(text: bytes) -> Piece:
         return lambda copy, run: copy.add(text) if any(run.is_open(thing) for thing in things) else None
@@ -418,7 +420,7 @@ def add_loop(skeleton: Skeleton, watched: Watched) -> None:
     skeleton.verbatim(command.head_end)
     if not is_counted:
         skeleton.insert(unless_closed(b" SET(%b=%b+1) " % (turns, turns)))
-        skeleton.put_all([more])
+        skeleton.put_all([more, *sides])
     ways = [watched.happenings["one"], watched.happenings["more"]]
     skeleton.add_block(Block(command.body, lambda found: one in found or more in found, watched.block, ways))
 

@@ -24,7 +24,7 @@ QUESTION = 600
 
 
 class Part(Enum):
-    """A way through a command: a choice by its value, a loop by its turns."""
+    """A way through a command: a choice by its value, a loop by its turns, or where its test is evaluated."""
 
     ANY = 0
     TRUE = 1
@@ -32,6 +32,7 @@ class Part(Enum):
     NONE = 3
     ONE = 4
     MORE = 5
+    TEST = 6
 
 
 @dataclass(frozen=True)
@@ -95,6 +96,8 @@ class Flow:
     presets: Sequence[Preset] = ()
     # what is known before each command that a run may come to
     before: dict[Command, State] = field(default_factory=dict)
+    # and where the test of a loop is evaluated
+    tests: dict[Command, State] = field(default_factory=dict)
     places: dict[Command, Place] = field(default_factory=dict)
     steps: list[int] = field(default_factory=list)
     effort: Effort = field(default_factory=lambda: Effort(WALK))
@@ -132,10 +135,22 @@ class Flow:
             return False
         self.effort.spent, self.effort.most = 0, QUESTION
         try:
-            state = possible(lambda: self.through(happening.command, self.before[happening.command].copy(), happening))
+            state = possible(lambda: self.happened(happening))
             return self.to_the_end(happening.command, state)
         except (TooLong, RecursionError):
             return True
+
+    def happened(self, happening: Happening) -> State | None:
+        """What is known behind a command in which something happened. Raises Never where that cannot be."""
+        command = happening.command
+        if happening.part is not Part.TEST:
+            return self.through(command, self.before[command].copy(), happening)
+        state = self.tests[command].copy()
+        for condition in happening.conditions:
+            state = assumed(state, condition)
+        end = possible(lambda: self.goes_on(command, state.copy(), False))
+        start = possible(lambda: self.goes_on(command, state.copy(), True))
+        return self.left(command, [end, self.turns(command, start, None)])
 
     def to_the_end(self, command: Command, state: State | None) -> bool:
         """Whether a run comes from behind a command to the end of the program."""
@@ -243,6 +258,9 @@ class Flow:
         """What is known where the counter of a loop has the number of the turn."""
         if command.word in ("REPI", "WHILEI"):
             state.assign(command.arguments[0], state.known_term(turn_of(command)))
+        if self.is_recording and command.word.startswith("WHILE"):
+            known = self.tests.get(command)
+            self.tests[command] = state.copy() if known is None else known.joined(state)
         return state
 
     def goes_on(self, command: Command, state: State, wanted: bool) -> State:

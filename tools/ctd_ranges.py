@@ -1,4 +1,4 @@
-"""The least and the greatest value that an expression can have, and what all of a program has."""
+"""Ranges of numbers and what operations make of them; and all commands of a program."""
 from __future__ import annotations
 
 from collections.abc import Iterable, Iterator

@@ -261,7 +261,7 @@ TURNS = {"none": ("no turn", "never without a turn"), "one": ("one turn", "never
 
 def of_loop(skeleton: Skeleton, watched: Watched, found: Findings) -> Seen:
     seen = [told for name, (told, _) in TURNS.items() if watched.things[name] in found]
-    missed = [TURNS[name][1] for name in missed_of(skeleton, watched, found, TURNS)]
+    missed = [*(TURNS[name][1] for name in missed_of(skeleton, watched, found, TURNS)), *undecided(skeleton, watched, found)]
     most = found[watched.things["most"]]
     return Seen(f"{', '.join(seen) or 'turns'}; at most {most.value} ({most.spot})", ", ".join(missed))
 
@@ -291,7 +291,10 @@ def notes(program: str, said: Sequence[Row]) -> Iterator[str]:
 
 def table(said: Sequence[Row]) -> Iterator[str]:
     """All that was seen, in columns."""
-    cells = [("place", "command", "seen", "not tried"), *((f"{row.line}:{row.column}", row.command, row.what.seen, ", ".join(filter(None, (row.what.untried, row.what.dead)))) for row in said)]
+    cells = [("place", "command", "seen", "not tried")]
+    for one in said:
+        untried = ", ".join(filter(None, (one.what.untried, one.what.dead)))
+        cells.append((f"{one.line}:{one.column}", one.command, one.what.seen, untried))
     widths = [max(len(row[column]) for row in cells) for column in range(3)]
     for row in cells:
         yield "  ".join([f"{cell:{width}}" for cell, width in zip(row, widths)] + [row[3]]).rstrip()

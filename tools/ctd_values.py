@@ -182,14 +182,12 @@ class Fault:
         variables = self.read_variables(trees)
         if command.word == "INT" and message == "value out of range":
             return self.told_of_range(variables)
-        if not variables and command.word != "ASSERT":
-            return ""
         if message == "assertion failed":
             self.condition = b"!(%b)" % self.source(command.arguments[0])
-        else:
-            self.count()
-        if command.word == "ASSERT":
             return ", ".join(self.told_of_test(command.arguments[0]))
+        if not variables:
+            return ""
+        self.count()
         return ", ".join(self.values(variables))
 
     def read_variables(self, trees: Sequence[Tree]) -> list[bytes]:
