@@ -29,7 +29,7 @@ SILENT = {"ctd-show": ("rejected", "0 rejected"), "ctd-cover": ("note:", "")}
 @dataclass(frozen=True)
 class Mistake:
     """A mistake: its title, how it looks, the tool that tells it, and what that says, in the table and in its own words; a program with it, right
-    data, and the settings of a group of a package, where they have the mistake."""
+    data, the settings of a group of a package, where they have the mistake, and a second validator in Python, where the tool asks one."""
 
     title: str
     as_in: str
@@ -39,6 +39,7 @@ class Mistake:
     program: str
     data: Sequence[str]
     settings: str = ""
+    second: str = ""
 
     def row(self) -> str:
         """The row of the table."""
@@ -56,6 +57,8 @@ class Mistake:
                 (folder / name).write_text(text)
         if self.settings:
             (folder / "data/secret/testdata.yaml").write_text(self.settings)
+        if self.second:
+            (folder / "second.py").write_text(self.second)
 
     def output(self, folder: Path, tool: str) -> str:
         """What a tool says of the program and the data in a folder."""
@@ -63,7 +66,9 @@ class Mistake:
             call = [LINTER, "p.ctd"]
         else:
             data = ["."] if tool == "ctd-package" else ["p.ctd", *(f"{number}.in" for number in range(1, len(self.data) + 1))]
-            call = [TOP / "tools" / tool, "--checker", CHECKER, *data]
+            name, *options = tool.split()
+            options += ["second.py"] if "--against" in options else []
+            call = [TOP / "tools" / name, "--checker", CHECKER, *options, *data]
         ran = subprocess.run(call, cwd=folder, capture_output=True, check=False)
         return (ran.stdout + ran.stderr).decode()
 

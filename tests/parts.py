@@ -118,9 +118,9 @@ class Parts(CompanionTest):
         self.assertEqual((ran.returncode, ran.stderr.decode()), (2, "ctd-package: the reports are of different programs\n"))
 
     def test_words_that_are_refused(self) -> None:
-        for words in [["--shard", "0/2", "p"], ["--shard", "3/2", "p"], ["--shard", "x", "p"], ["--shard", "1/0", "p"], [], ["--merge"]]:
+        for words in ["--shard 0/2 p", "--shard 3/2 p", "--shard x p", "--shard 1/0 p", "", "--merge", "--shard 1/2 --merge x"]:
             with self.subTest(words):
-                ran = self.run_tool(*words)
+                ran = self.run_tool(*words.split())
                 self.assertEqual((ran.returncode, ran.stdout), (2, b""))
 
     def test_show(self) -> None:

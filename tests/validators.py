@@ -293,8 +293,8 @@ class Packages(CompanionTest):
     SECOND = """import sys
 greatest = 10
 for flag in sys.argv[1:]:
-    name, _, value = flag.partition("=")
-    greatest = int(value)
+    if flag != "-D":
+        greatest = int(flag.partition("=")[2])
 line = open(0, newline="").read()
 number = int(line)
 if line != f"{number}\\n":
@@ -333,7 +333,7 @@ sys.exit(42)
     def test_what_the_other_rejects(self) -> None:
         self.put({"input_validators/second.py": self.SECOND, "data/invalid_inputs/word.in": "x\n", "data/invalid_inputs/large.in": "11\n"})
         self.put({"data/secret/testdata.yaml": "input_validator_flags: maxn=20", "data/secret/1.in": "20\n"})
-        self.put({"data/secret/small/testdata.yaml": "input_validator_flags: maxn=5", "data/secret/small/1.in": "6\n"})
+        self.put({"data/secret/small/testdata.yaml": "input_validator_flags: -D maxn=5", "data/secret/small/1.in": "6\n"})
         status, lines = self.told()
         wanted = [
             "data/secret/small/1.in (--define=maxn=5): line 1 column 1: value out of range (program line 1 column 14)",
@@ -401,6 +401,19 @@ class Reductions(unittest.TestCase):
 
                 self.assertTrue(is_kept(data))
                 self.assertEqual(Reduction(data, is_kept).whole().strip(), least.strip())
+
+    def test_one_case_of_many(self) -> None:
+        def has_cases(data: bytes) -> bool:
+            first, *lines = data.split(b"\n")
+            cases = list(zip(lines[0:-1:2], lines[1:-1:2]))
+            is_right = all(count == b"%d" % len(row.split()) for count, row in cases)
+            return data.endswith(b"\n") and len(lines) % 2 == 1 and first == b"%d" % len(cases) and is_right and b"99" in data.split()
+
+        rows = [b" ".join([b"7"] * (1 + case % 5)) for case in range(500)]
+        rows[321] = b"7 99 7"
+        data = b"%d\n" % len(rows) + b"".join(b"%d\n%b\n" % (len(row.split()), row) for row in rows)
+        self.assertTrue(has_cases(data))
+        self.assertEqual(Reduction(data, has_cases).whole(), b"1\n1\n99\n")
 
     def test_questions_are_bounded(self) -> None:
         asked: list[bytes] = []

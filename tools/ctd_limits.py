@@ -24,7 +24,7 @@ BEFORE = re.compile(rf"({COMPARISON})\Z")
 AFTER = re.compile(COMPARISON)
 STRICT = re.compile(r"\\[lg]t|&[lg]t;|[<>]")
 # What goes on with a number, before or behind it: it is then a part of something else.
-OPERATOR_BEFORE = re.compile(r"[\w^_+\-−*/·×⋅(]\Z|\\[A-Za-z]+\Z")
+OPERATOR_BEFORE = re.compile(r"[\w^_+\-−*/·×⋅]\Z|\\[A-Za-z]+\Z")
 OPERATOR_AFTER = re.compile(r"[\w^_+\-−*/·×⋅(!]|\\(?!q?quad|text|mbox|land|wedge|\\|\}|end)[A-Za-z]+|\{")
 FORMULA = re.compile(
     r"(?<!\\)\$\$(.+?)(?<!\\)\$\$|(?<!\\)\$(.+?)(?<!\\)\$|\\\((.+?)\\\)|\\\[(.+?)\\\]"

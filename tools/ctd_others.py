@@ -13,6 +13,7 @@ from pathlib import Path
 
 from ctd_companion import REJECTED, Answer, printable, text_of
 from ctd_problem import PROGRAM_FOLDERS, PROGRAM_SUFFIX, DataInPackage, Package
+from ctd_report import Remark
 from ctd_shares import size_of
 from ctd_validators import PYTHON_SUFFIX, BadCommand, CommandValidator, last_line, words_to_run
 
@@ -35,30 +36,13 @@ class Other:
 
     def judge(self, package: Package, data: DataInPackage) -> Answer:
         """What it says of a file; a rejection has some text."""
-        command = CommandValidator(self.path.name, [*self.words, *flags_of(data.options)], SECONDS)
+        command = CommandValidator(self.path.name, [*self.words, *data.flags], SECONDS)
         answer = command.judge(str(package.folder / data.path))
         return Answer(REJECTED, "rejected", "rejected") if answer.status == REJECTED and not answer.line else answer
 
 
-@dataclass(frozen=True)
-class Opinions:
-    """What a program and another validator say of the same files: the lines of those on which they do not agree, and the counts."""
-
-    program: str
-    options: Sequence[str]
-    lines: Sequence[str]
-    summary: str
-
-
-def flags_of(options: Sequence[str]) -> list[str]:
-    """The flags of a group as words for a validator: a preset is a word such as maxn=10."""
-    # (a comma in a string or in an index parts nothing)
-    presets = [re.findall(r'(?:"(?:[^"\\]|\\.)*"|\[[^\]]*\]|[^,])+', one.partition("=")[2]) if one.startswith("--define=") else [one] for one in options]
-    return [word for words in presets for word in words]
-
-
-def others_in(package: Package, shop: Path) -> tuple[list[Other], list[tuple[str, str]]]:
-    """The other validators of a package, and the name of each that cannot be run, with why. What has to be compiled is made in a folder."""
+def others_in(package: Package, shop: Path) -> tuple[list[Other], list[Remark]]:
+    """The other validators of a package, and a remark on each that cannot be run. What has to be compiled is made in a folder."""
     found, faults = [], []
     for folder in PROGRAM_FOLDERS:
         for path in sorted((package.folder / folder).glob("[!.]*")):
@@ -66,7 +50,7 @@ def others_in(package: Package, shop: Path) -> tuple[list[Other], list[tuple[str
             try:
                 words = words_for(path, shop)
             except BadCommand as bad:
-                faults.append((printable(name.as_posix()), f"left out: {bad}"))
+                faults.append(Remark(printable(name.as_posix()), [], [], f"left out: {bad}"))
                 continue
             if words:
                 found.append(Other(name, tuple(words)))
@@ -98,27 +82,27 @@ def compiled(path: Path, shop: Path) -> str:
     return str(shop / path.stem)
 
 
-def opinions(checker: str, package: Package, others: Sequence[Other], options: Sequence[str], jobs: int) -> Iterator[Opinions]:
-    """What the first program and each other validator say of the smallest file of each group and of wrong files made from it, apart for each
-    choice of flags."""
+def opinions(checker: str, package: Package, others: Sequence[Other], options: Sequence[str], jobs: int) -> Iterator[Remark]:
+    """Whether the first program agrees with each other validator on the smallest file of each group and on wrong files made from it, apart for
+    each choice of flags."""
     first, *programs = package.programs
-    by_flags: dict[tuple[str, ...], dict[str, Path]] = {}
+    by_flags: dict[tuple[tuple[str, ...], tuple[str, ...]], dict[str, Path]] = {}
     for data in package.data:
         if data.has_to_fit:
-            of_groups = by_flags.setdefault(data.options, {})
+            of_groups = by_flags.setdefault((data.options, data.flags), {})
             of_groups[data.group] = min(of_groups.get(data.group, data.path), data.path, key=lambda path: size_of(package.folder / path))
-    for flags, of_groups in by_flags.items():
-        given = [*options, *flags]
+    for (own, flags), of_groups in by_flags.items():
+        given = [*options, *own]
         for program in programs:
             yield opinions_of(checker, package, given, first, (str(program), ()), list(of_groups.values()), jobs)
         for other in others:
-            shown = shlex.join([str(other.path), *flags_of(flags)])
-            yield opinions_of(checker, package, given, first, (shown, [*other.words, *flags_of(flags)]), list(of_groups.values()), jobs)
+            shown = shlex.join([str(other.path), *flags])
+            yield opinions_of(checker, package, given, first, (shown, [*other.words, *flags]), list(of_groups.values()), jobs)
 
 
 def opinions_of(
     checker: str, package: Package, options: Sequence[str], program: Path, other: tuple[str, Sequence[str]], files: Sequence[Path], jobs: int
-) -> Opinions:
+) -> Remark:
     """What ctd-mutate says of a program and another validator, which is shown by one name and run by words, if they are given."""
     shown, words = other
     command = shlex.join(words) if words else shown
@@ -131,4 +115,4 @@ def opinions_of(
     told = lines[1 + max((number for number, line in enumerate(lines) if COUNTS.fullmatch(line)), default=-1) :]
     # (the last line counts, where files could be compared)
     summary = told.pop() if told and told[-1].startswith("against ") else last_line(text_of(ran.stderr)) or last_line(text_of(ran.stdout))
-    return Opinions(printable(program.as_posix()), options, told, summary)
+    return Remark(printable(program.as_posix()), options, told, summary)

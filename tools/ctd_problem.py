@@ -31,12 +31,13 @@ class BadPackage(Exception):
 
 @dataclass(frozen=True)
 class DataInPackage:
-    """A file of data: its path from the package, its group, whether it has to fit, and the options for the checker."""
+    """A file of data: its path from the package, its group, whether it has to fit, the options for the checker, and the flags as they are written."""
 
     path: Path
     group: str
     has_to_fit: bool
     options: tuple[str, ...]
+    flags: tuple[str, ...]
 
 
 @dataclass(frozen=True)
@@ -98,7 +99,7 @@ def data_below(package: Path, folder: Path, has_to_fit: bool, flags: tuple[str, 
         if entry.is_dir():
             yield from data_below(package, entry, has_to_fit, flags)
         elif entry.name.endswith(DATA_SUFFIX):
-            yield DataInPackage(entry.relative_to(package), group.as_posix(), has_to_fit, flags)
+            yield DataInPackage(entry.relative_to(package), group.as_posix(), has_to_fit, options_of(folder, flags), flags)
 
 
 def flags_for(folder: Path) -> tuple[str, ...]:
@@ -110,11 +111,11 @@ def flags_for(folder: Path) -> tuple[str, ...]:
     flags: tuple[str, ...] = ()
     for group in reversed(groups[: names.index("data") + 1]):
         flags = flags_in(group, flags)
-    return flags
+    return options_of(folder, flags)
 
 
 def flags_in(folder: Path, inherited: tuple[str, ...]) -> tuple[str, ...]:
-    """The options for the checker that the settings of a group say, or else those of the group around it."""
+    """The flags that the settings of a group say, or else those of the group around it. Raises BadPackage where they are no options."""
     for name in SETTINGS:
         path = folder / name
         if path.is_file():
@@ -122,7 +123,9 @@ def flags_in(folder: Path, inherited: tuple[str, ...]) -> tuple[str, ...]:
             refuse_misspelled(path, settings)
             for key in (FLAGS, ARGUMENTS):
                 if settings.get(key) is not None:
-                    return options_of(path, words_of(path, key, settings[key]), key)
+                    words = words_of(path, key, settings[key])
+                    options_of(path, words, key)
+                    return tuple(words)
     return inherited
 
 

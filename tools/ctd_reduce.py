@@ -7,7 +7,7 @@ from dataclasses import dataclass, field
 from hashlib import sha256
 
 # How many questions are asked of a file, each for so many bytes. The checker answers most of them by itself, in a few milliseconds.
-MOST_QUESTIONS = 2000
+MOST_QUESTIONS = 3000
 BYTES_OF_A_QUESTION = 32768
 # How many bytes in front of a cut, and at the start of the data, are looked at for a number that may count.
 NEAR = 4096
@@ -35,13 +35,14 @@ Cuts = Callable[[bytes, int], Iterator[Cut]]
 
 
 def sizes(total: int) -> list[int]:
-    """How many of so many pieces are cut at once: the powers of 2 and 3, since cases are often of three lines; large ones first."""
-    return sorted({3, *(2**power for power in range(total.bit_length()))} if total else (), reverse=True)
+    """How many of so many pieces are cut at once, large numbers first: those that cases of one, two or three pieces make up."""
+    return sorted((times * 2**power for power in range(total.bit_length()) for times in (1, 3)), reverse=True)
 
 
 def starts(total: int, size: int) -> Iterable[int]:
-    """The pieces with which a run of so many can begin: each for short ones, and for others those behind whole runs."""
-    return range(0, total, 1 if size < EACH_START else size)
+    """The pieces with which a run of so many can begin: each for short ones, and for others those behind whole runs, or behind these and a head of
+    one or two pieces."""
+    return range(total) if size < EACH_START else sorted({*range(0, total, size), *range(1, total, size), *range(2, total, size)})
 
 
 def line_cuts(data: bytes, size: int) -> Iterator[Cut]:
@@ -74,13 +75,12 @@ def letter_cuts(data: bytes, size: int) -> Iterator[Cut]:
 
 
 def counts_before(data: bytes, cut: Cut) -> Iterator[tuple[re.Match[bytes], int]]:
-    """Numbers in front of a cut that may count its pieces, or parts that they make up, each with the number that it would then be."""
+    """Numbers in front of a cut that may count its pieces, or cases that they make up, each with the number that it would then be."""
     numbers = [*NUMBER.finditer(data, 0, min(NEAR, cut.start)), *NUMBER.finditer(data, max(NEAR, cut.start - NEAR), cut.start)]
     exact = [found for found in numbers if int(found[0]) in (cut.total, cut.total - 1)]
-    for found in {found.start(): found for found in (*exact[-2:], *numbers[:2], *numbers[-2:])}.values():
-        for less in {cut.count, 1}:
-            if int(found[0]) >= less:
-                yield found, int(found[0]) - less
+    lesser = sorted({cut.count // size for size in (1, 2, 3) if cut.count % size == 0} | {1}, reverse=True)
+    for found in {found.start(): found for found in (*exact[-1:], *numbers[:2], *numbers[-2:])}.values():
+        yield from ((found, int(found[0]) - less) for less in lesser if int(found[0]) >= less)
 
 
 @dataclass
