@@ -67,7 +67,7 @@ class Checks(PackageTest):
     def test_no_verdict_is_no_rejection(self) -> None:
         self.put({"input_validators/n.ctd": "INT(0,9,n) NEWLINE ASSERT(n<9&&8%n>=0)", "data/invalid_inputs/zero.in": "0\n", "data/invalid_inputs/nine.in": "9\n"})
         told = "checktestdata: line 2 column 1: division by zero (program line 1 column 20)"
-        trap = "input_validators/n.ctd:1:20: warning: may divide by zero [division-by-zero]"
+        trap = "input_validators/n.ctd:1:20: risk: may divide by zero: n is only known to be from 0 to 8 [division-by-zero]"
         wanted = [f"data/invalid_inputs/zero.in: has to be rejected, and has no verdict: {told}", trap, "3 checked, 2 as they have to be, 1 not"]
         self.assertEqual(self.told(), (2, wanted))
 
