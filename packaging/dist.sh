@@ -14,10 +14,11 @@ work=$(mktemp -d)
 trap 'rm -rf "$work"' EXIT
 
 # What each system needs: the commands, the packages of Debian that have them, words for the compiler, which comes first, and where its programs run.
-declare -A commands=([x86_64-linux]=cc [aarch64-linux]=aarch64-linux-gnu-gcc [x86_64-windows]='x86_64-w64-mingw32-gcc zip' [wasm]="${WASM_CC:-clang-16} wasm-ld-16")
-declare -A packages=([x86_64-linux]='gcc libc6-dev' [aarch64-linux]='gcc-aarch64-linux-gnu' [x86_64-windows]='gcc-mingw-w64-x86-64 zip'
+declare -A commands=([x86_64-linux]=cc [aarch64-linux]=aarch64-linux-gnu-gcc [x86_64-windows]='x86_64-w64-mingw32-gcc zip' [wasm]=${WASM_CC:-clang-16})
+declare -A packages=([x86_64-linux]='gcc libc6-dev' [aarch64-linux]='gcc-aarch64-linux-gnu libc6-dev-arm64-cross' [x86_64-windows]='gcc-mingw-w64-x86-64 zip'
     [wasm]='clang-16 lld-16 libclang-rt-16-dev-wasm32 wasi-libc')
-declare -A words=([x86_64-linux]='-static -s' [aarch64-linux]='-static -s' [x86_64-windows]='-static -s -Wl,--stack,8388608 -lshell32')
+declare -A words=([x86_64-linux]='-static -s' [aarch64-linux]='-static -s' [x86_64-windows]='-static -s -Wl,--stack,8388608 -lshell32'
+    [wasm]=--target=wasm32-wasi)
 declare -A where=([x86_64-linux]='any Linux on x86-64' [aarch64-linux]='any Linux on ARM of 64 bits' [x86_64-windows]='Windows 10 or later on x86-64'
     [wasm]='any system with Node 20 or later, or another runtime for WebAssembly that has WASI')
 
@@ -108,10 +109,14 @@ pack() {
 
 # why_not SYSTEM: in one line why no archive can be made for a system, if that is so.
 why_not() {
-    local command
+    local command missing=
+    printf '#include <stdlib.h>\nint main(void) { return 0; }\n' >"$work/try.c"
+    # shellcheck disable=SC2086
+    ${commands[$1]%% *} ${words[$1]} "$work/try.c" -o "$work/try.out" 2>/dev/null || missing="${commands[$1]%% *} compiles nothing"
     for command in ${commands[$1]}; do
-        command -v "$command" >/dev/null || { echo "no command $command (in Debian: apt install ${packages[$1]})" && return; }
+        command -v "$command" >/dev/null || missing="no command $command"
     done
+    [ -z "$missing" ] || { echo "$missing (in Debian: apt install ${packages[$1]})" && return; }
     ! is_by_c "$1" || for program in checktestdata ctd-lint; do
         CC=${commands[$1]%% *} portable/obstacle.sh "$program"
     done | head -n 1
