@@ -54,8 +54,8 @@ NOT_ON_WINDOWS = {
     "process: a name is opened as it stands: a name with a line feed and a letter of two bytes": LINE_FEED,
     "process: a message has a name as it stands: data with a blank at the end of its name that are not there": BLANK_AT_THE_END,
 }
-# The rows that Node cannot have.
-NOT_UNDER_NODE: dict[str, str] = {}
+# The rows that Node cannot have: it makes UTF-8 of each word.
+NOT_UNDER_NODE = [row for row, reason in NOT_ON_WINDOWS.items() if reason == NOT_UTF8]
 # How long a run may take: emulators and sanitizers are slow.
 OUT_OF_TIME = 600
 
