@@ -10,6 +10,9 @@ from ctd_program import Command, Node, Tree
 from ctd_ranges import all_commands, name_of
 from ctd_state import SIGNS, in_parentheses, is_variable
 
+# Of a test with more sides than so many none is watched: the text of what holds before each would be long.
+MOST_SIDES = 50
+
 
 @dataclass(frozen=True)
 class Effect:
@@ -38,7 +41,7 @@ def decisions(test: Tree, wanted: bool | None, before: Sequence[Condition] = ())
     elif test.symbol in ("test", "both"):
         decisive = test.symbol == "test"
         sides = operands_of(test)
-        for index, side in enumerate(sides):
+        for index, side in enumerate(sides if len(sides) <= MOST_SIDES else []):
             if wanted is not (not decisive):
                 yield Effect(side, [*before, Holds(side, decisive)])
                 inner = decisive if wanted is decisive and index == len(sides) - 1 else None
@@ -58,7 +61,8 @@ def tight_comparisons(test: Tree, numbers: Collection[bytes], wanted: bool = Tru
         yield from tight_comparisons(test.parts[1], numbers, not wanted, before)
     elif test.symbol in ("test", "both"):
         is_each = wanted == (test.symbol == "both")
-        for side in operands_of(test):
+        sides = operands_of(test)
+        for side in sides if len(sides) <= MOST_SIDES else []:
             yield from tight_comparisons(side, numbers, wanted, before)
             before = [*before, Holds(side, wanted if is_each else not wanted)]
     elif len(symbols) == 3 and symbols[1] in SIGNS:
