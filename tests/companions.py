@@ -120,7 +120,7 @@ class Show(CompanionTest):
             "sum.ctd:\n"
             "      2 | ASSERT(a<b)\n"
             "        | ^\n"
-            "assertion failed: a = 5, b = 4\n",
+            "assertion failed: a = 5 < b = 4\n",
             "sum.ctd",
             "wrong.in",
         )
@@ -136,7 +136,7 @@ class Show(CompanionTest):
             "small.ctd:\n"
             "      1 | NEWLINE INT(0,9,a) ASSERT(a<5) NEWLINE\n"
             "        |                    ^\n"
-            "assertion failed: a = 7\n",
+            "assertion failed: a = 7 < 5\n",
             "small.ctd",
             "wrong.in",
         )
@@ -151,7 +151,8 @@ class Show(CompanionTest):
             "        | ^\n"
             "never.ctd:\n"
             "      1 | ASSERT(1==2)\n"
-            "        | ^\n",
+            "        | ^\n"
+            "assertion failed: 1 == 2\n",
             "never.ctd",
             "empty.in",
         )

@@ -119,7 +119,7 @@ class Neovim(ServerTest):
         self.assertEqual(seen["at_first"], [[2, 23, 28, 1, "syntax error: expected , or ) or [ or an operator"]])
         self.assertEqual(seen["definition"], [2, 29])
         self.assertEqual(seen["renamed"], ["# preset: top=5", 'REGEX("[ü😀]*") INT(1,top,m) NEWLINE', 'STRING("ü😀") REP(m) SPACE END'])
-        self.assertEqual(seen["hover"][0], "`m`")
+        self.assertEqual(seen["hover"][0], "`m`: 1 to 5")
         self.assertEqual(set(seen["completions"]), {"MATCH", "ISEOF", "UNIQUE", "INARRAY", "STRLEN", "m", "top"})
         self.assertEqual(seen["data"], [[0, 6, 8, 1, "value out of range"]])
 

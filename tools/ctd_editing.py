@@ -6,10 +6,13 @@ import re
 from collections.abc import Iterator, Sequence
 
 from ctd_companion import printable
+from ctd_diagnostics import define_option
 from ctd_document import Document
+from ctd_flow import Flow
 from ctd_manual import COMMANDS, Entry, manual
-from ctd_program import NAME, Refused, commands_of
-from ctd_ranges import ranges_of
+from ctd_presets import presets_in
+from ctd_program import NAME, Command, Refused, Token, commands_of
+from ctd_ranges import Range, all_commands
 from ctd_symbols import Block, Use, names_of_presets, next_tokens, part_at
 from ctd_text import Json
 
@@ -38,7 +41,7 @@ def hover(document: Document, position: Json, presets: str) -> Json | None:
     """What the word at a position does, or what is known of the name there."""
     offset = document.text.offset(position)
     if mention := document.mention_at(position):
-        return shown("\n\n".join(told_of_name(document, mention.name, names_of_presets(presets))), document.range_of(mention))
+        return shown("\n\n".join(told_of_name(document, mention.name, presets)), document.range_of(mention))
     word = part_at(document.symbols.words, offset)
     if word is None:
         return None
@@ -60,12 +63,12 @@ def in_line(document: Document, offset: int) -> str:
     return f"`` {document.head(offset)} `` in line {document.line(offset)}"
 
 
-def told_of_name(document: Document, name: bytes, presets: set[bytes]) -> Iterator[str]:
+def told_of_name(document: Document, name: bytes, presets: str) -> Iterator[str]:
     """What is known of a name: its values, and which commands set it."""
     mentions = document.symbols.mentions_of(name)
-    yield f"`{name.decode()}`{known_values(document.text.data, name, presets | {one.name for one in mentions if one.use is Use.PRESET})}"
+    yield f"`{name.decode()}`{known_values(document, name, presets)}"
     given = [f"preset in line {document.line(one.offset)}" for one in mentions if one.use is Use.PRESET]
-    given += ["preset in the settings"] if name in presets else []
+    given += ["preset in the settings"] if name in names_of_presets(presets) else []
     commands = dict.fromkeys(one.command for one in mentions if one.use is Use.SET)
     given += [f"set by {in_line(document, command)}" for command in commands]
     yield from given[:MOST_COMMANDS]
@@ -75,15 +78,31 @@ def told_of_name(document: Document, name: bytes, presets: set[bytes]) -> Iterat
         yield "nothing gives it a value"
 
 
-def known_values(text: bytes, name: bytes, presets: set[bytes]) -> str:
-    """What is known of the values of a variable, to be written behind its name."""
+def known_values(document: Document, name: bytes, presets: str) -> str:
+    """What is known of the values of a variable that one command sets, and no other and no preset, to be written behind its name."""
+    mentions = document.symbols.mentions_of(name)
+    setting = {one.command for one in mentions if one.use is Use.SET}
+    if len(setting) != 1 or name in names_of_presets(presets) or any(one.use is Use.PRESET for one in mentions):
+        return ""
     try:
-        known = ranges_of(commands_of(text), presets).get(name)
+        commands = commands_of(document.text.data)
     except Refused:
         return ""
-    if known is None:
+    command = next(one for one in all_commands(commands) if one.offset in setting)
+    known = range_set_by(command, Flow(commands, list(presets_in(define_option(document, presets)))))
+    if known.least is None or known.greatest is None or known.least > known.greatest:
         return ""
     return f": {known.least}" if known.only is not None else f": {known.least} to {known.greatest}"
+
+
+def range_set_by(command: Command, flow: Flow) -> Range:
+    """The range of the one variable without indices that a command sets. (What SET reads may be what it sets before.)"""
+    arguments = command.arguments
+    if command.word == "INT" and isinstance(arguments[2], Token):
+        return Range(flow.range_at(command, arguments[0]).least, flow.range_at(command, arguments[1]).greatest)
+    if command.word == "SET" and len(arguments) == 2 and isinstance(arguments[0], Token):
+        return flow.range_at(command, arguments[1])
+    return Range()
 
 
 def definitions(document: Document, position: Json) -> list[Json]:
