@@ -67,7 +67,6 @@ export async function testFindings(page) {
   expect("it is marked", await page.evaluate(`document.querySelector("#program-side .error").textContent`), "(");
   await page.evaluate(`document.querySelector("#findings button").click()`);
   expect("a press goes there", await page.evaluate(`(({ line, ch }) => [line, ch])(${page.editor("program")}.getCursor())`), [1, 5]);
-  await page.tab.type(" ");
   await page.set("program", "INT(1,5) NEWLINE");
   await page.tab.wait(`!document.querySelector("#findings li")`);
   await page.set("program", "INT(1,5)\nSPACE INT(1,m)\nNEWLINE");
