@@ -56,19 +56,22 @@ NOT_ON_WINDOWS = {
 }
 # The rows that Node cannot have: it makes UTF-8 of each word.
 NOT_UNDER_NODE = [row for row, reason in NOT_ON_WINDOWS.items() if reason == NOT_UTF8]
+# And what tests/lint.py has that it cannot have: it opens the folder where a name is empty.
+LINT_NOT_UNDER_NODE = ["call ['b.ctd', ' b.ctd ', '']"]
 # How long a run may take: emulators and sanitizers are slow.
 OUT_OF_TIME = 600
 
 
 @dataclass(frozen=True)
 class Way:
-    """A way to a program: its compiler with words for it, what runs the program, and which rows it cannot have."""
+    """A way to a program: its compiler with words for it, what runs the program, and which rows and tests of ctd-lint it cannot have."""
 
     name: str
     compiler: str
     words: tuple[str, ...] = ()
     runner: str = ""
     without: frozenset[str] = frozenset()
+    lint_without: frozenset[str] = frozenset()
 
     @property
     def is_windows(self) -> bool:
@@ -92,7 +95,7 @@ WAYS = [
     Way("aarch64, static", "aarch64-linux-gnu-gcc", ("-static",), "qemu-aarch64-static"),
     Way("riscv64, static", "riscv64-linux-gnu-gcc", ("-static",), "qemu-riscv64-static"),
     Way("Windows", "x86_64-w64-mingw32-gcc", WINDOWS, "wine", frozenset(NOT_ON_WINDOWS)),
-    Way("wasm32, WASI", "clang-16", (), "node", frozenset(NOT_UNDER_NODE)),
+    Way("wasm32, WASI", "clang-16", (), "node", frozenset(NOT_UNDER_NODE), frozenset(LINT_NOT_UNDER_NODE)),
 ]
 OFFICIAL = Way("aarch64, the toolchain's own target, static", "aarch64-linux-gnu-gcc", (), "qemu-aarch64-static")
 
@@ -159,14 +162,15 @@ def rows_of_tables(way: Way, program: Path, counts: Counts) -> None:
 
 
 def rows_of_lint(way: Way, program: Path, counts: Counts) -> None:
-    """Runs what tests/lint.py has, but for its limits of time and memory."""
+    """Runs what tests/lint.py has, but for its limits of time and memory. What a system cannot have has to fail."""
     passed, failed = counts.passed, counts.failed
     lint.OUT_OF_TIME = lint.TIME_LIMIT = OUT_OF_TIME
     lint.MEMORY_LIMIT, lint.TRIES = sys.maxsize, 1
     with tempfile.TemporaryDirectory() as folder:
         table = tomllib.loads((TOP / "tests/lint.toml").read_text())
         for name, wanted, found in lint.outcomes(lint.Linter(program, Path(folder)), table):
-            counts.add(f"{way.name}: ctd-lint: {name}", "" if found == wanted else f"{found}, wanted {wanted}")
+            is_right = (found == wanted) != (name in way.lint_without)
+            counts.add(f"{way.name}: ctd-lint: {name}", "" if is_right else f"{found}, wanted {wanted}")
     print(f"portable: {way.name}: ctd-lint: {counts.passed - passed} passed, {counts.failed - failed} failed", flush=True)
 
 
