@@ -54,9 +54,9 @@ NOT_ON_WINDOWS = {
     "process: a name is opened as it stands: a name with a line feed and a letter of two bytes": LINE_FEED,
     "process: a message has a name as it stands: data with a blank at the end of its name that are not there": BLANK_AT_THE_END,
 }
-# The rows that Node cannot have: it makes UTF-8 of each word.
-NOT_UNDER_NODE = [row for row, reason in NOT_ON_WINDOWS.items() if reason == NOT_UTF8]
-# And what tests/lint.py has that it cannot have: it opens the folder where a name is empty.
+# The rows that Node cannot have, and what tests/lint.py has that it cannot have: it makes UTF-8 of each word, and opens the folder where a name is empty.
+EMPTY_WORDS = ["an empty word for the program", "an empty word for the data", "an empty word for each", "an empty word alone"]
+NOT_UNDER_NODE = [row for row, reason in NOT_ON_WINDOWS.items() if reason == NOT_UTF8] + [f"process: words that are empty: {row}" for row in EMPTY_WORDS]
 LINT_NOT_UNDER_NODE = ["call ['b.ctd', ' b.ctd ', '']"]
 # How long a run may take: emulators and sanitizers are slow.
 OUT_OF_TIME = 600
