@@ -189,7 +189,7 @@ class State:
     # what becomes known
 
     def limit(self, term: str, least: int | None, greatest: int | None) -> None:
-        """What a term is at least and at most; what no number of the language passes says nothing."""
+        """Takes over what a term is at least and at most; a bound that no number of the language passes is left out."""
         if least is not None and least > -LIMIT:
             self.bounds.add(ZERO, term, -least)
         if greatest is not None and greatest < LIMIT - 1:

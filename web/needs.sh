@@ -1,5 +1,5 @@
 #!/bin/sh
-# Says in one line what is missing to make the page, and ends with status 2; says nothing where all is there.
+# Says in one line what is missing to make the page, and ends with status 2; writes no line where all is there.
 missing=
 [ -f /usr/share/javascript/codemirror/lib/codemirror.js ] || missing="$missing libjs-codemirror"
 for command in cmark-gfm esbuild python3; do
