@@ -307,12 +307,12 @@ class Vim(unittest.TestCase):
 
 
     def test_make_goes_to_the_findings(self) -> None:
-        (self.folder / "a program.ctd").write_text('INT(1,9,n) NEWLINE\nREP(m) SPACE END\n')
+        (self.folder / "a program.ctd").write_text('INT(0,9,n) INT(1,9,k) NEWLINE\nREP(n-1) ASSERT(UNIQUE(m)) END\n')
         script = "edit a\\ program.ctd\nunlet b:current_compiler\ncompiler ctd-lint\nsilent make!\nsilent cc 2"
         value = "[map(getqflist(), {_, one -> [bufname(one.bufnr), one.lnum, one.col, one.type, one.text]}), line('.')]"
         found, line = self.run_vim(script, value)
-        self.assertEqual([one[:4] for one in found], [["a program.ctd", 1, 1, "n"], ["a program.ctd", 2, 1, "w"], ["a program.ctd", 2, 1, "r"]])
-        self.assertEqual([one[4].split()[-1] for one in found], ["[unread]", "[no-value]", "[no-value-here]"])
+        self.assertEqual([one[:4] for one in found], [["a program.ctd", 1, 12, "n"], ["a program.ctd", 2, 10, "w"], ["a program.ctd", 2, 1, "r"]])
+        self.assertEqual([one[4].split()[-1] for one in found], ["[unread]", "[no-value]", "[bad-count]"])
         self.assertEqual(line, 2)
 
 

@@ -13,8 +13,9 @@ With --verdicts it compares the built checker with the built ctd-lint: each faul
 at its place, and no such run may be of a program of which ctd-lint says that every data file gets a verdict. The last line counts the faults
 that are told, as passed, and the others. With --self-test too it sees that a report without the lines of a kind is complained of.
 
-With --findings it holds what ctd-lint finds against the runs of the reference: variables that count for nothing, and commands that no run passes. The
-last line counts such findings, as passed, and the cases with a wrong one. With --self-test too it sees that wrong ones are complained of."""
+With --findings it holds what ctd-lint finds against the runs of the reference: variables that count for nothing, commands that no run begins or
+passes, and tests that are never true or never false. The last line counts such findings, as passed, and the cases with a wrong one. With --self-test
+too it sees that wrong ones are complained of."""
 import argparse
 import multiprocessing
 import os
@@ -28,7 +29,7 @@ from pathlib import Path
 from fuzzing.case import Case
 from fuzzing.cases import case_of
 from fuzzing.checker import Checker
-from fuzzing.findings import IDLE_KINDS, STOP_KINDS, Held, hold, wrong_claims_seen
+from fuzzing.findings import IDLE_KINDS, NEVER, Held, hold, wrong_claims_seen
 from fuzzing.findings import complaints_of as complaints_of_findings
 from fuzzing.shrink import shrink
 from fuzzing.verdicts import Comparison, Linter, complaints_of, wrong_reports_seen
@@ -191,8 +192,8 @@ def fuzz_verdicts(program: Path, linter: Path, seed: int, numbers: range, jobs: 
 
 def hold_part(program: Path, linter: Path, seed: int, numbers: Sequence[int]) -> Held:
     """Holds what ctd-lint finds in the programs of the cases of these numbers against their runs."""
-    with checker_in_folder(program) as checker:
-        return hold(checker, Linter(linter), seed, numbers)
+    with checker_in_folder(program):
+        return hold(Linter(linter), seed, numbers)
 
 
 def fuzz_findings(program: Path, linter: Path, seed: int, numbers: range, jobs: int) -> int:
@@ -201,12 +202,12 @@ def fuzz_findings(program: Path, linter: Path, seed: int, numbers: range, jobs: 
     with multiprocessing.Pool(jobs) as pool:
         for part in pool.starmap(hold_part, [(program, linter, seed, numbers[job::jobs]) for job in range(jobs)]):
             held.add(part)
-    with checker_in_folder(program) as checker:
+    with checker_in_folder(program):
         for number in sorted(held.wrong)[:MOST_PRINTED]:
-            case = shrink(case_of(seed, number), lambda case: bool(complaints_of_findings(case, checker, Linter(linter))))
+            case = shrink(case_of(seed, number), lambda case: bool(complaints_of_findings(case, Linter(linter))))
             print(f"fuzz: case {number} of seed {seed} has a wrong finding; made smaller:\n{case}")
-            print("\n".join(complaints_of_findings(case, checker, Linter(linter))))
-    missing = [kind for kind in (*IDLE_KINDS, *STOP_KINDS) if kind not in held.kinds] if len(numbers) >= MANY_CASES else []
+            print("\n".join(complaints_of_findings(case, Linter(linter))))
+    missing = [kind for kind in (*IDLE_KINDS, *NEVER) if kind not in held.kinds] if len(numbers) >= MANY_CASES else []
     for kind in missing:
         print(f"fuzz: no finding is of the kind {kind}")
     print("fuzz: " + ", ".join(f"{name}: {count}" for name, count in sorted(held.kinds.items())))

@@ -105,6 +105,8 @@ def hostile() -> Iterator[Hostile]:
     yield "many loops", "INT(0,9,n) " + "REP(n) SET(skip=n) END " * (MEGABYTE // 23 - 2), 0
     yield "many ranges", "".join(f"INT(0,9,v{i}) ASSERT(v{i}>0) " for i in range(32_000)), 0
     yield "many counters", "".join(f"REPI(v{i},2) SPACE END " for i in range(41_000)), 0
+    yield "many tests of UNIQUE", "SET(u=1) " + "ASSERT(UNIQUE(u)) " * 40_000, 1
+    yield "many words", 'REGEX("' + "|".join(f"x{i}y" for i in range(100)) + '",k) ' + 'ASSERT(k=="x") ' * 25_000, 1
     yield "one name many times", "SET(n=1) ASSERT(n==1) UNSET(" + ",".join("n" for _ in range(MEGABYTE // 2 - 20)) + ")", 0
 
 

@@ -26,17 +26,14 @@ CONVERSION = re.compile(r"\bimpl(?:<T: Drop>)? From<Alloc(?:Error|Failed<T>)> fo
 # The function, by its file, and why its answer comes after a failed allocation alone.
 ELSEWHERE = {
     ("ctd_arguments/src/words.rt", "texts_of"): "a push failed",
-    ("ctd_facts/src/known.rt", "known_of"): "a set is not complete: an insertion failed before",
-    ("ctd_facts/src/ranges.rt", "names_given_otherwise"): "a set is not complete: an insertion failed before",
-    ("ctd_findings/src/read_names.rt", "names_with"): "a set is not complete: an insertion failed before",
     ("ctd_in_memory/src/run.rt", "run_in_memory"): "the words could not be split, which only memory can prevent",
     ("ctd_lint_tool/src/command_line.rt", "copies_of"): "a push failed",
     ("ctd_lint_tool/src/command_line.rt", "kinds_named"): "a push failed",
-    ("ctd_names/src/collector.rt", "finish"): "a push failed before",
     ("ctd_process/src/buffered.rt", "buffered_source"): "no buffer could be made",
     ("ctd_report/src/report.rt", "write_load_fault"): "the fault of the program is that no memory was left, as the contract says",
     ("ctd_tool/src/files.rt", "run_on"): "no buffer could be made",
     ("ctd_tool/src/host.rt", "answer_args"): "the words could not be copied, which only memory can prevent",
+    ("ctd_traps/src/collector.rt", "finish"): "a push failed before",
 }
 
 

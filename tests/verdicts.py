@@ -49,8 +49,8 @@ def faults_of_run(checker: Path, row: Row) -> Iterator[str]:
 
 
 def traps_told(linter: Path, row: Row) -> frozenset[Told]:
-    """The traps that ctd-lint tells of a program, those of elements among them, and wrong types also where a finding would tell them."""
-    run = subprocess.run([linter, "--elements", "--ignore=wrong-type", FOLDER / f"{row.name}.ctd"], capture_output=True, text=True, check=False)
+    """The traps that ctd-lint tells of a program, those of elements among them, and those that a finding would tell in their place."""
+    run = subprocess.run([linter, "--elements", "--ignore=no-value,wrong-type", FOLDER / f"{row.name}.ctd"], capture_output=True, text=True, check=False)
     return report_of(run.stdout).traps
 
 

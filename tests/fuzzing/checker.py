@@ -28,10 +28,7 @@ class Checker:
 
     def answer(self, case: Case) -> Answer:
         """What the checker answers. It is killed where it takes too long, which no answer of the reference is like."""
-        if case.program is None:
-            Path("program").unlink(missing_ok=True)
-        else:
-            write("program", case.program)
+        write_program(case)
         if case.source is Source.FOLDER:
             Path("data").unlink(missing_ok=True)
             os.symlink("folder", "data")
@@ -65,6 +62,14 @@ class Checker:
             failing.close()
         code = os.WEXITSTATUS(status) if os.WIFEXITED(status) else KILLED
         return Answer(code, *[read_whole(stream) for stream in self.streams])
+
+
+def write_program(case: Case) -> None:
+    """Writes the program of a case to the folder that the process works in, or sees that there is none."""
+    if case.program is None:
+        Path("program").unlink(missing_ok=True)
+    else:
+        write("program", case.program)
 
 
 def write(name: str, content: bytes) -> None:

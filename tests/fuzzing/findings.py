@@ -1,47 +1,74 @@
 """Holds what the built ctd-lint finds in the programs of generated cases against the runs of the reference.
 
 A variable that nothing reads, or only its own assignments, counts for nothing: without what gives it values each run with a verdict has the same
-answer. A command behind EOF that takes a byte, and an INT whose bounds no integer meets, let no run pass."""
+answer. The other kinds say of a command that something never happens there: no run begins it or passes it, or its test is never true or never
+false. These are held against all runs, up to the end of those without a verdict."""
 
 import re
 from collections import Counter
 from collections.abc import Iterator, Sequence
 from contextlib import ExitStack, contextmanager
 from dataclasses import dataclass, field
+from enum import Enum
 from unittest.mock import patch
 
 from reference import tool
 from reference.commands import Command, Set
+from reference.conditions import Condition
 from reference.expressions import Variable
 from reference.faults import LeftOut
-from reference.run import Run
+from reference.run import Run, Site
 from reference.store import Store
 from reference.values import Value
 
 from .case import Case
 from .cases import case_of
-from .checker import Checker
 from .verdicts import VERDICTS, Linter
 
 LINE = re.compile(r"[^:]*:(\d+):(\d+): (?:warning|note): .*?(?:: (\w+))? \[([a-z-]+)\]")
-IDLE_KINDS = ("unread", "own-reads")
-STOP_KINDS = ("after-eof", "empty-range")
 NAME = re.compile(rb"[a-z][a-z0-9]*")
+WORD = re.compile(rb"[A-Z]+")
 
 right_assign = Variable.assign
+right_begin = Run.begin
+right_holds = Run.holds
 right_perform = Run.perform
 
 
-class Passed(Exception):
-    """A run passed a command that is said to let none pass."""
+class Event(Enum):
+    """What may happen in a run at the place of a command."""
+
+    BEGUN = "the command begins"
+    PASSED = "a run passes the command"
+    TRUE = "the test is true"
+    FALSE = "the test is false"
+
+
+IDLE_KINDS = ("unread", "own-reads")
+# What never happens, by the kinds that say so.
+NEVER = {
+    "after-eof": [Event.PASSED],
+    "always-false": [Event.TRUE],
+    "always-true": [Event.FALSE],
+    "empty-range": [Event.PASSED],
+    "range-false": [Event.TRUE],
+    "range-true": [Event.FALSE],
+    "repeats-bounds": [Event.FALSE],
+    "unreachable": [Event.BEGUN],
+    "wrong-type": [Event.PASSED, Event.TRUE, Event.FALSE],
+}
+
+
+class Happened(Exception):
+    """Something happened that is said never to do so."""
 
 
 @dataclass(frozen=True)
 class Claims:
-    """The variables that count for nothing, and the places of commands that no run passes."""
+    """The variables that count for nothing, and the events that never happen, each with the place of its command."""
 
     idle: frozenset[bytes] = frozenset()
-    stops: frozenset[str] = frozenset()
+    never: frozenset[tuple[Event, str]] = frozenset()
 
 
 @dataclass
@@ -56,18 +83,23 @@ class Held:
         self.wrong += other.wrong
 
 
+def never_at(places: Sequence[str], kind: str) -> Claims:
+    """What findings of a kind at these places claim."""
+    return Claims(never=frozenset((event, place) for event in NEVER[kind] for place in places))
+
+
 def found_in(output: str) -> Iterator[tuple[str, Claims]]:
     """The kinds of the findings that claim something of runs, each with its claim."""
     for line in output.splitlines():
         match = LINE.fullmatch(line)
         if match and match[4] in IDLE_KINDS:
             yield match[4], Claims(idle=frozenset([match[3].encode()]))
-        elif match and match[4] in STOP_KINDS:
-            yield match[4], Claims(stops=frozenset([f"line {match[1]} column {match[2]}"]))
+        elif match and match[4] in NEVER:
+            yield match[4], never_at([f"line {match[1]} column {match[2]}"], match[4])
 
 
 def all_of(claims: Sequence[Claims]) -> Claims:
-    return Claims(frozenset().union(*(one.idle for one in claims)), frozenset().union(*(one.stops for one in claims)))
+    return Claims(frozenset().union(*(one.idle for one in claims)), frozenset().union(*(one.never for one in claims)))
 
 
 @contextmanager
@@ -90,52 +122,63 @@ def without_assignments(idle: frozenset[bytes]) -> Iterator[None]:
 
 
 @contextmanager
-def without_passing(stops: frozenset[str], text: bytes) -> Iterator[None]:
-    """The reference, which says so where a run passes a command at one of these places of a program."""
+def without_events(never: frozenset[tuple[Event, str]], text: bytes) -> Iterator[None]:
+    """The reference, which raises Happened where one of these events happens in a run of a program with this text."""
+
+    def happens(event: Event, site: Site) -> None:
+        if isinstance(site, int) and (event, tool.place(text, site)) in never:
+            raise Happened(f"{event.value} at {tool.place(text, site)}")
+
+    def begin(run: Run, site: Site) -> None:
+        happens(Event.BEGUN, site)
+        right_begin(run, site)
+
+    def holds(run: Run, test: Condition) -> bool:
+        is_true = right_holds(run, test)
+        happens(Event.TRUE if is_true else Event.FALSE, run.site)
+        return is_true
 
     def perform(run: Run, commands: Sequence[Command]) -> None:
         for command in commands:
             right_perform(run, [command])
-            if tool.place(text, command.place) in stops:
-                raise Passed(tool.place(text, command.place))
+            happens(Event.PASSED, command.place)
 
-    with patch.object(Run, "perform", perform):
+    with patch.multiple(Run, begin=begin, holds=holds, perform=perform):
         yield
 
 
 def complaints(case: Case, claims: Claims) -> Iterator[str]:
     """How claims are wrong on a case. Raises LeftOut where the reference has no answer."""
     try:
-        with without_passing(claims.stops, case.program or b""):
+        with without_events(claims.never, case.program or b""):
             right = case.reference_answer()
-    except Passed as command:
-        yield f"a run passes the command at {command}"
+    except Happened as event:
+        yield str(event)
         return
-    if right.status in VERDICTS:
+    if claims.idle and right.status in VERDICTS:
         with without_assignments(claims.idle):
             answer = case.reference_answer()
         if answer != right:
             yield f"without what gives {claims.idle} values the answer is {answer}"
 
 
-def complaints_of(case: Case, checker: Checker, linter: Linter) -> list[str]:
+def complaints_of(case: Case, linter: Linter) -> list[str]:
     """How the findings in the program of a case are wrong, if they are."""
-    checker.answer(case)
     try:
         return list(complaints(case, all_of([claims for _, claims in found_in(linter.output(case))])))
     except LeftOut:
         return []
 
 
-def hold(checker: Checker, linter: Linter, seed: int, numbers: Sequence[int]) -> Held:
-    """Holds the findings in the programs of the cases of these numbers against their runs."""
+def hold(linter: Linter, seed: int, numbers: Sequence[int]) -> Held:
+    """Holds the findings in the programs of the cases of these numbers against their runs, as far as the reference can follow these."""
     held = Held()
     for number in numbers:
         case = case_of(seed, number)
-        if checker.answer(case).status not in VERDICTS:
-            continue
         found = list(found_in(linter.output(case)))
         try:
+            if found and case.reference_answer().status not in VERDICTS:
+                found = [(kind, claims) for kind, claims in found if not claims.idle]
             if any(complaints(case, all_of([claims for _, claims in found]))):
                 held.wrong.append(number)
             held.kinds.update(kind for kind, _ in found)
@@ -145,10 +188,12 @@ def hold(checker: Checker, linter: Linter, seed: int, numbers: Sequence[int]) ->
 
 
 def wrong_claims(case: Case) -> Iterator[tuple[str, Claims]]:
-    """Claims that are wrong on many cases: that all variables count for nothing, and that no run passes any command."""
+    """Claims that are wrong on many cases: that all variables count for nothing, and findings of a kind at each command."""
     text = case.program or b""
     yield "all variables count for nothing", Claims(idle=frozenset(NAME.findall(text)))
-    yield "no run passes any command", Claims(stops=frozenset(tool.place(text, offset) for offset in range(len(text))))
+    places = [tool.place(text, word.start()) for word in WORD.finditer(text)]
+    for kind in NEVER:
+        yield f"{kind} at each command", never_at(places, kind)
 
 
 def wrong_claims_seen(seed: int, count: int) -> Iterator[tuple[str, int | None]]:

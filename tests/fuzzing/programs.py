@@ -1,11 +1,24 @@
 """Generated programs, as lists of tokens."""
 
-from collections.abc import Callable
+from collections.abc import Callable, Sequence
 from random import Random
 
 from reference.limits import NESTING
 
-from .expressions import ALL_NAMES, ARRAY_NAMES, NUMBER_NAMES, TEXT_ARRAY_NAMES, TEXT_NAMES, TEXTS, Expressions, Scope, Tokens
+from .expressions import (
+    ALL_NAMES,
+    ARRAY_NAMES,
+    COMPARISONS,
+    NUMBER_NAMES,
+    OPERATORS,
+    SMALL,
+    TEXT_ARRAY_NAMES,
+    TEXT_NAMES,
+    TEXTS,
+    Expressions,
+    Scope,
+    Tokens,
+)
 from .patterns import pattern
 from .spelling import literal, pattern_literal
 
@@ -35,6 +48,10 @@ class Programs(Expressions):
             self.filled_array: 9,
             self.choice: 6,
             self.cleared_array: 2,
+            self.bounded_integer: 4,
+            self.counting_loop: 2,
+            self.endless_loop: 1,
+            self.typed_variable: 2,
             self.end: 1,
         }
         self.kinds = [kind for kind, weight in kinds.items() for _ in range(weight)]
@@ -188,6 +205,53 @@ class Programs(Expressions):
         if self.chance(0.5):
             tokens += ["ELSE", *self.body(depth)]
         return [*tokens, "END"]
+
+    def bounded_integer(self, depth: int) -> Tokens:
+        """An integer between two bounds, of which a variable may have the greater, and tests that compare it with them."""
+        name = self.random.choice(NUMBER_NAMES)
+        least, greatest = self.random.choice(RANGES)
+        limit = self.random.choice(NUMBER_NAMES) if self.chance(0.5) else greatest
+        tokens = ["SET", "(", limit, "=", greatest, ")"] if limit != greatest else []
+        tokens += ["INT", "(", least, ",", limit, ",", name, ")", *self.blank(0)]
+        self.scope.numbers.append([name])
+        return tokens + self.comparisons(name, [least, greatest, limit], 2)
+
+    def comparisons(self, name: str, values: Sequence[str], depth: int) -> Tokens:
+        """A test that compares a variable with one of these values or a small one, or such tests in one another."""
+        test = [name, self.random.choice(COMPARISONS), self.random.choice([*values, self.random.choice(SMALL)])]
+        if depth == 0 or self.chance(0.5):
+            return self.probe(test)
+        otherwise = ["ELSE", *self.comparisons(name, values, depth - 1)] if self.chance(0.3) else []
+        return ["IF", "(", *test, ")", *self.comparisons(name, values, depth - 1), *otherwise, "END"]
+
+    def counting_loop(self, depth: int) -> Tokens:
+        """A loop that changes a variable in each turn, and tests of it in the loop and behind it."""
+        name = self.random.choice(NUMBER_NAMES)
+        first = self.random.choice(SMALL)
+        change = ["SET", "(", name, "=", name, self.random.choice(OPERATORS), self.random.choice(SMALL), ")"]
+        inside = self.comparisons(name, [first], 1)
+        body = [*inside, *change] if self.chance(0.5) else [*change, *inside]
+        tokens = ["SET", "(", name, "=", first, ")", "REP", "(", self.random.choice("0123"), ")", *body, "END"]
+        return tokens + self.comparisons(name, [first], 1)
+
+    def endless_loop(self, depth: int) -> Tokens:
+        """A WHILE whose test stays true, which takes a byte in each turn, and a command behind it."""
+        name = self.random.choice(NUMBER_NAMES)
+        head = ["SET", "(", name, "=", "1", ")", "WHILE", "(", name] if self.chance(0.5) else ["WHILE", "(", "1"]
+        return [*head, "<", "2", ")", *self.integer([]), *self.blank(0), "END", *self.blank(0)]
+
+    def typed_variable(self, depth: int) -> Tokens:
+        """A variable that is a number, or a string, or the one or the other by a test, and a command that wants one of the two."""
+        name = self.random.choice(NUMBER_NAMES + TEXT_NAMES)
+        tokens = self.constant(name)
+        if self.chance(0.5):
+            tokens += ["IF", "(", *self.test(1), ")", *self.constant(name), "END"]
+        use = ["STRING", "(", name, ")"] if self.chance(0.5) else self.probe([name, "==", *self.number(0)])
+        return tokens + (["IF", "(", *self.test(1), ")", *use, "END"] if self.chance(0.5) else use)
+
+    def constant(self, name: str) -> Tokens:
+        """SET, which gives a variable a number or a string."""
+        return ["SET", "(", name, "=", *(self.number(0) if self.chance(0.5) else self.text(0)), ")"]
 
     def filled_array(self, depth: int) -> Tokens:
         """Arrays that are read from the data, and a test of them."""

@@ -17,7 +17,7 @@ from traps_told import EVERY, KINDS, TRAP_KINDS, Report, report_of
 
 from .case import Case
 from .cases import case_of
-from .checker import Checker
+from .checker import Checker, write_program
 
 STOP = re.compile(rb"checktestdata: line \d+ column \d+: (.*) \(program line (\d+) column (\d+)\)\n")
 VERDICTS = (0, 1)
@@ -48,26 +48,27 @@ class Comparison:
 
 
 class Linter:
-    """The built ctd-lint, on the programs of cases that the checker has just run in this folder."""
+    """The built ctd-lint, on the programs of cases, in the folder that the process works in."""
 
     def __init__(self, program: Path) -> None:
         self.program = program
 
-    def output(self, case: Case) -> str:
-        """What it writes of the program, with the presets of the case; nothing where the words of the case ask for no check."""
+    def output(self, case: Case, *options: str) -> str:
+        """What it writes of the program with these options and the presets of the case; nothing where the words of the case ask for no check."""
         try:
             given = sort_words([word.decode() for word in case.words])
         except (Asked, Misused, UnicodeDecodeError):
             return ""
+        write_program(case)
         define = given.options.get("define")
         presets = [] if define is None else [f"--define={define}"]
-        words = [self.program, "--verdicts", "--elements", "--ignore=wrong-type", *presets, "--", given.files[0]]
+        words = [self.program, *options, *presets, "--", given.files[0]]
         done = subprocess.run(words, stdin=subprocess.DEVNULL, capture_output=True, text=True, errors="replace", check=False)
         return done.stdout
 
     def report(self, case: Case) -> Report | None:
         """What it tells of the program of a case, if it tells something."""
-        output = self.output(case)
+        output = self.output(case, "--verdicts", "--elements", "--ignore=no-value,wrong-type")
         return report_of(output) if output else None
 
 

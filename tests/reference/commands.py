@@ -78,7 +78,7 @@ class Assert(Command):
     test: Condition
 
     def act(self, run: Run) -> None:
-        if not self.test.holds(run.store, run.data):
+        if not run.holds(self.test):
             raise Rejected("assertion failed")
 
 
@@ -107,4 +107,4 @@ class If(Command):
     otherwise: Sequence[Command]
 
     def act(self, run: Run) -> None:
-        run.perform(self.commands if self.test.holds(run.store, run.data) else self.otherwise)
+        run.perform(self.commands if run.holds(self.test) else self.otherwise)

@@ -57,4 +57,4 @@ class While(Loop):
     test: Condition
 
     def act(self, run: Run) -> None:
-        self.repeat(run, lambda turn: self.test.holds(run.store, run.data))
+        self.repeat(run, lambda turn: run.holds(self.test))

@@ -11,6 +11,7 @@ from .store import Store
 
 if TYPE_CHECKING:
     from .commands import Command
+    from .conditions import Condition
 
 # Where a run is in its program: the offset of a word, or one of these two.
 PROGRAM_START = "program start"
@@ -36,6 +37,10 @@ class Run:
         if self.steps_left == 0:
             raise Stopped("step limit reached")
         self.steps_left -= 1
+
+    def holds(self, test: Condition) -> bool:
+        """Whether the test of the command or the turn that began last is true."""
+        return test.holds(self.store, self.data)
 
     def perform(self, commands: Sequence[Command]) -> None:
         """Does one command after the other."""

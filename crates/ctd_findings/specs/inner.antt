@@ -1,4 +1,4 @@
 -- What only the proofs of this crate use.
-pub mod Placed
+pub mod Never
 pub mod Sides
-pub mod Truths
+pub mod Sound

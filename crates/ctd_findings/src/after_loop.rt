@@ -4,11 +4,11 @@ use crate::command::remark_about_if;
 use crate::finding::Remark;
 use crate::kind::Kind;
 use crate::loops::{is_set_by, loop_of, turns_counter};
-use ctd_names::{
-    Collector, CommandInBlock, Role, all_commands, all_mentions, is_in_role, mentions_of,
-};
 use ctd_program::Command;
 use ctd_token::Name;
+use ctd_traps::{
+    Collector, CommandInBlock, Role, all_commands, all_mentions, is_in_role, mentions_of,
+};
 use std::alloc::{AllocError, Global};
 use std::slice;
 

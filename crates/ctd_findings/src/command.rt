@@ -1,42 +1,35 @@
 //! The remarks on a command.
 
-ghost use Rattle.std.specs.Prelude.{◌≡◌, ◌∷◌, []};
-ghost use Rattle.ctd_names.specs.calls.Collector.{Adds, items_in};
-ghost use Rattle.ctd_facts.specs.calls.LiteralValues.{no_variables};
-ghost use Rattle.ctd_findings.specs.inner.Truths.{about, remark_if};
-
 use crate::after_loop::list_behind;
+use crate::condition::test_of;
 use crate::finding::Remark;
 use crate::kept_array::list_kept;
 use crate::kind::Kind;
 use crate::loops::{counter_name, is_set_in, loop_body, some_set_fixed};
-use crate::pattern::list_pattern;
-use crate::read_names::ReadNames;
-use crate::sides::{has_same_names, has_same_sides};
-use crate::truths::{
-    guard_test, list_bounds, list_test_range, list_truth, list_unreachable, list_without_value,
+use crate::names::ProgramNames;
+use crate::never::NeverAt;
+use crate::no_index::list_no_index;
+use crate::other_word::list_other_word;
+use crate::outcome::{
+    Outcomes, list_empty_range, list_mistyped, list_one_answer, list_unreachable,
 };
-use ctd_facts::{Known, has_wrong_sort};
-use ctd_names::{Collector, CommandInBlock, MentionedName, Role, has_role, mentions_of};
-use ctd_program::{Action, Command, Expr, Test};
+use crate::pattern::list_pattern;
+use crate::sides::{has_same_names, has_same_sides};
+use ctd_program::{Action, Command, Expr};
 use ctd_token::{Bytes, Name};
-use ctd_value::Store;
+use ctd_traps::{Collector, CommandInBlock, MentionedName, Role, has_role, mentions_of};
 use std::alloc::{AllocError, Global};
 use std::collections::BTreeSet;
 
 /// Adds a remark where this is so.
-pub(crate) fn remark_if(is_so: bool, kind: Kind, found: &mut Collector<Remark>)
-    ensures adds { Adds (items_in found.old) (remark_if is_so kind) (items_in found.new) }
-{
+pub(crate) fn remark_if(is_so: bool, kind: Kind, found: &mut Collector<Remark>) {
     if is_so {
         found.add(Remark { kind, name: None });
     }
 }
 
 /// Adds a remark about a name.
-pub(crate) fn remark_about(alloc: Global, kind: Kind, name: &Name, found: &mut Collector<Remark>)
-    ensures adds { Adds (items_in found.old) (about kind name.now ∷ []) (items_in found.new) }
-{
+pub(crate) fn remark_about(alloc: Global, kind: Kind, name: &Name, found: &mut Collector<Remark>) {
     match Bytes::copy(alloc, name.as_slice()) {
         Ok(bytes) => found.add(Remark {
             kind,
@@ -74,18 +67,31 @@ fn unread_kind(is_read: bool) -> Kind {
     }
 }
 
+/// Adds a remark for each name that a command needs and nothing gives a value.
+fn list_without_value<'p>(
+    alloc: Global,
+    mentions: &[MentionedName<'p>],
+    names: &ProgramNames<'p>,
+    found: &mut Collector<Remark>,
+) {
+    for m in mentions {
+        let needs = has_role(Role::Needs, m.used_as) && !names.given.contains(&m.name.as_slice());
+        remark_about_if(alloc, needs, Kind::NoValue, m.name, found);
+    }
+}
+
 /// Adds a remark for each name that a command sets and nothing but its own assignments reads, but for those that say so.
 fn list_unread<'p>(
     alloc: Global,
     mentions: &[MentionedName<'p>],
-    read: &ReadNames<'p>,
+    names: &ProgramNames<'p>,
     found: &mut Collector<Remark>,
 ) {
     for m in mentions {
         if has_role(Role::Sets, m.used_as)
-            && !(read.elsewhere.contains(m.name) || is_set_aside(m.name))
+            && !(names.read_elsewhere.contains(&m.name.as_slice()) || is_set_aside(m.name))
         {
-            let kind = unread_kind(read.anywhere.contains(m.name));
+            let kind = unread_kind(names.read.contains(&m.name.as_slice()));
             remark_about(alloc, kind, m.name, found);
         }
     }
@@ -95,15 +101,13 @@ fn list_unread<'p>(
 fn list_names<'p>(
     alloc: Global,
     command: &'p Command,
-    known: &Known<'p>,
-    read: &ReadNames<'p>,
+    names: &ProgramNames<'p>,
     found: &mut Collector<Remark>,
 ) {
     match mentions_of(alloc, command) {
         Ok(mentions) => {
-            let names = mentions.as_slice();
-            list_without_value(alloc, names, &known.given, found);
-            list_unread(alloc, names, read, found)
+            list_without_value(alloc, mentions.as_slice(), names, found);
+            list_unread(alloc, mentions.as_slice(), names, found)
         }
         Err(_) => found.fail(),
     }
@@ -142,14 +146,14 @@ fn list_after_eof(previous: Option<&Command>, command: &Command, found: &mut Col
 fn list_counter<'p>(
     alloc: Global,
     command: &'p Command,
-    read: &ReadNames<'p>,
+    names: &ProgramNames<'p>,
     found: &mut Collector<Remark>,
 ) {
     let Some(name) = counter_name(command) else {
         return;
     };
     let body = loop_body(command);
-    let is_fixed = !read.anywhere.contains(name) && some_set_fixed(body);
+    let is_fixed = !names.read.contains(&name.as_slice()) && some_set_fixed(body);
     remark_about_if(alloc, is_fixed, Kind::LiteralIndex, name, found);
     remark_about_if(alloc, is_set_in(name, body), Kind::CounterSet, name, found)
 }
@@ -164,31 +168,29 @@ fn is_empty_text(e: &Expr) -> bool {
     }
 }
 
-/// Adds the remarks that follow from a test alone.
-fn list_test(alloc: Global, t: &Test, nothing: &Store, found: &mut Collector<Remark>)
-    requires { nothing.now ≡ no_variables }
-{
-    list_truth(alloc, t, nothing, found);
+/// Adds the remarks on the form of the test of a command.
+fn list_test(command: &Command, found: &mut Collector<Remark>) {
+    let Some(t) = test_of(command) else {
+        return;
+    };
     remark_if(has_same_sides(t), Kind::SameSides, found);
     remark_if(has_same_names(t), Kind::SameNames, found)
 }
 
 /// Adds the remarks that follow from a command alone.
-fn list_own(alloc: Global, command: &Command, nothing: &Store, found: &mut Collector<Remark>)
-    requires { nothing.now ≡ no_variables }
-{
+fn list_own(
+    alloc: Global,
+    command: &Command,
+    at: NeverAt,
+    outcomes: &Outcomes,
+    found: &mut Collector<Remark>,
+) {
     match &command.action {
-        Action::Int(int) => list_bounds(alloc, int, nothing, found),
+        Action::Int(_) => list_empty_range(command.place, at, outcomes, found),
         Action::String(e) => remark_if(is_empty_text(e), Kind::EmptyString, found),
         Action::Regex(regex) => list_pattern(alloc, regex.literal.bytes.as_slice(), found),
-        Action::Assert(t) => list_test(alloc, t, nothing, found),
-        Action::Loop(repeated) => match guard_test(&repeated.guard) {
-            Some(t) => list_test(alloc, t, nothing, found),
-            None => (),
-        },
-        Action::If(choice) => list_test(alloc, &choice.condition, nothing, found),
-        Action::Space | Action::Newline | Action::Eof => (),
-        Action::Set(_) | Action::Unset(_) => (),
+        Action::Space | Action::Newline | Action::Eof | Action::Assert(_) => (),
+        Action::Set(_) | Action::Unset(_) | Action::Loop(_) | Action::If(_) => (),
     }
 }
 
@@ -218,29 +220,31 @@ fn each_once(alloc: Global, remarks: Vec<Remark>) -> Result<Vec<Remark>, AllocEr
     Ok(once)
 }
 
-/// The remarks on a command, each once.
+/// The remarks on a command, each once, where these events never happen.
 pub(crate) fn command_remarks<'p>(
     alloc: Global,
     entry: &CommandInBlock<'p>,
-    known: &Known<'p>,
-    read: &ReadNames<'p>,
-) -> Result<Vec<Remark>, AllocError>
-    requires { known.now.nothing ≡ no_variables }
-{
+    names: &ProgramNames<'p>,
+    outcomes: &Outcomes,
+    at: NeverAt,
+) -> Result<Vec<Remark>, AllocError> {
     let CommandInBlock {
         previous,
         command,
         ..
     } = *entry;
     let mut found = Collector::new(alloc);
-    list_unreachable(alloc, previous, &known.nothing, &mut found);
+    list_unreachable(entry, at, outcomes, &mut found);
     list_after_eof(previous, command, &mut found);
-    list_names(alloc, command, known, read, &mut found);
-    remark_if(has_wrong_sort(command, known), Kind::WrongSort, &mut found);
-    list_counter(alloc, command, read, &mut found);
+    list_names(alloc, command, names, &mut found);
+    list_mistyped(command, at, outcomes, &mut found);
+    list_counter(alloc, command, names, &mut found);
     list_behind(alloc, entry, &mut found);
-    list_test_range(alloc, command, known, &mut found);
-    list_kept(alloc, command, read, &mut found);
-    list_own(alloc, command, &known.nothing, &mut found);
+    list_one_answer(command, at, outcomes, &mut found);
+    list_kept(alloc, command, names, &mut found);
+    list_no_index(alloc, command, names, &mut found);
+    list_other_word(alloc, command, &names.words, &mut found);
+    list_test(command, &mut found);
+    list_own(alloc, command, at, outcomes, &mut found);
     each_once(alloc, found.finish()?)
 }

@@ -4,9 +4,9 @@ use crate::command::remark_about_if;
 use crate::finding::Remark;
 use crate::kind::Kind;
 use crate::loops::{counter_name, loop_body};
-use crate::read_names::{ReadNames, names_with};
-use ctd_names::{Collector, MentionedName, Role, has_role, list_mentions};
+use crate::names::ProgramNames;
 use ctd_program::Command;
+use ctd_traps::{Collector, MentionedName, Role, has_role, list_mentions, names_in_role};
 use std::alloc::{AllocError, Global};
 
 /// Adds the names in some commands, but for those in commands that stand in them.
@@ -46,11 +46,12 @@ fn list_kept_in<'p>(
 ) -> Result<(), AllocError> {
     let own = body_mentions(alloc, body)?;
     let loops = loops_mentions(alloc, body)?;
-    let filled = names_with(alloc, Role::Fills, loops.as_slice())?;
-    let unset = names_with(alloc, Role::Forgets, own.as_slice())?;
+    let filled = names_in_role(alloc, Role::Fills, loops.as_slice(), &[])?;
+    let unset = names_in_role(alloc, Role::Forgets, own.as_slice(), &[])?;
     for m in &own {
         if has_role(Role::LooksAtAll, m.used_as) {
-            let is_kept = filled.contains(m.name) && !unset.contains(m.name);
+            let is_kept = filled.contains(&m.name.as_slice())
+                && !unset.contains(&m.name.as_slice());
             remark_about_if(alloc, is_kept, Kind::KeptArray, m.name, found);
         }
     }
@@ -61,11 +62,11 @@ fn list_kept_in<'p>(
 pub(crate) fn list_kept<'p>(
     alloc: Global,
     command: &'p Command,
-    read: &ReadNames<'p>,
+    names: &ProgramNames<'p>,
     found: &mut Collector<Remark>,
 ) {
     if let Some(name) = counter_name(command)
-        && read.anywhere.contains(name)
+        && names.read.contains(&name.as_slice())
     {
         return;
     }

@@ -1,7 +1,7 @@
 //! The kinds of findings.
 
 ghost use Rattle.std.specs.Prelude.{◌≡◌};
-ghost use Rattle.ctd_findings.specs.calls.Kinds.{kind_name, kind_named, named_among, rank};
+ghost use Rattle.ctd_findings.specs.calls.Kinds.{kind_named, kind_row, named_among};
 
 /// How sure it is that a finding is a mistake.
 #[derive(Clone, Copy, PartialEq, Eq)]
@@ -12,68 +12,43 @@ pub enum Rank {
     Warning,
 }
 
-/// What a finding says.
+/// What a finding says. `text` has the words of each kind, and the man page of `ctd-lint` says what it means.
 #[derive(Clone, Copy, PartialEq, Eq)]
 pub enum Kind {
-    /// A preset has a name that the program nowhere mentions.
     UnknownPreset,
-    /// The loop before the command does not end.
     Unreachable,
-    /// The command before is EOF, and this one takes a byte.
     AfterEof,
-    /// Nothing in the program and no preset gives this name a value.
     NoValue,
-    /// This name gets a value here, and nothing reads it.
     Unread,
-    /// Nothing reads this name but its own assignments.
     OwnReads,
-    /// A number stands where a string is wanted, or a string where a number is wanted.
     WrongSort,
-    /// Nothing reads the counter of this loop, and the loop sets an element whose indices are numerals.
     LiteralIndex,
-    /// A command in the loop gives its counter a value too.
     CounterSet,
-    /// Behind this loop its counter is read, where it is the number of turns.
     CounterBehind,
-    /// The test of IF or WHILE is true for all numbers that INT gives its variables.
     RangeTrue,
-    /// The test is false for all numbers that INT gives its variables.
     RangeFalse,
-    /// The test of ASSERT is true for all numbers that INT gives its variables.
     RepeatsBounds,
-    /// Each turn of this loop fills an array and looks at it as a whole, and none forgets it.
-    KeptArray,
-    /// The test is true whatever the data are.
     AlwaysTrue,
-    /// The test is false whatever the data are.
     AlwaysFalse,
-    /// The two sides of a comparison are the same.
+    KeptArray,
+    NoIndex,
+    OtherWord,
     SameSides,
-    /// UNIQUE has a name twice.
     SameNames,
-    /// The least integer is above the greatest.
     EmptyRange,
-    /// The string is empty.
     EmptyString,
-    /// The pattern is empty.
     EmptyPattern,
-    /// A class has `A-z`.
     LetterRange,
-    /// An alternative of the pattern is never taken, since an earlier one is its beginning.
     HiddenAlternative,
-    /// The pattern begins with `^`.
     Caret,
-    /// The pattern ends with `$`.
     Dollar,
-    /// The pattern repeats a part without a bound.
     NoBound,
-    /// The pattern matches a line feed and names none.
     LineFeed,
 }
 
 impl Kind {
     /// All kinds, in the order in which the findings of a command stand.
-    pub const ALL: [Kind; 27] = [
+    pub const ALL: [Kind; 29] = [
         Kind::UnknownPreset,
         Kind::Unreachable,
         Kind::AfterEof,
@@ -87,9 +62,11 @@ impl Kind {
         Kind::RangeTrue,
         Kind::RangeFalse,
         Kind::RepeatsBounds,
-        Kind::KeptArray,
         Kind::AlwaysTrue,
         Kind::AlwaysFalse,
+        Kind::KeptArray,
+        Kind::NoIndex,
+        Kind::OtherWord,
         Kind::SameSides,
         Kind::SameNames,
         Kind::EmptyRange,
@@ -105,7 +82,7 @@ impl Kind {
 
     /// The name of a kind, as `no-value`.
     pub fn name(self) -> &'static str
-        ensures { result.now ≡ kind_name self }
+        ensures { result.now ≡ (kind_row self).name }
     {
         match self {
             Kind::UnknownPreset => "unknown-preset",
@@ -121,9 +98,11 @@ impl Kind {
             Kind::RangeTrue => "range-true",
             Kind::RangeFalse => "range-false",
             Kind::RepeatsBounds => "repeats-bounds",
-            Kind::KeptArray => "kept-array",
             Kind::AlwaysTrue => "always-true",
             Kind::AlwaysFalse => "always-false",
+            Kind::KeptArray => "kept-array",
+            Kind::NoIndex => "no-index",
+            Kind::OtherWord => "other-word",
             Kind::SameSides => "same-sides",
             Kind::SameNames => "same-names",
             Kind::EmptyRange => "empty-range",
@@ -140,19 +119,62 @@ impl Kind {
 
     /// How sure it is that a finding of this kind is a mistake.
     pub fn rank(self) -> Rank
-        ensures { result ≡ rank self }
+        ensures { result ≡ (kind_row self).rank }
     {
         match self {
-            Kind::Unread | Kind::Caret | Kind::NoBound | Kind::LineFeed => Rank::Note,
-            Kind::LiteralIndex | Kind::CounterSet | Kind::CounterBehind => Rank::Note,
-            Kind::RepeatsBounds | Kind::KeptArray => Rank::Note,
-            Kind::RangeTrue | Kind::RangeFalse => Rank::Warning,
-            Kind::UnknownPreset | Kind::Unreachable | Kind::NoValue => Rank::Warning,
-            Kind::AlwaysTrue | Kind::AlwaysFalse | Kind::EmptyRange => Rank::Warning,
-            Kind::EmptyString | Kind::Dollar => Rank::Warning,
-            Kind::AfterEof | Kind::OwnReads | Kind::WrongSort => Rank::Warning,
-            Kind::SameSides | Kind::SameNames => Rank::Warning,
-            Kind::EmptyPattern | Kind::LetterRange | Kind::HiddenAlternative => Rank::Warning,
+            Kind::Unread
+            | Kind::LiteralIndex
+            | Kind::CounterSet
+            | Kind::CounterBehind
+            | Kind::RepeatsBounds
+            | Kind::KeptArray
+            | Kind::Caret
+            | Kind::NoBound
+            | Kind::LineFeed => Rank::Note,
+            _ => Rank::Warning,
+        }
+    }
+
+    /// What a finding of this kind says, without the name of a variable.
+    pub fn text(self) -> &'static str
+        ensures { result.now ≡ (kind_row self).text }
+    {
+        match self {
+            Kind::UnknownPreset => "the program does not mention this name",
+            Kind::Unreachable => "never reached: the loop before does not end",
+            Kind::AfterEof => "nothing can come here: EOF before it asks for the end of the data",
+            Kind::NoValue =>
+                "nothing gives this name a value (give it a default by SET, or one by -D)",
+            Kind::Unread => "nothing reads this variable",
+            Kind::OwnReads => "only its own assignments read this variable",
+            Kind::WrongSort =>
+                "a number stands where a string is wanted, or a string where a number is wanted",
+            Kind::LiteralIndex =>
+                "nothing reads this counter, and the loop sets an element by a literal index",
+            Kind::CounterSet => "a command in the loop sets its counter too",
+            Kind::CounterBehind =>
+                "the counter is read behind the loop, where it is the number of turns",
+            Kind::RangeTrue => "the test is true for all values that its variables can have here",
+            Kind::RangeFalse => "the test is false for all values that its variables can have here",
+            Kind::RepeatsBounds => "the test asks for no more than the commands before it do",
+            Kind::AlwaysTrue => "the test is true whatever the data are",
+            Kind::AlwaysFalse => "the test is false whatever the data are",
+            Kind::KeptArray =>
+                "each turn of this loop also sees what earlier turns put into this array (see UNSET)",
+            Kind::NoIndex => "UNIQUE compares nothing: no index is ever given to this variable",
+            Kind::OtherWord => "no REGEX can give this variable this string",
+            Kind::SameSides => "the two sides of a comparison are the same",
+            Kind::SameNames => "UNIQUE has a name twice",
+            Kind::EmptyRange => "the least integer is above the greatest",
+            Kind::EmptyString => "the string is empty",
+            Kind::EmptyPattern => "the pattern is empty",
+            Kind::LetterRange => "A-z has six signs that are no letters, from [ to `",
+            Kind::HiddenAlternative =>
+                "an alternative is never taken: an earlier one is its beginning",
+            Kind::Caret => "a match always begins here, so ^ has no effect",
+            Kind::Dollar => "$ is the end of the window, not of a line",
+            Kind::NoBound => "the pattern has no bound on its length",
+            Kind::LineFeed => "the pattern matches a line feed too",
         }
     }
 

@@ -3,16 +3,21 @@
 
 mod after_loop;
 mod command;
+mod condition;
 mod finding;
 mod kept_array;
 mod kind;
 mod loops;
+mod names;
+mod never;
+mod no_index;
+mod other_word;
+mod outcome;
 mod pattern;
 mod program;
-mod read_names;
 mod same;
 mod sides;
-mod truths;
+mod words;
 
 pub use finding::{Finding, Remark};
 pub use kind::{Kind, Rank};

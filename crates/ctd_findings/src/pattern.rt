@@ -3,7 +3,7 @@
 use crate::command::remark_if;
 use crate::finding::Remark;
 use crate::kind::Kind;
-use ctd_names::Collector;
+use ctd_traps::Collector;
 use regex_class::Class;
 use regex_hir::{Hir, Look};
 use regex_syntax::{Config, ErrorKind, Flags, Parsed, parse};
@@ -32,7 +32,7 @@ enum Edge {
 }
 
 /// The tree that `regex` reads in a pattern, if it is one.
-fn tree_of(alloc: Global, pattern: &[u8]) -> Result<Option<Parsed>, AllocError> {
+pub(crate) fn tree_of(alloc: Global, pattern: &[u8]) -> Result<Option<Parsed>, AllocError> {
     let Ok(text) = from_utf8(pattern) else {
         return Ok(None);
     };
@@ -208,7 +208,7 @@ fn hides_alternative(tree: &Hir) -> bool {
 }
 
 /// The trees that stand in a tree, and itself.
-fn parts_of(alloc: Global, tree: &Hir) -> Result<Vec<&Hir>, AllocError> {
+pub(crate) fn parts_of(alloc: Global, tree: &Hir) -> Result<Vec<&Hir>, AllocError> {
     let mut found = Collector::new(alloc);
     list_parts(tree, &mut found);
     found.finish()

@@ -1,38 +1,45 @@
 //! The findings of a program.
 
-ghost use Rattle.std.specs.Prelude.{◌≡◌, List, All, Contains, IfOk};
+ghost use Rattle.std.specs.Prelude.{◌≡◌, List, All, Contains, IfOk, IfSome};
 ghost use Rattle.ctd_token.specs.declared.text.Place.{Place};
+ghost use Rattle.ctd_program.specs.Tree.{CommandList};
+ghost use Rattle.ctd_program.specs.declared.preset.Preset.{Preset};
 ghost use Rattle.ctd_program.specs.calls.View.{command_trees};
-ghost use Rattle.ctd_names.specs.calls.Collector.{Adds, items_in};
-ghost use Rattle.ctd_facts.specs.calls.LiteralValues.{no_variables};
-ghost use Rattle.ctd_findings.specs.calls.Findings.{IsPlaced, places_of};
-ghost use Rattle.ctd_findings.specs.inner.Placed.{AllPlaced, findings_at, places_in};
+ghost use Rattle.ctd_findings.specs.calls.Findings.{IsPlaced, IsTrueOfRuns, places_of};
+ghost use Rattle.ctd_findings.specs.inner.Never.{AllHave, IsSaid};
+ghost use Rattle.ctd_findings.specs.inner.Sound.{AllSound, IsSound, places_in};
+ghost use Rattle.ctd_traps.specs.calls.Events.{NeverHappens, events_of};
+ghost use Rattle.ctd_traps.specs.declared.note.Note.{Note};
 
 use crate::command::command_remarks;
 use crate::finding::{Finding, Remark};
 use crate::kind::Kind;
-use crate::read_names::{ReadNames, names_with, read_names};
-use ctd_facts::{Known, known_of};
-use ctd_names::{Collector, CommandInBlock, NameSet, Role, all_commands, all_mentions};
+use crate::names::{ProgramNames, program_names};
+use crate::never::{NeverAt, is_backed, never_at};
+use crate::outcome::{Outcomes, outcomes_of};
 use ctd_program::{Command, Preset, Presets};
 use ctd_token::{Bytes, Place};
+use ctd_traps::{Collector, CommandInBlock, Note, TrapList, all_commands, all_mentions};
 use std::alloc::{AllocError, Global};
+use std::collections::BTreeSet;
 
 /// Where a program starts.
 const START: Place = Place { line: 1, column: 1 };
 
-/// Adds remarks at a place.
-fn place_all(place: Place, remarks: Vec<Remark>, found: &mut Collector<Finding>)
-    ensures adds { Adds (items_in found.old) (findings_at place remarks.items) (items_in found.new) }
+/// Adds the remarks at a place that are backed by what never happens there.
+fn place_all(place: Place, remarks: Vec<Remark>, at: NeverAt, found: &mut Collector<Finding>)
+    ensures sound { (places : List Place) (never : List Note) → Contains places place → AllHave at (IsSaid never place) → AllSound places never found.old → AllSound places never found.new }
 {
     for remark in remarks {
-        found.add(Finding { place, remark });
+        if is_backed(remark.kind, at) {
+            found.add(Finding { place, remark });
+        }
     }
 }
 
 /// Adds the finding on a preset that the program does not mention.
 fn list_unknown(alloc: Global, preset: &Preset, found: &mut Collector<Finding>)
-    ensures placed { (places : List Place) → AllPlaced places found.old → AllPlaced places found.new }
+    ensures sound { (places : List Place) (never : List Note) → AllSound places never found.old → AllSound places never found.new }
 {
     match Bytes::copy(alloc, preset.name.as_slice()) {
         Ok(name) => found.add(Finding {
@@ -50,48 +57,62 @@ fn list_unknown(alloc: Global, preset: &Preset, found: &mut Collector<Finding>)
 fn list_not_mentioned<'p>(
     alloc: Global,
     presets: &'p [Preset],
-    mentioned: &NameSet<'p>,
+    mentioned: &BTreeSet<&'p [u8]>,
     found: &mut Collector<Finding>,
 )
-    ensures placed { (places : List Place) → AllPlaced places found.old → AllPlaced places found.new }
+    ensures sound { (places : List Place) (never : List Note) → AllSound places never found.old → AllSound places never found.new }
 {
     for preset in presets {
-        if !mentioned.contains(&preset.name) {
+        if !mentioned.contains(&preset.name.as_slice()) {
             list_unknown(alloc, preset, found);
         }
     }
 }
 
-/// Adds the findings of a command.
+/// Adds the findings of a command, where these events never happen.
 fn list_command<'p>(
     alloc: Global,
     entry: &CommandInBlock<'p>,
-    known: &Known<'p>,
-    read: &ReadNames<'p>,
+    names: &ProgramNames<'p>,
+    outcomes: &Outcomes,
+    at: NeverAt,
     found: &mut Collector<Finding>,
 )
-    requires { known.now.nothing ≡ no_variables }
-    ensures placed { (places : List Place) → Contains places entry.now.command.now.place → AllPlaced places found.old → AllPlaced places found.new }
+    ensures sound { (places : List Place) (never : List Note) → Contains places entry.now.command.now.place → AllHave at (IsSaid never entry.now.command.now.place)
+        → AllSound places never found.old → AllSound places never found.new }
 {
-    match command_remarks(alloc, entry, known, read) {
-        Ok(remarks) => place_all(entry.command.place, remarks, found),
+    match command_remarks(alloc, entry, names, outcomes, at) {
+        Ok(remarks) => place_all(entry.command.place, remarks, at, found),
         Err(_) => found.fail(),
     }
 }
 
-/// Adds the findings of some commands.
+/// Adds the findings of some commands, where this never happens, in their order.
 fn list_commands<'p>(
     alloc: Global,
     commands: &[CommandInBlock<'p>],
-    known: &Known<'p>,
-    read: &ReadNames<'p>,
+    names: &ProgramNames<'p>,
+    outcomes: &Outcomes,
+    never: &[Note],
     found: &mut Collector<Finding>,
 )
-    requires { known.now.nothing ≡ no_variables }
-    ensures placed { AllPlaced (places_in commands.now) found.old → AllPlaced (places_in commands.now) found.new }
+    ensures sound { AllSound (places_in commands.now) never.now found.old → AllSound (places_in commands.now) never.now found.new }
 {
+    let mut next = 0;
     for entry in commands {
-        list_command(alloc, entry, known, read, found);
+        let (at, behind) = never_at(never, next, entry.command.place);
+        list_command(alloc, entry, names, outcomes, at, found);
+        next = behind;
+    }
+}
+
+/// What never happens, as far as it is told.
+fn never_in<'t>(told: &'t Option<TrapList<'_>>) -> &'t [Note]
+    ensures { (program : CommandList) (presets : List Preset) → IfSome told.now (λ list. NeverHappens program presets (events_of list.never.items)) → NeverHappens program presets (events_of result.now) }
+{
+    match told {
+        Some(list) => list.never.as_slice(),
+        None => &[],
     }
 }
 
@@ -100,27 +121,32 @@ fn findings_in<'p>(
     alloc: Global,
     commands: &[CommandInBlock<'p>],
     presets: &'p Presets,
+    told: &Option<TrapList<'_>>,
+    never: &[Note],
 ) -> Result<Vec<Finding>, AllocError>
-    ensures placed { IfOk result (λ found. All (IsPlaced (places_in commands.now)) found.items) }
+    ensures sound { IfOk result (λ found. All (IsSound (places_in commands.now) never.now) found.items) }
 {
     let mentions = all_mentions(alloc, commands)?;
-    let known = known_of(alloc, commands, mentions.as_slice(), presets)?;
-    let read = read_names(alloc, mentions.as_slice())?;
-    let mentioned = names_with(alloc, Role::Mentions, mentions.as_slice())?;
+    let names = program_names(alloc, commands, mentions.as_slice(), presets.pins())?;
+    let outcomes = outcomes_of(alloc, told, never)?;
     let mut found = Collector::new(alloc);
-    list_not_mentioned(alloc, presets.pins(), &mentioned, &mut found);
-    list_commands(alloc, commands, &known, &read, &mut found);
+    list_not_mentioned(alloc, presets.pins(), &names.mentioned, &mut found);
+    list_commands(alloc, commands, &names, &outcomes, never, &mut found);
     found.finish()
 }
 
-/// The findings of a program, where these presets are given: those of the presets, and then those of the commands in the order of the text.
+/// The findings of a program, where these presets are given, and the analysis tells this: those of the presets, and then those of the commands in the
+/// order of the text.
 pub fn findings<'p>(
     alloc: Global,
     commands: &'p [Command],
     presets: &'p Presets,
+    told: &Option<TrapList<'_>>,
 ) -> Result<Vec<Finding>, AllocError>
     ensures placed { IfOk result (λ found. All (IsPlaced (places_of (command_trees commands.now))) found.items) }
+    ensures meant { IfSome told.now (λ list. NeverHappens (command_trees commands.now) presets.now (events_of list.never.items))
+        → IfOk result (λ found. All (IsTrueOfRuns (command_trees commands.now) presets.now) found.items) }
 {
     let entries = all_commands(alloc, commands)?;
-    findings_in(alloc, entries.as_slice(), presets)
+    findings_in(alloc, entries.as_slice(), presets, told, never_in(told))
 }

@@ -5,7 +5,6 @@ ghost use Rattle.ctd_program.specs.calls.View.{test_tree};
 ghost use Rattle.ctd_findings.specs.inner.Sides.{ComparesOneTree};
 
 use crate::same::{has_variable, is_same};
-use ctd_names::is_in;
 use ctd_program::Test;
 use ctd_token::Name;
 
@@ -22,6 +21,16 @@ pub(crate) fn has_same_sides(t: &Test) -> bool
         Test::Compare(_, a, b) => has_variable(a) && is_same(a, b),
         Test::Match(_) | Test::IsEof | Test::Unique(_) | Test::InArray(_, _) => false,
     }
+}
+
+/// Whether a name is one of these.
+fn is_in(name: &Name, names: &[Name]) -> bool {
+    for other in names {
+        if other.as_slice() == name.as_slice() {
+            return true;
+        }
+    }
+    false
 }
 
 /// Whether one of these names stands twice.

@@ -7,7 +7,7 @@ use Rattle.ctd_program.specs.Tree.{CommandList}
 use Rattle.ctd_loader.specs.calls.Loading.{LoadsFrom}
 use Rattle.ctd_report.specs.Report.{on_err}
 use Rattle.ctd_findings.specs.declared.finding.Finding.{Finding}
-use Rattle.ctd_findings.specs.calls.Findings.{IsPlaced, places_of}
+use Rattle.ctd_findings.specs.calls.Findings.{IsPlaced, IsTrueOfRuns, places_of}
 use Rattle.ctd_lint_report.specs.declared.setup.LintSetup.{LintSetup}
 use Rattle.ctd_traps.specs.declared.program.TrapList.{TrapList}
 use Rattle.ctd_lint_report.specs.calls.Report.{AreRemarks, IsLintReport, call, program_report, remarks_of}
@@ -17,8 +17,8 @@ use Rattle.ctd_lint_report.specs.calls.Traps.{AreTraps}
 module _ {V P : Type 0} (tree_of : V → CommandList) (G : Ghosts P) (file : List ℕ) (setup : LintSetup) (old new : P) where
   -- a program that was loaded, its findings and its traps
   pub reports_program : (plan : V) (found : List Finding) (told : Option TrapList) → LoadsFrom tree_of G old new (Ok plan) → All (IsPlaced (places_of (tree_of plan))) found
-      → AreTraps (tree_of plan) setup.presets told → IsLintReport AreRemarks file setup (call G old new) (program_report file setup (remarks_of file setup found told) told)
-  reports_program plan found told l placed are =
+      → All (IsTrueOfRuns (tree_of plan) setup.presets) found → AreTraps (tree_of plan) setup.presets told → IsLintReport AreRemarks file setup (call G old new) (program_report file setup (remarks_of file setup found told) told)
+  reports_program plan found told l placed meant are =
       inl (record {
         tree = tree_of plan;
         text = l.bytes;
@@ -27,7 +27,7 @@ module _ {V P : Type 0} (tree_of : V → CommandList) (G : Ghosts P) (file : Lis
         told = told;
         traps = are;
         remarks = remarks_of file setup found told;
-        remarked = record { found = found; placed = placed; remarks_are = refl };
+        remarked = record { found = found; placed = placed; meant = meant; remarks_are = refl };
         report_is = refl;
       })
 

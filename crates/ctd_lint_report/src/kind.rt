@@ -1,7 +1,7 @@
 //! The kinds of traps, and the kinds that the command line names.
 
 ghost use Rattle.std.specs.Prelude.{◌≡◌};
-ghost use Rattle.ctd_lint_report.specs.calls.Kinds.{is_element, is_ignored, is_mistyped, is_shape, is_shown_by_default, lint_kind_name, lint_kind_named, trap_name, trap_named_among, trap_text};
+ghost use Rattle.ctd_lint_report.specs.calls.Kinds.{is_element, is_ignored, is_mistyped, is_shape, is_shown_by_default, is_told_kind, is_valueless, lint_kind_name, lint_kind_named, trap_name, trap_named_among, trap_text};
 
 use ctd_findings::Kind;
 use ctd_known::TrapKind;
@@ -80,12 +80,33 @@ pub(crate) fn is_shape(kind: TrapKind) -> bool
     }
 }
 
+/// Whether a trap is that of a variable without a value.
+fn is_valueless(kind: TrapKind) -> bool
+    ensures { result ≡ is_valueless kind }
+{
+    match kind {
+        TrapKind::NoValue => true,
+        _ => false,
+    }
+}
+
 /// Whether a trap is of a wrong type.
-pub(crate) fn is_mistyped(kind: TrapKind) -> bool
+fn is_mistyped(kind: TrapKind) -> bool
     ensures { result ≡ is_mistyped kind }
 {
     match kind {
         TrapKind::WrongType => true,
+        _ => false,
+    }
+}
+
+/// Whether a finding of a kind tells a trap of a kind too.
+pub(crate) fn is_told_kind(kind: Kind, trap: TrapKind) -> bool
+    ensures { result ≡ is_told_kind kind trap }
+{
+    match kind {
+        Kind::NoValue => is_valueless(trap),
+        Kind::WrongSort => is_mistyped(trap),
         _ => false,
     }
 }

@@ -6,7 +6,7 @@ ghost use Rattle.ctd_report.specs.Report.{on_err};
 ghost use Rattle.ctd_report.specs.calls.Written.{Leaves};
 ghost use Rattle.ctd_report.specs.Written.{WritesOneOf, before_after};
 ghost use Rattle.ctd_lint_report.specs.calls.Reasons.{reason_of};
-ghost use Rattle.ctd_lint_report.specs.calls.Report.{AreRemarks, IsLintReport, call, findings_status, is_of_wrong_type, mistyped_places, names_of, program_lines, program_report, program_status, remarks_of};
+ghost use Rattle.ctd_lint_report.specs.calls.Report.{AreRemarks, IsLintReport, call, findings_status, is_told, names_of, program_lines, program_report, program_status, remarks_of};
 ghost use Rattle.ctd_lint_report.specs.calls.Text.{error_line, kept};
 ghost use Rattle.ctd_lint_report.specs.calls.Traps.{verdict_lines, verdict_status};
 
@@ -14,11 +14,11 @@ use crate::kind::{LintKind, is_ignored};
 use crate::setup::LintSetup;
 use crate::text::{error_text, findings_text};
 use crate::traps::{some_open, too_large_text, traps_text, write_verdict_line};
-use ctd_findings::{Finding, Kind, Rank, findings};
+use ctd_findings::{Finding, Rank, findings};
 use ctd_loader::Plan;
 use ctd_report::{NO_VERDICT, Sink, ToolFault, write_report};
 use ctd_source::Source;
-use ctd_token::{Bytes, LoadFault, LoadKind, Place};
+use ctd_token::{Bytes, LoadFault, LoadKind};
 use ctd_traps::{TrapList, traps};
 use std::alloc::{AllocError, Global};
 
@@ -71,49 +71,21 @@ fn program_status(
     own.max(verdict_status(setup, told))
 }
 
-/// Whether a finding is of a wrong type.
-fn is_of_wrong_type(kind: Kind) -> bool
-    ensures { result ≡ is_of_wrong_type kind }
-{
-    match kind {
-        Kind::WrongSort => true,
-        _ => false,
-    }
-}
-
-/// The places of findings that tell of a wrong type, but for those of kinds that are left out.
-fn mistyped_places(
-    alloc: Global,
-    found: &[Finding],
-    ignored: &[LintKind],
-) -> Result<Vec<Place>, AllocError>
-    ensures { IfOk result (λ places. places.items ≡ mistyped_places (kept ignored.now found.now)) }
-{
-    let mut places = Vec::new(alloc);
-    for finding in found {
-        let kind = finding.remark.kind;
-        if !is_ignored(kind.name(), ignored) && is_of_wrong_type(kind) {
-            places.push(finding.place)?;
-        }
-    }
-    Ok(places)
-}
-
-/// What is written of the traps of a program, but for wrong types of which findings at these places tell.
+/// What is written of the traps of a program, but for those that findings tell too.
 fn verdict_text(
     alloc: Global,
     file: &[u8],
     setup: &LintSetup,
-    mistyped: &[Place],
+    found: &[Finding],
     told: &Option<TrapList<'_>>,
 ) -> Result<Vec<u8>, AllocError>
-    ensures { IfOk result (λ text. text.items ≡ verdict_lines file.now setup.now (reason_of (names_of told.now)) mistyped.now told.now) }
+    ensures { IfOk result (λ text. text.items ≡ verdict_lines file.now setup.now (reason_of (names_of told.now)) (is_told (kept setup.now.ignored.items found.now)) told.now) }
 {
     let Some(list) = told else {
         return too_large_text(alloc, file);
     };
     let traps = list.findings.as_slice();
-    let mut text = traps_text(alloc, file, setup, mistyped, list.names.as_slice(), traps)?;
+    let mut text = traps_text(alloc, file, setup, found, list.names.as_slice(), traps)?;
     write_verdict_line(file, setup, traps, &mut text)?;
     Ok(text)
 }
@@ -130,8 +102,7 @@ fn program_text(
 {
     let ignored = setup.ignored.as_slice();
     let mut text = findings_text(alloc, file.as_slice(), found, ignored)?;
-    let mistyped = mistyped_places(alloc, found, ignored)?;
-    let lines = verdict_text(alloc, file.as_slice(), setup, mistyped.as_slice(), told)?;
+    let lines = verdict_text(alloc, file.as_slice(), setup, found, told)?;
     text.extend_from_slice(lines.as_slice())?;
     Ok(text)
 }
@@ -197,7 +168,7 @@ pub fn lint<P: Source, O: Sink, E: Sink>(
             _ => return write_refusal(alloc, file, &fault, out, err),
         },
     };
-    let found = findings(alloc, plan.commands(), &setup.presets)?;
     let told = traps(alloc, plan.commands(), &setup.presets)?;
+    let found = findings(alloc, plan.commands(), &setup.presets, &told)?;
     write_program(alloc, setup, file, found.as_slice(), &told, out, err)
 }

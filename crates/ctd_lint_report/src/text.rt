@@ -1,53 +1,14 @@
 //! How findings and faults are written: as compilers do, so that editors find their places.
 
 ghost use Rattle.std.specs.Prelude.{◌≡◌, ◌++◌, decimal, OnOk, IfOk};
-ghost use Rattle.ctd_lint_report.specs.calls.Text.{error_line, fault_place_text, finding_line, findings_lines, kept, kind_text, name_text, open_line, rank_text, remark_text};
+ghost use Rattle.ctd_lint_report.specs.calls.Text.{error_line, fault_place_text, finding_line, findings_lines, kept, name_text, open_line, rank_text, remark_text};
 ghost use Rattle.ctd_lint_report.specs.calls.Traps.{place_text};
 
 use crate::kind::{LintKind, is_ignored};
-use ctd_findings::{Finding, Kind, Rank, Remark};
+use ctd_findings::{Finding, Rank, Remark};
 use ctd_token::{Bytes, LoadFault, Place};
 use itoa::Buffer;
 use std::alloc::{AllocError, Global};
-
-/// What a kind of findings says, without the name of a variable.
-fn kind_text(kind: Kind) -> &'static str
-    ensures { result.now ≡ kind_text kind }
-{
-    match kind {
-        Kind::UnknownPreset => "the program does not mention this name",
-        Kind::Unreachable => "never reached: the loop before does not end",
-        Kind::AfterEof => "nothing can come here: EOF before it asks for the end of the data",
-        Kind::NoValue => "nothing gives this name a value (give it a default by SET, or one by -D)",
-        Kind::Unread => "nothing reads this variable",
-        Kind::OwnReads => "only its own assignments read this variable",
-        Kind::WrongSort =>
-            "a number stands where a string is wanted, or a string where a number is wanted",
-        Kind::LiteralIndex =>
-            "nothing reads this counter, and the loop sets an element by a literal index",
-        Kind::CounterSet => "a command in the loop sets its counter too",
-        Kind::CounterBehind =>
-            "the counter is read behind the loop, where it is the number of turns",
-        Kind::RangeTrue => "the test is true for all numbers that INT gives its variables",
-        Kind::RangeFalse => "the test is false for all numbers that INT gives its variables",
-        Kind::RepeatsBounds => "the test asks for no more than the bounds of INT",
-        Kind::KeptArray =>
-            "each turn of this loop also sees what earlier turns put into this array (see UNSET)",
-        Kind::AlwaysTrue => "the test is true whatever the data are",
-        Kind::AlwaysFalse => "the test is false whatever the data are",
-        Kind::SameSides => "the two sides of a comparison are the same",
-        Kind::SameNames => "UNIQUE has a name twice",
-        Kind::EmptyRange => "the least integer is above the greatest",
-        Kind::EmptyString => "the string is empty",
-        Kind::EmptyPattern => "the pattern is empty",
-        Kind::LetterRange => "A-z has six signs that are no letters, from [ to `",
-        Kind::HiddenAlternative => "an alternative is never taken: an earlier one is its beginning",
-        Kind::Caret => "a match always begins here, so ^ has no effect",
-        Kind::Dollar => "$ is the end of the window, not of a line",
-        Kind::NoBound => "the pattern has no bound on its length",
-        Kind::LineFeed => "the pattern matches a line feed too",
-    }
-}
 
 /// The word of a rank.
 fn rank_text(rank: Rank) -> &'static str
@@ -76,7 +37,7 @@ fn write_remark(remark: &Remark, text: &mut Vec<u8>) -> Result<(), AllocError>
 {
     text.extend_from_slice(rank_text(remark.kind.rank()).as_bytes())?;
     text.extend_from_slice(b": ")?;
-    text.extend_from_slice(kind_text(remark.kind).as_bytes())?;
+    text.extend_from_slice(remark.kind.text().as_bytes())?;
     write_name(&remark.name, text)?;
     text.extend_from_slice(b" [")?;
     text.extend_from_slice(remark.kind.name().as_bytes())?;

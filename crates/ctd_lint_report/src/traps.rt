@@ -4,15 +4,18 @@ ghost use Rattle.std.specs.Prelude.{◌≡◌, ◌++◌, OnOk, IfOk, if◌then�
 ghost use Rattle.std.specs.List.{list_any};
 ghost use Rattle.ctd_lint_report.specs.calls.Kinds.{is_shown_by_default, trap_name};
 ghost use Rattle.ctd_lint_report.specs.calls.Reasons.{reason_of};
-ghost use Rattle.ctd_lint_report.specs.calls.Traps.{condition_text, every_text, is_kind_shown, is_open, is_place_before, is_same_place, is_shown, is_told_already, kept_traps, places_behind, places_text, some_element, some_shape, some_shown_by_default, too_large_line, trap_line, traps_lines, verdict_line, verdict_text};
+ghost use Rattle.ctd_lint_report.specs.calls.Report.{is_told, tells};
+ghost use Rattle.ctd_lint_report.specs.calls.Text.{kept};
+ghost use Rattle.ctd_lint_report.specs.calls.Traps.{condition_text, every_text, is_kind_shown, is_open, is_place_before, is_same_place, is_shown, kept_traps, places_behind, places_text, some_element, some_shape, some_shown_by_default, too_large_line, trap_line, traps_lines, verdict_line, verdict_text};
 
 use crate::kind::{
-    LintKind, is_element, is_ignored, is_mistyped, is_shape, is_shown_by_default, trap_name,
+    LintKind, is_element, is_ignored, is_shape, is_shown_by_default, is_told_kind, trap_name,
     trap_text,
 };
 use crate::reason::write_reason;
 use crate::setup::LintSetup;
 use crate::text::write_place;
+use ctd_findings::Finding;
 use ctd_known::TrapKind;
 use ctd_token::Place;
 use ctd_traps::Finding as Trap;
@@ -26,23 +29,23 @@ fn is_same_place(a: Place, b: Place) -> bool
     a.line == b.line && a.column == b.column
 }
 
-/// Whether a place is among others.
-fn is_among(place: Place, places: &[Place]) -> bool
-    ensures { result ≡ list_any (λ p. is_same_place p place) places.now }
+/// Whether a finding tells a trap too.
+fn tells(finding: &Finding, trap: &Trap) -> bool
+    ensures { result ≡ tells finding.now trap.now }
 {
-    for other in places {
-        if is_same_place(*other, place) {
+    is_same_place(finding.place, trap.place) && is_told_kind(finding.remark.kind, trap.kind)
+}
+
+/// Whether one of some findings tells a trap too, but for those of kinds that are left out.
+fn is_told(found: &[Finding], ignored: &[LintKind], trap: &Trap) -> bool
+    ensures { result ≡ is_told (kept ignored.now found.now) trap.now }
+{
+    for finding in found {
+        if !is_ignored(finding.remark.kind.name(), ignored) && tells(finding, trap) {
             return true;
         }
     }
     false
-}
-
-/// Whether a trap is of a wrong type, of which a finding at its place tells.
-fn is_told_already(mistyped: &[Place], trap: &Trap) -> bool
-    ensures { result ≡ is_told_already mistyped.now trap.now }
-{
-    is_mistyped(trap.kind) && is_among(trap.place, mistyped)
 }
 
 /// Whether traps of a kind are shown.
@@ -54,10 +57,10 @@ fn is_kind_shown(kind: TrapKind, setup: &LintSetup) -> bool
 }
 
 /// Whether a trap is shown.
-fn is_shown(setup: &LintSetup, mistyped: &[Place], trap: &Trap) -> bool
-    ensures { result ≡ is_shown setup.now mistyped.now trap.now }
+fn is_shown(setup: &LintSetup, found: &[Finding], trap: &Trap) -> bool
+    ensures { result ≡ is_shown setup.now (is_told (kept setup.now.ignored.items found.now)) trap.now }
 {
-    is_kind_shown(trap.kind, setup) && !is_told_already(mistyped, trap)
+    is_kind_shown(trap.kind, setup) && !is_told(found, setup.ignored.as_slice(), trap)
 }
 
 /// Appends the line of a trap in a file.
@@ -84,15 +87,15 @@ pub(crate) fn traps_text(
     alloc: Global,
     file: &[u8],
     setup: &LintSetup,
-    mistyped: &[Place],
+    found: &[Finding],
     names: &[&[u8]],
     traps: &[Trap],
 ) -> Result<Vec<u8>, AllocError>
-    ensures { IfOk result (λ text. text.items ≡ traps_lines file.now (reason_of names.now) (kept_traps setup.now mistyped.now traps.now)) }
+    ensures { IfOk result (λ text. text.items ≡ traps_lines file.now (reason_of names.now) (kept_traps setup.now (is_told (kept setup.now.ignored.items found.now)) traps.now)) }
 {
     let mut text = Vec::new(alloc);
     for trap in traps {
-        if is_shown(setup, mistyped, trap) {
+        if is_shown(setup, found, trap) {
             write_trap(file, names, trap, &mut text)?;
         }
     }

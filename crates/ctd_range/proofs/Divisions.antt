@@ -1,5 +1,5 @@
 -- What divisions and powers give.
-use Rattle.std.proofs.Common.{◌≡◌, ◌≤◌, ◌<◌, zero, suc, nat_lt, ◌*◌, ◌^◌, ◌%◌, ℕ, Bool, true, false, ℤ, pos, negsuc, neg_ℤ, ◌≤ℤ◌, ◌<ℤ◌, unsigned_abs, inl, inr, refl, pow-suc, le_trans, Option, Some, None, arith}
+use Rattle.std.proofs.Common.{◌≡◌, ◌≤◌, ◌<◌, zero, suc, nat_lt, ◌*◌, ◌^◌, ◌%◌, ℕ, Bool, true, false, ℤ, pos, negsuc, neg_ℤ, ◌≤ℤ◌, ◌<ℤ◌, unsigned_abs, inl, inr, refl, pow-suc, le_trans, Option, Some, None, unwrap_or, arith}
 use lib.Signed.{lt_z}
 use Rattle.std.specs.Prelude.{int_rem, IfSome}
 use Rattle.std.specs.Option.{SomeIff}
@@ -58,21 +58,26 @@ one_power : (e : ℕ) → 1 ^ e ≡ 1
 one_power zero = refl
 one_power (suc e) = let next : 1 ^ suc e ≡ 1 ^ e * 1 = pow-suc 1 e in let is = one_power e in omega (arith, next, is)
 
-least_power : (p e : ℕ) (l : ℤ) → l ≤ℤ pos p → l ≤ℤ pos 1 → l ≤ℤ pos (p ^ e)
-least_power zero e l h k = omega (arith, ints, h)
-least_power (suc p) e l h k = let one : 1 ^ e ≤ suc p ^ e = pow-le-pow_left {n = 1} {m = suc p} (omega arith) e in let is : 1 ^ e ≡ 1 = one_power e in omega (arith, ints, k)
+-- a power is 1 at least, if its base is
+pub one_at_least : (p e : ℕ) → pos 1 ≤ℤ pos p → pos 1 ≤ℤ pos (p ^ e)
+one_at_least p e some =
+    let one : 1 ^ e ≤ p ^ e = pow-le-pow_left {n = 1} {m = p} (omega (arith, ints, some)) e in
+    let is : 1 ^ e ≡ 1 = one_power e in
+    omega (arith, ints)
 
 power_of : (c : Computed) (n p e : ℕ) → e < 2 ^ 64 → Covers c n (in_range (pos (p ^ e))) → Covers c n (power (pos p) (pos e))
 power_of c n p e less covers = let yes : nat_lt e (2 ^ 64) ≡ true = grind (arith, nat_tests, less) in rw yes covers
 
-pub power_up_to : (l most base exponent : ℤ) (bad : Bool) (n : ℕ) (x y : ℤ) → FitsSigned w128 l → FitsSigned w128 most → l ≤ℤ x → l ≤ℤ pos 1 → pos 0 ≤ℤ x → x ≤ℤ base → (bad ≡ false → IsCount y) → y ≤ℤ exponent → ((p e : ℕ) → pos p ≤ℤ base → pos e ≤ℤ exponent → (e < 2 ^ 64) × (pos (p ^ e) ≤ℤ most))
+pub power_up_to : (l most low few base exponent : ℤ) (bad : Bool) (n : ℕ) (x y : ℤ) → FitsSigned w128 l → FitsSigned w128 most
+    → low ≤ℤ x → few ≤ℤ y → ((p e : ℕ) → low ≤ℤ pos p → few ≤ℤ pos e → l ≤ℤ pos (p ^ e))
+    → pos 0 ≤ℤ x → x ≤ℤ base → (bad ≡ false → IsCount y) → y ≤ℤ exponent → ((p e : ℕ) → pos p ≤ℤ base → pos e ≤ℤ exponent → (e < 2 ^ 64) × (pos (p ^ e) ≤ℤ most))
     → Covers (record { range = record { low = l; high = most; rise = 0; fall = 0 }; overflows = false; divides_by_zero = false; has_bad_exponent = bad }) n (power x y)
-power_up_to l most base exponent bad n (negsuc x) y fits_low fits_high a b c d counts f up = absurd (omega (arith, ints, c))
-power_up_to l most base exponent bad n (pos p) (negsuc y) fits_low fits_high a b c d counts f up = not_false bad counts
-power_up_to l most base exponent bad n (pos p) (pos i) fits_low fits_high a b c d counts f up =
+power_up_to l most low few base exponent bad n (negsuc x) y fits_low fits_high a b down c d counts f up = absurd (omega (arith, ints, c))
+power_up_to l most low few base exponent bad n (pos p) (negsuc y) fits_low fits_high a b down c d counts f up = not_false bad counts
+power_up_to l most low few base exponent bad n (pos p) (pos i) fits_low fits_high a b down c d counts f up =
     let found = up p i d f in
     let result : Computed = record { range = record { low = l; high = most; rise = 0; fall = 0 }; overflows = false; divides_by_zero = false; has_bad_exponent = bad } in
-    power_of result n p i found.0 (covers_inside result n (pos (p ^ i)) fits_low fits_high (record { low = omega (arith, ints, least_power p i l a b); high = omega (arith, ints, found.1) }))
+    power_of result n p i found.0 (covers_inside result n (pos (p ^ i)) fits_low fits_high (record { low = omega (arith, ints, down p i a b); high = omega (arith, ints, found.1) }))
 
 below_power : (q k p e : ℕ) → 1 ≤ q → p ≤ q → e ≤ k → p ^ e ≤ q ^ k
 below_power q k p e some less fewer = le_trans (pow-le-pow_left {n = p} {m = q} less e) (pow-le-pow_right {n = q} some {i = e} {j = k} fewer)
@@ -83,6 +88,20 @@ all_below q k base exponent most some up to few is p e below fewer =
     let least : e ≤ k = omega (arith, ints, to, fewer) in
     let power : p ^ e ≤ q ^ k = below_power q k p e some less least in
     (omega (arith, least, few), omega (arith, ints, power, is))
+
+-- the power of this base, if it is a value, and else 1: no power of a greater base by a greater exponent is below
+least_or_one : (q k : ℕ) (exponent : ℤ) (o : Option ℤ) → 1 ≤ q → pos k ≤ℤ exponent → SomeIff o (FitsSigned w128 (pos (q ^ k))) (pos (q ^ k))
+    → (p e : ℕ) → pos q ≤ℤ pos p → exponent ≤ℤ pos e → unwrap_or o (pos 1) ≤ℤ pos (p ^ e)
+least_or_one q k exponent None some to iff p e above more = one_at_least p e (omega (arith, ints, some, above))
+least_or_one q k exponent (Some least) some to iff p e above more =
+    let power : q ^ k ≤ p ^ e = below_power p e q k (omega (arith, ints, some, above)) (omega (arith, ints, above)) (omega (arith, ints, to, more)) in
+    let is = iff.1 in
+    omega (arith, ints, power, is)
+
+pub least_is : (base exponent : ℤ) (k : ℕ) (o : Option ℤ) → pos 1 ≤ℤ base → pos k ≤ℤ exponent → SomeIff o (FitsSigned w128 (int_pow base k)) (int_pow base k)
+    → (p e : ℕ) → base ≤ℤ pos p → exponent ≤ℤ pos e → unwrap_or o (pos 1) ≤ℤ pos (p ^ e)
+least_is (pos q) exponent k o some to iff = least_or_one q k exponent o (omega (arith, ints, some)) to iff
+least_is (negsuc q) exponent k o some to iff = absurd (omega (arith, ints, some))
 
 some_power : (q k : ℕ) (base exponent : ℤ) (o : Option ℤ) → 1 ≤ q → base ≤ℤ pos q → exponent ≤ℤ pos k → k < 2 ^ 32 → SomeIff o (FitsSigned w128 (pos (q ^ k))) (pos (q ^ k)) → IfSome o (λ most. (p e : ℕ) → pos p ≤ℤ base → pos e ≤ℤ exponent → (e < 2 ^ 64) × (pos (p ^ e) ≤ℤ most))
 some_power q k base exponent None some up to few iff = tt
@@ -95,6 +114,13 @@ greatest_is (negsuc q) base exponent k o some up to few iff = absurd (omega (ari
 pub as_count : (exponent : ℤ) (k : ℕ) → pos 0 ≤ℤ exponent → exponent <ℤ pos (2 ^ 32) → k ≡ unsigned_abs exponent → (exponent ≤ℤ pos k) × (k < 2 ^ 32)
 as_count (pos n) k some few is = (omega (arith, ints, is), omega (arith, ints, is, few))
 as_count (negsuc n) k some few is = absurd (omega (arith, ints, some))
+
+pub as_least : (exponent : ℤ) (k : ℕ) → pos 0 ≤ℤ exponent → k ≡ unsigned_abs exponent → pos k ≤ℤ exponent
+as_least (pos n) k some is = omega (arith, ints, is)
+as_least (negsuc n) k some is = absurd (omega (arith, ints, some))
+
+pub at_least_one : (a : ℤ) → lt_z a (pos 1) ≡ false → pos 1 ≤ℤ a
+at_least_one a is = grind (arith, ints)
 
 pub above_low : (r : Range) (l : ℤ) (n : ℕ) (x : ℤ) → l ≤ℤ r.low → IsIn r n x → l ≤ℤ x
 above_low r l n x less inside = let h = inside.low in omega (arith, ints, less, h)

@@ -317,6 +317,19 @@ fn greatest_power(base: i128, exponent: i128) -> Option<i128>
     }
 }
 
+/// A number that no power of numbers from this one on, by exponents from this one on, is below: the least of these powers where it is a value.
+fn least_power(base: i128, exponent: i128) -> i128
+    ensures { (p e : ℕ) → base ≤ℤ pos p → exponent ≤ℤ pos e → result ≤ℤ pos (p ^ e) }
+{
+    if base < 1 {
+        return 0;
+    }
+    match u32::try_from(exponent) {
+        Ok(n) => base.checked_pow(n).unwrap_or(1),
+        Err(_) => 1,
+    }
+}
+
 /// The power of a number by an exponent of a range.
 pub fn power(a: Range, b: Range) -> Computed
     ensures covers { (n : ℕ) (x y : ℤ) → IsIn a n x → IsIn b n y → Covers result n (power x y) }
@@ -327,7 +340,7 @@ pub fn power(a: Range, b: Range) -> Computed
             Some(most) => {
                 return Computed {
                     range: Range {
-                        low: a.low.min(1),
+                        low: least_power(a.low, b.low),
                         high: most,
                         rise: 0,
                         fall: 0,

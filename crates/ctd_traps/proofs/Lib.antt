@@ -16,3 +16,5 @@ pub mod Applying
 pub mod Deciding
 pub mod Comparing
 pub mod Dividing
+pub mod Additions
+pub mod Trees

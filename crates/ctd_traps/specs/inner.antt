@@ -9,3 +9,4 @@ pub mod Absent
 pub mod Triples
 pub mod PostFixpoint
 pub mod Walk
+pub mod Listed

@@ -6,15 +6,16 @@ ghost use Rattle.ctd_program.specs.declared.tree.Compare.{Compare};
 ghost use Rattle.ctd_store.specs.declared.value.Value.{Value};
 ghost use Rattle.ctd_outcome.specs.declared.reason.Fault.{Fault};
 ghost use Rattle.ctd_outcome.specs.declared.reason.Fault.TheVariants.{Shape};
-ghost use Rattle.ctd_value.specs.Truth.{compares};
+ghost use Rattle.ctd_value.specs.Truth.{compares, holds_by};
+ghost use Rattle.ctd_store.specs.Order.{bytes_cmp};
 ghost use Rattle.ctd_program.specs.Tree;
 ghost use Rattle.ctd_store.specs.declared.value.Value.TheVariants as values;
 ghost use Rattle.ctd_known.specs.calls.Facts.{MayBe, facts_in};
-ghost use Rattle.ctd_traps.specs.inner.Found.{IsFound, FailsBy, SplitsBy, AreSame};
+ghost use Rattle.ctd_traps.specs.inner.Found.{IsFound, FailsBy, SplitsBy, AreOne, AreSame, AreSameWith};
 ghost use Rattle.ctd_known.specs.calls.Faults.{IsAmong};
 
-use crate::cut::cut_both;
-use crate::expression::{Found, inspect, may_be_number, may_be_text, text_faults};
+use crate::cut::{cut_both, expect_value, leave_out};
+use crate::expression::{Found, inspect, may_be_number, may_be_text, text_alone, text_faults};
 use ctd_known::{
     Blame, Faults, Ground, Kinds, NO_BLAME, NameFacts, Stop, both, copy_of, no_faults,
 };
@@ -22,6 +23,7 @@ use ctd_program::{Compare, Expr, Test};
 use ctd_range::opposite_of;
 use ctd_token::Name;
 use std::alloc::Global;
+use std::cmp::Ordering;
 
 /// What is known where a test is true, and where it is false, and the faults that it may have.
 #[derive(Drop)]
@@ -42,6 +44,20 @@ fn same(alloc: Global, known: &[NameFacts], faults: Faults) -> Result<Branches, 
         if_false,
         faults,
     })
+}
+
+/// The same of a test that looks at one of some values: where there is none, no run comes.
+fn same_with(
+    alloc: Global,
+    kinds: Kinds,
+    known: &[NameFacts],
+    faults: Faults,
+) -> Result<Branches, Stop>
+    ensures { IfOk result (λ s. AreSameWith kinds known.now faults s) }
+{
+    let mut possible = copy_of(alloc, known)?;
+    expect_value(kinds, possible.as_mut_slice());
+    same(alloc, possible.as_slice(), faults)
 }
 
 /// Whether both are so.
@@ -101,6 +117,44 @@ fn shape_faults(names: &[Name]) -> Faults
     }
 }
 
+/// Whether a comparison holds of two that compare so.
+fn holds_by(by: Compare, order: Ordering) -> bool
+    ensures { result ≡ holds_by by order }
+{
+    match by {
+        Compare::Less => order.is_lt(),
+        Compare::Greater => order.is_gt(),
+        Compare::AtMost => order.is_le(),
+        Compare::AtLeast => order.is_ge(),
+        Compare::Equal => order.is_eq(),
+        Compare::Unequal => order.is_ne(),
+    }
+}
+
+/// What is known where a comparison of two literal strings is true, and where it is false: to one of the two no run comes.
+fn compare_literals(
+    alloc: Global,
+    by: Compare,
+    a: &[u8],
+    b: &[u8],
+    known: &[NameFacts],
+) -> Result<Branches, Stop>
+    ensures { IfOk result (λ s. AreOne known.now (holds_by by (bytes_cmp a.now b.now)) s) }
+{
+    let mut if_true = copy_of(alloc, known)?;
+    let mut if_false = copy_of(alloc, known)?;
+    if holds_by(by, a.cmp(b)) {
+        leave_out(if_false.as_mut_slice());
+    } else {
+        leave_out(if_true.as_mut_slice());
+    }
+    Ok(Branches {
+        if_true,
+        if_false,
+        faults: no_faults(),
+    })
+}
+
 /// What is known where a comparison is true, and where it is false.
 fn compare(
     ground: Ground<'_>,
@@ -111,6 +165,9 @@ fn compare(
 ) -> Result<Branches, Stop>
     ensures { IfOk result (λ s. SplitsBy (facts_in ground.entry known.now) (Tree.compare by (expr_tree a.now) (expr_tree b.now)) (facts_in ground.entry s.if_true.items) (facts_in ground.entry s.if_false.items) s.faults) }
 {
+    if let (Expr::Text(text), Expr::Text(other)) = (a, b) {
+        return compare_literals(ground.alloc, by, text.as_slice(), other.as_slice(), known);
+    }
     let one = inspect(a, ground.names, known)?;
     let other = inspect(b, ground.names, known)?;
     let if_true = cut_both(ground, known, by, a, b, one.kinds, other.kinds)?;
@@ -126,8 +183,13 @@ fn compare(
 fn split_match(ground: Ground<'_>, e: &Expr, known: &[NameFacts]) -> Result<Branches, Stop>
     ensures { IfOk result (λ s. SplitsBy (facts_in ground.entry known.now) (Tree.matches (expr_tree e.now)) (facts_in ground.entry s.if_true.items) (facts_in ground.entry s.if_false.items) s.faults) }
 {
-    let text = inspect(e, ground.names, known)?;
-    same(ground.alloc, known, text_faults(text))
+    let found = inspect(e, ground.names, known)?;
+    same_with(
+        ground.alloc,
+        text_alone(found.kinds),
+        known,
+        text_faults(found),
+    )
 }
 
 /// What is known where a test of one question is true, and where it is false. Of a test that is made of others nothing is told: its parts are asked.
@@ -141,7 +203,7 @@ pub(crate) fn split(ground: Ground<'_>, t: &Test, known: &[NameFacts]) -> Result
         Test::Unique(names) => same(ground.alloc, known, shape_faults(names.as_slice())),
         Test::InArray(e, _) => {
             let wanted = inspect(e, ground.names, known)?;
-            same(ground.alloc, known, wanted.faults)
+            same_with(ground.alloc, wanted.kinds, known, wanted.faults)
         }
         Test::Or(_, _) | Test::And(_, _) | Test::Not(_) => Err(Stop::NotTold),
     }

@@ -42,7 +42,7 @@ fn has_no_value(kinds: Kinds) -> bool
 
 /// Makes what is known that of no run: the entry behind the last name, which no variable has, neither has a value nor lacks one. No contract
 /// speaks of it, since all is so where no run comes.
-fn leave_out(known: &mut [NameFacts]) {
+pub(crate) fn leave_out(known: &mut [NameFacts]) {
     let none = Kinds {
         text: None,
         number: None,

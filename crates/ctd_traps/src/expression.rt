@@ -415,6 +415,16 @@ fn measure(a: Found) -> Found
     with_faults(own, a.faults)
 }
 
+/// The strings of some values.
+pub(crate) fn text_alone(kinds: Kinds) -> Kinds
+    ensures { (k : ℕ) (bytes : List ℕ) → MayBe kinds k (values.Text bytes) → MayBe result k (values.Text bytes) }
+{
+    Kinds {
+        text: kinds.text,
+        number: None,
+    }
+}
+
 /// The faults of an expression that has to be a string.
 pub(crate) fn text_faults(a: Found) -> Faults
     ensures { (k : ℕ) (r : Result Value Fault) → IsFound a k r → FailsBy result (as_text r) }

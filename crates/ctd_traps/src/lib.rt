@@ -3,19 +3,27 @@
 
 mod act;
 mod assign;
+mod block;
+mod collector;
 mod condition;
 mod cut;
 mod divide;
 mod expression;
 mod finding;
+mod mentions;
 mod names;
 mod never;
 mod note;
 mod program;
+mod roles;
 mod simple;
 mod turn;
 mod walk;
 
+pub use block::{CommandInBlock, all_commands};
+pub use collector::Collector;
 pub use finding::Finding;
+pub use mentions::{MentionedName, Use, all_mentions, list_mentions, mentions_of};
 pub use note::{EventKind, Note};
 pub use program::{TrapList, events_are_of_the_run, traps};
+pub use roles::{Role, has_role, is_in_role, names_in_role};

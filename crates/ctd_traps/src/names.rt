@@ -1,6 +1,7 @@
 //! The names of a program. No contract speaks of them: of a name that is not listed nothing is known.
 
-use ctd_names::{CommandInBlock, MentionedName, all_commands, all_mentions};
+use crate::block::{CommandInBlock, all_commands};
+use crate::mentions::{MentionedName, all_mentions};
 use ctd_program::{Action, Command, Preset, Presets};
 use std::alloc::{AllocError, Global};
 

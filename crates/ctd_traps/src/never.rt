@@ -3,8 +3,8 @@
 ghost use Rattle.std.specs.Prelude.{◌≡◌, true, false, List, IfOk, OnOk};
 ghost use Rattle.ctd_traps.specs.inner.Absent.{AreAbsent, HasAll, has_key, key_of, number_of_kind};
 
+use crate::block::all_commands;
 use crate::note::{EventKind, Note};
-use ctd_names::all_commands;
 use ctd_program::{Action, Command};
 use std::alloc::{AllocError, Global};
 use std::collections::HashSet;

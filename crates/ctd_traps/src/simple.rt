@@ -11,7 +11,7 @@ ghost use Rattle.ctd_traps.specs.inner.Walk.{Acts};
 
 use crate::assign::keep;
 use crate::cut::expect_value;
-use crate::expression::{inspect, number_faults, text_faults};
+use crate::expression::{inspect, number_faults, text_alone, text_faults};
 use ctd_known::{Faults, Ground, Kinds, Lengths, NameFacts, Stop, both};
 use ctd_program::{Expr, IntArguments, RegexArguments};
 use ctd_range::Range;
@@ -62,11 +62,7 @@ pub(crate) fn take_string(
     ensures { IfOk result (λ faults. Acts (pins_in ground.entry) (facts_in ground.entry known.old) (facts_in ground.entry known.new) faults (string (expr_tree e.now))) }
 {
     let found = inspect(e, ground.names, known)?;
-    let text = Kinds {
-        text: found.kinds.text,
-        number: None,
-    };
-    expect_value(text, known);
+    expect_value(text_alone(found.kinds), known);
     Ok(text_faults(found))
 }
 

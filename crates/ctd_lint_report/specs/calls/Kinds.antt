@@ -1,4 +1,5 @@
 -- The kinds of traps, and what --ignore names.
+use Rattle.ctd_findings.specs.declared.kind.Kind.TheVariants as findings
 use Rattle.ctd_known.specs.declared.faults.TrapKind.TheVariants as traps
 use Rattle.ctd_lint_report.specs.declared.kind.LintKind.TheVariants as kinds
 use Rattle.std.specs.Prelude.{ℕ, Bool, true, false, List, [], ◌∷◌, codes, Option, Some, None, if◌then◌else◌}
@@ -6,7 +7,7 @@ use Rattle.std.specs.List.{list_any}
 use Rattle.std.specs.Str.{bytes_eq}
 use Rattle.ctd_known.specs.declared.faults.TrapKind.{TrapKind}
 use Rattle.ctd_findings.specs.declared.kind.Kind.{Kind}
-use Rattle.ctd_findings.specs.calls.Kinds.{kind_name, kind_named}
+use Rattle.ctd_findings.specs.calls.Kinds.{kind_named, kind_row}
 use Rattle.ctd_lint_report.specs.declared.kind.LintKind.{LintKind}
 
 -- all kinds of traps
@@ -45,10 +46,21 @@ abbrev pub is_shape : TrapKind → Bool
 is_shape traps.OtherShape = true
 is_shape _ = false
 
+-- whether a trap is that of a variable without a value
+abbrev pub is_valueless : TrapKind → Bool
+is_valueless traps.NoValue = true
+is_valueless _ = false
+
 -- whether a trap is of a wrong type
 abbrev pub is_mistyped : TrapKind → Bool
 is_mistyped traps.WrongType = true
 is_mistyped _ = false
+
+-- whether a finding of a kind tells a trap of a kind too
+abbrev pub is_told_kind : Kind → TrapKind → Bool
+is_told_kind findings.NoValue trap = is_valueless trap
+is_told_kind findings.WrongSort trap = is_mistyped trap
+is_told_kind kind trap = false
 
 -- whether a trap is neither of an element nor of arrays in UNIQUE, of which most are listed though no data can spring them
 abbrev pub is_shown_by_default : TrapKind → Bool
@@ -63,7 +75,7 @@ trap_named_among (k ∷ rest) name = if bytes_eq (trap_name k) name then Some k 
 
 -- the name of a kind of findings or of traps
 abbrev pub lint_kind_name : LintKind → List ℕ
-lint_kind_name (kinds.Finding kind) = kind_name kind
+lint_kind_name (kinds.Finding kind) = (kind_row kind).name
 lint_kind_name (kinds.Trap kind) = trap_name kind
 
 -- a kind of findings, or one of traps, if there is one

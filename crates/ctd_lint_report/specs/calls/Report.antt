@@ -1,27 +1,26 @@
 -- What ctd-lint writes of a program.
-use Rattle.ctd_findings.specs.declared.kind.Kind.TheVariants as kinds
 use Rattle.ctd_findings.specs.declared.kind.Rank.TheVariants as ranks
-use Rattle.std.specs.Prelude.{◌≡◌, ◌⊎◌, ◌+◌, ◌≤◌, ◌++◌, ℕ, Bool, true, false, List, [], ◌∷◌, All, length, max, Option, Some, None, if◌then◌else◌}
+use Rattle.std.specs.Prelude.{◌≡◌, ◌⊎◌, ◌+◌, ◌≤◌, ◌++◌, ◌&&◌, ℕ, Bool, List, [], ◌∷◌, All, length, max, Option, Some, None, if◌then◌else◌}
 use Rattle.std.specs.Borrow.{Bor}
+use Rattle.std.specs.List.{list_any}
 use Rattle.ctd_source.specs.declared.source.Source.{Ghosts}
 use Rattle.ctd_source.specs.SourceReads.{GaveBytes}
 use Rattle.ctd_token.specs.declared.fault.LoadFault.{LoadFault}
 use Rattle.ctd_token.specs.declared.limits.TheConstants.{PROGRAM_LIMIT}
-use Rattle.ctd_token.specs.declared.text.Place.{Place}
 use Rattle.ctd_program.specs.Tree.{CommandList}
 use Rattle.ctd_loader.specs.Loading.{Loads, MayFail}
 use Rattle.ctd_report.specs.Report.{Report, on_err, on_out}
 use Rattle.ctd_findings.specs.declared.finding.Finding.{Finding}
-use Rattle.ctd_findings.specs.declared.kind.Kind.{Kind}
 use Rattle.ctd_findings.specs.declared.kind.Rank.{Rank}
-use Rattle.ctd_findings.specs.calls.Findings.{IsPlaced, places_of}
-use Rattle.ctd_findings.specs.calls.Kinds.{rank}
+use Rattle.ctd_findings.specs.calls.Findings.{IsPlaced, IsTrueOfRuns, places_of}
+use Rattle.ctd_findings.specs.calls.Kinds.{kind_row}
 use Rattle.ctd_lint_report.specs.declared.setup.LintSetup.{LintSetup}
 use Rattle.ctd_traps.specs.declared.finding.Finding.{Finding as Trap}
 use Rattle.ctd_traps.specs.declared.program.TrapList.{TrapList}
+use Rattle.ctd_lint_report.specs.calls.Kinds.{is_told_kind}
 use Rattle.ctd_lint_report.specs.calls.Reasons.{reason_of}
 use Rattle.ctd_lint_report.specs.calls.Text.{error_line, findings_lines, kept}
-use Rattle.ctd_lint_report.specs.calls.Traps.{AreTraps, verdict_lines, verdict_status}
+use Rattle.ctd_lint_report.specs.calls.Traps.{AreTraps, is_same_place, verdict_lines, verdict_status}
 
 -- a source as a call begins and as it ends
 pub record Call {S : Type 0} (G : Ghosts S) : Type 0 where
@@ -32,11 +31,11 @@ pub record Call {S : Type 0} (G : Ghosts S) : Type 0 where
 abbrev pub call : {S : Type 0} (G : Ghosts S) → S → S → Call G
 call G old new = record { old = old; new = new }
 
--- what a report says besides traps and verdicts: the lines of findings, the status that these ask for, the places where one tells of a wrong type, and the reason of each trap
+-- what a report says besides traps and verdicts: the lines of findings, the status that these ask for, whether they tell a trap too, and the reason of each trap
 pub record Remarks : Type 0 where
   pub lines : List ℕ
   pub status : ℕ
-  pub mistyped : List Place
+  pub told : Trap → Bool
   pub reason : Trap → List ℕ
 
 -- which remarks a report may have on a program in a file, whose traps are told
@@ -45,7 +44,7 @@ Remarking = List ℕ → LintSetup → CommandList → Option TrapList → Remar
 
 -- the remarks, then the traps, and then the line that tells of verdicts, if it is asked for
 abbrev pub program_lines : List ℕ → LintSetup → Remarks → Option TrapList → List ℕ
-program_lines file setup remarks told = remarks.lines ++ verdict_lines file setup remarks.reason remarks.mistyped told
+program_lines file setup remarks told = remarks.lines ++ verdict_lines file setup remarks.reason remarks.told told
 
 -- the status: that of the remarks, and where verdicts are asked for the greater of it and theirs
 abbrev pub program_status : LintSetup → Remarks → Option TrapList → ℕ
@@ -88,17 +87,15 @@ status_with ranks.Warning others = 1
 -- the status: 1 where a finding is a warning, else 0
 abbrev pub findings_status : List Finding → ℕ
 findings_status [] = 0
-findings_status (f ∷ rest) = status_with (rank f.remark.kind) (findings_status rest)
+findings_status (f ∷ rest) = status_with (kind_row f.remark.kind).rank (findings_status rest)
 
--- whether a finding is of a wrong type
-abbrev pub is_of_wrong_type : Kind → Bool
-is_of_wrong_type kinds.WrongSort = true
-is_of_wrong_type _ = false
+-- whether a finding tells a trap too
+abbrev pub tells : Finding → Trap → Bool
+tells f t = is_same_place f.place t.place && is_told_kind f.remark.kind t.kind
 
--- the places of findings that tell of a wrong type
-abbrev pub mistyped_places : List Finding → List Place
-mistyped_places [] = []
-mistyped_places (f ∷ rest) = if is_of_wrong_type f.remark.kind then f.place ∷ mistyped_places rest else mistyped_places rest
+-- whether one of some findings does
+abbrev pub is_told : List Finding → Trap → Bool
+is_told found t = list_any (λ f. tells f t) found
 
 -- the names to which traps refer
 abbrev pub names_of : Option TrapList → List (Bor (List ℕ))
@@ -110,12 +107,13 @@ abbrev pub remarks_of : List ℕ → LintSetup → List Finding → Option TrapL
 remarks_of file setup found told = record {
   lines = findings_lines file (kept setup.ignored.items found);
   status = findings_status (kept setup.ignored.items found);
-  mistyped = mistyped_places (kept setup.ignored.items found);
+  told = is_told (kept setup.ignored.items found);
   reason = reason_of (names_of told);
 }
 
--- the remarks are those of some findings, each of which has the place of a command
+-- the remarks are those of some findings, each of which has the place of a command, and is so in all runs if it says something of them
 pub record AreRemarks (file : List ℕ) (setup : LintSetup) (program : CommandList) (told : Option TrapList) (remarks : Remarks) : Type 0 where
   pub found : List Finding
   pub placed : All (IsPlaced (places_of program)) found
+  pub meant : All (IsTrueOfRuns program setup.presets) found
   pub remarks_are : remarks ≡ remarks_of file setup found told

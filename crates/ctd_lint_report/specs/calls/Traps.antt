@@ -11,7 +11,7 @@ use Rattle.ctd_traps.specs.calls.Traps.{HasEachTrap, traps_of}
 use Rattle.ctd_lint_report.specs.declared.kind.LintKind.{LintKind}
 use Rattle.ctd_lint_report.specs.declared.setup.LintSetup.{LintSetup}
 use Rattle.ctd_known.specs.declared.faults.TrapKind.{TrapKind}
-use Rattle.ctd_lint_report.specs.calls.Kinds.{is_element, is_ignored, is_mistyped, is_shape, is_shown_by_default, trap_name, trap_text}
+use Rattle.ctd_lint_report.specs.calls.Kinds.{is_element, is_ignored, is_shape, is_shown_by_default, trap_name, trap_text}
 
 -- These are all places at which a run of a program may stop by a fault of a value, if they are told.
 abbrev pub AreTraps : CommandList → List Preset → Option TrapList → Type 0
@@ -21,22 +21,18 @@ AreTraps program presets told = IfSome told (λ list. HasEachTrap program preset
 abbrev pub is_same_place : Place → Place → Bool
 is_same_place p q = nat_eq p.line q.line && nat_eq p.column q.column
 
--- whether a trap is of a wrong type, of which a finding at its place tells
-abbrev pub is_told_already : List Place → Trap → Bool
-is_told_already mistyped t = is_mistyped t.kind && list_any (λ p. is_same_place p t.place) mistyped
-
 -- whether traps of a kind are shown: those of elements and arrays only where that is asked for
 abbrev pub is_kind_shown : LintSetup → Bool → List ℕ → Bool
 is_kind_shown setup by_default name = (by_default || setup.elements) && not (is_ignored setup.ignored.items name)
 
--- whether a trap is shown
-abbrev pub is_shown : LintSetup → List Place → Trap → Bool
-is_shown setup mistyped t = is_kind_shown setup (is_shown_by_default t.kind) (trap_name t.kind) && not (is_told_already mistyped t)
+-- whether a trap is shown: not where a line of a finding tells it
+abbrev pub is_shown : LintSetup → (Trap → Bool) → Trap → Bool
+is_shown setup told t = is_kind_shown setup (is_shown_by_default t.kind) (trap_name t.kind) && not (told t)
 
 -- the traps that are shown
-abbrev pub kept_traps : LintSetup → List Place → List Trap → List Trap
-kept_traps setup mistyped [] = []
-kept_traps setup mistyped (t ∷ rest) = if is_shown setup mistyped t then t ∷ kept_traps setup mistyped rest else kept_traps setup mistyped rest
+abbrev pub kept_traps : LintSetup → (Trap → Bool) → List Trap → List Trap
+kept_traps setup told [] = []
+kept_traps setup told (t ∷ rest) = if is_shown setup told t then t ∷ kept_traps setup told rest else kept_traps setup told rest
 
 -- a place behind the name of a file
 abbrev pub place_text : Place → List ℕ
@@ -101,10 +97,10 @@ abbrev pub too_large_line : List ℕ → List ℕ
 too_large_line file = file ++ codes ": too large to tell\n"
 
 -- what is written of the traps of a program: a line for each that is shown, and the last line, if it is asked for; or that they cannot be told
-abbrev pub verdict_lines : List ℕ → LintSetup → (Trap → List ℕ) → List Place → Option TrapList → List ℕ
-verdict_lines file setup reason mistyped None = too_large_line file
-verdict_lines file setup reason mistyped (Some list) =
-    traps_lines file reason (kept_traps setup mistyped list.findings.items) ++ (if setup.verdicts then verdict_line file list.findings.items else [])
+abbrev pub verdict_lines : List ℕ → LintSetup → (Trap → List ℕ) → (Trap → Bool) → Option TrapList → List ℕ
+verdict_lines file setup reason told None = too_large_line file
+verdict_lines file setup reason told (Some list) =
+    traps_lines file reason (kept_traps setup told list.findings.items) ++ (if setup.verdicts then verdict_line file list.findings.items else [])
 
 -- whether traps of a kind leave open whether each data file gets a verdict: not where they are of elements or arrays, and --ignore accepts them
 abbrev pub is_open : List LintKind → TrapKind → Bool

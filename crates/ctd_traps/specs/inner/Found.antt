@@ -10,6 +10,7 @@ use Rattle.ctd_value.specs.Val.{val, vals, number, text}
 use Rattle.ctd_value.specs.Truth.{truth}
 use Rattle.ctd_known.specs.declared.faults.Faults.{Faults}
 use Rattle.ctd_traps.specs.declared.expression.Found.{Found}
+use Rattle.ctd_known.specs.declared.facts.Kinds.{Kinds}
 use Rattle.ctd_known.specs.declared.facts.NameFacts.{NameFacts}
 use Rattle.ctd_known.specs.calls.Facts.{Known, MayBe, EachStands}
 use Rattle.ctd_known.specs.calls.Faults.{IsAmong}
@@ -60,3 +61,14 @@ pub record AreSame (known : List NameFacts) (f : Faults) (s : Branches) : Type 0
   pub if_true : s.if_true.items ≡ known
   pub if_false : s.if_false.items ≡ known
   pub faults : s.faults ≡ f
+
+-- the same of a test that looks at one of some values
+pub record AreSameWith (kinds : Kinds) (known : List NameFacts) (f : Faults) (s : Branches) : Type 0 where
+  pub if_true : (k : ℕ) (v : Value) → MayBe kinds k v → s.if_true.items ≡ known
+  pub if_false : (k : ℕ) (v : Value) → MayBe kinds k v → s.if_false.items ≡ known
+  pub faults : s.faults ≡ f
+
+-- what was known is known where a test has the one answer that it can have, and no fault
+pub record AreOne (known : List NameFacts) (answer : Bool) (s : Branches) : Type 0 where
+  pub if_true : answer ≡ true → s.if_true.items ≡ known
+  pub if_false : answer ≡ false → s.if_false.items ≡ known

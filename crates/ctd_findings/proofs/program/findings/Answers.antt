@@ -1,13 +1,22 @@
 use Rattle.std.proofs.Common.{All, IfOk, List, map, ap, subst, ◌∙◌}
 use Rattle.ctd_token.specs.declared.text.Place.{Place}
 use Rattle.ctd_program.specs.calls.Places.{place_of}
-use Rattle.ctd_names.specs.calls.Listed.{trees_of}
+use Rattle.ctd_program.specs.calls.View.{command_trees}
+use Rattle.ctd_traps.specs.calls.Commands.{trees_of}
 use Rattle.ctd_findings.specs.calls.Findings.{IsPlaced}
-use Rattle.ctd_findings.proofs.Placed.{same_places}
+use Rattle.ctd_findings.specs.inner.Sound.{places_in}
+use Rattle.ctd_findings.proofs.Sound.{are_meant, are_placed, same_places}
 use Rattle.ctd_findings.proofs.program.findings.Goals as goal
 
 pub returns : goal.returns
-returns c = record {
-  placed = subst (λ (places : List Place). IfOk c.findings_in.result (λ found. All (IsPlaced places) found.items))
-      (same_places c.as_slice.result.now ∙ ap (map place_of) (ap trees_of c.as_slice.ensures.value ∙ c.in_ok-entries.ensures.all)) c.findings_in.ensures.placed;
-}
+returns c =
+    let entries = c.as_slice.result.now in
+    let never = c.never_in.result.now in
+    let found = c.findings_in.result in
+    let tree = command_trees c.args.commands.now in
+    record {
+      placed = subst (λ (places : List Place). IfOk found (λ v. All (IsPlaced places) v.items))
+          (same_places entries ∙ ap (map place_of) (ap trees_of c.as_slice.ensures.value ∙ c.in_ok-entries.ensures.all))
+          (are_placed (λ v. v.items) (places_in entries) never found c.findings_in.ensures.sound);
+      meant = λ none. are_meant (λ v. v.items) (places_in entries) never tree c.args.presets.now found (c.never_in.ensures tree c.args.presets.now none) c.findings_in.ensures.sound;
+    }

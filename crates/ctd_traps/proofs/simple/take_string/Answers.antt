@@ -9,4 +9,4 @@ pub returns : goal.returns
 returns c =
     let g = c.args.ground in
     string_acts (pins_in g) (facts_in g c.args.known.now) (facts_in g c.expect_value.new.known) (expr_tree c.args.e.now) c.in_ok-found.found c.text_faults.result c.in_ok-found.ensures c.text_faults.ensures
-    (λ k bytes may. ap (facts_in g) (c.expect_value.ensures k (values.Text bytes) may))
+    (λ k bytes may. ap (facts_in g) (c.expect_value.ensures k (values.Text bytes) (c.text_alone.ensures k bytes may)))

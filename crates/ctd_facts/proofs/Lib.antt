@@ -1,4 +1,0 @@
-pub mod Everywhere
-pub mod Facts
-pub mod InRange
-pub mod RangeMaps

@@ -1,6 +1,0 @@
-use Rattle.std.proofs.Common.{arith}
-use Rattle.std.proofs.lemmas.Grind.{common_steps}
-use Rattle.ctd_facts.proofs.sort.assignments_mix.Goals as goal
-
-pub loop-a-preserved : goal.loop-a-preserved
-loop-a-preserved c = grind (arith, common_steps)

@@ -1,0 +1,53 @@
+//! The names of a program, by what it does with them.
+
+use crate::no_index::names_at_indices;
+use crate::other_word::compared_words;
+use crate::words::Words;
+use ctd_program::Preset;
+use ctd_traps::{CommandInBlock, MentionedName, Role, names_in_role};
+use std::alloc::{AllocError, Global};
+use std::collections::BTreeSet;
+
+/// The names of a program, by their bytes.
+pub(crate) struct ProgramNames<'p> {
+    pub(crate) mentioned: BTreeSet<&'p [u8]>,
+    /// Those that the program or a preset gives a value.
+    pub(crate) given: BTreeSet<&'p [u8]>,
+    pub(crate) read: BTreeSet<&'p [u8]>,
+    /// Those that it reads elsewhere than in their own assignments.
+    pub(crate) read_elsewhere: BTreeSet<&'p [u8]>,
+    /// Those that get values at indices.
+    pub(crate) at_indices: BTreeSet<&'p [u8]>,
+    /// The words of those that it compares with strings.
+    pub(crate) words: Words<'p>,
+}
+
+impl<'p> Drop for ProgramNames<'p> {
+    fn drop(self) {
+        let ProgramNames {
+            mentioned: _,
+            given: _,
+            read: _,
+            read_elsewhere: _,
+            at_indices: _,
+            words: _,
+        } = self;
+    }
+}
+
+/// The names of some commands, which mention these, where these presets are given.
+pub(crate) fn program_names<'p>(
+    alloc: Global,
+    commands: &[CommandInBlock<'p>],
+    mentions: &[MentionedName<'p>],
+    presets: &'p [Preset],
+) -> Result<ProgramNames<'p>, AllocError> {
+    Ok(ProgramNames {
+        mentioned: names_in_role(alloc, Role::Mentions, mentions, &[])?,
+        given: names_in_role(alloc, Role::Gives, mentions, presets)?,
+        read: names_in_role(alloc, Role::Reads, mentions, &[])?,
+        read_elsewhere: names_in_role(alloc, Role::ReadsElsewhere, mentions, &[])?,
+        at_indices: names_at_indices(alloc, mentions, presets)?,
+        words: compared_words(alloc, commands, presets)?,
+    })
+}

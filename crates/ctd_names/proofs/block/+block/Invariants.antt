@@ -1,9 +1,0 @@
-use Rattle.std.proofs.Common.{drop}
-use Rattle.ctd_program.specs.calls.View.{command_trees}
-use Rattle.ctd_names.specs.calls.Commands.{all_commands}
-use Rattle.ctd_names.specs.inner.Views.{trees_in}
-use Rattle.ctd_names.proofs.Additions.{Leads}
-use Rattle.ctd_names.proofs.block.+block.Given as goal
-
-abbrev pub invariant-list_block-loop-i : goal.invariant-list_block-loop-i
-invariant-list_block-loop-i l = Leads (trees_in l.initial.found) (all_commands (command_trees l.commands)) (trees_in l.found) (all_commands (command_trees (drop l.i l.commands)))

@@ -1,6 +1,0 @@
-use Rattle.std.proofs.Common.{arith}
-use Rattle.std.proofs.lemmas.Grind.{common_steps}
-use Rattle.ctd_names.proofs.roles.list_in_role.Goals as goal
-
-pub loop-m-preserved : goal.loop-m-preserved
-loop-m-preserved c = grind (arith, common_steps)

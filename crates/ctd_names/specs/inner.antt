@@ -1,2 +1,0 @@
--- What only the proofs of this crate use.
-pub mod Views
