@@ -4,7 +4,7 @@ use Rattle.ctd_syntax.specs.Lexeme.{Lexeme, keyword, mark}
 use Rattle.ctd_program.specs.Tree
 use Rattle.ctd_program.specs.Tree.{ExprTree, ExprList, VarTree}
 use Rattle.ctd_syntax.specs.Grammar.{IsExpr, IsSigned, unsigned, minus, IsPower, atom, power, IsExponent, positive, negative, IsAtom, numeral, text, variable, strlen, group, IsTarget, IsVariable, unindexed, indexed, IsExprs}
-use Rattle.ctd_syntax.specs.inner.Front.{HasTree, HasNoTree, Always, IsBefore}
+use Rattle.ctd_syntax.specs.inner.Front.{OneTree, NoTree, Always, IsBefore}
 use Rattle.ctd_syntax.specs.inner.Levels.{ends}
 use Rattle.ctd_token.specs.declared.text.Place.{Place}
 use Rattle.ctd_token.specs.declared.token.Mark.{Mark}
@@ -36,7 +36,7 @@ open_goes_on us s h e = let lt : 4 < 4 = subst (ends 4) e h in omega (arith, lt)
 same_rest : {rest r s : List Lexeme} {t : Lexeme} → rest ≡ t ∷ r → rest ≡ t ∷ s → r ≡ s
 same_rest e f = cc
 
-pub variable_plain : (tokens r : List Lexeme) (b : List ℕ) → tokens ≡ Lexeme.name b ∷ r → ((s : List Lexeme) → r ≡ mark OpenIndex ∷ s → ⊥) → HasTree IsTarget (ends 4) tokens (record { name = b; indices = Tree.none }) r
+pub variable_plain : (tokens r : List Lexeme) (b : List ℕ) → tokens ≡ Lexeme.name b ∷ r → ((s : List Lexeme) → r ≡ mark OpenIndex ∷ s → ⊥) → OneTree IsTarget (ends 4) tokens (record { name = b; indices = Tree.none }) r
 unfolding VariableAt
 variable_plain tokens r b e none = record {
   front = Lexeme.name b ∷ [];
@@ -48,7 +48,7 @@ variable_plain tokens r b e none = record {
   ];
 }
 
-pub variable_indexed : (tokens r s after : List Lexeme) (b : List ℕ) (l : ExprList) → tokens ≡ Lexeme.name b ∷ r → r ≡ mark OpenIndex ∷ s → HasTree (IsBefore CloseIndex IsExprs) Always s l after → HasTree IsTarget (ends 4) tokens (record { name = b; indices = l }) after
+pub variable_indexed : (tokens r s after : List Lexeme) (b : List ℕ) (l : ExprList) → tokens ≡ Lexeme.name b ∷ r → r ≡ mark OpenIndex ∷ s → OneTree (IsBefore CloseIndex IsExprs) Always s l after → OneTree IsTarget (ends 4) tokens (record { name = b; indices = l }) after
 unfolding VariableAt
 variable_indexed tokens r s after b l e o f = record {
   front = Lexeme.name b ∷ mark OpenIndex ∷ f.front;
@@ -62,7 +62,7 @@ variable_indexed tokens r s after b l e o f = record {
   ];
 }
 
-pub variable_bad_index : (tokens r s : List Lexeme) (b : List ℕ) → tokens ≡ Lexeme.name b ∷ r → r ≡ mark OpenIndex ∷ s → HasNoTree (IsBefore CloseIndex IsExprs) Always s → HasNoTree IsTarget (ends 4) tokens
+pub variable_bad_index : (tokens r s : List Lexeme) (b : List ℕ) → tokens ≡ Lexeme.name b ∷ r → r ≡ mark OpenIndex ∷ s → NoTree (IsBefore CloseIndex IsExprs) Always s → NoTree IsTarget (ends 4) tokens
 unfolding VariableAt
 variable_bad_index tokens r s b e o not ts us u split h w = elim (variable_at b r ts us u.name u.indices (sym e ∙ split) w) [
   | inl same ↦ open_goes_on us s h (same.2 ∙ o)
@@ -102,7 +102,7 @@ signed_minus : (ts us r : List Lexeme) (u : ExprTree) → mark Minus ∷ r ≡ t
 signed_minus ts us r u e (unsigned p) = absurd (power_head ts us r u e p)
 signed_minus ts us r u e (minus {ts = vs} {a} i) = let k : r ≡ vs ++ us = cc in (vs, a, k, refl, i)
 
-pub minus_reads : (tokens r after : List Lexeme) (a : ExprTree) → tokens ≡ mark Minus ∷ r → HasTree IsSigned (ends 3) r a after → HasTree IsSigned (ends 3) tokens (Tree.minus a) after
+pub minus_reads : (tokens r after : List Lexeme) (a : ExprTree) → tokens ≡ mark Minus ∷ r → OneTree IsSigned (ends 3) r a after → OneTree IsSigned (ends 3) tokens (Tree.minus a) after
 minus_reads tokens r after a e f = record {
   front = mark Minus ∷ f.front;
   split = e ∙ ap (λ l. mark Minus ∷ l) f.split;
@@ -113,14 +113,14 @@ minus_reads tokens r after a e f = record {
       (i.3 ∙ ap Tree.minus same.0, same.1);
 }
 
-pub minus_none : (tokens r : List Lexeme) → tokens ≡ mark Minus ∷ r → HasNoTree IsSigned (ends 3) r → HasNoTree IsSigned (ends 3) tokens
+pub minus_none : (tokens r : List Lexeme) → tokens ≡ mark Minus ∷ r → NoTree IsSigned (ends 3) r → NoTree IsSigned (ends 3) tokens
 minus_none tokens r e not ts us u split ends w = let i = signed_minus ts us r u (sym e ∙ split) w in not i.0 us i.1 i.2 ends i.4
 
 signed_power : (tokens ts us : List Lexeme) (u : ExprTree) → ((r : List Lexeme) → tokens ≡ mark Minus ∷ r → ⊥) → tokens ≡ ts ++ us → IsSigned ts u → IsPower ts u
 signed_power tokens ts us u none e (unsigned p) = p
 signed_power tokens ts us u none e (minus {ts = vs} {a} i) = absurd (none (vs ++ us) e)
 
-pub power_is_signed : (tokens : List Lexeme) → ((r : List Lexeme) → tokens ≡ mark Minus ∷ r → ⊥) → (a : ExprTree) (after : List Lexeme) → HasTree IsPower (ends 3) tokens a after → HasTree IsSigned (ends 3) tokens a after
+pub power_is_signed : (tokens : List Lexeme) → ((r : List Lexeme) → tokens ≡ mark Minus ∷ r → ⊥) → (a : ExprTree) (after : List Lexeme) → OneTree IsPower (ends 3) tokens a after → OneTree IsSigned (ends 3) tokens a after
 power_is_signed tokens none a after f = record {
   front = f.front;
   split = f.split;
@@ -128,11 +128,11 @@ power_is_signed tokens none a after f = record {
   only = λ ts us u split ends w. f.only ts us u split ends (signed_power tokens ts us u none split w);
 }
 
-pub no_power_signed : (tokens : List Lexeme) → ((r : List Lexeme) → tokens ≡ mark Minus ∷ r → ⊥) → HasNoTree IsPower (ends 3) tokens → HasNoTree IsSigned (ends 3) tokens
+pub no_power_signed : (tokens : List Lexeme) → ((r : List Lexeme) → tokens ≡ mark Minus ∷ r → ⊥) → NoTree IsPower (ends 3) tokens → NoTree IsSigned (ends 3) tokens
 no_power_signed tokens none not ts us u split ends w = not ts us u split ends (signed_power tokens ts us u none split w)
 
 -- an exponent is what is signed
-exponent_of : {ts : List Lexeme} {a : ExprTree} → IsSigned ts a → IsExponent ts a
+pub exponent_of : {ts : List Lexeme} {a : ExprTree} → IsSigned ts a → IsExponent ts a
 exponent_of (unsigned p) = positive p
 exponent_of (minus i) = negative (exponent_of i)
 
@@ -144,7 +144,7 @@ signed_of (negative i) = minus (signed_of i)
 After : (rest : List Lexeme) (a : ExprTree) (us : List Lexeme) (u : ExprTree) → Type 0
 After rest a us u = ((u ≡ a) × (us ≡ rest)) ⊎ ((vs : List Lexeme) × (b : ExprTree) × (rest ≡ mark Caret ∷ (vs ++ us)) × (u ≡ Tree.power a b) × IsExponent vs b)
 
-power_after : (tokens rest ts us : List Lexeme) (a u : ExprTree) → HasTree IsAtom (ends 4) tokens a rest → tokens ≡ ts ++ us → ends 3 us → IsPower ts u → After rest a us u
+power_after : (tokens rest ts us : List Lexeme) (a u : ExprTree) → OneTree IsAtom (ends 4) tokens a rest → tokens ≡ ts ++ us → ends 3 us → IsPower ts u → After rest a us u
 unfolding After
 power_after tokens rest ts us a u f e ends (atom i) = inl (f.only ts us u e (ends_weaker 3 4 (omega arith) us ends) i)
 power_after tokens rest ts us a u f e ends (power {ts = vs} {us = ws} {a = c} {b} i j) =
@@ -152,7 +152,7 @@ power_after tokens rest ts us a u f e ends (power {ts = vs} {us = ws} {a = c} {b
     let same = f.only vs (mark Caret ∷ (ws ++ us)) c (e ∙ append_assoc vs (mark Caret ∷ ws) us) ended i in
     inr (ws, b, sym same.1, ap (λ x. Tree.power x b) same.0, j)
 
-pub power_reads : (tokens rest r after : List Lexeme) (a b : ExprTree) → HasTree IsAtom (ends 4) tokens a rest → rest ≡ mark Caret ∷ r → HasTree IsSigned (ends 3) r b after → HasTree IsPower (ends 3) tokens (Tree.power a b) after
+pub power_reads : (tokens rest r after : List Lexeme) (a b : ExprTree) → OneTree IsAtom (ends 4) tokens a rest → rest ≡ mark Caret ∷ r → OneTree IsSigned (ends 3) r b after → OneTree IsPower (ends 3) tokens (Tree.power a b) after
 unfolding After
 power_reads tokens rest r after a b f e g = record {
   front = f.front ++ mark Caret ∷ g.front;
@@ -173,14 +173,14 @@ power_reads tokens rest r after a b f e g = record {
     tails : {rest r s : List Lexeme} → rest ≡ mark Caret ∷ r → rest ≡ mark Caret ∷ s → r ≡ s
     tails e f = cc
 
-pub power_none : (tokens rest r : List Lexeme) (a : ExprTree) → HasTree IsAtom (ends 4) tokens a rest → rest ≡ mark Caret ∷ r → HasNoTree IsSigned (ends 3) r → HasNoTree IsPower (ends 3) tokens
+pub power_none : (tokens rest r : List Lexeme) (a : ExprTree) → OneTree IsAtom (ends 4) tokens a rest → rest ≡ mark Caret ∷ r → NoTree IsSigned (ends 3) r → NoTree IsPower (ends 3) tokens
 unfolding After
 power_none tokens rest r a f e not ts us u split h w = elim (power_after tokens rest ts us a u f split h w) [
   | inl same ↦ (let lt : 3 < 3 = subst (ends 3) (same.1 ∙ e) h in omega (arith, lt))
   | inr i ↦ (let k : r ≡ i.0 ++ us = cc in not i.0 us i.1 k h (signed_of i.4))
 ]
 
-pub atom_is_power : (tokens rest : List Lexeme) (a : ExprTree) → HasTree IsAtom (ends 4) tokens a rest → ((r : List Lexeme) → rest ≡ mark Caret ∷ r → ⊥) → HasTree IsPower (ends 3) tokens a rest
+pub atom_is_power : (tokens rest : List Lexeme) (a : ExprTree) → OneTree IsAtom (ends 4) tokens a rest → ((r : List Lexeme) → rest ≡ mark Caret ∷ r → ⊥) → OneTree IsPower (ends 3) tokens a rest
 unfolding After
 atom_is_power tokens rest a f none = record {
   front = f.front;
@@ -192,20 +192,20 @@ atom_is_power tokens rest a f none = record {
   ];
 }
 
-pub no_atom_power : (tokens : List Lexeme) → HasNoTree IsAtom (ends 4) tokens → HasNoTree IsPower (ends 3) tokens
+pub no_atom_power : (tokens : List Lexeme) → NoTree IsAtom (ends 4) tokens → NoTree IsPower (ends 3) tokens
 no_atom_power tokens not ts us u split h (atom i) = not ts us u split (ends_weaker 3 4 (omega arith) us h) i
 no_atom_power tokens not ts us u split h (power {ts = vs} {us = ws} {a = c} i j) =
     let ended : 3 < 4 = omega arith in
     not vs (mark Caret ∷ (ws ++ us)) c (split ∙ append_assoc vs (mark Caret ∷ ws) us) ended i
 
 -- atoms
-pub numeral_reads : (tokens r : List Lexeme) (n : ℤ) → tokens ≡ Lexeme.numeral n ∷ r → HasTree IsAtom (ends 4) tokens (Tree.numeral n) r
+pub numeral_reads : (tokens r : List Lexeme) (n : ℤ) → tokens ≡ Lexeme.numeral n ∷ r → OneTree IsAtom (ends 4) tokens (Tree.numeral n) r
 numeral_reads tokens r n e = record { front = Lexeme.numeral n ∷ []; split = e; spells = numeral; only = λ ts us u split h w. atom_at (Lexeme.numeral n) r ts us u (sym e ∙ split) w }
 
-pub text_reads : (tokens r : List Lexeme) (b : List ℕ) (at : Place) → tokens ≡ Lexeme.text b at ∷ r → HasTree IsAtom (ends 4) tokens (Tree.text b) r
+pub text_reads : (tokens r : List Lexeme) (b : List ℕ) (at : Place) → tokens ≡ Lexeme.text b at ∷ r → OneTree IsAtom (ends 4) tokens (Tree.text b) r
 text_reads tokens r b at e = record { front = Lexeme.text b at ∷ []; split = e; spells = text; only = λ ts us u split h w. atom_at (Lexeme.text b at) r ts us u (sym e ∙ split) w }
 
-pub variable_reads : (tokens r after : List Lexeme) (b : List ℕ) (v : VarTree) → tokens ≡ Lexeme.name b ∷ r → HasTree IsTarget (ends 4) tokens v after → HasTree IsAtom (ends 4) tokens (Tree.variable v.name v.indices) after
+pub variable_reads : (tokens r after : List Lexeme) (b : List ℕ) (v : VarTree) → tokens ≡ Lexeme.name b ∷ r → OneTree IsTarget (ends 4) tokens v after → OneTree IsAtom (ends 4) tokens (Tree.variable v.name v.indices) after
 variable_reads tokens r after b v e f = record {
   front = f.front;
   split = f.split;
@@ -216,12 +216,12 @@ variable_reads tokens r after b v e f = record {
       (i.3 ∙ ap (λ x. Tree.variable x.name x.indices) same.0, same.1);
 }
 
-pub variable_none : (tokens r : List Lexeme) (b : List ℕ) → tokens ≡ Lexeme.name b ∷ r → HasNoTree IsTarget (ends 4) tokens → HasNoTree IsAtom (ends 4) tokens
+pub variable_none : (tokens r : List Lexeme) (b : List ℕ) → tokens ≡ Lexeme.name b ∷ r → NoTree IsTarget (ends 4) tokens → NoTree IsAtom (ends 4) tokens
 variable_none tokens r b e not ts us u split h w =
     let i = atom_at (Lexeme.name b) r ts us u (sym e ∙ split) w in
     not i.0 us i.1 (e ∙ i.2) h i.4
 
-pub strlen_reads : (tokens r s after : List Lexeme) (a : ExprTree) (at : Place) → tokens ≡ keyword Strlen at ∷ r → r ≡ mark Open ∷ s → HasTree (IsBefore Close IsExpr) Always s a after → HasTree IsAtom (ends 4) tokens (Tree.strlen a) after
+pub strlen_reads : (tokens r s after : List Lexeme) (a : ExprTree) (at : Place) → tokens ≡ keyword Strlen at ∷ r → r ≡ mark Open ∷ s → OneTree (IsBefore Close IsExpr) Always s a after → OneTree IsAtom (ends 4) tokens (Tree.strlen a) after
 strlen_reads tokens r s after a at e o f = record {
   front = keyword Strlen at ∷ mark Open ∷ f.front;
   split = e ∙ ap (λ l. keyword Strlen at ∷ l) (o ∙ ap (λ l. mark Open ∷ l) f.split);
@@ -233,13 +233,13 @@ strlen_reads tokens r s after a at e o f = record {
       (i.3 ∙ ap Tree.strlen same.0, same.1);
 }
 
-pub strlen_none : (tokens r s : List Lexeme) (at : Place) → tokens ≡ keyword Strlen at ∷ r → r ≡ mark Open ∷ s → HasNoTree (IsBefore Close IsExpr) Always s → HasNoTree IsAtom (ends 4) tokens
+pub strlen_none : (tokens r s : List Lexeme) (at : Place) → tokens ≡ keyword Strlen at ∷ r → r ≡ mark Open ∷ s → NoTree (IsBefore Close IsExpr) Always s → NoTree IsAtom (ends 4) tokens
 strlen_none tokens r s at e o not ts us u split h w =
     let i = atom_at (keyword Strlen at) r ts us u (sym e ∙ split) w in
     let k : s ≡ i.0 ++ us = cc in
     not i.0 us i.1 k tt i.4
 
-pub group_reads : (tokens r : List Lexeme) → tokens ≡ mark Open ∷ r → (a : ExprTree) (after : List Lexeme) → HasTree (IsBefore Close IsExpr) Always r a after → HasTree IsAtom (ends 4) tokens a after
+pub group_reads : (tokens r : List Lexeme) → tokens ≡ mark Open ∷ r → (a : ExprTree) (after : List Lexeme) → OneTree (IsBefore Close IsExpr) Always r a after → OneTree IsAtom (ends 4) tokens a after
 group_reads tokens r e a after f = record {
   front = mark Open ∷ f.front;
   split = e ∙ ap (λ l. mark Open ∷ l) f.split;
@@ -247,7 +247,7 @@ group_reads tokens r e a after f = record {
   only = λ ts us u split h w. let i = atom_at (mark Open) r ts us u (sym e ∙ split) w in f.only i.0 us u i.1 tt i.2;
 }
 
-pub group_none : (tokens r : List Lexeme) → tokens ≡ mark Open ∷ r → HasNoTree (IsBefore Close IsExpr) Always r → HasNoTree IsAtom (ends 4) tokens
+pub group_none : (tokens r : List Lexeme) → tokens ≡ mark Open ∷ r → NoTree (IsBefore Close IsExpr) Always r → NoTree IsAtom (ends 4) tokens
 group_none tokens r e not ts us u split h w = let i = atom_at (mark Open) r ts us u (sym e ∙ split) w in not i.0 us u i.1 tt i.2
 
 -- whether an atom can begin with the token
@@ -267,8 +267,24 @@ begins (keyword Strlen at) r us u i = refl
 begins (mark Open) r us u i = refl
 begins _ r us u i = absurd i
 
-pub no_atom : (tokens r : List Lexeme) (t : Lexeme) → tokens ≡ t ∷ r → begins_atom t ≡ false → HasNoTree IsAtom (ends 4) tokens
+pub no_atom : (tokens r : List Lexeme) (t : Lexeme) → tokens ≡ t ∷ r → begins_atom t ≡ false → NoTree IsAtom (ends 4) tokens
 no_atom tokens r t e f ts us u split h w = let b = begins t r us u (atom_at t r ts us u (sym e ∙ split) w) in absurd (cc)
+
+-- STRLEN without a parenthesis is none
+pub not_strlen : (r : List Lexeme) (at : Place) → ((s : List Lexeme) → r ≡ mark Open ∷ s → ⊥) → NoTree IsAtom (ends 4) (keyword Strlen at ∷ r)
+not_strlen r at none ts us u split h w = let i = atom_at (keyword Strlen at) r ts us u split w in none (i.0 ++ us) i.2
+
+-- nothing is no atom
+pub nothing_atom : (tokens : List Lexeme) → tokens ≡ [] → NoTree IsAtom (ends 4) tokens
+nothing_atom tokens e ts us u split h w = empty ts us u (sym e ∙ split) w
+  where
+    empty : (ts us : List Lexeme) (u : ExprTree) → [] ≡ ts ++ us → IsAtom ts u → ⊥
+    empty ts us u e numeral = cc
+    empty ts us u e text = cc
+    empty ts us u e (variable unindexed) = cc
+    empty ts us u e (variable (indexed i)) = cc
+    empty ts us u e (strlen i) = cc
+    empty ts us u e (group i) = cc
 
 pub not_open_begins : (m : Mark) → (m ≡ Open → ⊥) → begins_atom (mark m) ≡ false
 not_open_begins Open h = absurd (h refl)

@@ -7,7 +7,7 @@ use Rattle.ctd_program.specs.Tree.{VarTree, CommandTree, CommandList, Separator}
 use Rattle.ctd_program.proofs.Trees.{joined}
 use Rattle.ctd_syntax.specs.Grammar
 use Rattle.ctd_syntax.specs.Grammar.{IsTargetEnd, IsCommand, IsRepeated, IsBranches, IsCommands}
-use Rattle.ctd_syntax.specs.inner.Front.{HasTree, Always}
+use Rattle.ctd_syntax.specs.inner.Front.{OneTree, Always}
 use Rattle.ctd_syntax.specs.inner.CommandWords.{begins_command, command_begins}
 use Rattle.ctd_syntax.specs.Nesting.{change_of}
 use Rattle.ctd_syntax.specs.inner.Batches.{SpellsOnly}
@@ -180,7 +180,7 @@ command_begins_so ts rest u (Grammar.whilei i j r) = refl
 command_begins_so ts rest u (Grammar.choice i r) = refl
 
 -- so do the tokens at whose front one is found
-pub found_begins : (ts after : List Lexeme) (u : CommandTree) → HasTree IsCommand Always ts u after → command_begins ts ≡ true
+pub found_begins : (ts after : List Lexeme) (u : CommandTree) → OneTree IsCommand Always ts u after → command_begins ts ≡ true
 found_begins ts after u f = ap command_begins f.split ∙ command_begins_so f.front after u f.spells
 
 -- tokens that begin a command are those from a command on

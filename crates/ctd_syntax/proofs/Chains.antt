@@ -1,7 +1,7 @@
 -- A level of operators that join to the left is one item and a chain of operators with items.
 use Rattle.std.proofs.Common.{◌≡◌, List, [], ◌∷◌, ◌++◌, Option, Some, None, refl, sym, ap, ◌∙◌, subst, append_assoc, append-nil}
 use Rattle.ctd_syntax.specs.Lexeme.{Lexeme}
-use Rattle.ctd_syntax.specs.inner.Front.{HasTree, HasNoTree, after_operator, operator_at}
+use Rattle.ctd_syntax.specs.inner.Front.{OneTree, NoTree, after_operator, operator_at}
 
 -- operators with items behind them, which join to the tree before them
 pub data Chain {T O : Type 0} (Item : List Lexeme → T → Type 0) (op : Lexeme → Option O) (join : O → T → T → T) : T → List Lexeme → T → Type 0 where
@@ -50,7 +50,7 @@ module _ {T O : Type 0} {Whole Item : List Lexeme → T → Type 0} {Ends ItemEn
   item_ends vs us a u (step t ws us' vs' o e w i rest) ends = level.goes_on t o (ws ++ us) e
 
   -- the first item is read
-  pub start : (tokens : List Lexeme) (p : T) (after : List Lexeme) → HasTree Item ItemEnds tokens p after → Partly Whole Item Ends op join tokens p after
+  pub start : (tokens : List Lexeme) (p : T) (after : List Lexeme) → OneTree Item ItemEnds tokens p after → Partly Whole Item Ends op join tokens p after
   start tokens p after found = record {
     front = found.front;
     split = found.split;
@@ -62,7 +62,7 @@ module _ {T O : Type 0} {Whole Item : List Lexeme → T → Type 0} {Ends ItemEn
   }
 
   -- no first item, and so nothing
-  pub no_start : (tokens : List Lexeme) → HasNoTree Item ItemEnds tokens → HasNoTree Whole Ends tokens
+  pub no_start : (tokens : List Lexeme) → NoTree Item ItemEnds tokens → NoTree Whole Ends tokens
   no_start tokens not ts us u split ends whole =
       let c = level.chain whole in
       not c.0 (c.1 ++ us) c.2 (split ∙ ap (λ l. l ++ us) c.3 ∙ append_assoc c.0 c.1 us) (item_ends c.1 us c.2 u c.5 ends) c.4
@@ -74,7 +74,7 @@ module _ {T O : Type 0} {Whole Item : List Lexeme → T → Type 0} {Ends ItemEn
       let found : operator_at op rest ≡ Some (o, ws ++ us) = ap (λ l. operator_at op l) split ∙ ap (λ x. after_operator x (ws ++ us)) e in
       absurd (cc)
 
-  pub finish : (tokens : List Lexeme) (a : T) (rest : List Lexeme) → Partly Whole Item Ends op join tokens a rest → operator_at op rest ≡ None → HasTree Whole Ends tokens a rest
+  pub finish : (tokens : List Lexeme) (a : T) (rest : List Lexeme) → Partly Whole Item Ends op join tokens a rest → operator_at op rest ≡ None → OneTree Whole Ends tokens a rest
   finish tokens a rest partly ends_op = record {
     front = partly.front;
     split = partly.split;
@@ -93,7 +93,7 @@ module _ {T O : Type 0} {Whole Item : List Lexeme → T → Type 0} {Ends ItemEn
       let same_operator : o' ≡ o = cc in
       (vs', sym same.1, subst (λ x. Chain Item op join (join x a b) vs' u) same_operator (subst (λ x. Chain Item op join (join o' a x) vs' u) same.0 more))
 
-  pub next : (tokens : List Lexeme) (a b : T) (rest r after : List Lexeme) (o : O) → Partly Whole Item Ends op join tokens a rest → operator_at op rest ≡ Some (o, r) → HasTree Item ItemEnds r b after → Partly Whole Item Ends op join tokens (join o a b) after
+  pub next : (tokens : List Lexeme) (a b : T) (rest r after : List Lexeme) (o : O) → Partly Whole Item Ends op join tokens a rest → operator_at op rest ≡ Some (o, r) → OneTree Item ItemEnds r b after → Partly Whole Item Ends op join tokens (join o a b) after
   next tokens a b rest r after o partly at found =
       let is = operator_is op rest r o at in
       record {
@@ -104,7 +104,7 @@ module _ {T O : Type 0} {Whole Item : List Lexeme → T → Type 0} {Ends ItemEn
       }
 
   -- no item after an operator, and so nothing
-  no_item : (vs us rest r : List Lexeme) (a u : T) (o : O) → operator_at op rest ≡ Some (o, r) → Ends us → HasNoTree Item ItemEnds r → rest ≡ vs ++ us → Chain Item op join a vs u → ⊥
+  no_item : (vs us rest r : List Lexeme) (a u : T) (o : O) → operator_at op rest ≡ Some (o, r) → Ends us → NoTree Item ItemEnds r → rest ≡ vs ++ us → Chain Item op join a vs u → ⊥
   no_item vs us rest r a u o at ends not split stop =
       let is = operator_is op rest r o at in
       level.ended is.0 o r is.2 (subst Ends (sym split ∙ is.1) ends)
@@ -112,7 +112,7 @@ module _ {T O : Type 0} {Whole Item : List Lexeme → T → Type 0} {Ends ItemEn
       let is = after_is (Some o') (ws ++ us) r o (sym (ap (λ l. operator_at op l) split ∙ ap (λ x. after_operator x (ws ++ us)) e) ∙ at) in
       not us' (vs' ++ us) _ (sym is.1 ∙ ap (λ l. l ++ us) w ∙ append_assoc us' vs' us) (item_ends vs' us _ u more ends) i
 
-  pub no_next : (tokens : List Lexeme) (a : T) (rest r : List Lexeme) (o : O) → Partly Whole Item Ends op join tokens a rest → operator_at op rest ≡ Some (o, r) → HasNoTree Item ItemEnds r → HasNoTree Whole Ends tokens
+  pub no_next : (tokens : List Lexeme) (a : T) (rest r : List Lexeme) (o : O) → Partly Whole Item Ends op join tokens a rest → operator_at op rest ≡ Some (o, r) → NoTree Item ItemEnds r → NoTree Whole Ends tokens
   no_next tokens a rest r o partly at not ts us u split ends whole =
       let c = partly.only ts us u split ends whole in
       no_item c.0 us rest r a u o at ends not c.1 c.2

@@ -6,7 +6,7 @@ use Rattle.ctd_program.specs.Tree
 use Rattle.ctd_program.specs.Tree.{VarTree, GuardTree, CommandTree, CommandList, Separator}
 use Rattle.ctd_syntax.specs.Grammar
 use Rattle.ctd_syntax.specs.Grammar.{IsTarget, IsTargetEnd, IsCommand, IsCommands, IsRepeated, IsBranches}
-use Rattle.ctd_syntax.specs.inner.Front.{HasTree, HasNoTree, Always, IsBefore, IsAfter, IsBuilt, IsPair, Spelling, Following}
+use Rattle.ctd_syntax.specs.inner.Front.{OneTree, NoTree, Always, IsBefore, IsBuilt, IsPair, Spelling}
 use Rattle.ctd_syntax.specs.inner.Levels.{ends}
 use Rattle.ctd_syntax.specs.inner.TestGrammar.{test_ends}
 use Rattle.ctd_syntax.specs.inner.CommandWords.{IsCommandRest, CommandsEnd, IsBlock, IsBranchEnd, IsAbsent, IsCounter, IsGuard, IsLoopRest, IsLoopEnd, IsPatternText, command_begins, is_command_word}
@@ -16,17 +16,7 @@ use Rattle.ctd_token.specs.declared.text.Place.{Place}
 use Rattle.ctd_token.specs.declared.token.Mark.TheVariants.{Open, Close, Comma}
 use Rattle.ctd_syntax.specs.declared.keyword.Keyword.{Keyword}
 use Rattle.ctd_syntax.specs.declared.keyword.Keyword.TheVariants as words
-use Rattle.ctd_syntax.proofs.Fronts.{built, not_built, after_reads, after_none, not_after}
-
--- a tree that is built of what stands behind an opening parenthesis
-pub opened_reads : {T U : Type 0} (f : T → U) (A : Spelling T) (E : Following) (tokens r after : List Lexeme) (a : T) → tokens ≡ mark Open ∷ r → HasTree A E r a after → HasTree (IsBuilt f (IsAfter Open A)) E tokens (f a) after
-opened_reads f A E tokens r after a e found = built f (IsAfter Open A) E tokens after a (after_reads A E Open tokens r after a e found)
-
-pub opened_none : {T U : Type 0} (f : T → U) (A : Spelling T) (E : Following) (tokens r : List Lexeme) → tokens ≡ mark Open ∷ r → HasNoTree A E r → HasNoTree (IsBuilt f (IsAfter Open A)) E tokens
-opened_none f A E tokens r e not = not_built f (IsAfter Open A) E tokens (after_none A E Open tokens r e not)
-
-pub not_opened : {T U : Type 0} (f : T → U) (A : Spelling T) (E : Following) (tokens : List Lexeme) → ((r : List Lexeme) → tokens ≡ mark Open ∷ r → ⊥) → HasNoTree (IsBuilt f (IsAfter Open A)) E tokens
-not_opened f A E tokens none = not_built f (IsAfter Open A) E tokens (not_after A E Open tokens none)
+use Rattle.ctd_syntax.proofs.Fronts.{built, not_built}
 
 -- an expression ends before the end of its command
 pub before_target_end : (vs us : List Lexeme) (target : Option VarTree) → IsTargetEnd vs target → Always us → ends 1 (vs ++ us)
@@ -39,7 +29,7 @@ before_loop_end vs us x (inl (none, (ts, is, i))) h = subst (λ l. test_ends 1 (
 before_loop_end vs us x (inr (c, some, (ts, is, i))) h = subst (λ l. test_ends 1 (l ++ us)) (sym is) (omega arith, omega arith)
 
 -- a loop without a counter
-pub no_counter : (tokens : List Lexeme) → HasTree IsAbsent Always tokens None tokens
+pub no_counter : (tokens : List Lexeme) → OneTree IsAbsent Always tokens None tokens
 no_counter tokens = record {
   front = [];
   split = refl;
@@ -48,13 +38,13 @@ no_counter tokens = record {
 }
 
 -- a loop with one
-pub counter_reads : (word : LoopWord) (tokens rest : List Lexeme) (v : VarTree) → (word ≡ RepI) ⊎ (word ≡ WhileI) → HasTree (IsBefore Comma IsTarget) Always tokens v rest → HasTree (IsCounter word) Always tokens (Some v) rest
-counter_reads word tokens rest v (inl is) f = subst (λ w. HasTree (IsCounter w) Always tokens (Some v) rest) (sym is) (built Some (IsBefore Comma IsTarget) Always tokens rest v f)
-counter_reads word tokens rest v (inr is) f = subst (λ w. HasTree (IsCounter w) Always tokens (Some v) rest) (sym is) (built Some (IsBefore Comma IsTarget) Always tokens rest v f)
+pub counter_reads : (word : LoopWord) (tokens rest : List Lexeme) (v : VarTree) → (word ≡ RepI) ⊎ (word ≡ WhileI) → OneTree (IsBefore Comma IsTarget) Always tokens v rest → OneTree (IsCounter word) Always tokens (Some v) rest
+counter_reads word tokens rest v (inl is) f = subst (λ w. OneTree (IsCounter w) Always tokens (Some v) rest) (sym is) (built Some (IsBefore Comma IsTarget) Always tokens rest v f)
+counter_reads word tokens rest v (inr is) f = subst (λ w. OneTree (IsCounter w) Always tokens (Some v) rest) (sym is) (built Some (IsBefore Comma IsTarget) Always tokens rest v f)
 
-pub counter_none : (word : LoopWord) (tokens : List Lexeme) → (word ≡ RepI) ⊎ (word ≡ WhileI) → HasNoTree (IsBefore Comma IsTarget) Always tokens → HasNoTree (IsCounter word) Always tokens
-counter_none word tokens (inl is) not = subst (λ w. HasNoTree (IsCounter w) Always tokens) (sym is) (not_built Some (IsBefore Comma IsTarget) Always tokens not)
-counter_none word tokens (inr is) not = subst (λ w. HasNoTree (IsCounter w) Always tokens) (sym is) (not_built Some (IsBefore Comma IsTarget) Always tokens not)
+pub counter_none : (word : LoopWord) (tokens : List Lexeme) → (word ≡ RepI) ⊎ (word ≡ WhileI) → NoTree (IsBefore Comma IsTarget) Always tokens → NoTree (IsCounter word) Always tokens
+counter_none word tokens (inl is) not = subst (λ w. NoTree (IsCounter w) Always tokens) (sym is) (not_built Some (IsBefore Comma IsTarget) Always tokens not)
+counter_none word tokens (inr is) not = subst (λ w. NoTree (IsCounter w) Always tokens) (sym is) (not_built Some (IsBefore Comma IsTarget) Always tokens not)
 
 -- what ends a test ends an expression
 pub ends_both : (us : List Lexeme) → test_ends 1 us → ends 1 us
@@ -71,7 +61,7 @@ pub whatever : {T : Type 0} (A : Spelling T) (vs us : List Lexeme) (b : T) → A
 whatever A vs us b i h = tt
 
 -- a string with its place
-pub pattern_found : (tokens rest : List Lexeme) (bytes : List ℕ) (at : Place) → tokens ≡ Lexeme.text bytes at ∷ rest → HasTree IsPatternText Always tokens (bytes, at) rest
+pub pattern_found : (tokens rest : List Lexeme) (bytes : List ℕ) (at : Place) → tokens ≡ Lexeme.text bytes at ∷ rest → OneTree IsPatternText Always tokens (bytes, at) rest
 pattern_found tokens rest bytes at e = record {
   front = Lexeme.text bytes at ∷ [];
   split = e;
@@ -81,6 +71,9 @@ pattern_found tokens rest bytes at e = record {
   where
     same_text : {bytes : List ℕ} {at : Place} {rest us : List Lexeme} {u : List ℕ × Place} → Lexeme.text bytes at ∷ rest ≡ Lexeme.text u.0 u.1 ∷ us → (u ≡ (bytes, at)) × (us ≡ rest)
     same_text {bytes} {at} {rest} {us} {u} e = let a : u.0 ≡ bytes = cc in let p : u.1 ≡ at = cc in let b : us ≡ rest = cc in (ap (λ x. (x, u.1)) a ∙ ap (λ x. (bytes, x)) p, b)
+
+pub no_pattern : (tokens : List Lexeme) → ((bytes : List ℕ) (at : Place) (r : List Lexeme) → tokens ≡ Lexeme.text bytes at ∷ r → ⊥) → NoTree IsPatternText Always tokens
+no_pattern tokens none ts us u split h w = none u.0 u.1 us (split ∙ ap (λ l. l ++ us) w)
 
 -- the end of a loop as the grammar has it, and back
 loop_end_from : (ts : List Lexeme) (between : Separator) (body : CommandList) → IsRepeated ts between body → IsLoopEnd ts (between, body)
@@ -158,7 +151,7 @@ headed_counted : (vs hs ls ts cs es bs : List Lexeme) → vs ≡ hs ++ ls → hs
 headed_counted vs hs ls ts cs es bs split opened parted comma = headed vs hs ls ts cs es split opened parted ∙ ap (λ l. mark Open ∷ (l ++ es) ++ ls) comma ∙ ap (λ l. mark Open ∷ l ++ ls) (append_assoc bs (mark Comma ∷ []) es)
 
 -- what stands behind its word makes a command
-command_of : (k : Keyword) (at : Place) (vs : List Lexeme) (u : CommandTree) → IsCommandRest k at vs u → IsCommand (keyword k at ∷ vs) u
+pub command_of : (k : Keyword) (at : Place) (vs : List Lexeme) (u : CommandTree) → IsCommandRest k at vs u → IsCommand (keyword k at ∷ vs) u
 command_of words.Space at vs u (none, tree) = subst (λ l. IsCommand (keyword words.Space at ∷ l) u) (sym none) (subst (IsCommand _) (sym tree) Grammar.space)
 command_of words.Newline at vs u (none, tree) = subst (λ l. IsCommand (keyword words.Newline at ∷ l) u) (sym none) (subst (IsCommand _) (sym tree) Grammar.newline)
 command_of words.Eof at vs u (none, tree) = subst (λ l. IsCommand (keyword words.Eof at ∷ l) u) (sym none) (subst (IsCommand _) (sym tree) Grammar.eof)
@@ -196,7 +189,7 @@ begins_worded tokens r ts us k at u e split w =
     let tail : r ≡ is.2 ++ us = cc in
     (is.2, tail, subst (λ p. IsCommandRest k p is.2 u) place (subst (λ x. IsCommandRest x is.1 is.2 u) word is.5))
 
-pub command_reads : (tokens r : List Lexeme) (k : Keyword) (at : Place) → tokens ≡ keyword k at ∷ r → (u : CommandTree) (after : List Lexeme) → HasTree (IsCommandRest k at) Always r u after → HasTree IsCommand Always tokens u after
+pub command_reads : (tokens r : List Lexeme) (k : Keyword) (at : Place) → tokens ≡ keyword k at ∷ r → (u : CommandTree) (after : List Lexeme) → OneTree (IsCommandRest k at) Always r u after → OneTree IsCommand Always tokens u after
 command_reads tokens r k at e u after f = record {
   front = keyword k at ∷ f.front;
   split = e ∙ ap (λ l. keyword k at ∷ l) f.split;
@@ -206,7 +199,7 @@ command_reads tokens r k at e u after f = record {
       f.only i.0 us v i.1 tt i.2;
 }
 
-pub command_none : (tokens r : List Lexeme) (k : Keyword) (at : Place) → tokens ≡ keyword k at ∷ r → HasNoTree (IsCommandRest k at) Always r → HasNoTree IsCommand Always tokens
+pub command_none : (tokens r : List Lexeme) (k : Keyword) (at : Place) → tokens ≡ keyword k at ∷ r → NoTree (IsCommandRest k at) Always r → NoTree IsCommand Always tokens
 command_none tokens r k at e not ts us v split h w = let i = begins_worded tokens r ts us k at v e split w in not i.0 us v i.1 tt i.2
 
 -- a word of a command begins one
@@ -224,7 +217,7 @@ joined_again Tree.done b c = refl
 joined_again (Tree.then x rest) b c = ap (Tree.then x) (joined_again rest b c)
 
 -- one more command at the end
-extend : (ts us : List Lexeme) (xs : CommandList) (c : CommandTree) → IsCommands ts xs → IsCommand us c → IsCommands (ts ++ us) (joined xs (Tree.then c Tree.done))
+pub extend : (ts us : List Lexeme) (xs : CommandList) (c : CommandTree) → IsCommands ts xs → IsCommand us c → IsCommands (ts ++ us) (joined xs (Tree.then c Tree.done))
 extend ts us xs c Grammar.done w = subst (λ l. IsCommands l (Tree.then c Tree.done)) (append-nil us) (Grammar.then w Grammar.done)
 extend ts us xs c (Grammar.then {ts = vs} {us = ws} {c = d} {rest} i r) w = subst (λ l. IsCommands l (Tree.then d (joined rest (Tree.then c Tree.done)))) (sym (append_assoc vs ws us)) (Grammar.then i (extend ws us rest c r w))
 
@@ -243,7 +236,7 @@ first_of : (rest vs us : List Lexeme) (w : CommandList) → command_begins rest 
 first_of rest vs us w begins split ended Grammar.done = absurd (let clash : true ≡ false = sym begins ∙ ap command_begins split ∙ ended in cc)
 first_of rest vs us w begins split ended (Grammar.then {ts} {us = ws} {c} {rest = more} i r) = (ts, ws, c, more, split ∙ append_assoc ts ws us, i, r, refl)
 
-pub commands_next : (tokens rest after : List Lexeme) (xs : CommandList) (c : CommandTree) → PartCommands tokens xs rest → command_begins rest ≡ true → HasTree IsCommand Always rest c after → PartCommands tokens (joined xs (Tree.then c Tree.done)) after
+pub commands_next : (tokens rest after : List Lexeme) (xs : CommandList) (c : CommandTree) → PartCommands tokens xs rest → command_begins rest ≡ true → OneTree IsCommand Always rest c after → PartCommands tokens (joined xs (Tree.then c Tree.done)) after
 commands_next tokens rest after xs c part begins f = record {
   front = part.front ++ f.front;
   split = part.split ∙ ap (λ l. part.front ++ l) f.split ∙ sym (append_assoc part.front f.front after);
@@ -255,14 +248,14 @@ commands_next tokens rest after xs c part begins f = record {
       (q.1, q.3, sym same.1, q.6, p.4 ∙ ap (joined xs) (q.7 ∙ ap (λ x. Tree.then x q.3) same.0) ∙ sym (joined_again xs (Tree.then c Tree.done) q.3));
 }
 
-pub commands_no_next : (tokens rest : List Lexeme) (xs : CommandList) → PartCommands tokens xs rest → command_begins rest ≡ true → HasNoTree IsCommand Always rest → HasNoTree IsCommands CommandsEnd tokens
+pub commands_no_next : (tokens rest : List Lexeme) (xs : CommandList) → PartCommands tokens xs rest → command_begins rest ≡ true → NoTree IsCommand Always rest → NoTree IsCommands CommandsEnd tokens
 commands_no_next tokens rest xs part begins not ts us u split h w =
     let p = part.only ts us u split h w in
     let q = first_of rest p.0 us p.1 begins p.2 h p.3 in
     not q.0 (q.1 ++ us) q.2 q.4 tt q.5
 
 -- a command begins with the word of one
-command_heads : (ts us : List Lexeme) (c : CommandTree) → IsCommand ts c → command_begins (ts ++ us) ≡ true
+pub command_heads : (ts us : List Lexeme) (c : CommandTree) → IsCommand ts c → command_begins (ts ++ us) ≡ true
 command_heads ts us c w = let is = worded ts c w in ap (λ l. command_begins (l ++ us)) is.3 ∙ is.4
 
 -- where none begins there are none
@@ -270,7 +263,7 @@ no_first : (rest vs us : List Lexeme) (w : CommandList) → command_begins rest 
 no_first rest vs us w none split Grammar.done = (refl, refl)
 no_first rest vs us w none split (Grammar.then {ts} {us = ws} {c} i r) = absurd (let clash : false ≡ true = sym none ∙ ap command_begins (split ∙ append_assoc ts ws us) ∙ command_heads ts (ws ++ us) c i in cc)
 
-pub commands_end : (tokens rest : List Lexeme) (xs : CommandList) → PartCommands tokens xs rest → command_begins rest ≡ false → HasTree IsCommands CommandsEnd tokens xs rest
+pub commands_end : (tokens rest : List Lexeme) (xs : CommandList) → PartCommands tokens xs rest → command_begins rest ≡ false → OneTree IsCommands CommandsEnd tokens xs rest
 commands_end tokens rest xs part none = record {
   front = part.front;
   split = part.split;
@@ -282,7 +275,7 @@ commands_end tokens rest xs part none = record {
 }
 
 -- the end of a loop without a separator
-pub loop_end_plain : (tokens r after : List Lexeme) (body : CommandList) → tokens ≡ mark Close ∷ r → HasTree IsBlock Always r body after → HasTree IsLoopEnd Always tokens (Tree.nothing, body) after
+pub loop_end_plain : (tokens r after : List Lexeme) (body : CommandList) → tokens ≡ mark Close ∷ r → OneTree IsBlock Always r body after → OneTree IsLoopEnd Always tokens (Tree.nothing, body) after
 loop_end_plain tokens r after body e f = record {
   front = mark Close ∷ f.front;
   split = e ∙ ap (λ l. mark Close ∷ l) f.split;
@@ -298,7 +291,7 @@ loop_end_plain tokens r after body e f = record {
         (ap (λ x. (x, u.1)) none ∙ ap (λ x. (Tree.nothing, x)) same.0, same.1)
     plain_only ts us u split (inr (c, some, (vs, is, i))) = absurd (let clash : mark Close ∷ r ≡ mark Comma ∷ (vs ++ us) = split ∙ ap (λ l. l ++ us) is in cc)
 
-pub loop_end_no_block : (tokens r : List Lexeme) → tokens ≡ mark Close ∷ r → HasNoTree IsBlock Always r → HasNoTree IsLoopEnd Always tokens
+pub loop_end_no_block : (tokens r : List Lexeme) → tokens ≡ mark Close ∷ r → NoTree IsBlock Always r → NoTree IsLoopEnd Always tokens
 loop_end_no_block tokens r e not ts us u split h w = plain_none ts us u (sym e ∙ split) w
   where
     plain_none : (ts us : List Lexeme) (u : Separator × CommandList) → mark Close ∷ r ≡ ts ++ us → IsLoopEnd ts u → ⊥
@@ -313,7 +306,7 @@ abbrev pub IsSeparated : Spelling (CommandTree × CommandList)
 IsSeparated = IsPair (IsBefore Close IsCommand) IsBlock
 
 -- the end of a loop with one
-pub loop_end_separated : (tokens r after : List Lexeme) (c : CommandTree) (body : CommandList) → tokens ≡ mark Comma ∷ r → HasTree IsSeparated Always r (c, body) after → HasTree IsLoopEnd Always tokens (Tree.between c, body) after
+pub loop_end_separated : (tokens r after : List Lexeme) (c : CommandTree) (body : CommandList) → tokens ≡ mark Comma ∷ r → OneTree IsSeparated Always r (c, body) after → OneTree IsLoopEnd Always tokens (Tree.between c, body) after
 loop_end_separated tokens r after c body e f = record {
   front = mark Comma ∷ f.front;
   split = e ∙ ap (λ l. mark Comma ∷ l) f.split;
@@ -329,7 +322,7 @@ loop_end_separated tokens r after c body e f = record {
         let same = f.only vs us (d, u.1) tail tt i in
         (ap (λ x. (x, u.1)) some ∙ ap (λ x. (Tree.between x.0, x.1)) same.0, same.1)
 
-pub loop_end_no_separated : (tokens r : List Lexeme) → tokens ≡ mark Comma ∷ r → HasNoTree IsSeparated Always r → HasNoTree IsLoopEnd Always tokens
+pub loop_end_no_separated : (tokens r : List Lexeme) → tokens ≡ mark Comma ∷ r → NoTree IsSeparated Always r → NoTree IsLoopEnd Always tokens
 loop_end_no_separated tokens r e not ts us u split h w = separated_none ts us u (sym e ∙ split) w
   where
     separated_none : (ts us : List Lexeme) (u : Separator × CommandList) → mark Comma ∷ r ≡ ts ++ us → IsLoopEnd ts u → ⊥
@@ -340,7 +333,7 @@ loop_end_no_separated tokens r e not ts us u split h w = separated_none ts us u 
         not vs us (d, u.1) tail tt i
 
 -- the end of an IF
-pub branch_ended : (tokens r : List Lexeme) (at : Place) → tokens ≡ keyword words.End at ∷ r → HasTree IsBranchEnd Always tokens Tree.done r
+pub branch_ended : (tokens r : List Lexeme) (at : Place) → tokens ≡ keyword words.End at ∷ r → OneTree IsBranchEnd Always tokens Tree.done r
 branch_ended tokens r at e = record {
   front = keyword words.End at ∷ [];
   split = e;
@@ -355,7 +348,7 @@ branch_ended tokens r at e = record {
         (tree, tail)
     ended_only ts us u split (inr (place, vs, is, i)) = absurd (let clash : keyword words.End at ∷ r ≡ keyword words.Else place ∷ (vs ++ us) = split ∙ ap (λ l. l ++ us) is in cc)
 
-pub branch_goes_on : (tokens r : List Lexeme) (at : Place) → tokens ≡ keyword words.Else at ∷ r → (body : CommandList) (after : List Lexeme) → HasTree IsBlock Always r body after → HasTree IsBranchEnd Always tokens body after
+pub branch_goes_on : (tokens r : List Lexeme) (at : Place) → tokens ≡ keyword words.Else at ∷ r → (body : CommandList) (after : List Lexeme) → OneTree IsBlock Always r body after → OneTree IsBranchEnd Always tokens body after
 branch_goes_on tokens r at e body after f = record {
   front = keyword words.Else at ∷ f.front;
   split = e ∙ ap (λ l. keyword words.Else at ∷ l) f.split;
@@ -370,7 +363,7 @@ branch_goes_on tokens r at e body after f = record {
         let tail : r ≡ vs ++ us = cc in
         f.only vs us u tail tt i
 
-pub branch_no_block : (tokens r : List Lexeme) (at : Place) → tokens ≡ keyword words.Else at ∷ r → HasNoTree IsBlock Always r → HasNoTree IsBranchEnd Always tokens
+pub branch_no_block : (tokens r : List Lexeme) (at : Place) → tokens ≡ keyword words.Else at ∷ r → NoTree IsBlock Always r → NoTree IsBranchEnd Always tokens
 branch_no_block tokens r at e not ts us u split h w = block_none ts us u (sym e ∙ split) w
   where
     block_none : (ts us : List Lexeme) (u : CommandList) → keyword words.Else at ∷ r ≡ ts ++ us → IsBranchEnd ts u → ⊥
@@ -379,3 +372,17 @@ branch_no_block tokens r at e not ts us u split h w = block_none ts us u (sym e 
         let whole : keyword words.Else at ∷ r ≡ keyword words.Else place ∷ (vs ++ us) = split ∙ ap (λ l. l ++ us) is in
         let tail : r ≡ vs ++ us = cc in
         not vs us u tail tt i
+
+-- neither END nor ELSE
+pub branch_other : (tokens : List Lexeme) → ((at : Place) (r : List Lexeme) → tokens ≡ keyword words.End at ∷ r → ⊥) → ((at : Place) (r : List Lexeme) → tokens ≡ keyword words.Else at ∷ r → ⊥) → NoTree IsBranchEnd Always tokens
+branch_other tokens no_end no_else ts us u split h (inl (at, is, tree)) = no_end at us (split ∙ ap (λ l. l ++ us) is)
+branch_other tokens no_end no_else ts us u split h (inr (at, vs, is, i)) = no_else at (vs ++ us) (split ∙ ap (λ l. l ++ us) is)
+
+-- neither a parenthesis nor a comma
+pub loop_end_other : (tokens : List Lexeme) → ((r : List Lexeme) → tokens ≡ mark Close ∷ r → ⊥) → ((r : List Lexeme) → tokens ≡ mark Comma ∷ r → ⊥) → NoTree IsLoopEnd Always tokens
+loop_end_other tokens not_closed not_comma ts us u split h (inl (none, (vs, is, i))) = not_closed (vs ++ us) (split ∙ ap (λ l. l ++ us) is)
+loop_end_other tokens not_closed not_comma ts us u split h (inr (c, some, (vs, is, i))) = not_comma (vs ++ us) (split ∙ ap (λ l. l ++ us) is)
+
+-- no command where none begins
+pub no_command : (tokens : List Lexeme) → command_begins tokens ≡ false → NoTree IsCommand Always tokens
+no_command tokens none ts us u split h w = let clash : false ≡ true = sym none ∙ ap command_begins split ∙ command_heads ts us u w in cc

@@ -5,9 +5,9 @@ use Rattle.ctd_program.specs.Tree
 use Rattle.ctd_program.specs.Tree.{ExprTree, ExprList, TestTree}
 use Rattle.ctd_syntax.specs.Grammar
 use Rattle.ctd_syntax.specs.Grammar.{IsExpr, IsProduct, IsSigned, IsPower, IsAtom, IsVariable, IsNames, IsTest, IsNegation, IsSimpleTest, compare_mark}
-use Rattle.ctd_syntax.specs.inner.Front.{HasTree, HasNoTree, Always, IsBefore, IsAfter, IsPair, IsName, Spelling, operator_at, after_operator}
+use Rattle.ctd_syntax.specs.inner.Front.{OneTree, NoTree, Always, IsBefore, IsAfter, IsPair, IsName, Spelling, operator_at, after_operator}
 use Rattle.ctd_syntax.specs.inner.Levels.{binding, ends}
-use Rattle.ctd_syntax.specs.inner.TestGrammar.{test_keyword, IsTestCall, IsLeft, IsComparison, compare_operator, holds_test}
+use Rattle.ctd_syntax.specs.inner.TestGrammar.{test_keyword, asks, IsTestCall, IsLeft, IsComparison, compare_operator, holds_test}
 use Rattle.ctd_token.specs.declared.token.Mark.TheVariants.{Open, Close, Comma, Plus, Minus, Times, Divide, Percent, Caret, Bang}
 use Rattle.ctd_token.specs.declared.token.Mark.TheVariants as marks
 use Rattle.ctd_program.specs.declared.tree.Compare.{Compare}
@@ -19,7 +19,7 @@ use Rattle.ctd_syntax.proofs.Fronts.{built, not_built, after_reads, after_none, 
 use Rattle.ctd_syntax.proofs.Groups.{expr_opening, test_tells}
 
 -- comparisons and their marks
-compare_is : (t : Lexeme) (by : Compare) → compare_operator t ≡ Some by → t ≡ mark (compare_mark by)
+pub compare_is : (t : Lexeme) (by : Compare) → compare_operator t ≡ Some by → t ≡ mark (compare_mark by)
 compare_is (mark marks.Less) by e = let h : Less ≡ by = cc in ap (λ x. mark (compare_mark x)) h
 compare_is (mark marks.Greater) by e = let h : Greater ≡ by = cc in ap (λ x. mark (compare_mark x)) h
 compare_is (mark marks.AtMost) by e = let h : AtMost ≡ by = cc in ap (λ x. mark (compare_mark x)) h
@@ -50,7 +50,7 @@ left_split tokens ts us vs by split w = split ∙ ap (λ l. l ++ us) w ∙ appen
 same_some : {A : Type 0} {a b : A} → Some a ≡ Some b → a ≡ b
 same_some e = cc
 
-pub left_reads : (tokens rest r : List Lexeme) (a : ExprTree) (by : Compare) → HasTree IsExpr (ends 1) tokens a rest → operator_at compare_operator rest ≡ Some (by, r) → HasTree IsLeft Always tokens (a, by) r
+pub left_reads : (tokens rest r : List Lexeme) (a : ExprTree) (by : Compare) → OneTree IsExpr (ends 1) tokens a rest → operator_at compare_operator rest ≡ Some (by, r) → OneTree IsLeft Always tokens (a, by) r
 left_reads tokens rest r a by f e =
     let is = operator_is compare_operator rest r by e in
     let marked : rest ≡ mark (compare_mark by) ∷ r = is.1 ∙ ap (λ t. t ∷ r) (compare_is is.0 by is.2) in
@@ -67,33 +67,42 @@ left_reads tokens rest r a by f e =
           (ap (λ x. (x, u.1)) same.0 ∙ ap (λ x. (a, x)) by_is, tail);
     }
 
-pub compared_reads : (tokens rest after : List Lexeme) (x : ExprTree × Compare) (b : ExprTree) → HasTree IsLeft Always tokens x rest → HasTree IsExpr (ends 1) rest b after → HasTree IsComparison (ends 1) tokens (Tree.compare x.1 x.0 b) after
+pub left_unmarked : (tokens rest : List Lexeme) (a : ExprTree) → OneTree IsExpr (ends 1) tokens a rest → operator_at compare_operator rest ≡ None → NoTree IsLeft Always tokens
+left_unmarked tokens rest a f none ts us u split h w =
+    let same = f.only w.0 (mark (compare_mark u.1) ∷ us) u.0 (left_split tokens ts us w.0 u.1 split w.1) (compare_binds u.1) w.2 in
+    let found : operator_at compare_operator rest ≡ Some (u.1, us) = ap (operator_at compare_operator) (sym same.1) ∙ ap (λ x. after_operator x us) (is_compare u.1) in
+    cc
+
+pub no_left : (tokens : List Lexeme) → NoTree IsExpr (ends 1) tokens → NoTree IsLeft Always tokens
+no_left tokens not ts us u split h w = not w.0 (mark (compare_mark u.1) ∷ us) u.0 (left_split tokens ts us w.0 u.1 split w.1) (compare_binds u.1) w.2
+
+pub compared_reads : (tokens rest after : List Lexeme) (x : ExprTree × Compare) (b : ExprTree) → OneTree IsLeft Always tokens x rest → OneTree IsExpr (ends 1) rest b after → OneTree IsComparison (ends 1) tokens (Tree.compare x.1 x.0 b) after
 compared_reads tokens rest after x b f g = built (λ x. Tree.compare x.0.1 x.0.0 x.1) (IsPair IsLeft IsExpr) (ends 1) tokens after (x, b) (pair_reads IsLeft IsExpr Always (ends 1) (λ vs us b i h. tt) tokens rest after x b f g)
 
-pub compared_no_left : (tokens : List Lexeme) → HasNoTree IsLeft Always tokens → HasNoTree IsComparison (ends 1) tokens
+pub compared_no_left : (tokens : List Lexeme) → NoTree IsLeft Always tokens → NoTree IsComparison (ends 1) tokens
 compared_no_left tokens not = not_built (λ x. Tree.compare x.0.1 x.0.0 x.1) (IsPair IsLeft IsExpr) (ends 1) tokens (first_none IsLeft IsExpr Always (ends 1) (λ vs us b i h. tt) tokens not)
 
-pub compared_no_right : (tokens rest : List Lexeme) (x : ExprTree × Compare) → HasTree IsLeft Always tokens x rest → HasNoTree IsExpr (ends 1) rest → HasNoTree IsComparison (ends 1) tokens
+pub compared_no_right : (tokens rest : List Lexeme) (x : ExprTree × Compare) → OneTree IsLeft Always tokens x rest → NoTree IsExpr (ends 1) rest → NoTree IsComparison (ends 1) tokens
 compared_no_right tokens rest x f not = not_built (λ x. Tree.compare x.0.1 x.0.0 x.1) (IsPair IsLeft IsExpr) (ends 1) tokens (second_none IsLeft IsExpr Always (ends 1) (λ vs us b i h. tt) tokens rest x f not)
 
 -- behind MATCH
-pub match_reads : (tokens r after : List Lexeme) (a : ExprTree) → tokens ≡ mark Open ∷ r → HasTree (IsBefore Close IsExpr) Always r a after → HasTree (IsTestCall Match) Always tokens (Tree.matches a) after
+pub match_reads : (tokens r after : List Lexeme) (a : ExprTree) → tokens ≡ mark Open ∷ r → OneTree (IsBefore Close IsExpr) Always r a after → OneTree (IsTestCall Match) Always tokens (Tree.matches a) after
 match_reads tokens r after a e f = built Tree.matches (IsAfter Open (IsBefore Close IsExpr)) Always tokens after a (after_reads (IsBefore Close IsExpr) Always Open tokens r after a e f)
 
-pub match_none : (tokens r : List Lexeme) → tokens ≡ mark Open ∷ r → HasNoTree (IsBefore Close IsExpr) Always r → HasNoTree (IsTestCall Match) Always tokens
+pub match_none : (tokens r : List Lexeme) → tokens ≡ mark Open ∷ r → NoTree (IsBefore Close IsExpr) Always r → NoTree (IsTestCall Match) Always tokens
 match_none tokens r e not = not_built Tree.matches (IsAfter Open (IsBefore Close IsExpr)) Always tokens (after_none (IsBefore Close IsExpr) Always Open tokens r e not)
 
-pub not_match : (tokens : List Lexeme) → ((r : List Lexeme) → tokens ≡ mark Open ∷ r → ⊥) → HasNoTree (IsTestCall Match) Always tokens
+pub not_match : (tokens : List Lexeme) → ((r : List Lexeme) → tokens ≡ mark Open ∷ r → ⊥) → NoTree (IsTestCall Match) Always tokens
 not_match tokens none = not_built Tree.matches (IsAfter Open (IsBefore Close IsExpr)) Always tokens (not_after (IsBefore Close IsExpr) Always Open tokens none)
 
 -- behind UNIQUE
-pub unique_reads : (tokens r after : List Lexeme) (a : List (List ℕ)) → tokens ≡ mark Open ∷ r → HasTree (IsBefore Close IsNames) Always r a after → HasTree (IsTestCall Unique) Always tokens (Tree.unique a) after
+pub unique_reads : (tokens r after : List Lexeme) (a : List (List ℕ)) → tokens ≡ mark Open ∷ r → OneTree (IsBefore Close IsNames) Always r a after → OneTree (IsTestCall Unique) Always tokens (Tree.unique a) after
 unique_reads tokens r after a e f = built Tree.unique (IsAfter Open (IsBefore Close IsNames)) Always tokens after a (after_reads (IsBefore Close IsNames) Always Open tokens r after a e f)
 
-pub unique_none : (tokens r : List Lexeme) → tokens ≡ mark Open ∷ r → HasNoTree (IsBefore Close IsNames) Always r → HasNoTree (IsTestCall Unique) Always tokens
+pub unique_none : (tokens r : List Lexeme) → tokens ≡ mark Open ∷ r → NoTree (IsBefore Close IsNames) Always r → NoTree (IsTestCall Unique) Always tokens
 unique_none tokens r e not = not_built Tree.unique (IsAfter Open (IsBefore Close IsNames)) Always tokens (after_none (IsBefore Close IsNames) Always Open tokens r e not)
 
-pub not_unique : (tokens : List Lexeme) → ((r : List Lexeme) → tokens ≡ mark Open ∷ r → ⊥) → HasNoTree (IsTestCall Unique) Always tokens
+pub not_unique : (tokens : List Lexeme) → ((r : List Lexeme) → tokens ≡ mark Open ∷ r → ⊥) → NoTree (IsTestCall Unique) Always tokens
 not_unique tokens none = not_built Tree.unique (IsAfter Open (IsBefore Close IsNames)) Always tokens (not_after (IsBefore Close IsNames) Always Open tokens none)
 
 -- behind INARRAY
@@ -103,20 +112,20 @@ Sought = IsPair (IsBefore Comma IsExpr) (IsBefore Close IsName)
 of_sought : (vs us : List Lexeme) (b : List ℕ) → IsBefore Close IsName vs b → Always us → Always (vs ++ us)
 of_sought vs us b i h = tt
 
-pub in_array_reads : (tokens r rest after : List Lexeme) (a : ExprTree) (n : List ℕ) → tokens ≡ mark Open ∷ r → HasTree (IsBefore Comma IsExpr) Always r a rest → HasTree (IsBefore Close IsName) Always rest n after → HasTree (IsTestCall InArray) Always tokens (Tree.in_array a n) after
+pub in_array_reads : (tokens r rest after : List Lexeme) (a : ExprTree) (n : List ℕ) → tokens ≡ mark Open ∷ r → OneTree (IsBefore Comma IsExpr) Always r a rest → OneTree (IsBefore Close IsName) Always rest n after → OneTree (IsTestCall InArray) Always tokens (Tree.in_array a n) after
 in_array_reads tokens r rest after a n e f g = built (λ x. Tree.in_array x.0 x.1) (IsAfter Open Sought) Always tokens after (a, n) (after_reads Sought Always Open tokens r after (a, n) e (pair_reads (IsBefore Comma IsExpr) (IsBefore Close IsName) Always Always of_sought r rest after a n f g))
 
-pub in_array_no_expr : (tokens r : List Lexeme) → tokens ≡ mark Open ∷ r → HasNoTree (IsBefore Comma IsExpr) Always r → HasNoTree (IsTestCall InArray) Always tokens
+pub in_array_no_expr : (tokens r : List Lexeme) → tokens ≡ mark Open ∷ r → NoTree (IsBefore Comma IsExpr) Always r → NoTree (IsTestCall InArray) Always tokens
 in_array_no_expr tokens r e not = not_built (λ x. Tree.in_array x.0 x.1) (IsAfter Open Sought) Always tokens (after_none Sought Always Open tokens r e (first_none (IsBefore Comma IsExpr) (IsBefore Close IsName) Always Always of_sought r not))
 
-pub in_array_no_name : (tokens r rest : List Lexeme) (a : ExprTree) → tokens ≡ mark Open ∷ r → HasTree (IsBefore Comma IsExpr) Always r a rest → HasNoTree (IsBefore Close IsName) Always rest → HasNoTree (IsTestCall InArray) Always tokens
+pub in_array_no_name : (tokens r rest : List Lexeme) (a : ExprTree) → tokens ≡ mark Open ∷ r → OneTree (IsBefore Comma IsExpr) Always r a rest → NoTree (IsBefore Close IsName) Always rest → NoTree (IsTestCall InArray) Always tokens
 in_array_no_name tokens r rest a e f not = not_built (λ x. Tree.in_array x.0 x.1) (IsAfter Open Sought) Always tokens (after_none Sought Always Open tokens r e (second_none (IsBefore Comma IsExpr) (IsBefore Close IsName) Always Always of_sought r rest a f not))
 
-pub not_in_array : (tokens : List Lexeme) → ((r : List Lexeme) → tokens ≡ mark Open ∷ r → ⊥) → HasNoTree (IsTestCall InArray) Always tokens
+pub not_in_array : (tokens : List Lexeme) → ((r : List Lexeme) → tokens ≡ mark Open ∷ r → ⊥) → NoTree (IsTestCall InArray) Always tokens
 not_in_array tokens none = not_built (λ x. Tree.in_array x.0 x.1) (IsAfter Open Sought) Always tokens (not_after Sought Always Open tokens none)
 
 -- a name and the parenthesis behind it
-pub last_name_reads : (tokens rest r : List Lexeme) (n : List ℕ) → tokens ≡ Lexeme.name n ∷ rest → rest ≡ mark Close ∷ r → HasTree (IsBefore Close IsName) Always tokens n r
+pub last_name_reads : (tokens rest r : List Lexeme) (n : List ℕ) → tokens ≡ Lexeme.name n ∷ rest → rest ≡ mark Close ∷ r → OneTree (IsBefore Close IsName) Always tokens n r
 last_name_reads tokens rest r n e f = before_reads IsName Always Close (λ us. tt) tokens rest r n (name_found tokens rest n e) f
 
 -- whether an expression can begin with the token
@@ -174,12 +183,12 @@ expr_heading t ts us a (Grammar.sum {ts = vs} {us = ws} i j) r e = expr_heading 
 expr_heading t ts us a (Grammar.difference {ts = vs} {us = ws} i j) r e = expr_heading t vs (mark Minus ∷ (ws ++ us)) _ i r (front_over t r vs ws us (mark Minus) e)
 
 -- the three kinds of tests without operators
-data PlainAs : List Lexeme → TestTree → Type 0 where
+pub data PlainAs : List Lexeme → TestTree → Type 0 where
   is_comparison : {ts : List Lexeme} {u : TestTree} → IsComparison ts u → PlainAs ts u
   asked : {ts : List Lexeme} {u : TestTree} (t : Lexeme) (k : Keyword) (vs : List Lexeme) → ts ≡ t ∷ vs → test_keyword t ≡ Some k → IsTestCall k vs u → PlainAs ts u
   grouped : {ts : List Lexeme} {u : TestTree} (vs : List Lexeme) → ts ≡ mark Open ∷ vs → IsBefore Close IsTest vs u → PlainAs ts u
 
-plain_as : (ts : List Lexeme) (u : TestTree) → IsSimpleTest ts u → PlainAs ts u
+pub plain_as : (ts : List Lexeme) (u : TestTree) → IsSimpleTest ts u → PlainAs ts u
 plain_as ts u (Grammar.compare {ts = us} {us = vs} {a} {b} {by} i j) = is_comparison (((a, by), b), refl, (us ++ mark (compare_mark by) ∷ [], vs, sym (append_assoc us (mark (compare_mark by) ∷ []) vs), (us, refl, i), j))
 plain_as ts u (Grammar.matches {ts = us} {a} {at} i) = asked (keyword Match at) Match (mark Open ∷ us ++ mark Close ∷ []) refl refl (a, refl, (us ++ mark Close ∷ [], refl, (us, refl, i)))
 plain_as ts u (Grammar.at_end {at}) = asked (keyword IsEof at) IsEof [] refl refl (refl, refl)
@@ -187,15 +196,15 @@ plain_as ts u (Grammar.unique {ts = us} {names} {at} i) = asked (keyword Unique 
 plain_as ts u (Grammar.in_array {ts = us} {a} {name} {at} i) = asked (keyword InArray at) InArray (mark Open ∷ us ++ mark Comma ∷ Lexeme.name name ∷ mark Close ∷ []) refl refl ((a, name), refl, (us ++ mark Comma ∷ Lexeme.name name ∷ mark Close ∷ [], refl, (us ++ mark Comma ∷ [], Lexeme.name name ∷ mark Close ∷ [], sym (append_assoc us (mark Comma ∷ []) (Lexeme.name name ∷ mark Close ∷ [])), (us, refl, i), (Lexeme.name name ∷ [], refl, refl))))
 plain_as ts u (Grammar.group {ts = us} i) = grouped (us ++ mark Close ∷ []) refl (us, refl, i)
 
-compared_plain : (ts : List Lexeme) (u : TestTree) → IsComparison ts u → IsSimpleTest ts u
+pub compared_plain : (ts : List Lexeme) (u : TestTree) → IsComparison ts u → IsSimpleTest ts u
 compared_plain ts u (x, tree, (us, vs, split, (ws, marked, i), j)) =
     let is : ts ≡ ws ++ mark (compare_mark x.0.1) ∷ vs = split ∙ ap (λ l. l ++ vs) marked ∙ append_assoc ws (mark (compare_mark x.0.1) ∷ []) vs in
     subst (λ l. IsSimpleTest l u) (sym is) (subst (IsSimpleTest (ws ++ mark (compare_mark x.0.1) ∷ vs)) (sym tree) (Grammar.compare i j))
 
-grouped_plain : (ts vs : List Lexeme) (u : TestTree) → ts ≡ mark Open ∷ vs → IsBefore Close IsTest vs u → IsSimpleTest ts u
+pub grouped_plain : (ts vs : List Lexeme) (u : TestTree) → ts ≡ mark Open ∷ vs → IsBefore Close IsTest vs u → IsSimpleTest ts u
 grouped_plain ts vs u e (ws, closing, i) = subst (λ l. IsSimpleTest l u) (sym (e ∙ ap (λ l. mark Open ∷ l) closing)) (Grammar.group i)
 
-asked_plain : (t : Lexeme) (k : Keyword) (vs : List Lexeme) (u : TestTree) → test_keyword t ≡ Some k → IsTestCall k vs u → IsSimpleTest (t ∷ vs) u
+pub asked_plain : (t : Lexeme) (k : Keyword) (vs : List Lexeme) (u : TestTree) → test_keyword t ≡ Some k → IsTestCall k vs u → IsSimpleTest (t ∷ vs) u
 asked_plain (keyword Match at) k vs u e w =
     let is : IsTestCall Match vs u = subst (λ x. IsTestCall x vs u) (sym (same_some e)) w in
     let tokens : vs ≡ mark Open ∷ (is.2.2.0 ++ mark Close ∷ []) = is.2.1 ∙ ap (λ l. mark Open ∷ l) is.2.2.1 in
@@ -237,7 +246,7 @@ begins_asked tokens r ts us t k u e q split (grouped vs front w) =
     let n : test_keyword t ≡ None = subst (λ x. test_keyword x ≡ None) same.0 refl in
     absurd (cc)
 
-pub asked_reads : (tokens r : List Lexeme) (k : Keyword) → operator_at test_keyword tokens ≡ Some (k, r) → (u : TestTree) (after : List Lexeme) → HasTree (IsTestCall k) Always r u after → HasTree IsSimpleTest (ends 1) tokens u after
+pub asked_reads : (tokens r : List Lexeme) (k : Keyword) → operator_at test_keyword tokens ≡ Some (k, r) → (u : TestTree) (after : List Lexeme) → OneTree (IsTestCall k) Always r u after → OneTree IsSimpleTest (ends 1) tokens u after
 asked_reads tokens r k e u after f =
     let is = operator_is test_keyword tokens r k e in
     record {
@@ -249,7 +258,7 @@ asked_reads tokens r k e u after f =
           f.only i.0 us v i.1 tt i.2;
     }
 
-pub asked_none : (tokens r : List Lexeme) (k : Keyword) → operator_at test_keyword tokens ≡ Some (k, r) → HasNoTree (IsTestCall k) Always r → HasNoTree IsSimpleTest (ends 1) tokens
+pub asked_none : (tokens r : List Lexeme) (k : Keyword) → operator_at test_keyword tokens ≡ Some (k, r) → NoTree (IsTestCall k) Always r → NoTree IsSimpleTest (ends 1) tokens
 asked_none tokens r k e not ts us v split h w =
     let is = operator_is test_keyword tokens r k e in
     let i = begins_asked tokens r ts us is.0 k v is.1 is.2 split (plain_as ts v w) in
@@ -269,7 +278,7 @@ begins_grouped tokens r ts us u e q split (grouped vs front w) =
     let same = same_tail (sym e ∙ split ∙ ap (λ l. l ++ us) front) in
     (vs, sym same.1, w)
 
-pub group_reads : (tokens r : List Lexeme) → tokens ≡ mark Open ∷ r → holds_test (Some 0) r ≡ true → (u : TestTree) (after : List Lexeme) → HasTree (IsBefore Close IsTest) Always r u after → HasTree IsSimpleTest (ends 1) tokens u after
+pub group_reads : (tokens r : List Lexeme) → tokens ≡ mark Open ∷ r → holds_test (Some 0) r ≡ true → (u : TestTree) (after : List Lexeme) → OneTree (IsBefore Close IsTest) Always r u after → OneTree IsSimpleTest (ends 1) tokens u after
 group_reads tokens r e q u after f = record {
   front = mark Open ∷ f.front;
   split = e ∙ ap (λ l. mark Open ∷ l) f.split;
@@ -279,7 +288,7 @@ group_reads tokens r e q u after f = record {
       f.only i.0 us v i.1 tt i.2;
 }
 
-pub group_none : (tokens r : List Lexeme) → tokens ≡ mark Open ∷ r → holds_test (Some 0) r ≡ true → HasNoTree (IsBefore Close IsTest) Always r → HasNoTree IsSimpleTest (ends 1) tokens
+pub group_none : (tokens r : List Lexeme) → tokens ≡ mark Open ∷ r → holds_test (Some 0) r ≡ true → NoTree (IsBefore Close IsTest) Always r → NoTree IsSimpleTest (ends 1) tokens
 group_none tokens r e q not ts us v split h w =
     let i = begins_grouped tokens r ts us v e q split (plain_as ts v w) in
     not i.0 us v i.1 tt i.2
@@ -295,7 +304,7 @@ begins_comparison tokens ts us u q none split (grouped vs front (ws, closing, i)
     let y : holds_test (Some 0) (vs ++ us) ≡ true = ap (holds_test (Some 0)) (ap (λ l. l ++ us) closing ∙ append_assoc ws (mark Close ∷ []) us) ∙ test_tells 0 ws (mark Close ∷ us) u i in
     absurd (cc)
 
-pub compare_reads : (tokens : List Lexeme) → operator_at test_keyword tokens ≡ None → ((r : List Lexeme) → tokens ≡ mark Open ∷ r → holds_test (Some 0) r ≡ false) → (u : TestTree) (after : List Lexeme) → HasTree IsComparison (ends 1) tokens u after → HasTree IsSimpleTest (ends 1) tokens u after
+pub compare_reads : (tokens : List Lexeme) → operator_at test_keyword tokens ≡ None → ((r : List Lexeme) → tokens ≡ mark Open ∷ r → holds_test (Some 0) r ≡ false) → (u : TestTree) (after : List Lexeme) → OneTree IsComparison (ends 1) tokens u after → OneTree IsSimpleTest (ends 1) tokens u after
 compare_reads tokens q none u after f = record {
   front = f.front;
   split = f.split;
@@ -303,7 +312,7 @@ compare_reads tokens q none u after f = record {
   only = λ ts us v split h w. f.only ts us v split h (begins_comparison tokens ts us v q none split (plain_as ts v w));
 }
 
-pub compare_none : (tokens : List Lexeme) → operator_at test_keyword tokens ≡ None → ((r : List Lexeme) → tokens ≡ mark Open ∷ r → holds_test (Some 0) r ≡ false) → HasNoTree IsComparison (ends 1) tokens → HasNoTree IsSimpleTest (ends 1) tokens
+pub compare_none : (tokens : List Lexeme) → operator_at test_keyword tokens ≡ None → ((r : List Lexeme) → tokens ≡ mark Open ∷ r → holds_test (Some 0) r ≡ false) → NoTree IsComparison (ends 1) tokens → NoTree IsSimpleTest (ends 1) tokens
 compare_none tokens q none not ts us v split h w = not ts us v split h (begins_comparison tokens ts us v q none split (plain_as ts v w))
 
 -- `!`
@@ -324,7 +333,7 @@ negated_bang : (ts us r : List Lexeme) (u : TestTree) → mark Bang ∷ r ≡ ts
 negated_bang ts us r u e (Grammar.simple i) = absurd (plain_bang ts us r u e (plain_as ts u i))
 negated_bang ts us r u e (Grammar.not {ts = vs} {a} i) = let k : r ≡ vs ++ us = cc in (vs, a, k, refl, i)
 
-pub bang_reads : (tokens r after : List Lexeme) (a : TestTree) → tokens ≡ mark Bang ∷ r → HasTree IsNegation (ends 1) r a after → HasTree IsNegation (ends 1) tokens (Tree.not a) after
+pub bang_reads : (tokens r after : List Lexeme) (a : TestTree) → tokens ≡ mark Bang ∷ r → OneTree IsNegation (ends 1) r a after → OneTree IsNegation (ends 1) tokens (Tree.not a) after
 bang_reads tokens r after a e f = record {
   front = mark Bang ∷ f.front;
   split = e ∙ ap (λ l. mark Bang ∷ l) f.split;
@@ -335,14 +344,14 @@ bang_reads tokens r after a e f = record {
       (i.3 ∙ ap Tree.not same.0, same.1);
 }
 
-pub bang_none : (tokens r : List Lexeme) → tokens ≡ mark Bang ∷ r → HasNoTree IsNegation (ends 1) r → HasNoTree IsNegation (ends 1) tokens
+pub bang_none : (tokens r : List Lexeme) → tokens ≡ mark Bang ∷ r → NoTree IsNegation (ends 1) r → NoTree IsNegation (ends 1) tokens
 bang_none tokens r e not ts us u split h w = let i = negated_bang ts us r u (sym e ∙ split) w in not i.0 us i.1 i.2 h i.4
 
 negated_plain : (tokens ts us : List Lexeme) (u : TestTree) → ((r : List Lexeme) → tokens ≡ mark Bang ∷ r → ⊥) → tokens ≡ ts ++ us → IsNegation ts u → IsSimpleTest ts u
 negated_plain tokens ts us u none e (Grammar.simple i) = i
 negated_plain tokens ts us u none e (Grammar.not {ts = vs} i) = absurd (none (vs ++ us) e)
 
-pub plain_is_negated : (tokens : List Lexeme) → ((r : List Lexeme) → tokens ≡ mark Bang ∷ r → ⊥) → (a : TestTree) (after : List Lexeme) → HasTree IsSimpleTest (ends 1) tokens a after → HasTree IsNegation (ends 1) tokens a after
+pub plain_is_negated : (tokens : List Lexeme) → ((r : List Lexeme) → tokens ≡ mark Bang ∷ r → ⊥) → (a : TestTree) (after : List Lexeme) → OneTree IsSimpleTest (ends 1) tokens a after → OneTree IsNegation (ends 1) tokens a after
 plain_is_negated tokens none a after f = record {
   front = f.front;
   split = f.split;
@@ -350,5 +359,42 @@ plain_is_negated tokens none a after f = record {
   only = λ ts us u split h w. f.only ts us u split h (negated_plain tokens ts us u none split w);
 }
 
-pub no_plain_negated : (tokens : List Lexeme) → ((r : List Lexeme) → tokens ≡ mark Bang ∷ r → ⊥) → HasNoTree IsSimpleTest (ends 1) tokens → HasNoTree IsNegation (ends 1) tokens
+pub no_plain_negated : (tokens : List Lexeme) → ((r : List Lexeme) → tokens ≡ mark Bang ∷ r → ⊥) → NoTree IsSimpleTest (ends 1) tokens → NoTree IsNegation (ends 1) tokens
 no_plain_negated tokens none not ts us u split h w = not ts us u split h (negated_plain tokens ts us u none split w)
+
+-- a test at a parenthesis is a group or a comparison
+pub grouped_or_compared : (r ts us : List Lexeme) (u : TestTree) → mark Open ∷ r ≡ ts ++ us → PlainAs ts u → ((vs : List Lexeme) → r ≡ vs ++ us → IsBefore Close IsTest vs u → ⊥) → ((ls vs : List Lexeme) (a : ExprTree) → mark Open ∷ r ≡ ls ++ vs → IsExpr ls a → ⊥) → ⊥
+grouped_or_compared r ts us u split (is_comparison (x, tree, (vs, ws, parts, (ls, marked, i), j))) no_group no_expr =
+    no_expr ls (mark (compare_mark x.0.1) ∷ (ws ++ us)) x.0.0 (split ∙ ap (λ l. l ++ us) (parts ∙ ap (λ l. l ++ ws) marked ∙ append_assoc ls (mark (compare_mark x.0.1) ∷ []) ws) ∙ append_assoc ls (mark (compare_mark x.0.1) ∷ ws) us) i
+grouped_or_compared r ts us u split (asked s l vs front is w) no_group no_expr =
+    let same = same_tail (split ∙ ap (λ l. l ++ us) front) in
+    let n : test_keyword s ≡ None = ap test_keyword same.0 in
+    cc
+grouped_or_compared r ts us u split (grouped vs front w) no_group no_expr =
+    let same = same_tail (split ∙ ap (λ l. l ++ us) front) in
+    no_group vs (sym same.1) w
+
+-- without a word of a test it is a comparison or a group
+pub compared_or_grouped : (tokens ts us : List Lexeme) (u : TestTree) → operator_at test_keyword tokens ≡ None → tokens ≡ ts ++ us → PlainAs ts u → (IsComparison ts u → ⊥) → ((ws : List Lexeme) → tokens ≡ mark Open ∷ (ws ++ mark Close ∷ us) → IsTest ws u → ⊥) → ⊥
+compared_or_grouped tokens ts us u q split (is_comparison w) no_comparison no_group = no_comparison w
+compared_or_grouped tokens ts us u q split (asked s l vs front is w) no_comparison no_group =
+    let found : operator_at test_keyword tokens ≡ Some (l, vs ++ us) = ap (operator_at test_keyword) (split ∙ ap (λ l. l ++ us) front) ∙ ap (λ x. after_operator x (vs ++ us)) is in
+    cc
+compared_or_grouped tokens ts us u q split (grouped vs front (ws, closing, i)) no_comparison no_group =
+    no_group ws (split ∙ ap (λ l. l ++ us) (front ∙ ap (λ l. mark Open ∷ l) closing) ∙ ap (λ l. mark Open ∷ l) (append_assoc ws (mark Close ∷ []) us)) i
+
+-- a comparison at a parenthesis holds no test in it
+pub comparison_opening : (ts us : List Lexeme) (u : TestTree) → IsComparison ts u → (r : List Lexeme) → ts ++ us ≡ mark Open ∷ r → holds_test (Some 0) r ≡ false
+comparison_opening ts us u (x, tree, (vs, ws, parts, (ls, marked, i), j)) r e =
+    expr_opening ls (mark (compare_mark x.0.1) ∷ (ws ++ us)) x.0.0 i r (sym e ∙ ap (λ l. l ++ us) (parts ∙ ap (λ l. l ++ ws) marked ∙ append_assoc ls (mark (compare_mark x.0.1) ∷ []) ws) ∙ append_assoc ls (mark (compare_mark x.0.1) ∷ ws) us)
+
+asks_so : (t : Lexeme) (k : Keyword) → test_keyword t ≡ Some k → asks k ≡ true
+asks_so (keyword Match at) k e = ap asks (sym (same_some e))
+asks_so (keyword IsEof at) k e = ap asks (sym (same_some e))
+asks_so (keyword Unique at) k e = ap asks (sym (same_some e))
+asks_so (keyword InArray at) k e = ap asks (sym (same_some e))
+asks_so _ k e = absurd (cc)
+
+-- the word of a test is one of four
+pub asks_at : (tokens r : List Lexeme) (k : Keyword) → operator_at test_keyword tokens ≡ Some (k, r) → asks k ≡ true
+asks_at tokens r k e = let is = operator_is test_keyword tokens r k e in asks_so is.0 k is.2

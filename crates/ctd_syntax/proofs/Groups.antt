@@ -10,7 +10,7 @@ use Rattle.ctd_program.specs.declared.tree.Compare.{Compare}
 use Rattle.ctd_program.specs.declared.tree.Compare.TheVariants.{Less, Greater, AtMost, AtLeast, Equal, Unequal}
 
 -- whether a test stands within so many parentheses
-abbrev H : ℕ → List Lexeme → Bool
+abbrev pub H : ℕ → List Lexeme → Bool
 H n ts = holds_test (Some n) ts
 
 -- two parts with a token between them
@@ -57,7 +57,7 @@ mutual
   exprs_skips n ts rest l (Grammar.one i) = expr_skips n ts rest _ i
   exprs_skips n ts rest l (Grammar.more {ts = us} {us = vs} i j) = over n us vs rest (mark Comma) (expr_skips n us (mark Comma ∷ (vs ++ rest)) _ i ∙ exprs_skips n vs rest _ j)
 
-compare_tells : (by : Compare) (n : ℕ) (ts : List Lexeme) → H n (mark (compare_mark by) ∷ ts) ≡ true
+pub compare_tells : (by : Compare) (n : ℕ) (ts : List Lexeme) → H n (mark (compare_mark by) ∷ ts) ≡ true
 compare_tells Less n ts = refl
 compare_tells Greater n ts = refl
 compare_tells AtMost n ts = refl
@@ -91,7 +91,7 @@ mutual
 abbrev pub Opening : List Lexeme → List Lexeme → Type 0
 Opening ts us = (r : List Lexeme) → mark Open ∷ r ≡ ts ++ us → H 0 r ≡ false
 
-split_over : (r ts vs us : List Lexeme) (t : Lexeme) → mark Open ∷ r ≡ (ts ++ t ∷ vs) ++ us → mark Open ∷ r ≡ ts ++ t ∷ (vs ++ us)
+pub split_over : (r ts vs us : List Lexeme) (t : Lexeme) → mark Open ∷ r ≡ (ts ++ t ∷ vs) ++ us → mark Open ∷ r ≡ ts ++ t ∷ (vs ++ us)
 split_over r ts vs us t e = e ∙ append_assoc ts (t ∷ vs) us
 
 atom_opening : (ts us : List Lexeme) (a : ExprTree) → IsAtom ts a → Opening ts us

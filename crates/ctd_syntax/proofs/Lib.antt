@@ -1,8 +1,17 @@
 pub mod Chains
+pub mod Staying
+pub mod StayFronts
+pub mod StayChains
+pub mod StayAtoms
+pub mod StaySingles
+pub mod StayRows
+pub mod StayGroups
+pub mod StayTests
+pub mod StayTargets
+pub mod StayCommands
 pub mod Fronts
 pub mod Levels
 pub mod Atoms
-pub mod Singles
 pub mod Rows
 pub mod TestLevels
 pub mod Groups
@@ -16,6 +25,7 @@ pub mod RegexNumberLemmas
 pub mod Weights
 pub mod Examples
 pub mod Parsing
+pub mod Places
 pub mod TokensRead
 pub mod BatchesRead
 pub mod TestGroups

@@ -1,19 +1,18 @@
 -- Lists with commas are one item and a chain of commas with items.
-use Rattle.std.proofs.Common.{◌≡◌, ℕ, List, [], ◌∷◌, ◌++◌, Option, Some, None, refl, sym, ap, ◌∙◌, subst, append_assoc, append-nil, arith, ◌⊎◌, inl, inr}
+use Rattle.std.proofs.Common.{◌≡◌, ℕ, List, [], ◌∷◌, ◌++◌, Option, Some, None, refl, sym, ap, ◌∙◌, subst, append_assoc, append-nil, arith}
 use Rattle.std.specs.Prelude.{map}
 use Rattle.ctd_syntax.specs.Lexeme.{Lexeme, mark}
 use Rattle.ctd_program.specs.Tree
 use Rattle.ctd_program.specs.Tree.{ExprTree, ExprList}
 use Rattle.ctd_syntax.specs.Grammar.{IsExpr, IsExprs, IsNames, one, more}
 use Rattle.ctd_syntax.specs.Grammar as grammar
-use Rattle.ctd_syntax.specs.inner.Front.{HasTree, HasNoTree, Spelling, Following, Always, IsBefore, IsName, operator_at}
+use Rattle.ctd_syntax.specs.inner.Front.{OneTree, NoTree, Spelling, Following, Always, IsName, operator_at}
 use Rattle.ctd_syntax.specs.inner.Levels.{ends}
 use Rattle.ctd_program.specs.calls.View.{expr_tree, expr_list}
 use Rattle.ctd_program.specs.declared.tree.Expr.{Expr}
 use Rattle.ctd_token.specs.declared.token.Mark.{Mark}
 use Rattle.ctd_token.specs.declared.token.Mark.TheVariants.{Comma, Close, CloseIndex}
-use Rattle.ctd_syntax.proofs.Chains.{Chain, stop, step, Level, Partly, start, no_start, next, no_next, finish}
-use Rattle.ctd_syntax.proofs.Fronts.{before_reads, before_none, none_before, found_as, none_as}
+use Rattle.ctd_syntax.proofs.Chains.{Chain, stop, step, Level}
 
 -- items with commas between them
 pub data Separated {T : Type 0} (Item : Spelling T) : List Lexeme → List T → Type 0 where
@@ -79,7 +78,7 @@ rows Item ItemEnds end_mark other closes goes_on = record {
     not_both t o us end_mark other e b = let same : t ≡ mark end_mark = cc in let clash : comma (mark end_mark) ≡ Some o = subst (λ c. comma c ≡ Some o) same e in cc
 
 -- one item is a list of one
-pub one_found : {T : Type 0} (Item : Spelling T) (E : Following) (tokens rest : List Lexeme) (a : T) → HasTree Item E tokens a rest → HasTree (IsOne Item) E tokens (a ∷ []) rest
+pub one_found : {T : Type 0} (Item : Spelling T) (E : Following) (tokens rest : List Lexeme) (a : T) → OneTree Item E tokens a rest → OneTree (IsOne Item) E tokens (a ∷ []) rest
 one_found Item E tokens rest a f = record {
   front = f.front;
   split = f.split;
@@ -87,7 +86,7 @@ one_found Item E tokens rest a f = record {
   only = λ ts us u split h w. let same = f.only ts us w.0 split h w.2 in (w.1 ∙ ap (λ x. x ∷ []) same.0, same.1);
 }
 
-pub one_none : {T : Type 0} (Item : Spelling T) (E : Following) (tokens : List Lexeme) → HasNoTree Item E tokens → HasNoTree (IsOne Item) E tokens
+pub one_none : {T : Type 0} (Item : Spelling T) (E : Following) (tokens : List Lexeme) → NoTree Item E tokens → NoTree (IsOne Item) E tokens
 one_none Item E tokens not ts us u split h w = not ts us w.0 split h w.2
 
 -- a comma at the front
@@ -120,52 +119,11 @@ pub list_view : (es : List Expr) → list_of (map expr_tree es) ≡ expr_list es
 list_view [] = refl
 list_view (e ∷ es) = ap (Tree.some (expr_tree e)) (list_view es)
 
--- what is read of a list up to a mark
-abbrev pub PartRow : {T : Type 0} → Spelling T → Mark → List Lexeme → List T → List Lexeme → Type 0
-PartRow Item end_mark tokens xs rest = Partly (Separated Item) (IsOne Item) (Before end_mark) comma append tokens xs rest
-
--- what is read of a list before an item: nothing, or items and a comma
-abbrev pub BeforeItem : {T : Type 0} → Spelling T → Mark → List Lexeme → List T → List Lexeme → Type 0
-BeforeItem Item end_mark tokens xs rest =
-    ((xs ≡ []) × (tokens ≡ rest)) ⊎ ((r : List Lexeme) × PartRow Item end_mark tokens xs r × (r ≡ mark Comma ∷ rest))
-
 -- lists of items up to a mark, as the grammar has them
 pub record Listing {T U : Type 0} (Item : Spelling T) (Whole : Spelling U) (E : Following) (end_mark : Mark) (f : List T → U) : Type 0 where
   pub level : Level (Separated Item) (IsOne Item) (Before end_mark) E comma append
   pub to : (ts : List Lexeme) (xs : List T) → Separated Item ts xs → Whole ts (f xs)
   pub from : (ts : List Lexeme) (l : U) → Whole ts l → (xs : List T) × (f xs ≡ l) × Separated Item ts xs
-
-module _ {T U : Type 0} {Item : Spelling T} {Whole : Spelling U} {E : Following} {end_mark : Mark} {f : List T → U} (listing : Listing Item Whole E end_mark f) where
-  -- nothing of the list's own kind
-  none_listed : (tokens : List Lexeme) → HasNoTree (Separated Item) (Before end_mark) tokens → HasNoTree (IsBefore end_mark Whole) Always tokens
-  none_listed tokens not = none_before Whole (Before end_mark) end_mark (before_mark end_mark) tokens (none_as (Separated Item) Whole (Before end_mark) f listing.from tokens not)
-
-  -- one more item
-  pub lists_item : (tokens rest after : List Lexeme) (xs : List T) (b : T) → BeforeItem Item end_mark tokens xs rest → HasTree Item E rest b after → PartRow Item end_mark tokens (xs ++ b ∷ []) after
-  lists_item tokens rest after xs b before found = elim before [
-    | inl first ↦
-        let at_start : HasTree Item E tokens b after = subst (λ l. HasTree Item E l b after) (sym first.1) found in
-        subst (λ l. PartRow Item end_mark tokens (l ++ b ∷ []) after) (sym first.0) (start listing.level tokens (b ∷ []) after (one_found Item E tokens after b at_start))
-    | inr i ↦ next listing.level tokens xs (b ∷ []) i.0 rest after tt i.1 (comma_at i.0 rest i.2) (one_found Item E rest after b found)
-  ]
-
-  -- none where one would stand
-  pub lists_no_item : (tokens rest : List Lexeme) (xs : List T) → BeforeItem Item end_mark tokens xs rest → HasNoTree Item E rest → HasNoTree (IsBefore end_mark Whole) Always tokens
-  lists_no_item tokens rest xs before not = elim before [
-    | inl first ↦ none_listed tokens (no_start listing.level tokens (one_none Item E tokens (subst (HasNoTree Item E) (sym first.1) not)))
-    | inr i ↦ none_listed tokens (no_next listing.level tokens xs i.0 rest tt i.1 (comma_at i.0 rest i.2) (one_none Item E rest not))
-  ]
-
-  whole : (tokens rest : List Lexeme) (xs : List T) → PartRow Item end_mark tokens xs rest → ((r : List Lexeme) → rest ≡ mark Comma ∷ r → ⊥) → HasTree Whole (Before end_mark) tokens (f xs) rest
-  whole tokens rest xs part none = found_as (Separated Item) Whole (Before end_mark) f listing.to listing.from tokens rest xs (finish listing.level tokens xs rest part (no_comma rest none))
-
-  -- the mark behind the last
-  pub lists_end : (tokens rest r : List Lexeme) (xs : List T) → PartRow Item end_mark tokens xs rest → ((s : List Lexeme) → rest ≡ mark Comma ∷ s → ⊥) → rest ≡ mark end_mark ∷ r → HasTree (IsBefore end_mark Whole) Always tokens (f xs) r
-  lists_end tokens rest r xs part none e = before_reads Whole (Before end_mark) end_mark (before_mark end_mark) tokens rest r (f xs) (whole tokens rest xs part none) e
-
-  -- something else behind it
-  pub lists_unclosed : (tokens rest : List Lexeme) (xs : List T) → PartRow Item end_mark tokens xs rest → ((s : List Lexeme) → rest ≡ mark Comma ∷ s → ⊥) → ((s : List Lexeme) → rest ≡ mark end_mark ∷ s → ⊥) → HasNoTree (IsBefore end_mark Whole) Always tokens
-  lists_unclosed tokens rest xs part none unclosed = before_none Whole (Before end_mark) end_mark (before_mark end_mark) tokens rest (f xs) (whole tokens rest xs part none) unclosed
 
 -- the indices of a variable
 pub index_list : Listing IsExpr IsExprs (ends 1) CloseIndex list_of

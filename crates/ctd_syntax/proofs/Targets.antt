@@ -4,10 +4,9 @@ use Rattle.ctd_syntax.specs.Lexeme.{Lexeme, mark}
 use Rattle.ctd_program.specs.Tree.{ExprTree, VarTree}
 use Rattle.ctd_syntax.specs.Grammar
 use Rattle.ctd_syntax.specs.Grammar.{IsExpr, IsTarget, IsTargetEnd, IsAssignments}
-use Rattle.ctd_syntax.specs.inner.Front.{HasTree, HasNoTree, Always, IsBefore, IsAfter, IsAssignment}
+use Rattle.ctd_syntax.specs.inner.Front.{OneTree, NoTree, Always, IsBefore, IsAfter, IsAssignment}
 use Rattle.ctd_syntax.specs.inner.Levels.{ends}
 use Rattle.ctd_token.specs.declared.token.Mark.TheVariants.{Close, Comma, Assign}
-use Rattle.ctd_syntax.proofs.Fronts.{pair_reads, first_none, second_none}
 use Rattle.ctd_syntax.proofs.Rows.{Separated, alone, and, Listing, rows}
 
 same_tail : {t s : Lexeme} {r vs : List Lexeme} → t ∷ r ≡ s ∷ vs → (s ≡ t) × (vs ≡ r)
@@ -22,7 +21,7 @@ unfolding EndAs
 end_as ts o Grammar.none = inl (refl, refl)
 end_as ts o (Grammar.some {ts = us} {v} i) = inr (v, refl, (us ++ mark Close ∷ [], refl, (us, refl, i)))
 
-pub end_closes : (tokens r : List Lexeme) → tokens ≡ mark Close ∷ r → HasTree IsTargetEnd Always tokens None r
+pub end_closes : (tokens r : List Lexeme) → tokens ≡ mark Close ∷ r → OneTree IsTargetEnd Always tokens None r
 unfolding EndAs
 end_closes tokens r e = record {
   front = mark Close ∷ [];
@@ -34,7 +33,7 @@ end_closes tokens r e = record {
   ];
 }
 
-pub end_reads : (tokens r after : List Lexeme) (v : VarTree) → tokens ≡ mark Comma ∷ r → HasTree (IsBefore Close IsTarget) Always r v after → HasTree IsTargetEnd Always tokens (Some v) after
+pub end_reads : (tokens r after : List Lexeme) (v : VarTree) → tokens ≡ mark Comma ∷ r → OneTree (IsBefore Close IsTarget) Always r v after → OneTree IsTargetEnd Always tokens (Some v) after
 unfolding EndAs
 end_reads tokens r after v e f = record {
   front = mark Comma ∷ f.front;
@@ -49,7 +48,7 @@ end_reads tokens r after v e f = record {
   ];
 }
 
-pub end_none : (tokens r : List Lexeme) → tokens ≡ mark Comma ∷ r → HasNoTree (IsBefore Close IsTarget) Always r → HasNoTree IsTargetEnd Always tokens
+pub end_none : (tokens r : List Lexeme) → tokens ≡ mark Comma ∷ r → NoTree (IsBefore Close IsTarget) Always r → NoTree IsTargetEnd Always tokens
 unfolding EndAs
 end_none tokens r e not ts us u split h w = elim (end_as ts u w) [
   | inl i ↦ (let f : mark Close ≡ mark Comma = (same_tail (sym e ∙ split ∙ ap (λ l. l ++ us) i.0)).0 in cc)
@@ -58,15 +57,13 @@ end_none tokens r e not ts us u split h w = elim (end_as ts u w) [
       not i.2.0 us i.0 (sym tail) tt i.2.2
 ]
 
--- one assignment
-pub assignment_reads : (tokens rest after : List Lexeme) (v : VarTree) (e : ExprTree) → HasTree (IsBefore Assign IsTarget) Always tokens v rest → HasTree IsExpr (ends 1) rest e after → HasTree IsAssignment (ends 1) tokens (v, e) after
-assignment_reads tokens rest after v e f g = pair_reads (IsBefore Assign IsTarget) IsExpr Always (ends 1) (λ vs us b i h. tt) tokens rest after v e f g
-
-pub assignment_no_target : (tokens : List Lexeme) → HasNoTree (IsBefore Assign IsTarget) Always tokens → HasNoTree IsAssignment (ends 1) tokens
-assignment_no_target tokens not = first_none (IsBefore Assign IsTarget) IsExpr Always (ends 1) (λ vs us b i h. tt) tokens not
-
-pub assignment_no_value : (tokens rest : List Lexeme) (v : VarTree) → HasTree (IsBefore Assign IsTarget) Always tokens v rest → HasNoTree IsExpr (ends 1) rest → HasNoTree IsAssignment (ends 1) tokens
-assignment_no_value tokens rest v f not = second_none (IsBefore Assign IsTarget) IsExpr Always (ends 1) (λ vs us b i h. tt) tokens rest v f not
+-- something else than a parenthesis or a comma
+pub end_other : (tokens : List Lexeme) → ((r : List Lexeme) → tokens ≡ mark Close ∷ r → ⊥) → ((r : List Lexeme) → tokens ≡ mark Comma ∷ r → ⊥) → NoTree IsTargetEnd Always tokens
+unfolding EndAs
+end_other tokens not_closed not_comma ts us u split h w = elim (end_as ts u w) [
+  | inl i ↦ not_closed us (split ∙ ap (λ l. l ++ us) i.0)
+  | inr i ↦ not_comma (i.2.0 ++ us) (split ∙ ap (λ l. l ++ us) i.2.1)
+]
 
 -- lists of them
 joined : (ts us vs ws : List Lexeme) → ts ≡ us ++ vs → us ≡ ws ++ mark Assign ∷ [] → ts ≡ ws ++ mark Assign ∷ vs

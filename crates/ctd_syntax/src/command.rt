@@ -275,6 +275,7 @@ fn command_rest<'t>(
     place: Place,
     tokens: Tokens<'t>,
 ) -> ParseResult<'t, Command>
+    requires word { is_command_word word ≡ true }
     ensures tree { FindsTree (IsCommandRest word place) Always (λ x. (command_tree x.0, map lexeme x.1.now)) result (map lexeme tokens.now) }
     ensures shorter { IfOk result (λ x. length x.1.now ≤ length tokens.now) }
 {

@@ -8,7 +8,7 @@ ghost use Rattle.ctd_program.specs.calls.View.{expr_tree, test_tree};
 ghost use Rattle.ctd_syntax.specs.Grammar.{IsTest, IsBoth, IsNegation, IsSimpleTest};
 ghost use Rattle.ctd_syntax.specs.inner.Front.{FindsTree, Always, IsBefore, IsName, StartsWith, lexeme};
 ghost use Rattle.ctd_syntax.specs.inner.Levels.{ends};
-ghost use Rattle.ctd_syntax.specs.inner.TestGrammar.{test_ends, compare_operator, test_keyword, IsTestCall, IsLeft, IsComparison, AreGroups, AreKnownGroups, closes_before_test, role_of, holds_test, is_enough, openings, opens};
+ghost use Rattle.ctd_syntax.specs.inner.TestGrammar.{test_ends, compare_operator, test_keyword, asks, IsTestCall, IsLeft, IsComparison, AreGroups, AreKnownGroups, closes_before_test, role_of, holds_test, is_enough, openings, opens};
 
 use crate::expression::{expr, expr_before};
 use crate::front::{ParseError, ParseResult, Tokens, after_mark, after_open, name_at, read};
@@ -258,6 +258,7 @@ fn in_array<'t>(alloc: Global, tokens: Tokens<'t>) -> ParseResult<'t, Box<Test>>
 
 // What stands behind the word of a test.
 fn test_call<'t>(alloc: Global, keyword: Keyword, tokens: Tokens<'t>) -> ParseResult<'t, Box<Test>>
+    requires asks { asks keyword ≡ true }
     ensures tree { FindsTree (IsTestCall keyword) Always (λ x. (test_tree x.0.value, map lexeme x.1.now)) result (map lexeme tokens.now) }
     ensures shorter { IfOk result (λ x. length x.1.now ≤ length tokens.now) }
 {

@@ -79,6 +79,7 @@ pub(crate) fn after_open<'t>(tokens: Tokens<'t>) -> Result<Tokens<'t>, ParseErro
     ensures found { IfOk result (λ rest. map lexeme tokens.now ≡ Lexeme.mark Mark.Open ∷ map lexeme rest.now) }
     ensures shorter { IfOk result (λ rest. length rest.now < length tokens.now) }
     ensures none { IfErr result (λ _. (ts : List Lexeme) → map lexeme tokens.now ≡ Lexeme.mark Mark.Open ∷ ts → ⊥) }
+    ensures left { IfErr result (λ f. f ≡ ParseError.Syntax (length tokens.now)) }
 {
     match after_mark(Mark::Open, tokens) {
         Some(after) => Ok(after),

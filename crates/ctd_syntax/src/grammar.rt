@@ -1,10 +1,10 @@
 //! From the text of a program to its tree.
 
-ghost use Rattle.std.specs.Prelude.{◌≡◌, ◌≤◌, ◌<◌, None, length, map, IfOk, IfErr, IsErrAnd};
+ghost use Rattle.std.specs.Prelude.{◌≡◌, ◌≤◌, ◌<◌, ◌-◌, None, length, map, IfOk, IfErr, IsErrAnd};
 ghost use Rattle.ctd_syntax.specs.inner.Front.{lexeme, AreLexemes, NestsTooDeep, SpellsNone};
 ghost use Rattle.ctd_syntax.specs.calls.PatternLiterals.{IsNumbered};
 ghost use Rattle.ctd_syntax.specs.calls.Reading.{IsFault};
-ghost use Rattle.ctd_syntax.specs.Reading.{Parses};
+ghost use Rattle.ctd_syntax.specs.Reading.{Parses, place_behind};
 ghost use Rattle.ctd_program.specs.calls.View.{command_trees};
 
 use crate::batches::program_in_batches;
@@ -19,6 +19,7 @@ use std::alloc::Global;
 // The place of the first of the last `left` tokens, or the end of the text.
 fn place_of_rest(text: &[u8], tokens: &[Token], left: usize) -> Place
     requires { length text.now ≤ PROGRAM_LIMIT }
+    ensures { result ≡ place_behind text.now tokens.now (length tokens.now - left) }
 {
     match tokens.get(tokens.len().saturating_sub(left)) {
         Some(token) => token.place,
@@ -29,7 +30,7 @@ fn place_of_rest(text: &[u8], tokens: &[Token], left: usize) -> Place
 // The fault of a text whose tokens spell no program, where so many of them are left from the first that fits nowhere. Its place is that of
 // a token, for which the text is cut again.
 fn no_program(alloc: Global, text: &[u8], left: usize) -> LoadFault
-    requires { SpellsNone text.now }
+    requires { SpellsNone text.now left }
     ensures { IsFault text.now result.kind result.place }
 {
     match tokens(alloc, text) {

@@ -1,7 +1,7 @@
 -- What reading from the front of a list of tokens gives; for the contracts of private functions alone.
 use Rattle.ctd_token.specs.declared.token.TokenKind.TheVariants as tokens
 use Rattle.ctd_syntax.specs.declared.parser_token.ParserToken.TheVariants as parser_tokens
-use Rattle.std.specs.Prelude.{◌≡◌, ℕ, List, [], ◌∷◌, ◌++◌, Option, Some, None, Result, Ok, Err}
+use Rattle.std.specs.Prelude.{◌≡◌, ◌-◌, ℕ, List, [], ◌∷◌, ◌++◌, length, Option, Some, None, Result, Ok, Err}
 use Rattle.ctd_token.specs.Cut.{TokenOrFault, token_at}
 use Rattle.ctd_token.specs.declared.text.Place.{Place}
 use Rattle.ctd_token.specs.declared.token.Mark.{Mark}
@@ -11,7 +11,7 @@ use Rattle.ctd_program.specs.Tree.{ExprTree, VarTree, CommandList}
 use Rattle.ctd_syntax.specs.Grammar.{IsCommands, IsExpr, IsTarget}
 use Rattle.ctd_syntax.specs.Lexeme.{Lexeme, mark, span_of}
 use Rattle.ctd_syntax.specs.Nesting.{IsShallow, PassesLimitAt}
-use Rattle.ctd_syntax.specs.Reading.{IsCut, lexemes}
+use Rattle.ctd_syntax.specs.Reading.{IsCut, IsFirstWrong, lexemes}
 use Rattle.ctd_syntax.specs.declared.front.ParseError.{ParseError}
 use Rattle.ctd_syntax.specs.declared.front.ParseError.TheVariants.{Syntax, Memory}
 use Rattle.ctd_syntax.specs.declared.keyword.Keyword.{Keyword}
@@ -52,13 +52,13 @@ pub record AreLexemes (program : List ℕ) (seen : List Lexeme) : Type 0 where
 abbrev pub NestsTooDeep : List ℕ → ℕ → Type 0
 NestsTooDeep program before = (ts : List Token) → IsCut program ts → PassesLimitAt (lexemes program ts) before
 
--- these tokens do not nest too deeply, and spell no program
-abbrev pub AreNoProgram : List ℕ → List Token → Type 0
-AreNoProgram program ts = IsShallow (lexemes program ts) × ((tree : CommandList) → ¬ (IsCommands (lexemes program ts) tree))
+-- these tokens do not nest too deeply, and spell no program; the first with which none goes on is the first of so many that are left
+abbrev pub AreNoProgram : List ℕ → ℕ → List Token → Type 0
+AreNoProgram program left ts = IsShallow (lexemes program ts) × ((tree : CommandList) → ¬ (IsCommands (lexemes program ts) tree)) × IsFirstWrong (lexemes program ts) (length ts - left)
 
--- whatever tokens a text is cut into, they do not nest too deeply and spell no program
-abbrev pub SpellsNone : List ℕ → Type 0
-SpellsNone program = (ts : List Token) → IsCut program ts → AreNoProgram program ts
+-- whatever tokens a text is cut into, this holds of them
+abbrev pub SpellsNone : List ℕ → ℕ → Type 0
+SpellsNone program left = (ts : List Token) → IsCut program ts → AreNoProgram program left ts
 
 -- which tokens spell which trees
 abbrev pub Spelling : Type 0 → Type 1
@@ -73,20 +73,44 @@ abbrev pub Always : Following
 Always ts = Unit {0}
 
 -- t is the one tree at the front of the tokens, up to those after it
-pub record HasTree {T : Type 0} (Spells : Spelling T) (Ends : Following) (tokens : List Lexeme) (t : T) (after : List Lexeme) : Type 0 where
+pub record OneTree {T : Type 0} (Spells : Spelling T) (Ends : Following) (tokens : List Lexeme) (t : T) (after : List Lexeme) : Type 0 where
   pub front : List Lexeme
   pub split : tokens ≡ front ++ after
   pub spells : Spells front t
   pub only : (ts us : List Lexeme) (u : T) → tokens ≡ ts ++ us → Ends us → Spells ts u → (u ≡ t) × (us ≡ after)
 
 -- no tree is at the front of the tokens
-abbrev pub HasNoTree : {T : Type 0} → Spelling T → Following → List Lexeme → Type 0
-HasNoTree {T} Spells Ends tokens = (ts us : List Lexeme) (u : T) → tokens ≡ ts ++ us → Ends us → Spells ts u → ⊥
+abbrev pub NoTree : {T : Type 0} → Spelling T → Following → List Lexeme → Type 0
+NoTree {T} Spells Ends tokens = (ts us : List Lexeme) (u : T) → tokens ≡ ts ++ us → Ends us → Spells ts u → ⊥
 
--- an error other than for memory says that there is none
+-- the first of some tokens, or nothing
+abbrev pub first_of : List Lexeme → Option Lexeme
+first_of [] = None
+first_of (t ∷ ts) = Some t
+
+-- the tokens up to those left, and the first of these, say it: it stays so whatever follows
+pub record Stays (P : List Lexeme → List Lexeme → Type 0) (tokens left : List Lexeme) : Type 0 where
+  pub front : List Lexeme
+  pub split : tokens ≡ front ++ left
+  pub holds : (others : List Lexeme) → first_of others ≡ first_of left → P (front ++ others) others
+
+-- t is the one tree at the front of the tokens, up to those after it, whatever follows the first of these
+abbrev pub HasTree : {T : Type 0} → Spelling T → Following → List Lexeme → T → List Lexeme → Type 0
+HasTree Spells Ends tokens t after = Stays (λ ts us. OneTree Spells Ends ts t us) tokens after
+
+-- no tree is at the front of the tokens, whatever follows the first of so many that are left; but one begins with those before
+pub record HasNoTree {T : Type 0} (Spells : Spelling T) (Ends : Following) (tokens : List Lexeme) (left : ℕ) : Type 0 where
+  pub rest : List Lexeme
+  pub counted : length rest ≡ left
+  pub known : Stays (λ ts us. NoTree Spells Ends ts) tokens rest
+  pub more : List Lexeme
+  pub some : T
+  pub goes_on : Spells (known.front ++ more) some
+
+-- an error other than for memory tells the first token with which no tree goes on
 abbrev pub IsRefusal : {T : Type 0} → Spelling T → Following → ParseError → List Lexeme → Type 0
 IsRefusal Spells Ends Memory tokens = Unit {0}
-IsRefusal Spells Ends (Syntax left) tokens = HasNoTree Spells Ends tokens
+IsRefusal Spells Ends (Syntax left) tokens = HasNoTree Spells Ends tokens left
 
 -- a tree that is read is the one there
 abbrev pub FindsTree : {X T : Type 0} → Spelling T → Following → (X → T × List Lexeme) → Result X ParseError → List Lexeme → Type 0

@@ -44,6 +44,14 @@ test_keyword (keyword Unique at) = Some Unique
 test_keyword (keyword InArray at) = Some InArray
 test_keyword _ = None
 
+-- whether a word is one of them
+abbrev pub asks : Keyword → Bool
+asks Match = true
+asks IsEof = true
+asks Unique = true
+asks InArray = true
+asks _ = false
+
 -- what stands behind such a word
 abbrev pub IsTestCall : Keyword → Spelling TestTree
 IsTestCall Match ts u = (a : ExprTree) × (u ≡ Tree.matches a) × IsAfter Open (IsBefore Close IsExpr) ts a

@@ -3,7 +3,7 @@ use Rattle.std.specs.Prelude.{map}
 use Rattle.ctd_program.specs.calls.View.{command_trees}
 use Rattle.ctd_program.specs.declared.tree.Command.{Command}
 use Rattle.ctd_syntax.specs.inner.Front.{lexeme}
-use Rattle.ctd_syntax.proofs.CommandReads.{PartCommands}
+use Rattle.ctd_syntax.proofs.StayCommands.{PartCommands}
 use Rattle.ctd_syntax.proofs.batches.all_commands.Given as goal
 
 abbrev pub invariant-loop-rest : goal.invariant-loop-rest

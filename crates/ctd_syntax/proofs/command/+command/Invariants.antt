@@ -2,7 +2,7 @@ use Rattle.std.proofs.Common.{◌≤◌, length, ◌+◌, ◌*◌}
 use Rattle.std.specs.Prelude.{map}
 use Rattle.ctd_program.specs.calls.View.{command_trees}
 use Rattle.ctd_syntax.specs.inner.Front.{lexeme}
-use Rattle.ctd_syntax.proofs.CommandReads.{PartCommands}
+use Rattle.ctd_syntax.proofs.StayCommands.{PartCommands}
 use Rattle.ctd_syntax.proofs.command.+command.Given as goal
 
 abbrev pub decreases-command : goal.decreases-command

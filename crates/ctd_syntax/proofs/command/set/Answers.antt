@@ -1,16 +1,18 @@
 use Rattle.std.specs.Prelude.{map}
+use Rattle.std.proofs.lemmas.List.{length-map}
 use Rattle.ctd_program.specs.Tree
 use Rattle.ctd_syntax.specs.inner.Front.{Always, IsBefore, lexeme}
 use Rattle.ctd_syntax.specs.Grammar.{IsAssignments}
 use Rattle.ctd_syntax.specs.inner.CommandWords.{IsCommandRest}
 use Rattle.ctd_token.specs.declared.token.Mark.TheVariants.{Close}
 use Rattle.ctd_syntax.specs.declared.keyword.Keyword.TheVariants as words
-use Rattle.ctd_syntax.proofs.Fronts.{refused_as, no_tree_as}
-use Rattle.ctd_syntax.proofs.CommandReads.{opened_reads, opened_none, not_opened}
+use Rattle.ctd_syntax.proofs.StayFronts.{refused_as, no_tree_as, counted_as}
+use Rattle.ctd_syntax.proofs.StayCommands.{opened_reads, opened_none, not_opened, before_of}
+use Rattle.ctd_syntax.proofs.StayTargets.{some_assignments}
 use Rattle.ctd_syntax.proofs.command.set.Goals as goal
 
 pub returns-in-Err-clause-tree : goal.returns-in-Err-clause-tree
-returns-in-Err-clause-tree c = no_tree_as (IsCommandRest words.Set c.args.place) Always (map lexeme c.args.tokens.now) c.in-Err.fault (not_opened (Tree.set c.args.place) (IsBefore Close IsAssignments) Always (map lexeme c.args.tokens.now) c.in-Err.ensures.none)
+returns-in-Err-clause-tree c = no_tree_as (IsCommandRest words.Set c.args.place) Always (map lexeme c.args.tokens.now) _ c.in-Err.fault c.in-Err.ensures.left (counted_as (IsCommandRest words.Set c.args.place) Always (map lexeme c.args.tokens.now) _ _ (length-map c.args.tokens.now lexeme) (not_opened (Tree.set c.args.place) (IsBefore Close IsAssignments) Always (before_of Close IsAssignments some_assignments) (map lexeme c.args.tokens.now) c.in-Err.ensures.none))
 
 pub returns-in-Err-assignments-clause-tree : goal.returns-in-Err-assignments-clause-tree
 returns-in-Err-assignments-clause-tree c = refused_as (IsBefore Close IsAssignments) (IsCommandRest words.Set c.args.place) Always Always (map lexeme c.in-Ok.read.now) (map lexeme c.args.tokens.now) c.in-Err-assignments.fault (opened_none (Tree.set c.args.place) (IsBefore Close IsAssignments) Always (map lexeme c.args.tokens.now) (map lexeme c.in-Ok.read.now) c.in-Ok.ensures.found) c.in-Err-assignments.ensures.tree

@@ -1,14 +1,16 @@
 use Rattle.std.proofs.Common.{arith}
 use Rattle.std.specs.Prelude.{map}
+use Rattle.std.proofs.lemmas.List.{length-map}
+use Rattle.ctd_syntax.proofs.Conditions.{asks_at}
 use Rattle.ctd_syntax.specs.inner.Front.{Always, IsBefore, lexeme}
 use Rattle.ctd_syntax.specs.Grammar.{IsTest, IsBoth, IsNegation, IsSimpleTest}
 use Rattle.ctd_syntax.specs.inner.Levels.{ends}
 use Rattle.ctd_syntax.specs.inner.TestGrammar.{test_ends, IsTestCall, IsComparison}
 use Rattle.ctd_token.specs.declared.token.Mark.TheVariants.{Close}
-use Rattle.ctd_syntax.proofs.Fronts.{reads_as, refused_as, before_reads}
-use Rattle.ctd_syntax.proofs.Chains.{start, no_start, finish, next, no_next}
+use Rattle.ctd_syntax.proofs.StayFronts.{reads_as, refused_as, before_reads, before_none, none_before, counted_as}
+use Rattle.ctd_syntax.proofs.StayChains.{start, no_start, finish, next, no_next}
 use Rattle.ctd_syntax.proofs.TestLevels.{ors, ands, or_at, and_at, no_or, no_and}
-use Rattle.ctd_syntax.proofs.Conditions.{bang_reads, bang_none, plain_is_negated, no_plain_negated, asked_reads, asked_none, group_reads, group_none, compare_reads, compare_none}
+use Rattle.ctd_syntax.proofs.StayTests.{bang_reads, bang_none, plain_is_negated, no_plain_negated, asked_reads, asked_none, group_reads, group_none, compare_reads, compare_none}
 use Rattle.ctd_syntax.proofs.condition.+condition.Goals as goal
 
 pub test-returns-in-Err-clause-tree : goal.test-returns-in-Err-clause-tree
@@ -61,3 +63,12 @@ simple_test-returns-clause-tree t c = reads_as IsComparison IsSimpleTest (ends 1
 
 pub test_before-returns-in-Some-clause-tree : goal.test_before-returns-in-Some-clause-tree
 test_before-returns-in-Some-clause-tree t c = before_reads IsTest (test_ends 1) c.args.mark (λ us. c.requires.ends) (map lexeme c.args.tokens.now) (map lexeme c.in-Ok.read.1.now) (map lexeme c.in-Some.rest.now) _ c.in-Ok.ensures.tree c.in-Some.ensures.found
+
+pub test_before-returns-in-Err-clause-tree : goal.test_before-returns-in-Err-clause-tree
+test_before-returns-in-Err-clause-tree t c = refused_as IsTest (IsBefore c.args.mark IsTest) (test_ends 1) Always (map lexeme c.args.tokens.now) (map lexeme c.args.tokens.now) c.in-Err.fault (none_before IsTest (test_ends 1) c.args.mark (λ us. c.requires.ends) (map lexeme c.args.tokens.now)) c.in-Err.ensures.tree
+
+pub test_before-returns-in-None-clause-tree : goal.test_before-returns-in-None-clause-tree
+test_before-returns-in-None-clause-tree t c = counted_as (IsBefore c.args.mark IsTest) Always (map lexeme c.args.tokens.now) _ _ (length-map c.in-Ok.read.1.now lexeme) (before_none IsTest (test_ends 1) c.args.mark (λ us. c.requires.ends) (map lexeme c.args.tokens.now) (map lexeme c.in-Ok.read.1.now) _ c.in-Ok.ensures.tree c.in-None.ensures.none)
+
+pub simple_test-test_call-requires : goal.simple_test-test_call-requires
+simple_test-test_call-requires t c = record { asks = asks_at (map lexeme c.args.tokens.now) (map lexeme c.in-Some.rest.now) c.in-Some.keyword c.in-Some.ensures.operator }

@@ -4,7 +4,7 @@ use Rattle.ctd_program.specs.calls.View.{test_tree}
 use Rattle.ctd_syntax.specs.Grammar.{IsTest, IsBoth, IsNegation}
 use Rattle.ctd_syntax.specs.inner.Front.{lexeme}
 use Rattle.ctd_syntax.specs.inner.TestGrammar.{test_ends}
-use Rattle.ctd_syntax.proofs.Chains.{Partly}
+use Rattle.ctd_syntax.proofs.StayChains.{Partly}
 use Rattle.ctd_syntax.proofs.TestLevels.{or_operator, and_operator, either, together}
 use Rattle.ctd_syntax.proofs.condition.+condition.Given as goal
 

@@ -3,8 +3,8 @@ use Rattle.ctd_syntax.specs.inner.Front.{Always, lexeme}
 use Rattle.ctd_syntax.specs.Grammar.{IsExpr}
 use Rattle.ctd_syntax.specs.inner.Levels.{ends}
 use Rattle.ctd_syntax.specs.inner.TestGrammar.{IsLeft, IsComparison}
-use Rattle.ctd_syntax.proofs.Fronts.{refused_as}
-use Rattle.ctd_syntax.proofs.Conditions.{compared_reads, compared_no_left, compared_no_right}
+use Rattle.ctd_syntax.proofs.StayFronts.{refused_as}
+use Rattle.ctd_syntax.proofs.StayTests.{compared_reads, compared_no_left, compared_no_right}
 use Rattle.ctd_syntax.proofs.condition.comparison.Goals as goal
 
 pub returns-in-Err-clause-tree : goal.returns-in-Err-clause-tree

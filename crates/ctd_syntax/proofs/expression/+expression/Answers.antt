@@ -6,16 +6,18 @@ use Rattle.ctd_syntax.specs.Grammar.{IsExpr, IsExprs, IsProduct, IsSigned, IsPow
 use Rattle.ctd_syntax.specs.inner.Front.{HasTree, Always, IsBefore, lexeme}
 use Rattle.ctd_syntax.specs.inner.Levels.{ends}
 use Rattle.ctd_token.specs.declared.token.Mark.TheVariants.{Open, Close, CloseIndex}
-use Rattle.ctd_syntax.proofs.Chains.{start, no_start, finish, next, no_next}
+use Rattle.ctd_syntax.proofs.StayChains.{start, no_start, finish, next, no_next}
 use Rattle.ctd_syntax.proofs.Levels.{sums, products}
-use Rattle.ctd_syntax.proofs.Fronts.{reads_as, refused_as, before_reads}
-use Rattle.ctd_syntax.proofs.Rows.{PartRow, index_list, list_of, list_view, lists_item, lists_no_item, lists_end, lists_unclosed}
-use Rattle.ctd_syntax.proofs.Atoms.{minus_reads, minus_none, power_is_signed, no_power_signed, power_reads, power_none, atom_is_power, no_atom_power, numeral_reads, text_reads, variable_reads, variable_none, variable_plain, variable_indexed, variable_bad_index, not_strlen_begins, strlen_reads, strlen_none, group_reads, group_none, not_open_begins, no_atom}
+use Rattle.ctd_syntax.proofs.StayFronts.{reads_as, refused_as, before_reads, before_none, none_before, counted_as}
+use Rattle.ctd_syntax.proofs.Rows.{index_list, list_of, list_view}
+use Rattle.ctd_syntax.proofs.StayRows.{PartRow, lists_item, lists_no_item, lists_end, lists_unclosed}
+use Rattle.ctd_syntax.proofs.Atoms.{not_strlen_begins, not_open_begins}
+use Rattle.ctd_syntax.proofs.StayAtoms.{no_variable, nothing_atom, strlen_unopened, minus_reads, minus_none, power_is_signed, no_power_signed, power_reads, power_none, atom_is_power, no_atom_power, numeral_reads, text_reads, variable_reads, variable_none, variable_plain, variable_indexed, variable_bad_index, strlen_reads, strlen_none, group_reads, group_none, no_atom}
 use Rattle.ctd_program.specs.Tree
 use Rattle.ctd_syntax.specs.declared.parser_token.ParserToken.TheVariants as parser_tokens
 use Rattle.ctd_syntax.specs.declared.keyword.Keyword.TheVariants.{Strlen}
 use Rattle.std.proofs.lemmas.Int.{to_z-of_z}
-use Rattle.std.proofs.lemmas.List.{map-append}
+use Rattle.std.proofs.lemmas.List.{map-append, length-map}
 use Rattle.std.specs.Int.{w128}
 use Rattle.ctd_program.specs.declared.tree.Var.{Var}
 use Rattle.ctd_syntax.proofs.expression.+expression.Goals as goal
@@ -124,7 +126,7 @@ pub indices-returns-in_default-after_mark-clause-tree : goal.indices-returns-in_
 indices-returns-in_default-after_mark-clause-tree t c =
     let is : map expr_tree c.push.new.self.items ≡ map expr_tree c.loop-read.items.items ++ expr_tree c.in-Ok.read.0 ∷ [] = ap (map expr_tree) c.in_ok-push.ensures.items ∙ map-append expr_tree c.loop-read.items.items (c.in-Ok.read.0 ∷ []) in
     let part : PartRow IsExpr CloseIndex (map lexeme c.args.tokens.now) (map expr_tree c.push.new.self.items) (map lexeme c.in-Ok.read.1.now) = rw is (lists_item index_list (map lexeme c.args.tokens.now) (map lexeme c.loop-read.left.now) (map lexeme c.in-Ok.read.1.now) (map expr_tree c.loop-read.items.items) (expr_tree c.in-Ok.read.0) c.loop-read.invariant.before c.in-Ok.ensures.tree) in
-    lists_unclosed index_list (map lexeme c.args.tokens.now) (map lexeme c.in-Ok.read.1.now) (map expr_tree c.push.new.self.items) part c.in_default.ensures.none c.in_default-after_mark.ensures.none
+    counted_as (IsBefore CloseIndex IsExprs) Always (map lexeme c.args.tokens.now) _ _ (length-map c.in-Ok.read.1.now lexeme) (lists_unclosed index_list (map lexeme c.args.tokens.now) (map lexeme c.in-Ok.read.1.now) (map expr_tree c.push.new.self.items) part c.in_default.ensures.none c.in_default-after_mark.ensures.none)
 
 pub atom-returns-in-Mark-Open-clause-tree : goal.atom-returns-in-Mark-Open-clause-tree
 atom-returns-in-Mark-Open-clause-tree t c =
@@ -134,8 +136,8 @@ atom-returns-in-Mark-Open-clause-tree t c =
 
 pub atom-returns-in_default-first-clause-tree : goal.atom-returns-in_default-first-clause-tree
 atom-returns-in_default-first-clause-tree t c = elim c.in_default-first.branch [
-  | atom-in_default-first-via-in-Keyword+in_default w ↦ no_atom (map lexeme c.args.tokens.now) (map lexeme c.in-Some.rest.now) (Lexeme.keyword w.in_default-first.field-0 w.in_default-first.field-1) (ap (map lexeme) c.in-Some.ensures.cases.0 ∙ ap (λ x. lexeme x ∷ map lexeme c.in-Some.rest.now) w.in_default-first.is) (not_strlen_begins w.in_default-first.field-0 _ (search rules))
-  | atom-in_default-first-via-in-Mark+in_default w ↦ no_atom (map lexeme c.args.tokens.now) (map lexeme c.in-Some.rest.now) (mark w.in_default-first.field-0) (ap (map lexeme) c.in-Some.ensures.cases.0 ∙ ap (λ x. lexeme x ∷ map lexeme c.in-Some.rest.now) w.in_default-first.is) (not_open_begins w.in_default-first.field-0 (search rules))
+  | atom-in_default-first-via-in-Keyword+in_default w ↦ counted_as IsAtom (ends 4) (map lexeme c.args.tokens.now) _ _ (length-map c.args.tokens.now lexeme) (no_atom (map lexeme c.args.tokens.now) (map lexeme c.in-Some.rest.now) (Lexeme.keyword w.in_default-first.field-0 w.in_default-first.field-1) (ap (map lexeme) c.in-Some.ensures.cases.0 ∙ ap (λ x. lexeme x ∷ map lexeme c.in-Some.rest.now) w.in_default-first.is) (not_strlen_begins w.in_default-first.field-0 _ (search rules)))
+  | atom-in_default-first-via-in-Mark+in_default w ↦ counted_as IsAtom (ends 4) (map lexeme c.args.tokens.now) _ _ (length-map c.args.tokens.now lexeme) (no_atom (map lexeme c.args.tokens.now) (map lexeme c.in-Some.rest.now) (mark w.in_default-first.field-0) (ap (map lexeme) c.in-Some.ensures.cases.0 ∙ ap (λ x. lexeme x ∷ map lexeme c.in-Some.rest.now) w.in_default-first.is) (not_open_begins w.in_default-first.field-0 (search rules)))
 ]
 
 pub atom-returns-in-Err-parenthesized-clause-tree : goal.atom-returns-in-Err-parenthesized-clause-tree
@@ -149,3 +151,21 @@ atom-returns-in_ok-new-in-Some-after_mark-clause-tree t c =
     let is_strlen : c.in-Keyword-Strlen-default.field-0 ≡ Strlen = search (rules, c.in-Keyword-Strlen-default.is, c.in-Keyword-Strlen-default.field-0-is) in
     let called : map lexeme c.args.tokens.now ≡ Lexeme.keyword Strlen c.in-Keyword-Strlen-default.field-1 ∷ map lexeme c.in-Some.rest.now = ap (map lexeme) c.in-Some.ensures.cases.0 ∙ ap (λ x. lexeme x ∷ map lexeme c.in-Some.rest.now) (c.in-Keyword-Strlen-default.is ∙ ap (λ x. parser_tokens.Keyword x c.in-Keyword-Strlen-default.field-1) is_strlen) in
     rw c.in_ok-new-in-Some-after_mark.ensures.ok (strlen_reads (map lexeme c.args.tokens.now) (map lexeme c.in-Some.rest.now) (map lexeme c.in-Some-after_mark.rest.now) _ _ _ called c.in-Some-after_mark.ensures.found c.in-Ok-parenthesized.ensures.tree)
+
+pub parenthesized-returns-in-Err-clause-tree : goal.parenthesized-returns-in-Err-clause-tree
+parenthesized-returns-in-Err-clause-tree t c = refused_as IsExpr (IsBefore Close IsExpr) (ends 1) Always (map lexeme c.args.tokens.now) (map lexeme c.args.tokens.now) c.in-Err.fault (none_before IsExpr (ends 1) Close (λ us. omega arith) (map lexeme c.args.tokens.now)) c.in-Err.ensures.tree
+
+pub parenthesized-returns-in-None-clause-tree : goal.parenthesized-returns-in-None-clause-tree
+parenthesized-returns-in-None-clause-tree t c = counted_as (IsBefore Close IsExpr) Always (map lexeme c.args.tokens.now) _ _ (length-map c.in-Ok.read.1.now lexeme) (before_none IsExpr (ends 1) Close (λ us. omega arith) (map lexeme c.args.tokens.now) (map lexeme c.in-Ok.read.1.now) _ c.in-Ok.ensures.tree c.in-None.ensures.none)
+
+pub atom-returns-in_default-clause-tree : goal.atom-returns-in_default-clause-tree
+atom-returns-in_default-clause-tree t c = nothing_atom (map lexeme c.args.tokens.now) (length-map c.args.tokens.now lexeme ∙ c.in_default.ensures.cases)
+
+pub atom-returns-in-None-clause-tree : goal.atom-returns-in-None-clause-tree
+atom-returns-in-None-clause-tree t c =
+    let is_strlen : c.in-Keyword-Strlen-default.field-0 ≡ Strlen = search (rules, c.in-Keyword-Strlen-default.is, c.in-Keyword-Strlen-default.field-0-is) in
+    let called : map lexeme c.args.tokens.now ≡ Lexeme.keyword Strlen c.in-Keyword-Strlen-default.field-1 ∷ map lexeme c.in-Some.rest.now = ap (map lexeme) c.in-Some.ensures.cases.0 ∙ ap (λ x. lexeme x ∷ map lexeme c.in-Some.rest.now) (c.in-Keyword-Strlen-default.is ∙ ap (λ x. parser_tokens.Keyword x c.in-Keyword-Strlen-default.field-1) is_strlen) in
+    counted_as IsAtom (ends 4) (map lexeme c.args.tokens.now) _ _ (length-map c.in-Some.rest.now lexeme) (strlen_unopened (map lexeme c.args.tokens.now) (map lexeme c.in-Some.rest.now) _ called c.in-None.ensures.none)
+
+pub variable-returns-in_default-clause-tree : goal.variable-returns-in_default-clause-tree
+variable-returns-in_default-clause-tree t c = counted_as IsTarget (ends 4) (map lexeme c.args.tokens.now) _ _ (length-map c.args.tokens.now lexeme) (no_variable (map lexeme c.args.tokens.now) c.in_default.ensures.none)

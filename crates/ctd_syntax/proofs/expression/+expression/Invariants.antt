@@ -4,9 +4,9 @@ use Rattle.ctd_program.specs.calls.View.{expr_tree}
 use Rattle.ctd_syntax.specs.Grammar.{IsExpr, IsProduct, IsSigned}
 use Rattle.ctd_syntax.specs.inner.Front.{lexeme}
 use Rattle.ctd_syntax.specs.inner.Levels.{ends, sum_operator, product_operator, join}
-use Rattle.ctd_syntax.proofs.Rows.{BeforeItem}
+use Rattle.ctd_syntax.proofs.StayRows.{BeforeItem}
 use Rattle.ctd_token.specs.declared.token.Mark.TheVariants.{CloseIndex}
-use Rattle.ctd_syntax.proofs.Chains.{Partly}
+use Rattle.ctd_syntax.proofs.StayChains.{Partly}
 use Rattle.ctd_syntax.proofs.expression.+expression.Given as goal
 
 abbrev pub decreases-indices : goal.decreases-indices

@@ -1,14 +1,17 @@
 use Rattle.std.proofs.Common.{arith}
-use Rattle.std.proofs.lemmas.Grind.{common_steps}
 use Rattle.std.specs.Prelude.{map}
-use Rattle.ctd_syntax.specs.inner.Front.{lexeme}
+use Rattle.std.proofs.lemmas.List.{length-map}
+use Rattle.ctd_syntax.specs.inner.Front.{lexeme, Always, IsBefore}
 use Rattle.ctd_syntax.specs.Grammar.{IsExpr}
 use Rattle.ctd_syntax.specs.inner.Levels.{ends}
-use Rattle.ctd_syntax.proofs.Fronts.{before_reads}
+use Rattle.ctd_syntax.proofs.StayFronts.{before_reads, before_none, none_before, refused_as, counted_as}
 use Rattle.ctd_syntax.proofs.expression.expr_before.Goals as goal
 
 pub returns-in-Some-clause-tree : goal.returns-in-Some-clause-tree
 returns-in-Some-clause-tree c = before_reads IsExpr (ends 1) c.args.mark (λ us. omega (arith, c.requires.ends)) (map lexeme c.args.tokens.now) (map lexeme c.in-Ok.read.1.now) (map lexeme c.in-Some.rest.now) _ c.in-Ok.ensures.tree c.in-Some.ensures.found
 
+pub returns-in-Err-clause-tree : goal.returns-in-Err-clause-tree
+returns-in-Err-clause-tree c = refused_as IsExpr (IsBefore c.args.mark IsExpr) (ends 1) Always (map lexeme c.args.tokens.now) (map lexeme c.args.tokens.now) c.in-Err.fault (none_before IsExpr (ends 1) c.args.mark (λ us. omega (arith, c.requires.ends)) (map lexeme c.args.tokens.now)) c.in-Err.ensures.tree
+
 pub returns-in-None-clause-tree : goal.returns-in-None-clause-tree
-returns-in-None-clause-tree c = grind (arith, common_steps)
+returns-in-None-clause-tree c = counted_as (IsBefore c.args.mark IsExpr) Always (map lexeme c.args.tokens.now) _ _ (length-map c.in-Ok.read.1.now lexeme) (before_none IsExpr (ends 1) c.args.mark (λ us. omega (arith, c.requires.ends)) (map lexeme c.args.tokens.now) (map lexeme c.in-Ok.read.1.now) _ c.in-Ok.ensures.tree c.in-None.ensures.none)

@@ -7,8 +7,8 @@ use Rattle.ctd_syntax.specs.inner.Levels.{ends}
 use Rattle.ctd_syntax.specs.Lexeme.{Lexeme}
 use Rattle.ctd_program.specs.Tree
 use Rattle.ctd_program.specs.Tree.{VarTree}
-use Rattle.ctd_syntax.proofs.Atoms.{numeral_reads, variable_plain, variable_reads}
-use Rattle.ctd_syntax.proofs.Singles.{atom_is_product, no_index}
+use Rattle.ctd_syntax.proofs.StayAtoms.{numeral_reads, variable_plain, variable_reads}
+use Rattle.ctd_syntax.proofs.StaySingles.{atom_is_product, no_index}
 use Rattle.ctd_syntax.proofs.expression.single_token.Goals as goal
 
 pub returns-in-Numeral-clause-tree : goal.returns-in-Numeral-clause-tree

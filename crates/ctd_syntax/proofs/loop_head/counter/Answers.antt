@@ -3,8 +3,8 @@ use Rattle.ctd_syntax.specs.inner.Front.{Always, IsBefore, lexeme}
 use Rattle.ctd_syntax.specs.Grammar.{IsTarget}
 use Rattle.ctd_syntax.specs.inner.CommandWords.{IsCounter}
 use Rattle.ctd_token.specs.declared.token.Mark.TheVariants.{Comma}
-use Rattle.ctd_syntax.proofs.Fronts.{refused_as}
-use Rattle.ctd_syntax.proofs.CommandReads.{counter_reads, counter_none}
+use Rattle.ctd_syntax.proofs.StayFronts.{refused_as}
+use Rattle.ctd_syntax.proofs.StayCommands.{counter_reads, counter_none}
 use Rattle.ctd_syntax.proofs.loop_head.counter.Goals as goal
 
 pub returns-in-Err-clause-tree : goal.returns-in-Err-clause-tree

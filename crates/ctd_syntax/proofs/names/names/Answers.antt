@@ -1,10 +1,12 @@
 use Rattle.std.proofs.Common.{length, ◌≡◌, [], ◌∷◌, ◌++◌, ap, sym, arith, inl, inr}
 use Rattle.std.specs.Prelude.{map}
+use Rattle.std.proofs.lemmas.List.{length-map}
 use Rattle.ctd_syntax.specs.inner.Front.{Always, IsBefore, IsName, lexeme}
 use Rattle.ctd_syntax.specs.Grammar.{IsNames}
 use Rattle.ctd_token.specs.declared.token.Mark.TheVariants.{Close}
-use Rattle.ctd_syntax.proofs.Fronts.{refused_as}
-use Rattle.ctd_syntax.proofs.Rows.{PartRow, name_list, lists_item, lists_no_item, lists_end, lists_unclosed}
+use Rattle.ctd_syntax.proofs.StayFronts.{refused_as, counted_as}
+use Rattle.ctd_syntax.proofs.Rows.{name_list}
+use Rattle.ctd_syntax.proofs.StayRows.{PartRow, lists_item, lists_no_item, lists_end, lists_unclosed}
 use Rattle.ctd_syntax.proofs.names.names.Goals as goal
 
 pub loop-read-init : goal.loop-read-init
@@ -29,4 +31,4 @@ pub returns-in_default-after_mark-clause-tree : goal.returns-in_default-after_ma
 returns-in_default-after_mark-clause-tree c =
     let is : c.push.new.self.items ≡ c.loop-read.items.items ++ c.in-Ok.read.0 ∷ [] = c.in_ok-push.ensures.items in
     let part : PartRow IsName Close (map lexeme c.args.tokens.now) c.push.new.self.items (map lexeme c.in-Ok.read.1.now) = rw is (lists_item name_list (map lexeme c.args.tokens.now) (map lexeme c.loop-read.left.now) (map lexeme c.in-Ok.read.1.now) c.loop-read.items.items c.in-Ok.read.0 c.loop-read.invariant.before c.in-Ok.ensures.tree) in
-    lists_unclosed name_list (map lexeme c.args.tokens.now) (map lexeme c.in-Ok.read.1.now) c.push.new.self.items part c.in_default.ensures.none c.in_default-after_mark.ensures.none
+    counted_as (IsBefore Close IsNames) Always (map lexeme c.args.tokens.now) _ _ (length-map c.in-Ok.read.1.now lexeme) (lists_unclosed name_list (map lexeme c.args.tokens.now) (map lexeme c.in-Ok.read.1.now) c.push.new.self.items part c.in_default.ensures.none c.in_default-after_mark.ensures.none)

@@ -2,7 +2,7 @@ use Rattle.std.proofs.Common.{◌≤◌, length}
 use Rattle.std.specs.Prelude.{map}
 use Rattle.ctd_syntax.specs.inner.Front.{lexeme, IsName}
 use Rattle.ctd_token.specs.declared.token.Mark.TheVariants.{Close}
-use Rattle.ctd_syntax.proofs.Rows.{BeforeItem}
+use Rattle.ctd_syntax.proofs.StayRows.{BeforeItem}
 use Rattle.ctd_syntax.proofs.names.names.Given as goal
 
 abbrev pub invariant-loop-read : goal.invariant-loop-read

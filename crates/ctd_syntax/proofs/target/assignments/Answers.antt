@@ -1,14 +1,14 @@
 use Rattle.std.proofs.Common.{length, ◌≡◌, [], ◌∷◌, ◌++◌, ap, ◌∙◌, sym, arith, inl, inr}
 use Rattle.std.specs.Prelude.{map}
-use Rattle.std.proofs.lemmas.List.{map-append}
+use Rattle.std.proofs.lemmas.List.{map-append, length-map}
 use Rattle.ctd_syntax.specs.inner.Front.{Always, IsBefore, IsAssignment, lexeme}
 use Rattle.ctd_syntax.specs.Grammar.{IsAssignments}
 use Rattle.ctd_syntax.specs.inner.Levels.{ends}
 use Rattle.ctd_program.specs.calls.View.{assignment}
 use Rattle.ctd_token.specs.declared.token.Mark.TheVariants.{Close}
-use Rattle.ctd_syntax.proofs.Fronts.{refused_as}
+use Rattle.ctd_syntax.proofs.StayFronts.{refused_as, counted_as}
 use Rattle.ctd_syntax.proofs.Targets.{assignment_list}
-use Rattle.ctd_syntax.proofs.Rows.{PartRow, lists_item, lists_no_item, lists_end, lists_unclosed}
+use Rattle.ctd_syntax.proofs.StayRows.{PartRow, lists_item, lists_no_item, lists_end, lists_unclosed}
 use Rattle.ctd_syntax.proofs.target.assignments.Goals as goal
 
 pub loop-read-init : goal.loop-read-init
@@ -33,4 +33,4 @@ pub returns-in_default-after_mark-clause-tree : goal.returns-in_default-after_ma
 returns-in_default-after_mark-clause-tree c =
     let is : map assignment c.push.new.self.items ≡ map assignment c.loop-read.items.items ++ assignment c.in-Ok.read.0 ∷ [] = ap (map assignment) c.in_ok-push.ensures.items ∙ map-append assignment c.loop-read.items.items (c.in-Ok.read.0 ∷ []) in
     let part : PartRow IsAssignment Close (map lexeme c.args.tokens.now) (map assignment c.push.new.self.items) (map lexeme c.in-Ok.read.1.now) = rw is (lists_item assignment_list (map lexeme c.args.tokens.now) (map lexeme c.loop-read.left.now) (map lexeme c.in-Ok.read.1.now) (map assignment c.loop-read.items.items) (assignment c.in-Ok.read.0) c.loop-read.invariant.before c.in-Ok.ensures.tree) in
-    lists_unclosed assignment_list (map lexeme c.args.tokens.now) (map lexeme c.in-Ok.read.1.now) (map assignment c.push.new.self.items) part c.in_default.ensures.none c.in_default-after_mark.ensures.none
+    counted_as (IsBefore Close IsAssignments) Always (map lexeme c.args.tokens.now) _ _ (length-map c.in-Ok.read.1.now lexeme) (lists_unclosed assignment_list (map lexeme c.args.tokens.now) (map lexeme c.in-Ok.read.1.now) (map assignment c.push.new.self.items) part c.in_default.ensures.none c.in_default-after_mark.ensures.none)

@@ -3,7 +3,7 @@ use Rattle.std.specs.Prelude.{map}
 use Rattle.ctd_syntax.specs.inner.Front.{lexeme, IsAssignment}
 use Rattle.ctd_program.specs.calls.View.{assignment}
 use Rattle.ctd_token.specs.declared.token.Mark.TheVariants.{Close}
-use Rattle.ctd_syntax.proofs.Rows.{BeforeItem}
+use Rattle.ctd_syntax.proofs.StayRows.{BeforeItem}
 use Rattle.ctd_syntax.proofs.target.assignments.Given as goal
 
 abbrev pub invariant-loop-read : goal.invariant-loop-read

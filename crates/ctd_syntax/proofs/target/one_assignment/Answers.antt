@@ -3,8 +3,8 @@ use Rattle.ctd_syntax.specs.inner.Front.{Always, IsBefore, IsAssignment, lexeme}
 use Rattle.ctd_syntax.specs.Grammar.{IsExpr, IsTarget}
 use Rattle.ctd_syntax.specs.inner.Levels.{ends}
 use Rattle.ctd_token.specs.declared.token.Mark.TheVariants.{Assign}
-use Rattle.ctd_syntax.proofs.Fronts.{refused_as}
-use Rattle.ctd_syntax.proofs.Targets.{assignment_reads, assignment_no_target, assignment_no_value}
+use Rattle.ctd_syntax.proofs.StayFronts.{refused_as}
+use Rattle.ctd_syntax.proofs.StayTargets.{assignment_reads, assignment_no_target, assignment_no_value}
 use Rattle.ctd_syntax.proofs.target.one_assignment.Goals as goal
 
 pub returns-in-Err-clause-tree : goal.returns-in-Err-clause-tree

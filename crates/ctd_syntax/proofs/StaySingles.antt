@@ -1,4 +1,4 @@
--- An atom is a product where no tighter operator stands before it or behind it.
+-- An atom is a product where no tighter operator stands before it or behind it, whatever follows.
 use Rattle.std.proofs.Common.{◌≡◌, ◌<◌, List, ◌∷◌, subst, arith}
 use Rattle.ctd_syntax.specs.Lexeme.{Lexeme, mark}
 use Rattle.ctd_program.specs.Tree.{ExprTree}
@@ -6,8 +6,8 @@ use Rattle.ctd_syntax.specs.Grammar.{IsAtom, IsProduct}
 use Rattle.ctd_syntax.specs.inner.Front.{HasTree}
 use Rattle.ctd_syntax.specs.inner.Levels.{ends}
 use Rattle.ctd_token.specs.declared.token.Mark.TheVariants.{Minus, Caret, OpenIndex}
-use Rattle.ctd_syntax.proofs.Atoms.{atom_is_power, power_is_signed}
-use Rattle.ctd_syntax.proofs.Chains.{start, finish}
+use Rattle.ctd_syntax.proofs.StayAtoms.{atom_is_power, power_is_signed}
+use Rattle.ctd_syntax.proofs.StayChains.{start, finish}
 use Rattle.ctd_syntax.proofs.Levels.{products, no_product_operator}
 
 no_caret : (us r : List Lexeme) → ends 2 us → us ≡ mark Caret ∷ r → ⊥
