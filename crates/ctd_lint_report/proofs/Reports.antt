@@ -3,6 +3,7 @@ use Rattle.std.proofs.Common.{◌≢◌, ℕ, All, List, Ok, Err, Option, inl, i
 use Rattle.ctd_source.specs.declared.source.Source.{Ghosts}
 use Rattle.ctd_token.specs.declared.fault.LoadFault.{LoadFault}
 use Rattle.ctd_token.specs.declared.fault.LoadKind.TheVariants.{Memory}
+use Rattle.ctd_token.specs.declared.text.Place.{Place}
 use Rattle.ctd_program.specs.Tree.{CommandList}
 use Rattle.ctd_loader.specs.calls.Loading.{LoadsFrom}
 use Rattle.ctd_report.specs.Report.{on_err}
@@ -11,7 +12,7 @@ use Rattle.ctd_findings.specs.calls.Findings.{IsPlaced, IsTrueOfRuns, places_of}
 use Rattle.ctd_lint_report.specs.declared.setup.LintSetup.{LintSetup}
 use Rattle.ctd_traps.specs.declared.program.TrapList.{TrapList}
 use Rattle.ctd_lint_report.specs.calls.Report.{AreRemarks, IsLintReport, call, program_report, remarks_of}
-use Rattle.ctd_lint_report.specs.calls.Text.{error_line}
+use Rattle.ctd_lint_report.specs.calls.Text.{refusal_lines}
 use Rattle.ctd_lint_report.specs.calls.Traps.{AreTraps}
 
 module _ {V P : Type 0} (tree_of : V → CommandList) (G : Ghosts P) (file : List ℕ) (setup : LintSetup) (old new : P) where
@@ -32,6 +33,7 @@ module _ {V P : Type 0} (tree_of : V → CommandList) (G : Ghosts P) (file : Lis
       })
 
   -- a program that was refused
-  pub reports_refusal : (fault : LoadFault) → LoadsFrom tree_of G old new (Err fault) → fault.kind ≢ Memory
-      → IsLintReport AreRemarks file setup (call G old new) (on_err (error_line file fault))
-  reports_refusal fault l other = inr (record { fault = fault; text = l.bytes; gave_text = l.gave; within = l.short; fails = l.answer other; report_is = refl })
+  pub reports_refusal : (fault : LoadFault) (unclosed : Option Place) → LoadsFrom tree_of G old new (Err fault) → fault.kind ≢ Memory
+      → IsLintReport AreRemarks file setup (call G old new) (on_err (refusal_lines file fault unclosed))
+  reports_refusal fault unclosed l other =
+      inr (record { fault = fault; text = l.bytes; gave_text = l.gave; within = l.short; fails = l.answer other; unclosed = unclosed; report_is = refl })

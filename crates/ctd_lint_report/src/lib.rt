@@ -7,6 +7,7 @@ mod reason;
 mod setup;
 mod text;
 mod traps;
+mod unclosed;
 
 pub use kind::LintKind;
 pub use program::{NO_WARNINGS, lint};

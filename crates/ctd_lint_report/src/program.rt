@@ -7,18 +7,19 @@ ghost use Rattle.ctd_report.specs.calls.Written.{Leaves};
 ghost use Rattle.ctd_report.specs.Written.{WritesOneOf, before_after};
 ghost use Rattle.ctd_lint_report.specs.calls.Reasons.{reason_of};
 ghost use Rattle.ctd_lint_report.specs.calls.Report.{AreRemarks, IsLintReport, call, findings_status, is_told, names_of, program_lines, program_report, program_status, remarks_of};
-ghost use Rattle.ctd_lint_report.specs.calls.Text.{error_line, kept};
+ghost use Rattle.ctd_lint_report.specs.calls.Text.{kept, refusal_lines};
 ghost use Rattle.ctd_lint_report.specs.calls.Traps.{verdict_lines, verdict_status};
 
 use crate::kind::{LintKind, is_ignored};
 use crate::setup::LintSetup;
-use crate::text::{error_text, findings_text};
+use crate::text::{findings_text, refusal_text};
 use crate::traps::{some_open, too_large_text, traps_text, write_verdict_line};
+use crate::unclosed::unclosed_command;
 use ctd_findings::{Finding, Rank, findings};
 use ctd_loader::Plan;
 use ctd_report::{NO_VERDICT, Sink, ToolFault, write_report};
 use ctd_source::Source;
-use ctd_token::{Bytes, LoadFault, LoadKind};
+use ctd_token::{Bytes, LoadFault, LoadKind, Place};
 use ctd_traps::{TrapList, traps};
 use std::alloc::{AllocError, Global};
 
@@ -132,18 +133,21 @@ fn write_refusal<O: Sink, E: Sink>(
     alloc: Global,
     file: &Bytes,
     fault: &LoadFault,
+    unclosed: Option<Place>,
     out: &mut O,
     err: &mut E,
 ) -> Result<u8, ToolFault>
     requires out_works { O.has_failed out.old ≡ false }
     requires err_works { E.has_failed err.old ≡ false }
-    ensures written { Leaves (before_after O.Sink out.old out.new) (before_after E.Sink err.old err.new) (on_err (error_line file.now fault.now)) result }
+    ensures written { Leaves (before_after O.Sink out.old out.new) (before_after E.Sink err.old err.new)
+        (on_err (refusal_lines file.now fault.now unclosed)) result }
 {
-    let text = error_text(alloc, file.as_slice(), fault)?;
+    let text = refusal_text(alloc, file.as_slice(), fault, unclosed)?;
     write_report(&[], text.as_slice(), NO_VERDICT, out, err)
 }
 
-/// Reads the program in a file and writes a line for each finding and trap, and returns the status. A program that is refused has a line on standard error.
+/// Reads the program in a file and writes a line for each finding and trap, and returns the status. A program that is refused has a line on
+/// standard error, and where it breaks off a second one at the command that has no END.
 ///
 /// `Write` is returned where a stream failed, which then holds a part of its text from the start, and the other stream nothing.
 /// `Memory` is returned where memory ran out: nothing was written.
@@ -161,11 +165,15 @@ pub fn lint<P: Source, O: Sink, E: Sink>(
     ensures written { WritesOneOf (before_after O.Sink out.old out.new) (before_after E.Sink err.old err.new)
         (IsLintReport AreRemarks file.now setup.now (call P.Source program.old program.new)) result }
 {
-    let plan = match Plan::load(alloc, program) {
+    let mut text = Vec::new(alloc);
+    let plan = match Plan::load_text(alloc, program, &mut text) {
         Ok(plan) => plan,
         Err(fault) => match fault.kind {
             LoadKind::Memory => return Err(ToolFault::Memory),
-            _ => return write_refusal(alloc, file, &fault, out, err),
+            _ => {
+                let unclosed = unclosed_command(alloc, text.as_slice(), &fault)?;
+                return write_refusal(alloc, file, &fault, unclosed, out, err);
+            }
         },
     };
     let told = traps(alloc, plan.commands(), &setup.presets)?;

@@ -1,7 +1,7 @@
 //! How findings and faults are written: as compilers do, so that editors find their places.
 
 ghost use Rattle.std.specs.Prelude.{◌≡◌, ◌++◌, decimal, OnOk, IfOk};
-ghost use Rattle.ctd_lint_report.specs.calls.Text.{error_line, fault_place_text, finding_line, findings_lines, kept, name_text, open_line, rank_text, remark_text};
+ghost use Rattle.ctd_lint_report.specs.calls.Text.{fault_place_text, finding_line, findings_lines, kept, name_text, open_line, rank_text, refusal_lines, remark_text, unclosed_line};
 ghost use Rattle.ctd_lint_report.specs.calls.Traps.{place_text};
 
 use crate::kind::{LintKind, is_ignored};
@@ -100,19 +100,37 @@ fn write_fault_place(place: Option<Place>, text: &mut Vec<u8>) -> Result<(), All
     }
 }
 
-/// The line of a program that is refused.
-pub(crate) fn error_text(
+/// Appends the line of the command that has no END, if one is found.
+fn write_unclosed(
+    file: &[u8],
+    unclosed: Option<Place>,
+    text: &mut Vec<u8>,
+) -> Result<(), AllocError>
+    ensures { OnOk result (text.new.items ≡ text.old.items ++ unclosed_line file.now unclosed) }
+{
+    let Some(place) = unclosed else {
+        return Ok(());
+    };
+    text.extend_from_slice(file)?;
+    write_place(place, text)?;
+    text.extend_from_slice(b": note: this command has no END\n")
+}
+
+/// The lines of a program that is refused.
+pub(crate) fn refusal_text(
     alloc: Global,
     file: &[u8],
     fault: &LoadFault,
+    unclosed: Option<Place>,
 ) -> Result<Vec<u8>, AllocError>
-    ensures { IfOk result (λ text. text.items ≡ error_line file.now fault.now) }
+    ensures { IfOk result (λ text. text.items ≡ refusal_lines file.now fault.now unclosed) }
 {
     let mut text = file.to_vec(alloc)?;
     write_fault_place(fault.place, &mut text)?;
     text.extend_from_slice(b": error: ")?;
     text.extend_from_slice(fault.kind.text().as_bytes())?;
     text.push(b'\n')?;
+    write_unclosed(file, unclosed, &mut text)?;
     Ok(text)
 }
 

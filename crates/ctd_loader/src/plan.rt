@@ -10,7 +10,7 @@ ghost use Rattle.ctd_loader.specs.inner.Literals.{literals_at};
 ghost use Rattle.ctd_loader.specs.Loading.{ArePatterns, IsBadPattern};
 
 use crate::literals::literals_of;
-use crate::text::receive;
+use crate::text::{ReceivedText, receive};
 use ctd_pattern::{Matcher, Pattern, PatternFault};
 use ctd_source::Source;
 use ctd_syntax::{Command, LoadFault, LoadKind, PROGRAM_LIMIT, PatternLiteral, Program, parse};
@@ -137,6 +137,34 @@ impl Plan {
         Ok(Plan { program, patterns })
     }
 
+    /// As `load`, and leaves the bytes that the source gave in `text`, but where memory ran out.
+    pub fn load_text<P: Source>(
+        alloc: Global,
+        program: &mut P,
+        text: &mut Vec<u8>,
+    ) -> Result<Plan, LoadFault>
+        requires { P.seen program.old ≡ Going }
+        ensures loads { LoadsFrom command_trees P.Source program.old program.new result }
+        ensures memory { IfErr result (λ fault. fault.kind ≡ LoadKind.Memory → fault.place ≡ None) }
+    {
+        let received = receive(alloc, program, PROGRAM_LIMIT + 1)?;
+        let ReceivedText { bytes, failed } = received;
+        *text = bytes;
+        if text.len() > PROGRAM_LIMIT {
+            return Err(LoadFault {
+                kind: LoadKind::ProgramTooLong,
+                place: None,
+            });
+        }
+        if failed {
+            return Err(LoadFault {
+                kind: LoadKind::Read,
+                place: None,
+            });
+        }
+        Plan::read(alloc, text.as_slice())
+    }
+
     /// Reads a program to its end: the commands that its text is.
     ///
     /// The source is read until it ends, until a read fails (`Read`), or until a byte more than a program may have came
@@ -147,19 +175,7 @@ impl Plan {
         ensures loads { LoadsFrom command_trees P.Source program.old program.new result }
         ensures memory { IfErr result (λ fault. fault.kind ≡ LoadKind.Memory → fault.place ≡ None) }
     {
-        let text = receive(alloc, program, PROGRAM_LIMIT + 1)?;
-        if text.bytes.len() > PROGRAM_LIMIT {
-            return Err(LoadFault {
-                kind: LoadKind::ProgramTooLong,
-                place: None,
-            });
-        }
-        if text.failed {
-            return Err(LoadFault {
-                kind: LoadKind::Read,
-                place: None,
-            });
-        }
-        Plan::read(alloc, &text.bytes)
+        let mut text = Vec::new(alloc);
+        Plan::load_text(alloc, program, &mut text)
     }
 }

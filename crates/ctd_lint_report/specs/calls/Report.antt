@@ -7,6 +7,7 @@ use Rattle.ctd_source.specs.declared.source.Source.{Ghosts}
 use Rattle.ctd_source.specs.SourceReads.{GaveBytes}
 use Rattle.ctd_token.specs.declared.fault.LoadFault.{LoadFault}
 use Rattle.ctd_token.specs.declared.limits.TheConstants.{PROGRAM_LIMIT}
+use Rattle.ctd_token.specs.declared.text.Place.{Place}
 use Rattle.ctd_program.specs.Tree.{CommandList}
 use Rattle.ctd_loader.specs.Loading.{Loads, MayFail}
 use Rattle.ctd_report.specs.Report.{Report, on_err, on_out}
@@ -19,7 +20,7 @@ use Rattle.ctd_traps.specs.declared.finding.Finding.{Finding as Trap}
 use Rattle.ctd_traps.specs.declared.program.TrapList.{TrapList}
 use Rattle.ctd_lint_report.specs.calls.Kinds.{is_told_kind}
 use Rattle.ctd_lint_report.specs.calls.Reasons.{reason_of}
-use Rattle.ctd_lint_report.specs.calls.Text.{error_line, findings_lines, kept}
+use Rattle.ctd_lint_report.specs.calls.Text.{findings_lines, kept, refusal_lines}
 use Rattle.ctd_lint_report.specs.calls.Traps.{AreTraps, is_same_place, verdict_lines, verdict_status}
 
 -- a source as a call begins and as it ends
@@ -66,14 +67,15 @@ pub record ReportsProgram {P : Type 0} {G : Ghosts P} (IsRemark : Remarking) (fi
   pub remarked : IsRemark file setup tree told remarks
   pub report_is : report ≡ program_report file setup remarks told
 
--- the source gave a text that may have this fault, and the report is that of the fault
+-- the source gave a text that may have this fault, and the report is that of the fault; which command is told to have no END is left open
 pub record ReportsRefusal {P : Type 0} {G : Ghosts P} (file : List ℕ) (program : Call G) (report : Report) : Type 0 where
   pub fault : LoadFault
   pub text : List ℕ
   pub gave_text : GaveBytes G program.old program.new text
   pub within : length text ≤ PROGRAM_LIMIT + 1
   pub fails : MayFail text (G.seen program.new) fault
-  pub report_is : report ≡ on_err (error_line file fault)
+  pub unclosed : Option Place
+  pub report_is : report ≡ on_err (refusal_lines file fault unclosed)
 
 -- what is reported of the program in a file
 abbrev pub IsLintReport : {P : Type 0} {G : Ghosts P} → Remarking → List ℕ → LintSetup → Call G → Report → Type 0

@@ -45,9 +45,14 @@ abbrev pub fault_place_text : Option Place → List ℕ
 fault_place_text None = []
 fault_place_text (Some p) = place_text p
 
--- the line of a program that is refused
-abbrev pub error_line : List ℕ → LoadFault → List ℕ
-error_line file fault = file ++ fault_place_text fault.place ++ codes ": error: " ++ faults.kind_text fault.kind ++ codes "\n"
+-- the line of the command that has no END, if one is found
+abbrev pub unclosed_line : List ℕ → Option Place → List ℕ
+unclosed_line file None = []
+unclosed_line file (Some p) = file ++ (place_text p ++ codes ": note: this command has no END\n")
+
+-- the lines of a program that is refused
+abbrev pub refusal_lines : List ℕ → LoadFault → Option Place → List ℕ
+refusal_lines file fault unclosed = file ++ fault_place_text fault.place ++ codes ": error: " ++ faults.kind_text fault.kind ++ codes "\n" ++ unclosed_line file unclosed
 
 -- the line of a program that cannot be opened
 abbrev pub open_line : List ℕ → List ℕ

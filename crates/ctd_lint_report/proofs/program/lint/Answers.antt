@@ -5,7 +5,7 @@ use Rattle.ctd_report.proofs.WrittenLemmas.{Leaves-WritesOneOf}
 use Rattle.ctd_findings.specs.declared.finding.Finding.{Finding}
 use Rattle.ctd_findings.specs.calls.Findings.{IsPlaced, IsTrueOfRuns, places_of}
 use Rattle.ctd_lint_report.specs.calls.Report.{program_report, remarks_of}
-use Rattle.ctd_lint_report.specs.calls.Text.{error_line}
+use Rattle.ctd_lint_report.specs.calls.Text.{refusal_lines}
 use Rattle.ctd_lint_report.specs.calls.Traps.{AreTraps}
 use Rattle.ctd_traps.specs.calls.Events.{NeverHappens, events_of}
 use Rattle.ctd_lint_report.proofs.Reports.{reports_program, reports_refusal}
@@ -14,15 +14,15 @@ use Rattle.ctd_lint_report.proofs.program.lint.Goals as goal
 pub returns : goal.returns
 returns g c =
     let setup = c.args.setup.now in
-    let found = c.as_slice.result.now in
+    let found = c.as_slice-2.result.now in
     let told = c.in_ok-told.told in
     let tree = command_trees c.in-Ok.plan in
     let traps : AreTraps tree setup.presets told = subst (λ p. AreTraps (command_trees p) setup.presets told) c.commands.ensures.whole c.in_ok-told.ensures.each in
     let never : IfSome told (λ list. NeverHappens tree setup.presets (events_of list.never.items)) =
     subst (λ p. IfSome told (λ list. NeverHappens (command_trees p) setup.presets (events_of list.never.items))) c.commands.ensures.whole c.in_ok-told.ensures.never in
-    let placed = subst (λ (fs : List Finding). All (IsPlaced (places_of tree)) fs) (sym c.as_slice.ensures.value)
+    let placed = subst (λ (fs : List Finding). All (IsPlaced (places_of tree)) fs) (sym c.as_slice-2.ensures.value)
     (subst (λ p. All (IsPlaced (places_of (command_trees p))) c.in_ok-found.found.items) c.commands-2.ensures.whole c.in_ok-found.ensures.placed) in
-    let meant = subst (λ (fs : List Finding). All (IsTrueOfRuns tree setup.presets) fs) (sym c.as_slice.ensures.value)
+    let meant = subst (λ (fs : List Finding). All (IsTrueOfRuns tree setup.presets) fs) (sym c.as_slice-2.ensures.value)
     (subst (λ p. IfSome told (λ list. NeverHappens (command_trees p) setup.presets (events_of list.never.items)) → All (IsTrueOfRuns (command_trees p) setup.presets) c.in_ok-found.found.items) c.commands-2.ensures.whole c.in_ok-found.ensures.meant never) in
     record {
       written = Leaves-WritesOneOf _ _ _ (program_report c.args.file.now setup (remarks_of c.args.file.now setup found told) told) c.write_program.result
@@ -32,7 +32,7 @@ returns g c =
 
 pub returns-in_default : goal.returns-in_default
 returns-in_default g c = record {
-  written = Leaves-WritesOneOf _ _ _ (on_err (error_line c.args.file.now c.in-Err.fault)) c.write_refusal.result
-      (reports_refusal command_trees g.P.Source c.args.file.now c.args.setup.now c.args.program.now _ c.in-Err.fault c.in-Err.ensures.loads c.in_default.not-Memory)
+  written = Leaves-WritesOneOf _ _ _ (on_err (refusal_lines c.args.file.now c.in-Err.fault c.in_ok-unclosed-in_default.unclosed)) c.write_refusal.result
+      (reports_refusal command_trees g.P.Source c.args.file.now c.args.setup.now c.args.program.now _ c.in-Err.fault c.in_ok-unclosed-in_default.unclosed c.in-Err.ensures.loads c.in_default.not-Memory)
       c.write_refusal.ensures.written;
 }
