@@ -123,10 +123,16 @@ class Repository:
         """The imports of definitions and of code here that the reader does not find, with the file of each; what it does not see cannot be reached."""
         for importer in [*self.modules.values(), *self.sources]:
             for path, name in importer.names.values():
-                parts = path.split('.')
-                # `contracts` is what the toolchain makes of contracts, for proofs.
-                if parts[0] in self.exports and 'contracts' not in parts and self.find(path, name) not in self.edges:
+                if self.is_lost(path, name):
                     yield importer.file, f'{path}.{name}'
+
+    def is_lost(self, path, name):
+        """Whether a name is one of ours that the reader does not find."""
+        if path in self.modules and name in self.modules[path].passed_on:
+            return self.is_lost(*self.modules[path].names[name])
+        parts = path.split('.')
+        # `contracts` is what the toolchain makes of contracts, for proofs.
+        return parts[0] in self.exports and 'contracts' not in parts and self.find(path, name) not in self.edges
 
     def is_proof(self, node):
         """Whether a definition is the proof of a fact, which the prover has read."""

@@ -26,6 +26,7 @@ CONVERSION = re.compile(r"\bimpl(?:<T: Drop>)? From<Alloc(?:Error|Failed<T>)> fo
 # The function, by its file, and why its answer comes after a failed allocation alone.
 ELSEWHERE = {
     ("ctd_arguments/src/words.rt", "texts_of"): "a push failed",
+    ("ctd_command/src/regex.rt", "pass_match_anew"): "loading built a pattern of the same literal, so only memory can prevent it",
     ("ctd_in_memory/src/run.rt", "run_in_memory"): "the words could not be split, which only memory can prevent",
     ("ctd_lint_tool/src/command_line.rt", "copies_of"): "a push failed",
     ("ctd_lint_tool/src/command_line.rt", "kinds_named"): "a push failed",

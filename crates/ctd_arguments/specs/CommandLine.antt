@@ -9,20 +9,12 @@ use Rattle.clap.specs.declared.builder.ArgAction.TheVariants.{Set, SetTrue}
 abbrev pub option_rule : Text → Option ℕ → ArgAction → Rule
 option_rule name short action = record (new_rule name) { long = Some name; short = short; action = Some action }
 
--- the program's file, which has to be there
-abbrev pub program_rule : Rule
-program_rule = record (new_rule (codes "PROGRAM")) { required = true; action = Some Set }
-
--- the command with a version and no argument
-abbrev pub bare_checker : App
-bare_checker = on_top (λ s. record s { has_version = true }) (new_app (codes "checktestdata"))
-
--- The options with their letters, and the two files. It is opened only by name: computed at words that are not known, what clap makes of it is very large.
+-- The command, which has a version; the options with their letters; and the two files, of which that of the program has to be there. It is opened only by name: computed at words that are not known, what clap makes of it is very large.
 unfoldable pub checker : App
-checker = fold with_rule bare_checker (
+checker = fold with_rule (on_top (λ s. record s { has_version = true }) (new_app (codes "checktestdata"))) (
     option_rule (codes "generate") (Some 103) SetTrue ∷
     option_rule (codes "define") (Some 68) Set ∷
     option_rule (codes "quiet") (Some 113) SetTrue ∷
     option_rule (codes "whitespace-ok") (Some 119) SetTrue ∷
     option_rule (codes "max-steps") None Set ∷
-    program_rule ∷ new_rule (codes "TESTDATA") ∷ [])
+    record (new_rule (codes "PROGRAM")) { required = true; action = Some Set } ∷ new_rule (codes "TESTDATA") ∷ [])

@@ -3,9 +3,9 @@
 ghost use Rattle.std.specs.Prelude.{◌≡◌, IfOk, None, Some, codes, is_some, map, true};
 ghost use Rattle.clap.specs.Built.{TakesValue};
 ghost use Rattle.clap.specs.Matches.{first_value};
-ghost use Rattle.clap.specs.Words.{FailsBy, app_of, fault_of, found_of, matches_of, rows_of, rule_of};
+ghost use Rattle.clap.specs.Words.{FailsBy, app_of, fault_of, found_of, matches_of, new_rule, rows_of, rule_of};
 ghost use Rattle.clap.specs.declared.builder.ArgAction.TheVariants.{Set, SetTrue};
-ghost use Rattle.ctd_arguments.specs.CommandLine.{checker, option_rule, program_rule};
+ghost use Rattle.ctd_arguments.specs.CommandLine.{checker, option_rule};
 ghost use Rattle.ctd_arguments.specs.calls.Options.{IsLocal};
 ghost use Rattle.ctd_arguments.specs.inner.RequiredProgram.{RequiresProgram};
 
@@ -50,7 +50,7 @@ pub fn define_option<'a>(alloc: Global) -> Arg<'a>
 
 /// The name of the program's file, which has to be there.
 fn program_name<'a>(alloc: Global) -> Arg<'a>
-    ensures rule { rule_of result ≡ program_rule }
+    ensures rule { rule_of result ≡ record (new_rule (codes "PROGRAM")) { required = true; action = Some Set } }
     ensures name { result.id.now ≡ codes "PROGRAM" }
     ensures local { IsLocal result }
     ensures takes { TakesValue result }

@@ -5,7 +5,6 @@ pub mod CheckedData
 pub mod CommandLocality
 pub mod Concluding
 pub mod InTurn
-pub mod Knowing
 pub mod Locality
 pub mod LongerData
 pub mod Prefixes

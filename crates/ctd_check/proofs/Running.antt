@@ -18,8 +18,6 @@ use Rattle.ctd_program.specs.Tree.{CommandList, CommandTree}
 use Rattle.ctd_check.specs.calls.Run.{place_of, Finds}
 use Rattle.ctd_program.specs.calls.View.{action_tree, command_tree}
 use Rattle.ctd_program.specs.declared.preset.Preset.{Preset}
-use Rattle.ctd_syntax.specs.calls.PatternLiterals.{command_literals}
-use Rattle.ctd_loader.specs.calls.PatternTable.{AreAmong}
 use Rattle.ctd_command.proofs.Acts.{answers_as}
 use Rattle.ctd_command.specs.declared.machine.Run.{Run}
 use Rattle.ctd_command.specs.declared.failure.CommandFailure.{CommandFailure}
@@ -44,8 +42,6 @@ use Rattle.ctd_check.specs.inner.Halts.{halt_of, at_limit, Concludes}
 use Rattle.ctd_check.specs.inner.Opening.{halt_result, Opens}
 use Rattle.ctd_check.specs.declared.frame.Frame.{Frame}
 use Rattle.ctd_check.specs.inner.FrameTasks.{to_do, left_tasks}
-use Rattle.ctd_check.specs.inner.Known.{AreKnown, LeavesKnown}
-use Rattle.ctd_check.proofs.Knowing.{known_as, known_opened}
 use Rattle.ctd_check.specs.inner.Advances.{ContinuesWith, Advances, RunsTo}
 
 -- a command has its own place
@@ -151,11 +147,11 @@ module _ {R : Type 0} {G : Ghosts R} where
 
   -- it leaves the frame that was put on top
   pub opens_leaving : (old new : Run R G) (from to : FrameStack) (c : CommandTree) (r : Result (Option Frame) CommandFailure) (q : Result (Unit {0}) CommandFailure) → q ≡ map_ok (λ _. tt) r → Performs old new (map_ok left_tasks r) (act_of c)
-      → IfOk r (λ frame. to_do to.frames.items ≡ left_tasks frame ++ to_do from.frames.items) → ((patterns : List (List ℕ)) → AreAmong patterns (command_literals c) → LeavesKnown patterns r) → Opens old new from to c q
-  opens_leaving old new from to c (Ok frame) (Ok x) same p first known = record { more = left_tasks frame; performs = p; comes_first = first; known = known }
-  opens_leaving old new from to c (Ok frame) (Err e) same p first known = cc
-  opens_leaving old new from to c (Err failure) (Ok x) same p first known = cc
-  opens_leaving old new from to c (Err failure) (Err e) same p first known = let is : e ≡ failure = cc in record { more = []; performs = answers_as (ap Err is) p; comes_first = tt; known = λ ps among. tt }
+      → IfOk r (λ frame. to_do to.frames.items ≡ left_tasks frame ++ to_do from.frames.items) → Opens old new from to c q
+  opens_leaving old new from to c (Ok frame) (Ok x) same p first = record { more = left_tasks frame; performs = p; comes_first = first }
+  opens_leaving old new from to c (Ok frame) (Err e) same p first = cc
+  opens_leaving old new from to c (Err failure) (Ok x) same p first = cc
+  opens_leaving old new from to c (Err failure) (Err e) same p first = let is : e ≡ failure = cc in record { more = []; performs = answers_as (ap Err is) p; comes_first = tt }
 
   -- under the names of the command and of the state before it
   pub opens_as : {old before new : Run R G} {from to : FrameStack} {c d : CommandTree} {r : Result (Unit {0}) CommandFailure} → before ≡ old → c ≡ d → Opens before new from to d r → Opens old new from to c r
@@ -163,11 +159,6 @@ module _ {R : Type 0} {G : Ghosts R} where
       let P : Run R G → Type 0 = λ run. Opens run new from to c r in
       let Q : CommandTree → Type 0 = λ t. Opens before new from to t r in
       subst P stays (subst Q (sym is) opens)
-
-  -- and what is to be done then finds its patterns
-  pub known_opens : {old new : Run R G} {from to : FrameStack} {c : CommandTree} {r : Result (Unit {0}) CommandFailure} (ps : List (List ℕ)) (rest : List Task) → Opens old new from to c r → to_do from.frames.items ≡ rest → AreKnown ps (start c ∷ rest) → OnOk r (AreKnown ps (to_do to.frames.items))
-  known_opens {from = from} {to = to} {r = r} ps rest opens is known =
-      known_opened ps r opens.more (to_do from.frames.items) (to_do to.frames.items) opens.comes_first (opens.known ps known.0) (known_as ps ps rest (to_do from.frames.items) refl is known.1)
 
   -- the same with no step left
   pub task_not_paid : (old : Run R G) (t : Task) (left : ℕ) (spot : Spot) (site : Site) (failure : CommandFailure) (rest : List Task) (stack : FrameStack) (q : Result (Unit {0}) CommandFailure) → IsErr q × IsErrAnd q (λ e. e ≡ failure) → failure ≡ Stopped StepLimit → left ≡ 0 → stack.left ≡ 0 → spot ≡ old.cursor.spot → site ≡ site_of t

@@ -1,7 +1,6 @@
 -- What only the proofs of this crate use.
 pub mod Halts
 pub mod FrameTasks
-pub mod Known
 pub mod Advances
 pub mod Opening
 pub mod Progress

@@ -1,9 +1,6 @@
 //! Commands: each that holds no commands is done, and the others hand on what they take.
 ghost use Rattle.std.specs.Prelude.{◌≡◌, []};
-ghost use Rattle.ctd_program.specs.calls.View.{command_tree, target};
-ghost use Rattle.ctd_syntax.specs.calls.PatternLiterals.{command_literals};
-ghost use Rattle.ctd_loader.specs.calls.PatternTable.{AreAmong, IsAmong};
-ghost use Rattle.ctd_command.specs.Regex.{regex};
+ghost use Rattle.ctd_program.specs.calls.View.{command_tree};
 ghost use Rattle.ctd_command.specs.calls.Performs.{IsSound, Performs};
 ghost use Rattle.ctd_value.specs.calls.Lending.{map_ok};
 ghost use Rattle.ctd_check.specs.inner.Acts.{act_of};
@@ -12,25 +9,7 @@ ghost use Rattle.ctd_check.specs.inner.Progress.{IfDone, IsMadeOf, UnlessDone};
 use ctd_command::{CommandFailure, Run};
 use ctd_pattern::Matcher;
 use ctd_source::Source;
-use ctd_syntax::{
-    Action, Choice, Command, IntArguments, Loop, PatternLiteral, RegexArguments, Var,
-};
-
-/// REGEX: passes the match of its pattern at the start of the window, and keeps it in its variable, if there is one.
-#[inline(always)]
-fn regex<D: Source>(
-    run: &mut Run<'_, D>,
-    literal: &PatternLiteral,
-    var: &Option<Var>,
-    matchers: &mut [Matcher<'_>],
-) -> Result<(), CommandFailure>
-    requires sound { IsSound run.old }
-    requires known { IsAmong matchers.old literal.now }
-    ensures performs { Performs run.old run.new result (regex literal.now.bytes (target var.now)) }
-    ensures kept { matchers.new ≡ matchers.old }
-{
-    run.regex(&mut matchers[literal.number], var)
-}
+use ctd_syntax::{Action, Choice, Command, IntArguments, Loop};
 
 /// How far a command got whose step is paid.
 pub(crate) enum Progress<'p> {
@@ -50,11 +29,9 @@ pub(crate) fn act<'p, D: Source>(
     matchers: &mut [Matcher<'_>],
 ) -> Progress<'p>
     requires sound { IsSound run.old }
-    requires known { AreAmong matchers.old (command_literals (command_tree command.now)) }
     ensures performs { IfDone result (λ done. Performs run.old run.new (map_ok (λ _. []) done) (act_of (command_tree command.now))) }
     ensures parts { IsMadeOf (command_tree command.now) command.now.place result }
     ensures stays { UnlessDone result (run.new ≡ run.old) }
-    ensures kept { matchers.new ≡ matchers.old }
 {
     match &command.action {
         Action::Space => Progress::Done(run.space()),
@@ -65,10 +42,7 @@ pub(crate) fn act<'p, D: Source>(
             Progress::Done(run.int(low, high, target))
         }
         Action::String(e) => Progress::Done(run.string(e)),
-        Action::Regex(arguments) => {
-            let RegexArguments { literal, target } = &**arguments;
-            Progress::Done(regex(run, literal, target, matchers))
-        }
+        Action::Regex(arguments) => Progress::Done(run.regex(&**arguments, matchers)),
         Action::Assert(t) => Progress::Done(run.assert(t)),
         Action::Set(assignments) => Progress::Done(run.set(assignments.as_slice())),
         Action::Unset(names) => {

@@ -3,11 +3,8 @@ ghost use Rattle.std.specs.Prelude.{◌≡◌, ℕ, List, ◌+◌, ◌≤◌, �
 ghost use Rattle.ctd_program.specs.calls.Blocks.{list_blocks, separator_blocks};
 ghost use Rattle.ctd_program.specs.inner.View.{boxed_separator};
 ghost use Rattle.ctd_program.specs.calls.View.{boxed_target, command_list, guard_tree, test_tree};
-ghost use Rattle.ctd_syntax.specs.calls.PatternLiterals.{literals, separator_literals};
-ghost use Rattle.ctd_loader.specs.calls.PatternTable.{AreAmong};
 ghost use Rattle.ctd_command.specs.calls.Performs.{IsSound, Performs};
 ghost use Rattle.ctd_value.specs.calls.Lending.{map_ok};
-ghost use Rattle.ctd_check.specs.inner.Known.{LeavesKnown};
 ghost use Rattle.ctd_check.specs.Loops.{tasks, turn, take_turn, goes_on, guard_of, repeat, choice};
 ghost use Rattle.ctd_check.specs.calls.Loops.{loop_of};
 ghost use Rattle.ctd_check.specs.inner.Loops.{count_turn};
@@ -92,7 +89,6 @@ pub(crate) fn choose<'p, D: Source>(
     requires sound { IsSound run.old }
     ensures performs { Performs run.old run.new (map_ok left_tasks result) (choice (test_tree t.now) (command_list then_do.now) (command_list else_do.now)) }
     ensures room { NeedsRoom result (1 + max (list_blocks (command_list then_do.now)) (list_blocks (command_list else_do.now))) }
-    ensures known { (patterns : List (List ℕ)) → AreAmong patterns (literals (command_list then_do.now) ++ literals (command_list else_do.now)) → LeavesKnown patterns result }
 {
     if run.answer(t)? {
         return Ok(list_frame(then_do));
@@ -131,7 +127,6 @@ pub(crate) fn repeat<'p, D: Source>(
     requires sound { IsSound run.old }
     ensures performs { Performs run.old run.new (map_ok left_tasks result) (repeat place (guard_tree guard.now) (boxed_target counter.now) (boxed_separator between.now) (command_list body.now)) }
     ensures room { NeedsRoom result (1 + max (separator_blocks (boxed_separator between.now)) (list_blocks (command_list body.now))) }
-    ensures known { (patterns : List (List ℕ)) → AreAmong patterns (separator_literals (boxed_separator between.now) ++ literals (command_list body.now)) → LeavesKnown patterns result }
 {
     let guard = guard_of(run, guard)?;
     Ok(Some(loop_frame(place, guard, counter, between, body)))

@@ -5,7 +5,6 @@ ghost use Rattle.ctd_token.specs.declared.text.Place.{Place};
 ghost use Rattle.ctd_program.specs.calls.Blocks.{blocks};
 ghost use Rattle.ctd_program.specs.calls.View.{command_tree};
 ghost use Rattle.ctd_command.specs.calls.Performs.{IsSound, state};
-ghost use Rattle.ctd_check.specs.inner.Known.{AreKnown};
 ghost use Rattle.ctd_check.specs.Loops.{start, tasks_before_turn};
 ghost use Rattle.ctd_check.specs.inner.FrameTasks.{most_frames, to_do, top_loop, loop_blocks, separator_in, separator_tasks, IsListDone};
 ghost use Rattle.ctd_check.specs.inner.Advances.{Advances, RunsTo};
@@ -34,12 +33,9 @@ fn begin<'p, D: Source>(
 ) -> Result<(), CommandFailure>
     requires sound { IsSound run.old }
     requires room { length stack.old.frames.items + blocks (command_tree command.now) ≤ most_frames }
-    requires known { AreKnown matchers.old (start (command_tree command.now) ∷ to_do stack.old.frames.items) }
     ensures spent { stack.new.left ≤ stack.old.left }
     ensures less { OnOk result (2 * stack.new.left + length stack.new.frames.items < 2 * stack.old.left + length stack.old.frames.items) }
     ensures advances { Advances run.old run.new stack.old.left (start (command_tree command.now) ∷ to_do stack.old.frames.items) stack.new (halt_result (state_of run.old.cursor).spot (Site.At command.now.place) result) }
-    ensures known { OnOk result (AreKnown matchers.new (to_do stack.new.frames.items)) }
-    ensures kept { matchers.new ≡ matchers.old }
 {
     stack.pay()?;
     match act(run, command, matchers) {
@@ -108,12 +104,9 @@ fn begin_turn<D: Source>(
     requires sound { IsSound run.old }
     requires done { IsListDone stack.old.frames.items }
     requires has_loop { is_some (top_loop stack.old.frames.items) ≡ true }
-    requires known { AreKnown matchers.old (to_do stack.old.frames.items) }
     ensures spent { stack.new.left ≤ stack.old.left }
     ensures less { OnOk result (2 * stack.new.left + length stack.new.frames.items < 2 * stack.old.left + length stack.old.frames.items) }
     ensures advances { Advances run.old run.new stack.old.left (to_do stack.old.frames.items) stack.new result }
-    ensures known { OnOk result (AreKnown matchers.new (to_do stack.new.frames.items)) }
-    ensures kept { matchers.new ≡ matchers.old }
 {
     let spot = run.cursor.spot();
     let Some(running_loop) = stack.running_loop() else {
@@ -177,7 +170,6 @@ fn run_tasks<D: Source>(
     matchers: &mut [Matcher<'_>],
 ) -> Result<(), Halt>
     requires sound { IsSound run.old }
-    requires known { AreKnown matchers.old (to_do stack.old.frames.items) }
     ensures spent { stack.new.left ≤ stack.old.left }
     ensures ends { RunsTo run.old run.new (λ d. result_of d stack.old.left (to_do stack.old.frames.items) (state run.old)) stack.new.left result }
 {
@@ -206,7 +198,6 @@ pub(crate) fn run_program<D: Source>(
     matchers: &mut [Matcher<'_>],
 ) -> Result<(), Halt>
     requires sound { IsSound run.old }
-    requires known { AreKnown matchers.old (to_do stack.old.frames.items) }
     ensures spent { stack.new.left ≤ stack.old.left }
     ensures ends { RunsTo run.old run.new (λ d. run_from d stack.old.left (to_do stack.old.frames.items) (state run.old)) stack.new.left result }
 {

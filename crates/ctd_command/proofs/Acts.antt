@@ -101,6 +101,11 @@ module _ {R : Type 0} {G : Ghosts R} where
   pub answers_as : {A : Type 0} {a b : Run R G} {r q : Result A CommandFailure} {m : Act A} → q ≡ r → Performs a b r m → Performs a b q m
   answers_as {A = A} {a = a} {b = b} {r = r} {q = q} {m = m} same p = let P : Result A CommandFailure → Type 0 = λ x. Performs a b x m in subst P (sym same) p
 
+  -- no memory was left, so nothing is said
+  pub out_of_memory : {A : Type 0} {m : Act A} (a : Run R G) (q : Result A CommandFailure) → IsErr q × IsErrAnd q (λ e. e ≡ Memory) → Performs a a q m
+  out_of_memory a (Ok x) is = let e : true ≡ false = sym is.0 in cc
+  out_of_memory a (Err e) is = answers_as (ap Err is.1) (record { sound = tt; goes = advances_so (advances_nowhere a.cursor) (λ d _ _. tt) })
+
   -- what was done so far, and then what is left of it
   pub performs_after : {A : Type 0} {a b c : Run R G} {r : Result A CommandFailure} {m n : Act A} → AdvancesSuchThat a.cursor b.cursor (λ d. m d (state a) ≡ n d (state b)) → Performs b c r n → Performs a c r m
   performs_after {A = A} {c = c} {r = r} before p = record {

@@ -10,10 +10,11 @@ ghost use Rattle.ctd_command.specs.inner.Performs.{AlwaysDoes};
 use crate::failure::CommandFailure;
 use crate::machine::Run;
 use ctd_outcome::{Fault, Reason};
-use ctd_pattern::Matcher;
-use ctd_program::Var;
+use ctd_pattern::{Matcher, Pattern};
+use ctd_program::{RegexArguments, Var};
 use ctd_source::{Source, WINDOW};
 use ctd_value::set_text;
+use std::alloc::AllocError;
 
 /// The length of a match, unless it fills the window.
 fn shorter_match(length: Option<usize>) -> Result<usize, CommandFailure>
@@ -30,15 +31,62 @@ fn shorter_match(length: Option<usize>) -> Result<usize, CommandFailure>
 impl<'d, D: Source> Run<'d, D> {
     /// REGEX: passes the match at the start of the window, and keeps it in its variable, if there is one. Where none starts there, it is
     /// RegexMismatch, and a match of the whole window is MatchTooLong; both pass nothing.
+    ///
+    /// The matcher at the number of the command is taken if it is of the literal of the command. Else the pattern is built.
     #[inline(never)]
     pub fn regex(
+        &mut self,
+        arguments: &RegexArguments,
+        matchers: &mut [Matcher<'_>],
+    ) -> Result<(), CommandFailure>
+        requires sound { IsSound self.old }
+        ensures performs { Performs self.old self.new result (regex arguments.now.literal.bytes (target arguments.now.target)) }
+    {
+        let literal = arguments.literal.bytes.as_slice();
+        match matchers.get_mut(arguments.number as usize) {
+            Some(matcher) => self.pass_match_of(literal, matcher, &arguments.target),
+            None => self.pass_match_anew(literal, &arguments.target),
+        }
+    }
+
+    /// Passes the match of the pattern of a literal, by a matcher that may be that of another one.
+    fn pass_match_of(
+        &mut self,
+        literal: &[u8],
+        matcher: &mut Matcher<'_>,
+        var: &Option<Var>,
+    ) -> Result<(), CommandFailure>
+        requires sound { IsSound self.old }
+        ensures performs { Performs self.old self.new result (regex literal.now (target var.now)) }
+    {
+        if matcher.is_of(literal) {
+            self.pass_match(matcher, var)
+        } else {
+            self.pass_match_anew(literal, var)
+        }
+    }
+
+    /// Passes the match of a pattern that is built for it. Where none is built, memory ran out: one was built when the program was loaded.
+    #[inline(never)]
+    fn pass_match_anew(&mut self, literal: &[u8], var: &Option<Var>) -> Result<(), CommandFailure>
+        requires sound { IsSound self.old }
+        ensures performs { Performs self.old self.new result (regex literal.now (target var.now)) }
+    {
+        let Ok(pattern) = Pattern::read(self.alloc, literal) else {
+            return Err(CommandFailure::from(AllocError));
+        };
+        let mut matcher = pattern.matcher(self.alloc)?;
+        self.pass_match(&mut matcher, var)
+    }
+
+    /// Passes the match of a matcher, and keeps it in a variable, if there is one.
+    fn pass_match(
         &mut self,
         matcher: &mut Matcher<'_>,
         var: &Option<Var>,
     ) -> Result<(), CommandFailure>
         requires sound { IsSound self.old }
         ensures performs { Performs self.old self.new result (regex matcher.old (target var.now)) }
-        ensures kept { matcher.new ≡ matcher.old }
     {
         match var {
             Some(v) => self.keep_match(v, matcher),
@@ -56,7 +104,6 @@ impl<'d, D: Source> Run<'d, D> {
     fn keep_match(&mut self, v: &Var, matcher: &mut Matcher<'_>) -> Result<(), CommandFailure>
         requires sound { IsSound self.old }
         ensures performs { Performs self.old self.new result (regex matcher.old (Some (var_tree v.now))) }
-        ensures kept { matcher.new ≡ matcher.old }
     {
         let window = self.cursor.window()?;
         let n = shorter_match(matcher.match_length(window))?;
@@ -71,7 +118,6 @@ impl<'d, D: Source> Run<'d, D> {
         requires sound { IsSound self.old }
         ensures performs { Performs self.old self.new result (match_len matcher.old) }
         ensures held { IfOk result (λ n. n ≤ length (state_of self.new.cursor).held) }
-        ensures kept { matcher.new ≡ matcher.old }
     {
         let window = self.cursor.window()?;
         shorter_match(matcher.match_length(window))

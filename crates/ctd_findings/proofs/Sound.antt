@@ -1,28 +1,10 @@
 -- Findings that are sound.
-use Rattle.std.proofs.Common.{◌≡◌, ◌<◌, ◌⊎◌, ℕ, List, [], ◌∷◌, Option, Some, None, All, Contains, IfOk, IfSome, Result, Ok, Err, inl, inr, length, map, get_or, refl, sym, ap, ap₂, ◌∙◌, subst, arith}
-use Rattle.std.proofs.lemmas.List.Elements.{All-append, All-cons, All-nil, All-weaker, Contains-push_cases}
-use Rattle.std.proofs.lemmas.List.{get_or-map, length-map}
-use Rattle.ctd_token.specs.declared.text.Place.{Place}
-use Rattle.ctd_program.specs.Tree.{CommandList}
-use Rattle.ctd_program.specs.declared.preset.Preset.{Preset}
-use Rattle.ctd_program.specs.declared.tree.Action.{Action}
+use Rattle.ctd_findings.proofs.Common.{Action, Adds, All, All-append, All-cons, All-nil, All-weaker, Choice', CommandInBlock, CommandList, Contains, Contains-push_cases, Err, EventKind, Finding, IfOk}
+use Rattle.ctd_findings.proofs.Common.{IfSome, IsPlaced, IsSaid, IsSound, IsTrueOfRuns, Kind, List, Loop', Never, NeverHappens, None, Note, Ok, Option, Place, PlacedEvent, Preset, Result, Says, Some}
+use Rattle.ctd_findings.proofs.Common.{[], action_tree, ap, ap₂, arith, event_of, events_of, get_or, get_or-map, inl, inr, length, length-map, map, place_of, places_in, refl, subst, sym, trees_of, ℕ}
+use Rattle.ctd_findings.proofs.Common.{◌<◌, ◌∙◌, ◌∷◌, ◌≡◌, ◌⊎◌}
 use Rattle.ctd_program.specs.declared.tree.Action.TheVariants as actions
-use Rattle.ctd_program.specs.declared.tree.Loop.{Loop'}
-use Rattle.ctd_program.specs.declared.tree.Choice.{Choice'}
-use Rattle.ctd_program.specs.calls.View.{action_tree}
-use Rattle.ctd_program.specs.calls.Places.{place_of}
-use Rattle.ctd_traps.specs.declared.block.CommandInBlock.{CommandInBlock}
-use Rattle.ctd_traps.specs.calls.Collector.{Adds}
-use Rattle.ctd_traps.specs.calls.Commands.{trees_of}
-use Rattle.ctd_findings.specs.declared.finding.Finding.{Finding}
-use Rattle.ctd_findings.specs.declared.kind.Kind.{Kind}
 use Rattle.ctd_findings.specs.declared.kind.Kind.TheVariants as kinds
-use Rattle.ctd_findings.specs.calls.Findings.{IsPlaced, IsTrueOfRuns, Never, Says}
-use Rattle.ctd_findings.specs.inner.Never.{IsSaid}
-use Rattle.ctd_findings.specs.inner.Sound.{IsSound, places_in}
-use Rattle.ctd_traps.specs.calls.Events.{NeverHappens, PlacedEvent, event_of, events_of}
-use Rattle.ctd_traps.specs.declared.note.EventKind.{EventKind}
-use Rattle.ctd_traps.specs.declared.note.Note.{Note}
 
 -- the place of a command is that of its tree
 place_is : (a : Action) (place : Place) → place_of (action_tree a place) ≡ place
@@ -98,12 +80,6 @@ module _ {V E : Type 0} (items : V → List Finding) (places : List Place) (neve
       (λ f s. says_more (IsSaid never f.place) (Never program presets f.place) f.remark.kind (λ event said. never_of program presets never f.place event none said) s.1)
       (items v) sound
   are_meant program presets (Err e) none sound = tt
-
--- a note of a list, about a place
-pub said_at : (never : List Note) (i : ℕ) (note : Note) (place : Place) → i < length never → note ≡ get_or never i note → note.place ≡ place → IsSaid never place note.kind
-said_at never i note place inside is same =
-    let placed : note ≡ record { place = place; kind = note.kind } = λ j. record { place = same j; kind = note.kind } in
-    (i, inside, subst (λ (n : Note). get_or never i n ≡ n) placed (sym is))
 
 -- two places with the same line and column
 pub same_place : (a b : Place) → a.line ≡ b.line → a.column ≡ b.column → a ≡ b

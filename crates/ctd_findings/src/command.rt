@@ -58,15 +58,6 @@ fn is_set_aside(name: &Name) -> bool {
     bytes.starts_with(b"skip") || bytes.starts_with(b"unused")
 }
 
-/// The kind of a finding about a variable that nothing else reads, by whether its own assignments do.
-fn unread_kind(is_read: bool) -> Kind {
-    if is_read {
-        Kind::OwnReads
-    } else {
-        Kind::Unread
-    }
-}
-
 /// Adds a remark for each name that a command needs and nothing gives a value.
 fn list_without_value<'p>(
     alloc: Global,
@@ -91,7 +82,11 @@ fn list_unread<'p>(
         if has_role(Role::Sets, m.used_as)
             && !(names.read_elsewhere.contains(&m.name.as_slice()) || is_set_aside(m.name))
         {
-            let kind = unread_kind(names.read.contains(&m.name.as_slice()));
+            let kind = if names.read.contains(&m.name.as_slice()) {
+                Kind::OwnReads
+            } else {
+                Kind::Unread
+            };
             remark_about(alloc, kind, m.name, found);
         }
     }
@@ -113,33 +108,18 @@ fn list_names<'p>(
     }
 }
 
-/// Whether a command is EOF.
-fn is_eof(command: &Command) -> bool {
-    match &command.action {
-        Action::Eof => true,
-        Action::Space | Action::Newline | Action::Int(_) | Action::String(_) => false,
-        Action::Regex(_) | Action::Assert(_) | Action::Set(_) => false,
-        Action::Unset(_) | Action::Loop(_) | Action::If(_) => false,
-    }
-}
-
 /// Whether a command takes a byte of the data in every run that it does not end.
 fn takes_bytes(command: &Command) -> bool {
-    match &command.action {
-        Action::Space | Action::Newline | Action::Int(_) => true,
-        Action::Eof | Action::String(_) | Action::Regex(_) => false,
-        Action::Assert(_) | Action::Set(_) | Action::Unset(_) => false,
-        Action::Loop(_) | Action::If(_) => false,
-    }
+    matches!(
+        &command.action,
+        Action::Space | Action::Newline | Action::Int(_)
+    )
 }
 
 /// Adds a remark where the command before is EOF, and this one takes a byte.
 fn list_after_eof(previous: Option<&Command>, command: &Command, found: &mut Collector<Remark>) {
-    let Some(previous) = previous else {
-        return;
-    };
-    let is_behind = is_eof(previous) && takes_bytes(command);
-    remark_if(is_behind, Kind::AfterEof, found)
+    let is_behind_eof = previous.is_some_and(|p| matches!(&p.action, Action::Eof));
+    remark_if(is_behind_eof && takes_bytes(command), Kind::AfterEof, found)
 }
 
 /// Adds the remarks on the counter of a loop.
@@ -160,12 +140,7 @@ fn list_counter<'p>(
 
 /// Whether an expression is the empty string.
 fn is_empty_text(e: &Expr) -> bool {
-    match e {
-        Expr::Text(bytes) => bytes.as_slice().is_empty(),
-        Expr::Name(_) | Expr::Numeral(_) | Expr::Element(_) => false,
-        Expr::Strlen(_) | Expr::Minus(_) | Expr::Add(_, _) | Expr::Sub(_, _) => false,
-        Expr::Mul(_, _) | Expr::Div(_, _) | Expr::Rem(_, _) | Expr::Pow(_, _) => false,
-    }
+    matches!(e, Expr::Text(bytes) if bytes.as_slice().is_empty())
 }
 
 /// Adds the remarks on the form of the test of a command.
@@ -189,8 +164,7 @@ fn list_own(
         Action::Int(_) => list_empty_range(command.place, at, outcomes, found),
         Action::String(e) => remark_if(is_empty_text(e), Kind::EmptyString, found),
         Action::Regex(regex) => list_pattern(alloc, regex.literal.bytes.as_slice(), found),
-        Action::Space | Action::Newline | Action::Eof | Action::Assert(_) => (),
-        Action::Set(_) | Action::Unset(_) | Action::Loop(_) | Action::If(_) => (),
+        _ => (),
     }
 }
 
@@ -199,10 +173,7 @@ fn are_new(alloc: Global, remarks: &[Remark]) -> Result<Vec<bool>, AllocError> {
     let mut seen = BTreeSet::new(alloc);
     let mut new = Vec::new(alloc);
     for remark in remarks {
-        let name: &[u8] = match &remark.name {
-            Some(name) => name.as_slice(),
-            None => &[],
-        };
+        let name: &[u8] = remark.name.as_ref().map_or(&[], |name| name.as_slice());
         new.push(seen.insert((remark.kind.name(), name))?)?;
     }
     Ok(new)

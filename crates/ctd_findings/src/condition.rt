@@ -11,8 +11,6 @@ pub(crate) fn test_of(command: &Command) -> Option<&Test> {
             LoopGuard::Times(_) => None,
             LoopGuard::While(t) => Some(t),
         },
-        Action::Space | Action::Newline | Action::Eof | Action::Int(_) => None,
-        Action::String(_) | Action::Regex(_) => None,
-        Action::Set(_) | Action::Unset(_) => None,
+        _ => None,
     }
 }

@@ -5,12 +5,7 @@ use ctd_token::Name;
 
 /// Whether an expression is a numeral.
 fn is_numeral(e: &Expr) -> bool {
-    match e {
-        Expr::Numeral(_) => true,
-        Expr::Name(_) | Expr::Text(_) | Expr::Element(_) | Expr::Strlen(_) => false,
-        Expr::Minus(_) | Expr::Add(_, _) | Expr::Sub(_, _) | Expr::Mul(_, _) => false,
-        Expr::Div(_, _) | Expr::Rem(_, _) | Expr::Pow(_, _) => false,
-    }
+    matches!(e, Expr::Numeral(_))
 }
 
 /// Whether a variable is an element whose indices are numerals.
@@ -19,12 +14,7 @@ fn is_fixed(variable: &Option<Var>) -> bool {
         return false;
     };
     let indices = v.indices.as_slice();
-    for index in indices {
-        if !is_numeral(index) {
-            return false;
-        }
-    }
-    !indices.is_empty()
+    !indices.is_empty() && indices.iter().all(|index| is_numeral(index))
 }
 
 /// Whether INT or REGEX sets an element whose indices are numerals.
@@ -32,46 +22,30 @@ fn sets_fixed(command: &Command) -> bool {
     match &command.action {
         Action::Int(int) => is_fixed(&int.target),
         Action::Regex(regex) => is_fixed(&regex.target),
-        Action::Space | Action::Newline | Action::Eof | Action::String(_) => false,
-        Action::Assert(_) | Action::Set(_) | Action::Unset(_) => false,
-        Action::Loop(_) | Action::If(_) => false,
+        _ => false,
     }
 }
 
 /// Whether one of these commands does.
 pub(crate) fn some_set_fixed(commands: &[Command]) -> bool {
-    for command in commands {
-        if sets_fixed(command) {
-            return true;
-        }
-    }
-    false
+    commands.iter().any(|command| sets_fixed(command))
 }
 
 /// Whether there is a variable, and it has this name.
 fn is_named(name: &Name, variable: &Option<Var>) -> bool {
-    match variable {
-        Some(v) => v.name.as_slice() == name.as_slice(),
-        None => false,
-    }
+    matches!(variable, Some(v) if v.name.as_slice() == name.as_slice())
 }
 
 /// Whether there is a counter, and it has this name.
 fn is_counter(name: &Name, counter: &Option<Box<Var>>) -> bool {
-    match counter {
-        Some(v) => v.name.as_slice() == name.as_slice(),
-        None => false,
-    }
+    matches!(counter, Some(v) if v.name.as_slice() == name.as_slice())
 }
 
 /// Whether an assignment sets this name.
 fn assigns(name: &Name, assignments: &[Assignment]) -> bool {
-    for a in assignments {
-        if a.target.name.as_slice() == name.as_slice() {
-            return true;
-        }
-    }
-    false
+    assignments
+        .iter()
+        .any(|a| a.target.name.as_slice() == name.as_slice())
 }
 
 /// Whether a command, or one in it, gives this name a value.
@@ -102,8 +76,7 @@ pub(crate) fn is_set_by(name: &Name, command: &Command) -> bool {
             } = &**choice;
             is_set_in(name, then_do.as_slice()) | is_set_in(name, else_do.as_slice())
         }
-        Action::Space | Action::Newline | Action::Eof | Action::String(_) => false,
-        Action::Assert(_) | Action::Unset(_) => false,
+        _ => false,
     }
 }
 
@@ -131,26 +104,18 @@ pub(crate) fn is_set_in(name: &Name, commands: &[Command]) -> bool {
 pub(crate) fn loop_of(command: &Command) -> Option<&Loop> {
     match &command.action {
         Action::Loop(repeated) => Some(&**repeated),
-        Action::Space | Action::Newline | Action::Eof | Action::Int(_) => None,
-        Action::String(_) | Action::Regex(_) | Action::Assert(_) => None,
-        Action::Set(_) | Action::Unset(_) | Action::If(_) => None,
+        _ => None,
     }
 }
 
 /// The commands that each turn of a loop does: none where a command is no loop.
 pub(crate) fn loop_body(command: &Command) -> &[Command] {
-    match loop_of(command) {
-        Some(repeated) => repeated.body.as_slice(),
-        None => &[],
-    }
+    loop_of(command).map_or(&[], |repeated| repeated.body.as_slice())
 }
 
 /// The name of the counter of a loop, if it has one.
 fn name_of_counter(repeated: &Loop) -> Option<&Name> {
-    match &repeated.counter {
-        Some(v) => Some(&v.name),
-        None => None,
-    }
+    repeated.counter.as_ref().map(|v| &v.name)
 }
 
 /// The name of the counter of a loop, if a command is one and has one.

@@ -9,6 +9,7 @@ use std::alloc::{AllocError, Global};
 use std::collections::BTreeSet;
 
 /// The names of a program, by their bytes.
+#[derive(Drop)]
 pub(crate) struct ProgramNames<'p> {
     pub(crate) mentioned: BTreeSet<&'p [u8]>,
     /// Those that the program or a preset gives a value.
@@ -20,19 +21,6 @@ pub(crate) struct ProgramNames<'p> {
     pub(crate) at_indices: BTreeSet<&'p [u8]>,
     /// The words of those that it compares with strings.
     pub(crate) words: Words<'p>,
-}
-
-impl<'p> Drop for ProgramNames<'p> {
-    fn drop(self) {
-        let ProgramNames {
-            mentioned: _,
-            given: _,
-            read: _,
-            read_elsewhere: _,
-            at_indices: _,
-            words: _,
-        } = self;
-    }
 }
 
 /// The names of some commands, which mention these, where these presets are given.

@@ -44,15 +44,8 @@ fn name_without_index<'p>(t: &'p Test, all: &ProgramNames<'p>) -> Option<&'p Nam
             None => name_without_index(b, all),
         },
         Test::Not(t) => name_without_index(t, all),
-        Test::Unique(names) => {
-            let names = names.as_slice();
-            if have_no_index(names, all) {
-                names.first()
-            } else {
-                None
-            }
-        }
-        Test::Compare(_, _, _) | Test::Match(_) | Test::IsEof | Test::InArray(_, _) => None,
+        Test::Unique(names) if have_no_index(names.as_slice(), all) => names.as_slice().first(),
+        _ => None,
     }
 }
 
@@ -63,10 +56,9 @@ pub(crate) fn list_no_index<'p>(
     all: &ProgramNames<'p>,
     found: &mut Collector<Remark>,
 ) {
-    let Some(t) = test_of(command) else {
-        return;
-    };
-    if let Some(name) = name_without_index(t, all) {
+    if let Some(t) = test_of(command)
+        && let Some(name) = name_without_index(t, all)
+    {
         remark_about(alloc, Kind::NoIndex, name, found);
     }
 }

@@ -23,9 +23,7 @@ fn variable_in(e: &Expr) -> Option<&Name> {
     match e {
         Expr::Name(name) => Some(name),
         Expr::Element(element) => Some(&element.name),
-        Expr::Numeral(_) | Expr::Text(_) | Expr::Strlen(_) | Expr::Minus(_) => None,
-        Expr::Add(_, _) | Expr::Sub(_, _) | Expr::Mul(_, _) => None,
-        Expr::Div(_, _) | Expr::Rem(_, _) | Expr::Pow(_, _) => None,
+        _ => None,
     }
 }
 
@@ -33,10 +31,7 @@ fn variable_in(e: &Expr) -> Option<&Name> {
 fn string_in(e: &Expr) -> Option<&[u8]> {
     match e {
         Expr::Text(bytes) => Some(bytes.as_slice()),
-        Expr::Name(_) | Expr::Element(_) => None,
-        Expr::Numeral(_) | Expr::Strlen(_) | Expr::Minus(_) => None,
-        Expr::Add(_, _) | Expr::Sub(_, _) | Expr::Mul(_, _) => None,
-        Expr::Div(_, _) | Expr::Rem(_, _) | Expr::Pow(_, _) => None,
+        _ => None,
     }
 }
 
@@ -62,19 +57,15 @@ fn list_comparisons<'p>(t: &'p Test, found: &mut Collector<Comparison<'p>>) {
             list_comparisons(b, found)
         }
         Test::Not(t) => list_comparisons(t, found),
-        Test::Compare(by, a, b) => match by {
-            Compare::Equal | Compare::Unequal => list_sides(a, b, found),
-            Compare::Less | Compare::Greater | Compare::AtMost | Compare::AtLeast => (),
-        },
-        Test::Match(_) | Test::IsEof | Test::Unique(_) | Test::InArray(_, _) => (),
+        Test::Compare(Compare::Equal | Compare::Unequal, a, b) => list_sides(a, b, found),
+        _ => (),
     }
 }
 
 /// Adds those in the test of a command.
 fn list_compared<'p>(command: &'p Command, found: &mut Collector<Comparison<'p>>) {
-    match test_of(command) {
-        Some(t) => list_comparisons(t, found),
-        None => (),
+    if let Some(t) = test_of(command) {
+        list_comparisons(t, found);
     }
 }
 

@@ -7,73 +7,41 @@ use crate::kind::Kind;
 use crate::loops::loop_of;
 use crate::never::NeverAt;
 use crate::same::has_variable;
-use ctd_known::TrapKind;
 use ctd_program::{Action, Command, Test};
+use ctd_states::TrapKind;
 use ctd_token::Place;
-use ctd_traps::{Collector, CommandInBlock, EventKind, Finding as Trap, Note, TrapList};
+use ctd_traps::{Collector, CommandInBlock, EventKind, Note, Trap, TrapList};
 use std::alloc::{AllocError, Global};
 use std::collections::BTreeSet;
 
-/// Some places, by their lines and columns.
-pub(crate) struct Places {
-    places: BTreeSet<(u32, u32)>,
+/// The line and the column of a place.
+fn key(place: Place) -> (u32, u32) {
+    (place.line, place.column)
 }
 
-impl Drop for Places {
-    fn drop(self) {
-        let Places { places: _ } = self;
-    }
-}
-
-impl Places {
-    fn new(alloc: Global) -> Places {
-        Places {
-            places: BTreeSet::new(alloc),
-        }
-    }
-
-    fn insert(&mut self, place: Place) -> Result<(), AllocError> {
-        self.places.insert((place.line, place.column))?;
-        Ok(())
-    }
-
-    fn contains(&self, place: Place) -> bool {
-        self.places.contains(&(place.line, place.column))
-    }
-}
-
-/// What the analysis tells of the places of a program.
+/// What the analysis tells of the places of a program, by their lines and columns.
+#[derive(Drop)]
 pub(crate) struct Outcomes {
     /// Loops that start and that no run leaves.
-    endless: Places,
+    endless: BTreeSet<(u32, u32)>,
     /// Commands at which a run may stop by a value, but for an element without one and arrays in UNIQUE, of which most are listed for nothing.
-    stopping: Places,
+    stopping: BTreeSet<(u32, u32)>,
     /// Commands at which a run may stop by a wrong type.
-    mistyped: Places,
-}
-
-impl Drop for Outcomes {
-    fn drop(self) {
-        let Outcomes {
-            endless: _,
-            stopping: _,
-            mistyped: _,
-        } = self;
-    }
+    mistyped: BTreeSet<(u32, u32)>,
 }
 
 /// The places at which nothing but the answer `false` never happens: a loop there starts, and no run leaves it.
-fn endless_places(alloc: Global, never: &[Note]) -> Result<Places, AllocError> {
-    let mut others = Places::new(alloc);
+fn endless_places(alloc: Global, never: &[Note]) -> Result<BTreeSet<(u32, u32)>, AllocError> {
+    let mut others = BTreeSet::new(alloc);
     for note in never {
         if note.kind != EventKind::IsFalse {
-            others.insert(note.place)?;
+            others.insert(key(note.place))?;
         }
     }
-    let mut endless = Places::new(alloc);
+    let mut endless = BTreeSet::new(alloc);
     for note in never {
-        if !others.contains(note.place) {
-            endless.insert(note.place)?;
+        if !others.contains(&key(note.place)) {
+            endless.insert(key(note.place))?;
         }
     }
     Ok(endless)
@@ -81,29 +49,28 @@ fn endless_places(alloc: Global, never: &[Note]) -> Result<Places, AllocError> {
 
 /// Adds the place of a trap to those of its kind.
 fn add_trap(trap: &Trap, outcomes: &mut Outcomes) -> Result<(), AllocError> {
-    match trap.kind {
-        TrapKind::NoElement | TrapKind::OtherShape => Ok(()),
-        TrapKind::WrongType => {
-            outcomes.mistyped.insert(trap.place)?;
-            outcomes.stopping.insert(trap.place)
-        }
-        _ => outcomes.stopping.insert(trap.place),
+    if matches!(trap.kind, TrapKind::WrongType) {
+        outcomes.mistyped.insert(key(trap.place))?;
     }
+    if !matches!(trap.kind, TrapKind::NoElement | TrapKind::OtherShape) {
+        outcomes.stopping.insert(key(trap.place))?;
+    }
+    Ok(())
 }
 
 /// What the analysis tells of the places of a program, if it tells anything.
 pub(crate) fn outcomes_of(
     alloc: Global,
-    told: &Option<TrapList<'_>>,
+    traps: &Option<TrapList<'_>>,
     never: &[Note],
 ) -> Result<Outcomes, AllocError> {
     let mut outcomes = Outcomes {
         endless: endless_places(alloc, never)?,
-        stopping: Places::new(alloc),
-        mistyped: Places::new(alloc),
+        stopping: BTreeSet::new(alloc),
+        mistyped: BTreeSet::new(alloc),
     };
-    if let Some(list) = told {
-        for trap in list.findings.as_slice() {
+    if let Some(list) = traps {
+        for trap in list.traps.as_slice() {
             add_trap(trap, &mut outcomes)?;
         }
     }
@@ -121,18 +88,13 @@ pub(crate) fn list_unreachable(
         return;
     };
     let is_behind_endless = loop_of(previous).is_some()
-        && outcomes.endless.contains(previous.place);
+        && outcomes.endless.contains(&key(previous.place));
     remark_if(at.begins && is_behind_endless, Kind::Unreachable, found)
 }
 
 /// Whether a command is ASSERT.
 fn is_assert(command: &Command) -> bool {
-    match &command.action {
-        Action::Assert(_) => true,
-        Action::Space | Action::Newline | Action::Eof | Action::Int(_) => false,
-        Action::String(_) | Action::Regex(_) => false,
-        Action::Set(_) | Action::Unset(_) | Action::Loop(_) | Action::If(_) => false,
-    }
+    matches!(&command.action, Action::Assert(_))
 }
 
 /// Adds a remark where a wrong type lets no run pass: a test gives no answer, and any other command is never done.
@@ -144,7 +106,7 @@ pub(crate) fn list_mistyped(
 ) {
     let has_no_answer = at.is_true && at.is_false;
     let lets_none_pass = has_no_answer || (at.goes_on && !is_assert(command));
-    let is_mistyped = lets_none_pass && outcomes.mistyped.contains(command.place);
+    let is_mistyped = lets_none_pass && outcomes.mistyped.contains(&key(command.place));
     remark_if(is_mistyped, Kind::WrongSort, found)
 }
 
@@ -182,7 +144,7 @@ pub(crate) fn list_one_answer(
     let Some(t) = test_of(command) else {
         return;
     };
-    if outcomes.stopping.contains(command.place) {
+    if outcomes.stopping.contains(&key(command.place)) {
         return;
     }
     let (if_true, if_false) = answer_kinds(command, t);
@@ -197,6 +159,6 @@ pub(crate) fn list_empty_range(
     outcomes: &Outcomes,
     found: &mut Collector<Remark>,
 ) {
-    let is_empty = at.goes_on && !outcomes.stopping.contains(place);
+    let is_empty = at.goes_on && !outcomes.stopping.contains(&key(place));
     remark_if(is_empty, Kind::EmptyRange, found)
 }

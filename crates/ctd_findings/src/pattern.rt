@@ -56,9 +56,9 @@ pub(crate) fn tree_of(alloc: Global, pattern: &[u8]) -> Result<Option<Parsed>, A
 fn list_parts<'h>(tree: &'h Hir, found: &mut Collector<&'h Hir>) {
     found.add(tree);
     match tree {
-        Hir::Empty | Hir::Literal(_) | Hir::Bytes(_) | Hir::Chars(_) | Hir::Look(_) => (),
         Hir::Repetition { sub, .. } | Hir::Capture { sub, .. } => list_parts(sub, found),
         Hir::Concat(parts) | Hir::Alternation(parts) => list_all_parts(parts.as_slice(), found),
+        _ => (),
     }
 }
 
@@ -75,11 +75,10 @@ fn list_all_parts<'h>(trees: &'h [Hir], found: &mut Collector<&'h Hir>) {
 fn list_edge<'h>(edge: Edge, tree: &'h Hir, found: &mut Collector<&'h Hir>) {
     found.add(tree);
     match tree {
-        Hir::Empty | Hir::Literal(_) | Hir::Bytes(_) | Hir::Chars(_) | Hir::Look(_) => (),
-        Hir::Repetition { .. } => (),
         Hir::Capture { sub, .. } => list_edge(edge, sub, found),
         Hir::Concat(parts) => list_edge_of_parts(edge, parts.as_slice(), found),
         Hir::Alternation(branches) => list_edge_of_branches(edge, branches.as_slice(), found),
+        _ => (),
     }
 }
 
@@ -89,7 +88,7 @@ fn list_edge_of_parts<'h>(edge: Edge, parts: &'h [Hir], found: &mut Collector<&'
     match (edge, parts) {
         (Edge::Start, [first, ..]) => list_edge(edge, first, found),
         (Edge::End, [.., last]) => list_edge(edge, last, found),
-        (Edge::Start | Edge::End, []) => (),
+        _ => (),
     }
 }
 
@@ -123,9 +122,7 @@ fn is_unbounded(tree: &Hir) -> bool {
 fn class_of(tree: &Hir) -> Option<&Class> {
     match tree {
         Hir::Bytes(class) | Hir::Chars(class) => Some(class),
-        Hir::Empty | Hir::Literal(_) | Hir::Look(_) => None,
-        Hir::Repetition { .. } | Hir::Capture { .. } => None,
-        Hir::Concat(_) | Hir::Alternation(_) => None,
+        _ => None,
     }
 }
 
@@ -149,10 +146,7 @@ fn has_letter_range(tree: &Hir) -> bool {
 
 /// Whether a tree is a class that has a line feed, and not for its own sake: it has the vertical tab too.
 fn has_line_feed(tree: &Hir) -> bool {
-    match class_of(tree) {
-        Some(class) => class.contains(LINE_FEED) && class.contains(VERTICAL_TAB),
-        None => false,
-    }
+    class_of(tree).is_some_and(|class| class.contains(LINE_FEED) && class.contains(VERTICAL_TAB))
 }
 
 /// The bytes that a tree stands for, if it is a text.
@@ -160,9 +154,7 @@ fn text_of(tree: &Hir) -> Option<&[u8]> {
     match tree {
         Hir::Empty => Some(&[]),
         Hir::Literal(bytes) => Some(bytes.as_slice()),
-        Hir::Bytes(_) | Hir::Chars(_) | Hir::Look(_) => None,
-        Hir::Repetition { .. } | Hir::Capture { .. } => None,
-        Hir::Concat(_) | Hir::Alternation(_) => None,
+        _ => None,
     }
 }
 
@@ -170,23 +162,16 @@ fn text_of(tree: &Hir) -> Option<&[u8]> {
 fn first_text(tree: &Hir) -> &[u8] {
     let first = match tree {
         Hir::Concat(parts) => parts.first(),
-        Hir::Empty | Hir::Literal(_) | Hir::Bytes(_) | Hir::Chars(_) | Hir::Look(_) => Some(tree),
-        Hir::Repetition { .. } | Hir::Capture { .. } | Hir::Alternation(_) => None,
+        _ => Some(tree),
     };
-    match first {
-        Some(part) => text_of(part).unwrap_or(&[]),
-        None => &[],
-    }
+    first.and_then(|part| text_of(part)).unwrap_or(&[])
 }
 
 /// Whether one of some alternatives begins with a text.
 fn some_begins_with(text: &[u8], branches: &[Hir]) -> bool {
-    for branch in branches {
-        if first_text(branch).starts_with(text) {
-            return true;
-        }
-    }
-    false
+    branches
+        .iter()
+        .any(|branch| first_text(branch).starts_with(text))
 }
 
 /// Whether a tree has alternatives, one of which is a text with which a later one begins.

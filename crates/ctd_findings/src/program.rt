@@ -107,10 +107,10 @@ fn list_commands<'p>(
 }
 
 /// What never happens, as far as it is told.
-fn never_in<'t>(told: &'t Option<TrapList<'_>>) -> &'t [Note]
-    ensures { (program : CommandList) (presets : List Preset) → IfSome told.now (λ list. NeverHappens program presets (events_of list.never.items)) → NeverHappens program presets (events_of result.now) }
+fn never_in<'t>(traps: &'t Option<TrapList<'_>>) -> &'t [Note]
+    ensures { (program : CommandList) (presets : List Preset) → IfSome traps.now (λ list. NeverHappens program presets (events_of list.never.items)) → NeverHappens program presets (events_of result.now) }
 {
-    match told {
+    match traps {
         Some(list) => list.never.as_slice(),
         None => &[],
     }
@@ -121,14 +121,14 @@ fn findings_in<'p>(
     alloc: Global,
     commands: &[CommandInBlock<'p>],
     presets: &'p Presets,
-    told: &Option<TrapList<'_>>,
+    traps: &Option<TrapList<'_>>,
     never: &[Note],
 ) -> Result<Vec<Finding>, AllocError>
     ensures sound { IfOk result (λ found. All (IsSound (places_in commands.now) never.now) found.items) }
 {
     let mentions = all_mentions(alloc, commands)?;
     let names = program_names(alloc, commands, mentions.as_slice(), presets.pins())?;
-    let outcomes = outcomes_of(alloc, told, never)?;
+    let outcomes = outcomes_of(alloc, traps, never)?;
     let mut found = Collector::new(alloc);
     list_not_mentioned(alloc, presets.pins(), &names.mentioned, &mut found);
     list_commands(alloc, commands, &names, &outcomes, never, &mut found);
@@ -141,12 +141,12 @@ pub fn findings<'p>(
     alloc: Global,
     commands: &'p [Command],
     presets: &'p Presets,
-    told: &Option<TrapList<'_>>,
+    traps: &Option<TrapList<'_>>,
 ) -> Result<Vec<Finding>, AllocError>
     ensures placed { IfOk result (λ found. All (IsPlaced (places_of (command_trees commands.now))) found.items) }
-    ensures meant { IfSome told.now (λ list. NeverHappens (command_trees commands.now) presets.now (events_of list.never.items))
+    ensures meant { IfSome traps.now (λ list. NeverHappens (command_trees commands.now) presets.now (events_of list.never.items))
         → IfOk result (λ found. All (IsTrueOfRuns (command_trees commands.now) presets.now) found.items) }
 {
     let entries = all_commands(alloc, commands)?;
-    findings_in(alloc, entries.as_slice(), presets, told, never_in(told))
+    findings_in(alloc, entries.as_slice(), presets, traps, never_in(traps))
 }

@@ -56,11 +56,7 @@ pub(crate) fn has_variable(e: &Expr) -> bool {
         Expr::Name(_) | Expr::Element(_) => true,
         Expr::Numeral(_) | Expr::Text(_) => false,
         Expr::Strlen(e) | Expr::Minus(e) => has_variable(e),
-        Expr::Add(a, b)
-        | Expr::Sub(a, b)
-        | Expr::Mul(a, b)
-        | Expr::Div(a, b)
-        | Expr::Rem(a, b)
-        | Expr::Pow(a, b) => has_variable(a) || has_variable(b),
+        Expr::Add(a, b) | Expr::Sub(a, b) | Expr::Mul(a, b) => has_variable(a) || has_variable(b),
+        Expr::Div(a, b) | Expr::Rem(a, b) | Expr::Pow(a, b) => has_variable(a) || has_variable(b),
     }
 }

@@ -25,12 +25,9 @@ pub(crate) fn has_same_sides(t: &Test) -> bool
 
 /// Whether a name is one of these.
 fn is_in(name: &Name, names: &[Name]) -> bool {
-    for other in names {
-        if other.as_slice() == name.as_slice() {
-            return true;
-        }
-    }
-    false
+    names
+        .iter()
+        .any(|other| other.as_slice() == name.as_slice())
 }
 
 /// Whether one of these names stands twice.
@@ -52,6 +49,6 @@ pub(crate) fn has_same_names(t: &Test) -> bool {
             let names = names.as_slice();
             names.len() <= MOST_NAMES && stands_twice(names)
         }
-        Test::Compare(_, _, _) | Test::Match(_) | Test::IsEof | Test::InArray(_, _) => false,
+        _ => false,
     }
 }

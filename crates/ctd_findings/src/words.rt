@@ -52,8 +52,7 @@ fn has_own_word(tree: &Hir, text: &[u8]) -> bool {
         Hir::Literal(bytes) => bytes.as_slice() == text,
         Hir::Bytes(class) => matches!(text, [byte] if class.contains(u32::from(*byte))),
         Hir::Chars(class) => has_char(class, text),
-        Hir::Look(_) | Hir::Repetition { .. } | Hir::Capture { .. } => false,
-        Hir::Concat(_) | Hir::Alternation(_) => false,
+        _ => false,
     }
 }
 
@@ -111,19 +110,15 @@ pub(crate) struct Words<'p> {
 pub(crate) fn regex_of(command: &Command) -> Option<&RegexArguments> {
     match &command.action {
         Action::Regex(regex) => Some(regex),
-        Action::Space | Action::Newline | Action::Eof | Action::Int(_) => None,
-        Action::String(_) | Action::Assert(_) | Action::Set(_) | Action::Unset(_) => None,
-        Action::Loop(_) | Action::If(_) => None,
+        _ => None,
     }
 }
 
 /// The name to which REGEX gives its match, and its pattern.
 fn match_given(command: &Command) -> Option<(&[u8], &[u8])> {
     let regex = regex_of(command)?;
-    match &regex.target {
-        Some(v) => Some((v.name.as_slice(), regex.literal.bytes.as_slice())),
-        None => None,
-    }
+    let target = regex.target.as_ref()?;
+    Some((target.name.as_slice(), regex.literal.bytes.as_slice()))
 }
 
 impl<'p> Words<'p> {
@@ -171,9 +166,8 @@ impl<'p> Words<'p> {
 
     /// Whether a name has words, and a text is none of them.
     pub(crate) fn exclude(&self, name: &'p [u8], text: &[u8]) -> bool {
-        match self.lists.get(&name) {
-            Some(list) => !list.may_have(text),
-            None => false,
-        }
+        self.lists
+            .get(&name)
+            .is_some_and(|list| !list.may_have(text))
     }
 }

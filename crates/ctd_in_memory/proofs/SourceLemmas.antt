@@ -11,7 +11,8 @@ use Rattle.ctd_program.specs.Tree.{CommandList}
 use Rattle.ctd_loader.specs.Loading.{IsReady, Loads, MayFail, TextHasFault, of_text, too_long, unread}
 use Rattle.ctd_arguments.specs.declared.setup.Setup.{Setup}
 use Rattle.ctd_report.specs.Report.{Report}
-use Rattle.ctd_tool.specs.Theorem.{Call, IsReport, of_meaning, of_program_fault}
+use Rattle.ctd_report.specs.Written.{BeforeAfter}
+use Rattle.ctd_tool.specs.Theorem.{IsReport, of_meaning, of_program_fault}
 use Rattle.ctd_in_memory.specs.inner.MemorySource.{HoldsBytes}
 use Rattle.ctd_in_memory.specs.calls.InMemory.{data_of, IsReportBy}
 
@@ -52,7 +53,7 @@ agrees_all Ended text bytes limit g = (sym (g.ended refl), refl)
 agrees_all Broken text bytes limit g = absurd (g.never_broken refl)
 
 -- the report on two sources in memory is that on their bytes
-pub report_in_memory : {P D : Type 0} {G : Ghosts P} {H : Ghosts D} (s : Setup) (program testdata : List ℕ) (p : Call G) (d : Call H) (report : Report)
+pub report_in_memory : {P D : Type 0} {G : Ghosts P} {H : Ghosts D} (s : Setup) (program testdata : List ℕ) (p : BeforeAfter P G) (d : BeforeAfter D H) (report : Report)
     → HoldsBytes G program p.old → HoldsBytes H testdata d.old → IsReport s p d report → IsReportBy s program testdata report
 report_in_memory {G} {H} s program testdata p d report sp sd (of_meaning m) =
     inl (record {

@@ -10,11 +10,11 @@ use Rattle.ctd_in_memory.specs.calls.Buffers.{HoldReport}
 use Rattle.ctd_in_memory.specs.calls.InMemory.{IsAnswerTo}
 
 -- the stream was empty, and holds this text
-record Holds {S : Type 0} {G : Ghosts S} (stream : BeforeAfter G) (text : List ℕ) : Type 0 where
+record Holds {S : Type 0} {G : Ghosts S} (stream : BeforeAfter S G) (text : List ℕ) : Type 0 where
   pub empty : G.taken stream.old ≡ Some []
   pub text_is : G.taken stream.new ≡ Some text
 
-text_of_stream : {S : Type 0} {G : Ghosts S} (stream : BeforeAfter G) (text wanted : List ℕ) → Holds stream text → Appends (G.taken stream.old) (G.taken stream.new) wanted → text ≡ wanted
+text_of_stream : {S : Type 0} {G : Ghosts S} (stream : BeforeAfter S G) (text wanted : List ℕ) → Holds stream text → Appends (G.taken stream.old) (G.taken stream.new) wanted → text ≡ wanted
 text_of_stream {G} stream text wanted h appends =
     subst (λ new. Appends (Some []) new wanted) h.text_is (subst (λ old. Appends old (G.taken stream.new) wanted) h.empty appends)
 
@@ -22,13 +22,13 @@ abbrev IsNothing : Option (List ℕ) → Type 0
 IsNothing None = Unit {0}
 IsNothing (Some text) = text ≡ []
 
-nothing_of_stream : {S : Type 0} {G : Ghosts S} (stream : BeforeAfter G) (text : List ℕ) → Holds stream text → stream.new ≡ stream.old → text ≡ []
+nothing_of_stream : {S : Type 0} {G : Ghosts S} (stream : BeforeAfter S G) (text : List ℕ) → Holds stream text → stream.new ≡ stream.old → text ≡ []
 nothing_of_stream {G} stream text h same =
     let empty : IsNothing (G.taken stream.old) = subst IsNothing (sym h.empty) refl in
     subst IsNothing h.text_is (subst (λ s. IsNothing (G.taken s)) (sym same) empty)
 
 -- the two streams hold a report, with its status; or the starts of its texts, with the status 2
-hold_report : {O E : Type 0} {S : Ghosts O} {T : Ghosts E} (o : BeforeAfter S) (e : BeforeAfter T) (IsReport : Report → Type 0) (status : ℕ) (out err : List ℕ)
+hold_report : {O E : Type 0} {S : Ghosts O} {T : Ghosts E} (o : BeforeAfter O S) (e : BeforeAfter E T) (IsReport : Report → Type 0) (status : ℕ) (out err : List ℕ)
     → Holds o out → Holds e err → EndsWithReport o e IsReport status → HoldReport IsReport out err status
 hold_report o e IsReport status out err ho he (whole r is all) =
     (r, is, inl (text_of_stream o out r.out ho all.out_text.bytes, text_of_stream e err r.err he all.err_text.bytes, all.status_is))

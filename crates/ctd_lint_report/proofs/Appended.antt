@@ -1,6 +1,5 @@
 -- A text that is written in parts.
-use Rattle.std.proofs.Common.{◌≡◌, ◌∙◌, ◌++◌, ℕ, List, OnOk, Result, ap, subst}
-use Rattle.std.proofs.lemmas.List.{append_assoc}
+use Rattle.ctd_lint_report.proofs.Common.{List, OnOk, Result, ap, append_assoc, subst, ℕ, ◌++◌, ◌∙◌, ◌≡◌}
 
 module _ {A E : Type 0} (r : Result A E) (old between new : List ℕ) where
   -- one part, and then what is left

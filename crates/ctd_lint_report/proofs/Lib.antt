@@ -1,3 +1,4 @@
+pub mod Common
 pub mod Reports
 pub mod VerdictText
 pub mod Statuses

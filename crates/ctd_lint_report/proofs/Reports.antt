@@ -1,39 +1,26 @@
 -- What is reported of a program, put together from what loading promises.
-use Rattle.std.proofs.Common.{◌≢◌, ℕ, All, List, Ok, Err, Option, inl, inr, refl}
-use Rattle.ctd_source.specs.declared.source.Source.{Ghosts}
-use Rattle.ctd_token.specs.declared.fault.LoadFault.{LoadFault}
-use Rattle.ctd_token.specs.declared.fault.LoadKind.TheVariants.{Memory}
-use Rattle.ctd_token.specs.declared.text.Place.{Place}
-use Rattle.ctd_program.specs.Tree.{CommandList}
-use Rattle.ctd_loader.specs.calls.Loading.{LoadsFrom}
-use Rattle.ctd_report.specs.Report.{on_err}
-use Rattle.ctd_findings.specs.declared.finding.Finding.{Finding}
-use Rattle.ctd_findings.specs.calls.Findings.{IsPlaced, IsTrueOfRuns, places_of}
-use Rattle.ctd_lint_report.specs.declared.setup.LintSetup.{LintSetup}
-use Rattle.ctd_traps.specs.declared.program.TrapList.{TrapList}
-use Rattle.ctd_lint_report.specs.calls.Report.{AreRemarks, IsLintReport, call, program_report, remarks_of}
-use Rattle.ctd_lint_report.specs.calls.Text.{refusal_lines}
-use Rattle.ctd_lint_report.specs.calls.Traps.{AreTraps}
+use Rattle.ctd_lint_report.proofs.Common.{All, AreRemarks, AreTraps, CommandList, Err, Finding, Ghosts, IsLintReport, IsPlaced, IsTrueOfRuns, LintSetup, List, LoadFault, LoadsFrom, Memory, Ok, Option}
+use Rattle.ctd_lint_report.proofs.Common.{Place, TrapList, before_after, inl, inr, on_err, places_of, program_report, refl, refusal_lines, remarks_of, ℕ, ◌≢◌}
 
 module _ {V P : Type 0} (tree_of : V → CommandList) (G : Ghosts P) (file : List ℕ) (setup : LintSetup) (old new : P) where
   -- a program that was loaded, its findings and its traps
-  pub reports_program : (plan : V) (found : List Finding) (told : Option TrapList) → LoadsFrom tree_of G old new (Ok plan) → All (IsPlaced (places_of (tree_of plan))) found
-      → All (IsTrueOfRuns (tree_of plan) setup.presets) found → AreTraps (tree_of plan) setup.presets told → IsLintReport AreRemarks file setup (call G old new) (program_report file setup (remarks_of file setup found told) told)
-  reports_program plan found told l placed meant are =
+  pub reports_program : (plan : V) (found : List Finding) (trap_list : Option TrapList) → LoadsFrom tree_of G old new (Ok plan) → All (IsPlaced (places_of (tree_of plan))) found
+      → All (IsTrueOfRuns (tree_of plan) setup.presets) found → AreTraps (tree_of plan) setup.presets trap_list → IsLintReport AreRemarks file setup (before_after G old new) (program_report file setup (remarks_of file setup found trap_list) trap_list)
+  reports_program plan found trap_list l placed meant are =
       inl (record {
         tree = tree_of plan;
         text = l.bytes;
         gave_text = l.gave;
         loads = l.answer;
-        told = told;
+        trap_list = trap_list;
         traps = are;
-        remarks = remarks_of file setup found told;
+        remarks = remarks_of file setup found trap_list;
         remarked = record { found = found; placed = placed; meant = meant; remarks_are = refl };
         report_is = refl;
       })
 
   -- a program that was refused
   pub reports_refusal : (fault : LoadFault) (unclosed : Option Place) → LoadsFrom tree_of G old new (Err fault) → fault.kind ≢ Memory
-      → IsLintReport AreRemarks file setup (call G old new) (on_err (refusal_lines file fault unclosed))
+      → IsLintReport AreRemarks file setup (before_after G old new) (on_err (refusal_lines file fault unclosed))
   reports_refusal fault unclosed l other =
       inr (record { fault = fault; text = l.bytes; gave_text = l.gave; within = l.short; fails = l.answer other; unclosed = unclosed; report_is = refl })

@@ -1,7 +1,6 @@
 -- What traps say of verdicts where none is shown by default.
-use Rattle.std.proofs.Common.{◌≡◌, ◌∙◌, ◌++◌, ℕ, List, Bool, false, None, OnOk, Result, ap, subst, sym, if◌then◌else◌}
-use Rattle.ctd_traps.specs.declared.finding.Finding.{Finding as Trap}
-use Rattle.ctd_lint_report.specs.calls.Traps.{condition_text, every_text, places_behind, places_text, some_element, some_shape, some_shown_by_default, verdict_text}
+use Rattle.ctd_lint_report.proofs.Common.{Bool, List, None, OnOk, Result, Trap, ap, condition_text, every_text, false, if◌then◌else◌, places_behind, places_text, some_element, some_shape}
+use Rattle.ctd_lint_report.proofs.Common.{some_shown_by_default, subst, sym, verdict_text, ℕ, ◌++◌, ◌∙◌, ◌≡◌}
 
 module _ {A E : Type 0} (r : Result A E) (traps : List Trap) (shown : Bool) (text new : List ℕ) (is : shown ≡ some_shown_by_default traps) where
   -- the text, by whether some are shown by default

@@ -4,7 +4,7 @@ ghost use Rattle.std.specs.Prelude.{◌≡◌};
 ghost use Rattle.ctd_lint_report.specs.calls.Kinds.{is_element, is_ignored, is_mistyped, is_shape, is_shown_by_default, is_told_kind, is_valueless, lint_kind_name, lint_kind_named, trap_name, trap_named_among, trap_text};
 
 use ctd_findings::Kind;
-use ctd_known::TrapKind;
+use ctd_states::TrapKind;
 
 /// All kinds of traps.
 const TRAPS: [TrapKind; 8] = [
@@ -64,40 +64,28 @@ pub(crate) fn trap_text(kind: TrapKind) -> &'static str
 pub(crate) fn is_element(kind: TrapKind) -> bool
     ensures { result ≡ is_element kind }
 {
-    match kind {
-        TrapKind::NoElement => true,
-        _ => false,
-    }
+    matches!(kind, TrapKind::NoElement)
 }
 
 /// Whether a trap is that of arrays in UNIQUE.
 pub(crate) fn is_shape(kind: TrapKind) -> bool
     ensures { result ≡ is_shape kind }
 {
-    match kind {
-        TrapKind::OtherShape => true,
-        _ => false,
-    }
+    matches!(kind, TrapKind::OtherShape)
 }
 
 /// Whether a trap is that of a variable without a value.
 fn is_valueless(kind: TrapKind) -> bool
     ensures { result ≡ is_valueless kind }
 {
-    match kind {
-        TrapKind::NoValue => true,
-        _ => false,
-    }
+    matches!(kind, TrapKind::NoValue)
 }
 
 /// Whether a trap is of a wrong type.
 fn is_mistyped(kind: TrapKind) -> bool
     ensures { result ≡ is_mistyped kind }
 {
-    match kind {
-        TrapKind::WrongType => true,
-        _ => false,
-    }
+    matches!(kind, TrapKind::WrongType)
 }
 
 /// Whether a finding of a kind tells a trap of a kind too.
@@ -115,10 +103,7 @@ pub(crate) fn is_told_kind(kind: Kind, trap: TrapKind) -> bool
 pub(crate) fn is_shown_by_default(kind: TrapKind) -> bool
     ensures { result ≡ is_shown_by_default kind }
 {
-    match kind {
-        TrapKind::NoElement | TrapKind::OtherShape => false,
-        _ => true,
-    }
+    !matches!(kind, TrapKind::NoElement | TrapKind::OtherShape)
 }
 
 /// The first of some kinds of traps that has this name.

@@ -6,7 +6,7 @@ ghost use Rattle.ctd_report.specs.Report.{on_err};
 ghost use Rattle.ctd_report.specs.calls.Written.{Leaves};
 ghost use Rattle.ctd_report.specs.Written.{WritesOneOf, before_after};
 ghost use Rattle.ctd_lint_report.specs.calls.Reasons.{reason_of};
-ghost use Rattle.ctd_lint_report.specs.calls.Report.{AreRemarks, IsLintReport, call, findings_status, is_told, names_of, program_lines, program_report, program_status, remarks_of};
+ghost use Rattle.ctd_lint_report.specs.calls.Report.{AreRemarks, IsLintReport, findings_status, is_told, names_of, program_lines, program_report, program_status, remarks_of};
 ghost use Rattle.ctd_lint_report.specs.calls.Text.{kept, refusal_lines};
 ghost use Rattle.ctd_lint_report.specs.calls.Traps.{verdict_lines, verdict_status};
 
@@ -43,13 +43,13 @@ fn status_of(found: &[Finding], ignored: &[LintKind]) -> u8
 }
 
 /// The status that `--verdicts` asks for.
-fn verdict_status(setup: &LintSetup, told: &Option<TrapList<'_>>) -> u8
-    ensures { result ≡ verdict_status setup.now told.now }
+fn verdict_status(setup: &LintSetup, trap_list: &Option<TrapList<'_>>) -> u8
+    ensures { result ≡ verdict_status setup.now trap_list.now }
 {
-    let Some(list) = told else {
+    let Some(list) = trap_list else {
         return WARNINGS;
     };
-    if some_open(list.findings.as_slice(), setup.ignored.as_slice()) {
+    if some_open(list.traps.as_slice(), setup.ignored.as_slice()) {
         WARNINGS
     } else {
         NO_WARNINGS
@@ -61,15 +61,15 @@ fn program_status(
     file: &Bytes,
     setup: &LintSetup,
     found: &[Finding],
-    told: &Option<TrapList<'_>>,
+    trap_list: &Option<TrapList<'_>>,
 ) -> u8
-    ensures { result ≡ program_status setup.now (remarks_of file.now setup.now found.now told.now) told.now }
+    ensures { result ≡ program_status setup.now (remarks_of file.now setup.now found.now trap_list.now) trap_list.now }
 {
     let own = status_of(found, setup.ignored.as_slice());
     if !setup.verdicts {
         return own;
     }
-    own.max(verdict_status(setup, told))
+    own.max(verdict_status(setup, trap_list))
 }
 
 /// What is written of the traps of a program, but for those that findings tell too.
@@ -78,14 +78,14 @@ fn verdict_text(
     file: &[u8],
     setup: &LintSetup,
     found: &[Finding],
-    told: &Option<TrapList<'_>>,
+    trap_list: &Option<TrapList<'_>>,
 ) -> Result<Vec<u8>, AllocError>
-    ensures { IfOk result (λ text. text.items ≡ verdict_lines file.now setup.now (reason_of (names_of told.now)) (is_told (kept setup.now.ignored.items found.now)) told.now) }
+    ensures { IfOk result (λ text. text.items ≡ verdict_lines file.now setup.now (reason_of (names_of trap_list.now)) (is_told (kept setup.now.ignored.items found.now)) trap_list.now) }
 {
-    let Some(list) = told else {
+    let Some(list) = trap_list else {
         return too_large_text(alloc, file);
     };
-    let traps = list.findings.as_slice();
+    let traps = list.traps.as_slice();
     let mut text = traps_text(alloc, file, setup, found, list.names.as_slice(), traps)?;
     write_verdict_line(file, setup, traps, &mut text)?;
     Ok(text)
@@ -97,13 +97,13 @@ fn program_text(
     setup: &LintSetup,
     file: &Bytes,
     found: &[Finding],
-    told: &Option<TrapList<'_>>,
+    trap_list: &Option<TrapList<'_>>,
 ) -> Result<Vec<u8>, AllocError>
-    ensures { IfOk result (λ text. text.items ≡ program_lines file.now setup.now (remarks_of file.now setup.now found.now told.now) told.now) }
+    ensures { IfOk result (λ text. text.items ≡ program_lines file.now setup.now (remarks_of file.now setup.now found.now trap_list.now) trap_list.now) }
 {
     let ignored = setup.ignored.as_slice();
     let mut text = findings_text(alloc, file.as_slice(), found, ignored)?;
-    let lines = verdict_text(alloc, file.as_slice(), setup, found, told)?;
+    let lines = verdict_text(alloc, file.as_slice(), setup, found, trap_list)?;
     text.extend_from_slice(lines.as_slice())?;
     Ok(text)
 }
@@ -114,17 +114,17 @@ fn write_program<O: Sink, E: Sink>(
     setup: &LintSetup,
     file: &Bytes,
     found: &[Finding],
-    told: &Option<TrapList<'_>>,
+    trap_list: &Option<TrapList<'_>>,
     out: &mut O,
     err: &mut E,
 ) -> Result<u8, ToolFault>
     requires out_works { O.has_failed out.old ≡ false }
     requires err_works { E.has_failed err.old ≡ false }
     ensures written { Leaves (before_after O.Sink out.old out.new) (before_after E.Sink err.old err.new)
-        (program_report file.now setup.now (remarks_of file.now setup.now found.now told.now) told.now) result }
+        (program_report file.now setup.now (remarks_of file.now setup.now found.now trap_list.now) trap_list.now) result }
 {
-    let text = program_text(alloc, setup, file, found, told)?;
-    let status = program_status(file, setup, found, told);
+    let text = program_text(alloc, setup, file, found, trap_list)?;
+    let status = program_status(file, setup, found, trap_list);
     write_report(text.as_slice(), &[], status, out, err)
 }
 
@@ -163,7 +163,7 @@ pub fn lint<P: Source, O: Sink, E: Sink>(
     requires out_works { O.has_failed out.old ≡ false }
     requires err_works { E.has_failed err.old ≡ false }
     ensures written { WritesOneOf (before_after O.Sink out.old out.new) (before_after E.Sink err.old err.new)
-        (IsLintReport AreRemarks file.now setup.now (call P.Source program.old program.new)) result }
+        (IsLintReport AreRemarks file.now setup.now (before_after P.Source program.old program.new)) result }
 {
     let mut text = Vec::new(alloc);
     let plan = match Plan::load_text(alloc, program, &mut text) {
@@ -176,7 +176,7 @@ pub fn lint<P: Source, O: Sink, E: Sink>(
             }
         },
     };
-    let told = traps(alloc, plan.commands(), &setup.presets)?;
-    let found = findings(alloc, plan.commands(), &setup.presets, &told)?;
-    write_program(alloc, setup, file, found.as_slice(), &told, out, err)
+    let trap_list = traps(alloc, plan.commands(), &setup.presets)?;
+    let found = findings(alloc, plan.commands(), &setup.presets, &trap_list)?;
+    write_program(alloc, setup, file, found.as_slice(), &trap_list, out, err)
 }

@@ -4,7 +4,7 @@ ghost use Rattle.std.specs.Prelude.{◌≡◌, ◌++◌, OnOk, option_map};
 ghost use Rattle.std.specs.Fmt.{signed_decimal};
 ghost use Rattle.ctd_lint_report.specs.calls.Reasons.{between_text, bounds_text, least_text, most_text, name_at, operand_text, reason_text, same_text};
 
-use ctd_known::Operand;
+use ctd_states::Operand;
 use itoa::Buffer;
 use std::alloc::AllocError;
 

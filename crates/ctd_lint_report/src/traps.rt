@@ -16,9 +16,9 @@ use crate::reason::write_reason;
 use crate::setup::LintSetup;
 use crate::text::write_place;
 use ctd_findings::Finding;
-use ctd_known::TrapKind;
+use ctd_states::TrapKind;
 use ctd_token::Place;
-use ctd_traps::Finding as Trap;
+use ctd_traps::Trap;
 use itoa::Buffer;
 use std::alloc::{AllocError, Global};
 

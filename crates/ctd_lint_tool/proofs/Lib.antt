@@ -1,3 +1,4 @@
+pub mod Common
 pub mod UsageWritten
 pub mod UsageFaults
 pub mod RunLemmas

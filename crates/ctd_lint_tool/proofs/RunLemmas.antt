@@ -1,25 +1,12 @@
 -- The parts of a run, put together.
-use Rattle.std.proofs.Common.{◌≡◌, ◌≢◌, ◌⊎◌, ◌∷◌, ℕ, List, Result, Ok, Err, inl, inr, max, refl, subst, sym}
-use Rattle.std.specs.Result.{IsErr, IsErrAnd}
-use Rattle.std.specs.declared.io.ErrorKind.{ErrorKind}
-use Rattle.std.specs.declared.io.ErrorKind.TheVariants.{OutOfMemory}
-use Rattle.ctd_process.specs.Process.{Args}
+use Rattle.ctd_lint_tool.proofs.Common.{Args, BeforeAfter, EndsArgs, EndsIn, EndsInFault, EndsWithReport, EndsWords, Err, ErrorKind, FailsMidwayAt, IsErr, IsErrAnd, IsLintFault, IsReportOf, LeavesRun}
+use Rattle.ctd_lint_tool.proofs.Common.{LintFault, LintSetup, Lints, List, Means, Memory, Ok, OutOfMemory, Report, Result, RunsOutAt, Stand, ToolFault, WasAskedFor, Write, WritesOneOf, bad_words}
+use Rattle.ctd_lint_tool.proofs.Common.{before_after, broken_off, inl, inr, max, no_room, of_fault, one_more, refl, subst, sym, usage_report, whole, ℕ, ◌∷◌, ◌≡◌, ◌≢◌, ◌⊎◌}
 use Rattle.ctd_report.specs.declared.sink.Sink as sinks
-use Rattle.ctd_report.specs.declared.written.ToolFault.{ToolFault}
-use Rattle.ctd_report.specs.declared.written.ToolFault.TheVariants.{Memory, Write}
-use Rattle.ctd_report.specs.Report.{Report}
-use Rattle.ctd_report.specs.Written.{BeforeAfter, EndsWithReport, WritesOneOf, before_after, broken_off, whole}
-use Rattle.ctd_lint_tool.specs.declared.command_line.LintFault.{LintFault}
 use Rattle.ctd_lint_tool.specs.declared.command_line.LintFault.TheVariants as faults
-use Rattle.ctd_lint_report.specs.declared.setup.LintSetup.{LintSetup}
-use Rattle.ctd_lint_tool.specs.calls.FileReport.{usage_report}
-use Rattle.ctd_lint_tool.specs.calls.Usage.{IsLintFault}
-use Rattle.ctd_lint_tool.specs.calls.Run.{FailsMidwayAt, EndsArgs, EndsIn, EndsInFault, EndsWords, IsReportOf, Lints, Means, RunsOutAt, Stand, bad_words, no_room, of_fault, one_more}
-use Rattle.ctd_lint_tool.specs.calls.Opening.{WasAskedFor}
-use Rattle.ctd_lint_tool.specs.inner.Run.{LeavesRun}
 
 -- one of two kinds of reports
-either : {O E : Type 0} {S : sinks.Ghosts O} {T : sinks.Ghosts E} (out : BeforeAfter S) (err : BeforeAfter T) (A B : Report → Type 0) (status : ℕ)
+either : {O E : Type 0} {S : sinks.Ghosts O} {T : sinks.Ghosts E} (out : BeforeAfter O S) (err : BeforeAfter E T) (A B : Report → Type 0) (status : ℕ)
     → EndsWithReport out err (λ r. A r ⊎ B r) status → EndsWithReport out err A status ⊎ EndsWithReport out err B status
 either out err A B status (whole report (inl a) all) = inl (whole report a all)
 either out err A B status (whole report (inr b) all) = inr (whole report b all)

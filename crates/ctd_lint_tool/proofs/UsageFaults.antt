@@ -1,17 +1,8 @@
 -- Which of the rules gives a fault.
-use Rattle.std.proofs.Common.{◌≡◌, ◌∙◌, ◌⊎◌, inl, inr, true, List, Option, None, Some, Result, Ok, Err, ap, codes, is_some, sym, subst}
-use Rattle.std.specs.Prelude.{IfErr}
-use Rattle.std.specs.Result.{IsErr, IsErrAnd}
-use Rattle.clap.specs.Words.{Row, Text, all_of, first_of}
-use Rattle.ctd_program.specs.declared.preset.Preset.{Preset}
-use Rattle.ctd_arguments.specs.Usage.{ArePresetsOf}
-use Rattle.ctd_lint_tool.specs.declared.command_line.LintFault.{LintFault}
+use Rattle.ctd_lint_tool.proofs.Common.{ArePresetsOf, Err, HasNoPresets, IfErr, IsErr, IsErrAnd, IsLintFault, IsTaken, LintFault, List, None, Ok, Option, Preset, Result, Row, Some, TellsUnknown, Text}
+use Rattle.ctd_lint_tool.proofs.Common.{UsageFault, all_of, ap, codes, first_of, found_in, inl, inr, is_some, lint_fault, subst, sym, true, unknown_in, ◌∙◌, ◌≡◌, ◌⊎◌}
 use Rattle.ctd_lint_tool.specs.declared.command_line.LintFault.TheVariants as faults
-use Rattle.ctd_lint_tool.specs.calls.CommandLine.{IsTaken, found_in}
-use Rattle.ctd_arguments.specs.declared.setup.UsageFault.{UsageFault}
 use Rattle.ctd_arguments.specs.declared.setup.UsageFault.TheVariants as usage
-use Rattle.ctd_arguments.specs.calls.Usage.{HasNoPresets}
-use Rattle.ctd_lint_tool.specs.calls.Usage.{IsLintFault, TellsUnknown, lint_fault, unknown_in}
 
 -- what holds of a fault holds of what `?` returns for it
 pub holds_on_return : {T : Type 0} (P : LintFault → Type 0) (f : LintFault) (q : Result T LintFault) → IsErr q × IsErrAnd q (λ e. e ≡ f) → P f → IfErr q P

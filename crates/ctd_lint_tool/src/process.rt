@@ -92,8 +92,8 @@ fn answer_args<P: Programs, O: Sink, E: Sink>(
 
 /// Answers the words of the process with a status.
 pub fn answer<H: Host + ClosableFiles>(alloc: Global, host: &mut H) -> Answered<H::Out, H::Err>
-    ensures { EndsLint
-        (record { gives_out = H.gives_out; gives_err = H.gives_err; gives_args = H.gives_args; opens = H.opens; takes_input = H.takes_input })
+    ensures { EndsLint {R = H.File}
+        (record { gives_out = H.gives_out; gives_err = H.gives_err; gives_args = H.gives_args })
         (record { opens = OpensProgram H.opens (StartsOn H.File.remaining ⟦<FromRead<BufReader<H::File>> as Source>⟧); asks = AsksFor H.opens; closes = H.closes; source = ⟦<FromRead<BufReader<H::File>> as Source>⟧; out = ⟦<ToWrite<H::Out> as Sink>⟧; err = ⟦<ToWrite<H::Err> as Sink>⟧; remarks = AreRemarks })
         host.old host.new result }
 {

@@ -9,7 +9,6 @@ use Rattle.ctd_pattern.specs.declared.pattern.PatternFault.{PatternFault}
 use Rattle.ctd_pattern.specs.declared.pattern.PatternFault.TheVariants.{NotText, NotPattern, TooLarge}
 use Rattle.ctd_pattern.specs.declared.pattern.PatternFault.TheVariants as patterns
 use Rattle.ctd_pattern.specs.Pattern.{IsPattern, IsNoPattern}
-use Rattle.ctd_loader.specs.calls.PatternTable.{texts_of}
 use Rattle.ctd_loader.specs.inner.Literals.{literals_at}
 use Rattle.ctd_loader.specs.Loading.{ArePatterns, IsBadPattern, IsUnbuilt}
 
@@ -20,10 +19,6 @@ left_at ls i l within is = at_drop_more (λ x. x) ls i l within ∙ ap (λ y. y 
 -- one literal more
 one_more : (ls : List (Bor PatternLiteral)) (i : ℕ) (l : Bor PatternLiteral) → i < length ls → l ≡ get_or ls i l → literals_at (take (i + 1) ls) ≡ literals_at (take i ls) ++ l.now ∷ []
 one_more ls i l within is = ap literals_at (take_more ls i l within ∙ ap (λ x. take i ls ++ x ∷ []) (sym is)) ∙ map-append (λ x. x.now) (take i ls) (l ∷ [])
-
-pub more_built : (ls : List (Bor PatternLiteral)) (i : ℕ) (l : Bor PatternLiteral) (ps : List (List ℕ)) → i < length ls → l ≡ get_or ls i l → ps ≡ texts_of (literals_at (take i ls)) → ps ++ l.now.bytes ∷ [] ≡ texts_of (literals_at (take (i + 1) ls))
-more_built ls i l ps within is built =
-    ap (λ x. x ++ l.now.bytes ∷ []) built ∙ sym (map-append (λ x. x.bytes) (literals_at (take i ls)) (l.now ∷ [])) ∙ ap texts_of (sym (one_more ls i l within is))
 
 pub more_patterns : (ls : List (Bor PatternLiteral)) (i : ℕ) (l : Bor PatternLiteral) → i < length ls → l ≡ get_or ls i l → ArePatterns (literals_at (take i ls)) → IsPattern l.now.bytes → ArePatterns (literals_at (take (i + 1) ls))
 more_patterns ls i l within is so_far here =

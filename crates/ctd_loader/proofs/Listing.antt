@@ -13,7 +13,7 @@ use Rattle.ctd_program.specs.declared.tree.Choice.{Choice, out-Choice}
 use Rattle.ctd_program.specs.calls.View.{action_tree, command_trees, command_list, commands_of}
 use Rattle.ctd_program.specs.inner.View.{boxed_separator}
 use Rattle.ctd_program.proofs.Trees.{list_commands, loop_tree, choice_tree}
-use Rattle.ctd_syntax.specs.calls.PatternLiterals.{command_literals, separator_literals, literals}
+use Rattle.ctd_syntax.specs.inner.PatternLiterals.{command_literals, separator_literals, literals}
 
 -- the list of a block
 pub literals_of_block : (block : Commands) (cs : List Command) → cs ≡ commands_of block → literals (command_trees cs) ≡ literals (command_list block)

@@ -11,7 +11,7 @@ use Rattle.ctd_program.specs.Tree.{CommandList}
 use Rattle.ctd_program.specs.declared.tree.PatternLiteral.{PatternLiteral}
 use Rattle.ctd_syntax.specs.Reading.{Parses, lexemes}
 use Rattle.ctd_syntax.specs.PatternLiterals.{pattern_literals}
-use Rattle.ctd_syntax.specs.calls.PatternLiterals.{literals}
+use Rattle.ctd_syntax.specs.inner.PatternLiterals.{literals}
 use Rattle.ctd_syntax.proofs.RegexLiterals.{spelled_literals}
 use Rattle.ctd_loader.specs.Loading.{ArePatterns, HasBadPattern, IsBadPattern, IsReady, TextHasFault, of_text, too_long, unread}
 use Rattle.ctd_loader.specs.calls.Loading.{GivesProgramOrFault, LoadsFrom}

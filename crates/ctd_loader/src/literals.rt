@@ -2,7 +2,7 @@
 ghost use Rattle.std.specs.Prelude.{◌≡◌, ◌++◌, OnOk, IfOk};
 ghost use Rattle.ctd_program.specs.inner.View.{boxed_separator};
 ghost use Rattle.ctd_program.specs.calls.View.{command_tree, command_trees};
-ghost use Rattle.ctd_syntax.specs.calls.PatternLiterals.{literals, command_literals, separator_literals};
+ghost use Rattle.ctd_syntax.specs.inner.PatternLiterals.{literals, command_literals, separator_literals};
 ghost use Rattle.ctd_loader.specs.inner.Literals.{literals_at};
 
 use ctd_syntax::{Action, Choice, Command, Loop, PatternLiteral};

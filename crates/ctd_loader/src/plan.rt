@@ -4,8 +4,7 @@ ghost use Rattle.ctd_source.specs.declared.source.Seen.TheVariants.{Going};
 ghost use Rattle.ctd_token.specs.declared.limits.TheConstants.{NESTING_LIMIT, PROGRAM_LIMIT};
 ghost use Rattle.ctd_program.specs.calls.Blocks.{list_blocks};
 ghost use Rattle.ctd_program.specs.calls.View.{command_trees};
-ghost use Rattle.ctd_syntax.specs.calls.PatternLiterals.{IsNumbered, literals};
-ghost use Rattle.ctd_loader.specs.calls.PatternTable.{texts_of};
+ghost use Rattle.ctd_syntax.specs.inner.PatternLiterals.{literals};
 ghost use Rattle.ctd_loader.specs.inner.Literals.{literals_at};
 ghost use Rattle.ctd_loader.specs.Loading.{ArePatterns, IsBadPattern};
 
@@ -20,11 +19,9 @@ use std::marker::Model;
 /// A program that was read, ready for any number of checks, which contracts see as the list of its commands.
 pub struct Plan {
     program: Program,
-    /// The patterns of its literals, in the order of the text, so that each stands at its literal's number.
+    /// The patterns of its literals, in the order of the text, so that each stands at the number of its command.
     patterns: Vec<Pattern>,
     ghost shallow: { list_blocks (command_trees program) ≤ NESTING_LIMIT },
-    ghost numbered: { IsNumbered (command_trees program) },
-    ghost built: { patterns.items ≡ texts_of (literals (command_trees program)) },
 }
 
 impl Drop for Plan {
@@ -68,7 +65,6 @@ fn pattern_fault(literal: &PatternLiteral, fault: PatternFault) -> LoadFault
 
 /// Builds the patterns of literals, in order.
 fn build_all(alloc: Global, literals: &[&PatternLiteral]) -> Result<Vec<Pattern>, LoadFault>
-    ensures built { IfOk result (λ patterns. patterns.items ≡ texts_of (literals_at literals.now)) }
     ensures are_patterns { IfOk result (λ _. ArePatterns (literals_at literals.now)) }
     ensures bad { IfErr result (λ fault. fault.kind ≢ LoadKind.Memory → IsBadPattern (literals_at literals.now) fault) }
     ensures memory { IfErr result (λ fault. fault.kind ≡ LoadKind.Memory → fault.place ≡ None) }
@@ -85,7 +81,6 @@ fn build_all(alloc: Global, literals: &[&PatternLiteral]) -> Result<Vec<Pattern>
 
 /// Builds the patterns of commands, in the order of the text.
 fn patterns_in(alloc: Global, commands: &[Command]) -> Result<Vec<Pattern>, LoadFault>
-    ensures built { IfOk result (λ patterns. patterns.items ≡ texts_of (literals (command_trees commands.now))) }
     ensures are_patterns { IfOk result (λ _. ArePatterns (literals (command_trees commands.now))) }
     ensures bad { IfErr result (λ fault. fault.kind ≢ LoadKind.Memory → IsBadPattern (literals (command_trees commands.now)) fault) }
     ensures memory { IfErr result (λ fault. fault.kind ≡ LoadKind.Memory → fault.place ≡ None) }
@@ -95,9 +90,7 @@ fn patterns_in(alloc: Global, commands: &[Command]) -> Result<Vec<Pattern>, Load
 }
 
 /// A matcher for each pattern, in order.
-fn matchers_of(alloc: Global, patterns: &[Pattern]) -> Result<Vec<Matcher<'_>>, AllocError>
-    ensures same { IfOk result (λ matchers. matchers.items ≡ patterns.now) }
-{
+fn matchers_of(alloc: Global, patterns: &[Pattern]) -> Result<Vec<Matcher<'_>>, AllocError> {
     let mut matchers = Vec::new(alloc);
     for pattern in patterns {
         let matcher = pattern.matcher(alloc)?;
@@ -107,7 +100,6 @@ fn matchers_of(alloc: Global, patterns: &[Pattern]) -> Result<Vec<Matcher<'_>>, 
 }
 
 impl Plan {
-    ghost use Rattle.ctd_loader.specs.calls.PatternTable.{AreAmong};
     ghost use Rattle.ctd_loader.specs.calls.Loading.{GivesProgramOrFault, LoadsFrom};
     ghost use Rattle.ctd_loader.specs.Loading.{IsReady, TextHasFault};
 
@@ -119,10 +111,9 @@ impl Plan {
         self.program.commands()
     }
 
-    /// What searches for each of its patterns, in their order, with tables that no earlier search has filled.
-    pub fn matchers(&self, alloc: Global) -> Result<Vec<Matcher<'_>>, AllocError>
-        ensures numbered { IfOk result (λ matchers. AreAmong matchers.items (literals (command_trees self.now))) }
-    {
+    /// What searches for each of its patterns, in their order, with tables that no earlier search has filled. No contract says which
+    /// these are: a command takes one only if it is of its literal.
+    pub fn matchers(&self, alloc: Global) -> Result<Vec<Matcher<'_>>, AllocError> {
         matchers_of(alloc, self.patterns.as_slice())
     }
 

@@ -1,5 +1,5 @@
 //! Matching a pattern at the start of a window.
-ghost use Rattle.std.specs.Prelude.{◌≡◌, ◌≤◌, length, IfOk, IfSome};
+ghost use Rattle.std.specs.Prelude.{◌≡◌, ◌≤◌, length, true, IfOk, IfSome};
 ghost use Rattle.regex.specs.Bytes.{matcher_pattern};
 ghost use Rattle.ctd_pattern.specs.Pattern.{length_of_first};
 
@@ -50,6 +50,15 @@ impl<'p> Matcher<'p> {
             literal: regex.as_str().as_bytes(),
             matcher,
         })
+    }
+
+    /// Whether its pattern is that of a literal.
+    #[inline]
+    pub fn is_of(&self, literal: &[u8]) -> bool
+        ensures same { result ≡ true → self.now ≡ literal.now }
+        ensures all { self.now ≡ literal.now → result ≡ true }
+    {
+        self.literal == literal
     }
 
     /// How many bytes the first match on a window takes, where that match starts with the window.

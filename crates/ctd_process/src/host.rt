@@ -1,7 +1,7 @@
 //! The host of a process: who gives it its streams, its words and its files.
 
 ghost use Rattle.std.specs.Prelude.{ℕ, List, Option};
-ghost use Rattle.ctd_process.specs.Process.{Args};
+ghost use Rattle.ctd_process.specs.Words.{Args};
 
 use ctd_report::Writer;
 use std::env::Args;

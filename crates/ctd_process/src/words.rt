@@ -1,7 +1,7 @@
 //! The words of a command line.
 
 ghost use Rattle.std.specs.Prelude.{◌≡◌, IfOk};
-ghost use Rattle.ctd_process.specs.Process.{words_in};
+ghost use Rattle.ctd_process.specs.Words.{words_in};
 
 use ctd_token::Bytes;
 use std::alloc::{AllocError, Global};

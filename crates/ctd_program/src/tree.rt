@@ -168,8 +168,6 @@ impl Drop for Assignments {
 
 /// The literal of a REGEX.
 pub struct PatternLiteral {
-    /// How many commands REGEX stand before its own in the text, so that the literals of a program are 0, 1, 2, ..
-    pub number: usize,
     pub bytes: Bytes,
     /// The place of its opening quote.
     pub place: Place,
@@ -177,11 +175,7 @@ pub struct PatternLiteral {
 
 impl Drop for PatternLiteral {
     fn drop(self) {
-        let PatternLiteral {
-            number: _,
-            bytes: _,
-            place: _,
-        } = self;
+        let PatternLiteral { bytes: _, place: _ } = self;
     }
 }
 
@@ -204,6 +198,9 @@ impl Drop for IntArguments {
 
 /// What REGEX takes: its literal, and the variable that gets what it matches, if there is one.
 pub struct RegexArguments {
+    /// How many commands REGEX stand before it in the text. It is a hint for those who look up its pattern, of which no contract says
+    /// anything.
+    pub number: u32,
     pub literal: PatternLiteral,
     pub target: Option<Var>,
 }
@@ -211,6 +208,7 @@ pub struct RegexArguments {
 impl Drop for RegexArguments {
     fn drop(self) {
         let RegexArguments {
+            number: _,
             literal: _,
             target: _,
         } = self;

@@ -1,18 +1,8 @@
 -- What divisions and powers give.
-use Rattle.std.proofs.Common.{◌≡◌, ◌≤◌, ◌<◌, zero, suc, nat_lt, ◌*◌, ◌^◌, ◌%◌, ℕ, Bool, true, false, ℤ, pos, negsuc, neg_ℤ, ◌≤ℤ◌, ◌<ℤ◌, unsigned_abs, inl, inr, refl, pow-suc, le_trans, Option, Some, None, unwrap_or, arith}
+use Rattle.ctd_range.proofs.Common.{Bool, Computed, Covers, FitsSigned, IfSome, IsCount, IsIn, IsTowardsZero, None, Option, Range, Some, SomeIff, arith, false, in_range, inl, inr, int_pow, int_rem}
+use Rattle.ctd_range.proofs.Common.{ints, is_value, le_trans, mod-le, mod-lt, nat_lt, nat_tests, neg_ℤ, negsuc, pos, pow-le-pow_left, pow-le-pow_right, pow-suc, power, refl, remainder, suc, true}
+use Rattle.ctd_range.proofs.Common.{unsigned_abs, unwrap_or, w128, zero, ℕ, ℤ, ◌%◌, ◌*◌, ◌<ℤ◌, ◌<◌, ◌^◌, ◌≡◌, ◌≤ℤ◌, ◌≤◌}
 use lib.Signed.{lt_z}
-use Rattle.std.specs.Prelude.{int_rem, IfSome}
-use Rattle.std.specs.Option.{SomeIff}
-use Rattle.std.specs.Int.{int_pow, w128}
-use Rattle.std.specs.Int.RustNames.{FitsSigned}
-use Rattle.std.proofs.lemmas.Int.{ints}
-use Rattle.std.proofs.lemmas.Bool.Decides.{nat_tests}
-use Rattle.std.proofs.Math.Nat.{mod-le, mod-lt, pow-le-pow_left, pow-le-pow_right}
-use Rattle.ctd_value.specs.Arithmetic.{is_value, in_range, remainder, power}
-use Rattle.ctd_range.specs.declared.range.Range.{Range}
-use Rattle.ctd_range.specs.declared.arithmetic.Computed.{Computed}
-use Rattle.ctd_range.specs.calls.Ranges.{IsIn, Covers}
-use Rattle.ctd_range.specs.inner.Ranges.{IsCount, IsTowardsZero}
 use Rattle.ctd_range.proofs.Ends.{between, covers_in_range, not_false}
 
 -- a number between 0 and another

@@ -1,17 +1,7 @@
 -- What holds between the ends of ranges holds of what is computed of them.
-use Rattle.std.proofs.Common.{◌≡◌, ◌≤◌, ◌<◌, zero, suc, nat_lt, ◌+◌, ◌*◌, ◌^◌, ◌-◌, ℕ, Bool, true, false, ℤ, pos, negsuc, neg_ℤ, ◌+ℤ◌, ◌-ℤ◌, ◌≤ℤ◌, ◌<ℤ◌, Ok, Err, if◌then◌else◌, refl, subst, arith}
-use Rattle.std.proofs.lemmas.Int.{ints}
-use Rattle.std.proofs.lemmas.Bool.Decides.{nat_tests}
-use Rattle.std.proofs.Math.Nat.{mul-le-mul_right}
-use Rattle.std.specs.Int.{int_pow}
-use Rattle.ctd_outcome.specs.declared.reason.Fault.TheVariants.{Overflow, Exponent}
-use Rattle.ctd_value.specs.Arithmetic.{is_value, in_range, checked_divide, power}
-use Rattle.ctd_range.specs.declared.range.Range.{Range}
-use Rattle.ctd_range.specs.declared.arithmetic.Computed.{Computed}
-use Rattle.ctd_range.specs.declared.arithmetic.End.{End}
-use Rattle.ctd_range.specs.calls.Ranges.{IsIn, Covers}
-use Rattle.ctd_range.specs.inner.Ranges.{IsCount}
-use Rattle.ctd_range.specs.inner.Ends.{IsEnd}
+use Rattle.ctd_range.proofs.Common.{Bool, Computed, Covers, End, Err, Exponent, IsCount, IsEnd, IsIn, Ok, Overflow, Range, arith, checked_divide, false, if◌then◌else◌, in_range, int_pow, ints}
+use Rattle.ctd_range.proofs.Common.{is_value, mul-le-mul_right, nat_lt, nat_tests, neg_ℤ, negsuc, pos, power, refl, subst, suc, true, zero, ℕ, ℤ, ◌*◌, ◌+ℤ◌, ◌+◌, ◌-ℤ◌, ◌-◌, ◌<ℤ◌, ◌<◌, ◌^◌, ◌≡◌, ◌≤ℤ◌}
+use Rattle.ctd_range.proofs.Common.{◌≤◌}
 
 -- a value lies between the least and the greatest
 pub value_is_least : (z : ℤ) → is_value z ≡ true → negsuc (2 ^ 127 - 1) ≤ℤ z

@@ -1,14 +1,6 @@
 -- A product lies between the products of ends.
-use Rattle.std.proofs.Common.{◌≡◌, ◌≤◌, ◌*◌, ℕ, zero, suc, Bool, true, false, ℤ, pos, negsuc, ◌+ℤ◌, ◌*ℤ◌, ◌≤ℤ◌, ◌<ℤ◌, refl, sym, ◌∙◌, arith, ◌||◌, ◌^◌, ◌-◌}
-use Rattle.std.proofs.lemmas.Int.{ints, by_lt_z}
-use Rattle.std.proofs.Math.Nat.{mul-le-mul_right}
-use Rattle.std.proofs.Math.IntN.{*ℤ_comm, *ℤ-zero}
-use Rattle.ctd_value.specs.Arithmetic.{is_value, in_range}
-use Rattle.ctd_range.specs.declared.range.Range.{Range}
-use Rattle.ctd_range.specs.declared.arithmetic.Computed.{Computed}
-use Rattle.ctd_range.specs.declared.arithmetic.Corner.{Corner}
-use Rattle.ctd_range.specs.calls.Ranges.{IsIn, Covers}
-use Rattle.ctd_range.specs.inner.Ends.{IsCorner, IsLeastOf, IsGreatestOf}
+use Rattle.ctd_range.proofs.Common.{*ℤ-zero, *ℤ_comm, Bool, Computed, Corner, Covers, IsCorner, IsGreatestOf, IsIn, IsLeastOf, Range, arith, by_lt_z, false, in_range, ints, is_value, mul-le-mul_right}
+use Rattle.ctd_range.proofs.Common.{negsuc, pos, refl, suc, sym, true, zero, ℕ, ℤ, ◌*ℤ◌, ◌*◌, ◌+ℤ◌, ◌-◌, ◌<ℤ◌, ◌^◌, ◌||◌, ◌∙◌, ◌≡◌, ◌≤ℤ◌, ◌≤◌}
 use Rattle.ctd_range.proofs.Ends.{covers_in_range, value_is_least, value_is_most, between}
 
 -- by a number that is not negative

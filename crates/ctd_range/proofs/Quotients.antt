@@ -1,15 +1,6 @@
 -- What quotients give.
-use Rattle.std.proofs.Common.{◌≡◌, ◌≤◌, zero, suc, ◌*◌, ◌/◌, ℕ, true, ℤ, pos, negsuc, neg_ℤ, ◌≤ℤ◌, ◌+ℤ◌, ◌-ℤ◌, Option, Some, None, refl, div-le_self, le_trans, arith}
-use Rattle.std.specs.Prelude.{int_div, IfSome}
-use Rattle.std.specs.Int.{w128}
-use Rattle.std.specs.Int.RustNames.{FitsSigned}
-use Rattle.std.proofs.lemmas.Int.{ints}
-use Rattle.std.proofs.Math.Nat.{div-mul-le_self, le-div_iff_mul-le, mul-le-mul_left, zero-div}
-use Rattle.ctd_value.specs.Arithmetic.{quotient}
-use Rattle.ctd_range.specs.declared.arithmetic.Computed.{Computed}
-use Rattle.ctd_range.specs.declared.range.Range.{Range}
-use Rattle.ctd_range.specs.calls.Ranges.{IsIn, Covers}
-use Rattle.ctd_range.specs.inner.Ranges.{IsDivisor, IsNoFurther}
+use Rattle.ctd_range.proofs.Common.{Computed, Covers, FitsSigned, IfSome, IsDivisor, IsIn, IsNoFurther, None, Option, Range, Some, arith, div-le_self, div-mul-le_self, int_div, ints}
+use Rattle.ctd_range.proofs.Common.{le-div_iff_mul-le, le_trans, mul-le-mul_left, neg_ℤ, negsuc, pos, quotient, refl, suc, true, w128, zero, zero-div, ℕ, ℤ, ◌*◌, ◌+ℤ◌, ◌-ℤ◌, ◌/◌, ◌≡◌, ◌≤ℤ◌, ◌≤◌}
 use Rattle.ctd_range.proofs.Divisions.{covers_inside}
 
 -- a smaller number by a larger one is no more

@@ -1,12 +1,6 @@
 -- What saturating operations give.
-use Rattle.std.proofs.Common.{◌≡◌, ◌-◌, ◌^◌, Bool, true, false, not, ℤ, pos, negsuc, ◌≤ℤ◌, Option, Some, None, sym, subst, arith}
-use Rattle.std.specs.Option.{SomeIff, is_some}
-use Rattle.std.specs.Int.{saturate_signed, saturate_to_bits, w128}
-use Rattle.std.specs.Int.RustNames.{FitsSigned}
-use Rattle.std.proofs.lemmas.Int.{ints}
-use Rattle.ctd_value.specs.Arithmetic.{is_value}
-use Rattle.ctd_range.specs.declared.arithmetic.Corner.{Corner}
-use Rattle.ctd_range.specs.inner.Ends.{IsCorner}
+use Rattle.ctd_range.proofs.Common.{Bool, Corner, FitsSigned, IsCorner, None, Option, Some, SomeIff, arith, false, ints, is_some, is_value, negsuc, not, pos, saturate_signed, saturate_to_bits, subst}
+use Rattle.ctd_range.proofs.Common.{sym, true, w128, ℤ, ◌-◌, ◌^◌, ◌≡◌, ◌≤ℤ◌}
 use Rattle.ctd_range.proofs.Ends.{value_is_least, value_is_most, between}
 
 bits_most : (t : ℤ) → negsuc (2 ^ 127 - 1) ≤ℤ t → saturate_to_bits 127 t ≤ℤ t

@@ -1,7 +1,5 @@
 -- Ends that move.
-use Rattle.std.proofs.Common.{◌≡◌, ◌≤◌, ◌+◌, ◌*◌, ◌-◌, ℕ, suc, ℤ, pos, ◌+ℤ◌, ◌-ℤ◌, ◌≤ℤ◌, subst, arith}
-use Rattle.std.proofs.lemmas.Int.{ints}
-use Rattle.std.proofs.Math.Nat.{mul-le-mul_left, mul-le-mul_right}
+use Rattle.ctd_range.proofs.Common.{arith, ints, mul-le-mul_left, mul-le-mul_right, pos, subst, suc, ℕ, ℤ, ◌*◌, ◌+ℤ◌, ◌+◌, ◌-ℤ◌, ◌-◌, ◌≡◌, ◌≤ℤ◌, ◌≤◌}
 
 split_slope : (f d n : ℕ) → (f + d) * n ≡ f * n + d * n
 split_slope f d n = omega arith

@@ -1,4 +1,4 @@
-//! What an operator gives where its operands are known to lie in ranges.
+//! What an operator gives where its operands lie in ranges.
 
 ghost use Rattle.std.specs.Prelude.{◌≡◌, ◌≤◌, ◌<◌, ◌+◌, ◌^◌, ◌||◌, true, false, IfSome, ℕ, ℤ, ◌+ℤ◌, ◌-ℤ◌, ◌*ℤ◌, ◌≤ℤ◌, ◌<ℤ◌, neg_ℤ, pos, int_div};
 ghost use Rattle.ctd_value.specs.Arithmetic.{in_range, power, quotient, remainder};

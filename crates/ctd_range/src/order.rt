@@ -1,4 +1,4 @@
-//! What is known of numbers that compare so; and which ranges lie in others.
+//! The range of numbers that compare so; and which ranges lie in others.
 
 ghost use Rattle.std.specs.Prelude.{◌≡◌, ◌≢◌, ◌≤◌, ◌<◌, ◌^◌, ◌+◌, ◌*◌, suc, ℕ, ℤ, pos, ◌+ℤ◌, ◌≤ℤ◌, ◌<ℤ◌, ◌⊎◌, IsTrue, true, IfSome, OnSome};
 ghost use Rattle.ctd_range.specs.calls.Ranges.{IsIn};
@@ -174,8 +174,5 @@ fn is_above(a: Range, b: Range) -> bool
 pub fn is_within(a: Range, b: Range) -> bool
     ensures within { result ≡ true → (n : ℕ) (x : ℤ) → n < 2 ^ 64 → IsIn a n x → IsIn b n x }
 {
-    if !is_above(a, b) {
-        return false;
-    }
-    is_below(a, b)
+    is_above(a, b) && is_below(a, b)
 }

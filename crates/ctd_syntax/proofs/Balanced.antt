@@ -1,5 +1,5 @@
 -- The tokens of an expression, a test or a list open what they close, and no command begins among them.
-use Rattle.std.proofs.Common.{◌≡◌, List, [], ◌∷◌, ◌++◌, ℕ, Option, refl, subst, append_assoc}
+use Rattle.std.proofs.Common.{◌≡◌, List, [], ◌∷◌, ◌++◌, ℕ, Option, Bool, true, false, refl, subst, append_assoc}
 use Rattle.ctd_syntax.specs.Lexeme.{Lexeme, mark, keyword}
 use Rattle.ctd_program.specs.Tree.{ExprTree, ExprList, VarTree, TestTree}
 use Rattle.ctd_syntax.specs.Grammar
@@ -14,15 +14,15 @@ use Rattle.ctd_program.specs.declared.tree.Compare.TheVariants.{Less, Greater, A
 use Rattle.ctd_syntax.specs.declared.keyword.Keyword.{Keyword}
 use Rattle.ctd_syntax.specs.declared.keyword.Keyword.TheVariants as words
 
--- the number of a word, where it is REGEX
-abbrev pub word_number : Keyword → List ℕ
-word_number (words.Regex n) = n ∷ []
-word_number _ = []
+-- whether a word is REGEX
+abbrev pub is_regex : Keyword → Bool
+is_regex words.Regex = true
+is_regex _ = false
 
--- of a token
-abbrev pub token_number : Lexeme → List ℕ
-token_number (keyword k at) = word_number k
-token_number _ = []
+-- whether a token is
+abbrev pub is_regex_token : Lexeme → Bool
+is_regex_token (keyword k at) = is_regex k
+is_regex_token _ = false
 
 -- a change that opens and closes nothing
 abbrev pub IsLevelChange : CounterChange → Type 0
@@ -34,7 +34,7 @@ IsLevelChange Keeps = Unit {0}
 
 -- a token that opens and closes nothing, and is no word REGEX
 abbrev pub IsLevel : Lexeme → Type 0
-IsLevel t = IsLevelChange (change_of t) × (token_number t ≡ [])
+IsLevel t = IsLevelChange (change_of t) × (is_regex_token t ≡ false)
 
 -- such tokens, with parentheses and brackets among them that fit
 pub data Balanced : List Lexeme → Type 0 where

@@ -6,12 +6,12 @@ use Rattle.ctd_program.specs.Tree
 use Rattle.ctd_program.specs.calls.View.{command_tree, command_trees}
 use Rattle.ctd_program.specs.declared.tree.Command.{Command}
 use Rattle.ctd_program.proofs.Trees.{joined}
-use Rattle.ctd_token.specs.calls.Lexing.{IsEnd}
+use Rattle.ctd_token.specs.calls.Lexing.{Uncut, IsEnd}
 use Rattle.ctd_token.specs.declared.limits.TheConstants.{NESTING_LIMIT, PROGRAM_LIMIT}
 use Rattle.ctd_syntax.specs.Nesting.{change_of, step, start, weight}
 use Rattle.ctd_syntax.specs.inner.Nesting.{too_deep}
 use Rattle.ctd_syntax.specs.Reading.{Parses, lexemes}
-use Rattle.ctd_syntax.specs.inner.Batches.{Unread, IsNextSeen, ReadsOff, SpellsOnly}
+use Rattle.ctd_syntax.specs.inner.Batches.{IsNextSeen, ReadsOff, SpellsOnly}
 use Rattle.ctd_syntax.proofs.Parsing.{parsed}
 use Rattle.ctd_syntax.proofs.Boundaries.{BeginsWith, nothing_yet, nothing_spelled, batch_more, all_read}
 use Rattle.ctd_syntax.proofs.TokensRead as tokens_read
@@ -27,7 +27,7 @@ pub none_off : (ts : List Lexeme) (cs : List Command) → ReadsOff ts cs ts cs
 none_off ts cs = record { front = []; commands = []; split = refl; put = sym (append-nil cs); only = nothing_spelled }
 
 -- what is read so far: commands, and the tokens of a batch behind them, which do not nest too deep
-pub record InBatches (text : List ℕ) (commands : List Command) (batch : List Lexeme) (u : Unread) (counters : ℕ × List ℕ) : Type 0 where
+pub record InBatches (text : List ℕ) (commands : List Command) (batch : List Lexeme) (u : Uncut) (counters : ℕ × List ℕ) : Type 0 where
   pub seen : List Lexeme
   pub read : HasRead text (seen ++ batch) u
   pub begins : BeginsWith seen (command_trees commands)
@@ -35,7 +35,7 @@ pub record InBatches (text : List ℕ) (commands : List Command) (batch : List L
   pub shallow : (ts : List Lexeme) → too_deep counters ts ≡ None → too_deep start ((seen ++ batch) ++ ts) ≡ None
 
 -- before the first token
-pub begin : (text : List ℕ) (commands : List Command) (u : Unread) (counters : ℕ × List ℕ) → commands ≡ [] → u ≡ record { uncut = record { text = text; at = 0 }; before = 0 } → counters ≡ start → InBatches text commands [] u counters
+pub begin : (text : List ℕ) (commands : List Command) (u : Uncut) (counters : ℕ × List ℕ) → commands ≡ [] → u ≡ record { text = text; at = 0 } → counters ≡ start → InBatches text commands [] u counters
 begin text commands u counters none is at_start = record {
   seen = [];
   read = tokens_read.begin text u is;
@@ -45,7 +45,7 @@ begin text commands u counters none is at_start = record {
 }
 
 -- commands are read off the batch
-pub off : (text : List ℕ) (commands behind : List Command) (batch left : List Lexeme) (u : Unread) (counters : ℕ × List ℕ) → InBatches text commands batch u counters → ReadsOff batch commands left behind → InBatches text behind left u counters
+pub off : (text : List ℕ) (commands behind : List Command) (batch left : List Lexeme) (u : Uncut) (counters : ℕ × List ℕ) → InBatches text commands batch u counters → ReadsOff batch commands left behind → InBatches text behind left u counters
 off text commands behind batch left u counters s r =
     let regrouped : s.seen ++ batch ≡ (s.seen ++ r.front) ++ left = ap (λ l. s.seen ++ l) r.split ∙ sym (append_assoc s.seen r.front left) in
     record {
@@ -61,7 +61,7 @@ light_next : (b : Bool) (rest : Option ℕ) → b ≡ false → rest ≡ None �
 light_next b rest light none = ap (λ x. if x then Some 0 else option_map (λ n. n + 1) rest) light ∙ ap (option_map (λ n. n + 1)) none
 
 -- one token more
-pub more : (text : List ℕ) (commands : List Command) (batch : List Lexeme) (u rest : Unread) (l : Lexeme) (counters after : ℕ × List ℕ) → InBatches text commands batch u counters → IsNextSeen u l rest → after ≡ step (change_of l) counters → weight after ≤ NESTING_LIMIT → InBatches text commands (batch ++ l ∷ []) rest after
+pub more : (text : List ℕ) (commands : List Command) (batch : List Lexeme) (u rest : Uncut) (l : Lexeme) (counters after : ℕ × List ℕ) → InBatches text commands batch u counters → IsNextSeen u l rest → after ≡ step (change_of l) counters → weight after ≤ NESTING_LIMIT → InBatches text commands (batch ++ l ∷ []) rest after
 more text commands batch u rest l counters after s next is light =
     let regrouped : (s.seen ++ batch) ++ l ∷ [] ≡ s.seen ++ (batch ++ l ∷ []) = append_assoc s.seen batch (l ∷ []) in
     record {
@@ -76,7 +76,7 @@ more text commands batch u rest l counters after s next is light =
     }
 
 -- at the end of the text, where nothing is left of the batch
-pub finish : (text : List ℕ) (commands behind : List Command) (batch : List Lexeme) (u : Unread) (counters : ℕ × List ℕ) → length text ≤ PROGRAM_LIMIT → InBatches text commands batch u counters → ReadsOff batch commands [] behind → IsEnd u.uncut → Parses text (command_trees behind)
+pub finish : (text : List ℕ) (commands behind : List Command) (batch : List Lexeme) (u : Uncut) (counters : ℕ × List ℕ) → length text ≤ PROGRAM_LIMIT → InBatches text commands batch u counters → ReadsOff batch commands [] behind → IsEnd u → Parses text (command_trees behind)
 finish text commands behind batch u counters short s r end =
     let done = off text commands behind batch [] u counters s r in
     let cut = tokens_read.finish text (done.seen ++ []) u short done.read end in

@@ -165,7 +165,7 @@ mutual
   command_holds ts u (Grammar.int {ts = ws} {us} {vs} {at} i j k) =
       no_blocks ts (called words.Int at ((ws ++ mark Comma ∷ us) ++ vs) refl (ends_over (ws ++ mark Comma ∷ us) vs (even (ws ++ mark Comma ∷ us) (over ws us (mark Comma) (tt, refl) (expr_balanced ws _ i) (expr_balanced us _ j))) (target_ends vs _ k)))
   command_holds ts u (Grammar.string {ts = us} {at} i) = no_blocks ts (asked words.String at us refl (even us (expr_balanced us _ i)))
-  command_holds ts u (Grammar.regex {vs} {literal} {at} k) = no_blocks ts (called (words.Regex literal.number) at (Lexeme.text literal.bytes literal.place ∷ vs) refl (ends_over (Lexeme.text literal.bytes literal.place ∷ []) vs (even (Lexeme.text literal.bytes literal.place ∷ []) (Balanced.alone (tt, refl))) (target_ends vs _ k)))
+  command_holds ts u (Grammar.regex {vs} {literal} {at} k) = no_blocks ts (called words.Regex at (Lexeme.text literal.bytes literal.place ∷ vs) refl (ends_over (Lexeme.text literal.bytes literal.place ∷ []) vs (even (Lexeme.text literal.bytes literal.place ∷ []) (Balanced.alone (tt, refl))) (target_ends vs _ k)))
   command_holds ts u (Grammar.assert {ts = us} {at} i) = no_blocks ts (asked words.Assert at us refl (even us (test_balanced us _ i)))
   command_holds ts u (Grammar.set {ts = us} {at} i) = no_blocks ts (asked words.Set at us refl (even us (assignments_balanced us _ i)))
   command_holds ts u (Grammar.unset {ts = us} {at} i) = no_blocks ts (asked words.Unset at us refl (even us (names_balanced us _ i)))

@@ -120,7 +120,7 @@ worded ts u (Grammar.newline {at}) = (words.Newline, at, [], refl, refl, (refl, 
 worded ts u (Grammar.eof {at}) = (words.Eof, at, [], refl, refl, (refl, refl))
 worded ts u (Grammar.int {ts = ls} {us = hs} {vs} {low} {high} {target} {at} i j e) = (words.Int, at, mark Open ∷ (ls ++ mark Comma ∷ hs) ++ vs, refl, refl, ((low, (high, target)), refl, ((ls ++ mark Comma ∷ hs) ++ vs, refl, (ls ++ mark Comma ∷ [], hs ++ vs, append_assoc ls (mark Comma ∷ hs) vs ∙ sym (append_assoc ls (mark Comma ∷ []) (hs ++ vs)), (ls, refl, i), (hs, vs, refl, j, e)))))
 worded ts u (Grammar.string {ts = es} {e} {at} i) = (words.String, at, mark Open ∷ es ++ mark Close ∷ [], refl, refl, (e, refl, (es ++ mark Close ∷ [], refl, (es, refl, i))))
-worded ts u (Grammar.regex {vs} {literal} {target} {at} e) = (words.Regex literal.number, at, mark Open ∷ Lexeme.text literal.bytes literal.place ∷ vs, refl, refl, (((literal.bytes, literal.place), target), refl, (Lexeme.text literal.bytes literal.place ∷ vs, refl, (Lexeme.text literal.bytes literal.place ∷ [], vs, refl, refl, e))))
+worded ts u (Grammar.regex {vs} {literal} {target} {at} e) = (words.Regex, at, mark Open ∷ Lexeme.text literal.bytes literal.place ∷ vs, refl, refl, (((literal.bytes, literal.place), target), refl, (Lexeme.text literal.bytes literal.place ∷ vs, refl, (Lexeme.text literal.bytes literal.place ∷ [], vs, refl, refl, e))))
 worded ts u (Grammar.assert {ts = es} {t} {at} i) = (words.Assert, at, mark Open ∷ es ++ mark Close ∷ [], refl, refl, (t, refl, (es ++ mark Close ∷ [], refl, (es, refl, i))))
 worded ts u (Grammar.set {ts = es} {assignments} {at} i) = (words.Set, at, mark Open ∷ es ++ mark Close ∷ [], refl, refl, (assignments, refl, (es ++ mark Close ∷ [], refl, (es, refl, i))))
 worded ts u (Grammar.unset {ts = es} {names} {at} i) = (words.Unset, at, mark Open ∷ es ++ mark Close ∷ [], refl, refl, (names, refl, (es ++ mark Close ∷ [], refl, (es, refl, i))))
@@ -159,8 +159,8 @@ command_of words.Int at vs u (x, tree, (ts, opened, (us, ws, split, (ls, comma, 
     subst (λ l. IsCommand (keyword words.Int at ∷ l) u) (sym (opened ∙ ap (λ l. mark Open ∷ l) (paired ts us ws ls hs es split comma ends_so))) (subst (IsCommand _) (sym tree) (Grammar.int i j e))
 command_of words.String at vs u (x, tree, (ts, opened, (es, closing, i))) =
     subst (λ l. IsCommand (keyword words.String at ∷ l) u) (sym (opened ∙ ap (λ l. mark Open ∷ l) closing)) (subst (IsCommand _) (sym tree) (Grammar.string i))
-command_of (words.Regex number) at vs u (x, tree, (ts, opened, (us, ws, split, pattern, e))) =
-    subst (λ l. IsCommand (keyword (words.Regex number) at ∷ l) u) (sym (opened ∙ ap (λ l. mark Open ∷ l) (split ∙ ap (λ l. l ++ ws) pattern))) (subst (IsCommand _) (sym tree) (Grammar.regex e))
+command_of words.Regex at vs u (x, tree, (ts, opened, (us, ws, split, pattern, e))) =
+    subst (λ l. IsCommand (keyword words.Regex at ∷ l) u) (sym (opened ∙ ap (λ l. mark Open ∷ l) (split ∙ ap (λ l. l ++ ws) pattern))) (subst (IsCommand _) (sym tree) (Grammar.regex e))
 command_of words.Assert at vs u (x, tree, (ts, opened, (es, closing, i))) =
     subst (λ l. IsCommand (keyword words.Assert at ∷ l) u) (sym (opened ∙ ap (λ l. mark Open ∷ l) closing)) (subst (IsCommand _) (sym tree) (Grammar.assert i))
 command_of words.Set at vs u (x, tree, (ts, opened, (es, closing, i))) =

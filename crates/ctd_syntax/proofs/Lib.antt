@@ -21,7 +21,6 @@ pub mod CommandReads
 pub mod Balanced
 pub mod Boundaries
 pub mod Blocks
-pub mod RegexNumberLemmas
 pub mod Weights
 pub mod Examples
 pub mod Parsing

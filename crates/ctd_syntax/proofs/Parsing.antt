@@ -1,7 +1,8 @@
 -- What reading the commands of a whole text says of the text.
-use Rattle.std.proofs.Common.{◌≡◌, ℕ, List, [], ◌∷◌, ◌++◌, length, None, true, false, refl, sym, ap, ◌∙◌, subst, append_assoc, append-nil, arith, eqb-true, suc, ◌+◌, ◌-◌, take, length-append}
+use Rattle.std.proofs.Common.{◌≡◌, ℕ, List, [], ◌∷◌, ◌++◌, length, None, true, false, refl, sym, ap, ◌∙◌, subst, append_assoc, append-nil, arith, eqb-true, ◌+◌, ◌-◌, take, length-append}
 use Rattle.std.specs.Prelude.{map, ◌==◌}
-use Rattle.ctd_syntax.specs.Lexeme.{Lexeme, lexeme_of, regex_count}
+use Rattle.std.proofs.lemmas.List.{length-map}
+use Rattle.ctd_syntax.specs.Lexeme.{Lexeme, lexeme_of}
 use Rattle.ctd_program.specs.Tree.{CommandList}
 use Rattle.ctd_syntax.specs.inner.Front.{OneTree, NoTree, HasTree, HasNoTree, first_of}
 use Rattle.std.proofs.Math.Seq.{take-append_seam, take-append-add}
@@ -10,7 +11,7 @@ use Rattle.ctd_syntax.specs.Grammar.{IsCommands}
 use Rattle.ctd_syntax.specs.inner.CommandWords.{CommandsEnd}
 use Rattle.ctd_syntax.specs.Nesting.{start}
 use Rattle.ctd_syntax.specs.inner.Nesting.{too_deep}
-use Rattle.ctd_syntax.specs.Reading.{IsCut, Parses, BeginsProgram, IsFirstWrong, lexemes, lexemes_from}
+use Rattle.ctd_syntax.specs.Reading.{IsCut, Parses, BeginsProgram, IsFirstWrong, lexemes}
 use Rattle.ctd_syntax.specs.inner.Batches.{SpellsOnly}
 use Rattle.ctd_token.specs.declared.token.Token.{Token}
 use Rattle.ctd_token.proofs.UniqueTokens.{same_cut}
@@ -40,11 +41,6 @@ left_over program ts tree t after rest f some other w =
 -- and where no commands are read
 pub unspelled : (program : List ℕ) (ts : List Token) → NoTree IsCommands CommandsEnd (lexemes program ts) → (other : CommandList) → ¬ (IsCommands (lexemes program ts) other)
 unspelled program ts not other w = not (lexemes program ts) [] other (sym (append-nil (lexemes program ts))) refl w
-
--- as many lexemes as tokens
-length_lexemes : (program : List ℕ) (n : ℕ) (ts : List Token) → length (lexemes_from program n ts) ≡ length ts
-length_lexemes program n [] = refl
-length_lexemes program n (t ∷ ts) = ap suc (length_lexemes program (n + regex_count (lexeme_of program t)) ts)
 
 -- what some tokens begin with, and a token with which no program goes on
 wrong_behind : (seen rest : List Lexeme) → BeginsProgram seen → ((t : Lexeme) (r more : List Lexeme) (tree : CommandList) → rest ≡ t ∷ r → IsCommands (seen ++ t ∷ more) tree → ⊥) → IsFirstWrong (seen ++ rest) (length seen)
@@ -77,7 +73,7 @@ left_wrong ts after tree f = counted ts f.front after (length after) f.split ref
     (λ t r more other e i. let ended : [] ≡ t ∷ more = ((f.holds (t ∷ more) (sym (ap first_of e))).only (f.front ++ t ∷ more) [] other (sym (append-nil (f.front ++ t ∷ more))) refl i).1 in cc))
 
 pub wrong_token : (program : List ℕ) (ts : List Token) (left : ℕ) → IsFirstWrong (lexemes program ts) (length (lexemes program ts) - left) → IsFirstWrong (lexemes program ts) (length ts - left)
-wrong_token program ts left first = subst (λ n. IsFirstWrong (lexemes program ts) (n - left)) (length_lexemes program 0 ts) first
+wrong_token program ts left first = subst (λ n. IsFirstWrong (lexemes program ts) (n - left)) (length-map ts (lexeme_of program)) first
 
 -- what holds of the tokens of a text holds of all that it is cut into
 pub of_any_cut : (program : List ℕ) (ts : List Token) (P : List Token → Type 0) → IsCut program ts → P ts → (us : List Token) → IsCut program us → P us

@@ -1,5 +1,5 @@
 -- The literals of REGEX among the tokens of a program are those of its tree.
-use Rattle.std.proofs.Common.{◌≡◌, List, [], ◌∷◌, ◌++◌, Option, refl, sym, ap, ◌∙◌, subst, append_assoc, append-nil}
+use Rattle.std.proofs.Common.{◌≡◌, List, [], ◌∷◌, ◌++◌, Option, false, refl, sym, ap, ◌∙◌, subst, append_assoc, append-nil}
 use Rattle.ctd_token.specs.declared.text.Place.{Place}
 use Rattle.ctd_token.specs.declared.token.Mark.TheVariants.{Close, CloseIndex, Comma}
 use Rattle.ctd_program.specs.declared.tree.PatternLiteral.{PatternLiteral}
@@ -10,14 +10,14 @@ use Rattle.ctd_syntax.specs.Lexeme.{Lexeme, mark, keyword}
 use Rattle.ctd_syntax.specs.Grammar
 use Rattle.ctd_syntax.specs.Grammar.{IsTargetEnd, IsCommand, IsRepeated, IsBranches, IsCommands}
 use Rattle.ctd_syntax.specs.PatternLiterals.{pattern_literals}
-use Rattle.ctd_syntax.specs.calls.PatternLiterals.{command_literals, separator_literals, literals}
-use Rattle.ctd_syntax.proofs.Balanced.{Balanced, word_number, token_number, expr_balanced, variable_balanced, names_balanced, test_balanced, assignments_balanced, target_balanced}
+use Rattle.ctd_syntax.specs.inner.PatternLiterals.{command_literals, separator_literals, literals}
+use Rattle.ctd_syntax.proofs.Balanced.{Balanced, is_regex, is_regex_token, expr_balanced, variable_balanced, names_balanced, test_balanced, assignments_balanced, target_balanced}
 
 -- no literal is among these tokens, whatever follows
 abbrev HoldNone : List Lexeme → Type 0
 HoldNone ts = (us : List Lexeme) → pattern_literals (ts ++ us) ≡ pattern_literals us
 
-one_word : (k : Keyword) (at : Place) (us : List Lexeme) → word_number k ≡ [] → pattern_literals (keyword k at ∷ us) ≡ pattern_literals us
+one_word : (k : Keyword) (at : Place) (us : List Lexeme) → is_regex k ≡ false → pattern_literals (keyword k at ∷ us) ≡ pattern_literals us
 one_word words.Space at us none = refl
 one_word words.Newline at us none = refl
 one_word words.Eof at us none = refl
@@ -39,9 +39,9 @@ one_word words.IsEof at us none = refl
 one_word words.Unique at us none = refl
 one_word words.InArray at us none = refl
 one_word words.Unknown at us none = refl
-one_word (words.Regex n) at us none = absurd (cc)
+one_word words.Regex at us none = absurd (cc)
 
-one_token : (t : Lexeme) (us : List Lexeme) → token_number t ≡ [] → pattern_literals (t ∷ us) ≡ pattern_literals us
+one_token : (t : Lexeme) (us : List Lexeme) → is_regex_token t ≡ false → pattern_literals (t ∷ us) ≡ pattern_literals us
 one_token (keyword k at) us none = one_word k at us none
 one_token (Lexeme.name bytes) us none = refl
 one_token (Lexeme.numeral z) us none = refl

@@ -1,5 +1,6 @@
 -- The loop that reads the tokens of a text, by one after another.
-use Rattle.std.proofs.Common.{◌≡◌, ℕ, ◌+◌, ◌-◌, ◌≤◌, List, [], ◌∷◌, ◌++◌, length, take, drop, Ok, sym, ap, ◌∙◌, append_assoc, append-nil, arith}
+use Rattle.std.proofs.Common.{◌≡◌, ℕ, ◌-◌, ◌≤◌, List, [], ◌∷◌, ◌++◌, length, take, drop, Ok, refl, sym, ap, ap₂, ◌∙◌, arith}
+use Rattle.std.proofs.lemmas.List.{map-append}
 use Rattle.ctd_token.specs.declared.limits.TheConstants.{PROGRAM_LIMIT}
 use Rattle.ctd_token.specs.declared.token.Token.{Token}
 use Rattle.ctd_token.specs.calls.Lexing.{Uncut, IsEnd, IsNext}
@@ -9,18 +10,18 @@ use Rattle.ctd_token.proofs.Longest.{string_again}
 use Rattle.ctd_token.proofs.Cutting as cutting
 use Rattle.ctd_token.proofs.Cutting.{Cutting}
 use Rattle.ctd_syntax.specs.inner.Front.{AreLexemes, IsSpelled, string_found, string_of}
-use Rattle.ctd_syntax.specs.Lexeme.{Lexeme, lexeme_of, with_number, regex_count}
-use Rattle.ctd_syntax.specs.Reading.{lexemes, lexemes_from}
-use Rattle.ctd_syntax.specs.inner.Batches.{Unread, IsNextSeen}
+use Rattle.ctd_syntax.specs.Lexeme.{Lexeme, lexeme_of}
+use Rattle.ctd_syntax.specs.Reading.{lexemes}
+use Rattle.ctd_syntax.specs.inner.Batches.{IsNextSeen}
 
--- what is seen of the tokens so far; whatever follows them is seen behind that
-pub record HasRead (text : List ℕ) (seen : List Lexeme) (u : Unread) : Type 0 where
+-- what is seen of the tokens so far
+pub record HasRead (text : List ℕ) (seen : List Lexeme) (u : Uncut) : Type 0 where
   pub tokens : List Token
-  pub cut : Cutting text tokens u.uncut
-  pub same : (ts : List Token) → lexemes text (tokens ++ ts) ≡ seen ++ lexemes_from text u.before ts
+  pub cut : Cutting text tokens u
+  pub same : lexemes text tokens ≡ seen
 
-pub begin : (text : List ℕ) (u : Unread) → u ≡ record { uncut = record { text = text; at = 0 }; before = 0 } → HasRead text [] u
-begin text u is = record { tokens = []; cut = cutting.begin text u.uncut (ap (λ u. u.uncut) is); same = λ ts. ap (λ u. lexemes_from text u.before ts) (sym is) }
+pub begin : (text : List ℕ) (u : Uncut) → u ≡ record { text = text; at = 0 } → HasRead text [] u
+begin text u is = record { tokens = []; cut = cutting.begin text u is; same = refl }
 
 -- the bytes of a string token spell its string
 pub spelled : (text : List ℕ) (u : Uncut) (t : Token) (rest : Uncut) → u.text ≡ text → IsNext u t rest → IsSpelled text t
@@ -30,20 +31,18 @@ spelled text u t rest is next bytes kind =
     ap (λ n. string_of (take n (drop t.first text))) len ∙ ap string_found (string_again (drop t.first text) bytes next.len found)
 
 -- one token more
-pub more : (text : List ℕ) (seen : List Lexeme) (u : Unread) (l : Lexeme) (rest : Unread) → HasRead text seen u → IsNextSeen u l rest → HasRead text (seen ++ l ∷ []) rest
+pub more : (text : List ℕ) (seen : List Lexeme) (u : Uncut) (l : Lexeme) (rest : Uncut) → HasRead text seen u → IsNextSeen u l rest → HasRead text (seen ++ l ∷ []) rest
 more text seen u l rest h n = record {
   tokens = h.tokens ++ n.token ∷ [];
-  cut = cutting.more text h.tokens n.token u.uncut rest.uncut h.cut n.next;
-  same = λ ts.
-      let seen_is : l ≡ with_number u.before (lexeme_of text n.token) = n.seen_is ∙ ap (λ l. with_number u.before (lexeme_of l n.token)) h.cut.text_is in
-      let counted : rest.before ≡ u.before + regex_count (lexeme_of text n.token) = n.counted ∙ ap (λ l. u.before + regex_count (lexeme_of l n.token)) h.cut.text_is in
-      let whole = ap (lexemes text) (append_assoc h.tokens (n.token ∷ []) ts) ∙ h.same (n.token ∷ ts) in
-      rw (seen_is, counted) (whole ∙ sym (append_assoc seen (with_number u.before (lexeme_of text n.token) ∷ []) _));
+  cut = cutting.more text h.tokens n.token u rest h.cut n.next;
+  same =
+      let seen_is : l ≡ lexeme_of text n.token = n.seen_is ∙ ap (λ t. lexeme_of t n.token) h.cut.text_is in
+      map-append (lexeme_of text) h.tokens (n.token ∷ []) ∙ ap₂ (λ ls k. ls ++ k ∷ []) h.same (sym seen_is);
 }
 
-pub finish : (text : List ℕ) (seen : List Lexeme) (u : Unread) → length text ≤ PROGRAM_LIMIT → HasRead text seen u → IsEnd u.uncut → AreLexemes text seen
+pub finish : (text : List ℕ) (seen : List Lexeme) (u : Uncut) → length text ≤ PROGRAM_LIMIT → HasRead text seen u → IsEnd u → AreLexemes text seen
 finish text seen u short h end = record {
   tokens = h.tokens;
-  is_cut = record { short = short; cut = cutting.finish text h.tokens u.uncut h.cut end };
-  same = ap (lexemes text) (sym (append-nil h.tokens)) ∙ h.same [] ∙ append-nil seen;
+  is_cut = record { short = short; cut = cutting.finish text h.tokens u h.cut end };
+  same = h.same;
 }

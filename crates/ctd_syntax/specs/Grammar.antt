@@ -139,7 +139,7 @@ mutual
         IsExpr ts e → IsCommand (keyword words.String at ∷ mark Open ∷ ts ++ mark Close ∷ []) (Tree.string at e)
     regex : {vs : List Lexeme} {literal : PatternLiteral} {target : Option VarTree} {at : Place} →
         IsTargetEnd vs target →
-        IsCommand (keyword (words.Regex literal.number) at ∷ mark Open ∷ Lexeme.text literal.bytes literal.place ∷ vs) (Tree.regex at literal target)
+        IsCommand (keyword words.Regex at ∷ mark Open ∷ Lexeme.text literal.bytes literal.place ∷ vs) (Tree.regex at literal target)
     assert : {ts : List Lexeme} {t : TestTree} {at : Place} →
         IsTest ts t → IsCommand (keyword words.Assert at ∷ mark Open ∷ ts ++ mark Close ∷ []) (Tree.assert at t)
     set : {ts : List Lexeme} {assignments : List (VarTree × ExprTree)} {at : Place} →

@@ -18,11 +18,11 @@ pub data Lexeme : Type 0 where
   text : (bytes : List ℕ) (place : Place) → Lexeme
   mark : (m : Mark) → Lexeme
 
--- the words that the grammar knows, REGEX with the number 0
+-- the words that the grammar knows
 abbrev pub keywords : List (List ℕ × Keyword)
 keywords =
     (codes "SPACE", words.Space) ∷ (codes "NEWLINE", words.Newline) ∷ (codes "EOF", words.Eof) ∷ (codes "INT", words.Int) ∷
-    (codes "STRING", words.String) ∷ (codes "REGEX", words.Regex 0) ∷ (codes "ASSERT", words.Assert) ∷ (codes "SET", words.Set) ∷
+    (codes "STRING", words.String) ∷ (codes "REGEX", words.Regex) ∷ (codes "ASSERT", words.Assert) ∷ (codes "SET", words.Set) ∷
     (codes "UNSET", words.Unset) ∷ (codes "REP", words.Rep) ∷ (codes "REPI", words.RepI) ∷ (codes "WHILE", words.While) ∷
     (codes "WHILEI", words.WhileI) ∷ (codes "IF", words.If) ∷ (codes "ELSE", words.Else) ∷ (codes "END", words.End) ∷ (codes "STRLEN", words.Strlen) ∷
     (codes "MATCH", words.Match) ∷ (codes "ISEOF", words.IsEof) ∷ (codes "UNIQUE", words.Unique) ∷ (codes "INARRAY", words.InArray) ∷ []
@@ -46,23 +46,3 @@ lexeme_by (tokens.Mark m) span place = mark m
 -- what the grammar sees of a token of a program
 abbrev pub lexeme_of : List ℕ → Token → Lexeme
 lexeme_of program t = lexeme_by t.kind (span_of program t) t.place
-
--- a word REGEX with this number, and any other word as it is
-abbrev pub numbered_word : ℕ → Keyword → Keyword
-numbered_word n (words.Regex before) = words.Regex n
-numbered_word n k = k
-
--- a token, with this number where it is a word REGEX
-abbrev pub with_number : ℕ → Lexeme → Lexeme
-with_number n (keyword k place) = keyword (numbered_word n k) place
-with_number n t = t
-
--- how many words REGEX a word is
-abbrev pub word_count : Keyword → ℕ
-word_count (words.Regex before) = 1
-word_count _ = 0
-
--- how many words REGEX a token is
-abbrev pub regex_count : Lexeme → ℕ
-regex_count (keyword k place) = word_count k
-regex_count _ = 0

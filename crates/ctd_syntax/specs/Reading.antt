@@ -1,26 +1,21 @@
 -- What reading the text of a program gives.
-use Rattle.std.specs.Prelude.{◌≡◌, ◌+◌, ◌<◌, ◌≤◌, ℕ, List, [], ◌∷◌, ◌++◌, length, take, slice_get, option_map, Option, Some, None}
+use Rattle.std.specs.Prelude.{◌≡◌, ◌+◌, ◌<◌, ◌≤◌, ℕ, List, [], ◌∷◌, ◌++◌, length, take, slice_get, map, option_map, Option, Some, None}
 use Rattle.ctd_token.specs.declared.text.Place.{Place}
 use Rattle.ctd_token.specs.declared.token.Token.{Token}
 use Rattle.ctd_token.specs.declared.fault.LoadKind.{LoadKind}
 use Rattle.ctd_token.specs.declared.fault.LoadKind.TheVariants.{ProgramTooLong, TooDeep, Syntax}
 use Rattle.ctd_token.specs.declared.limits.TheConstants.{PROGRAM_LIMIT}
 use Rattle.ctd_token.specs.Lexing.{HasFault}
-use Rattle.ctd_syntax.specs.Lexeme.{Lexeme, lexeme_of, with_number, regex_count}
+use Rattle.ctd_syntax.specs.Lexeme.{Lexeme, lexeme_of}
 use Rattle.std.specs.Option.{option_map_or}
 use Rattle.ctd_token.specs.Cut.{Cuts, place_at}
 use Rattle.ctd_syntax.specs.Nesting.{IsShallow, PassesLimitAt}
 use Rattle.ctd_syntax.specs.Grammar.{IsCommands}
 use Rattle.ctd_program.specs.Tree.{CommandList}
 
--- the tokens of a program as the grammar sees them, where so many words REGEX stand before
-abbrev pub lexemes_from : List ℕ → ℕ → List Token → List Lexeme
-lexemes_from program n [] = []
-lexemes_from program n (t ∷ ts) = with_number n (lexeme_of program t) ∷ lexemes_from program (n + regex_count (lexeme_of program t)) ts
-
--- all tokens of a program
+-- the tokens of a program as the grammar sees them
 abbrev pub lexemes : List ℕ → List Token → List Lexeme
-lexemes program ts = lexemes_from program 0 ts
+lexemes program ts = map (lexeme_of program) ts
 
 -- the text is not too long, and is cut into these tokens
 pub record IsCut (program : List ℕ) (ts : List Token) : Type 0 where

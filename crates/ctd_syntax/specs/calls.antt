@@ -1,3 +1,2 @@
 -- What else the contracts of public calls say.
-pub mod PatternLiterals
 pub mod Reading

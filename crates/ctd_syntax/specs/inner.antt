@@ -6,3 +6,4 @@ pub mod TestGrammar
 pub mod CommandWords
 pub mod Batches
 pub mod Words
+pub mod PatternLiterals

@@ -3,7 +3,6 @@
 ghost use Rattle.std.specs.Prelude.{◌≡◌, ◌<◌, [], None, length, map, true, IfOk, IfErr, IfSome, IsErrAnd, OnOk};
 ghost use Rattle.ctd_token.specs.calls.Lexing.{IsLexFault};
 ghost use Rattle.ctd_syntax.specs.inner.Front.{lexeme};
-ghost use Rattle.ctd_syntax.specs.calls.PatternLiterals.{IsNumbered};
 ghost use Rattle.ctd_syntax.specs.Reading.{Parses};
 ghost use Rattle.ctd_syntax.specs.inner.Batches.{ReadsOff};
 ghost use Rattle.ctd_program.specs.calls.View.{command_trees};
@@ -111,7 +110,6 @@ fn read_commands(alloc: Global, text: &[u8], commands: &mut Vec<Command>) -> Res
 /// The program that a text spells, or none where a token is too deep or fits nowhere; or the fault that `tokens` answers.
 pub(crate) fn program_in_batches(alloc: Global, text: &[u8]) -> Result<Option<Program>, LoadFault>
     ensures parses { IfOk result (λ found. IfSome found (λ program. Parses text.now (command_trees program))) }
-    ensures numbered { IfOk result (λ found. IfSome found (λ program. IsNumbered (command_trees program))) }
     ensures fault { IfErr result (λ f. IsLexFault text.now f.kind f.place) }
     ensures too_long { PROGRAM_LIMIT < length text.now →
         IsErrAnd result (λ f. f ≡ record { kind = LoadKind.ProgramTooLong; place = None }) }

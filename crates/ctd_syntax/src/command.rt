@@ -74,28 +74,22 @@ fn string<'t>(alloc: Global, place: Place, tokens: Tokens<'t>) -> ParseResult<'t
     Ok((Command { place, action }, rest))
 }
 
-// What stands behind the REGEX of this number.
-fn regex<'t>(
-    alloc: Global,
-    number: usize,
-    place: Place,
-    tokens: Tokens<'t>,
-) -> ParseResult<'t, Command>
-    ensures tree { FindsTree (IsCommandRest (Keyword.Regex number) place) Always (λ x. (command_tree x.0, map lexeme x.1.now)) result (map lexeme tokens.now) }
+// What stands behind REGEX.
+fn regex<'t>(alloc: Global, place: Place, tokens: Tokens<'t>) -> ParseResult<'t, Command>
+    ensures tree { FindsTree (IsCommandRest Keyword.Regex place) Always (λ x. (command_tree x.0, map lexeme x.1.now)) result (map lexeme tokens.now) }
     ensures shorter { IfOk result (λ x. length x.1.now ≤ length tokens.now) }
 {
     let after = read!(after_open(tokens));
-    let Some((literal, at, rest)) = text_at(after) else {
+    let Some((literal, at, number, rest)) = text_at(after) else {
         return Err(ParseError::Syntax(after.len()));
     };
     let (target, rest) = read!(target_end(alloc, rest));
     let bytes = string_of(alloc, literal)?;
-    let literal = PatternLiteral {
+    let arguments = RegexArguments {
         number,
-        bytes,
-        place: at,
+        literal: PatternLiteral { bytes, place: at },
+        target,
     };
-    let arguments = RegexArguments { literal, target };
     let action = Action::Regex(Box::new(alloc, arguments)?);
     Ok((Command { place, action }, rest))
 }
@@ -285,7 +279,7 @@ fn command_rest<'t>(
         Keyword::Eof => Action::Eof,
         Keyword::Int => return int(alloc, place, tokens),
         Keyword::String => return string(alloc, place, tokens),
-        Keyword::Regex(number) => return regex(alloc, number, place, tokens),
+        Keyword::Regex => return regex(alloc, place, tokens),
         Keyword::Assert => return assert(alloc, place, tokens),
         Keyword::Set => return set(alloc, place, tokens),
         Keyword::Unset => return unset(alloc, place, tokens),
@@ -328,7 +322,7 @@ fn command_word<'t>(tokens: Tokens<'t>) -> Option<(Keyword, Place, Tokens<'t>)>
         | Keyword::Eof
         | Keyword::Int
         | Keyword::String
-        | Keyword::Regex(_)
+        | Keyword::Regex
         | Keyword::Assert
         | Keyword::Set
         | Keyword::Unset

@@ -218,7 +218,7 @@ fn atom<'t>(alloc: Global, tokens: Tokens<'t>) -> ParseResult<'t, Expr>
             let numeral = Numeral::new(*n);
             Ok((Expr::Numeral(numeral), rest))
         }
-        ParserToken::Text(literal, _) => {
+        ParserToken::Text(_, literal, _) => {
             let bytes = string_of(alloc, literal)?;
             Ok((Expr::Text(bytes), rest))
         }

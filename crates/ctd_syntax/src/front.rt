@@ -127,17 +127,17 @@ pub(crate) fn after_word<'t>(word: Keyword, tokens: Tokens<'t>) -> Option<Tokens
     if found == word { Some(after) } else { None }
 }
 
-/// The string literal at the front with its place, and what follows it.
-pub(crate) fn text_at<'t>(tokens: Tokens<'t>) -> Option<(&'t [u8], Place, Tokens<'t>)>
-    ensures found { IfSome result (λ x. map lexeme tokens.now ≡ Lexeme.text (string_of x.0.now) x.1 ∷ map lexeme x.2.now) }
-    ensures shorter { IfSome result (λ x. length x.2.now < length tokens.now) }
+/// The string literal at the front with its place and its number, and what follows it.
+pub(crate) fn text_at<'t>(tokens: Tokens<'t>) -> Option<(&'t [u8], Place, u32, Tokens<'t>)>
+    ensures found { IfSome result (λ x. map lexeme tokens.now ≡ Lexeme.text (string_of x.0.now) x.1 ∷ map lexeme x.3.now) }
+    ensures shorter { IfSome result (λ x. length x.3.now < length tokens.now) }
     ensures none { IfNone result ((bytes : List ℕ) (at : Place) (ts : List Lexeme) → map lexeme tokens.now ≡ Lexeme.text bytes at ∷ ts → ⊥) }
 {
     let [first, after @ ..] = tokens else {
         return None;
     };
     match first {
-        ParserToken::Text(text, place) => Some((text, *place, after)),
+        ParserToken::Text(number, text, place) => Some((text, *place, *number, after)),
         _ => None,
     }
 }

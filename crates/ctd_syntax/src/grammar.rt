@@ -2,7 +2,6 @@
 
 ghost use Rattle.std.specs.Prelude.{◌≡◌, ◌≤◌, ◌<◌, ◌-◌, None, length, map, IfOk, IfErr, IsErrAnd};
 ghost use Rattle.ctd_syntax.specs.inner.Front.{lexeme, AreLexemes, NestsTooDeep, SpellsNone};
-ghost use Rattle.ctd_syntax.specs.calls.PatternLiterals.{IsNumbered};
 ghost use Rattle.ctd_syntax.specs.calls.Reading.{IsFault};
 ghost use Rattle.ctd_syntax.specs.Reading.{Parses, place_behind};
 ghost use Rattle.ctd_program.specs.calls.View.{command_trees};
@@ -60,7 +59,6 @@ fn too_deep(alloc: Global, text: &[u8], before: usize) -> LoadFault
 fn program_of(alloc: Global, text: &[u8], tokens: &[ParserToken<'_>]) -> Result<Program, LoadFault>
     requires { AreLexemes text.now (map lexeme tokens.now) }
     ensures parses { IfOk result (λ program. Parses text.now (command_trees program)) }
-    ensures numbered { IfOk result (λ program. IsNumbered (command_trees program)) }
     ensures refused { IfErr result (λ f. IsFault text.now f.kind f.place) }
 {
     if let Some(before) = first_too_deep(alloc, tokens)? {
@@ -90,7 +88,6 @@ fn program_of(alloc: Global, text: &[u8], tokens: &[ParserToken<'_>]) -> Result<
 /// Memory. All but ProgramTooLong and Memory have a place, with lines and columns from 1.
 pub fn parse(alloc: Global, text: &[u8]) -> Result<Program, LoadFault>
     ensures parses { IfOk result (λ program. Parses text.now (command_trees program)) }
-    ensures numbered { IfOk result (λ program. IsNumbered (command_trees program)) }
     ensures refused { IfErr result (λ f. IsFault text.now f.kind f.place) }
 
     // Also where no memory is left.

@@ -11,8 +11,7 @@ pub enum Keyword {
     Eof,
     Int,
     String,
-    /// REGEX, with the number of these words before it; 0 until the words of a text are numbered.
-    Regex(usize),
+    Regex,
     Assert,
     Set,
     Unset,
@@ -42,7 +41,7 @@ fn plain_word(word: &[u8]) -> Option<Keyword>
         b"EOF" => Some(Keyword::Eof),
         b"INT" => Some(Keyword::Int),
         b"STRING" => Some(Keyword::String),
-        b"REGEX" => Some(Keyword::Regex(0)),
+        b"REGEX" => Some(Keyword::Regex),
         b"ASSERT" => Some(Keyword::Assert),
         b"SET" => Some(Keyword::Set),
         b"UNSET" => Some(Keyword::Unset),

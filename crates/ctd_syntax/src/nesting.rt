@@ -49,7 +49,7 @@ fn change_of(token: &ParserToken<'_>) -> CounterChange
             | Keyword::Eof
             | Keyword::Int
             | Keyword::String
-            | Keyword::Regex(_)
+            | Keyword::Regex
             | Keyword::Assert
             | Keyword::Set
             | Keyword::Unset

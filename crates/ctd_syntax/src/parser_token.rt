@@ -1,9 +1,9 @@
 //! Tokens as the grammar sees them.
 
-ghost use Rattle.std.specs.Prelude.{◌≡◌, ◌+◌, ◌-◌, ◌^◌, ◌<◌, ◌≤◌, None, IfErr, IfOk, IsErrAnd, drop, length, map, take};
+ghost use Rattle.std.specs.Prelude.{◌≡◌, ◌-◌, ◌<◌, ◌≤◌, None, IfErr, IfOk, IsErrAnd, drop, length, map, take};
 ghost use Rattle.ctd_token.specs.calls.Lexing.{IsLexFault};
 ghost use Rattle.ctd_syntax.specs.inner.Front.{lexeme, string_of, AreLexemes, IsSpelled};
-ghost use Rattle.ctd_syntax.specs.Lexeme.{lexeme_of, regex_count, with_number};
+ghost use Rattle.ctd_syntax.specs.Lexeme.{lexeme_of};
 
 use crate::keyword::Keyword;
 use ctd_token::{
@@ -21,8 +21,9 @@ pub(crate) enum ParserToken<'t> {
     /// A name, with its number among those of the text.
     Name(&'t [u8], u32),
     Numeral(i128),
-    /// A string literal as it stands in the text.
-    Text(&'t [u8], Place),
+    /// A string literal as it stands in the text, with the number that it has as the literal of a REGEX. First the number: behind the
+    /// others it would make each token larger.
+    Text(u32, &'t [u8], Place),
     Mark(Mark),
 }
 
@@ -51,7 +52,7 @@ fn parser_token_of<'t>(text: &'t [u8], token: Token) -> ParserToken<'t>
         TokenKind::Word => ParserToken::Keyword(Keyword::from_word(span), place),
         TokenKind::Name => ParserToken::Name(span, 0),
         TokenKind::Numeral(n) => ParserToken::Numeral(n),
-        TokenKind::Text(_string) => ParserToken::Text(span, place),
+        TokenKind::Text(_string) => ParserToken::Text(0, span, place),
         TokenKind::Mark(mark) => ParserToken::Mark(mark),
     }
 }
@@ -70,19 +71,18 @@ pub(crate) fn string_of(alloc: Global, literal: &[u8]) -> Result<Bytes, AllocErr
     }
 }
 
-// Gives a word REGEX its number, and adds it to those before it.
+// Counts the words REGEX, and gives a string the number of the last one: the literals of a text are 0, 1, 2, .. in its order.
 #[inline(always)]
-fn give_number<'t>(token: ParserToken<'t>, before: &mut usize) -> ParserToken<'t>
-    requires { before.old + 1 < 2 ^ 64 }
-    ensures same { lexeme result ≡ with_number before.old (lexeme token.entry) }
-    ensures counted { before.new ≡ before.old + regex_count (lexeme token.entry) }
-    ensures at_most_one { before.new ≤ before.old + 1 }
+fn number_text<'t>(token: ParserToken<'t>, words: &mut u32) -> ParserToken<'t>
+    ensures same { lexeme result ≡ lexeme token.entry }
 {
     match token {
-        ParserToken::Keyword(Keyword::Regex(_), place) => {
-            let number = *before;
-            *before += 1;
-            ParserToken::Keyword(Keyword::Regex(number), place)
+        ParserToken::Keyword(Keyword::Regex, _) => {
+            *words = words.saturating_add(1);
+            token
+        }
+        ParserToken::Text(_, text, place) => {
+            ParserToken::Text(words.saturating_sub(1), text, place)
         }
         other => other,
     }
@@ -114,21 +114,20 @@ pub(crate) struct ParserTokens<'t> {
     lexer: Lexer<'t>,
     text: &'t [u8],
     // How many words REGEX were given.
-    before: usize,
+    words: u32,
     // The numbers of the names that were given.
     numbers: BTreeMap<&'t [u8], u32>,
 }
 
 impl<'t> Model for ParserTokens<'t> {
-    ghost use Rattle.std.specs.Prelude.{◌≡◌, ◌≤◌, length};
-    ghost use Rattle.ctd_token.specs.declared.limits.TheConstants.{PROGRAM_LIMIT};
-    ghost use Rattle.ctd_syntax.specs.inner.Batches.{Unread};
+    ghost use Rattle.std.specs.Prelude.{◌≡◌};
+    ghost use Rattle.ctd_token.specs.calls.Lexing.{Uncut};
 
-    ghost Value = { Unread };
+    ghost Value = { Uncut };
 
-    ghost view = { λ p. record { uncut = p.lexer; before = p.before } };
+    ghost view = { λ p. p.lexer };
 
-    ghost invariant = { λ p. (p.lexer.text ≡ p.text.now) × (length p.text.now ≤ PROGRAM_LIMIT) × (p.before ≤ p.lexer.at) × (p.lexer.at ≤ length p.text.now) };
+    ghost invariant = { λ p. p.lexer.text ≡ p.text.now };
 }
 
 impl<'t> ParserTokens<'t> {
@@ -138,14 +137,14 @@ impl<'t> ParserTokens<'t> {
 
     /// Begins at the start of a text, or answers as `Lexer::new`.
     pub(crate) fn new(alloc: Global, text: &'t [u8]) -> Result<ParserTokens<'t>, LoadFault>
-        ensures begins { IfOk result (λ tokens. tokens ≡ record { uncut = record { text = text.now; at = 0 }; before = 0 }) }
+        ensures begins { IfOk result (λ tokens. tokens ≡ record { text = text.now; at = 0 }) }
         ensures short { OnOk result (length text.now ≤ PROGRAM_LIMIT) }
         ensures too_long { IfErr result (λ f. (PROGRAM_LIMIT < length text.now) × (f ≡ record { kind = LoadKind.ProgramTooLong; place = None })) }
     {
         Ok(ParserTokens {
             lexer: Lexer::new(text)?,
             text,
-            before: 0,
+            words: 0,
             numbers: BTreeMap::new(alloc),
         })
     }
@@ -154,8 +153,8 @@ impl<'t> ParserTokens<'t> {
     #[inline(always)]
     pub(crate) fn next_token(&mut self, alloc: Global) -> Result<Option<ParserToken<'t>>, LoadFault>
         ensures next { IfOk result (λ next. IfSome next (λ p. IsNextSeen self.old (lexeme p) self.new)) }
-        ensures end { IfOk result (λ next. IfNone next (IsEnd self.old.uncut)) }
-        ensures fault { IfErr result (λ f. IsNextFault self.old.uncut f.kind f.place) }
+        ensures end { IfOk result (λ next. IfNone next (IsEnd self.old)) }
+        ensures fault { IfErr result (λ f. IsNextFault self.old f.kind f.place) }
     {
         // A `?` would send each token through memory.
         let token = match self.lexer.next_token(alloc) {
@@ -163,7 +162,7 @@ impl<'t> ParserTokens<'t> {
             Ok(None) => return Ok(None),
             Err(fault) => return Err(fault),
         };
-        let token = give_number(parser_token_of(self.text, token), &mut self.before);
+        let token = number_text(parser_token_of(self.text, token), &mut self.words);
         Ok(Some(number_name(token, &mut self.numbers)?))
     }
 }

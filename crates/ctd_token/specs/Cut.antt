@@ -50,16 +50,14 @@ single_marks =
 abbrev pub single_mark : ℕ → Option Mark
 single_mark b = option_map (λ (m : ℕ × Mark). m.1) (find (λ m. nat_eq b m.0) single_marks)
 
--- the mark that two bytes are: <= >= == != && ||
+-- the marks of two bytes, each with its bytes
+abbrev pub double_marks : List (List ℕ × Mark)
+double_marks =
+    zip (codes "<=" ∷ codes ">=" ∷ codes "==" ∷ codes "!=" ∷ codes "&&" ∷ codes "||" ∷ []) (AtMost ∷ AtLeast ∷ Equal ∷ Unequal ∷ AndAnd ∷ OrOr ∷ [])
+
+-- the mark that two bytes are
 abbrev pub double_mark : ℕ → ℕ → Option Mark
-double_mark a b =
-    if nat_eq a 60 && nat_eq b 61 then Some AtMost
-    else if nat_eq a 62 && nat_eq b 61 then Some AtLeast
-    else if nat_eq a 61 && nat_eq b 61 then Some Equal
-    else if nat_eq a 33 && nat_eq b 61 then Some Unequal
-    else if nat_eq a 38 && nat_eq b 38 then Some AndAnd
-    else if nat_eq a 124 && nat_eq b 124 then Some OrOr
-    else None
+double_mark a b = option_map (λ (m : List ℕ × Mark). m.1) (find (λ m. bytes_eq (a ∷ b ∷ []) m.0) double_marks)
 
 -- a token and its length, or what is wrong with it
 abbrev pub Judgement : Type 0

@@ -1,6 +1,7 @@
 -- What stands between the quotes of a string literal.
-use Rattle.std.specs.Prelude.{ℕ, zero, suc, ◌+◌, ◌-◌, ◌*◌, min, ◌&&◌, Bool, nat_eq, nat_le, nat_lt, if◌then◌else◌, List, [], ◌∷◌, ◌++◌, length, take, fold, sum, Option, Some, None, option_map}
+use Rattle.std.specs.Prelude.{ℕ, zero, suc, ◌+◌, ◌-◌, ◌*◌, min, ◌&&◌, Bool, nat_eq, nat_le, nat_lt, if◌then◌else◌, List, [], ◌∷◌, ◌++◌, length, take, fold, sum, zip, find, codes, Option, Some, None, option_map}
 use Rattle.std.specs.List.{prefix_len}
+use Rattle.std.specs.Option.{option_map_or}
 
 -- `0` to `7`
 abbrev pub is_octal : ℕ → Bool
@@ -23,17 +24,13 @@ pub record LiteralPart : Type 0 where
 abbrev pub literal_part : List ℕ → ℕ → LiteralPart
 literal_part values length = record { values = values; length = length }
 
--- a backslash and a byte that is no octal digit: `n`, `t`, `r`, `b`, a quote, a backslash, a line feed, and any other, which is then read by itself
+-- the bytes that make an escape with the backslash before them, each with what the two stand for: a line feed, a tab, a carriage return, a backspace, the byte itself, or nothing at all
+abbrev pub escapes : List (ℕ × List ℕ)
+escapes = zip (codes "ntrb\"\\\n") (codes "\n" ∷ codes "\t" ∷ codes "\r" ∷ (8 ∷ []) ∷ codes "\"" ∷ codes "\\" ∷ [] ∷ [])
+
+-- a backslash and a byte that is no octal digit: both are read where they make an escape, and else the backslash alone, which stands for itself
 abbrev pub escape : ℕ → LiteralPart
-escape b =
-    if nat_eq b 110 then literal_part (10 ∷ []) 2
-    else if nat_eq b 116 then literal_part (9 ∷ []) 2
-    else if nat_eq b 114 then literal_part (13 ∷ []) 2
-    else if nat_eq b 98 then literal_part (8 ∷ []) 2
-    else if nat_eq b 34 then literal_part (34 ∷ []) 2
-    else if nat_eq b 92 then literal_part (92 ∷ []) 2
-    else if nat_eq b 10 then literal_part [] 2
-    else literal_part (92 ∷ []) 1
+escape b = option_map_or (λ (e : ℕ × List ℕ). literal_part e.1 2) (find (λ e. nat_eq b e.0) escapes) (literal_part (92 ∷ []) 1)
 
 -- a backslash and the octal digits after it
 abbrev pub octal_escape : List ℕ → LiteralPart

@@ -15,7 +15,8 @@ use Rattle.ctd_check.specs.Run.{meaning}
 use Rattle.ctd_check.specs.calls.Checks.{FindsMeaning, IsAhead}
 use Rattle.ctd_arguments.specs.declared.setup.Setup.{Setup}
 use Rattle.ctd_report.specs.Report.{check_report, load_report}
-use Rattle.ctd_tool.specs.Theorem.{call, IsReport, of_meaning, of_program_fault}
+use Rattle.ctd_report.specs.Written.{before_after}
+use Rattle.ctd_tool.specs.Theorem.{IsReport, of_meaning, of_program_fault}
 
 -- loading reads no more than the limit of programs and one byte
 pub loads_few : {V R : Type 0} (tree_of : V → CommandList) (G : Ghosts R) (old new : R) (result : Result V LoadFault) → LoadsFrom tree_of G old new result → GaveAtMost G (PROGRAM_LIMIT + 1) old new
@@ -29,7 +30,7 @@ module _ {V P D : Type 0} (tree_of : V → CommandList) (G : Ghosts P) (H : Ghos
   -- a program that was loaded, and data that were checked
   pub reports_meaning : (old new : D) (plan : V) (checked : Checked) → LoadsFrom tree_of G old_program new_program (Ok plan)
       → FindsMeaning H old new s.limits (λ d. meaning s.mode (tree_of plan) s.presets d s.limits.steps) checked → IsAhead checked → checked.taken ≤ s.limits.bytes + 1 → checked.seen ≡ H.seen new
-      → IsReport s (call G old_program new_program) (call H old new) (check_report s.quiet checked.outcome)
+      → IsReport s (before_after G old_program new_program) (before_after H old new) (check_report s.quiet checked.outcome)
   reports_meaning old new plan checked l m ahead within seen = of_meaning (record {
     tree = tree_of plan;
     text = l.bytes;
@@ -50,6 +51,6 @@ module _ {V P D : Type 0} (tree_of : V → CommandList) (G : Ghosts P) (H : Ghos
 
   -- a program that was refused
   pub reports_fault : (testdata : D) (fault : LoadFault) → LoadsFrom tree_of G old_program new_program (Err fault) → fault.kind ≢ Memory
-      → IsReport s (call G old_program new_program) (call H testdata testdata) (load_report fault)
+      → IsReport s (before_after G old_program new_program) (before_after H testdata testdata) (load_report fault)
   reports_fault testdata fault l other =
       of_program_fault (record { fault = fault; text = l.bytes; gave_text = l.gave; within = l.short; fails = l.answer other; untouched = refl; report_is = refl })

@@ -10,8 +10,10 @@ use Rattle.ctd_report.specs.declared.sink.Sink as sinks
 use Rattle.ctd_report.specs.declared.sink.ToWrite.{ToWrite}
 use Rattle.ctd_report.specs.Writer.{new_sink}
 use Rattle.ctd_report.specs.Report.{Report}
-use Rattle.ctd_report.specs.Written.{before_after, EndsWithReport, whole, broken_off, Puts, no_put, one_more, FlushedAfter, StopsIn}
-use Rattle.ctd_process.specs.Process.{Args, Gives, Visit}
+use Rattle.ctd_report.specs.Written.{BeforeAfter, before_after, EndsWithReport, whole, broken_off, Puts, no_put, one_more, FlushedAfter, StopsIn}
+use Rattle.ctd_process.specs.declared.host.Files as files
+use Rattle.ctd_process.specs.declared.host.Host as hosts
+use Rattle.ctd_process.specs.Words.{Args}
 use Rattle.ctd_tool.specs.declared.files.Sources.{Sources}
 use Rattle.ctd_tool.specs.declared.host.Answered.{Answered}
 use Rattle.ctd_tool.specs.Theorem.{EndsProcess, IsProcessReport, bad_words, no_room, with_words}
@@ -86,16 +88,16 @@ module _ {O E : Type 0} (S : sinks.Ghosts O) (T : sinks.Ghosts E) (calls : O →
   silent out err Reports status (broken_off report is (inr part) two) = absurd (failed_not T calls_err counts_err err report.err part.0.stopped)
 
 -- a host that gives no words gets a text
-pub tells_why : {F R : Type 0} (remaining : R → Option (List ℕ)) (G : sources.Ghosts (FromRead (BufReader R Global))) (args : Args) (kind : ErrorKind) (v : Visit F R) (left : Option (Sources R)) (report : Report) → args ≡ Err kind → IsProcessReport remaining G args v left report → IsSilent report → ⊥
+pub tells_why : {F R : Type 0} {A : files.Ghosts F R} (remaining : R → Option (List ℕ)) (G : sources.Ghosts (FromRead (BufReader R Global))) (args : Args) (kind : ErrorKind) (v : BeforeAfter F A) (left : Option (Sources R)) (report : Report) → args ≡ Err kind → IsProcessReport remaining G args v left report → IsSilent report → ⊥
 tells_why remaining G args kind v left report refused (with_words given is answer) none = ok_is_no_err _ _ args is refused
 tells_why remaining G args kind v left report refused (bad_words k is other same words) none = some_text _ _ (sym (ap (λ (r : Report). r.err) words) ∙ none.err)
 tells_why remaining G args kind v left report refused (no_room same memory) none = some_text _ _ (sym (ap (λ (r : Report). r.err) memory) ∙ none.err)
 
 -- no body that leaves the streams alone meets the contract, whatever its status: not at a host that counts, and gives no words
-pub silence_is_refused : {F R O E : Type 0} (h : Gives F R O E) (remaining : R → Option (List ℕ)) (G : sources.Ghosts (FromRead (BufReader R Global))) (S : sinks.Ghosts (ToWrite O)) (T : sinks.Ghosts (ToWrite E)) (calls : ToWrite O → ℕ) → Counts S calls → (calls_err : ToWrite E → ℕ) → Counts T calls_err
+pub silence_is_refused : {F R O E : Type 0} (h : hosts.Ghosts F O E R) (A : files.Ghosts F R) (remaining : R → Option (List ℕ)) (G : sources.Ghosts (FromRead (BufReader R Global))) (S : sinks.Ghosts (ToWrite O)) (T : sinks.Ghosts (ToWrite E)) (calls : ToWrite O → ℕ) → Counts S calls → (calls_err : ToWrite E → ℕ) → Counts T calls_err
     → (old new : F) (end : Answered R O E) → ((s t : F) (args : Args) → h.gives_args s args t → (kind : ErrorKind) × (args ≡ Err kind))
-    → ((s t : F) (o : O) → h.gives_out s o t → end.out ≡ new_sink o) → ((s t : F) (e : E) → h.gives_err s e t → end.err ≡ new_sink e) → EndsProcess h remaining G S T old new end → ⊥
-silence_is_refused h remaining G S T calls counts calls_err counts_err old new end refuses same_out same_err p =
+    → ((s t : F) (o : O) → h.gives_out s o t → end.out ≡ new_sink o) → ((s t : F) (e : E) → h.gives_err s e t → end.err ≡ new_sink e) → EndsProcess h A remaining G S T old new end → ⊥
+silence_is_refused h A remaining G S T calls counts calls_err counts_err old new end refuses same_out same_err p =
     let b = p.begins in
     let out = same_out old b.after_out b.out b.out_is in
     let err = same_err b.after_out b.after_err b.err b.err_is in

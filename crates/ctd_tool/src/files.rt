@@ -2,7 +2,7 @@
 
 ghost use Rattle.std.specs.Prelude.{◌≡◌, ◌≤◌, ◌^◌, Some, false, IfOk};
 ghost use Rattle.ctd_tool.specs.Theorem.{IsFilesReport, IsRunReport, Visits};
-ghost use Rattle.ctd_process.specs.Process.{StartsOn, visit};
+ghost use Rattle.ctd_process.specs.Process.{StartsOn};
 ghost use Rattle.ctd_report.specs.Written.{WritesOneOf, before_after};
 
 use crate::tool::run_tool;
@@ -92,9 +92,9 @@ pub fn check_files<F: Files, O: Sink, E: Sink>(
     requires err_works { E.has_failed err.old ≡ false }
     ensures written { WritesOneOf (before_after O.Sink out.old out.new) (before_after E.Sink err.old err.new)
         (IsFilesReport F.File.remaining ⟦<FromRead<BufReader<F::File>> as Source>⟧ setup.now
-        (visit F.opens F.takes_input files.old files.new) result.sources) result.answer }
+        (before_after F.Files files.old files.new) result.sources) result.answer }
     // also where memory ran out
-    ensures visits { Visits (visit F.opens F.takes_input files.old files.new) setup.now }
+    ensures visits { Visits (before_after F.Files files.old files.new) setup.now }
 {
     let Some(program) = files.open(setup.program.as_slice()) else {
         return FilesRun {

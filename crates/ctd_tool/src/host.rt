@@ -2,7 +2,6 @@
 
 ghost use Rattle.std.specs.Prelude.{◌≡◌, false};
 ghost use Rattle.ctd_tool.specs.Theorem.{EndsProcess, IsProcessReport};
-ghost use Rattle.ctd_process.specs.Process.{visit};
 ghost use Rattle.ctd_report.specs.Report.{usage_report};
 ghost use Rattle.ctd_report.specs.Written.{EndsWithReport, before_after};
 
@@ -54,7 +53,7 @@ fn answer_args<H: Files, O: Sink, E: Sink>(
     requires err_works { E.has_failed err.old ≡ false }
     ensures { EndsWithReport (before_after O.Sink out.old out.new) (before_after E.Sink err.old err.new)
         (IsProcessReport H.File.remaining ⟦<FromRead<BufReader<H::File>> as Source>⟧ args
-        (visit H.opens H.takes_input host.old host.new) result.sources) result.status }
+        (before_after H.Files host.old host.new) result.sources) result.status }
 {
     let args = match args {
         Ok(args) => args,
@@ -74,7 +73,7 @@ fn answer_args<H: Files, O: Sink, E: Sink>(
 /// Answers the words of the process with a status.
 pub fn answer<H: Host>(alloc: Global, host: &mut H) -> Answered<H::File, H::Out, H::Err>
     ensures { EndsProcess
-        (record { gives_out = H.gives_out; gives_err = H.gives_err; gives_args = H.gives_args; opens = H.opens; takes_input = H.takes_input })
+        (record { gives_out = H.gives_out; gives_err = H.gives_err; gives_args = H.gives_args }) H.Files
         H.File.remaining ⟦<FromRead<BufReader<H::File>> as Source>⟧ ⟦<ToWrite<H::Out> as Sink>⟧ ⟦<ToWrite<H::Err> as Sink>⟧ host.old host.new result }
 {
     let mut out = ToWrite::new(host.out());

@@ -4,7 +4,7 @@ ghost use Rattle.std.specs.Prelude.{◌≡◌, ◌+◌, ◌≤◌, ◌^◌, fals
 ghost use Rattle.ctd_source.specs.SourceReads.{GaveAtMost};
 ghost use Rattle.ctd_source.specs.declared.source.Seen.TheVariants.{Going};
 ghost use Rattle.ctd_token.specs.declared.limits.TheConstants.{PROGRAM_LIMIT};
-ghost use Rattle.ctd_tool.specs.Theorem.{IsReport, call};
+ghost use Rattle.ctd_tool.specs.Theorem.{IsReport};
 ghost use Rattle.ctd_report.specs.Written.{WritesOneOf, before_after};
 
 use ctd_arguments::Setup;
@@ -31,7 +31,7 @@ pub fn run_tool<P: Source, D: Source, O: Sink, E: Sink>(
     requires out_works { O.has_failed out.old ≡ false }
     requires err_works { E.has_failed err.old ≡ false }
     ensures written { WritesOneOf (before_after O.Sink out.old out.new) (before_after E.Sink err.old err.new)
-        (IsReport setup.now (call P.Source program.old program.new) (call D.Source testdata.old testdata.new)) result }
+        (IsReport setup.now (before_after P.Source program.old program.new) (before_after D.Source testdata.old testdata.new)) result }
     // whatever it answers, of each source no more is read than its limit and one byte
     ensures reads_program { GaveAtMost P.Source (PROGRAM_LIMIT + 1) program.old program.new }
     ensures reads_testdata { GaveAtMost D.Source (setup.now.limits.bytes + 1) testdata.old testdata.new }

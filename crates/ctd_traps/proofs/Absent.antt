@@ -1,19 +1,9 @@
 -- Events that are not noted never happen.
-use Rattle.std.proofs.Common.{◌≡◌, ◌<◌, ◌≤◌, ◌+◌, ◌⊎◌, ℕ, inl, inr, true, false, Bool, List, [], ◌∷◌, ◌++◌, length, get_or, drop, Contains, refl, ap, sym, subst, ◌∙◌, arith}
-use Rattle.std.specs.Prelude.{cond}
-use Rattle.std.proofs.lemmas.List.{at_drop_more, drop_all}
-use Rattle.std.proofs.lemmas.List.Elements.{Contains-append_cases, Contains-append_left, Contains-append_right, Contains-push, Contains-push_cases}
-use Rattle.ctd_token.specs.declared.text.Place.{Place}
-use Rattle.ctd_outcome.specs.declared.reason.Fault.{Fault}
-use Rattle.ctd_program.specs.Tree.{CommandList}
-use Rattle.ctd_program.specs.declared.preset.Preset.{Preset}
-use Rattle.ctd_traps.specs.calls.Events.{Event, HasEachEvent, NeverHappens, PlacedEvent, answers, begins, event_of, event_of_kind, events_of, fails, goes_on}
-use Rattle.ctd_traps.specs.declared.note.EventKind.{EventKind}
+use Rattle.ctd_traps.proofs.Common.{AreAbsent, Bool, CommandList, Contains, Contains-append_cases, Contains-append_left, Contains-append_right, Contains-push, Contains-push_cases, Event, EventKind}
+use Rattle.ctd_traps.proofs.Common.{Fault, HasEachEvent, List, NeverHappens, Note, Noted, Place, PlacedEvent, Preset, [], answers, ap, arith, at_drop_more, begins, cond, drop, drop_all, event_of}
+use Rattle.ctd_traps.proofs.Common.{event_of_kind, events_of, fails, false, get_or, inl, inr, length, noted_in, refl, subst, sym, true, ℕ, ◌++◌, ◌+◌, ◌<◌, ◌∙◌, ◌∷◌, ◌≡◌, ◌≤◌, ◌⊎◌}
+use Rattle.ctd_traps.specs.calls.Events.{goes_on}
 use Rattle.ctd_traps.specs.declared.note.EventKind.TheVariants as kinds
-use Rattle.ctd_traps.specs.declared.note.Note.{Note}
-use Rattle.ctd_traps.specs.declared.note.Noted.{Noted}
-use Rattle.ctd_traps.specs.inner.Noted.{noted_in}
-use Rattle.ctd_traps.specs.inner.Absent.{AreAbsent}
 use Rattle.ctd_traps.proofs.Noting.{events_both}
 
 -- elements of lists
@@ -111,9 +101,6 @@ absent_pushed notes never all x is absent so_far e has noted = which (Contains-p
     which : Contains (events_of never) e ⊎ (event_of x ≡ e) → ⊥
     which (inl before) = so_far e before noted
     which (inr same) = let n : NoteOf notes e = note_of notes e noted in absent (subst (Contains notes) (same_note n.note x (n.is ∙ sym same)) n.among)
-
-pub none_absent : (notes : List Note) → AreAbsent notes []
-none_absent notes e has noted = none_in e has
 
 -- no fault is among the events
 no_fault_in : (never : List Note) (place : Place) (fault : Fault) → Contains (events_of never) (record { place = place; event = fails fault }) → ⊥

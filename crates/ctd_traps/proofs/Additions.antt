@@ -1,6 +1,5 @@
 -- What is found piece by piece.
-use Rattle.std.proofs.Common.{◌≡◌, ◌++◌, List, [], Option, Some, None, ap, sym, subst, ◌∙◌, append_assoc}
-use Rattle.ctd_traps.specs.calls.Collector.{Adds}
+use Rattle.ctd_traps.proofs.Common.{Adds, List, None, Option, Some, ap, append_assoc, sym, ◌++◌, ◌∙◌, ◌≡◌}
 
 -- one part is added, and then another
 pub adds_both : {U : Type 0} (a b c : Option (List U)) (x y all : List U) → Adds a x b → Adds b y c → all ≡ x ++ y → Adds a all c

@@ -1,132 +1,110 @@
 -- What operators give of what their operands may give.
-use Rattle.std.proofs.Common.{IfSome, ◌⊎◌, inl, inr, ◌≡◌, ◌≢◌, ◌<◌, ◌≤◌, ◌+◌, ◌∙◌, ap, get_or, drop, ℕ, pos, neg_ℤ, List, [], ◌∷◌, length, Option, Some, None, ℤ, Bool, true, Result, Ok, Err, refl, sym, subst}
-use Rattle.std.proofs.lemmas.List.{at_drop_more, drop_all}
-use Rattle.std.specs.Global.{Box}
-use Rattle.ctd_program.proofs.Trees.{boxed_element}
-use Rattle.ctd_program.specs.declared.tree.Element.{Element}
+use Rattle.ctd_traps.proofs.Common.{AbstractValue, AllFailBy, AreOperands, Bindings, Bool, Box, Element, Err, Expr, ExprList, ExprTree, FailsBy, Fault, Faults, Gives, HasOperator, IfSome, IsAmong}
+use Rattle.ctd_traps.proofs.Common.{IsComputed, IsIn, IsPossible, List, MayBe, NameStands, NamedValue, None, Ok, Operates, Operator, Option, PossibleResult, Range, Result, Some, Tells, Value, [], ap}
+use Rattle.ctd_traps.proofs.Common.{arithmetic, as_number, as_text, at_drop_more, at_key, boxed_element, drop, drop_all, expr_list, expr_tree, exprs_of, get_or, in_range, inl, inr, length, measured}
+use Rattle.ctd_traps.proofs.Common.{neg_ℤ, negated, operate, pos, refl, subst, sym, true, val, vals, value_at, value_or_undefined, ℕ, ℤ, ◌+◌, ◌<◌, ◌>>=◌, ◌∙◌, ◌∷◌, ◌≡◌, ◌≢◌, ◌≤◌, ◌⊎◌}
 use Rattle.ctd_program.specs.declared.tree.Expr.TheVariants as variants
 use Rattle.ctd_program.specs.Tree
-use Rattle.ctd_program.specs.Tree.{ExprTree, ExprList}
-use Rattle.ctd_program.specs.declared.tree.Expr.{Expr}
-use Rattle.ctd_program.specs.calls.View.{expr_list, expr_tree, exprs_of}
-use Rattle.ctd_store.specs.declared.value.Value.{Value}
 use Rattle.ctd_store.specs.declared.value.Value.TheVariants as values
-use Rattle.ctd_store.specs.Store.{Bindings, value_at}
-use Rattle.ctd_outcome.specs.declared.reason.Fault.{Fault}
-use Rattle.ctd_value.specs.Fault.{◌>>=◌}
 use Rattle.ctd_outcome.specs.declared.reason.Fault.TheVariants as faults
-use Rattle.ctd_value.specs.Arithmetic.{in_range}
-use Rattle.ctd_value.specs.Val.{arithmetic, val, vals}
-use Rattle.ctd_value.specs.inner.Val.{value_or_undefined}
-use Rattle.ctd_range.specs.calls.Ranges.{IsIn}
-use Rattle.ctd_range.specs.declared.range.Range.{Range}
-use Rattle.ctd_traps.specs.declared.expression.Found.{Found}
-use Rattle.ctd_known.specs.declared.faults.Faults.{Faults}
-use Rattle.ctd_traps.specs.declared.expression.Operator.{Operator}
 use Rattle.ctd_traps.specs.declared.expression.Operator.TheVariants as operators
-use Rattle.ctd_known.specs.declared.facts.NameFacts.{NameFacts}
-use Rattle.ctd_known.specs.calls.Facts.{Known, MayBe, NameStands, at_key}
-use Rattle.ctd_known.specs.calls.Facts.{Tells}
-use Rattle.ctd_traps.specs.inner.Found.{AllFailBy, FailsBy, Gives, IsFound, as_number, as_text}
-use Rattle.ctd_known.specs.calls.Faults.{IsAmong}
-use Rattle.ctd_traps.specs.inner.Operators.{AreOperands, HasOperator, IsComputed, Operates, measured, negated, operate}
 
 -- some faults are among others
 abbrev pub AreFaults : Faults → Faults → Type 0
 AreFaults some all = (x : Fault) → IsAmong some x → IsAmong all x
 
-computed_found : (f g : Found) (k : ℕ) (r : Result ℤ Fault) → g.kinds ≡ f.kinds → AreFaults f.faults g.faults → IsComputed f k r → IsFound g k (r >>= (λ z. Ok (values.Int z)))
-computed_found f g k (Ok z) kinds more h = subst (λ ks. MayBe ks k (values.Int z)) (sym kinds) h
-computed_found f g k (Err e) kinds more h = more e h
+computed_found : (f g : PossibleResult) (k : ℕ) (r : Result ℤ Fault) → g.values ≡ f.values → AreFaults f.faults g.faults → IsComputed f k r → IsPossible g k (r >>= (λ z. Ok (values.Int z)))
+computed_found f g k (Ok z) possible more h = subst (λ ks. MayBe ks k (values.Int z)) (sym possible) h
+computed_found f g k (Err e) possible more h = more e h
 
-pub applied : (o : Operator) (a b f g : Found) (types : Option (Range × Range) × Bool) (k : ℕ) (left right : Result Value Fault) → AreOperands a.kinds b.kinds types → Operates o types.0 f → g.kinds ≡ f.kinds →
+pub applied : (o : Operator) (a b f g : PossibleResult) (types : Option (Range × Range) × Bool) (k : ℕ) (left right : Result Value Fault) → AreOperands a.values b.values types → Operates o types.0 f → g.values ≡ f.values →
     AreFaults a.faults g.faults → AreFaults b.faults g.faults → (types.1 ≡ true → IsAmong g.faults faults.WrongType) → AreFaults f.faults g.faults →
-    IsFound a k left → IsFound b k right → IsFound g k (arithmetic (operate o) left right)
-applied o a b f g types k (Err e) right operands operates kinds by_a by_b by_types by_f l r = by_a e l
-applied o a b f g types k (Ok v) (Err e) operands operates kinds by_a by_b by_types by_f l r = by_b e r
-applied o a b f g types k (Ok (values.Text bytes)) (Ok w) operands operates kinds by_a by_b by_types by_f l r = by_types (operands.left_text bytes k l)
-applied o a b f g types k (Ok (values.Int x)) (Ok (values.Text bytes)) operands operates kinds by_a by_b by_types by_f l r = by_types (operands.right_text bytes k r)
-applied o a b f g types k (Ok (values.Int x)) (Ok (values.Int y)) operands operates kinds by_a by_b by_types by_f l r =
+    IsPossible a k left → IsPossible b k right → IsPossible g k (arithmetic (operate o) left right)
+applied o a b f g types k (Err e) right operands operates possible by_a by_b by_types by_f l r = by_a e l
+applied o a b f g types k (Ok v) (Err e) operands operates possible by_a by_b by_types by_f l r = by_b e r
+applied o a b f g types k (Ok (values.Text bytes)) (Ok w) operands operates possible by_a by_b by_types by_f l r = by_types (operands.left_text bytes k l)
+applied o a b f g types k (Ok (values.Int x)) (Ok (values.Text bytes)) operands operates possible by_a by_b by_types by_f l r = by_types (operands.right_text bytes k r)
+applied o a b f g types k (Ok (values.Int x)) (Ok (values.Int y)) operands operates possible by_a by_b by_types by_f l r =
     let found : (q : Range × Range) × (types.0 ≡ Some q) × IsIn q.0 k x × IsIn q.1 k y = operands.numbers x y k l r in
-    computed_found f g k (operate o x y) kinds by_f (operates found.0 found.1 k x y found.2 found.3)
+    computed_found f g k (operate o x y) possible by_f (operates found.0 found.1 k x y found.2 found.3)
 
 -- an expression with an operator between two others
 abbrev pub HasOperands : Expr → (a b : Box Expr) → Type 0
 HasOperands e a b = (e ≡ variants.Add a b) ⊎ ((e ≡ variants.Sub a b) ⊎ ((e ≡ variants.Mul a b) ⊎ ((e ≡ variants.Div a b) ⊎ ((e ≡ variants.Rem a b) ⊎ (e ≡ variants.Pow a b)))))
 
-applied_tree : (known : List Known) (x y t : ExprTree) (o p : Operator) (f g r : Found) → ((h : Bindings) → val t h ≡ arithmetic (operate p) (val x h) (val y h)) → o ≡ p → Gives known x f → Gives known y g
-    → ((k : ℕ) (left right : Result Value Fault) → IsFound f k left → IsFound g k right → IsFound r k (arithmetic (operate o) left right)) → Gives known t r
-applied_tree known x y t o p f g r means same left right applies k h each = rw (means h, sym same) (applies k (val x h) (val y h) (left k h each) (right k h each))
+applied_tree : (entries : List NamedValue) (x y t : ExprTree) (o p : Operator) (f g r : PossibleResult) → ((h : Bindings) → val t h ≡ arithmetic (operate p) (val x h) (val y h)) → o ≡ p → Gives entries x f → Gives entries y g
+    → ((k : ℕ) (left right : Result Value Fault) → IsPossible f k left → IsPossible g k right → IsPossible r k (arithmetic (operate o) left right)) → Gives entries t r
+applied_tree entries x y t o p f g r means same left right applies k h each = rw (means h, sym same) (applies k (val x h) (val y h) (left k h each) (right k h each))
 
-pub operands_give : (known : List Known) (e : Expr) (a b : Box Expr) (o : Operator) (f g r : Found) → HasOperands e a b → HasOperator o e → Gives known (expr_tree a.value) f → Gives known (expr_tree b.value) g
-    → ((k : ℕ) (left right : Result Value Fault) → IsFound f k left → IsFound g k right → IsFound r k (arithmetic (operate o) left right)) → Gives known (expr_tree e) r
-operands_give known e a b o f g r (inl is) has left right applies = subst (λ x. Gives known (expr_tree x) r) (sym is) (applied_tree known (expr_tree a.value) (expr_tree b.value) (expr_tree (variants.Add a b)) o operators.Sum f g r (λ h. refl) (subst (λ x. HasOperator o x) is has) left right applies)
-operands_give known e a b o f g r (inr (inl is)) has left right applies = subst (λ x. Gives known (expr_tree x) r) (sym is) (applied_tree known (expr_tree a.value) (expr_tree b.value) (expr_tree (variants.Sub a b)) o operators.Difference f g r (λ h. refl) (subst (λ x. HasOperator o x) is has) left right applies)
-operands_give known e a b o f g r (inr (inr (inl is))) has left right applies = subst (λ x. Gives known (expr_tree x) r) (sym is) (applied_tree known (expr_tree a.value) (expr_tree b.value) (expr_tree (variants.Mul a b)) o operators.Product f g r (λ h. refl) (subst (λ x. HasOperator o x) is has) left right applies)
-operands_give known e a b o f g r (inr (inr (inr (inl is)))) has left right applies = subst (λ x. Gives known (expr_tree x) r) (sym is) (applied_tree known (expr_tree a.value) (expr_tree b.value) (expr_tree (variants.Div a b)) o operators.Quotient f g r (λ h. refl) (subst (λ x. HasOperator o x) is has) left right applies)
-operands_give known e a b o f g r (inr (inr (inr (inr (inl is))))) has left right applies = subst (λ x. Gives known (expr_tree x) r) (sym is) (applied_tree known (expr_tree a.value) (expr_tree b.value) (expr_tree (variants.Rem a b)) o operators.Remainder f g r (λ h. refl) (subst (λ x. HasOperator o x) is has) left right applies)
-operands_give known e a b o f g r (inr (inr (inr (inr (inr is))))) has left right applies = subst (λ x. Gives known (expr_tree x) r) (sym is) (applied_tree known (expr_tree a.value) (expr_tree b.value) (expr_tree (variants.Pow a b)) o operators.Power f g r (λ h. refl) (subst (λ x. HasOperator o x) is has) left right applies)
+pub operands_give : (entries : List NamedValue) (e : Expr) (a b : Box Expr) (o : Operator) (f g r : PossibleResult) → HasOperands e a b → HasOperator o e → Gives entries (expr_tree a.value) f → Gives entries (expr_tree b.value) g
+    → ((k : ℕ) (left right : Result Value Fault) → IsPossible f k left → IsPossible g k right → IsPossible r k (arithmetic (operate o) left right)) → Gives entries (expr_tree e) r
+operands_give entries e a b o f g r (inl is) has left right applies = subst (λ x. Gives entries (expr_tree x) r) (sym is) (applied_tree entries (expr_tree a.value) (expr_tree b.value) (expr_tree (variants.Add a b)) o operators.Sum f g r (λ h. refl) (subst (λ x. HasOperator o x) is has) left right applies)
+operands_give entries e a b o f g r (inr (inl is)) has left right applies = subst (λ x. Gives entries (expr_tree x) r) (sym is) (applied_tree entries (expr_tree a.value) (expr_tree b.value) (expr_tree (variants.Sub a b)) o operators.Difference f g r (λ h. refl) (subst (λ x. HasOperator o x) is has) left right applies)
+operands_give entries e a b o f g r (inr (inr (inl is))) has left right applies = subst (λ x. Gives entries (expr_tree x) r) (sym is) (applied_tree entries (expr_tree a.value) (expr_tree b.value) (expr_tree (variants.Mul a b)) o operators.Product f g r (λ h. refl) (subst (λ x. HasOperator o x) is has) left right applies)
+operands_give entries e a b o f g r (inr (inr (inr (inl is)))) has left right applies = subst (λ x. Gives entries (expr_tree x) r) (sym is) (applied_tree entries (expr_tree a.value) (expr_tree b.value) (expr_tree (variants.Div a b)) o operators.Quotient f g r (λ h. refl) (subst (λ x. HasOperator o x) is has) left right applies)
+operands_give entries e a b o f g r (inr (inr (inr (inr (inl is))))) has left right applies = subst (λ x. Gives entries (expr_tree x) r) (sym is) (applied_tree entries (expr_tree a.value) (expr_tree b.value) (expr_tree (variants.Rem a b)) o operators.Remainder f g r (λ h. refl) (subst (λ x. HasOperator o x) is has) left right applies)
+operands_give entries e a b o f g r (inr (inr (inr (inr (inr is))))) has left right applies = subst (λ x. Gives entries (expr_tree x) r) (sym is) (applied_tree entries (expr_tree a.value) (expr_tree b.value) (expr_tree (variants.Pow a b)) o operators.Power f g r (λ h. refl) (subst (λ x. HasOperator o x) is has) left right applies)
 
-pub negates : (a f g : Found) (text : Bool) (k : ℕ) (r : Result Value Fault) → ((x : ℤ) → MayBe a.kinds k (values.Int x) → IsComputed f k (in_range (neg_ℤ x))) → ((bytes : List ℕ) → MayBe a.kinds k (values.Text bytes) → text ≡ true) →
-    g.kinds ≡ f.kinds → (text ≡ true → IsAmong g.faults faults.WrongType) → AreFaults f.faults g.faults → AreFaults a.faults g.faults → IsFound a k r → IsFound g k (negated r)
-negates a f g text k (Err e) numbers texts kinds wrong by_f by_a may = by_a e may
-negates a f g text k (Ok (values.Text bytes)) numbers texts kinds wrong by_f by_a may = wrong (texts bytes may)
-negates a f g text k (Ok (values.Int x)) numbers texts kinds wrong by_f by_a may = computed_found f g k (in_range (neg_ℤ x)) kinds by_f (numbers x may)
+pub negates : (a f g : PossibleResult) (text : Bool) (k : ℕ) (r : Result Value Fault) → ((x : ℤ) → MayBe a.values k (values.Int x) → IsComputed f k (in_range (neg_ℤ x))) → ((bytes : List ℕ) → MayBe a.values k (values.Text bytes) → text ≡ true) →
+    g.values ≡ f.values → (text ≡ true → IsAmong g.faults faults.WrongType) → AreFaults f.faults g.faults → AreFaults a.faults g.faults → IsPossible a k r → IsPossible g k (negated r)
+negates a f g text k (Err e) numbers texts possible wrong by_f by_a may = by_a e may
+negates a f g text k (Ok (values.Text bytes)) numbers texts possible wrong by_f by_a may = wrong (texts bytes may)
+negates a f g text k (Ok (values.Int x)) numbers texts possible wrong by_f by_a may = computed_found f g k (in_range (neg_ℤ x)) possible by_f (numbers x may)
 
-pub measures : (a f g : Found) (number : Bool) (k : ℕ) (r : Result Value Fault) → ((bytes : List ℕ) → MayBe a.kinds k (values.Text bytes) → IsFound f k (Ok (values.Int (pos (length bytes))))) → ((x : ℤ) → MayBe a.kinds k (values.Int x) → number ≡ true) →
-    g.kinds ≡ f.kinds → (number ≡ true → IsAmong g.faults faults.WrongType) → AreFaults a.faults g.faults → IsFound a k r → IsFound g k (measured r)
-measures a f g number k (Err e) texts numbers kinds wrong by_a may = by_a e may
-measures a f g number k (Ok (values.Text bytes)) texts numbers kinds wrong by_a may = subst (λ ks. MayBe ks k (values.Int (pos (length bytes)))) (sym kinds) (texts bytes may)
-measures a f g number k (Ok (values.Int x)) texts numbers kinds wrong by_a may = wrong (numbers x may)
+pub measures : (a f g : PossibleResult) (number : Bool) (k : ℕ) (r : Result Value Fault) → ((bytes : List ℕ) → MayBe a.values k (values.Text bytes) → IsPossible f k (Ok (values.Int (pos (length bytes))))) → ((x : ℤ) → MayBe a.values k (values.Int x) → number ≡ true) →
+    g.values ≡ f.values → (number ≡ true → IsAmong g.faults faults.WrongType) → AreFaults a.faults g.faults → IsPossible a k r → IsPossible g k (measured r)
+measures a f g number k (Err e) texts numbers possible wrong by_a may = by_a e may
+measures a f g number k (Ok (values.Text bytes)) texts numbers possible wrong by_a may = subst (λ ks. MayBe ks k (values.Int (pos (length bytes)))) (sym possible) (texts bytes may)
+measures a f g number k (Ok (values.Int x)) texts numbers possible wrong by_a may = wrong (numbers x may)
 
-pub texts_only : (a : Found) (f : Faults) (number : Bool) (k : ℕ) (r : Result Value Fault) → ((x : ℤ) → MayBe a.kinds k (values.Int x) → number ≡ true) → (number ≡ true → IsAmong f faults.WrongType) → AreFaults a.faults f → IsFound a k r → FailsBy f (as_text r)
+pub texts_only : (a : PossibleResult) (f : Faults) (number : Bool) (k : ℕ) (r : Result Value Fault) → ((x : ℤ) → MayBe a.values k (values.Int x) → number ≡ true) → (number ≡ true → IsAmong f faults.WrongType) → AreFaults a.faults f → IsPossible a k r → FailsBy f (as_text r)
 texts_only a f number k (Err e) numbers wrong by_a may = by_a e may
 texts_only a f number k (Ok (values.Text bytes)) numbers wrong by_a may = tt
 texts_only a f number k (Ok (values.Int x)) numbers wrong by_a may = wrong (numbers x may)
 
-pub numbers_only : (a : Found) (f : Faults) (text : Bool) (k : ℕ) (r : Result Value Fault) → ((bytes : List ℕ) → MayBe a.kinds k (values.Text bytes) → text ≡ true) → (text ≡ true → IsAmong f faults.WrongType) → AreFaults a.faults f → IsFound a k r → FailsBy f (as_number r)
+pub numbers_only : (a : PossibleResult) (f : Faults) (text : Bool) (k : ℕ) (r : Result Value Fault) → ((bytes : List ℕ) → MayBe a.values k (values.Text bytes) → text ≡ true) → (text ≡ true → IsAmong f faults.WrongType) → AreFaults a.faults f → IsPossible a k r → FailsBy f (as_number r)
 numbers_only a f text k (Err e) texts wrong by_a may = by_a e may
 numbers_only a f text k (Ok (values.Text bytes)) texts wrong by_a may = wrong (texts bytes may)
 numbers_only a f text k (Ok (values.Int x)) texts wrong by_a may = tt
 
 -- indices, one after the other: if the rest fails by some faults, all do
-abbrev pub Leads : List Known → Faults → ExprList → ExprList → Type 0
-Leads known so_far rest whole = (all : Faults) → AreFaults so_far all → AllFailBy known rest all → AllFailBy known whole all
+abbrev pub Leads : List NamedValue → Faults → ExprList → ExprList → Type 0
+Leads entries so_far rest whole = (all : Faults) → AreFaults so_far all → AllFailBy entries rest all → AllFailBy entries whole all
 
-first_fails : (f : Faults) (k : ℕ) (g : Found) (r : Result Value Fault) (vs : Result (List Value) Fault) → AreFaults g.faults f → IsFound g k r → FailsBy f vs → FailsBy f (r >>= (λ v. vs >>= (λ l. Ok (v ∷ l))))
+first_fails : (f : Faults) (k : ℕ) (g : PossibleResult) (r : Result Value Fault) (vs : Result (List Value) Fault) → AreFaults g.faults f → IsPossible g k r → FailsBy f vs → FailsBy f (r >>= (λ v. vs >>= (λ l. Ok (v ∷ l))))
 first_fails f k g (Err e) vs by_g may fails = by_g e may
 first_fails f k g (Ok v) (Ok l) by_g may fails = tt
 first_fails f k g (Ok v) (Err e) by_g may fails = fails
 
-pub leads_on : (known : List Known) (before after : Faults) (e : ExprTree) (rest whole : ExprList) (g : Found) → Gives known e g → AreFaults before after → AreFaults g.faults after → Leads known before (Tree.some e rest) whole → Leads known after rest whole
-leads_on known before after e rest whole g gives more by_g leads all covers fails = leads all (λ x h. covers x (more x h)) (λ k h each. first_fails all k g (val e h) (vals rest h) (λ x is. covers x (by_g x is)) (gives k h each) (fails k h each))
+pub leads_on : (entries : List NamedValue) (before after : Faults) (e : ExprTree) (rest whole : ExprList) (g : PossibleResult) → Gives entries e g → AreFaults before after → AreFaults g.faults after → Leads entries before (Tree.some e rest) whole → Leads entries after rest whole
+leads_on entries before after e rest whole g gives more by_g leads all covers fails = leads all (λ x h. covers x (more x h)) (λ k h each. first_fails all k g (val e h) (vals rest h) (λ x is. covers x (by_g x is)) (gives k h each) (fails k h each))
 
-pub none_fail : (known : List Known) (f : Faults) → AllFailBy known Tree.none f
-none_fail known f k h each = tt
+pub none_fail : (entries : List NamedValue) (f : Faults) → AllFailBy entries Tree.none f
+none_fail entries f k h each = tt
 
 -- an element
-looked_up : (f : Found) (facts : NameFacts) (indices : Faults) (k : ℕ) (h : Bindings) (name : List ℕ) (i : Value) (is : List Value) → NameStands name facts k h → ((o : Option Value) → ((v : Value) → o ≡ Some v → MayBe facts.elements k v) → IsFound f k (value_or_undefined o))
-    → IsFound f k (value_or_undefined (value_at h (at_key name (i ∷ is))))
-looked_up f facts indices k h name i is stands value = value (value_at h (at_key name (i ∷ is))) (λ v has. stands.elements i is v has)
+looked_up : (f : PossibleResult) (value : AbstractValue) (indices : Faults) (k : ℕ) (h : Bindings) (name : List ℕ) (i : Value) (is : List Value) → NameStands name value k h → ((o : Option Value) → ((v : Value) → o ≡ Some v → MayBe value.elements k v) → IsPossible f k (value_or_undefined o))
+    → IsPossible f k (value_or_undefined (value_at h (at_key name (i ∷ is))))
+looked_up f value indices k h name i is stands is_value = is_value (value_at h (at_key name (i ∷ is))) (λ v has. stands.elements i is v has)
 
-at_indices : (f : Found) (facts : NameFacts) (indices : Faults) (k : ℕ) (h : Bindings) (name : List ℕ) (e : Result Value Fault) (es : Result (List Value) Fault) → NameStands name facts k h → ((o : Option Value) → ((v : Value) → o ≡ Some v → MayBe facts.elements k v) → IsFound f k (value_or_undefined o))
-    → AreFaults indices f.faults → FailsBy indices (e >>= (λ v. es >>= (λ l. Ok (v ∷ l)))) → IsFound f k ((e >>= (λ v. es >>= (λ l. Ok (v ∷ l)))) >>= (λ l. value_or_undefined (value_at h (at_key name l))))
-at_indices f facts indices k h name (Err x) es stands value more fails = more x fails
-at_indices f facts indices k h name (Ok v) (Err x) stands value more fails = more x fails
-at_indices f facts indices k h name (Ok v) (Ok l) stands value more fails = looked_up f facts indices k h name v l stands value
+at_indices : (f : PossibleResult) (value : AbstractValue) (indices : Faults) (k : ℕ) (h : Bindings) (name : List ℕ) (e : Result Value Fault) (es : Result (List Value) Fault) → NameStands name value k h → ((o : Option Value) → ((v : Value) → o ≡ Some v → MayBe value.elements k v) → IsPossible f k (value_or_undefined o))
+    → AreFaults indices f.faults → FailsBy indices (e >>= (λ v. es >>= (λ l. Ok (v ∷ l)))) → IsPossible f k ((e >>= (λ v. es >>= (λ l. Ok (v ∷ l)))) >>= (λ l. value_or_undefined (value_at h (at_key name l))))
+at_indices f value indices k h name (Err x) es stands is_value more fails = more x fails
+at_indices f value indices k h name (Ok v) (Err x) stands is_value more fails = more x fails
+at_indices f value indices k h name (Ok v) (Ok l) stands is_value more fails = looked_up f value indices k h name v l stands is_value
 
-pub element_gives : (known : List Known) (name : List ℕ) (es : List Expr) (facts : NameFacts) (indices : Faults) (f : Found) → es ≢ [] → AllFailBy known (expr_list es) indices → Tells known name facts →
-    ((k : ℕ) (o : Option Value) → ((v : Value) → o ≡ Some v → MayBe facts.elements k v) → IsFound f k (value_or_undefined o)) → AreFaults indices f.faults → Gives known (Tree.variable name (expr_list es)) f
-element_gives known name [] facts indices f some fail tells value more k h each = absurd (some refl)
-element_gives known name (e ∷ es) facts indices f some fail tells value more k h each = at_indices f facts indices k h name (val (expr_tree e) h) (vals (expr_list es) h) (tells k h each) (value k) more (fail k h each)
+pub element_gives : (entries : List NamedValue) (name : List ℕ) (es : List Expr) (value : AbstractValue) (indices : Faults) (f : PossibleResult) → es ≢ [] → AllFailBy entries (expr_list es) indices → Tells entries name value →
+    ((k : ℕ) (o : Option Value) → ((v : Value) → o ≡ Some v → MayBe value.elements k v) → IsPossible f k (value_or_undefined o)) → AreFaults indices f.faults → Gives entries (Tree.variable name (expr_list es)) f
+element_gives entries name [] value indices f some fail tells is_value more k h each = absurd (some refl)
+element_gives entries name (e ∷ es) value indices f some fail tells is_value more k h each = at_indices f value indices k h name (val (expr_tree e) h) (vals (expr_list es) h) (tells k h each) (is_value k) more (fail k h each)
 
-pub element_found : (known : List Known) (e : Expr) (name : List ℕ) (es : List Expr) (indices : Faults) (found : Option Found) → expr_tree e ≡ Tree.variable name (expr_list es) → es ≢ [] → AllFailBy known (expr_list es) indices
-    → IfSome found (λ f. (all : List Expr) → all ≢ [] → AllFailBy known (expr_list all) indices → Gives known (Tree.variable name (expr_list all)) f) → IfSome found (λ f. Gives known (expr_tree e) f)
-element_found known e name es indices None is some fail gives = tt
-element_found known e name es indices (Some f) is some fail gives = subst (λ t. Gives known t f) (sym is) (gives es some fail)
+pub element_found : (entries : List NamedValue) (e : Expr) (name : List ℕ) (es : List Expr) (indices : Faults) (found : Option PossibleResult) → expr_tree e ≡ Tree.variable name (expr_list es) → es ≢ [] → AllFailBy entries (expr_list es) indices
+    → IfSome found (λ f. (all : List Expr) → all ≢ [] → AllFailBy entries (expr_list all) indices → Gives entries (Tree.variable name (expr_list all)) f) → IfSome found (λ f. Gives entries (expr_tree e) f)
+element_found entries e name es indices None is some fail gives = tt
+element_found entries e name es indices (Some f) is some fail gives = subst (λ t. Gives entries t f) (sym is) (gives es some fail)
 
 -- an element that has a value or none
-pub element_value : (f : Found) (k : ℕ) (o : Option Value) → IsAmong f.faults faults.Undefined → ((v : Value) → o ≡ Some v → MayBe f.kinds k v) → IsFound f k (value_or_undefined o)
+pub element_value : (f : PossibleResult) (k : ℕ) (o : Option Value) → IsAmong f.faults faults.Undefined → ((v : Value) → o ≡ Some v → MayBe f.values k v) → IsPossible f k (value_or_undefined o)
 element_value f k None among may = among
 element_value f k (Some v) among may = may v refl
 

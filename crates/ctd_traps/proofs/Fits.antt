@@ -1,34 +1,12 @@
 -- What acts leave, step by step.
-use Rattle.std.proofs.Common.{◌≡◌, ◌≤◌, ◌≤ℤ◌, ◌+◌, ℕ, Bool, true, false, ◌&&◌, ℤ, List, [], ◌∷◌, length, take, drop, nat_eq, nat_lt, not, int_le, length-take, Option, Some, None, Result, Ok, Err, refl, ap, subst, arith, if◌then◌else◌}
-use Rattle.std.specs.Prelude.{⊤}
-use Rattle.std.proofs.lemmas.Int.{ints}
-use Rattle.std.specs.List.{prefix_len}
-use Rattle.std.specs.Option.{ok_or}
-use Rattle.ctd_source.specs.TestData.{TestData, look, next_byte, visible, is_byte}
-use Rattle.ctd_source.specs.declared.spot.LookFault.{LookFault}
+use Rattle.ctd_traps.proofs.Common.{Bindings, BlanksOk, Bool, Effect, Err, Exact, ExpectedEof, ExpectedInt, ExpectedNewline, ExpectedSpace, FailsBy, Fault, Faults, Fits, IsAmong, LeadingZero, List}
+use Rattle.ctd_traps.proofs.Common.{LookFault, MatchTooLong, MinusZero, Mode, None, Ok, Option, OutOfRange, Reason, Result, Some, StringMismatch, TestData, WINDOW, [], ap, arith, blank_next, decide}
+use Rattle.ctd_traps.proofs.Common.{digits_of, digits_value, done, drop, end, end_in, eof, false, fault_of_look, faulty, if◌then◌else◌, in_interval, int_le, integer, ints, is_blank, is_byte, is_end}
+use Rattle.ctd_traps.proofs.Common.{is_minus, is_zero_first, judge, leading_match, length, length-take, length_at_start, lift, look, match_bytes, nat_eq, nat_lt, newline, newline_in, next_byte, not}
+use Rattle.ctd_traps.proofs.Common.{ok_or, one_byte, pass, prefix_len, prefix_len_of, proceed, refl, reject, rejected, return, see_next, shorter_match, skip_blanks, some_blanks, space, space_in, stop}
+use Rattle.ctd_traps.proofs.Common.{subst, take, true, visible, with_fault, with_sign, ℕ, ℤ, ⊤, ◌&&◌, ◌+◌, ◌∷◌, ◌≡◌, ◌≤ℤ◌, ◌≤◌}
 use Rattle.ctd_source.specs.declared.spot.LookFault.TheVariants as looks
-use Rattle.ctd_source.specs.declared.limits.TheConstants.{WINDOW}
-use Rattle.ctd_program.specs.declared.mode.Mode.{Mode}
-use Rattle.ctd_program.specs.declared.mode.Mode.TheVariants.{Exact, BlanksOk}
-use Rattle.ctd_pattern.specs.Pattern.{length_at_start}
-use Rattle.ctd_store.specs.Store.{Bindings}
-use Rattle.ctd_value.specs.Fault.{with_fault, fault_of_look}
-use Rattle.ctd_value.specs.inner.Truth.{is_end}
-use Rattle.ctd_outcome.specs.declared.reason.Reason.{Reason}
-use Rattle.ctd_outcome.specs.declared.reason.Reason.TheVariants.{ExpectedSpace, ExpectedNewline, ExpectedEof, ExpectedInt, LeadingZero, MinusZero, StringMismatch, OutOfRange}
-use Rattle.ctd_outcome.specs.declared.reason.Fault.{Fault}
-use Rattle.ctd_outcome.specs.declared.reason.Fault.TheVariants.{MatchTooLong}
-use Rattle.ctd_command.specs.State.{State, Effect, done, rejected, faulty, proceed, lift, return, reject, pass, stop, see_next}
-use Rattle.ctd_command.specs.Commands.{one_byte, eof, decide, integer, match_bytes}
-use Rattle.ctd_command.specs.Integer.{digits_value, digits_of, in_interval, is_minus, judge, prefix_len_of, with_sign, is_zero_first}
-use Rattle.ctd_command.specs.Blanks.{end, is_blank, newline, skip_blanks, some_blanks, space}
-use Rattle.ctd_command.specs.inner.Blanks.{blank_next, end_in, newline_in, space_in}
-use Rattle.ctd_command.specs.Regex.{leading_match, shorter_match}
-use Rattle.ctd_known.specs.declared.faults.Faults.{Faults}
-use Rattle.ctd_traps.specs.inner.Found.{FailsBy}
-use Rattle.ctd_known.specs.calls.Faults.{IsAmong}
-use Rattle.ctd_traps.proofs.Applying.{AreFaults}
-use Rattle.ctd_traps.specs.inner.Walk.{Fits}
+use Rattle.ctd_command.specs.State.{State}
 
 -- nothing is said of the faults of looks
 look_is_among : (f : Faults) (fault : LookFault) → IsAmong f (fault_of_look fault)
@@ -43,12 +21,6 @@ pub then_fits : {A B : Type 0} (f : Faults) (middle : A → State → Type 0) (a
 then_fits f middle after (done x t) next first second = second x t first
 then_fits f middle after (rejected reason consumed) next first second = tt
 then_fits f middle after (faulty fault consumed) next first second = first
-
--- what is left is weaker, and the faults are more
-pub weaker_fits : {A : Type 0} (f g : Faults) (P Q : A → State → Type 0) (a : Effect A) → AreFaults f g → ((x : A) (t : State) → P x t → Q x t) → Fits f P a → Fits g Q a
-weaker_fits f g P Q (done x t) more weaker fits = weaker x t fits
-weaker_fits f g P Q (rejected reason consumed) more weaker fits = tt
-weaker_fits f g P Q (faulty fault consumed) more weaker fits = more fault fits
 
 -- the variables are as they were
 abbrev pub Same : Bindings → {A : Type 0} → A → State → Type 0

@@ -1,22 +1,13 @@
 -- Lists, simple commands, choices and loops: what they lead to, over the tasks of a run.
 use Rattle.ctd_program.specs.Tree
-use Rattle.std.proofs.Common.{◌≡◌, ◌≤◌, ℕ, zero, suc, Bool, true, false, List, [], ◌∷◌, ◌++◌, refl, ap, sym, ◌∙◌, subst, arith, le_trans, le_refl, append_assoc}
-use Rattle.std.specs.Prelude.{Option, ⊤, if◌then◌else◌}
-use Rattle.ctd_token.specs.declared.text.Place.{Place}
-use Rattle.ctd_source.specs.TestData.{TestData}
-use Rattle.ctd_program.specs.Tree.{TestTree, GuardTree, VarTree, CommandTree, CommandList, Separator}
-use Rattle.ctd_check.specs.calls.Run.{place_of}
-use Rattle.ctd_outcome.specs.declared.reason.Fault.{Fault}
-use Rattle.ctd_outcome.specs.declared.outcome.Site.TheVariants.{At}
-use Rattle.ctd_command.specs.State.{State, Effect, done, rejected, faulty, Act, proceed}
-use Rattle.ctd_command.specs.Commands.{answer}
-use Rattle.ctd_check.specs.calls.Loops.{loop_of}
-use Rattle.ctd_check.specs.Loops.{Guard, guard_of, Loop, Task, start, turn, tasks, tasks_before_turn, turn_tasks, take_turn}
-use Rattle.ctd_check.specs.Run.{perform, site_of, command, simple}
-use Rattle.ctd_check.specs.calls.BigSteps.{separator_before, IsSimple, is_space, is_newline, is_eof, is_int, is_string, is_regex, is_assert, is_set, is_unset}
-use Rattle.ctd_traps.specs.calls.Traps.{IsOfValue}
-use Rattle.ctd_traps.specs.calls.Events.{at_once, by_step, Event, begins, goes_on, answers, fails, Happens, command_begins, command_goes_on, if_answers, turn_answers, task_fails, Events}
-use Rattle.ctd_traps.specs.inner.Triples.{Before, Safe, GoesOn, Leads, CommandLeads, Leaves, Splits, LoopLeads}
+use Rattle.ctd_traps.proofs.Common.{Act, At, Before, Bool, CommandLeads, CommandList, CommandTree, Effect, Event, Events, Fault, GoesOn, Guard, GuardTree, Happens, IsOfValue, IsSimple, Leads, Leaves}
+use Rattle.ctd_traps.proofs.Common.{List, LoopLeads, Option, Place, Safe, Separator, Splits, Task, TestData, TestTree, VarTree, [], answer, answers, ap, append_assoc, arith, at_once, begins, by_step}
+use Rattle.ctd_traps.proofs.Common.{command, command_begins, command_goes_on, done, fails, false, faulty, guard_of, if_answers, if◌then◌else◌, is_assert, is_eof, is_int, is_newline, is_regex, is_set}
+use Rattle.ctd_traps.proofs.Common.{is_space, is_string, is_unset, le_refl, le_trans, loop_of, perform, place_of, proceed, refl, rejected, separator_before, simple, site_of, start, subst, suc, sym}
+use Rattle.ctd_traps.proofs.Common.{take_turn, task_fails, tasks, tasks_before_turn, true, turn, turn_answers, turn_tasks, zero, ℕ, ⊤, ◌++◌, ◌∙◌, ◌∷◌, ◌≡◌, ◌≤◌}
+use Rattle.ctd_command.specs.State.{State}
+use Rattle.ctd_check.specs.Loops.{Loop}
+use Rattle.ctd_traps.specs.calls.Events.{goes_on}
 
 -- no step is left
 pub safe_without_steps : (d : TestData) (events : Events) (ts : List Task) (s : State) → Safe d events 0 ts s

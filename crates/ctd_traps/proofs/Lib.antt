@@ -1,3 +1,4 @@
+pub mod Common
 pub mod Listed
 pub mod Leading
 pub mod PostFixpoint

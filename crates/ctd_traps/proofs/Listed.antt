@@ -1,31 +1,24 @@
--- Findings that are added to others.
+-- Traps that are added to others.
 use borrow.Author.Count.{below_more}
-use Rattle.std.proofs.Common.{◌≡◌, ◌<◌, ◌+◌, ℕ, get_or, ◌++◌, true, List, [], ◌∷◌, Contains, refl, ap, sym, subst, ◌∙◌, inl, inr}
-use Rattle.std.proofs.lemmas.List.Elements.{Contains-append_left, Contains-append_right, Contains-push}
-use Rattle.ctd_token.specs.declared.text.Place.{Place}
+use Rattle.ctd_traps.proofs.Common.{AreListed, ArePart, Contains, Contains-append_left, Contains-append_right, Contains-push, Faults, IsOfKind, List, Place, PlacedFault, Trap, TrapKind, [], ap}
+use Rattle.ctd_traps.proofs.Common.{fault_of, fault_of_kind, faults_of, get_or, inl, inr, refl, subst, sym, true, ℕ, ◌++◌, ◌+◌, ◌<◌, ◌∙◌, ◌∷◌, ◌≡◌}
 use Rattle.ctd_outcome.specs.declared.reason.Fault.TheVariants as faults
-use Rattle.ctd_known.specs.declared.faults.Faults.{Faults}
-use Rattle.ctd_traps.specs.declared.finding.Finding.{Finding}
-use Rattle.ctd_known.specs.declared.faults.TrapKind.{TrapKind}
-use Rattle.ctd_traps.specs.calls.Traps.{Trap, fault_of_kind, trap_of, traps_of}
-use Rattle.ctd_traps.specs.inner.Holds.{AreListed, ArePart}
-use Rattle.ctd_known.specs.calls.Faults.{IsOfKind}
 
-traps_both : (a b : List Finding) → traps_of (a ++ b) ≡ traps_of a ++ traps_of b
+traps_both : (a b : List Trap) → faults_of (a ++ b) ≡ faults_of a ++ faults_of b
 traps_both [] b = refl
-traps_both (x ∷ a) b = ap (λ l. trap_of x ∷ l) (traps_both a b)
+traps_both (x ∷ a) b = ap (λ l. fault_of x ∷ l) (traps_both a b)
 
-pub part_left : (a b all : List Finding) → all ≡ a ++ b → ArePart (traps_of a) (traps_of all)
-part_left a b all is t has = subst (λ l. Contains l t) (sym (ap traps_of is ∙ traps_both a b)) (Contains-append_left (traps_of a) (traps_of b) t has)
+pub part_left : (a b all : List Trap) → all ≡ a ++ b → ArePart (faults_of a) (faults_of all)
+part_left a b all is t has = subst (λ l. Contains l t) (sym (ap faults_of is ∙ traps_both a b)) (Contains-append_left (faults_of a) (faults_of b) t has)
 
-pub part_right : (a b all : List Finding) → all ≡ a ++ b → ArePart (traps_of b) (traps_of all)
-part_right a b all is t has = subst (λ l. Contains l t) (sym (ap traps_of is ∙ traps_both a b)) (Contains-append_right (traps_of a) (traps_of b) t has)
+pub part_right : (a b all : List Trap) → all ≡ a ++ b → ArePart (faults_of b) (faults_of all)
+part_right a b all is t has = subst (λ l. Contains l t) (sym (ap faults_of is ∙ traps_both a b)) (Contains-append_right (faults_of a) (faults_of b) t has)
 
-pub pushed : (a all : List Finding) (f : Finding) → all ≡ a ++ f ∷ [] → Contains (traps_of all) (trap_of f)
-pushed a all f is = subst (λ l. Contains l (trap_of f)) (sym (ap traps_of is ∙ traps_both a (f ∷ []))) (Contains-push (traps_of a) (trap_of f))
+pub pushed : (a all : List Trap) (f : Trap) → all ≡ a ++ f ∷ [] → Contains (faults_of all) (fault_of f)
+pushed a all f is = subst (λ l. Contains l (fault_of f)) (sym (ap faults_of is ∙ traps_both a (f ∷ []))) (Contains-push (faults_of a) (fault_of f))
 
 -- all faults are listed
-pub all_listed : (traps : List Trap) (place : Place) (f : Faults) → (f.no_value ≡ true → Contains traps (record { place = place; fault = faults.Undefined })) → (f.no_element ≡ true → Contains traps (record { place = place; fault = faults.Undefined })) →
+pub all_listed : (traps : List PlacedFault) (place : Place) (f : Faults) → (f.no_value ≡ true → Contains traps (record { place = place; fault = faults.Undefined })) → (f.no_element ≡ true → Contains traps (record { place = place; fault = faults.Undefined })) →
     (f.wrong_type ≡ true → Contains traps (record { place = place; fault = faults.WrongType })) → (f.overflow ≡ true → Contains traps (record { place = place; fault = faults.Overflow })) →
     (f.division_by_zero ≡ true → Contains traps (record { place = place; fault = faults.DivisionByZero })) → (f.exponent ≡ true → Contains traps (record { place = place; fault = faults.Exponent })) →
     (f.count ≡ true → Contains traps (record { place = place; fault = faults.Count })) → (f.shape ≡ true → Contains traps (record { place = place; fault = faults.Shape })) → AreListed traps place f
@@ -43,7 +36,7 @@ all_listed traps place f a b c d e g h i faults.DataTooLong of_value is = absurd
 all_listed traps place f a b c d e g h i faults.Read of_value is = absurd of_value
 
 -- the faults of one more kind are listed
-pub next_listed : (kinds : List TrapKind) (i : ℕ) (d : TrapKind) (place : Place) (f : Faults) (old new : List Trap) → ArePart old new → ((k : ℕ) → k < i → IsOfKind f (get_or kinds k d) → Contains old (record { place = place; fault = fault_of_kind (get_or kinds k d) })) →
+pub next_listed : (kinds : List TrapKind) (i : ℕ) (d : TrapKind) (place : Place) (f : Faults) (old new : List PlacedFault) → ArePart old new → ((k : ℕ) → k < i → IsOfKind f (get_or kinds k d) → Contains old (record { place = place; fault = fault_of_kind (get_or kinds k d) })) →
     (IsOfKind f (get_or kinds i d) → Contains new (record { place = place; fault = fault_of_kind (get_or kinds i d) })) → (k : ℕ) → k < i + 1 → IsOfKind f (get_or kinds k d) → Contains new (record { place = place; fault = fault_of_kind (get_or kinds k d) })
 next_listed kinds i d place f old new more so_far here =
     below_more (λ k. IsOfKind f (get_or kinds k d) → Contains new (record { place = place; fault = fault_of_kind (get_or kinds k d) })) i (λ k less is. more (record { place = place; fault = fault_of_kind (get_or kinds k d) }) (so_far k less is)) here

@@ -1,15 +1,8 @@
 -- Notes that are added to others.
-use Rattle.std.proofs.Common.{◌≡◌, ◌++◌, List, [], ◌∷◌, Contains, refl, ap, sym, subst, ◌∙◌}
-use Rattle.std.proofs.lemmas.List.Elements.{Contains-append_left, Contains-append_right, Contains-push}
-use Rattle.ctd_token.specs.declared.text.Place.{Place}
-use Rattle.ctd_traps.specs.calls.Traps.{traps_of}
-use Rattle.ctd_traps.specs.calls.Events.{PlacedEvent, answers, begins, event_of, event_of_kind, events_of, fails, goes_on}
-use Rattle.ctd_traps.specs.declared.note.EventKind.{EventKind}
+use Rattle.ctd_traps.proofs.Common.{ArePart, Contains, Contains-append_left, Contains-append_right, Contains-push, EventKind, IsPart, List, Note, Noted, Place, PlacedEvent, [], answers, ap, begins}
+use Rattle.ctd_traps.proofs.Common.{event_of, event_of_kind, events_of, fails, faults_of, noted_in, refl, subst, sym, ◌++◌, ◌∙◌, ◌∷◌, ◌≡◌}
+use Rattle.ctd_traps.specs.calls.Events.{goes_on}
 use Rattle.ctd_traps.specs.declared.note.EventKind.TheVariants as kinds
-use Rattle.ctd_traps.specs.declared.note.Note.{Note}
-use Rattle.ctd_traps.specs.declared.note.Noted.{Noted}
-use Rattle.ctd_traps.specs.inner.Holds.{ArePart}
-use Rattle.ctd_traps.specs.inner.Noted.{IsPart, noted_in}
 
 pub events_both : (a b : List Note) → events_of (a ++ b) ≡ events_of a ++ events_of b
 events_both [] b = refl
@@ -29,7 +22,7 @@ pub event_pushed : (a all : List Note) (x : Note) → all ≡ a ++ x ∷ [] → 
 event_pushed a all x is = subst (λ l. Contains l (event_of x)) (sym (ap events_of is ∙ events_both a (x ∷ []))) (Contains-push (events_of a) (event_of x))
 
 -- what is noted grows with its two lists
-pub part_of : (old new : Noted) → ArePart (traps_of old.findings.items) (traps_of new.findings.items) → HaveEvents old.events.items new.events.items → IsPart old new
+pub part_of : (old new : Noted) → ArePart (faults_of old.traps.items) (faults_of new.traps.items) → HaveEvents old.events.items new.events.items → IsPart old new
 part_of old new traps events place begins is = events (record { place = place; event = begins }) is
 part_of old new traps events place goes_on is = events (record { place = place; event = goes_on }) is
 part_of old new traps events place (answers b) is = events (record { place = place; event = answers b }) is

@@ -1,27 +1,9 @@
 -- From what commands lead to, to the events of a run and its traps; and that the relation of events is the run.
-use Rattle.std.proofs.Common.{◌≡◌, ◌<◌, ◌^◌, Contains, ℕ, zero, suc, List, [], ◌∷◌, ◌++◌, refl, ap, sym, ◌∙◌, subst}
-use Rattle.std.specs.Prelude.{⊤}
-use Rattle.ctd_token.specs.declared.text.Place.{Place}
-use Rattle.ctd_source.specs.TestData.{TestData}
-use Rattle.ctd_source.specs.declared.spot.Spot.{Spot}
-use Rattle.ctd_program.specs.declared.mode.Mode.{Mode}
-use Rattle.ctd_program.specs.declared.preset.Preset.{Preset}
-use Rattle.ctd_program.specs.Tree.{CommandList}
-use Rattle.ctd_outcome.specs.declared.reason.Fault.{Fault}
-use Rattle.ctd_check.specs.calls.Run.{place_of}
-use Rattle.ctd_outcome.specs.declared.reason.Fault.TheVariants.{StepLimit}
-use Rattle.ctd_outcome.specs.declared.outcome.Site.{Site}
-use Rattle.ctd_outcome.specs.declared.outcome.Site.TheVariants.{Start, At}
-use Rattle.ctd_outcome.specs.declared.outcome.Outcome.{Outcome}
-use Rattle.ctd_outcome.specs.declared.outcome.Outcome.TheVariants.{Accepted, Stopped}
-use Rattle.ctd_command.specs.State.{State, Effect, done, rejected, faulty, proceed}
-use Rattle.ctd_command.specs.Blanks.{first_skip, end}
-use Rattle.ctd_check.specs.Loops.{Task, start, turn, finish, tasks}
-use Rattle.ctd_check.specs.Run.{RunResult, all_done, stopped, resume, run, run_from, with_steps, at_start, perform, site_of}
-use Rattle.ctd_traps.specs.calls.Traps.{IsOfValue, HasEachTrap, Trap}
-use Rattle.ctd_traps.specs.calls.Events.{Comes, at_once, by_step, Event, fails, Happens, task_fails, Events, HasEachEvent}
-use Rattle.ctd_traps.specs.calls.Laws.{ComesAsItRuns, EndsAt, IsAt, EachEndIsReached}
-use Rattle.ctd_traps.specs.inner.Triples.{Before, Safe, Leads}
+use Rattle.ctd_traps.proofs.Common.{Accepted, At, Before, Comes, ComesAsItRuns, CommandList, Contains, EachEndIsReached, Effect, EndsAt, Event, Events, Fault, Happens, HasEachEvent, HasEachTrap, IsAt}
+use Rattle.ctd_traps.proofs.Common.{IsOfValue, Leads, List, Mode, Outcome, Place, PlacedFault, Preset, RunResult, Safe, Site, Spot, Start, StepLimit, Stopped, Task, TestData, [], all_done, ap}
+use Rattle.ctd_traps.proofs.Common.{at_once, at_start, by_step, done, end, fails, faulty, finish, first_skip, perform, place_of, proceed, refl, rejected, resume, run, run_from, site_of, start}
+use Rattle.ctd_traps.proofs.Common.{stopped, subst, suc, sym, task_fails, tasks, turn, with_steps, zero, ℕ, ⊤, ◌++◌, ◌<◌, ◌^◌, ◌∙◌, ◌∷◌, ◌≡◌}
+use Rattle.ctd_command.specs.State.{State}
 use Rattle.ctd_traps.proofs.Leading.{safe_at_end}
 
 -- the end of a program: nothing happens there at a place
@@ -74,7 +56,7 @@ comes_to_fault d zero (task ∷ rest) s spot site fault consumed left of_value i
 comes_to_fault d (suc n) (task ∷ rest) s spot site fault consumed left of_value is = fault_by_case d n (comes_to_fault d n) task rest s spot site fault consumed left of_value (perform task d s) refl is
 
 -- The traps are events.
-abbrev TrapFollows : List Trap → (site : Site) → Fault → Type 0
+abbrev TrapFollows : List PlacedFault → (site : Site) → Fault → Type 0
 TrapFollows traps site fault = (place : Place) × (site ≡ At place) × Contains traps (record { place = place; fault = fault })
 
 abbrev outcome_of : RunResult → Outcome
@@ -104,17 +86,17 @@ end_fault fault consumed (rejected reason c) eq = absurd (cc)
 end_fault fault consumed (faulty f c) eq = cc
 
 -- a fault that is one of the events is listed as a trap
-abbrev pub AreTraps : Events → List Trap → Type 0
+abbrev pub AreTraps : Events → List PlacedFault → Type 0
 AreTraps events traps = (place : Place) (fault : Fault) → events place (fails fault) → Contains traps (record { place = place; fault = fault })
 
-trap_at : (d : TestData) (events : Events) (traps : List Trap) (task : Task) (t : State) (fault : Fault) (consumed : ℕ) → NoFault (end d t) → AreTraps events traps → ((place : Place) (event : Event) → Happens d task t place event → events place event) →
+trap_at : (d : TestData) (events : Events) (traps : List PlacedFault) (task : Task) (t : State) (fault : Fault) (consumed : ℕ) → NoFault (end d t) → AreTraps events traps → ((place : Place) (event : Event) → Happens d task t place event → events place event) →
     IsOfValue fault → perform task d t ≡ faulty fault consumed → TrapFollows traps (site_of task) fault
 trap_at d events traps (start c) t fault consumed no_end are all of_value is = (place_of c, refl, are (place_of c) fault (all (place_of c) (fails fault) (task_fails refl of_value is)))
 trap_at d events traps (turn loop k) t fault consumed no_end are all of_value is = (loop.place, refl, are loop.place fault (all loop.place (fails fault) (task_fails refl of_value is)))
 trap_at d events traps finish t fault consumed no_end are all of_value is = absurd (no_end fault consumed of_value (end_fault fault consumed (end d t) is))
 
 -- behind the first skip
-from_start : (d : TestData) (events : Events) (traps : List Trap) (n : ℕ) (ts : List Task) (s : State) (spot : Spot) (site : Site) (fault : Fault) (consumed left : ℕ) (a : Effect ⊤) → NoFault a → ((t : State) → NoFault (end d t)) → AreTraps events traps →
+from_start : (d : TestData) (events : Events) (traps : List PlacedFault) (n : ℕ) (ts : List Task) (s : State) (spot : Spot) (site : Site) (fault : Fault) (consumed left : ℕ) (a : Effect ⊤) → NoFault a → ((t : State) → NoFault (end d t)) → AreTraps events traps →
     ((t : State) → a ≡ done tt t → Safe d events n ts t) → IsOfValue fault → resume d Start s.offset n a (λ _ t. run d n ts t) ≡ stopped (Stopped spot site fault) consumed left → TrapFollows traps site fault
 from_start d events traps n ts s spot site fault consumed left (done tt t) no_skip no_end are safe of_value is =
     let f : ComesToFault d n ts t site fault = comes_to_fault d n ts t spot site fault consumed left of_value is in
@@ -124,7 +106,7 @@ from_start d events traps n ts s spot site fault consumed left (faulty other c) 
     let same : other ≡ fault = cc in absurd (no_skip other c (subst IsOfValue (sym same) of_value) refl)
 
 -- so each trap is listed, where each event is, as looks have no faults of values
-pub traps_are_events : ((d : TestData) (s : State) → NoFault (first_skip d s)) → ((d : TestData) (s : State) → NoFault (end d s)) → (program : CommandList) (presets : List Preset) (events : Events) (traps : List Trap) → AreTraps events traps → HasEachEvent program presets events → HasEachTrap program presets traps
+pub traps_are_events : ((d : TestData) (s : State) → NoFault (first_skip d s)) → ((d : TestData) (s : State) → NoFault (end d s)) → (program : CommandList) (presets : List Preset) (events : Events) (traps : List PlacedFault) → AreTraps events traps → HasEachEvent program presets events → HasEachTrap program presets traps
 traps_are_events no_skip no_end program presets events traps are each mode d steps spot site fault less of_value is =
     let s : State = at_start mode presets in
     let ts : List Task = tasks program ++ finish ∷ [] in

@@ -1,18 +1,8 @@
 -- What stands in loops and IF, by what their boxes hold.
-use Rattle.std.proofs.Common.{◌≡◌, List, ◌++◌, sym, ap, ap₂, ◌∙◌}
-use Rattle.std.specs.Global.{Box}
-use Rattle.ctd_token.specs.declared.text.Place.{Place}
-use Rattle.ctd_program.specs.declared.tree.Command.{Command}
-use Rattle.ctd_program.specs.declared.tree.Commands.{Commands}
-use Rattle.ctd_program.specs.declared.tree.Action.{Action}
-use Rattle.ctd_program.specs.declared.tree.Action.TheVariants.{If}
+use Rattle.ctd_traps.proofs.Common.{Action, Box, Choice, Command, Commands, If, List, Place, action_tree, all_commands, ap, ap₂, boxed_separator, choice_tree, command_list, command_trees, commands_of}
+use Rattle.ctd_traps.proofs.Common.{commands_within, list_commands, loop_tree, out-Choice, out-Loop, separator_commands, sym, ◌++◌, ◌∙◌, ◌≡◌}
 use Rattle.ctd_program.specs.declared.tree.Action.TheVariants as actions
-use Rattle.ctd_program.specs.declared.tree.Loop.{Loop, out-Loop}
-use Rattle.ctd_program.specs.declared.tree.Choice.{Choice, out-Choice}
-use Rattle.ctd_program.specs.calls.View.{action_tree, command_list, command_trees, commands_of}
-use Rattle.ctd_program.specs.inner.View.{boxed_separator}
-use Rattle.ctd_program.proofs.Trees.{list_commands, loop_tree, choice_tree}
-use Rattle.ctd_traps.specs.calls.Commands.{all_commands, commands_within, separator_commands}
+use Rattle.ctd_program.specs.declared.tree.Loop.{Loop}
 
 -- the commands of a block
 block_commands : (block : Commands) (cs : List Command) → cs ≡ commands_of block → all_commands (command_trees cs) ≡ all_commands (command_list block)

@@ -1,33 +1,10 @@
 -- From what commands lead to, to the theorems.
-use Rattle.std.proofs.Common.{◌≡◌, ◌<◌, ◌^◌, ◌+◌, ℕ, List, Option, Some, None, Result, Ok, Err, Bool, true, false, refl, ap, sym, subst, if◌then◌else◌}
-use Rattle.std.specs.Prelude.{⊤}
-use Rattle.std.specs.List.{prefix_len}
-use Rattle.std.specs.Option.{option_or}
-use Rattle.ctd_source.specs.TestData.{TestData, next_byte, visible}
-use Rattle.ctd_source.specs.declared.spot.LookFault.{LookFault}
+use Rattle.ctd_traps.proofs.Common.{Bindings, BlanksOk, Bool, CommandList, Effect, Err, Events, Exact, ExpectedEof, HasEachEvent, HasEachTrap, Holds, IsOfValue, IsWithinPartition, Leads, List}
+use Rattle.ctd_traps.proofs.Common.{LookFault, Mode, NamedValue, None, Ok, OneStands, Option, PinsStand, PlacedFault, Preset, Result, Some, TestData, Value, ap, at_key, at_start, done, each_same, end}
+use Rattle.ctd_traps.proofs.Common.{end_in, eof, false, fault_of_look, faulty, first_skip, if◌then◌else◌, initial, is_blank, is_end, lift, next_byte, option_or, pins_alone, pins_of, prefix_len}
+use Rattle.ctd_traps.proofs.Common.{proceed, refl, reject, rejected, return, see_next, skip_blanks, start_in, subst, sym, true, value_at, value_under, visible, with_fault, ℕ, ⊤, ◌+◌, ◌<◌, ◌^◌, ◌≡◌}
 use Rattle.ctd_source.specs.declared.spot.LookFault.TheVariants as looks
-use Rattle.ctd_program.specs.declared.mode.Mode.{Mode}
-use Rattle.ctd_program.specs.declared.mode.Mode.TheVariants.{Exact, BlanksOk}
-use Rattle.ctd_program.specs.Tree.{CommandList}
-use Rattle.ctd_store.specs.declared.value.Value.{Value}
-use Rattle.ctd_store.specs.Store.{Bindings, initial, value_at, value_under}
-use Rattle.ctd_store.specs.inner.Store.{pins_of}
-use Rattle.ctd_value.specs.Fault.{with_fault, fault_of_look}
-use Rattle.ctd_value.specs.inner.Truth.{is_end}
-use Rattle.ctd_outcome.specs.declared.reason.Reason.TheVariants.{ExpectedEof}
-use Rattle.ctd_command.specs.State.{State, Effect, done, rejected, faulty, proceed, lift, see_next, return, reject}
-use Rattle.ctd_command.specs.Commands.{eof}
-use Rattle.ctd_command.specs.Blanks.{is_blank, end, first_skip, skip_blanks}
-use Rattle.ctd_command.specs.inner.Blanks.{start_in, end_in}
-use Rattle.ctd_check.specs.Run.{at_start}
-use Rattle.ctd_traps.specs.calls.Traps.{HasEachTrap, IsOfValue, Trap}
-use Rattle.ctd_program.specs.declared.preset.Preset.{Preset}
-use Rattle.ctd_known.proofs.Standing.{each_same}
-use Rattle.ctd_known.specs.calls.Facts.{Known, PinsStand, at_key, pins_alone}
-use Rattle.ctd_known.specs.calls.Cases.{OneStands, TellsCase}
-use Rattle.ctd_traps.specs.inner.Holds.{Holds}
-use Rattle.ctd_traps.specs.inner.Triples.{Leads}
-use Rattle.ctd_traps.specs.calls.Events.{Events, HasEachEvent}
+use Rattle.ctd_command.specs.State.{State}
 use Rattle.ctd_traps.proofs.Reaching.{AreTraps, NoFault, events_follow, traps_are_events}
 
 -- an effect with no fault of a value
@@ -97,8 +74,8 @@ at_first presets name is = or_nothing (value_under (at_key name is) (pins_of pre
 no_fault : {A : Type 0} (a : Effect A) → OnlyLooks a → NoFault a
 no_fault a looks fault consumed of_value is = subst OnlyLooks is looks of_value
 
--- before the first command a run is in the first of the cases
-first_holds : (presets : List Preset) (pinned : List Known) (first : List (List Known)) → PinsStand pinned (pins_of presets) → TellsCase pinned first →
+-- before the first command a run is in the first of the states
+first_holds : (presets : List Preset) (pinned : List NamedValue) (first : List (List NamedValue)) → PinsStand pinned (pins_of presets) → IsWithinPartition pinned first →
     (mode : Mode) (d : TestData) (n : ℕ) (s : State) → n < 2 ^ 64 → first_skip d (at_start mode presets) ≡ done tt s → Holds (pins_of presets) first n s
 first_holds presets pinned first stand tells mode d n s less skipped =
     let same : s.store ≡ initial presets = subst (Keeps_store (initial presets)) skipped (start_same mode d (at_start mode presets)) in
@@ -109,12 +86,12 @@ first_holds presets pinned first stand tells mode d n s less skipped =
     }
 
 -- all that happens is noted
-pub events_noted : (program : CommandList) (presets : List Preset) (events : Events) (pinned : List Known) (first last : List (List Known)) → PinsStand pinned (pins_of presets) → TellsCase pinned first →
+pub events_noted : (program : CommandList) (presets : List Preset) (events : Events) (pinned : List NamedValue) (first last : List (List NamedValue)) → PinsStand pinned (pins_of presets) → IsWithinPartition pinned first →
     ((d : TestData) → Leads d events (Holds (pins_of presets) first) program (Holds (pins_of presets) last)) → HasEachEvent program presets events
 events_noted program presets events pinned first last stand tells leads =
     events_follow program presets events (Holds (pins_of presets) first) (Holds (pins_of presets) last) (first_holds presets pinned first stand tells) leads
 
 -- and so is each trap
-pub traps_noted : (program : CommandList) (presets : List Preset) (events : Events) (traps : List Trap) → AreTraps events traps → HasEachEvent program presets events → HasEachTrap program presets traps
+pub traps_noted : (program : CommandList) (presets : List Preset) (events : Events) (traps : List PlacedFault) → AreTraps events traps → HasEachEvent program presets events → HasEachTrap program presets traps
 traps_noted program presets events traps are each =
     traps_are_events (λ d s. no_fault (first_skip d s) (start_looks s.mode d s)) (λ d s. no_fault (end d s) (end_looks s.mode d s)) program presets events traps are each

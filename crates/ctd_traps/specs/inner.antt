@@ -1,5 +1,5 @@
 -- What only the proofs of this crate use.
-pub mod Found
+pub mod PossibleResults
 pub mod Operators
 pub mod Compared
 pub mod Divides

@@ -4,66 +4,67 @@ ghost use Rattle.std.specs.Prelude.{IfOk, OnOk, map};
 ghost use Rattle.ctd_program.specs.calls.View.{assignment, target, var_tree};
 ghost use Rattle.ctd_command.specs.Commands.{set};
 ghost use Rattle.ctd_traps.specs.inner.Walk.{Acts, Assigns, ClearsAll, KeepsValue};
-ghost use Rattle.ctd_known.specs.calls.Facts.{pins_in, facts_in};
+ghost use Rattle.ctd_states.specs.calls.States.{pins_in, entries_in};
 
 use crate::cut::expect_value;
-use crate::expression::{examine_indices, inspect};
-use ctd_known::{
-    Faults, Ground, Kinds, NameFacts, Stop, assign_alone, assign_element, both, clear, no_faults,
-};
+use crate::expression::{index_faults, possible_result};
 use ctd_program::{Assignment, Var};
+use ctd_states::{
+    AbstractValue, Context, Faults, PossibleValues, Stop, assign_alone, assign_element, clear,
+    no_faults, union,
+};
 use ctd_token::Name;
 
 /// Gives a variable one of some values, of which there may be none, and gives the faults of its indices.
 fn assign_some(
-    ground: Ground<'_>,
+    context: Context,
     variable: &Var,
-    kinds: Kinds,
-    known: &mut [NameFacts],
+    possible: PossibleValues,
+    entries: &mut [AbstractValue],
 ) -> Result<Faults, Stop>
-    ensures { IfOk result (λ faults. Assigns (pins_in ground.entry) (facts_in ground.entry known.old) (var_tree variable.now) kinds (facts_in ground.entry known.new) faults) }
+    ensures { IfOk result (λ faults. Assigns (pins_in context.entry) (entries_in context.entry entries.old) (var_tree variable.now) possible (entries_in context.entry entries.new) faults) }
 {
     let name = variable.name.as_slice();
     let indices = variable.indices.as_slice();
     if indices.is_empty() {
-        assign_alone(ground, name, kinds, known)?;
+        assign_alone(context, name, possible, entries)?;
         return Ok(no_faults());
     }
-    match examine_indices(indices, ground.names, known) {
+    match index_faults(indices, context.names, entries) {
         Some(faults) => {
-            assign_element(ground, name, kinds, known)?;
+            assign_element(context, name, possible, entries)?;
             Ok(faults)
         }
-        None => Err(Stop::NotTold),
+        None => Err(Stop::GaveUp),
     }
 }
 
 /// Gives a variable one of some values, and gives the faults of its indices.
 pub(crate) fn assign(
-    ground: Ground<'_>,
+    context: Context,
     variable: &Var,
-    kinds: Kinds,
-    known: &mut [NameFacts],
+    possible: PossibleValues,
+    entries: &mut [AbstractValue],
 ) -> Result<Faults, Stop>
-    ensures { IfOk result (λ faults. Assigns (pins_in ground.entry) (facts_in ground.entry known.old) (var_tree variable.now) kinds (facts_in ground.entry known.new) faults) }
+    ensures { IfOk result (λ faults. Assigns (pins_in context.entry) (entries_in context.entry entries.old) (var_tree variable.now) possible (entries_in context.entry entries.new) faults) }
 {
-    expect_value(kinds, known);
-    assign_some(ground, variable, kinds, known)
+    expect_value(possible, entries);
+    assign_some(context, variable, possible, entries)
 }
 
 /// Gives a target, if there is one, one of some values.
 pub(crate) fn keep(
-    ground: Ground<'_>,
+    context: Context,
     variable: &Option<Var>,
-    kinds: Kinds,
-    known: &mut [NameFacts],
+    possible: PossibleValues,
+    entries: &mut [AbstractValue],
 ) -> Result<Faults, Stop>
-    ensures { IfOk result (λ faults. KeepsValue (pins_in ground.entry) (facts_in ground.entry known.old) (target variable.now) kinds (facts_in ground.entry known.new) faults) }
+    ensures { IfOk result (λ faults. KeepsValue (pins_in context.entry) (entries_in context.entry entries.old) (target variable.now) possible (entries_in context.entry entries.new) faults) }
 {
     match variable {
-        Some(variable) => assign(ground, variable, kinds, known),
+        Some(variable) => assign(context, variable, possible, entries),
         None => {
-            expect_value(kinds, known);
+            expect_value(possible, entries);
             Ok(no_faults())
         }
     }
@@ -71,31 +72,31 @@ pub(crate) fn keep(
 
 /// Does what SET does.
 pub(crate) fn set_all(
-    ground: Ground<'_>,
+    context: Context,
     assignments: &[Assignment],
-    known: &mut [NameFacts],
+    entries: &mut [AbstractValue],
 ) -> Result<Faults, Stop>
-    ensures { IfOk result (λ faults. Acts (pins_in ground.entry) (facts_in ground.entry known.old) (facts_in ground.entry known.new) faults (set (map assignment assignments.now))) }
+    ensures { IfOk result (λ faults. Acts (pins_in context.entry) (entries_in context.entry entries.old) (entries_in context.entry entries.new) faults (set (map assignment assignments.now))) }
 {
     let mut faults = no_faults();
     for a in assignments {
-        let value = inspect(&a.value, ground.names, known)?;
-        let own = assign(ground, &a.target, value.kinds, known)?;
-        faults = both(both(faults, value.faults), own);
+        let value = possible_result(&a.value, context.names, entries)?;
+        let own = assign(context, &a.target, value.values, entries)?;
+        faults = union(union(faults, value.faults), own);
     }
     Ok(faults)
 }
 
 /// Does what UNSET does, which has no faults.
 pub(crate) fn clear_all(
-    ground: Ground<'_>,
+    context: Context,
     names: &[Name],
-    known: &mut [NameFacts],
+    entries: &mut [AbstractValue],
 ) -> Result<Faults, Stop>
-    ensures { OnOk result (ClearsAll (pins_in ground.entry) (facts_in ground.entry known.old) names.now (facts_in ground.entry known.new)) }
+    ensures { OnOk result (ClearsAll (pins_in context.entry) (entries_in context.entry entries.old) names.now (entries_in context.entry entries.new)) }
 {
     for name in names {
-        clear(ground, name.as_slice(), known)?;
+        clear(context, name.as_slice(), entries)?;
     }
     Ok(no_faults())
 }

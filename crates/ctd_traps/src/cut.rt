@@ -1,4 +1,4 @@
-//! What is known where two expressions compare so.
+//! The state where two expressions compare so.
 
 ghost use Rattle.std.specs.Prelude.{◌≡◌, true, ℕ, ℤ, Some, IfOk, OnOk};
 ghost use Rattle.ctd_program.specs.calls.View.{expr_tree};
@@ -6,15 +6,17 @@ ghost use Rattle.ctd_program.specs.declared.tree.Compare.{Compare};
 ghost use Rattle.ctd_store.specs.declared.value.Value.{Value};
 ghost use Rattle.ctd_range.specs.declared.range.Range.{Range};
 ghost use Rattle.ctd_range.specs.calls.Ranges.{IsIn, Relates};
-ghost use Rattle.ctd_known.specs.calls.Facts.{MayBe, facts_in};
+ghost use Rattle.ctd_states.specs.calls.States.{MayBe, entries_in};
 ghost use Rattle.ctd_traps.specs.inner.Compared.{Cuts, CutsBoth, MayCompare};
 
-use ctd_known::{Ground, Kinds, Lengths, NameFacts, Stop, copy_of, listed, replace_facts};
 use ctd_program::{Compare, Expr};
 use ctd_range::{Range, is_empty, restrict};
+use ctd_states::{
+    AbstractValue, Context, Lengths, PossibleValues, Stop, copy_of, listed, replace_value,
+};
 
 /// The same comparison of the second with the first.
-fn turned(by: Compare) -> Compare
+fn swapped(by: Compare) -> Compare
     ensures { (v w : Value) → MayCompare by v w → MayCompare result w v }
 {
     match by {
@@ -27,28 +29,28 @@ fn turned(by: Compare) -> Compare
     }
 }
 
-/// Whether there is no value of these kinds.
-fn has_no_value(kinds: Kinds) -> bool
-    ensures { result ≡ true → (k : ℕ) (v : Value) → MayBe kinds k v → ⊥ }
+/// Whether no value is possible.
+fn has_no_value(possible: PossibleValues) -> bool
+    ensures { result ≡ true → (k : ℕ) (v : Value) → MayBe possible k v → ⊥ }
 {
-    if kinds.text.is_some() {
+    if possible.text.is_some() {
         return false;
     }
-    match kinds.number {
+    match possible.number {
         Some(range) => is_empty(range),
         None => true,
     }
 }
 
-/// Makes what is known that of no run: the entry behind the last name, which no variable has, neither has a value nor lacks one. No contract
-/// speaks of it, since all is so where no run comes.
-pub(crate) fn leave_out(known: &mut [NameFacts]) {
-    let none = Kinds {
+/// Makes a state unreachable: the entry behind the last name, which no variable has, neither has a value nor lacks one. No contract speaks of it,
+/// since all is so where no run comes.
+pub(crate) fn make_unreachable(entries: &mut [AbstractValue]) {
+    let none = PossibleValues {
         text: None,
         number: None,
     };
-    if let Some(entry) = known.last_mut() {
-        *entry = NameFacts {
+    if let Some(entry) = entries.last_mut() {
+        *entry = AbstractValue {
             may_lack: false,
             alone: none,
             elements: none,
@@ -56,16 +58,16 @@ pub(crate) fn leave_out(known: &mut [NameFacts]) {
     }
 }
 
-/// Expects a value of these kinds: where there is none, no run comes.
-pub(crate) fn expect_value(kinds: Kinds, known: &mut [NameFacts])
-    ensures { (k : ℕ) (v : Value) → MayBe kinds k v → known.new ≡ known.old }
+/// Expects one of some values: where none is possible, the state is unreachable.
+pub(crate) fn expect_value(possible: PossibleValues, entries: &mut [AbstractValue])
+    ensures { (k : ℕ) (v : Value) → MayBe possible k v → entries.new ≡ entries.old }
 {
-    if has_no_value(kinds) {
-        leave_out(known);
+    if has_no_value(possible) {
+        make_unreachable(entries);
     }
 }
 
-/// The numbers of one kind that may compare so with one of another, if there are any.
+/// The numbers of a range that may compare so with one of another, if there are any.
 fn cut_numbers(by: Compare, a: Option<Range>, b: Option<Range>) -> Option<Range>
     ensures { (k : ℕ) (x y : ℤ) (r s : Range) → a ≡ Some r → b ≡ Some s → IsIn r k x → IsIn s k y → Relates by x y → (t : Range) × (result ≡ Some t) × IsIn t k x }
 {
@@ -88,72 +90,72 @@ fn cut_texts(a: Option<Lengths>, b: Option<Lengths>) -> Option<Lengths>
     }
 }
 
-/// The values of one kind that may compare so with one of another.
-fn cut_kinds(by: Compare, a: Kinds, b: Kinds) -> Kinds
+/// The possible values that may compare so with one of others.
+fn cut_values(by: Compare, a: PossibleValues, b: PossibleValues) -> PossibleValues
     ensures { (k : ℕ) (v w : Value) → MayBe a k v → MayBe b k w → MayCompare by v w → MayBe result k v }
 {
-    Kinds {
+    PossibleValues {
         text: cut_texts(a.text, b.text),
         number: cut_numbers(by, a.number, b.number),
     }
 }
 
-/// Leaves what is known where an expression compares so with a value of a kind.
+/// Restricts a state to where an expression compares so with one of some values.
 fn cut(
-    ground: Ground<'_>,
-    known: &mut [NameFacts],
+    context: Context,
+    entries: &mut [AbstractValue],
     e: &Expr,
     by: Compare,
-    kinds: Kinds,
+    possible: PossibleValues,
 ) -> Result<(), Stop>
-    ensures { OnOk result (Cuts (facts_in ground.entry known.old) (expr_tree e.now) by kinds (facts_in ground.entry known.new)) }
+    ensures { OnOk result (Cuts (entries_in context.entry entries.old) (expr_tree e.now) by possible (entries_in context.entry entries.new)) }
 {
     match e {
         Expr::Name(name) => {
-            let facts = listed(ground.names, known, name.as_slice())?;
-            let narrowed = NameFacts {
+            let value = listed(context.names, entries, name.as_slice())?;
+            let narrowed = AbstractValue {
                 may_lack: false,
-                alone: cut_kinds(by, facts.alone, kinds),
-                elements: facts.elements,
+                alone: cut_values(by, value.alone, possible),
+                elements: value.elements,
             };
-            replace_facts(ground.names, known, name.as_slice(), narrowed);
+            replace_value(context.names, entries, name.as_slice(), narrowed);
             Ok(())
         }
         _ => Ok(()),
     }
 }
 
-/// What is left of what is known where two expressions compare so.
+/// A state, restricted to where two expressions compare so.
 fn cut_each(
-    ground: Ground<'_>,
-    known: Vec<NameFacts>,
+    context: Context,
+    entries: Vec<AbstractValue>,
     by: Compare,
     a: &Expr,
     b: &Expr,
-    one: Kinds,
-    other: Kinds,
-) -> Result<Vec<NameFacts>, Stop>
-    ensures { IfOk result (λ after. CutsBoth (facts_in ground.entry known.items) by (expr_tree a.now) (expr_tree b.now) one other (facts_in ground.entry after.items)) }
+    one: PossibleValues,
+    other: PossibleValues,
+) -> Result<Vec<AbstractValue>, Stop>
+    ensures { IfOk result (λ after. CutsBoth (entries_in context.entry entries.items) by (expr_tree a.now) (expr_tree b.now) one other (entries_in context.entry after.items)) }
 {
-    let mut after = known;
-    cut(ground, after.as_mut_slice(), a, by, other)?;
-    cut(ground, after.as_mut_slice(), b, turned(by), one)?;
+    let mut after = entries;
+    cut(context, after.as_mut_slice(), a, by, other)?;
+    cut(context, after.as_mut_slice(), b, swapped(by), one)?;
     Ok(after)
 }
 
-/// What is known where two expressions, which may be of these kinds, compare so.
+/// The state where two expressions, which may have these values, compare so.
 pub(crate) fn cut_both(
-    ground: Ground<'_>,
-    known: &[NameFacts],
+    context: Context,
+    entries: &[AbstractValue],
     by: Compare,
     a: &Expr,
     b: &Expr,
-    one: Kinds,
-    other: Kinds,
-) -> Result<Vec<NameFacts>, Stop>
-    ensures { IfOk result (λ after. CutsBoth (facts_in ground.entry known.now) by (expr_tree a.now) (expr_tree b.now) one other (facts_in ground.entry after.items)) }
+    one: PossibleValues,
+    other: PossibleValues,
+) -> Result<Vec<AbstractValue>, Stop>
+    ensures { IfOk result (λ after. CutsBoth (entries_in context.entry entries.now) by (expr_tree a.now) (expr_tree b.now) one other (entries_in context.entry after.items)) }
 {
-    let mut possible = copy_of(ground.alloc, known)?;
-    expect_value(cut_kinds(by, one, other), possible.as_mut_slice());
-    cut_each(ground, possible, by, a, b, one, other)
+    let mut reachable = copy_of(context.alloc, entries)?;
+    expect_value(cut_values(by, one, other), reachable.as_mut_slice());
+    cut_each(context, reachable, by, a, b, one, other)
 }

@@ -1,7 +1,6 @@
 //! Where a run of a program may stop without a verdict, and what never happens in its runs.
 #![tactic(auto)]
 
-mod act;
 mod assign;
 mod block;
 mod collector;
@@ -9,21 +8,23 @@ mod condition;
 mod cut;
 mod divide;
 mod expression;
-mod finding;
 mod mentions;
 mod names;
 mod never;
 mod note;
+mod operand;
 mod program;
 mod roles;
 mod simple;
+mod transfer;
+mod trap;
 mod turn;
 mod walk;
 
 pub use block::{CommandInBlock, all_commands};
 pub use collector::Collector;
-pub use finding::Finding;
 pub use mentions::{MentionedName, Use, all_mentions, list_mentions, mentions_of};
 pub use note::{EventKind, Note};
 pub use program::{TrapList, events_are_of_the_run, traps};
 pub use roles::{Role, has_role, is_in_role, names_in_role};
+pub use trap::Trap;

@@ -46,13 +46,9 @@ fn list_each<'p>(used_as: Use, names: &'p [Name], found: &mut Collector<Mentione
 
 /// How a name is read, where an assignment to a variable reads it or something else does.
 fn read_use(assigned: Option<&Name>, name: &Name) -> Use {
-    let Some(assigned) = assigned else {
-        return Use::Reads;
-    };
-    if assigned.as_slice() == name.as_slice() {
-        Use::ReadsForItself
-    } else {
-        Use::Reads
+    match assigned {
+        Some(assigned) if assigned.as_slice() == name.as_slice() => Use::ReadsForItself,
+        _ => Use::Reads,
     }
 }
 

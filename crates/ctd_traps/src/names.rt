@@ -1,4 +1,4 @@
-//! The names of a program. No contract speaks of them: of a name that is not listed nothing is known.
+//! The names of a program. No contract speaks of them: where one is not listed, the analysis gives up.
 
 use crate::block::{CommandInBlock, all_commands};
 use crate::mentions::{MentionedName, all_mentions};
@@ -34,18 +34,15 @@ fn each_once<'p>(
 fn count_blocks(commands: &[CommandInBlock]) -> usize {
     let mut blocks: usize = 0;
     for entry in commands {
-        match &entry.command.action {
-            Action::Space | Action::Newline | Action::Eof | Action::Int(_) => (),
-            Action::String(_) | Action::Regex(_) | Action::Assert(_) => (),
-            Action::Set(_) | Action::Unset(_) => (),
-            Action::Loop(_) | Action::If(_) => blocks = blocks.saturating_add(1),
+        if matches!(&entry.command.action, Action::Loop(_) | Action::If(_)) {
+            blocks = blocks.saturating_add(1);
         }
     }
     blocks
 }
 
 /// The names of a program and of presets, and the cost of a pass: that of a name for each command, for each place where one stands, and for each name
-/// behind each block, where cases are joined.
+/// behind each block, where states are joined.
 pub(crate) fn mentioned_in<'p>(
     alloc: Global,
     commands: &'p [Command],

@@ -79,10 +79,8 @@ fn add_absent(keys: &HashSet<Key>, note: Note, never: &mut Vec<Note>) -> Result<
 /// What may happen at a command that begins: ASSERT, IF and the turns of a loop give answers.
 fn kinds_behind(command: &Command) -> &'static [EventKind] {
     match &command.action {
-        Action::Space | Action::Newline | Action::Eof => &ACTS,
-        Action::Int(_) | Action::String(_) | Action::Regex(_) => &ACTS,
-        Action::Set(_) | Action::Unset(_) => &ACTS,
         Action::Assert(_) | Action::Loop(_) | Action::If(_) => &ASKS,
+        _ => &ACTS,
     }
 }
 

@@ -1,14 +1,14 @@
 //! What a walk notes: where a run may stop, and which other events it may have where.
 
 ghost use Rattle.std.specs.Prelude.{OnOk};
-ghost use Rattle.ctd_known.specs.declared.assign.Ground.{Ground};
-ghost use Rattle.ctd_known.specs.calls.Cases.{cases_in};
+ghost use Rattle.ctd_states.specs.declared.assign.Context.{Context};
+ghost use Rattle.ctd_states.specs.calls.Partitions.{states_in};
 ghost use Rattle.ctd_traps.specs.calls.Events.{answers, begins, event_of_kind, goes_on};
 ghost use Rattle.ctd_traps.specs.inner.Noted.{AreNoted, IsPart, NotedIn};
 ghost use Rattle.std.specs.Prelude.{true, false};
 
-use crate::finding::{Finding, report};
-use ctd_known::{Case, Faults};
+use crate::trap::{Trap, report};
+use ctd_states::{Faults, State};
 use ctd_token::Place;
 use std::alloc::{AllocError, Global};
 
@@ -35,14 +35,14 @@ pub struct Note {
 /// Where a run may stop, and which other events it may have where.
 #[derive(Drop)]
 pub(crate) struct Noted {
-    pub(crate) findings: Vec<Finding>,
+    pub(crate) traps: Vec<Trap>,
     pub(crate) events: Vec<Note>,
 }
 
 /// Nothing is noted.
 pub(crate) fn nothing_noted(alloc: Global) -> Noted {
     Noted {
-        findings: Vec::new(alloc),
+        traps: Vec::new(alloc),
         events: Vec::new(alloc),
     }
 }
@@ -52,53 +52,53 @@ pub(crate) fn note_faults(place: Place, faults: Faults, noted: &mut Noted) -> Re
     ensures more { OnOk result (IsPart noted.old noted.new) }
     ensures faults { OnOk result (AreNoted noted.new place faults) }
 {
-    report(place, faults, &mut noted.findings)?;
+    report(place, faults, &mut noted.traps)?;
     Ok(())
 }
 
-/// Notes an event at a place, unless there is no case in which a run can be.
+/// Notes an event at a place, unless it is unreachable.
 pub(crate) fn note_event(
     place: Place,
     kind: EventKind,
-    cases: &[Case],
+    states: &[State],
     noted: &mut Noted,
 ) -> Result<(), AllocError>
     ensures more { OnOk result (IsPart noted.old noted.new) }
-    ensures event { OnOk result ((g : Ground) → NotedIn noted.new place (event_of_kind kind) (cases_in g cases.now)) }
+    ensures event { OnOk result ((g : Context) → NotedIn noted.new place (event_of_kind kind) (states_in g states.now)) }
 {
-    if cases.is_empty() {
+    if states.is_empty() {
         return Ok(());
     }
     noted.events.push(Note { place, kind })?;
     Ok(())
 }
 
-/// Notes that a command begins in some cases, and that a run goes on in others.
+/// Notes that a command begins in some states, and that a run goes on in others.
 pub(crate) fn note_run(
     place: Place,
-    before: &[Case],
-    after: &[Case],
+    before: &[State],
+    after: &[State],
     noted: &mut Noted,
 ) -> Result<(), AllocError>
     ensures more { OnOk result (IsPart noted.old noted.new) }
-    ensures begun { OnOk result ((g : Ground) → NotedIn noted.new place begins (cases_in g before.now)) }
-    ensures gone { OnOk result ((g : Ground) → NotedIn noted.new place goes_on (cases_in g after.now)) }
+    ensures begun { OnOk result ((g : Context) → NotedIn noted.new place begins (states_in g before.now)) }
+    ensures gone { OnOk result ((g : Context) → NotedIn noted.new place goes_on (states_in g after.now)) }
 {
     note_event(place, EventKind::Begins, before, noted)?;
     note_event(place, EventKind::GoesOn, after, noted)?;
     Ok(())
 }
 
-/// Notes the answers of a test, or of the begin of a turn, by the cases in which it is true and in which it is false.
+/// Notes the answers of a test, or of the begin of a turn, by the states in which it is true and in which it is false.
 pub(crate) fn note_answers(
     place: Place,
-    if_true: &[Case],
-    if_false: &[Case],
+    if_true: &[State],
+    if_false: &[State],
     noted: &mut Noted,
 ) -> Result<(), AllocError>
     ensures more { OnOk result (IsPart noted.old noted.new) }
-    ensures on_true { OnOk result ((g : Ground) → NotedIn noted.new place (answers true) (cases_in g if_true.now)) }
-    ensures on_false { OnOk result ((g : Ground) → NotedIn noted.new place (answers false) (cases_in g if_false.now)) }
+    ensures on_true { OnOk result ((g : Context) → NotedIn noted.new place (answers true) (states_in g if_true.now)) }
+    ensures on_false { OnOk result ((g : Context) → NotedIn noted.new place (answers false) (states_in g if_false.now)) }
 {
     note_event(place, EventKind::IsTrue, if_true, noted)?;
     note_event(place, EventKind::IsFalse, if_false, noted)?;
@@ -110,7 +110,7 @@ pub(crate) fn note_all(more: Noted, noted: &mut Noted) -> Result<(), AllocError>
     ensures more { OnOk result (IsPart noted.old noted.new) }
     ensures all { OnOk result (IsPart more noted.new) }
 {
-    noted.findings.extend_from_slice(more.findings.as_slice())?;
+    noted.traps.extend_from_slice(more.traps.as_slice())?;
     noted.events.extend_from_slice(more.events.as_slice())?;
     Ok(())
 }

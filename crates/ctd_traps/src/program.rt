@@ -4,58 +4,59 @@ ghost use Rattle.std.specs.Prelude.{ℕ, [], IfOk, IfSome, List, OnOk};
 ghost use Rattle.ctd_program.specs.calls.View.{command_trees};
 ghost use Rattle.ctd_store.specs.Store.{Variables, value_of, with_pin};
 ghost use Rattle.ctd_store.specs.inner.Store.{pins_of};
-ghost use Rattle.ctd_traps.specs.calls.Traps.{HasEachTrap, traps_of};
+ghost use Rattle.ctd_traps.specs.calls.Traps.{HasEachTrap, faults_of};
 ghost use Rattle.ctd_traps.specs.calls.Events.{HasEachEvent, NeverHappens, events_of};
 ghost use Rattle.ctd_traps.specs.calls.Laws.{ComesAsItRuns, EachEndIsReached};
 ghost use Rattle.ctd_traps.specs.inner.Noted.{noted_in};
-ghost use Rattle.ctd_known.specs.calls.Cases.{TellsCase, cases_in};
-ghost use Rattle.ctd_known.specs.calls.Facts.{MayBe, PinsStand, pins_in, named_facts, facts_in};
+ghost use Rattle.ctd_states.specs.calls.Partitions.{IsWithinPartition, states_in};
+ghost use Rattle.ctd_states.specs.calls.States.{MayBe, PinsStand, pins_in, named_values, entries_in};
 ghost use Rattle.std.specs.Borrow.{Bor};
 
-use crate::finding::Finding;
 use crate::names::{Mentioned, mentioned_in};
 use crate::never::absent_in;
 use crate::note::{Note, Noted, nothing_noted};
+use crate::trap::Trap;
 use crate::walk::walk;
-use ctd_known::{
-    Case, Ground, Kinds, Lengths, NameFacts, Stop, assign_alone, assign_element, copy_of, with_case,
-};
 use ctd_program::{Command, Preset, PresetValue, Presets};
 use ctd_range::Range;
+use ctd_states::{
+    AbstractValue, Context, Lengths, PossibleValues, State, Stop, assign_alone, assign_element,
+    copy_of, join_state,
+};
 use std::alloc::{AllocError, Global};
 
-/// What the passes over a program may cost. A pass is made in each case, of which there are at most four.
+/// What the passes over a program may cost. A pass is made in each state, of which there are at most four.
 const BUDGET: u64 = 20_000_000;
 
 /// No values.
-const NONE: Kinds = Kinds {
+const NONE: PossibleValues = PossibleValues {
     text: None,
     number: None,
 };
 
-/// What is known where no name has a value. Behind the names there is one entry more, for a case in which no run can be.
-fn unset(alloc: Global, names: &[&[u8]]) -> Result<Vec<NameFacts>, AllocError>
-    ensures { IfOk result (λ known. (q : List (Bor (List ℕ))) → PinsStand (named_facts q known.items) []) }
+/// The state in which no name has a value. Behind the names there is one entry more, which makes a state unreachable.
+fn unset(alloc: Global, names: &[&[u8]]) -> Result<Vec<AbstractValue>, AllocError>
+    ensures { IfOk result (λ entries. (q : List (Bor (List ℕ))) → PinsStand (named_values q entries.items) []) }
 {
-    let facts = NameFacts {
+    let value = AbstractValue {
         may_lack: true,
         alone: NONE,
         elements: NONE,
     };
-    let mut known = Vec::new(alloc);
+    let mut entries = Vec::new(alloc);
     for _ in names {
-        known.push(facts)?;
+        entries.push(value)?;
     }
-    known.push(facts)?;
-    Ok(known)
+    entries.push(value)?;
+    Ok(entries)
 }
 
-/// The kinds of a literal.
-fn kinds_of(literal: &PresetValue) -> Kinds
+/// The one possible value of a literal.
+fn literal_values(literal: &PresetValue) -> PossibleValues
     ensures { (n : ℕ) → MayBe result n (value_of literal.now) }
 {
     match literal {
-        PresetValue::Int(n) => Kinds {
+        PresetValue::Int(n) => PossibleValues {
             text: None,
             number: Some(Range {
                 low: *n,
@@ -66,7 +67,7 @@ fn kinds_of(literal: &PresetValue) -> Kinds
         },
         PresetValue::Text(bytes) => {
             let length = bytes.as_slice().len() as u64;
-            Kinds {
+            PossibleValues {
                 text: Some(Lengths {
                     least: length,
                     most: length,
@@ -77,44 +78,48 @@ fn kinds_of(literal: &PresetValue) -> Kinds
     }
 }
 
-/// Pins a preset. What is known without pins is given.
-fn pin(without: Ground<'_>, preset: &Preset, known: &mut [NameFacts]) -> Result<(), Stop>
-    ensures { OnOk result (PinsStand (pins_in without.entry) [] → (pins : Variables) → PinsStand (facts_in without.entry known.old) pins → PinsStand (facts_in without.entry known.new) (with_pin pins preset.now)) }
+/// Pins a preset. The state without pins is given.
+fn pin(without: Context, preset: &Preset, entries: &mut [AbstractValue]) -> Result<(), Stop>
+    ensures { OnOk result (PinsStand (pins_in without.entry) [] → (pins : Variables) → PinsStand (entries_in without.entry entries.old) pins → PinsStand (entries_in without.entry entries.new) (with_pin pins preset.now)) }
 {
     let name = preset.name.as_slice();
-    let kinds = kinds_of(&preset.value);
+    let possible = literal_values(&preset.value);
     if preset.indices.as_slice().is_empty() {
-        assign_alone(without, name, kinds, known)
+        assign_alone(without, name, possible, entries)
     } else {
-        assign_element(without, name, kinds, known)
+        assign_element(without, name, possible, entries)
     }
 }
 
-/// What is known where all presets are pinned.
-fn pin_all(without: Ground<'_>, presets: &[Preset]) -> Result<Vec<NameFacts>, Stop>
-    ensures { IfOk result (λ known. PinsStand (pins_in without.entry) [] → PinsStand (facts_in without.entry known.items) (pins_of presets.now)) }
+/// The state in which all presets are pinned.
+fn pin_all(without: Context, presets: &[Preset]) -> Result<Vec<AbstractValue>, Stop>
+    ensures { IfOk result (λ entries. PinsStand (pins_in without.entry) [] → PinsStand (entries_in without.entry entries.items) (pins_of presets.now)) }
 {
-    let mut known = copy_of(without.alloc, without.pinned)?;
+    let mut entries = copy_of(without.alloc, without.pinned)?;
     for preset in presets {
-        pin(without, preset, known.as_mut_slice())?;
+        pin(without, preset, entries.as_mut_slice())?;
     }
-    Ok(known)
+    Ok(entries)
 }
 
-/// The traps of a program: the findings, what never happens, and the names to which the findings refer.
+/// The traps of a program, what never happens, and the names to which the traps refer.
 #[derive(Drop)]
 pub struct TrapList<'p> {
-    pub findings: Vec<Finding>,
+    pub traps: Vec<Trap>,
     pub never: Vec<Note>,
     pub names: Vec<&'p [u8]>,
 }
 
-/// What is known before the first command of a program with these names.
-fn known_before(alloc: Global, presets: &Presets, names: &[&[u8]]) -> Result<Vec<NameFacts>, Stop>
-    ensures { IfOk result (λ known. PinsStand (named_facts names.now known.items) (pins_of presets.now)) }
+/// The state before the first command of a program with these names.
+fn state_before(
+    alloc: Global,
+    presets: &Presets,
+    names: &[&[u8]],
+) -> Result<Vec<AbstractValue>, Stop>
+    ensures { IfOk result (λ entries. PinsStand (named_values names.now entries.items) (pins_of presets.now)) }
 {
     let nothing = unset(alloc, names)?;
-    let without = Ground {
+    let without = Context {
         alloc,
         names,
         pinned: nothing.as_slice(),
@@ -122,12 +127,12 @@ fn known_before(alloc: Global, presets: &Presets, names: &[&[u8]]) -> Result<Vec
     pin_all(without, presets.pins())
 }
 
-/// The one case before the first command, in which just the pins are known.
-fn first_case(ground: Ground<'_>) -> Result<Vec<Case>, Stop>
-    ensures { IfOk result (λ first. TellsCase (pins_in ground.entry) (cases_in ground.entry first.items)) }
+/// The partition before the first command: the state of the pins.
+fn first_state(context: Context) -> Result<Vec<State>, Stop>
+    ensures { IfOk result (λ first. IsWithinPartition (pins_in context.entry) (states_in context.entry first.items)) }
 {
-    let known = copy_of(ground.alloc, ground.pinned)?;
-    with_case(ground, Vec::new(ground.alloc), known)
+    let entries = copy_of(context.alloc, context.pinned)?;
+    join_state(context, Vec::new(context.alloc), entries)
 }
 
 /// Where a run of some commands with these names may stop by a fault of a value, and what else may happen where.
@@ -140,16 +145,16 @@ fn events_in(
 ) -> Result<Noted, Stop>
     ensures { IfOk result (λ noted. HasEachEvent (command_trees commands.now) presets.now (noted_in noted)) }
 {
-    let pinned = known_before(alloc, presets, names)?;
-    let ground = Ground {
+    let pinned = state_before(alloc, presets, names)?;
+    let context = Context {
         alloc,
         names,
         pinned: pinned.as_slice(),
     };
-    let first = first_case(ground)?;
+    let first = first_state(context)?;
     let mut noted = nothing_noted(alloc);
     let mut budget = passes;
-    walk(commands, ground, first, &mut noted, &mut budget)?;
+    walk(commands, context, first, &mut noted, &mut budget)?;
     Ok(noted)
 }
 
@@ -160,8 +165,8 @@ pub fn traps<'p>(
     commands: &'p [Command],
     presets: &'p Presets,
 ) -> Result<Option<TrapList<'p>>, AllocError>
-    ensures each { IfOk result (λ told. IfSome told (λ found. HasEachTrap (command_trees commands.now) presets.now (traps_of found.findings.items))) }
-    ensures never { IfOk result (λ told. IfSome told (λ found. NeverHappens (command_trees commands.now) presets.now (events_of found.never.items))) }
+    ensures each { IfOk result (λ answer. IfSome answer (λ list. HasEachTrap (command_trees commands.now) presets.now (faults_of list.traps.items))) }
+    ensures never { IfOk result (λ answer. IfSome answer (λ list. NeverHappens (command_trees commands.now) presets.now (events_of list.never.items))) }
 {
     let Mentioned { names, cost } = mentioned_in(alloc, commands, presets)?;
     let passes = BUDGET / cost.max(1);
@@ -170,16 +175,16 @@ pub fn traps<'p>(
     }
     match events_in(alloc, commands, presets, names.as_slice(), passes) {
         Ok(noted) => {
-            let Noted { findings, events } = noted;
+            let Noted { traps, events } = noted;
             let never = absent_in(alloc, commands, events.as_slice())?;
             Ok(Some(TrapList {
-                findings,
+                traps,
                 never,
                 names,
             }))
         }
         Err(Stop::Memory) => Err(AllocError),
-        Err(Stop::NotTold) => Ok(None),
+        Err(Stop::GaveUp) => Ok(None),
     }
 }
 

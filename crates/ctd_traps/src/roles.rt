@@ -45,26 +45,19 @@ pub fn has_role(role: Role, used_as: Use) -> bool {
         Use::Sets { is_element } => match role {
             Role::Mentions | Role::Sets | Role::Gives => true,
             Role::Fills => is_element,
-            Role::Reads | Role::ReadsElsewhere | Role::LooksAtAll => false,
-            Role::Forgets | Role::Needs => false,
+            _ => false,
         },
         Use::Counts { is_element } => match role {
             Role::Mentions | Role::Gives => true,
             Role::Fills => is_element,
-            Role::Reads | Role::ReadsElsewhere | Role::LooksAtAll => false,
-            Role::Forgets | Role::Needs | Role::Sets => false,
+            _ => false,
         },
     }
 }
 
 /// Whether a name has a role in one of the places where it stands.
 pub fn is_in_role(name: &Name, role: Role, mentions: &[MentionedName]) -> bool {
-    for m in mentions {
-        if has_role(role, m.used_as) && name.as_slice() == m.name.as_slice() {
-            return true;
-        }
-    }
-    false
+    mentions.iter().any(|m| has_role(role, m.used_as) && name.as_slice() == m.name.as_slice())
 }
 
 /// The names that have a role where they stand, and those of these presets, by their bytes.

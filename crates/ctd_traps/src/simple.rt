@@ -1,4 +1,4 @@
-//! What INT, STRING and REGEX do with what is known.
+//! The transfer functions of INT, STRING and REGEX.
 
 ghost use Rattle.std.specs.Prelude.{◌≤ℤ◌, ◌≤◌, ℕ, ℤ, List, length, IfOk};
 ghost use Rattle.ctd_source.specs.declared.limits.TheConstants.{WINDOW};
@@ -6,19 +6,19 @@ ghost use Rattle.ctd_program.specs.calls.View.{expr_tree, target};
 ghost use Rattle.ctd_store.specs.declared.value.Value.TheVariants as values;
 ghost use Rattle.ctd_command.specs.Commands.{int, string};
 ghost use Rattle.ctd_command.specs.Regex.{regex};
-ghost use Rattle.ctd_known.specs.calls.Facts.{MayBe, pins_in, facts_in};
+ghost use Rattle.ctd_states.specs.calls.States.{MayBe, pins_in, entries_in};
 ghost use Rattle.ctd_traps.specs.inner.Walk.{Acts};
 
 use crate::assign::keep;
 use crate::cut::expect_value;
-use crate::expression::{inspect, number_faults, text_alone, text_faults};
-use ctd_known::{Faults, Ground, Kinds, Lengths, NameFacts, Stop, both};
+use crate::expression::{number_faults, possible_result, text_alone, text_faults};
 use ctd_program::{Expr, IntArguments, RegexArguments};
 use ctd_range::Range;
 use ctd_source::WINDOW;
+use ctd_states::{AbstractValue, Context, Faults, Lengths, PossibleValues, Stop, union};
 
-/// The numbers from one of a kind to one of another.
-fn between(a: Kinds, b: Kinds) -> Kinds
+/// The numbers from a possible one to another.
+fn between(a: PossibleValues, b: PossibleValues) -> PossibleValues
     ensures { (k : ℕ) (x y z : ℤ) → MayBe a k (values.Int x) → MayBe b k (values.Int y) → x ≤ℤ z → z ≤ℤ y → MayBe result k (values.Int z) }
 {
     let number = match (a.number, b.number) {
@@ -30,47 +30,47 @@ fn between(a: Kinds, b: Kinds) -> Kinds
         }),
         _ => None,
     };
-    Kinds { text: None, number }
+    PossibleValues { text: None, number }
 }
 
 /// Does what INT does.
 pub(crate) fn take_integer(
     arguments: &IntArguments,
-    ground: Ground<'_>,
-    known: &mut [NameFacts],
+    context: Context,
+    entries: &mut [AbstractValue],
 ) -> Result<Faults, Stop>
-    ensures { IfOk result (λ faults. Acts (pins_in ground.entry) (facts_in ground.entry known.old) (facts_in ground.entry known.new) faults (int (expr_tree arguments.now.low) (expr_tree arguments.now.high) (target arguments.now.target))) }
+    ensures { IfOk result (λ faults. Acts (pins_in context.entry) (entries_in context.entry entries.old) (entries_in context.entry entries.new) faults (int (expr_tree arguments.now.low) (expr_tree arguments.now.high) (target arguments.now.target))) }
 {
-    let low = inspect(&arguments.low, ground.names, known)?;
-    let high = inspect(&arguments.high, ground.names, known)?;
+    let low = possible_result(&arguments.low, context.names, entries)?;
+    let high = possible_result(&arguments.high, context.names, entries)?;
     let kept = keep(
-        ground,
+        context,
         &arguments.target,
-        between(low.kinds, high.kinds),
-        known,
+        between(low.values, high.values),
+        entries,
     )?;
-    let bounds = both(number_faults(low), number_faults(high));
-    Ok(both(bounds, kept))
+    let bounds = union(number_faults(low), number_faults(high));
+    Ok(union(bounds, kept))
 }
 
 /// Does what STRING does, which gives no variable a value.
 pub(crate) fn take_string(
     e: &Expr,
-    ground: Ground<'_>,
-    known: &mut [NameFacts],
+    context: Context,
+    entries: &mut [AbstractValue],
 ) -> Result<Faults, Stop>
-    ensures { IfOk result (λ faults. Acts (pins_in ground.entry) (facts_in ground.entry known.old) (facts_in ground.entry known.new) faults (string (expr_tree e.now))) }
+    ensures { IfOk result (λ faults. Acts (pins_in context.entry) (entries_in context.entry entries.old) (entries_in context.entry entries.new) faults (string (expr_tree e.now))) }
 {
-    let found = inspect(e, ground.names, known)?;
-    expect_value(text_alone(found.kinds), known);
+    let found = possible_result(e, context.names, entries)?;
+    expect_value(text_alone(found.values), entries);
     Ok(text_faults(found))
 }
 
 /// The strings that a window may have.
-fn in_window() -> Kinds
+fn in_window() -> PossibleValues
     ensures { (k : ℕ) (bytes : List ℕ) → length bytes ≤ WINDOW → MayBe result k (values.Text bytes) }
 {
-    Kinds {
+    PossibleValues {
         text: Some(Lengths {
             least: 0,
             most: WINDOW as u64,
@@ -82,10 +82,10 @@ fn in_window() -> Kinds
 /// Does what REGEX does.
 pub(crate) fn take_match(
     arguments: &RegexArguments,
-    ground: Ground<'_>,
-    known: &mut [NameFacts],
+    context: Context,
+    entries: &mut [AbstractValue],
 ) -> Result<Faults, Stop>
-    ensures { IfOk result (λ faults. Acts (pins_in ground.entry) (facts_in ground.entry known.old) (facts_in ground.entry known.new) faults (regex arguments.now.literal.bytes (target arguments.now.target))) }
+    ensures { IfOk result (λ faults. Acts (pins_in context.entry) (entries_in context.entry entries.old) (entries_in context.entry entries.new) faults (regex arguments.now.literal.bytes (target arguments.now.target))) }
 {
-    keep(ground, &arguments.target, in_window(), known)
+    keep(context, &arguments.target, in_window(), entries)
 }

@@ -1,10 +1,8 @@
 -- What the start of a command ensures.
-use Rattle.std.specs.Prelude.{◌≡◌, ℕ, List, ◌++◌, Result, Ok, Err, OnOk}
+use Rattle.std.specs.Prelude.{◌≡◌, List, ◌++◌, Result, Ok, Err, OnOk}
 use Rattle.ctd_source.specs.declared.source.Source.{Ghosts}
 use Rattle.ctd_source.specs.declared.spot.Spot.{Spot}
 use Rattle.ctd_program.specs.Tree.{CommandTree}
-use Rattle.ctd_syntax.specs.calls.PatternLiterals.{command_literals}
-use Rattle.ctd_loader.specs.calls.PatternTable.{AreAmong}
 use Rattle.ctd_command.specs.declared.machine.Run.{Run}
 use Rattle.ctd_command.specs.declared.failure.CommandFailure.{CommandFailure}
 use Rattle.ctd_command.specs.calls.Performs.{Performs}
@@ -13,7 +11,6 @@ use Rattle.ctd_check.specs.declared.stack.FrameStack.{FrameStack}
 use Rattle.ctd_check.specs.declared.halt.Halt.{Halt}
 use Rattle.ctd_outcome.specs.declared.outcome.Site.{Site}
 use Rattle.ctd_check.specs.inner.Halts.{halt_of}
-use Rattle.ctd_check.specs.inner.Known.{AreKnown}
 use Rattle.ctd_check.specs.Loops.{Task}
 use Rattle.ctd_check.specs.inner.Acts.{act_of}
 use Rattle.ctd_check.specs.inner.FrameTasks.{to_do}
@@ -29,4 +26,3 @@ module _ {R : Type 0} {G : Ghosts R} where
     pub more : List Task
     pub performs : Performs old new (map_ok (λ _. more) result) (act_of c)
     pub comes_first : OnOk result (to_do to.frames.items ≡ more ++ to_do from.frames.items)
-    pub known : (patterns : List (List ℕ)) → AreAmong patterns (command_literals c) → OnOk result (AreKnown patterns more)

@@ -1,14 +1,9 @@
 -- The kinds of traps, and what --ignore names.
 use Rattle.ctd_findings.specs.declared.kind.Kind.TheVariants as findings
-use Rattle.ctd_known.specs.declared.faults.TrapKind.TheVariants as traps
+use Rattle.ctd_states.specs.declared.faults.TrapKind.TheVariants as traps
 use Rattle.ctd_lint_report.specs.declared.kind.LintKind.TheVariants as kinds
 use Rattle.std.specs.Prelude.{ℕ, Bool, true, false, List, [], ◌∷◌, codes, Option, Some, None, if◌then◌else◌}
-use Rattle.std.specs.List.{list_any}
-use Rattle.std.specs.Str.{bytes_eq}
-use Rattle.ctd_known.specs.declared.faults.TrapKind.{TrapKind}
-use Rattle.ctd_findings.specs.declared.kind.Kind.{Kind}
-use Rattle.ctd_findings.specs.calls.Kinds.{kind_named, kind_row}
-use Rattle.ctd_lint_report.specs.declared.kind.LintKind.{LintKind}
+use Rattle.ctd_lint_report.specs.Prelude.{Kind, LintKind, TrapKind, bytes_eq, kind_named, kind_row, list_any}
 
 -- all kinds of traps
 abbrev pub all_traps : List TrapKind

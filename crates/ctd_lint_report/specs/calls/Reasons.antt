@@ -1,11 +1,6 @@
 -- Why a trap is one: the variable that is to blame, and the numbers that it may be.
 use Rattle.std.specs.Prelude.{ℕ, ℤ, List, [], ◌++◌, codes, Option, Some, None, if◌then◌else◌, option_map}
-use Rattle.std.specs.Borrow.{Bor}
-use Rattle.std.specs.Fmt.{signed_decimal}
-use Rattle.std.specs.List.{slice_get}
-use Rattle.std.specs.Ordering.{int_eq}
-use Rattle.ctd_known.specs.declared.faults.Operand.{Operand}
-use Rattle.ctd_traps.specs.declared.finding.Finding.{Finding as Trap}
+use Rattle.ctd_lint_report.specs.Prelude.{Bor, Operand, Trap, int_eq, signed_decimal, slice_get}
 
 -- the name of a variable by its index, if there is one
 abbrev pub name_at : List (Bor (List ℕ)) → ℕ → Option (List ℕ)

@@ -1,36 +1,12 @@
 -- What ctd-lint writes of a program.
 use Rattle.ctd_findings.specs.declared.kind.Rank.TheVariants as ranks
 use Rattle.std.specs.Prelude.{◌≡◌, ◌⊎◌, ◌+◌, ◌≤◌, ◌++◌, ◌&&◌, ℕ, Bool, List, [], ◌∷◌, All, length, max, Option, Some, None, if◌then◌else◌}
-use Rattle.std.specs.Borrow.{Bor}
-use Rattle.std.specs.List.{list_any}
-use Rattle.ctd_source.specs.declared.source.Source.{Ghosts}
-use Rattle.ctd_source.specs.SourceReads.{GaveBytes}
-use Rattle.ctd_token.specs.declared.fault.LoadFault.{LoadFault}
-use Rattle.ctd_token.specs.declared.limits.TheConstants.{PROGRAM_LIMIT}
-use Rattle.ctd_token.specs.declared.text.Place.{Place}
-use Rattle.ctd_program.specs.Tree.{CommandList}
-use Rattle.ctd_loader.specs.Loading.{Loads, MayFail}
-use Rattle.ctd_report.specs.Report.{Report, on_err, on_out}
-use Rattle.ctd_findings.specs.declared.finding.Finding.{Finding}
-use Rattle.ctd_findings.specs.declared.kind.Rank.{Rank}
-use Rattle.ctd_findings.specs.calls.Findings.{IsPlaced, IsTrueOfRuns, places_of}
-use Rattle.ctd_findings.specs.calls.Kinds.{kind_row}
-use Rattle.ctd_lint_report.specs.declared.setup.LintSetup.{LintSetup}
-use Rattle.ctd_traps.specs.declared.finding.Finding.{Finding as Trap}
-use Rattle.ctd_traps.specs.declared.program.TrapList.{TrapList}
+use Rattle.ctd_lint_report.specs.Prelude.{BeforeAfter, Bor, CommandList, Finding, GaveBytes, Ghosts, IsPlaced, IsTrueOfRuns, LintSetup, LoadFault, Loads, MayFail, PROGRAM_LIMIT, Place, Rank, Report}
+use Rattle.ctd_lint_report.specs.Prelude.{Trap, TrapList, kind_row, list_any, on_err, on_out, places_of}
 use Rattle.ctd_lint_report.specs.calls.Kinds.{is_told_kind}
 use Rattle.ctd_lint_report.specs.calls.Reasons.{reason_of}
 use Rattle.ctd_lint_report.specs.calls.Text.{findings_lines, kept, refusal_lines}
 use Rattle.ctd_lint_report.specs.calls.Traps.{AreTraps, is_same_place, verdict_lines, verdict_status}
-
--- a source as a call begins and as it ends
-pub record Call {S : Type 0} (G : Ghosts S) : Type 0 where
-  pub old : S
-  pub new : S
-
--- a call that leaves a source so
-abbrev pub call : {S : Type 0} (G : Ghosts S) → S → S → Call G
-call G old new = record { old = old; new = new }
 
 -- what a report says besides traps and verdicts: the lines of findings, the status that these ask for, whether they tell a trap too, and the reason of each trap
 pub record Remarks : Type 0 where
@@ -45,30 +21,30 @@ Remarking = List ℕ → LintSetup → CommandList → Option TrapList → Remar
 
 -- the remarks, then the traps, and then the line that tells of verdicts, if it is asked for
 abbrev pub program_lines : List ℕ → LintSetup → Remarks → Option TrapList → List ℕ
-program_lines file setup remarks told = remarks.lines ++ verdict_lines file setup remarks.reason remarks.told told
+program_lines file setup remarks trap_list = remarks.lines ++ verdict_lines file setup remarks.reason remarks.told trap_list
 
 -- the status: that of the remarks, and where verdicts are asked for the greater of it and theirs
 abbrev pub program_status : LintSetup → Remarks → Option TrapList → ℕ
-program_status setup remarks told = if setup.verdicts then max remarks.status (verdict_status setup told) else remarks.status
+program_status setup remarks trap_list = if setup.verdicts then max remarks.status (verdict_status setup trap_list) else remarks.status
 
 -- the report on a program in a file
 abbrev pub program_report : List ℕ → LintSetup → Remarks → Option TrapList → Report
-program_report file setup remarks told = on_out (program_lines file setup remarks told) (program_status setup remarks told)
+program_report file setup remarks trap_list = on_out (program_lines file setup remarks trap_list) (program_status setup remarks trap_list)
 
 -- The source gave the text of a program, and the report is that of all the program's traps, with such remarks.
-pub record ReportsProgram {P : Type 0} {G : Ghosts P} (IsRemark : Remarking) (file : List ℕ) (setup : LintSetup) (program : Call G) (report : Report) : Type 0 where
+pub record ReportsProgram {P : Type 0} {G : Ghosts P} (IsRemark : Remarking) (file : List ℕ) (setup : LintSetup) (program : BeforeAfter P G) (report : Report) : Type 0 where
   pub tree : CommandList
   pub text : List ℕ
   pub gave_text : GaveBytes G program.old program.new text
   pub loads : Loads text (G.seen program.new) tree
-  pub told : Option TrapList
-  pub traps : AreTraps tree setup.presets told
+  pub trap_list : Option TrapList
+  pub traps : AreTraps tree setup.presets trap_list
   pub remarks : Remarks
-  pub remarked : IsRemark file setup tree told remarks
-  pub report_is : report ≡ program_report file setup remarks told
+  pub remarked : IsRemark file setup tree trap_list remarks
+  pub report_is : report ≡ program_report file setup remarks trap_list
 
 -- the source gave a text that may have this fault, and the report is that of the fault; which command is told to have no END is left open
-pub record ReportsRefusal {P : Type 0} {G : Ghosts P} (file : List ℕ) (program : Call G) (report : Report) : Type 0 where
+pub record ReportsRefusal {P : Type 0} {G : Ghosts P} (file : List ℕ) (program : BeforeAfter P G) (report : Report) : Type 0 where
   pub fault : LoadFault
   pub text : List ℕ
   pub gave_text : GaveBytes G program.old program.new text
@@ -78,7 +54,7 @@ pub record ReportsRefusal {P : Type 0} {G : Ghosts P} (file : List ℕ) (program
   pub report_is : report ≡ on_err (refusal_lines file fault unclosed)
 
 -- what is reported of the program in a file
-abbrev pub IsLintReport : {P : Type 0} {G : Ghosts P} → Remarking → List ℕ → LintSetup → Call G → Report → Type 0
+abbrev pub IsLintReport : {P : Type 0} {G : Ghosts P} → Remarking → List ℕ → LintSetup → BeforeAfter P G → Report → Type 0
 IsLintReport IsRemark file setup program report = ReportsProgram IsRemark file setup program report ⊎ ReportsRefusal file program report
 
 -- the status for a finding of a rank, where that of the others is known
@@ -106,16 +82,16 @@ names_of (Some list) = list.names.items
 
 -- the remarks of some findings, but for those that are left out
 abbrev pub remarks_of : List ℕ → LintSetup → List Finding → Option TrapList → Remarks
-remarks_of file setup found told = record {
+remarks_of file setup found trap_list = record {
   lines = findings_lines file (kept setup.ignored.items found);
   status = findings_status (kept setup.ignored.items found);
   told = is_told (kept setup.ignored.items found);
-  reason = reason_of (names_of told);
+  reason = reason_of (names_of trap_list);
 }
 
 -- the remarks are those of some findings, each of which has the place of a command, and is so in all runs if it says something of them
-pub record AreRemarks (file : List ℕ) (setup : LintSetup) (program : CommandList) (told : Option TrapList) (remarks : Remarks) : Type 0 where
+pub record AreRemarks (file : List ℕ) (setup : LintSetup) (program : CommandList) (trap_list : Option TrapList) (remarks : Remarks) : Type 0 where
   pub found : List Finding
   pub placed : All (IsPlaced (places_of program)) found
   pub meant : All (IsTrueOfRuns program setup.presets) found
-  pub remarks_are : remarks ≡ remarks_of file setup found told
+  pub remarks_are : remarks ≡ remarks_of file setup found trap_list

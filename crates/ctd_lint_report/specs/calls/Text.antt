@@ -2,13 +2,7 @@
 use Rattle.ctd_findings.specs.declared.kind.Rank.TheVariants as ranks
 use Rattle.std.specs.Prelude.{ℕ, List, [], ◌∷◌, ◌++◌, codes, Option, Some, None, if◌then◌else◌}
 use Rattle.ctd_token.specs.FaultText as faults
-use Rattle.ctd_token.specs.declared.fault.LoadFault.{LoadFault}
-use Rattle.ctd_token.specs.declared.text.Place.{Place}
-use Rattle.ctd_findings.specs.declared.finding.Finding.{Finding}
-use Rattle.ctd_findings.specs.declared.finding.Remark.{Remark}
-use Rattle.ctd_findings.specs.declared.kind.Rank.{Rank}
-use Rattle.ctd_findings.specs.calls.Kinds.{kind_row}
-use Rattle.ctd_lint_report.specs.declared.kind.LintKind.{LintKind}
+use Rattle.ctd_lint_report.specs.Prelude.{Finding, LintKind, LoadFault, Place, Rank, Remark, kind_row}
 use Rattle.ctd_lint_report.specs.calls.Kinds.{is_ignored}
 use Rattle.ctd_lint_report.specs.calls.Traps.{place_text}
 

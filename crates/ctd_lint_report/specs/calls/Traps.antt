@@ -1,21 +1,11 @@
 -- The lines of traps, and the line that tells of verdicts.
 use Rattle.std.specs.Prelude.{ℕ, Bool, true, false, not, ◌||◌, ◌&&◌, ◌+◌, List, [], ◌∷◌, ◌++◌, codes, Option, Some, None, IfSome, if◌then◌else◌, nat_eq}
-use Rattle.std.specs.Fmt.{decimal}
-use Rattle.std.specs.List.{list_any}
-use Rattle.ctd_token.specs.declared.text.Place.{Place}
-use Rattle.ctd_program.specs.Tree.{CommandList}
-use Rattle.ctd_program.specs.declared.preset.Preset.{Preset}
-use Rattle.ctd_traps.specs.declared.finding.Finding.{Finding as Trap}
-use Rattle.ctd_traps.specs.declared.program.TrapList.{TrapList}
-use Rattle.ctd_traps.specs.calls.Traps.{HasEachTrap, traps_of}
-use Rattle.ctd_lint_report.specs.declared.kind.LintKind.{LintKind}
-use Rattle.ctd_lint_report.specs.declared.setup.LintSetup.{LintSetup}
-use Rattle.ctd_known.specs.declared.faults.TrapKind.{TrapKind}
+use Rattle.ctd_lint_report.specs.Prelude.{CommandList, HasEachTrap, LintKind, LintSetup, Place, Preset, Trap, TrapKind, TrapList, decimal, faults_of, list_any}
 use Rattle.ctd_lint_report.specs.calls.Kinds.{is_element, is_ignored, is_shape, is_shown_by_default, trap_name, trap_text}
 
 -- These are all places at which a run of a program may stop by a fault of a value, if they are told.
 abbrev pub AreTraps : CommandList → List Preset → Option TrapList → Type 0
-AreTraps program presets told = IfSome told (λ list. HasEachTrap program presets (traps_of list.findings.items))
+AreTraps program presets trap_list = IfSome trap_list (λ list. HasEachTrap program presets (faults_of list.traps.items))
 
 -- whether two places are the same
 abbrev pub is_same_place : Place → Place → Bool
@@ -100,7 +90,7 @@ too_large_line file = file ++ codes ": too large to tell\n"
 abbrev pub verdict_lines : List ℕ → LintSetup → (Trap → List ℕ) → (Trap → Bool) → Option TrapList → List ℕ
 verdict_lines file setup reason told None = too_large_line file
 verdict_lines file setup reason told (Some list) =
-    traps_lines file reason (kept_traps setup told list.findings.items) ++ (if setup.verdicts then verdict_line file list.findings.items else [])
+    traps_lines file reason (kept_traps setup told list.traps.items) ++ (if setup.verdicts then verdict_line file list.traps.items else [])
 
 -- whether traps of a kind leave open whether each data file gets a verdict: not where they are of elements or arrays, and --ignore accepts them
 abbrev pub is_open : List LintKind → TrapKind → Bool
@@ -109,4 +99,4 @@ is_open ignored kind = is_shown_by_default kind || not (is_ignored ignored (trap
 -- the status that --verdicts asks for: 0 where each data file gets a verdict, be it under conditions that --ignore accepts, else 1
 abbrev pub verdict_status : LintSetup → Option TrapList → ℕ
 verdict_status setup None = 1
-verdict_status setup (Some list) = if list_any (λ t. is_open setup.ignored.items t.kind) list.findings.items then 1 else 0
+verdict_status setup (Some list) = if list_any (λ t. is_open setup.ignored.items t.kind) list.traps.items then 1 else 0

@@ -3,14 +3,15 @@ use Rattle.ctd_lint_tool.specs.declared.command_line.LintFault.TheVariants as fa
 use Rattle.std.specs.Prelude.{◌≡◌, ◌++◌, ℕ, List, None, Option, Some, codes}
 use Rattle.ctd_source.specs.declared.source.Source.{Ghosts}
 use Rattle.ctd_report.specs.Report.{Report, on_err, on_out}
+use Rattle.ctd_report.specs.Written.{before_after}
 use Rattle.ctd_lint_report.specs.declared.setup.LintSetup.{LintSetup}
 use Rattle.ctd_lint_tool.specs.declared.command_line.LintFault.{LintFault}
-use Rattle.ctd_lint_report.specs.calls.Report.{IsLintReport, Remarking, call}
+use Rattle.ctd_lint_report.specs.calls.Report.{IsLintReport, Remarking}
 use Rattle.ctd_lint_report.specs.calls.Text.{open_line}
 
 -- the program of this name was opened, the report is that of what its source gave from then on, and the source was handed back as the report left it; or it could not be opened, and the report says so
 pub data IsNamedReport {F S : Type 0} (opens : F → List ℕ → Option S → F → Type 0) (closes : F → S → F → Type 0) (G : Ghosts S) (IsRemark : Remarking) (name : List ℕ) (setup : LintSetup) (old new : F) (report : Report) : Type 0 where
-  of_program : (program after : S) (between : F) → opens old name (Some program) between → IsLintReport IsRemark name setup (call G program after) report → closes between after new → IsNamedReport opens closes G IsRemark name setup old new report
+  of_program : (program after : S) (between : F) → opens old name (Some program) between → IsLintReport IsRemark name setup (before_after G program after) report → closes between after new → IsNamedReport opens closes G IsRemark name setup old new report
   not_opened : opens old name None new → report ≡ on_err (open_line name) → IsNamedReport opens closes G IsRemark name setup old new report
 
 -- what is written for a kind that there is not

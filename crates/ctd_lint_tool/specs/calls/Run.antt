@@ -12,7 +12,9 @@ use Rattle.ctd_report.specs.declared.sink.ToWrite.{ToWrite}
 use Rattle.ctd_report.specs.Report.{Report}
 use Rattle.ctd_report.specs.Writer.{new_sink}
 use Rattle.ctd_report.specs.Written.{FailsMidway, EndsWithReport, WritesAll, before_after}
-use Rattle.ctd_process.specs.Process.{Args, Begins, Gives, words_in}
+use Rattle.ctd_process.specs.declared.host.Host as hosts
+use Rattle.ctd_process.specs.Words.{Args, words_in}
+use Rattle.ctd_process.specs.Process.{Begins}
 use Rattle.ctd_lint_tool.specs.declared.command_line.LintFault.{LintFault}
 use Rattle.ctd_lint_report.specs.declared.setup.LintSetup.{LintSetup}
 use Rattle.ctd_lint_tool.specs.declared.process.Answered.{Answered}
@@ -111,6 +113,6 @@ pub data EndsArgs {F S O E : Type 0} (m : Means F S O E) (args : Args) (first la
   no_room : EndsInFault m first last faults.Memory status → EndsArgs m args first last status
 
 -- a process asked its host for the two streams, each once, and for the words, once; then it answered these
-pub record EndsLint {F R S O E : Type 0} (h : Gives F R O E) (m : Means F S (ToWrite O) (ToWrite E)) (old new : F) (end : Answered O E) : Type 0 where
+pub record EndsLint {F R S O E : Type 0} (h : hosts.Ghosts F O E R) (m : Means F S (ToWrite O) (ToWrite E)) (old new : F) (end : Answered O E) : Type 0 where
   pub begins : Begins h old
   pub ends : EndsArgs m begins.args (stand begins.after_args (new_sink begins.out) (new_sink begins.err)) (stand new end.out end.err) end.status

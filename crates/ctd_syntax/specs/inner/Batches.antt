@@ -1,24 +1,18 @@
 -- How a program is read one token after another, and a batch of commands at a time; for the contracts of private functions alone.
-use Rattle.std.specs.Prelude.{◌≡◌, ◌+◌, ℕ, List, ◌++◌}
+use Rattle.std.specs.Prelude.{◌≡◌, List, ◌++◌}
 use Rattle.ctd_token.specs.calls.Lexing.{Uncut, IsNext}
 use Rattle.ctd_token.specs.declared.token.Token.{Token}
 use Rattle.ctd_program.specs.Tree.{CommandList}
 use Rattle.ctd_program.specs.calls.View.{command_trees}
 use Rattle.ctd_program.specs.declared.tree.Command.{Command}
 use Rattle.ctd_syntax.specs.Grammar.{IsCommands}
-use Rattle.ctd_syntax.specs.Lexeme.{Lexeme, lexeme_of, with_number, regex_count}
-
--- the part of a text that is yet to be cut, and how many words REGEX stand before it
-pub record Unread : Type 0 where
-  pub uncut : Uncut
-  pub before : ℕ
+use Rattle.ctd_syntax.specs.Lexeme.{Lexeme, lexeme_of}
 
 -- the grammar sees this of the next token, and this is left behind it
-pub record IsNextSeen (u : Unread) (seen : Lexeme) (rest : Unread) : Type 0 where
+pub record IsNextSeen (u : Uncut) (seen : Lexeme) (rest : Uncut) : Type 0 where
   pub token : Token
-  pub next : IsNext u.uncut token rest.uncut
-  pub seen_is : seen ≡ with_number u.before (lexeme_of u.uncut.text token)
-  pub counted : rest.before ≡ u.before + regex_count (lexeme_of u.uncut.text token)
+  pub next : IsNext u token rest
+  pub seen_is : seen ≡ lexeme_of u.text token
 
 -- some tokens spell these commands, and no others
 pub record SpellsOnly (tokens : List Lexeme) (tree : CommandList) : Type 0 where

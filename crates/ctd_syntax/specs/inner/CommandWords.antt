@@ -19,7 +19,7 @@ is_command_word words.Newline = true
 is_command_word words.Eof = true
 is_command_word words.Int = true
 is_command_word words.String = true
-is_command_word (words.Regex number) = true
+is_command_word words.Regex = true
 is_command_word words.Assert = true
 is_command_word words.Set = true
 is_command_word words.Unset = true
@@ -104,7 +104,7 @@ IsCommandRest words.Newline at ts u = (ts ≡ []) × (u ≡ Tree.newline at)
 IsCommandRest words.Eof at ts u = (ts ≡ []) × (u ≡ Tree.eof at)
 IsCommandRest words.Int at ts u = IsBuilt (λ x. Tree.int at x.0 x.1.0 x.1.1) (IsAfter Open (IsPair (IsBefore Comma IsExpr) (IsPair IsExpr IsTargetEnd))) ts u
 IsCommandRest words.String at ts u = IsBuilt (Tree.string at) (IsAfter Open (IsBefore Close IsExpr)) ts u
-IsCommandRest (words.Regex number) at ts u = IsBuilt (λ x. Tree.regex at (record { number = number; bytes = x.0.0; place = x.0.1 }) x.1) (IsAfter Open (IsPair IsPatternText IsTargetEnd)) ts u
+IsCommandRest words.Regex at ts u = IsBuilt (λ x. Tree.regex at (record { bytes = x.0.0; place = x.0.1 }) x.1) (IsAfter Open (IsPair IsPatternText IsTargetEnd)) ts u
 IsCommandRest words.Assert at ts u = IsBuilt (Tree.assert at) (IsAfter Open (IsBefore Close IsTest)) ts u
 IsCommandRest words.Set at ts u = IsBuilt (Tree.set at) (IsAfter Open (IsBefore Close IsAssignments)) ts u
 IsCommandRest words.Unset at ts u = IsBuilt (Tree.unset at) (IsAfter Open (IsBefore Close IsNames)) ts u

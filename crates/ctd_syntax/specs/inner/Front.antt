@@ -39,7 +39,7 @@ abbrev pub lexeme : ParserToken → Lexeme
 lexeme (parser_tokens.Keyword k place) = Lexeme.keyword k place
 lexeme (parser_tokens.Name n number) = Lexeme.name n.now
 lexeme (parser_tokens.Numeral n) = Lexeme.numeral n
-lexeme (parser_tokens.Text literal place) = Lexeme.text (string_of literal.now) place
+lexeme (parser_tokens.Text number literal place) = Lexeme.text (string_of literal.now) place
 lexeme (parser_tokens.Mark m) = Lexeme.mark m
 
 -- the grammar sees this of the tokens of a text

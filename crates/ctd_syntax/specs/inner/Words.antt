@@ -12,7 +12,7 @@ plain_word w =
     else if bytes_eq w (codes "EOF") then Some words.Eof
     else if bytes_eq w (codes "INT") then Some words.Int
     else if bytes_eq w (codes "STRING") then Some words.String
-    else if bytes_eq w (codes "REGEX") then Some (words.Regex 0)
+    else if bytes_eq w (codes "REGEX") then Some (words.Regex)
     else if bytes_eq w (codes "ASSERT") then Some words.Assert
     else if bytes_eq w (codes "SET") then Some words.Set
     else if bytes_eq w (codes "UNSET") then Some words.Unset

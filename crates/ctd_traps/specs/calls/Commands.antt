@@ -1,9 +1,7 @@
 -- The commands of a program, one after the other.
 use Rattle.ctd_program.specs.Tree
 use Rattle.std.specs.Prelude.{List, [], ◌∷◌, ◌++◌, map}
-use Rattle.ctd_program.specs.Tree.{CommandTree, CommandList, Separator}
-use Rattle.ctd_program.specs.calls.View.{command_tree}
-use Rattle.ctd_traps.specs.declared.block.CommandInBlock.{CommandInBlock}
+use Rattle.ctd_traps.specs.Prelude.{CommandInBlock, CommandList, CommandTree, Separator, command_tree}
 
 abbrev mutual
   -- all commands of a list, in the order of the text: each, and what stands in it before the next

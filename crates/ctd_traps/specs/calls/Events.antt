@@ -1,23 +1,11 @@
 -- What happens in the runs of a program, and what never does: the theorem.
 use Rattle.ctd_program.specs.Tree
 use Rattle.std.specs.Prelude.{◌≡◌, ◌<◌, ◌^◌, ℕ, suc, true, false, Bool, List, [], ◌∷◌, ◌++◌, map, Contains}
-use Rattle.ctd_source.specs.TestData.{TestData}
-use Rattle.ctd_token.specs.declared.text.Place.{Place}
-use Rattle.ctd_program.specs.declared.mode.Mode.{Mode}
-use Rattle.ctd_program.specs.declared.preset.Preset.{Preset}
-use Rattle.ctd_program.specs.Tree.{TestTree, CommandList, CommandTree}
-use Rattle.ctd_check.specs.calls.Run.{place_of}
-use Rattle.ctd_outcome.specs.declared.reason.Fault.{Fault}
-use Rattle.ctd_outcome.specs.declared.outcome.Site.TheVariants.{At}
-use Rattle.ctd_command.specs.State.{State, done, faulty}
-use Rattle.ctd_command.specs.Commands.{answer}
-use Rattle.ctd_command.specs.Blanks.{first_skip}
-use Rattle.ctd_check.specs.Loops.{Loop, Task, start, turn, finish, tasks, take_turn}
-use Rattle.ctd_check.specs.Run.{perform, site_of, at_start}
+use Rattle.ctd_traps.specs.Prelude.{At, CommandList, CommandTree, EventKind, Fault, Mode, Note, Place, Preset, State, Task, TestData, TestTree, answer, at_start, done, faulty, finish, first_skip}
+use Rattle.ctd_traps.specs.Prelude.{perform, place_of, site_of, start, take_turn, tasks, turn}
+use Rattle.ctd_check.specs.Loops.{Loop}
 use Rattle.ctd_traps.specs.calls.Traps.{IsOfValue}
-use Rattle.ctd_traps.specs.declared.note.EventKind.{EventKind}
 use Rattle.ctd_traps.specs.declared.note.EventKind.TheVariants as kinds
-use Rattle.ctd_traps.specs.declared.note.Note.{Note}
 
 -- over some data, a run comes from a state with tasks and steps left to another: at once, or by a task that is done
 pub data Comes (d : TestData) : ℕ → List Task → State → ℕ → List Task → State → Type 0 where

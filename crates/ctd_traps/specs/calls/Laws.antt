@@ -1,12 +1,6 @@
 -- The relation by which a run comes from one state to another is the run: it says neither too much nor too little.
 use Rattle.std.specs.Prelude.{◌≡◌, ℕ, List, ◌∷◌}
-use Rattle.ctd_source.specs.TestData.{TestData}
-use Rattle.ctd_command.specs.State.{State}
-use Rattle.ctd_check.specs.Loops.{Task}
-use Rattle.ctd_check.specs.Run.{run, stopped, site_of}
-use Rattle.ctd_outcome.specs.declared.outcome.Site.{Site}
-use Rattle.ctd_outcome.specs.declared.outcome.Outcome.{Outcome}
-use Rattle.ctd_outcome.specs.declared.outcome.Outcome.TheVariants.{Accepted, Rejected, Stopped}
+use Rattle.ctd_traps.specs.Prelude.{Accepted, Outcome, Rejected, Site, State, Stopped, Task, TestData, run, site_of, stopped}
 use Rattle.ctd_traps.specs.calls.Events.{Comes}
 
 -- where a run comes to, it goes on from there with the same result

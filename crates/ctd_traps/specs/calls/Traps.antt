@@ -1,20 +1,8 @@
 -- Where a run may stop for want of a value: the theorem.
 use Rattle.std.specs.Prelude.{◌≡◌, ◌<◌, ◌^◌, ℕ, List, map, Contains}
-use Rattle.ctd_token.specs.declared.text.Place.{Place}
-use Rattle.ctd_source.specs.TestData.{TestData}
-use Rattle.ctd_source.specs.declared.spot.Spot.{Spot}
-use Rattle.ctd_program.specs.declared.mode.Mode.{Mode}
-use Rattle.ctd_program.specs.declared.preset.Preset.{Preset}
-use Rattle.ctd_program.specs.Tree.{CommandList}
-use Rattle.ctd_outcome.specs.declared.reason.Fault.{Fault}
+use Rattle.ctd_traps.specs.Prelude.{At, CommandList, Fault, Mode, Place, Preset, Site, Spot, Stopped, TestData, Trap, TrapKind, meaning}
 use Rattle.ctd_outcome.specs.declared.reason.Fault.TheVariants as faults
-use Rattle.ctd_outcome.specs.declared.outcome.Site.{Site}
-use Rattle.ctd_outcome.specs.declared.outcome.Site.TheVariants.{At}
-use Rattle.ctd_outcome.specs.declared.outcome.Outcome.TheVariants.{Stopped}
-use Rattle.ctd_check.specs.Run.{meaning}
-use Rattle.ctd_known.specs.declared.faults.TrapKind.{TrapKind}
-use Rattle.ctd_known.specs.declared.faults.TrapKind.TheVariants as kinds
-use Rattle.ctd_traps.specs.declared.finding.Finding.{Finding}
+use Rattle.ctd_states.specs.declared.faults.TrapKind.TheVariants as kinds
 
 -- a fault of a value, and none of a look, of a match or of the limit of steps
 abbrev pub IsOfValue : Fault → Type 0
@@ -25,12 +13,12 @@ IsOfValue faults.Read = ⊥
 IsOfValue fault = Unit {0}
 
 -- a command, or a turn of a loop, may stop the run by this fault of a value
-pub record Trap : Type 0 where
+pub record PlacedFault : Type 0 where
   pub place : Place
   pub fault : Fault
 
 -- Whatever the data, the mode and the limit of steps: a run that stops by a fault of a value stops at a trap that is listed.
-abbrev pub HasEachTrap : CommandList → List Preset → List Trap → Type 0
+abbrev pub HasEachTrap : CommandList → List Preset → List PlacedFault → Type 0
 HasEachTrap program presets traps = (mode : Mode) (d : TestData) (steps : ℕ) (spot : Spot) (site : Site) (fault : Fault) → steps < 2 ^ 64 → IsOfValue fault →
     (meaning mode program presets d steps).outcome ≡ Stopped spot site fault →
     (place : Place) × (site ≡ At place) × Contains traps (record { place = place; fault = fault })
@@ -46,10 +34,10 @@ fault_of_kind kinds.BadExponent = faults.Exponent
 fault_of_kind kinds.BadCount = faults.Count
 fault_of_kind kinds.OtherShape = faults.Shape
 
--- the trap of a finding
-abbrev pub trap_of : Finding → Trap
-trap_of f = record { place = f.place; fault = fault_of_kind f.kind }
+-- the fault of a trap, at its place
+abbrev pub fault_of : Trap → PlacedFault
+fault_of f = record { place = f.place; fault = fault_of_kind f.kind }
 
--- the traps of some findings
-abbrev pub traps_of : List Finding → List Trap
-traps_of findings = map trap_of findings
+-- the faults of some traps, at their places
+abbrev pub faults_of : List Trap → List PlacedFault
+faults_of traps = map fault_of traps

@@ -1,11 +1,8 @@
 -- Events that are not noted.
 use Rattle.std.specs.Prelude.{◌≡◌, ℕ, true, Bool, List, Contains, nat_eq}
-use Rattle.std.specs.HashSet.{HashSet, contains}
-use Rattle.std.specs.Ordering.{on, eq_of_both}
+use Rattle.ctd_traps.specs.Prelude.{EventKind, HashSet, Note, contains, eq_of_both, on}
 use Rattle.ctd_traps.specs.calls.Events.{PlacedEvent, events_of}
-use Rattle.ctd_traps.specs.declared.note.EventKind.{EventKind}
 use Rattle.ctd_traps.specs.declared.note.EventKind.TheVariants as kinds
-use Rattle.ctd_traps.specs.declared.note.Note.{Note}
 use Rattle.ctd_traps.specs.declared.never.Key.{Key}
 
 -- the number of a kind of events

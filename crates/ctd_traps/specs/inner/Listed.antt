@@ -1,8 +1,6 @@
 -- Commands that are listed.
 use Rattle.std.specs.Prelude.{List, Option}
-use Rattle.ctd_program.specs.Tree.{CommandTree}
-use Rattle.ctd_traps.specs.declared.block.CommandInBlock.{CommandInBlock}
-use Rattle.ctd_traps.specs.declared.collector.Collector.{Collector}
+use Rattle.ctd_traps.specs.Prelude.{Collector, CommandInBlock, CommandTree}
 use Rattle.ctd_traps.specs.calls.Collector.{seen_in}
 use Rattle.ctd_traps.specs.calls.Commands.{trees_of}
 

@@ -1,26 +1,14 @@
 -- What operations give of numbers of two ranges.
 use Rattle.std.specs.Prelude.{◌≡◌, ℕ, true, Bool, List, Option, Some, ℤ, ◌+ℤ◌, ◌-ℤ◌, ◌*ℤ◌, pos, neg_ℤ, length, Result, Ok, Err}
-use Rattle.ctd_program.specs.declared.tree.Expr.{Expr}
-use Rattle.ctd_program.specs.declared.tree.Expr.TheVariants.{Numeral, Text, Name, Element', Strlen', Minus', Add', Sub', Mul', Div', Rem', Pow'}
-use Rattle.ctd_store.specs.declared.value.Value.{Value}
+use Rattle.ctd_traps.specs.Prelude.{Add', Computed, Covers, Div', Element', Expr, Fault, IsAmong, IsIn, MayBe, Minus', Mul', Name, Numeral, Operator, PossibleResult, PossibleValues, Pow', Range, Rem'}
+use Rattle.ctd_traps.specs.Prelude.{Strlen', Sub', Text, Value, in_range, number, power, quotient, remainder, text}
 use Rattle.ctd_store.specs.declared.value.Value.TheVariants as values
-use Rattle.ctd_outcome.specs.declared.reason.Fault.{Fault}
-use Rattle.ctd_value.specs.Fault.{◌>>=◌}
-use Rattle.ctd_value.specs.Arithmetic.{in_range, quotient, remainder, power}
-use Rattle.ctd_value.specs.Val.{number, text}
-use Rattle.ctd_range.specs.declared.range.Range.{Range}
-use Rattle.ctd_range.specs.declared.arithmetic.Computed.{Computed}
-use Rattle.ctd_range.specs.calls.Ranges.{IsIn, Covers}
-use Rattle.ctd_known.specs.declared.facts.Kinds.{Kinds}
-use Rattle.ctd_traps.specs.declared.expression.Found.{Found}
-use Rattle.ctd_traps.specs.declared.expression.Operator.{Operator}
 use Rattle.ctd_traps.specs.declared.expression.Operator.TheVariants as operators
-use Rattle.ctd_known.specs.calls.Facts.{MayBe}
-use Rattle.ctd_known.specs.calls.Faults.{IsAmong}
+use Rattle.ctd_value.specs.Fault.{◌>>=◌}
 
--- a number or a fault is among those that were found, where so many steps are left
-abbrev pub IsComputed : Found → ℕ → Result ℤ Fault → Type 0
-IsComputed f k (Ok z) = MayBe f.kinds k (values.Int z)
+-- a number or a fault is among the possible ones, where so many steps are left
+abbrev pub IsComputed : PossibleResult → ℕ → Result ℤ Fault → Type 0
+IsComputed f k (Ok z) = MayBe f.values k (values.Int z)
 IsComputed f k (Err fault) = IsAmong f.faults fault
 
 -- what an operator gives of two numbers
@@ -51,14 +39,14 @@ HasOperator o (Minus' p e) = Unit {0}
 abbrev pub IsWithinRanges : Operator → Range → Range → Computed → Type 0
 IsWithinRanges o a b c = (n : ℕ) (x y : ℤ) → IsIn a n x → IsIn b n y → Covers c n (operate o x y)
 
--- of two values of these kinds: either one is no number, which is a fault that is listed, or both are of the ranges that were found
-pub record AreOperands (a b : Kinds) (found : Option (Range × Range) × Bool) : Type 0 where
+-- of two of these possible values: either one is no number, which is a fault that is listed, or both are of the ranges that are given
+pub record AreOperands (a b : PossibleValues) (found : Option (Range × Range) × Bool) : Type 0 where
   pub left_text : (bytes : List ℕ) (k : ℕ) → MayBe a k (values.Text bytes) → found.1 ≡ true
   pub right_text : (bytes : List ℕ) (k : ℕ) → MayBe b k (values.Text bytes) → found.1 ≡ true
   pub numbers : (x y : ℤ) (k : ℕ) → MayBe a k (values.Int x) → MayBe b k (values.Int y) → (r : Range × Range) × (found.0 ≡ Some r) × IsIn r.0 k x × IsIn r.1 k y
 
 -- what an operation gives of numbers of these ranges
-abbrev pub Operates : Operator → Option (Range × Range) → Found → Type 0
+abbrev pub Operates : Operator → Option (Range × Range) → PossibleResult → Type 0
 Operates o numbers f = (r : Range × Range) → numbers ≡ Some r → (k : ℕ) (x y : ℤ) → IsIn r.0 k x → IsIn r.1 k y → IsComputed f k (operate o x y)
 
 -- a value that has to be a number, negated

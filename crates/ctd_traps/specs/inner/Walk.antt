@@ -1,44 +1,25 @@
 -- What a walk over commands finds out.
 use Rattle.std.specs.Prelude.{◌≡◌, ◌≤◌, ℕ, suc, pos, ◌-◌, ◌^◌, Bool, true, false, ⊤, List, fold, Option, Result, Ok, Err}
-use Rattle.ctd_source.specs.TestData.{TestData}
+use Rattle.ctd_traps.specs.Prelude.{Act, Bindings, Choice, CommandList, CommandTree, EachStands, Effect, ExprTree, Fault, Faults, Guard, GuardTree, IsAmong, IsIn, IsSimple, MayBe, NamedValue, Noted}
+use Rattle.ctd_traps.specs.Prelude.{OneStands, PartitionIsWithin, PinsStand, Place, PossibleValues, Range, Separator, Started, State, TestData, TestTree, Turns, Value, VarTree, Variables, assign}
+use Rattle.ctd_traps.specs.Prelude.{boxed_separator, boxed_target, command_list, count, count_turn, done, faulty, guard_of, guard_tree, keep, key, out-Choice, out-Loop, rejected, separator_before}
+use Rattle.ctd_traps.specs.Prelude.{take_turn, test_tree, times, unset, while_true}
 use Rattle.ctd_program.specs.Tree
-use Rattle.ctd_program.specs.Tree.{ExprTree, VarTree, TestTree, GuardTree, CommandTree, CommandList, Separator}
-use Rattle.ctd_token.specs.declared.text.Place.{Place}
-use Rattle.ctd_program.specs.declared.tree.Loop.{Loop, out-Loop}
-use Rattle.ctd_program.specs.declared.tree.Choice.{Choice, out-Choice}
-use Rattle.ctd_program.specs.calls.View.{boxed_target, command_list, guard_tree, test_tree}
-use Rattle.ctd_program.specs.inner.View.{boxed_separator}
-use Rattle.ctd_store.specs.declared.value.Value.{Value}
-use Rattle.ctd_store.specs.Store.{Key, Bindings, Variables, assign, unset}
-use Rattle.ctd_value.specs.Val.{count, key}
-use Rattle.ctd_outcome.specs.declared.reason.Fault.{Fault}
-use Rattle.ctd_command.specs.State.{State, Effect, done, rejected, faulty, Act}
-use Rattle.ctd_command.specs.Commands.{keep}
-use Rattle.ctd_check.specs.Loops.{Guard, Loop as Started, while_true, times, take_turn, guard_of}
-use Rattle.ctd_check.specs.inner.Loops.{count_turn}
-use Rattle.ctd_check.specs.calls.BigSteps.{IsSimple, separator_before}
-use Rattle.ctd_range.specs.declared.range.Range.{Range}
-use Rattle.ctd_range.specs.calls.Ranges.{IsIn}
+use Rattle.ctd_program.specs.declared.tree.Loop.{Loop}
+use Rattle.ctd_store.specs.Store.{Key}
 use Rattle.ctd_traps.specs.calls.Events.{begins, answers}
-use Rattle.ctd_traps.specs.declared.note.Noted.{Noted}
-use Rattle.ctd_known.specs.declared.faults.Faults.{Faults}
-use Rattle.ctd_known.specs.declared.facts.Kinds.{Kinds}
-use Rattle.ctd_traps.specs.declared.turn.Turns.{Turns}
-use Rattle.ctd_known.specs.calls.Cases.{OneStands, TellsCases}
-use Rattle.ctd_known.specs.calls.Facts.{Known, EachStands, MayBe, PinsStand}
 use Rattle.ctd_traps.specs.inner.Divides.{Divides}
 use Rattle.ctd_traps.specs.inner.Holds.{Holds}
 use Rattle.ctd_traps.specs.inner.Noted.{AreNoted, IsPart, NotedIn, noted_in}
-use Rattle.ctd_known.specs.calls.Faults.{IsAmong}
 use Rattle.ctd_traps.specs.inner.Triples.{Leads, CommandLeads}
 
--- what is known is so of a state with these pins
-abbrev pub Stays : Variables → List Known → ℕ → State → Type 0
-Stays pins known n s = (s.store.pins ≡ pins) × EachStands known n s.store
+-- an abstract state describes the state of a run with these pins
+abbrev pub Stays : Variables → List NamedValue → ℕ → State → Type 0
+Stays pins entries n s = (s.store.pins ≡ pins) × EachStands entries n s.store
 
--- what is known in one of the cases is so of a state with these pins
-abbrev pub StaysIn : Variables → List (List Known) → ℕ → State → Type 0
-StaysIn pins cases n s = (s.store.pins ≡ pins) × OneStands cases n s.store
+-- one of some abstract states describes the state of a run with these pins
+abbrev pub StaysIn : Variables → List (List NamedValue) → ℕ → State → Type 0
+StaysIn pins states n s = (s.store.pins ≡ pins) × OneStands states n s.store
 
 -- an effect leaves an answer and a state of which this holds, or it has a fault of these
 abbrev pub Fits : {A : Type 0} → Faults → (A → State → Type 0) → Effect A → Type 0
@@ -46,27 +27,27 @@ Fits f after (done x t) = after x t
 Fits f after (rejected reason consumed) = Unit {0}
 Fits f after (faulty fault consumed) = IsAmong f fault
 
--- a simple command keeps what is known so
-abbrev pub Acts : (pinned known after : List Known) → Faults → Act ⊤ → Type 0
-Acts pinned known after f m = (pins : Variables) (d : TestData) (n : ℕ) (s : State) → PinsStand pinned pins → Stays pins known n s → Fits f (λ _ t. Stays pins after n t) (m d s)
+-- the transfer function of a simple command is sound
+abbrev pub Acts : (pinned entries after : List NamedValue) → Faults → Act ⊤ → Type 0
+Acts pinned entries after f m = (pins : Variables) (d : TestData) (n : ℕ) (s : State) → PinsStand pinned pins → Stays pins entries n s → Fits f (λ _ t. Stays pins after n t) (m d s)
 
--- what is known once a key was given a value, or a fault of its indices
-abbrev pub IsAssigned : List Known → Faults → ℕ → Bindings → Value → Result Key Fault → Type 0
+-- the state once a key was given a value, or a fault of its indices
+abbrev pub IsAssigned : List NamedValue → Faults → ℕ → Bindings → Value → Result Key Fault → Type 0
 IsAssigned after f n h v (Ok k) = EachStands after n (assign h k v)
 IsAssigned after f n h v (Err why) = IsAmong f why
 
 -- of a variable that gets one of some values
-abbrev pub Assigns : (pinned known : List Known) → VarTree → Kinds → List Known → Faults → Type 0
-Assigns pinned known target kinds after f = (pins : Variables) (n : ℕ) (h : Bindings) (v : Value) → PinsStand pinned pins → h.pins ≡ pins → EachStands known n h → MayBe kinds n v
+abbrev pub Assigns : (pinned entries : List NamedValue) → VarTree → PossibleValues → List NamedValue → Faults → Type 0
+Assigns pinned entries target possible after f = (pins : Variables) (n : ℕ) (h : Bindings) (v : Value) → PinsStand pinned pins → h.pins ≡ pins → EachStands entries n h → MayBe possible n v
     → IsAssigned after f n h v (key target h)
 
 -- of a target, if there is one
-abbrev pub KeepsValue : (pinned known : List Known) → Option VarTree → Kinds → List Known → Faults → Type 0
-KeepsValue pinned known target kinds after f = (pins : Variables) (d : TestData) (n : ℕ) (s : State) (v : Value) → PinsStand pinned pins → Stays pins known n s → MayBe kinds n v → Fits f (λ _ t. Stays pins after n t) (keep target v d s)
+abbrev pub KeepsValue : (pinned entries : List NamedValue) → Option VarTree → PossibleValues → List NamedValue → Faults → Type 0
+KeepsValue pinned entries target possible after f = (pins : Variables) (d : TestData) (n : ℕ) (s : State) (v : Value) → PinsStand pinned pins → Stays pins entries n s → MayBe possible n v → Fits f (λ _ t. Stays pins after n t) (keep target v d s)
 
 -- of several names
-abbrev pub ClearsAll : (pinned known : List Known) → List (List ℕ) → List Known → Type 0
-ClearsAll pinned known names after = (pins : Variables) (n : ℕ) (h : Bindings) → PinsStand pinned pins → h.pins ≡ pins → EachStands known n h → EachStands after n (fold unset h names)
+abbrev pub ClearsAll : (pinned entries : List NamedValue) → List (List ℕ) → List NamedValue → Type 0
+ClearsAll pinned entries names after = (pins : Variables) (n : ℕ) (h : Bindings) → PinsStand pinned pins → h.pins ≡ pins → EachStands entries n h → EachStands after n (fold unset h names)
 
 -- a command that has no test and no others in it
 abbrev pub IsPlain : CommandTree → Type 0
@@ -89,34 +70,34 @@ pub record Does (c : CommandTree) (so : Act ⊤ → Type 0) : Type 0 where
   pub plain : IsPlain c
   pub holds : so act
 
--- a plain command keeps what is known, or stops by one of these faults
-abbrev pub ActKeeps : (pinned known after : List Known) → Faults → CommandTree → Type 0
-ActKeeps pinned known after f c = Does c (Acts pinned known after f)
+-- the transfer function of a plain command is sound, or the command stops by one of these faults
+abbrev pub ActKeeps : (pinned entries after : List NamedValue) → Faults → CommandTree → Type 0
+ActKeeps pinned entries after f c = Does c (Acts pinned entries after f)
 
--- an act leads to some cases, or stops by one of these faults
-abbrev pub ActsTo : (pinned : List Known) (after : List (List Known)) → Faults → ℕ → Bindings → Act ⊤ → Type 0
+-- an act leads to some states, or stops by one of these faults
+abbrev pub ActsTo : (pinned : List NamedValue) (after : List (List NamedValue)) → Faults → ℕ → Bindings → Act ⊤ → Type 0
 ActsTo pinned after f n h m = (pins : Variables) (d : TestData) (s : State) → s.store ≡ h → PinsStand pinned pins → h.pins ≡ pins → Fits f (λ _ t. StaysIn pins after n t) (m d s)
 
--- a plain command leads from some cases to others, or stops by one of these faults
-abbrev pub ActsKeep : (pinned : List Known) (cases after : List (List Known)) → Faults → CommandTree → Type 0
-ActsKeep pinned cases after f c = (n : ℕ) (h : Bindings) → OneStands cases n h → Does c (ActsTo pinned after f n h)
+-- a plain command leads from some states to others, or stops by one of these faults
+abbrev pub ActsKeep : (pinned : List NamedValue) (states after : List (List NamedValue)) → Faults → CommandTree → Type 0
+ActsKeep pinned states after f c = (n : ℕ) (h : Bindings) → OneStands states n h → Does c (ActsTo pinned after f n h)
 
--- commands lead from some cases to others, and all that happens in them is noted in what has all these notes
-abbrev pub WalkKeeps : (pinned : List Known) (cases after : List (List Known)) → Noted → CommandList → Type 0
-WalkKeeps pinned cases after noted cs = (pins : Variables) (d : TestData) (all : Noted) → PinsStand pinned pins → IsPart noted all → Leads d (noted_in all) (Holds pins cases) cs (Holds pins after)
+-- commands lead from some states to others, and all that happens in them is noted in what has all these notes
+abbrev pub WalkKeeps : (pinned : List NamedValue) (states after : List (List NamedValue)) → Noted → CommandList → Type 0
+WalkKeeps pinned states after noted cs = (pins : Variables) (d : TestData) (all : Noted) → PinsStand pinned pins → IsPart noted all → Leads d (noted_in all) (Holds pins states) cs (Holds pins after)
 
 -- the same of a command
-abbrev pub StepKeeps : (pinned : List Known) (cases after : List (List Known)) → Noted → CommandTree → Type 0
-StepKeeps pinned cases after noted c = (pins : Variables) (d : TestData) (all : Noted) → PinsStand pinned pins → IsPart noted all → CommandLeads d (noted_in all) (Holds pins cases) c (Holds pins after)
+abbrev pub StepKeeps : (pinned : List NamedValue) (states after : List (List NamedValue)) → Noted → CommandTree → Type 0
+StepKeeps pinned states after noted c = (pins : Variables) (d : TestData) (all : Noted) → PinsStand pinned pins → IsPart noted all → CommandLeads d (noted_in all) (Holds pins states) c (Holds pins after)
 
 -- the same of the separator of a loop
-abbrev pub SeparatorKeeps : (pinned : List Known) (cases after : List (List Known)) → Noted → Separator → Type 0
-SeparatorKeeps pinned cases after noted sep = (pins : Variables) (d : TestData) (all : Noted) (k : ℕ) → PinsStand pinned pins → IsPart noted all → Leads d (noted_in all) (Holds pins cases) (separator_before (suc k) sep) (Holds pins after)
+abbrev pub SeparatorKeeps : (pinned : List NamedValue) (states after : List (List NamedValue)) → Noted → Separator → Type 0
+SeparatorKeeps pinned states after noted sep = (pins : Variables) (d : TestData) (all : Noted) (k : ℕ) → PinsStand pinned pins → IsPart noted all → Leads d (noted_in all) (Holds pins states) (separator_before (suc k) sep) (Holds pins after)
 
--- what a test of a command gives in some cases, of which all is noted
-pub record Asks (cases if_true if_false : List (List Known)) (t : TestTree) (f : Faults) (noted : Noted) (place : Place) : Type 0 where
-  pub divides : Divides cases t if_true if_false f
-  pub begun : NotedIn noted place begins cases
+-- what a test of a command gives in some states, of which all is noted
+pub record Asks (states if_true if_false : List (List NamedValue)) (t : TestTree) (f : Faults) (noted : Noted) (place : Place) : Type 0 where
+  pub divides : Divides states t if_true if_false f
+  pub begun : NotedIn noted place begins states
   pub true_noted : NotedIn noted place (answers true) if_true
   pub false_noted : NotedIn noted place (answers false) if_false
   pub faults_noted : AreNoted noted place f
@@ -134,17 +115,17 @@ ByTurn inside outside true t = inside t
 ByTurn inside outside false t = outside t
 
 -- the begin of a turn, whose number is of a range, once its step is paid
-abbrev pub Enters : (pinned : List Known) (cases : List (List Known)) → GuardTree → Turns → Option VarTree → Range → (inside outside : List (List Known)) → Faults → Type 0
-Enters pinned cases guard turns counter turn inside outside f = (pins : Variables) (d : TestData) (k n : ℕ) (s : State) (loop : Started) → IsGuard guard turns loop.guard → loop.counter ≡ counter → IsIn turn n (pos k) → PinsStand pinned pins → StaysIn pins cases (suc n) s
+abbrev pub Enters : (pinned : List NamedValue) (states : List (List NamedValue)) → GuardTree → Turns → Option VarTree → Range → (inside outside : List (List NamedValue)) → Faults → Type 0
+Enters pinned states guard turns counter turn inside outside f = (pins : Variables) (d : TestData) (k n : ℕ) (s : State) (loop : Started) → IsGuard guard turns loop.guard → loop.counter ≡ counter → IsIn turn n (pos k) → PinsStand pinned pins → StaysIn pins states (suc n) s
     → Fits f (λ b t. ByTurn (StaysIn pins inside n) (StaysIn pins outside n) b t) (take_turn loop k d s)
 
 -- a loop starts
-abbrev pub Starts : List Known → GuardTree → Turns → Type 0
-Starts known guard turns = (d : TestData) (n : ℕ) (s : State) → EachStands known n s.store → Fits turns.faults (λ g t. IsGuard guard turns g × (t ≡ s)) (guard_of guard d s)
+abbrev pub Starts : List NamedValue → GuardTree → Turns → Type 0
+Starts entries guard turns = (d : TestData) (n : ℕ) (s : State) → EachStands entries n s.store → Fits turns.faults (λ g t. IsGuard guard turns g × (t ≡ s)) (guard_of guard d s)
 
--- the same in one of some cases
-abbrev pub StartsIn : List (List Known) → GuardTree → Turns → Type 0
-StartsIn cases guard turns = (d : TestData) (n : ℕ) (s : State) → OneStands cases n s.store → Fits turns.faults (λ g t. IsGuard guard turns g × (t ≡ s)) (guard_of guard d s)
+-- the same in one of some states
+abbrev pub StartsIn : List (List NamedValue) → GuardTree → Turns → Type 0
+StartsIn states guard turns = (d : TestData) (n : ℕ) (s : State) → OneStands states n s.store → Fits turns.faults (λ g t. IsGuard guard turns g × (t ≡ s)) (guard_of guard d s)
 
 -- a count of turns is at least and at most so large, or has a fault of these
 abbrev pub IsCounted : Turns → Result ℕ Fault → Type 0
@@ -152,20 +133,20 @@ IsCounted turns (Ok n) = (turns.least ≤ n) × (n ≤ turns.most)
 IsCounted turns (Err why) = IsAmong turns.faults why
 
 -- how many turns a loop has
-abbrev pub Counts : List Known → ExprTree → Turns → Type 0
-Counts known e turns = (n : ℕ) (h : Bindings) → EachStands known n h → IsCounted turns (count e h)
+abbrev pub Counts : List NamedValue → ExprTree → Turns → Type 0
+Counts entries e turns = (n : ℕ) (h : Bindings) → EachStands entries n h → IsCounted turns (count e h)
 
 -- the counter of a loop, if there is one, gets the number of a turn of a range
-abbrev pub CountsTurn : (pinned known : List Known) → Option VarTree → Range → List Known → Faults → Type 0
-CountsTurn pinned known counter turn after f = (pins : Variables) (d : TestData) (k n : ℕ) (s : State) → IsIn turn n (pos k) → PinsStand pinned pins → Stays pins known n s → Fits f (λ _ t. Stays pins after n t) (count_turn counter k d s)
+abbrev pub CountsTurn : (pinned entries : List NamedValue) → Option VarTree → Range → List NamedValue → Faults → Type 0
+CountsTurn pinned entries counter turn after f = (pins : Variables) (d : TestData) (k n : ℕ) (s : State) → IsIn turn n (pos k) → PinsStand pinned pins → Stays pins entries n s → Fits f (λ _ t. Stays pins after n t) (count_turn counter k d s)
 
--- the same of cases, once a step is paid
-abbrev pub CountsEach : (pinned : List Known) (cases : List (List Known)) → Option VarTree → Range → List (List Known) → Faults → Type 0
-CountsEach pinned cases counter turn after f = (pins : Variables) (d : TestData) (k n : ℕ) (s : State) → IsIn turn n (pos k) → PinsStand pinned pins → StaysIn pins cases (suc n) s → Fits f (λ _ t. StaysIn pins after n t) (count_turn counter k d s)
+-- the same of states, once a step is paid
+abbrev pub CountsEach : (pinned : List NamedValue) (states : List (List NamedValue)) → Option VarTree → Range → List (List NamedValue) → Faults → Type 0
+CountsEach pinned states counter turn after f = (pins : Variables) (d : TestData) (k n : ℕ) (s : State) → IsIn turn n (pos k) → PinsStand pinned pins → StaysIn pins states (suc n) s → Fits f (λ _ t. StaysIn pins after n t) (count_turn counter k d s)
 
 -- the same at a turn with which a loop is over that has at least so many
-abbrev pub CountsLast : (pinned : List Known) (cases : List (List Known)) → Option VarTree → Range → (least : ℕ) → List (List Known) → Faults → Type 0
-CountsLast pinned cases counter turn least after f = (pins : Variables) (d : TestData) (k n : ℕ) (s : State) → least ≤ k → IsIn turn n (pos k) → PinsStand pinned pins → StaysIn pins cases (suc n) s → Fits f (λ _ t. StaysIn pins after n t) (count_turn counter k d s)
+abbrev pub CountsLast : (pinned : List NamedValue) (states : List (List NamedValue)) → Option VarTree → Range → (least : ℕ) → List (List NamedValue) → Faults → Type 0
+CountsLast pinned states counter turn least after f = (pins : Variables) (d : TestData) (k n : ℕ) (s : State) → least ≤ k → IsIn turn n (pos k) → PinsStand pinned pins → StaysIn pins states (suc n) s → Fits f (λ _ t. StaysIn pins after n t) (count_turn counter k d s)
 
 -- the numbers of the first turn
 abbrev pub first_turn : Range
@@ -175,9 +156,9 @@ first_turn = record { low = pos 0; high = pos 0; rise = 0; fall = 0 }
 abbrev pub later_turn : Range
 later_turn = record { low = pos 1; high = pos (2 ^ 64 - 1); rise = 0; fall = 1 }
 
--- how a later turn begins by a guess, and all that may happen where a turn begins is noted
-pub record BeginsLater (pinned : List Known) (guess : List (List Known)) (turns : Turns) (first_inside first_outside : List (List Known)) (first : Faults) (inside outside : List (List Known)) (later : Faults) (noted : Noted) (place : Place) (l : Loop) : Type 0 where
-  pub enters : Enters pinned guess (guard_tree (out-Loop l).guard) turns (boxed_target (out-Loop l).counter) later_turn inside outside later
+-- how a later turn begins by a candidate, and all that may happen where a turn begins is noted
+pub record BeginsLater (pinned : List NamedValue) (candidate : List (List NamedValue)) (turns : Turns) (first_inside first_outside : List (List NamedValue)) (first : Faults) (inside outside : List (List NamedValue)) (later : Faults) (noted : Noted) (place : Place) (l : Loop) : Type 0 where
+  pub enters : Enters pinned candidate (guard_tree (out-Loop l).guard) turns (boxed_target (out-Loop l).counter) later_turn inside outside later
   pub start_noted : AreNoted noted place turns.faults
   pub first_noted : AreNoted noted place first
   pub later_noted : AreNoted noted place later
@@ -186,25 +167,25 @@ pub record BeginsLater (pinned : List Known) (guess : List (List Known)) (turns 
   pub later_true : NotedIn noted place (answers true) inside
   pub later_false : NotedIn noted place (answers false) outside
 
--- the cases behind IF, and those behind each of its branches
-pub record AreBranches (yes no after : List (List Known)) : Type 0 where
-  pub yes_after : TellsCases yes after
-  pub no_after : TellsCases no after
+-- the states behind IF, and those behind each of its branches
+pub record AreBranches (yes no after : List (List NamedValue)) : Type 0 where
+  pub yes_after : PartitionIsWithin yes after
+  pub no_after : PartitionIsWithin no after
 
--- the cases behind a loop, with all that was noted in it
-pub record Concludes (first later : List (List Known)) (inside noted : Noted) (after : List (List Known)) : Type 0 where
-  pub first_after : TellsCases first after
-  pub later_after : TellsCases later after
+-- the states behind a loop, with all that was noted in it
+pub record Concludes (first later : List (List NamedValue)) (inside noted : Noted) (after : List (List NamedValue)) : Type 0 where
+  pub first_after : PartitionIsWithin first after
+  pub later_after : PartitionIsWithin later after
   pub part : IsPart inside noted
 
--- a later turn leads from a guess to the cases behind the loop, and each turn to the cases at its end
-pub record RoundKeeps (pinned : List Known) (guess : List (List Known)) (turns : Turns) (first_inside first_outside : List (List Known)) (first : Faults) (outside end : List (List Known)) (noted : Noted) (place : Place) (l : Loop) : Type 0 where
-  pub later_inside : List (List Known)
+-- a later turn leads from a candidate to the states leaving the loop, and each turn to the states at its end
+pub record RoundKeeps (pinned : List NamedValue) (candidate : List (List NamedValue)) (turns : Turns) (first_inside first_outside : List (List NamedValue)) (first : Faults) (outside end : List (List NamedValue)) (noted : Noted) (place : Place) (l : Loop) : Type 0 where
+  pub later_inside : List (List NamedValue)
   pub later : Faults
-  pub before : List (List Known)
-  pub begun : BeginsLater pinned guess turns first_inside first_outside first later_inside outside later noted place l
+  pub before : List (List NamedValue)
+  pub begun : BeginsLater pinned candidate turns first_inside first_outside first later_inside outside later noted place l
   pub separates : SeparatorKeeps pinned later_inside before noted (boxed_separator (out-Loop l).between)
-  pub first_before : TellsCases first_inside before
+  pub first_before : PartitionIsWithin first_inside before
   pub body : WalkKeeps pinned before end noted (command_list (out-Loop l).body)
 
 -- the tree of a loop of the code at a place

@@ -254,7 +254,7 @@ fn write_regex(out: &mut Shown, regex: &RegexArguments) {
     out.put("(");
     write_text(out, literal.bytes.as_slice());
     write_place(out, literal.place);
-    out.put_form(format_args!("#{}", literal.number));
+    out.put_form(format_args!("#{}", regex.number));
     write_target(out, &regex.target);
 }
 

@@ -1,17 +1,17 @@
-use Rattle.std.proofs.Common.{ap, ap₂, sym, subst, true, rules, [], ◌∷◌, ◌≡◌, ◌∙◌, List}
+use Rattle.std.proofs.Common.{ap, ap₂, sym, subst, true, codes, rules, [], ◌∷◌, ◌≡◌, ◌∙◌, List}
 use Rattle.std.proofs.lemmas.Result.{IfOk-weaker}
 use Rattle.clap.specs.Built.{AddsArg, AddsInTurn}
-use Rattle.clap.specs.Words.{app_of, with_rule}
+use Rattle.clap.specs.Words.{app_of, new_app, with_rule}
 use Rattle.clap.specs.Simple.{app_of_fields, on_top}
 use Rattle.clap.specs.declared.builder.arg.Arg.{Arg}
-use Rattle.ctd_arguments.specs.CommandLine.{checker, bare_checker}
+use Rattle.ctd_arguments.specs.CommandLine.{checker}
 use Rattle.ctd_arguments.proofs.NamedProgram.{all_local}
 use Rattle.ctd_arguments.proofs.command_line.command.Goals as goal
 
 pub returns-clause-checker : goal.returns-clause-checker
 unfolding checker
 returns-clause-checker c =
-    let bare : app_of c.version.result ≡ bare_checker =
+    let bare : app_of c.version.result ≡ on_top (λ s. record s { has_version = true }) (new_app (codes "checktestdata")) =
     ap app_of_fields c.version.ensures ∙ ap (on_top (λ s. record s { has_version = true })) c.new-2.ensures.app in
     let all : List Arg = c.short_flag.result ∷ c.define_option.result ∷ c.short_flag-2.result ∷ c.short_flag-3.result ∷ c.option.result ∷ c.program_name.result ∷ c.new.result ∷ [] in
     IfOk-weaker c.args-2.result _ _ (λ r given.

@@ -6,7 +6,6 @@ use Rattle.ctd_check.specs.Loops.{tasks, finish}
 use Rattle.ctd_check.specs.inner.FrameTasks.{to_do}
 use Rattle.ctd_check.specs.Run.{run_from, at_start}
 use Rattle.ctd_check.proofs.Concluding.{found, given_count, gave_few, gave_none, starts_as}
-use Rattle.ctd_check.proofs.Knowing.{known_append, known_as, known_tasks}
 use Rattle.ctd_check.proofs.Running.{finds, follows_as}
 use Rattle.ctd_check.proofs.checking.check.Goals as goal
 
@@ -51,10 +50,3 @@ returns-in_err-store-clause-reads g c = gave_none _ _
 
 pub returns-in_err-buffers-clause-reads : goal.returns-in_err-buffers-clause-reads
 returns-in_err-buffers-clause-reads g c = gave_none _ _
-
-pub run_program-ended-requires-clause-known : goal.run_program-ended-requires-clause-known
-run_program-ended-requires-clause-known g c =
-    let ps = c.in_ok-matchers.matchers.items in
-    let program = command_trees c.args.plan.now in
-    known_as ps _ _ _ c.deref_mut.ensures.value (c.new-stack.ensures.to_do ∙ ap (λ cs. tasks (command_trees cs) ++ finish ∷ []) c.commands.ensures.whole)
-    (known_append ps (tasks program) (finish ∷ []) (known_tasks ps program c.in_ok-matchers.ensures.numbered) (tt, tt))

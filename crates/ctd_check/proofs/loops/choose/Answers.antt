@@ -1,10 +1,8 @@
-use Rattle.std.proofs.Common.{max, arith, refl}
+use Rattle.std.proofs.Common.{max, arith}
 use Rattle.ctd_program.specs.calls.Blocks.{list_blocks}
 use Rattle.ctd_program.specs.calls.View.{command_list}
-use Rattle.ctd_syntax.specs.calls.PatternLiterals.{literals}
 use Rattle.ctd_command.proofs.Acts.{and_then, early_map_ok, given_as}
 use Rattle.ctd_check.specs.inner.FrameTasks.{left_tasks}
-use Rattle.ctd_check.proofs.Knowing.{among_front, among_back, known_tasks, known_as}
 use Rattle.ctd_check.proofs.loops.choose.Goals as goal
 
 pub returns-in_err-answer-clause-performs : goal.returns-in_err-answer-clause-performs
@@ -25,13 +23,3 @@ returns-then-branch-clause-room g c =
 pub returns-clause-room : goal.returns-clause-room
 returns-clause-room g c =
     c.list_frame-2.ensures.within (max (list_blocks (command_list c.args.then_do.now)) (list_blocks (command_list c.args.else_do.now))) (omega (arith))
-
-pub returns-then-branch-clause-known : goal.returns-then-branch-clause-known
-returns-then-branch-clause-known g c ps among =
-    known_as ps ps _ _ refl c.list_frame.ensures.tasks
-    (known_tasks ps (command_list c.args.then_do.now) (among_front ps (literals (command_list c.args.then_do.now)) (literals (command_list c.args.else_do.now)) among))
-
-pub returns-clause-known : goal.returns-clause-known
-returns-clause-known g c ps among =
-    known_as ps ps _ _ refl c.list_frame-2.ensures.tasks
-    (known_tasks ps (command_list c.args.else_do.now) (among_back ps (literals (command_list c.args.then_do.now)) (literals (command_list c.args.else_do.now)) among))

@@ -1,10 +1,9 @@
-use Rattle.std.proofs.Common.{ap, refl, sym, subst, OnOk}
+use Rattle.std.proofs.Common.{ap, refl}
 use Rattle.ctd_program.specs.calls.View.{command_tree}
 use Rattle.ctd_outcome.specs.declared.outcome.Site.TheVariants.{At}
-use Rattle.ctd_check.specs.inner.Known.{AreKnown}
 use Rattle.ctd_check.specs.Loops.{start}
 use Rattle.ctd_check.specs.inner.FrameTasks.{to_do}
-use Rattle.ctd_check.proofs.Running.{site_is, task_does, task_opens, task_not_paid, opens_as, known_opens}
+use Rattle.ctd_check.proofs.Running.{site_is, task_does, task_opens, task_not_paid, opens_as}
 use Rattle.ctd_check.proofs.run.begin.Goals as goal
 
 pub returns-in_err-pay-clause-advances : goal.returns-in_err-pay-clause-advances
@@ -21,19 +20,7 @@ returns-in-If-clause-advances g c =
     task_opens c.args.run.now c.open_if.new.run (command_tree c.args.command.now) _ c.pay.new.self.left (to_do c.args.stack.now.frames.items) c.pay.new.self c.open_if.new.stack c.args.run.now.cursor.spot (At c.args.command.now.place) c.open_if.result
     c.in_ok-pay.ensures.paid c.open_if.ensures.left (ap (λ f. to_do f.items) c.in_ok-pay.ensures.frames) refl (site_is c.args.command.now) (opens_as c.in-If.ensures.stays c.in-If.ensures.parts (c.open_if.ensures.opens c.args.command.now.place))
 
-pub returns-in-If-clause-known : goal.returns-in-If-clause-known
-returns-in-If-clause-known g c =
-    let P : _ → Type 0 = λ matchers. OnOk c.open_if.result (AreKnown matchers (to_do c.open_if.new.stack.frames.items)) in
-    subst P (sym c.act.ensures.kept)
-    (known_opens c.args.matchers.now _ (opens_as c.in-If.ensures.stays c.in-If.ensures.parts (c.open_if.ensures.opens c.args.command.now.place)) (ap (λ f. to_do f.items) c.in_ok-pay.ensures.frames) c.requires.known)
-
 pub returns-in-Loop-clause-advances : goal.returns-in-Loop-clause-advances
 returns-in-Loop-clause-advances g c =
     task_opens c.args.run.now c.open_loop.new.run (command_tree c.args.command.now) _ c.pay.new.self.left (to_do c.args.stack.now.frames.items) c.pay.new.self c.open_loop.new.stack c.args.run.now.cursor.spot (At c.args.command.now.place) c.open_loop.result
     c.in_ok-pay.ensures.paid c.open_loop.ensures.left (ap (λ f. to_do f.items) c.in_ok-pay.ensures.frames) refl (site_is c.args.command.now) (opens_as c.in-Loop.ensures.stays c.in-Loop.ensures.parts c.open_loop.ensures.opens)
-
-pub returns-in-Loop-clause-known : goal.returns-in-Loop-clause-known
-returns-in-Loop-clause-known g c =
-    let P : _ → Type 0 = λ matchers. OnOk c.open_loop.result (AreKnown matchers (to_do c.open_loop.new.stack.frames.items)) in
-    subst P (sym c.act.ensures.kept)
-    (known_opens c.args.matchers.now _ (opens_as c.in-Loop.ensures.stays c.in-Loop.ensures.parts c.open_loop.ensures.opens) (ap (λ f. to_do f.items) c.in_ok-pay.ensures.frames) c.requires.known)

@@ -1,11 +1,9 @@
-use Rattle.std.proofs.Common.{◌+◌, ◌++◌, [], ap, sym, ◌∙◌, add-one, refl, Ok, Err, if◌then◌else◌}
-use Rattle.ctd_syntax.specs.calls.PatternLiterals.{literals, separator_literals}
+use Rattle.std.proofs.Common.{◌++◌, [], ap, sym, ◌∙◌, add-one, refl, Ok, Err, if◌then◌else◌}
 use Rattle.ctd_command.proofs.Acts.{answers_as, performs_map_ok}
 use Rattle.ctd_outcome.specs.declared.outcome.Site.TheVariants.{At}
 use Rattle.ctd_check.specs.inner.Halts.{halt_of}
 use Rattle.ctd_check.specs.Loops.{turn, turn_tasks, tasks_before_turn}
 use Rattle.ctd_check.specs.inner.FrameTasks.{to_do, loop_in, separator_in}
-use Rattle.ctd_check.proofs.Knowing.{among_front, known_as, known_separated, known_turn}
 use Rattle.ctd_check.proofs.Turns.{at_turn, to_do_at}
 use Rattle.ctd_check.proofs.Running.{advances_as, halted_as, task_done, task_failed, task_unpaid, task_then, turn_left}
 use Rattle.ctd_check.proofs.run.begin_turn.Goals as goal
@@ -18,17 +16,6 @@ returns-then-left-eq0-clause-advances g c =
     let none = sym c.left.ensures ∙ c.if-left-eq0.true in
     advances_as (to_do_at frames running_loop at)
     (task_unpaid c.args.run.now (turn (loop_in running_loop) running_loop.turn) _ c.spot-spot.result c.of.result (to_do at.below) c.args.stack.now (Err c.of.result) (refl, refl) none none c.spot-spot.ensures (c.of.ensures ∙ ap (halt_of c.spot-spot.result (At running_loop.place)) c.stopped.ensures))
-
-pub begin-requires-clause-known : goal.begin-requires-clause-known
-begin-requires-clause-known g c =
-    let ps = c.args.matchers.now in
-    let frames = c.args.stack.now.frames.items in
-    let running_loop = c.in-Some.running_loop.now in
-    let loop = loop_in running_loop in
-    let at = at_turn frames running_loop (sym c.in-Some.ensures.value) c.requires.done in
-    let known = known_as ps ps _ _ refl (sym (to_do_at frames running_loop at)) c.requires.known in
-    let before = known_as ps ps _ _ refl (sym c.in-Some-separator.ensures.tasks) (known_separated ps running_loop.turn (separator_in running_loop.between) (among_front ps (separator_literals loop.between) (literals loop.body) known.0)) in
-    (before.0, known_as ps ps _ _ refl (c.next_turn.ensures.to_do running_loop at) (known_turn ps loop running_loop.turn (running_loop.turn + 1) (to_do at.below) known))
 
 pub returns-in-Ok-clause-advances : goal.returns-in-Ok-clause-advances
 returns-in-Ok-clause-advances g c =
@@ -66,15 +53,6 @@ returns-in-None-clause-advances g c =
     (ap (λ ts. ts ++ to_do c.next_turn.new.self.frames.items) (sym c.in-None.ensures.tasks) ∙ turn_left (tasks_before_turn k (separator_in running_loop.between)) _ _ _ _ _ (ap (turn loop) (add-one k)) (c.next_turn.ensures.to_do running_loop at))
     (answers_as (ap (λ b. Ok (if b then turn_tasks loop k else [])) (sym c.in-Ok-true.field-0-test)) (performs_map_ok (λ b. if b then turn_tasks loop k else []) c.in-Ok-true.ensures.performs)))
 
-pub returns-in-None-clause-known : goal.returns-in-None-clause-known
-returns-in-None-clause-known g c =
-    let ps = c.args.matchers.now in
-    let frames = c.args.stack.now.frames.items in
-    let running_loop = c.in-Some.running_loop.now in
-    let at = at_turn frames running_loop (sym c.in-Some.ensures.value) c.requires.done in
-    let known = known_as ps ps _ _ refl (sym (to_do_at frames running_loop at)) c.requires.known in
-    known_as ps ps _ _ refl (c.next_turn.ensures.to_do running_loop at) (known_turn ps (loop_in running_loop) running_loop.turn (running_loop.turn + 1) (to_do at.below) known)
-
 pub returns-in-Ok-false-clause-advances : goal.returns-in-Ok-false-clause-advances
 returns-in-Ok-false-clause-advances g c =
     let frames = c.args.stack.now.frames.items in
@@ -85,14 +63,6 @@ returns-in-Ok-false-clause-advances g c =
     advances_as (to_do_at frames running_loop at)
     (task_done c.args.run.now c.take_turn.new.run (turn loop k) _ c.end_loop.new.self.left [] (to_do at.below) c.end_loop.new.self c.end_loop.ensures.paid refl (ap to_do (c.end_loop.ensures.frames running_loop at))
     (answers_as (ap (λ b. Ok (if b then turn_tasks loop k else [])) (sym c.in-Ok-false.field-0-test)) (performs_map_ok (λ b. if b then turn_tasks loop k else []) c.in-Ok-false.ensures.performs)))
-
-pub returns-in-Ok-false-clause-known : goal.returns-in-Ok-false-clause-known
-returns-in-Ok-false-clause-known g c =
-    let ps = c.args.matchers.now in
-    let frames = c.args.stack.now.frames.items in
-    let running_loop = c.in-Some.running_loop.now in
-    let at = at_turn frames running_loop (sym c.in-Some.ensures.value) c.requires.done in
-    known_as ps ps _ _ refl (ap to_do (c.end_loop.ensures.frames running_loop at)) (known_as ps ps _ _ refl (sym (to_do_at frames running_loop at)) c.requires.known).1
 
 pub returns-in-Err-clause-advances : goal.returns-in-Err-clause-advances
 returns-in-Err-clause-advances g c =

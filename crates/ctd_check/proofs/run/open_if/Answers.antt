@@ -11,4 +11,4 @@ pub returns-clause-opens : goal.returns-clause-opens
 returns-clause-opens g c place =
     let parts = out-Choice c.args.parts.now in
     opens_leaving c.args.run.now c.choose.new.run c.args.stack.now c.leave.new.self (if_at place c.args.parts.now) c.choose.result c.leave.result c.leave.ensures.same
-    (performs_as (λ d s. ap (λ t. choice (test_tree t) (command_list parts.then_do) (command_list parts.else_do) d s) c.deref.ensures) c.choose.ensures.performs) c.leave.ensures.to_do c.choose.ensures.known
+    (performs_as (λ d s. ap (λ t. choice (test_tree t) (command_list parts.then_do) (command_list parts.else_do) d s) c.deref.ensures) c.choose.ensures.performs) c.leave.ensures.to_do

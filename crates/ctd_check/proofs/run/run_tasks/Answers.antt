@@ -5,14 +5,12 @@ use Rattle.ctd_command.specs.calls.Performs.{state}
 use Rattle.ctd_check.specs.Loops.{start}
 use Rattle.ctd_check.specs.Run.{run}
 use Rattle.ctd_check.specs.inner.FrameTasks.{to_do}
-use Rattle.ctd_check.proofs.Knowing.{known_as}
 use Rattle.ctd_check.proofs.Running.{follows_as, ends_early, halted_as}
 use Rattle.ctd_check.proofs.run.run_tasks.Goals as goal
 
 pub loop-command-preserved-in-Ok : goal.loop-command-preserved-in-Ok
 loop-command-preserved-in-Ok g c = record {
   sound = c.in-Ok.ensures.advances.sound;
-  known = c.in-Ok.ensures.known;
   spent = omega (arith, c.loop-command.invariant.spent, c.in-Ok.ensures.spent, c.in-Some.ensures.left);
   goes = advances_so (advances_both c.loop-command.invariant.goes c.in-Ok.ensures.advances.goes)
       (λ d _ e. e.0 ∙ ap (λ ts. run d c.loop-command.stack.left ts (state c.loop-command.run)) c.in-Some.ensures.to_do ∙ ap (λ n. run d n (start (command_tree c.in-Some.command.now) ∷ to_do c.next_command.new.self.frames.items) (state c.loop-command.run)) (sym c.in-Some.ensures.left) ∙ e.1);
@@ -26,7 +24,6 @@ returns-in-Err-clause-ends g c =
 pub loop-command-preserved-then-has_loop : goal.loop-command-preserved-then-has_loop
 loop-command-preserved-then-has_loop g c = record {
   sound = c.in_ok-begin_turn.ensures.advances.sound;
-  known = c.in_ok-begin_turn.ensures.known;
   spent = omega (arith, c.loop-command.invariant.spent, c.in_ok-begin_turn.ensures.spent, c.in_default.ensures.left);
   goes = advances_so (advances_both c.loop-command.invariant.goes c.in_ok-begin_turn.ensures.advances.goes)
       (λ d _ e. e.0 ∙ ap (λ fs. run d c.loop-command.stack.left (to_do fs) (state c.loop-command.run)) (sym c.in_default.ensures.none.0) ∙ ap (λ n. run d n (to_do c.next_command.new.self.frames.items) (state c.loop-command.run)) (sym c.in_default.ensures.left) ∙ e.1);
@@ -43,7 +40,6 @@ loop-command-preserved g c =
     let left = c.leave_list.ensures.left ∙ c.in_default.ensures.left in
     record {
       sound = c.loop-command.invariant.sound;
-      known = known_as c.loop-command.matchers _ _ _ refl same c.loop-command.invariant.known;
       spent = omega (arith, c.loop-command.invariant.spent, left);
       goes = advances_so c.loop-command.invariant.goes
           (λ d _ e. e ∙ ap (λ ts. run d c.loop-command.stack.left ts (state c.loop-command.run)) (sym same) ∙ ap (λ n. run d n (to_do c.leave_list.new.self.frames.items) (state c.loop-command.run)) (sym left));

@@ -2,7 +2,6 @@ use Rattle.std.proofs.Common.{◌≡◌, ◌≤◌, ◌+◌, ◌*◌, length}
 use Rattle.ctd_source.specs.calls.Received.{AdvancesSuchThat}
 use Rattle.ctd_command.specs.calls.Performs.{IsSound, state}
 use Rattle.ctd_check.specs.Run.{run}
-use Rattle.ctd_check.specs.inner.Known.{AreKnown}
 use Rattle.ctd_check.specs.inner.FrameTasks.{to_do}
 use Rattle.ctd_check.proofs.run.run_tasks.Given as goal
 
@@ -10,7 +9,6 @@ use Rattle.ctd_check.proofs.run.run_tasks.Given as goal
 abbrev pub invariant-loop-command : goal.invariant-loop-command
 invariant-loop-command g l = record {
   sound : IsSound l.run;
-  known : AreKnown l.matchers (to_do l.stack.frames.items);
   spent : l.stack.left ≤ l.initial.stack.left;
   goes : AdvancesSuchThat l.initial.run.cursor l.run.cursor (λ d. run d l.initial.stack.left (to_do l.initial.stack.frames.items) (state l.initial.run) ≡ run d l.stack.left (to_do l.stack.frames.items) (state l.run));
 }

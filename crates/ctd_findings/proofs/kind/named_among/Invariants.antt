@@ -1,5 +1,4 @@
-use Rattle.std.proofs.Common.{◌≡◌, drop}
-use Rattle.ctd_findings.specs.calls.Kinds.{named_among}
+use Rattle.ctd_findings.proofs.Common.{drop, named_among, ◌≡◌}
 use Rattle.ctd_findings.proofs.kind.named_among.Given as goal
 
 abbrev pub invariant-loop-kind : goal.invariant-loop-kind

@@ -1,5 +1,4 @@
-use Rattle.std.proofs.Common.{◌-◌, length}
-use Rattle.ctd_findings.specs.inner.Never.{AllHave, IsSaid}
+use Rattle.ctd_findings.proofs.Common.{AllHave, IsSaid, length, ◌-◌}
 use Rattle.ctd_findings.proofs.never.never_at.Given as goal
 
 abbrev pub invariant-loop-next : goal.invariant-loop-next

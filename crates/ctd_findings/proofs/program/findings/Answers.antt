@@ -1,10 +1,4 @@
-use Rattle.std.proofs.Common.{All, IfOk, List, map, ap, subst, ◌∙◌}
-use Rattle.ctd_token.specs.declared.text.Place.{Place}
-use Rattle.ctd_program.specs.calls.Places.{place_of}
-use Rattle.ctd_program.specs.calls.View.{command_trees}
-use Rattle.ctd_traps.specs.calls.Commands.{trees_of}
-use Rattle.ctd_findings.specs.calls.Findings.{IsPlaced}
-use Rattle.ctd_findings.specs.inner.Sound.{places_in}
+use Rattle.ctd_findings.proofs.Common.{All, IfOk, IsPlaced, List, Place, ap, command_trees, map, place_of, places_in, subst, trees_of, ◌∙◌}
 use Rattle.ctd_findings.proofs.Sound.{are_meant, are_placed, same_places}
 use Rattle.ctd_findings.proofs.program.findings.Goals as goal
 

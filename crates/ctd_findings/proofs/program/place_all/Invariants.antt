@@ -1,8 +1,4 @@
-use Rattle.std.proofs.Common.{List, Contains}
-use Rattle.ctd_token.specs.declared.text.Place.{Place}
-use Rattle.ctd_findings.specs.inner.Never.{AllHave, IsSaid}
-use Rattle.ctd_findings.specs.inner.Sound.{AllSound}
-use Rattle.ctd_traps.specs.declared.note.Note.{Note}
+use Rattle.ctd_findings.proofs.Common.{AllHave, AllSound, Contains, IsSaid, List, Note, Place}
 use Rattle.ctd_findings.proofs.program.place_all.Given as goal
 
 abbrev pub invariant-loop-remark : goal.invariant-loop-remark

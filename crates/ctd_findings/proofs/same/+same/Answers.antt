@@ -1,11 +1,6 @@
 use Rattle.ctd_program.specs.Tree
-use Rattle.std.proofs.Common.{◌≡◌, IsTrue, ap, ap₂, sym, ◌∙◌, rules}
-use Rattle.std.specs.Global.{Box}
-use Rattle.ctd_program.specs.declared.tree.Expr.{Expr}
-use Rattle.ctd_program.specs.declared.tree.Expr.TheVariants.{Element}
+use Rattle.ctd_findings.proofs.Common.{Box, Element, Expr, IsTrue, ap, ap₂, boxed_element, expr_list, expr_tree, exprs_of, rules, sym, ◌∙◌, ◌≡◌}
 use Rattle.ctd_program.specs.declared.tree.Element as elements
-use Rattle.ctd_program.specs.calls.View.{expr_list, expr_tree, exprs_of}
-use Rattle.ctd_program.proofs.Trees.{boxed_element}
 use Rattle.ctd_findings.proofs.same.+same.Goals as goal
 
 one_element : (a b : Expr) (x y : Box elements.Element) (e f : elements.Element) → a ≡ Element x → b ≡ Element y → e ≡ x.value → f ≡ y.value

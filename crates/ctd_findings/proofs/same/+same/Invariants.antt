@@ -1,5 +1,4 @@
-use Rattle.std.proofs.Common.{◌≡◌, drop}
-use Rattle.ctd_program.specs.calls.View.{expr_list}
+use Rattle.ctd_findings.proofs.Common.{drop, expr_list, ◌≡◌}
 use Rattle.ctd_findings.proofs.same.+same.Given as goal
 
 abbrev pub invariant-are_same-loop-x : goal.invariant-are_same-loop-x

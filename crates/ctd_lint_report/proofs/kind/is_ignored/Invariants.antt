@@ -1,5 +1,4 @@
-use Rattle.std.proofs.Common.{◌≡◌, drop}
-use Rattle.ctd_lint_report.specs.calls.Kinds.{is_ignored}
+use Rattle.ctd_lint_report.proofs.Common.{drop, is_ignored, ◌≡◌}
 use Rattle.ctd_lint_report.proofs.kind.is_ignored.Given as goal
 
 abbrev pub invariant-loop-left_out : goal.invariant-loop-left_out

@@ -1,5 +1,4 @@
-use Rattle.std.proofs.Common.{◌≡◌, drop}
-use Rattle.ctd_lint_report.specs.calls.Kinds.{trap_named_among}
+use Rattle.ctd_lint_report.proofs.Common.{drop, trap_named_among, ◌≡◌}
 use Rattle.ctd_lint_report.proofs.kind.trap_named_among.Given as goal
 
 abbrev pub invariant-loop-kind : goal.invariant-loop-kind

@@ -1,13 +1,5 @@
-use Rattle.std.proofs.Common.{All, IfSome, List, subst, sym}
-use Rattle.ctd_program.specs.calls.View.{command_trees}
-use Rattle.ctd_report.specs.Report.{on_err}
-use Rattle.ctd_report.proofs.WrittenLemmas.{Leaves-WritesOneOf}
-use Rattle.ctd_findings.specs.declared.finding.Finding.{Finding}
-use Rattle.ctd_findings.specs.calls.Findings.{IsPlaced, IsTrueOfRuns, places_of}
-use Rattle.ctd_lint_report.specs.calls.Report.{program_report, remarks_of}
-use Rattle.ctd_lint_report.specs.calls.Text.{refusal_lines}
-use Rattle.ctd_lint_report.specs.calls.Traps.{AreTraps}
-use Rattle.ctd_traps.specs.calls.Events.{NeverHappens, events_of}
+use Rattle.ctd_lint_report.proofs.Common.{All, AreTraps, Finding, IfSome, IsPlaced, IsTrueOfRuns, Leaves-WritesOneOf, List, NeverHappens, command_trees, events_of, on_err, places_of, program_report}
+use Rattle.ctd_lint_report.proofs.Common.{refusal_lines, remarks_of, subst, sym}
 use Rattle.ctd_lint_report.proofs.Reports.{reports_program, reports_refusal}
 use Rattle.ctd_lint_report.proofs.program.lint.Goals as goal
 
@@ -15,18 +7,18 @@ pub returns : goal.returns
 returns g c =
     let setup = c.args.setup.now in
     let found = c.as_slice-2.result.now in
-    let told = c.in_ok-told.told in
+    let trap_list = c.in_ok-trap_list.trap_list in
     let tree = command_trees c.in-Ok.plan in
-    let traps : AreTraps tree setup.presets told = subst (λ p. AreTraps (command_trees p) setup.presets told) c.commands.ensures.whole c.in_ok-told.ensures.each in
-    let never : IfSome told (λ list. NeverHappens tree setup.presets (events_of list.never.items)) =
-    subst (λ p. IfSome told (λ list. NeverHappens (command_trees p) setup.presets (events_of list.never.items))) c.commands.ensures.whole c.in_ok-told.ensures.never in
+    let traps : AreTraps tree setup.presets trap_list = subst (λ p. AreTraps (command_trees p) setup.presets trap_list) c.commands.ensures.whole c.in_ok-trap_list.ensures.each in
+    let never : IfSome trap_list (λ list. NeverHappens tree setup.presets (events_of list.never.items)) =
+    subst (λ p. IfSome trap_list (λ list. NeverHappens (command_trees p) setup.presets (events_of list.never.items))) c.commands.ensures.whole c.in_ok-trap_list.ensures.never in
     let placed = subst (λ (fs : List Finding). All (IsPlaced (places_of tree)) fs) (sym c.as_slice-2.ensures.value)
     (subst (λ p. All (IsPlaced (places_of (command_trees p))) c.in_ok-found.found.items) c.commands-2.ensures.whole c.in_ok-found.ensures.placed) in
     let meant = subst (λ (fs : List Finding). All (IsTrueOfRuns tree setup.presets) fs) (sym c.as_slice-2.ensures.value)
-    (subst (λ p. IfSome told (λ list. NeverHappens (command_trees p) setup.presets (events_of list.never.items)) → All (IsTrueOfRuns (command_trees p) setup.presets) c.in_ok-found.found.items) c.commands-2.ensures.whole c.in_ok-found.ensures.meant never) in
+    (subst (λ p. IfSome trap_list (λ list. NeverHappens (command_trees p) setup.presets (events_of list.never.items)) → All (IsTrueOfRuns (command_trees p) setup.presets) c.in_ok-found.found.items) c.commands-2.ensures.whole c.in_ok-found.ensures.meant never) in
     record {
-      written = Leaves-WritesOneOf _ _ _ (program_report c.args.file.now setup (remarks_of c.args.file.now setup found told) told) c.write_program.result
-          (reports_program command_trees g.P.Source c.args.file.now setup c.args.program.now _ c.in-Ok.plan found told c.in-Ok.ensures.loads placed meant traps)
+      written = Leaves-WritesOneOf _ _ _ (program_report c.args.file.now setup (remarks_of c.args.file.now setup found trap_list) trap_list) c.write_program.result
+          (reports_program command_trees g.P.Source c.args.file.now setup c.args.program.now _ c.in-Ok.plan found trap_list c.in-Ok.ensures.loads placed meant traps)
           c.write_program.ensures.written;
     }
 

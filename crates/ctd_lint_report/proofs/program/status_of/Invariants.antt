@@ -1,6 +1,4 @@
-use Rattle.std.proofs.Common.{◌≡◌, drop}
-use Rattle.ctd_lint_report.specs.calls.Report.{findings_status}
-use Rattle.ctd_lint_report.specs.calls.Text.{kept}
+use Rattle.ctd_lint_report.proofs.Common.{drop, findings_status, kept, ◌≡◌}
 use Rattle.ctd_lint_report.proofs.program.status_of.Given as goal
 
 abbrev pub invariant-loop-finding : goal.invariant-loop-finding

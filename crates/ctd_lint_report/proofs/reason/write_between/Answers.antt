@@ -1,7 +1,4 @@
-use Rattle.std.proofs.Common.{codes, rules}
-use Rattle.std.specs.Int.{w128}
-use Rattle.std.specs.Fmt.{signed_decimal}
-use Rattle.std.proofs.lemmas.Int.{to_z-of_z}
+use Rattle.ctd_lint_report.proofs.Common.{codes, rules, signed_decimal, to_z-of_z, w128}
 use Rattle.ctd_lint_report.proofs.Appended.{then_more}
 use Rattle.ctd_lint_report.proofs.reason.write_between.Goals as goal
 

@@ -1,5 +1,4 @@
-use Rattle.std.proofs.Common.{◌≡◌, ◌++◌, drop}
-use Rattle.ctd_lint_report.specs.calls.Text.{findings_lines, kept}
+use Rattle.ctd_lint_report.proofs.Common.{drop, findings_lines, kept, ◌++◌, ◌≡◌}
 use Rattle.ctd_lint_report.proofs.text.findings_text.Given as goal
 
 abbrev pub invariant-loop-finding : goal.invariant-loop-finding

@@ -1,5 +1,4 @@
-use Rattle.std.proofs.Common.{◌∙◌, ap₂}
-use Rattle.ctd_lint_report.specs.calls.Traps.{condition_text}
+use Rattle.ctd_lint_report.proofs.Common.{ap₂, condition_text, ◌∙◌}
 use Rattle.ctd_lint_report.proofs.traps.condition_of.Goals as goal
 
 pub returns : goal.returns

@@ -1,5 +1,4 @@
-use Rattle.std.proofs.Common.{◌≡◌, ◌+◌, ◌≤◌, None, drop}
-use Rattle.ctd_lint_report.specs.calls.Traps.{places_behind}
+use Rattle.ctd_lint_report.proofs.Common.{None, drop, places_behind, ◌+◌, ◌≡◌, ◌≤◌}
 use Rattle.ctd_lint_report.proofs.traps.count_places.Given as goal
 
 abbrev pub invariant-loop-trap : goal.invariant-loop-trap

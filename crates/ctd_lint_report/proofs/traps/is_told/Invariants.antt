@@ -1,6 +1,4 @@
-use Rattle.std.proofs.Common.{◌≡◌, drop}
-use Rattle.ctd_lint_report.specs.calls.Report.{is_told}
-use Rattle.ctd_lint_report.specs.calls.Text.{kept}
+use Rattle.ctd_lint_report.proofs.Common.{drop, is_told, kept, ◌≡◌}
 use Rattle.ctd_lint_report.proofs.traps.is_told.Given as goal
 
 abbrev pub invariant-loop-finding : goal.invariant-loop-finding

@@ -1,5 +1,4 @@
-use Rattle.std.proofs.Common.{◌≡◌, drop}
-use Rattle.ctd_lint_report.specs.calls.Traps.{some_element}
+use Rattle.ctd_lint_report.proofs.Common.{drop, some_element, ◌≡◌}
 use Rattle.ctd_lint_report.proofs.traps.some_element.Given as goal
 
 abbrev pub invariant-loop-trap : goal.invariant-loop-trap

@@ -1,6 +1,4 @@
-use Rattle.std.proofs.Common.{◌≡◌, drop}
-use Rattle.std.specs.List.{list_any}
-use Rattle.ctd_lint_report.specs.calls.Traps.{is_open}
+use Rattle.ctd_lint_report.proofs.Common.{drop, is_open, list_any, ◌≡◌}
 use Rattle.ctd_lint_report.proofs.traps.some_open.Given as goal
 
 abbrev pub invariant-loop-trap : goal.invariant-loop-trap

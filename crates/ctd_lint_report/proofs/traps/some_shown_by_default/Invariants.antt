@@ -1,5 +1,4 @@
-use Rattle.std.proofs.Common.{◌≡◌, drop}
-use Rattle.ctd_lint_report.specs.calls.Traps.{some_shown_by_default}
+use Rattle.ctd_lint_report.proofs.Common.{drop, some_shown_by_default, ◌≡◌}
 use Rattle.ctd_lint_report.proofs.traps.some_shown_by_default.Given as goal
 
 abbrev pub invariant-loop-trap : goal.invariant-loop-trap

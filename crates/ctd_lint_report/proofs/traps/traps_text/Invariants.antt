@@ -1,9 +1,4 @@
-use Rattle.std.proofs.Common.{◌≡◌, ◌++◌, Bool, drop}
-use Rattle.ctd_traps.specs.declared.finding.Finding.{Finding as Trap}
-use Rattle.ctd_lint_report.specs.calls.Reasons.{reason_of}
-use Rattle.ctd_lint_report.specs.calls.Report.{is_told}
-use Rattle.ctd_lint_report.specs.calls.Text.{kept}
-use Rattle.ctd_lint_report.specs.calls.Traps.{kept_traps, traps_lines}
+use Rattle.ctd_lint_report.proofs.Common.{Bool, Trap, drop, is_told, kept, kept_traps, reason_of, traps_lines, ◌++◌, ◌≡◌}
 use Rattle.ctd_lint_report.proofs.traps.traps_text.Given as goal
 
 abbrev pub invariant-loop-trap : goal.invariant-loop-trap

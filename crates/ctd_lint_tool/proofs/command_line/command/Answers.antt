@@ -1,10 +1,5 @@
-use Rattle.std.proofs.Common.{true, ap, ap₂, sym, subst, [], ◌∷◌, ◌≡◌, ◌∙◌, List}
-use Rattle.std.proofs.lemmas.Result.{IfOk-weaker}
-use Rattle.clap.specs.Built.{AddsArg, AddsInTurn}
-use Rattle.clap.specs.Words.{app_of, with_rule}
-use Rattle.clap.specs.Simple.{app_of_fields, on_top}
-use Rattle.clap.specs.declared.builder.arg.Arg.{Arg}
-use Rattle.ctd_lint_tool.specs.calls.CommandLine.{linter, bare_linter}
+use Rattle.ctd_lint_tool.proofs.Common.{AddsArg, AddsInTurn, Arg, IfOk-weaker, List, [], ap, app_of, app_of_fields, ap₂, bare_linter, on_top, subst, sym, true, with_rule, ◌∙◌, ◌∷◌, ◌≡◌}
+use Rattle.ctd_lint_tool.specs.calls.CommandLine.{linter}
 use Rattle.ctd_lint_tool.proofs.command_line.command.Goals as goal
 
 pub returns : goal.returns

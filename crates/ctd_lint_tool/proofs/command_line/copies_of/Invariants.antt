@@ -1,4 +1,4 @@
-use Rattle.std.proofs.Common.{◌≡◌, map, take}
+use Rattle.ctd_lint_tool.proofs.Common.{map, take, ◌≡◌}
 use Rattle.ctd_lint_tool.proofs.command_line.copies_of.Given as goal
 
 abbrev pub invariant-loop-name : goal.invariant-loop-name

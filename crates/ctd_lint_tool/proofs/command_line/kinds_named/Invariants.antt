@@ -1,6 +1,4 @@
-use Rattle.std.proofs.Common.{◌≡◌, Some, drop, map, take}
-use Rattle.ctd_lint_report.specs.calls.Kinds.{lint_kind_named}
-use Rattle.ctd_lint_tool.specs.calls.Usage.{first_unknown}
+use Rattle.ctd_lint_tool.proofs.Common.{Some, drop, first_unknown, lint_kind_named, map, take, ◌≡◌}
 use Rattle.ctd_lint_tool.proofs.command_line.kinds_named.Given as goal
 
 abbrev pub invariant-loop-name : goal.invariant-loop-name

@@ -1,8 +1,4 @@
-use Rattle.std.proofs.Common.{ap, refl, true, map, subst, List, Result, ◌≡◌, ◌∙◌}
-use Rattle.std.proofs.lemmas.Result.{IfOk-weaker}
-use Rattle.clap.specs.declared.parser.matches.ArgMatches.{ArgMatches}
-use Rattle.clap.specs.declared.error.Error.{Error}
-use Rattle.clap.specs.Words.{App, Text, is_simple, is_simple_and_free, matches_of, fault_of, FailsBy}
+use Rattle.ctd_lint_tool.proofs.Common.{App, ArgMatches, Error, FailsBy, IfOk-weaker, List, Result, Text, ap, fault_of, is_simple, is_simple_and_free, map, matches_of, refl, subst, true, ◌∙◌, ◌≡◌}
 use Rattle.clap.proofs.OnLiterals.{clap_on_literals}
 use Rattle.ctd_lint_tool.specs.calls.CommandLine.{linter}
 use Rattle.ctd_lint_tool.proofs.command_line.matches_in.Goals as goal

@@ -1,6 +1,4 @@
-use Rattle.std.proofs.Common.{lit<}
-use Rattle.std.proofs.lemmas.Iterator.Consumers.{map_from_collect}
-use Rattle.std.proofs.lemmas.Iterator.Splits.{YieldsList-from_str_split}
+use Rattle.ctd_lint_tool.proofs.Common.{YieldsList-from_str_split, lit<, map_from_collect}
 use Rattle.ctd_lint_tool.proofs.command_line.parts_of.Goals as goal
 
 pub returns : goal.returns

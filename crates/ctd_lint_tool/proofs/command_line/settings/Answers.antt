@@ -1,9 +1,5 @@
-use Rattle.std.proofs.Common.{◌≡◌, ◌∙◌, ap, sym, map, List, [], ℕ, All, IsUtf8, rules}
-use Rattle.std.proofs.lemmas.Result.{IfOk-weaker, IfErr-weaker}
-use Rattle.std.specs.Borrow.{Bor}
-use Rattle.clap.specs.Words.{Row, Text, fault_of, found_of, matches_of, rows_of}
+use Rattle.ctd_lint_tool.proofs.Common.{All, Bor, IfErr-weaker, IfOk-weaker, IsFoundIn, IsUtf8, List, Row, Text, [], ap, fault_of, found_of, map, matches_of, rows_of, rules, sym, ℕ, ◌∙◌, ◌≡◌}
 use Rattle.ctd_lint_tool.specs.calls.CommandLine.{linter}
-use Rattle.ctd_lint_tool.specs.inner.Usage.{IsFoundIn}
 use Rattle.ctd_lint_tool.proofs.command_line.settings.Goals as goal
 
 -- clap takes the words, and what it finds in them is what the settings are made of

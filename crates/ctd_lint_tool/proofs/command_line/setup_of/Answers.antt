@@ -1,9 +1,4 @@
-use Rattle.std.proofs.Common.{◌∙◌, ap, sym, subst, codes}
-use Rattle.clap.specs.Words.{all_of, first_of}
-use Rattle.ctd_arguments.specs.Usage.{ArePresetsOf}
-use Rattle.ctd_arguments.specs.calls.Usage.{is_on}
-use Rattle.ctd_lint_tool.specs.calls.CommandLine.{AreKindsOf}
-use Rattle.ctd_lint_tool.specs.calls.Usage.{lint_fault}
+use Rattle.ctd_lint_tool.proofs.Common.{AreKindsOf, ArePresetsOf, all_of, ap, codes, first_of, is_on, lint_fault, subst, sym, ◌∙◌}
 use Rattle.ctd_lint_tool.proofs.UsageFaults.{holds_on_return, named, no_kinds, no_presets, no_programs}
 use Rattle.ctd_lint_tool.proofs.command_line.setup_of.Goals as goal
 

@@ -1,8 +1,4 @@
-use Rattle.std.proofs.Common.{◌∙◌, ◌∷◌, ◌+◌, ap, drop, rules, sym}
-use Rattle.std.proofs.lemmas.List.{drop_more}
-use Rattle.ctd_lint_report.specs.calls.Report.{AreRemarks}
-use Rattle.ctd_lint_tool.specs.calls.Run.{no_program, stand}
-use Rattle.ctd_lint_tool.specs.inner.Run.{LeavesRun}
+use Rattle.ctd_lint_tool.proofs.Common.{AreRemarks, LeavesRun, ap, drop, drop_more, no_program, rules, stand, sym, ◌+◌, ◌∙◌, ◌∷◌}
 use Rattle.ctd_lint_tool.proofs.RunLemmas.{goes_on, holds_on_return, stops}
 use Rattle.ctd_lint_tool.proofs.files.lint_all.Goals as goal
 

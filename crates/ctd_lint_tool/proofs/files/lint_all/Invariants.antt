@@ -1,6 +1,4 @@
-use Rattle.std.proofs.Common.{◌≡◌, drop, false}
-use Rattle.ctd_lint_report.specs.calls.Report.{AreRemarks}
-use Rattle.ctd_lint_tool.specs.calls.Run.{Lints, stand}
+use Rattle.ctd_lint_tool.proofs.Common.{AreRemarks, Lints, drop, false, stand, ◌≡◌}
 use Rattle.ctd_lint_tool.proofs.files.lint_all.Given as goal
 
 abbrev pub invariant-loop-name : goal.invariant-loop-name

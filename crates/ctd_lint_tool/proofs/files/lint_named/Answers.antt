@@ -1,9 +1,4 @@
-use Rattle.std.proofs.Common.{refl, rules}
-use Rattle.ctd_report.specs.Report.{on_err}
-use Rattle.ctd_report.proofs.WrittenLemmas.{Leaves-WritesOneOf, WritesOneOf-weaker}
-use Rattle.ctd_lint_tool.specs.calls.FileReport.{not_opened, of_program}
-use Rattle.ctd_lint_tool.specs.calls.Opening.{handed_back, not_read}
-use Rattle.ctd_lint_report.specs.calls.Text.{open_line}
+use Rattle.ctd_lint_tool.proofs.Common.{Leaves-WritesOneOf, WritesOneOf-weaker, handed_back, not_opened, not_read, of_program, on_err, open_line, refl, rules}
 use Rattle.ctd_lint_tool.proofs.files.lint_named.Goals as goal
 
 pub returns-in-Some : goal.returns-in-Some

@@ -1,6 +1,5 @@
-use Rattle.std.proofs.Common.{refl}
+use Rattle.ctd_lint_tool.proofs.Common.{no_room, refl, with_words}
 use Rattle.ctd_lint_tool.specs.declared.command_line.LintFault.TheVariants as faults
-use Rattle.ctd_lint_tool.specs.calls.Run.{with_words, no_room}
 use Rattle.ctd_lint_tool.proofs.RunLemmas.{told, args_fault}
 use Rattle.ctd_lint_tool.proofs.process.answer_args.Goals as goal
 

@@ -1,6 +1,4 @@
-use Rattle.std.proofs.Common.{◌≡◌, Err, refl, rules}
-use Rattle.ctd_report.specs.declared.written.ToolFault.TheVariants.{Memory, Write}
-use Rattle.ctd_lint_tool.specs.calls.Run.{broken_run, no_memory, of_programs, stand, whole_run}
+use Rattle.ctd_lint_tool.proofs.Common.{Err, Memory, Write, broken_run, no_memory, of_programs, refl, rules, stand, whole_run, ◌≡◌}
 use Rattle.ctd_lint_tool.proofs.RunLemmas.{run_breaks, run_runs_out, told, words_fault}
 use Rattle.ctd_lint_tool.proofs.process.answer_words.Goals as goal
 

@@ -1,10 +1,5 @@
-use Rattle.std.proofs.Common.{Err, ap, refl, subst}
+use Rattle.ctd_lint_tool.proofs.Common.{Err, Leaves, ap, before_after, breaks_off, on_err, refl, subst, usage_report, whole}
 use Rattle.ctd_lint_tool.specs.declared.command_line.LintFault.TheVariants as faults
-use Rattle.ctd_lint_tool.specs.calls.FileReport.{usage_report}
-use Rattle.ctd_report.proofs.EndLemmas.{breaks_off}
-use Rattle.ctd_report.specs.Report.{on_err}
-use Rattle.ctd_report.specs.Written.{before_after, whole}
-use Rattle.ctd_report.specs.calls.Written.{Leaves}
 use Rattle.ctd_lint_tool.proofs.usage.memory_status.Goals as goal
 
 pub returns-in-Ok : goal.returns-in-Ok

@@ -1,7 +1,4 @@
-use Rattle.std.proofs.Common.{subst, ◌∙◌}
-use Rattle.ctd_report.specs.Report.{on_err}
-use Rattle.ctd_report.specs.Written.{before_after}
-use Rattle.ctd_report.specs.calls.Written.{Leaves}
+use Rattle.ctd_lint_tool.proofs.Common.{Leaves, before_after, on_err, subst, ◌∙◌}
 use Rattle.ctd_lint_tool.proofs.usage.report_unknown_kind.Goals as goal
 
 pub returns : goal.returns

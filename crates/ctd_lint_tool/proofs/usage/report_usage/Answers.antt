@@ -1,7 +1,5 @@
 use Rattle.ctd_lint_tool.specs.declared.command_line.LintFault.TheVariants as faults
-use Rattle.std.proofs.Common.{ap, refl}
-use Rattle.ctd_report.specs.Report.{on_err, on_out}
-use Rattle.ctd_report.specs.Written.{before_after}
+use Rattle.ctd_lint_tool.proofs.Common.{ap, before_after, on_err, on_out, refl}
 use Rattle.ctd_lint_tool.proofs.UsageWritten.{usage_written}
 use Rattle.ctd_lint_tool.proofs.usage.report_usage.Goals as goal
 

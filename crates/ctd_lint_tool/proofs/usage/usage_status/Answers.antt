@@ -1,8 +1,4 @@
-use Rattle.std.proofs.Common.{◌≡◌, Err, inl, inr, refl, rules}
-use Rattle.ctd_report.specs.declared.written.ToolFault.TheVariants.{Memory, Write}
-use Rattle.ctd_report.specs.Written.{before_after, broken_off, whole}
-use Rattle.ctd_report.proofs.EndLemmas.{EndsWithReport-weaker}
-use Rattle.ctd_lint_tool.specs.calls.FileReport.{usage_report}
+use Rattle.ctd_lint_tool.proofs.Common.{EndsWithReport-weaker, Err, Memory, Write, before_after, broken_off, inl, inr, refl, rules, usage_report, whole, ◌≡◌}
 use Rattle.ctd_lint_tool.proofs.UsageWritten.{breaks, untouched}
 use Rattle.ctd_lint_tool.proofs.usage.usage_status.Goals as goal
 

@@ -1,7 +1,7 @@
 use Rattle.ctd_program.specs.inner.View.{boxed_separator}
 use Rattle.ctd_program.specs.calls.View.{command_trees}
 use Rattle.ctd_program.specs.declared.tree.Loop.{out-Loop}
-use Rattle.ctd_syntax.specs.calls.PatternLiterals.{separator_literals, literals}
+use Rattle.ctd_syntax.specs.inner.PatternLiterals.{separator_literals, literals}
 use Rattle.ctd_loader.proofs.Listing.{loop_literals, choice_literals, listed_both}
 use Rattle.ctd_loader.proofs.literals.+literals.Goals as goal
 

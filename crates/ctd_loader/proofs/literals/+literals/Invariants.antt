@@ -1,6 +1,6 @@
 use Rattle.std.proofs.Common.{◌≡◌, ◌++◌, drop}
 use Rattle.ctd_program.specs.calls.View.{command_trees}
-use Rattle.ctd_syntax.specs.calls.PatternLiterals.{literals}
+use Rattle.ctd_syntax.specs.inner.PatternLiterals.{literals}
 use Rattle.ctd_loader.specs.inner.Literals.{literals_at}
 use Rattle.ctd_loader.proofs.literals.+literals.Given as goal
 

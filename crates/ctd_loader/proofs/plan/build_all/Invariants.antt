@@ -1,11 +1,7 @@
-use Rattle.std.proofs.Common.{◌≡◌, take}
-use Rattle.ctd_loader.specs.calls.PatternTable.{texts_of}
+use Rattle.std.proofs.Common.{take}
 use Rattle.ctd_loader.specs.inner.Literals.{literals_at}
 use Rattle.ctd_loader.specs.Loading.{ArePatterns}
 use Rattle.ctd_loader.proofs.plan.build_all.Given as goal
 
 abbrev pub invariant-loop-literal : goal.invariant-loop-literal
-invariant-loop-literal l = record {
-  built : l.patterns.items ≡ texts_of (literals_at (take l.literal-index l.literals));
-  are_patterns : ArePatterns (literals_at (take l.literal-index l.literals));
-}
+invariant-loop-literal l = ArePatterns (literals_at (take l.literal-index l.literals))

@@ -1,7 +1,4 @@
-use Rattle.std.proofs.Common.{rules, ◌≡◌, ◌∙◌, ap, sym, subst, pos, ◌≤ℤ◌, to_z}
-use Rattle.std.specs.Int.{w128}
-use Rattle.std.specs.Int.RustNames.{FitsSigned}
-use Rattle.std.proofs.lemmas.Int.{to_z-of_z}
+use Rattle.ctd_range.proofs.Common.{FitsSigned, ap, pos, rules, subst, sym, to_z, to_z-of_z, w128, ◌∙◌, ◌≡◌, ◌≤ℤ◌}
 use Rattle.ctd_range.proofs.Quotients.{above_zero, from_low_end, quotients_no_further}
 use Rattle.ctd_range.proofs.arithmetic.all_quotients.Goals as goal
 

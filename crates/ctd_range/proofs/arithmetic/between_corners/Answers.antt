@@ -1,7 +1,4 @@
-use Rattle.std.proofs.Common.{rules, refl}
-use Rattle.std.specs.Int.{w128}
-use Rattle.std.specs.Int.RustNames.{FitsSigned}
-use Rattle.std.proofs.lemmas.Int.{to_z-of_z}
+use Rattle.ctd_range.proofs.Common.{FitsSigned, refl, rules, to_z-of_z, w128}
 use Rattle.ctd_range.proofs.arithmetic.between_corners.Goals as goal
 
 pub returns : goal.returns

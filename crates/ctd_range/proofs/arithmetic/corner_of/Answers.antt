@@ -1,7 +1,4 @@
-use Rattle.std.proofs.Common.{rules, ◌≡◌, ◌*ℤ◌, ◌∙◌, to_z, of_z}
-use Rattle.std.specs.Int.RustNames.{FitsSigned}
-use Rattle.std.specs.Int.{w128}
-use Rattle.std.proofs.lemmas.Int.{to_z-of_z}
+use Rattle.ctd_range.proofs.Common.{FitsSigned, of_z, rules, to_z, to_z-of_z, w128, ◌*ℤ◌, ◌∙◌, ◌≡◌}
 use Rattle.ctd_range.proofs.Saturating.{saturated_corner}
 use Rattle.ctd_range.proofs.arithmetic.corner_of.Goals as goal
 

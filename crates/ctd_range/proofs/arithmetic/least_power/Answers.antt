@@ -1,7 +1,4 @@
-use Rattle.std.proofs.Common.{rules, arith}
-use Rattle.std.specs.Int.RustNames.{FitsSigned}
-use Rattle.std.specs.Int.{w128}
-use Rattle.std.proofs.lemmas.Int.{ints, to_z-of_z}
+use Rattle.ctd_range.proofs.Common.{FitsSigned, arith, ints, rules, to_z-of_z, w128}
 use Rattle.ctd_range.proofs.Divisions.{as_least, at_least_one, least_is, one_at_least}
 use Rattle.ctd_range.proofs.arithmetic.least_power.Goals as goal
 

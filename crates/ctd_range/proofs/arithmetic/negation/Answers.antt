@@ -1,6 +1,4 @@
-use Rattle.std.proofs.Common.{pos, subst}
-use Rattle.ctd_value.specs.Arithmetic.{in_range}
-use Rattle.ctd_range.specs.calls.Ranges.{Covers}
+use Rattle.ctd_range.proofs.Common.{Covers, in_range, pos, subst}
 use Rattle.ctd_range.proofs.Ends.{zero_is_in, zero_less}
 use Rattle.ctd_range.proofs.arithmetic.negation.Goals as goal
 

@@ -1,7 +1,4 @@
-use Rattle.std.proofs.Common.{rules, pos, ◌-ℤ◌, arith}
-use Rattle.std.specs.Int.{w128}
-use Rattle.std.specs.Int.RustNames.{FitsSigned}
-use Rattle.std.proofs.lemmas.Int.{ints, to_z-of_z}
+use Rattle.ctd_range.proofs.Common.{FitsSigned, arith, ints, pos, rules, to_z-of_z, w128, ◌-ℤ◌}
 use Rattle.ctd_range.proofs.Quotients.{no_further_is_in}
 use Rattle.ctd_range.proofs.arithmetic.no_further.Goals as goal
 

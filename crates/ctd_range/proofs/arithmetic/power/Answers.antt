@@ -1,7 +1,4 @@
-use Rattle.std.proofs.Common.{rules, pos, refl, arith}
-use Rattle.std.specs.Int.RustNames.{FitsSigned}
-use Rattle.std.specs.Int.{w128}
-use Rattle.std.proofs.lemmas.Int.{ints, to_z-of_z}
+use Rattle.ctd_range.proofs.Common.{FitsSigned, arith, ints, pos, refl, rules, to_z-of_z, w128}
 use Rattle.ctd_range.proofs.Ends.{power_covers}
 use Rattle.ctd_range.proofs.Divisions.{above_low, below_high, power_up_to}
 use Rattle.ctd_range.proofs.arithmetic.power.Goals as goal

@@ -1,6 +1,4 @@
-use Rattle.std.proofs.Common.{rules, ◌≡◌, to_z, of_z}
-use Rattle.std.specs.Int.{w128}
-use Rattle.std.proofs.lemmas.Int.{to_z-of_z}
+use Rattle.ctd_range.proofs.Common.{of_z, rules, to_z, to_z-of_z, w128, ◌≡◌}
 use Rattle.ctd_range.proofs.Products.{corners_cover}
 use Rattle.ctd_range.proofs.arithmetic.product.Goals as goal
 

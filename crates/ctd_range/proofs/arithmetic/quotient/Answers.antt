@@ -1,6 +1,4 @@
-use Rattle.std.proofs.Common.{refl, rules, subst}
-use Rattle.std.specs.Prelude.{int_div}
-use Rattle.ctd_range.specs.calls.Ranges.{IsIn}
+use Rattle.ctd_range.proofs.Common.{IsIn, int_div, refl, rules, subst}
 use Rattle.ctd_range.proofs.Ends.{division_covers}
 use Rattle.ctd_range.proofs.Quotients.{quotient_covers}
 use Rattle.ctd_range.proofs.arithmetic.quotient.Goals as goal

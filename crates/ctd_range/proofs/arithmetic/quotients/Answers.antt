@@ -1,8 +1,4 @@
-use Rattle.std.proofs.Common.{rules}
-use Rattle.std.specs.Prelude.{int_div}
-use Rattle.std.specs.Int.{w128}
-use Rattle.std.specs.Int.RustNames.{FitsSigned}
-use Rattle.std.proofs.lemmas.Int.{quot_fits, to_z-of_z}
+use Rattle.ctd_range.proofs.Common.{FitsSigned, int_div, quot_fits, rules, to_z-of_z, w128}
 use Rattle.ctd_range.proofs.Quotients.{quotients_are_in}
 use Rattle.ctd_range.proofs.arithmetic.quotients.Goals as goal
 

@@ -1,5 +1,4 @@
-use Rattle.std.proofs.Common.{rules, subst}
-use Rattle.ctd_range.specs.calls.Ranges.{IsIn}
+use Rattle.ctd_range.proofs.Common.{IsIn, rules, subst}
 use Rattle.ctd_range.proofs.Divisions.{remainder_covers}
 use Rattle.ctd_range.proofs.arithmetic.remainder.Goals as goal
 

@@ -1,7 +1,4 @@
-use Rattle.std.proofs.Common.{rules}
-use Rattle.std.specs.Int.RustNames.{FitsSigned}
-use Rattle.std.specs.Int.{w128}
-use Rattle.std.proofs.lemmas.Int.{to_z-of_z}
+use Rattle.ctd_range.proofs.Common.{FitsSigned, rules, to_z-of_z, w128}
 use Rattle.ctd_range.proofs.Divisions.{not_negative, positive_from}
 use Rattle.ctd_range.proofs.arithmetic.remainders.Goals as goal
 

@@ -1,8 +1,4 @@
-use Rattle.std.proofs.Common.{rules, ap, ◌≡◌, ◌∙◌, ◌||◌, ◌+ℤ◌, arith, to_z, of_z}
-use Rattle.std.proofs.Math.Bool.{or-true}
-use Rattle.std.specs.Int.RustNames.{FitsSigned}
-use Rattle.std.specs.Int.{w128}
-use Rattle.std.proofs.lemmas.Int.{ints, to_z-of_z}
+use Rattle.ctd_range.proofs.Common.{FitsSigned, ap, arith, ints, of_z, or-true, rules, to_z, to_z-of_z, w128, ◌+ℤ◌, ◌||◌, ◌∙◌, ◌≡◌}
 use Rattle.ctd_range.proofs.Ends.{ends_cover, sum_below, sum_above}
 use Rattle.ctd_range.proofs.arithmetic.sum.Goals as goal
 

@@ -1,5 +1,4 @@
-use Rattle.std.proofs.Common.{◌≡◌, sym, subst}
-use Rattle.ctd_range.specs.calls.Ranges.{IsIn, Relates}
+use Rattle.ctd_range.proofs.Common.{IsIn, Relates, subst, sym, ◌≡◌}
 use Rattle.ctd_range.proofs.compare.restrict.Goals as goal
 
 pub returns-in-Less : goal.returns-in-Less

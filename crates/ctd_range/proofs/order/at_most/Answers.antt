@@ -1,7 +1,4 @@
-use Rattle.std.proofs.Common.{rules, arith}
-use Rattle.std.specs.Int.{w128}
-use Rattle.std.specs.Int.RustNames.{FitsSigned}
-use Rattle.std.proofs.lemmas.Int.{ints, to_z-of_z}
+use Rattle.ctd_range.proofs.Common.{FitsSigned, arith, ints, rules, to_z-of_z, w128}
 use Rattle.ctd_range.proofs.order.at_most.Goals as goal
 
 pub returns-then-b-a : goal.returns-then-b-a

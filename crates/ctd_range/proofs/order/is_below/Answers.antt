@@ -1,8 +1,4 @@
-use Rattle.std.proofs.Common.{rules, ◌≡◌, ℤ, ◌≤ℤ◌, ◌-◌, ◌^◌, true, subst, arith}
-use Rattle.std.specs.Int.RustNames.{FitsSigned}
-use Rattle.std.specs.Int.{w128}
-use Rattle.std.proofs.lemmas.Int.{ints, to_z-of_z}
-use Rattle.std.proofs.lemmas.Bool.Decides.{nat_tests}
+use Rattle.ctd_range.proofs.Common.{FitsSigned, arith, ints, nat_tests, rules, subst, to_z-of_z, true, w128, ℤ, ◌-◌, ◌^◌, ◌≡◌, ◌≤ℤ◌}
 use Rattle.ctd_range.proofs.Slopes.{below_by_gain, below_flat}
 use lib.Signed.{le_z}
 use Rattle.ctd_range.proofs.order.is_below.Goals as goal

@@ -1,8 +1,4 @@
-use Rattle.std.proofs.Common.{rules, ◌≡◌, ◌*◌, ℕ, ℤ, pos, ◌+ℤ◌, ◌-ℤ◌, ◌≤ℤ◌, arith}
-use Rattle.std.specs.Int.RustNames.{FitsSigned}
-use Rattle.std.specs.Int.{w128}
-use Rattle.std.proofs.lemmas.Int.{ints, to_z-of_z}
-use Rattle.std.specs.Int.{saturate_signed}
+use Rattle.ctd_range.proofs.Common.{FitsSigned, arith, ints, pos, rules, saturate_signed, to_z-of_z, w128, ℕ, ℤ, ◌*◌, ◌+ℤ◌, ◌-ℤ◌, ◌≡◌, ◌≤ℤ◌}
 use Rattle.ctd_range.proofs.Slopes.{paid_low, paid_high}
 use Rattle.ctd_range.proofs.Saturating.{not_above, not_below}
 use Rattle.ctd_range.proofs.order.pay.Goals as goal

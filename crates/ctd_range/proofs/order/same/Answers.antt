@@ -1,5 +1,4 @@
-use Rattle.std.proofs.Common.{arith}
-use Rattle.std.proofs.lemmas.Int.{ints}
+use Rattle.ctd_range.proofs.Common.{arith, ints}
 use Rattle.ctd_range.proofs.order.same.Goals as goal
 
 pub returns : goal.returns

@@ -16,7 +16,7 @@ loop-token-init c =
 pub returns-in-Err-clause-fault : goal.returns-in-Err-clause-fault
 returns-in-Err-clause-fault c =
     let read = c.loop-token.invariant.read in
-    fault_is c.args.text.now read.tokens c.loop-token.tokens.uncut _ _ c.in_ok-tokens.ensures.short read.cut c.in-Err.ensures.fault
+    fault_is c.args.text.now read.tokens c.loop-token.tokens _ _ c.in_ok-tokens.ensures.short read.cut c.in-Err.ensures.fault
 
 pub loop-token-preserved : goal.loop-token-preserved
 loop-token-preserved c =
@@ -37,4 +37,4 @@ returns-clause-parses c = λ fits.
     let behind = c.read_off-2.new.commands.items in
     let whole = c.in_ok-read_off-2.ensures.whole refl in
     let read = subst (λ l. ReadsOff batch commands (map lexeme l) behind) whole (c.in_ok-read_off-2.ensures.read fits) in
-    finish c.args.text.now commands behind batch c.loop-token.tokens c.loop-token.nesting c.in_ok-tokens.ensures.short c.loop-token.invariant read (subst (λ o. IfNone o (IsEnd c.loop-token.tokens.uncut)) c.in-Ok-None.field-0-is c.in-Ok-None.ensures.end)
+    finish c.args.text.now commands behind batch c.loop-token.tokens c.loop-token.nesting c.in_ok-tokens.ensures.short c.loop-token.invariant read (subst (λ o. IfNone o (IsEnd c.loop-token.tokens)) c.in-Ok-None.field-0-is c.in-Ok-None.ensures.end)

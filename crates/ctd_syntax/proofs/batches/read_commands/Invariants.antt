@@ -8,4 +8,4 @@ abbrev pub invariant-loop-token : goal.invariant-loop-token
 invariant-loop-token l = InBatches l.text l.commands.items (map lexeme l.batch.items) l.tokens l.nesting
 
 abbrev pub decreases-loop-token : goal.decreases-loop-token
-decreases-loop-token l = length l.text - l.tokens.uncut.at
+decreases-loop-token l = length l.text - l.tokens.at

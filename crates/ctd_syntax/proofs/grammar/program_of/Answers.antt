@@ -10,7 +10,6 @@ use Rattle.std.proofs.lemmas.List.{length-map}
 use Rattle.ctd_syntax.proofs.Staying.{read_here, none_here}
 use Rattle.ctd_program.specs.calls.View.{command_list, command_trees}
 use Rattle.ctd_program.proofs.Trees.{list_commands}
-use Rattle.ctd_syntax.proofs.RegexNumberLemmas.{reads_numbered}
 use Rattle.ctd_syntax.proofs.Parsing.{left_wrong, none_wrong, wrong_token, parsed, spelled_only, left_over, unspelled, of_any_cut, nothing, something}
 use Rattle.ctd_syntax.proofs.Weights.{never_heavy, first_heavy}
 use Rattle.ctd_syntax.proofs.grammar.program_of.Goals as goal
@@ -24,9 +23,6 @@ returns-then-is_empty-clause-parses c =
     subst (Parses text) (list_commands c.in-Ok.commands ∙ ap command_trees (sym c.new.ensures))
     (parsed text cut.tokens (command_list c.in-Ok.commands) cut.is_cut shallow
     (spelled_only (lexemes text cut.tokens) (command_list c.in-Ok.commands) (map lexeme c.in-Ok.rest.now) found (nothing lexeme c.in-Ok.rest.now (sym c.is_empty.ensures ∙ c.if-is_empty.true))))
-
-pub returns-then-is_empty-clause-numbered : goal.returns-then-is_empty-clause-numbered
-returns-then-is_empty-clause-numbered c = reads_numbered c.args.text.now _ (returns-then-is_empty-clause-parses c).reads
 
 pub too_deep-requires : goal.too_deep-requires
 too_deep-requires c =

@@ -12,7 +12,7 @@ use Rattle.ctd_syntax.proofs.parser_token.parser_tokens.Goals as goal
 pub returns-in_err-token-clause-fault : goal.returns-in_err-token-clause-fault
 returns-in_err-token-clause-fault c =
     let p = err_from_is_err_and c.from_residual-in_err-token.result c.from_residual-in_err-token.ensures.1 in
-    rw (p.1, p.2) (fault_is c.args.text.now c.loop-seen.invariant.tokens c.loop-seen.tokens.uncut _ _ c.in_ok-tokens.ensures.short c.loop-seen.invariant.cut c.in_err-token.ensures.fault)
+    rw (p.1, p.2) (fault_is c.args.text.now c.loop-seen.invariant.tokens c.loop-seen.tokens _ _ c.in_ok-tokens.ensures.short c.loop-seen.invariant.cut c.in_err-token.ensures.fault)
 
 pub loop-seen-preserved : goal.loop-seen-preserved
 loop-seen-preserved c =

@@ -8,4 +8,4 @@ abbrev pub invariant-loop-seen : goal.invariant-loop-seen
 invariant-loop-seen l = HasRead l.text (map lexeme l.seen.items) l.tokens
 
 abbrev pub decreases-loop-seen : goal.decreases-loop-seen
-decreases-loop-seen l = length l.text - l.tokens.uncut.at
+decreases-loop-seen l = length l.text - l.tokens.at

@@ -1,9 +1,4 @@
-use Rattle.std.proofs.Common.{arith}
-use Rattle.std.proofs.lemmas.Grind.{common_steps}
-use Rattle.ctd_program.specs.inner.View.{boxed_separator}
-use Rattle.ctd_program.specs.calls.View.{command_trees}
-use Rattle.ctd_program.specs.declared.tree.Loop.{out-Loop}
-use Rattle.ctd_traps.specs.calls.Commands.{all_commands, separator_commands}
+use Rattle.ctd_traps.proofs.Common.{all_commands, arith, boxed_separator, command_trees, common_steps, out-Loop, separator_commands}
 use Rattle.ctd_traps.proofs.Additions.{adds_both}
 use Rattle.ctd_traps.proofs.Trees.{within_loop, within_choice}
 use Rattle.ctd_traps.proofs.block.+block.Goals as goal

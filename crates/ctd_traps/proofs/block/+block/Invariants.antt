@@ -1,7 +1,4 @@
-use Rattle.std.proofs.Common.{drop}
-use Rattle.ctd_program.specs.calls.View.{command_trees}
-use Rattle.ctd_traps.specs.calls.Commands.{all_commands}
-use Rattle.ctd_traps.specs.inner.Listed.{trees_in}
+use Rattle.ctd_traps.proofs.Common.{all_commands, command_trees, drop, trees_in}
 use Rattle.ctd_traps.proofs.Additions.{Leads}
 use Rattle.ctd_traps.proofs.block.+block.Given as goal
 

@@ -1,5 +1,4 @@
-use Rattle.std.proofs.Common.{refl, sym, subst, ◌∙◌}
-use Rattle.ctd_range.specs.calls.Ranges.{IsIn}
+use Rattle.ctd_traps.proofs.Common.{IsIn, refl, subst, sym, ◌∙◌}
 use Rattle.ctd_traps.proofs.Comparing.{some_same}
 use Rattle.ctd_traps.proofs.cut.cut_numbers.Goals as goal
 

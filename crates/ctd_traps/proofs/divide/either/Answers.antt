@@ -1,12 +1,11 @@
-use Rattle.std.proofs.Common.{subst}
-use Rattle.ctd_known.specs.calls.Cases.{TellsCases, cases_in}
+use Rattle.ctd_traps.proofs.Common.{PartitionIsWithin, states_in, subst}
 use Rattle.ctd_traps.proofs.divide.either.Goals as goal
 
 pub returns : goal.returns
 returns c = record {
   left = c.in_ok-if_true.ensures.first;
-  right = subst (λ l. TellsCases (cases_in c.args.ground l) (cases_in c.args.ground c.in_ok-if_true.if_true.items)) c.as_slice.ensures.value c.in_ok-if_true.ensures.second;
+  right = subst (λ l. PartitionIsWithin (states_in c.args.context l) (states_in c.args.context c.in_ok-if_true.if_true.items)) c.as_slice.ensures.value c.in_ok-if_true.ensures.second;
   neither = λ n h one. one;
-  by_first = c.both.ensures.first;
-  by_second = c.both.ensures.second;
+  by_first = c.union.ensures.first;
+  by_second = c.union.ensures.second;
 }

@@ -1,11 +1,10 @@
-use Rattle.std.proofs.Common.{◌∙◌}
-use Rattle.ctd_outcome.specs.declared.reason.Fault.TheVariants.{WrongType}
+use Rattle.ctd_traps.proofs.Common.{WrongType, ◌∙◌}
 use Rattle.ctd_traps.proofs.Applying.{applied}
 use Rattle.ctd_traps.proofs.expression.apply.Goals as goal
 
 pub returns : goal.returns
 returns c = λ k left right l r. applied c.args.operator c.args.a c.args.b c.operate.result c.with_faults-2.result c.operands-numbers.result k left right c.operands-numbers.ensures.operands c.operate.ensures.operates
-    (c.with_faults-2.ensures.kinds ∙ c.with_faults.ensures.kinds ∙ c.with_type_fault-own.ensures.kinds ∙ c.with_operands-computed.ensures.kinds)
+    (c.with_faults-2.ensures.values ∙ c.with_faults.ensures.values ∙ c.with_type_fault-own.ensures.values ∙ c.with_operands-computed.ensures.values)
     (λ x h. c.with_faults-2.ensures.own x (c.with_faults.ensures.others x h))
     (λ x h. c.with_faults-2.ensures.others x h)
     (λ is. c.with_faults-2.ensures.own WrongType (c.with_faults.ensures.own WrongType (c.with_type_fault-own.ensures.wrong_type is)))

@@ -1,7 +1,4 @@
-use Rattle.std.proofs.Common.{refl, rules, pos, arith}
-use Rattle.std.specs.Int.{w128}
-use Rattle.std.specs.Int.RustNames.{FitsSigned}
-use Rattle.std.proofs.lemmas.Int.{ints, to_z-of_z}
+use Rattle.ctd_traps.proofs.Common.{FitsSigned, arith, ints, pos, refl, rules, to_z-of_z, w128}
 use Rattle.ctd_traps.proofs.expression.of_length.Goals as goal
 
 pub returns : goal.returns

@@ -1,6 +1,4 @@
-use Rattle.std.proofs.Common.{◌≡◌, subst}
-use Rattle.ctd_range.specs.calls.Ranges.{IsIn}
-use Rattle.ctd_traps.specs.inner.Operators.{operate}
+use Rattle.ctd_traps.proofs.Common.{IsIn, operate, subst, ◌≡◌}
 use Rattle.ctd_traps.proofs.expression.operate.Goals as goal
 
 pub returns-in-Some : goal.returns-in-Some

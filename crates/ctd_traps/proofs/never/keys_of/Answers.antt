@@ -1,7 +1,5 @@
-use Rattle.std.proofs.Common.{◌≡◌, inl, subst, true, ◌∙◌}
+use Rattle.ctd_traps.proofs.Common.{Note, has_key, inl, key_of, subst, true, ◌∙◌, ◌≡◌}
 use Rattle.ctd_traps.specs.declared.note.EventKind.TheVariants as kinds
-use Rattle.ctd_traps.specs.declared.note.Note.{Note}
-use Rattle.ctd_traps.specs.inner.Absent.{has_key, key_of}
 use Rattle.ctd_traps.proofs.Absent.{key_step, keys_done, still_true}
 use Rattle.ctd_traps.proofs.never.keys_of.Goals as goal
 

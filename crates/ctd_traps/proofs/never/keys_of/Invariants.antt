@@ -1,5 +1,4 @@
-use Rattle.std.proofs.Common.{drop}
-use Rattle.ctd_traps.specs.inner.Absent.{has_key, key_of}
+use Rattle.ctd_traps.proofs.Common.{drop, has_key, key_of}
 use Rattle.ctd_traps.proofs.Absent.{LeftOr}
 use Rattle.ctd_traps.proofs.never.keys_of.Given as goal
 

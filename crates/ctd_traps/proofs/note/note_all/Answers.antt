@@ -1,7 +1,4 @@
-use Rattle.std.proofs.Common.{Contains, sym, subst}
-use Rattle.ctd_traps.specs.calls.Traps.{traps_of}
-use Rattle.ctd_traps.specs.calls.Events.{events_of}
-use Rattle.ctd_traps.specs.declared.note.Noted.{Noted}
+use Rattle.ctd_traps.proofs.Common.{Contains, Noted, events_of, faults_of, subst, sym}
 use Rattle.ctd_traps.proofs.Listed.{part_left, part_right}
 use Rattle.ctd_traps.proofs.Noting.{events_left, events_right, part_of}
 use Rattle.ctd_traps.proofs.note.note_all.Goals as goal
@@ -10,14 +7,14 @@ pub returns : goal.returns
 returns c =
     let more : Noted = c.args.more in
     let old : Noted = c.args.noted.now in
-    let new : Noted = record { findings = c.extend_from_slice.new.self; events = c.extend_from_slice-2.new.self } in
-    let findings = c.as_slice.result.now in
+    let new : Noted = record { traps = c.extend_from_slice.new.self; events = c.extend_from_slice-2.new.self } in
+    let traps = c.as_slice.result.now in
     let events = c.as_slice-2.result.now in
     let found = c.in_ok-extend_from_slice.ensures.items in
     let happened = c.in_ok-extend_from_slice-2.ensures.items in
     record {
-      more = part_of old new (part_left old.findings.items findings new.findings.items found) (events_left old.events.items events new.events.items happened);
+      more = part_of old new (part_left old.traps.items traps new.traps.items found) (events_left old.events.items events new.events.items happened);
       all = part_of more new
-          (λ t has. part_right old.findings.items findings new.findings.items found t (subst (λ l. Contains (traps_of l) t) (sym c.as_slice.ensures.value) has))
+          (λ t has. part_right old.traps.items traps new.traps.items found t (subst (λ l. Contains (faults_of l) t) (sym c.as_slice.ensures.value) has))
           (λ e has. events_right old.events.items events new.events.items happened e (subst (λ l. Contains (events_of l) e) (sym c.as_slice-2.ensures.value) has));
     }

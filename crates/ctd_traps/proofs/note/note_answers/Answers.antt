@@ -1,5 +1,4 @@
-use Rattle.std.specs.Prelude.{true}
-use Rattle.ctd_traps.specs.calls.Events.{answers}
+use Rattle.ctd_traps.proofs.Common.{answers, true}
 use Rattle.ctd_traps.proofs.note.note_answers.Goals as goal
 
 pub returns : goal.returns

@@ -1,6 +1,4 @@
-use Rattle.std.proofs.Common.{[], ◌∷◌}
-use Rattle.ctd_traps.specs.declared.note.Note.{Note}
-use Rattle.ctd_traps.specs.declared.note.Noted.{Noted}
+use Rattle.ctd_traps.proofs.Common.{Note, Noted, [], ◌∷◌}
 use Rattle.ctd_traps.proofs.Noting.{event_pushed, events_left, kind_noted, part_of}
 use Rattle.ctd_traps.proofs.note.note_event.Goals as goal
 
@@ -8,7 +6,7 @@ pub returns : goal.returns
 returns c =
     let x : Note = record { place = c.args.place; kind = c.args.kind } in
     let old : Noted = c.args.noted.now in
-    let new : Noted = record { findings = old.findings; events = c.push.new.self } in
+    let new : Noted = record { traps = old.traps; events = c.push.new.self } in
     record {
       more = part_of old new (λ t is. is) (events_left old.events.items (x ∷ []) new.events.items c.in_ok-push.ensures.items);
       event = λ g n h one. kind_noted new c.args.place c.args.kind (event_pushed old.events.items new.events.items x c.in_ok-push.ensures.items);

@@ -1,6 +1,4 @@
-use Rattle.std.proofs.Common.{◌+◌, ap, arith, drop, subst, sym}
-use Rattle.std.proofs.lemmas.List.{with_items_is}
-use Rattle.ctd_known.specs.calls.Facts.{pins_in, facts_in}
+use Rattle.ctd_traps.proofs.Common.{ap, arith, drop, entries_in, pins_in, subst, sym, with_items_is, ◌+◌}
 use Rattle.ctd_traps.proofs.Pinning.{PinLeads, pin_done, pin_step}
 use Rattle.ctd_traps.proofs.program.pin_all.Goals as goal
 
@@ -9,12 +7,12 @@ loop-preset-preserved c =
     let g = c.args.without in
     let presets = c.args.presets.now in
     let i = c.loop-preset.preset-index in
-    let known = c.loop-preset.known in
-    let after = c.pin.new.known in
-    subst (λ l. PinLeads (pins_in g) (facts_in g l) (drop (i + 1) presets) presets) (sym (with_items_is known after (omega arith)))
-    (pin_step (pins_in g) (facts_in g known.items) (facts_in g c.as_mut_slice.result.now) (facts_in g after) presets i c.preset-item.result (ap (facts_in g) c.as_mut_slice.ensures.value) c.loop-preset-test.true c.preset-item.is c.in_ok-pin.ensures c.loop-preset.invariant)
+    let entries = c.loop-preset.entries in
+    let after = c.pin.new.entries in
+    subst (λ l. PinLeads (pins_in g) (entries_in g l) (drop (i + 1) presets) presets) (sym (with_items_is entries after (omega arith)))
+    (pin_step (pins_in g) (entries_in g entries.items) (entries_in g c.as_mut_slice.result.now) (entries_in g after) presets i c.preset-item.result (ap (entries_in g) c.as_mut_slice.ensures.value) c.loop-preset-test.true c.preset-item.is c.in_ok-pin.ensures c.loop-preset.invariant)
 
 pub returns : goal.returns
 returns c =
     let g = c.args.without in
-    pin_done (pins_in g) (facts_in g c.loop-preset.known.items) c.args.presets.now c.loop-preset.preset-index c.loop-preset-test.false c.loop-preset.invariant
+    pin_done (pins_in g) (entries_in g c.loop-preset.entries.items) c.args.presets.now c.loop-preset.preset-index c.loop-preset-test.false c.loop-preset.invariant

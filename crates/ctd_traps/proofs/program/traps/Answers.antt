@@ -1,9 +1,4 @@
-use Rattle.std.proofs.Common.{subst}
-use Rattle.ctd_traps.specs.inner.Absent.{AreAbsent}
-use Rattle.ctd_program.specs.calls.View.{command_trees}
-use Rattle.ctd_traps.specs.calls.Traps.{traps_of}
-use Rattle.ctd_traps.specs.declared.note.Noted.{Noted}
-use Rattle.ctd_traps.specs.inner.Noted.{noted_in}
+use Rattle.ctd_traps.proofs.Common.{AreAbsent, Noted, command_trees, faults_of, noted_in, subst}
 use Rattle.ctd_traps.proofs.Absent.{never_happens}
 use Rattle.ctd_traps.proofs.Whole.{traps_noted}
 use Rattle.ctd_traps.proofs.program.traps.Goals as goal
@@ -11,7 +6,7 @@ use Rattle.ctd_traps.proofs.program.traps.Goals as goal
 pub returns-in-Ok-clause-each : goal.returns-in-Ok-clause-each
 returns-in-Ok-clause-each c =
     let noted : Noted = c.in-Ok.noted in
-    traps_noted (command_trees c.args.commands.now) c.args.presets.now (noted_in noted) (traps_of noted.findings.items) (λ place fault has. has) c.in-Ok.ensures
+    traps_noted (command_trees c.args.commands.now) c.args.presets.now (noted_in noted) (faults_of noted.traps.items) (λ place fault has. has) c.in-Ok.ensures
 
 pub returns-in-Ok-clause-never : goal.returns-in-Ok-clause-never
 returns-in-Ok-clause-never c =

@@ -1,7 +1,4 @@
-use Rattle.std.proofs.Common.{rules}
-use Rattle.std.specs.Int.RustNames.{FitsSigned}
-use Rattle.std.specs.Int.{w128}
-use Rattle.std.proofs.lemmas.Int.{to_z-of_z}
+use Rattle.ctd_traps.proofs.Common.{FitsSigned, rules, to_z-of_z, w128}
 use Rattle.ctd_traps.proofs.Acting.{between_numbers}
 use Rattle.ctd_traps.proofs.simple.between.Goals as goal
 

@@ -1,7 +1,4 @@
-use Rattle.std.proofs.Common.{rules, pos}
-use Rattle.std.specs.Int.RustNames.{FitsSigned}
-use Rattle.std.specs.Int.{w128}
-use Rattle.std.proofs.lemmas.Int.{to_z-of_z}
+use Rattle.ctd_traps.proofs.Common.{FitsSigned, pos, rules, to_z-of_z, w128}
 use Rattle.ctd_traps.proofs.Turning.{before_count, in_counts}
 use Rattle.ctd_traps.proofs.turn.below.Goals as goal
 

@@ -1,10 +1,6 @@
-use Rattle.std.proofs.Common.{drop}
-use Rattle.ctd_program.specs.calls.View.{boxed_target}
-use Rattle.ctd_known.proofs.Joining.{RestOr}
+use Rattle.ctd_traps.proofs.Common.{RestOr, boxed_target, drop, pins_in, states_in}
 use Rattle.ctd_traps.proofs.Turning.{CountsSo}
-use Rattle.ctd_known.specs.calls.Facts.{pins_in}
-use Rattle.ctd_known.specs.calls.Cases.{cases_in}
 use Rattle.ctd_traps.proofs.turn.count_each.Given as goal
 
-abbrev pub invariant-loop-case : goal.invariant-loop-case
-invariant-loop-case l = RestOr (drop l.case-index (cases_in l.ground l.cases)) (cases_in l.ground l.cases) (CountsSo (pins_in l.ground) (boxed_target l.counter) l.turn (cases_in l.ground l.after.items) l.faults)
+abbrev pub invariant-loop-state : goal.invariant-loop-state
+invariant-loop-state l = RestOr (drop l.state-index (states_in l.context l.states)) (states_in l.context l.states) (CountsSo (pins_in l.context) (boxed_target l.counter) l.turn (states_in l.context l.after.items) l.faults)

@@ -1,19 +1,16 @@
-use Rattle.std.proofs.Common.{subst}
-use Rattle.ctd_program.specs.calls.View.{test_tree}
+use Rattle.ctd_traps.proofs.Common.{NotedIn, states_in, subst, test_tree}
 use Rattle.ctd_traps.specs.calls.Events.{goes_on}
-use Rattle.ctd_traps.specs.inner.Noted.{NotedIn}
 use Rattle.ctd_traps.proofs.Turning.{noted_more}
 use Rattle.ctd_traps.proofs.Walking.{asks_more, part_trans}
-use Rattle.ctd_known.specs.calls.Cases.{cases_in}
 use Rattle.ctd_traps.proofs.walk.ask_branches.Goals as goal
 
 pub returns : goal.returns
 returns c =
-    let g = c.args.ground in
+    let g = c.args.context in
     let place = c.args.place in
     let asked = c.in_ok-asked.asked in
-    let if_true = cases_in g asked.if_true.items in
-    let if_false = cases_in g asked.if_false.items in
+    let if_true = states_in g asked.if_true.items in
+    let if_false = states_in g asked.if_false.items in
     let reported = c.ask.new.noted in
     let middle = c.note_event.new.noted in
     let noted = c.note_event-2.new.noted in
@@ -22,7 +19,7 @@ returns c =
     let later = part_trans reported middle noted second.more third.more in
     record {
       more = part_trans c.args.noted.now reported noted c.in_ok-asked.ensures.more later;
-      asks = asks_more (cases_in g c.args.cases.now) if_true if_false (test_tree c.args.t.now) asked.faults reported noted place later c.in_ok-asked.ensures.asks;
-      on_true = noted_more middle noted place goes_on if_true third.more (subst (λ l. NotedIn middle place goes_on (cases_in g l)) c.as_slice.ensures.value (second.event g));
-      on_false = subst (λ l. NotedIn noted place goes_on (cases_in g l)) c.as_slice-2.ensures.value (third.event g);
+      asks = asks_more (states_in g c.args.states.now) if_true if_false (test_tree c.args.t.now) asked.faults reported noted place later c.in_ok-asked.ensures.asks;
+      on_true = noted_more middle noted place goes_on if_true third.more (subst (λ l. NotedIn middle place goes_on (states_in g l)) c.as_slice.ensures.value (second.event g));
+      on_false = subst (λ l. NotedIn noted place goes_on (states_in g l)) c.as_slice-2.ensures.value (third.event g);
     }

@@ -1,15 +1,11 @@
-use Rattle.std.proofs.Common.{subst}
-use Rattle.std.specs.Prelude.{true, false}
-use Rattle.ctd_traps.specs.calls.Events.{answers}
-use Rattle.ctd_traps.specs.inner.Noted.{AreNoted, NotedIn}
+use Rattle.ctd_traps.proofs.Common.{AreNoted, NotedIn, answers, false, states_in, subst, true}
 use Rattle.ctd_traps.proofs.Turning.{faults_more, noted_more}
 use Rattle.ctd_traps.proofs.Walking.{part_trans}
-use Rattle.ctd_known.specs.calls.Cases.{cases_in}
 use Rattle.ctd_traps.proofs.walk.begin_later.Goals as goal
 
 pub returns : goal.returns
 returns c =
-    let g = c.args.ground in
+    let g = c.args.context in
     let place = c.args.place in
     let reported = c.note_faults.new.noted in
     let middle = c.note_answers.new.noted in
@@ -18,18 +14,18 @@ returns c =
     let second = c.in_ok-note_answers.ensures in
     let third = c.in_ok-note_answers-2.ensures in
     let later = part_trans reported middle noted second.more third.more in
-    let every : AreNoted noted place c.both-faults.result = faults_more reported noted place c.both-faults.result later first.faults in
+    let every : AreNoted noted place c.union-faults.result = faults_more reported noted place c.union-faults.result later first.faults in
     let begun = c.args.begun.now.first in
     record {
       more = part_trans c.args.noted.now reported noted first.more later;
       begins = record {
         enters = c.in_ok-later.ensures;
-        start_noted = λ why of_value is. every why of_value (c.both-faults.ensures.first why is);
-        first_noted = λ why of_value is. every why of_value (c.both-faults.ensures.second why (c.both.ensures.first why is));
-        later_noted = λ why of_value is. every why of_value (c.both-faults.ensures.second why (c.both.ensures.second why is));
-        first_true = noted_more middle noted place (answers true) (cases_in g begun.inside.items) third.more (subst (λ l. NotedIn middle place (answers true) (cases_in g l)) c.as_slice.ensures.value (second.on_true g));
-        first_false = noted_more middle noted place (answers false) (cases_in g begun.outside.items) third.more (subst (λ l. NotedIn middle place (answers false) (cases_in g l)) c.as_slice-2.ensures.value (second.on_false g));
-        later_true = subst (λ l. NotedIn noted place (answers true) (cases_in g l)) c.as_slice-3.ensures.value (third.on_true g);
-        later_false = subst (λ l. NotedIn noted place (answers false) (cases_in g l)) c.as_slice-4.ensures.value (third.on_false g);
+        start_noted = λ why of_value is. every why of_value (c.union-faults.ensures.first why is);
+        first_noted = λ why of_value is. every why of_value (c.union-faults.ensures.second why (c.union.ensures.first why is));
+        later_noted = λ why of_value is. every why of_value (c.union-faults.ensures.second why (c.union.ensures.second why is));
+        first_true = noted_more middle noted place (answers true) (states_in g begun.inside.items) third.more (subst (λ l. NotedIn middle place (answers true) (states_in g l)) c.as_slice.ensures.value (second.on_true g));
+        first_false = noted_more middle noted place (answers false) (states_in g begun.outside.items) third.more (subst (λ l. NotedIn middle place (answers false) (states_in g l)) c.as_slice-2.ensures.value (second.on_false g));
+        later_true = subst (λ l. NotedIn noted place (answers true) (states_in g l)) c.as_slice-3.ensures.value (third.on_true g);
+        later_false = subst (λ l. NotedIn noted place (answers false) (states_in g l)) c.as_slice-4.ensures.value (third.on_false g);
       };
     }

@@ -1,29 +1,24 @@
-use Rattle.std.proofs.Common.{sym, subst}
-use Rattle.ctd_program.specs.calls.View.{command_tree}
-use Rattle.ctd_check.proofs.Running.{place_is}
-use Rattle.ctd_traps.specs.calls.Events.{begins, goes_on}
-use Rattle.ctd_traps.specs.inner.Noted.{AreNoted, NotedIn}
+use Rattle.ctd_traps.proofs.Common.{AreNoted, NotedIn, begins, command_tree, pins_in, place_is, states_in, subst, sym}
+use Rattle.ctd_traps.specs.calls.Events.{goes_on}
 use Rattle.ctd_traps.proofs.Turning.{faults_more}
 use Rattle.ctd_traps.proofs.Walking.{acts_step}
-use Rattle.ctd_known.specs.calls.Facts.{pins_in}
-use Rattle.ctd_known.specs.calls.Cases.{cases_in}
 use Rattle.ctd_traps.proofs.walk.take.Goals as goal
 
 pub returns : goal.returns
 returns c =
-    let g = c.args.ground in
+    let g = c.args.context in
     let command = c.args.command.now in
     let acted = c.in_ok-acted.acted in
     let reported = c.note_faults.new.noted in
     let noted = c.note_run.new.noted in
-    let cases = cases_in g c.args.cases.now in
-    let after = cases_in g acted.after.items in
+    let states = states_in g c.args.states.now in
+    let after = states_in g acted.after.items in
     let run = c.in_ok-note_run.ensures in
     let same = sym (place_is command.action command.place) in
     record {
       more = λ place event is. run.more place event (c.in_ok-note_faults.ensures.more place event is);
-      keeps = acts_step (pins_in g) cases after acted.faults (command_tree command) noted c.in_ok-acted.ensures
-          (subst (λ p. NotedIn noted p begins cases) same (run.begun g))
-          (subst (λ p. NotedIn noted p goes_on after) same (subst (λ l. NotedIn noted command.place goes_on (cases_in g l)) c.as_slice.ensures.value (run.gone g)))
+      keeps = acts_step (pins_in g) states after acted.faults (command_tree command) noted c.in_ok-acted.ensures
+          (subst (λ p. NotedIn noted p begins states) same (run.begun g))
+          (subst (λ p. NotedIn noted p goes_on after) same (subst (λ l. NotedIn noted command.place goes_on (states_in g l)) c.as_slice.ensures.value (run.gone g)))
           (subst (λ p. AreNoted noted p acted.faults) same (faults_more reported noted command.place acted.faults run.more c.in_ok-note_faults.ensures.faults));
     }

@@ -1,8 +1,7 @@
-use Rattle.std.proofs.Common.{◌≡◌, inr, subst}
+use Rattle.std.proofs.Common.{inr, subst}
 use Rattle.ctd_program.specs.calls.View.{command_trees}
-use Rattle.ctd_syntax.specs.calls.PatternLiterals.{literals}
+use Rattle.ctd_syntax.specs.inner.PatternLiterals.{literals}
 use Rattle.ctd_syntax.proofs.Weights.{few_blocks}
-use Rattle.ctd_loader.specs.calls.PatternTable.{texts_of}
 use Rattle.ctd_loader.specs.Loading.{ArePatterns, IsBadPattern}
 use Rattle.ctd_loader.proofs.Loads.{has_bad_pattern, ready, refused_on_return}
 use Rattle.ctd_loader.proofs.plan.Plan.read.Goals as goal
@@ -19,7 +18,4 @@ returns-clause-loads c =
     (subst (λ x. ArePatterns (literals (command_trees x))) c.commands.ensures c.in_ok-patterns.ensures.are_patterns)
 
 pub invariant_of-result : goal.invariant_of-result
-invariant_of-result c = (
-  few_blocks c.args.text.now _ c.in_ok-program.ensures.parses,
-  (c.in_ok-program.ensures.numbered, (subst (λ x. c.in_ok-patterns.patterns.items ≡ texts_of (literals (command_trees x))) c.commands.ensures c.in_ok-patterns.ensures.built, tt)),
-)
+invariant_of-result c = (few_blocks c.args.text.now _ c.in_ok-program.ensures.parses, tt)

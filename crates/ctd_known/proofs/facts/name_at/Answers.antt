@@ -1,9 +1,0 @@
-use Rattle.std.proofs.Common.{rules}
-use Rattle.ctd_known.proofs.NamedFacts.{name_is, no_name_is}
-use Rattle.ctd_known.proofs.facts.name_at.Goals as goal
-
-pub returns-in-Some : goal.returns-in-Some
-returns-in-Some c = search (rules, name_is)
-
-pub returns-in-None : goal.returns-in-None
-returns-in-None c = search (rules, no_name_is)

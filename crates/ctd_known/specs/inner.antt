@@ -1,3 +1,0 @@
--- What only the proofs of this crate use.
-pub mod Facts
-pub mod Changed

@@ -1,6 +1,0 @@
-use Rattle.std.proofs.Common.{arith}
-use Rattle.std.proofs.lemmas.Grind.{common_steps}
-use Rattle.ctd_lint_report.proofs.traps.some_element.Goals as goal
-
-pub loop-trap-preserved : goal.loop-trap-preserved
-loop-trap-preserved c = grind (arith, common_steps)

@@ -1,0 +1,5 @@
+-- What the contracts of public calls say.
+pub mod States
+pub mod Changed
+pub mod Partitions
+pub mod Faults

@@ -1,0 +1,3 @@
+-- What only the proofs of this crate use.
+pub mod States
+pub mod Changed
