@@ -1,6 +1,7 @@
 //! The numbers of programs.
 
-ghost use Rattle.std.specs.Prelude.{◌≡◌};
+ghost use Rattle.std.specs.Int.{w64};
+ghost use Rattle.std.specs.Prelude.{◌≡◌, true, FitsSigned};
 
 use std::marker::Model;
 
@@ -14,6 +15,9 @@ pub struct Numeral {
 
 /// How many values the lower half has.
 const HALF: i128 = 1 << 64;
+
+/// What the lower half of a number of 64 bits stays below, where the number is not below 0.
+const SIGN: u64 = 1 << 63;
 
 impl Model for Numeral {
     ghost use Rattle.std.specs.Prelude.{ℤ, pos, ◌+ℤ◌, ◌*ℤ◌, ◌^◌};
@@ -32,6 +36,25 @@ impl Numeral {
             high: n.div_euclid(HALF) as i64,
             low: n.rem_euclid(HALF) as u64,
         }
+    }
+
+    /// Whether its number has 64 bits.
+    #[inline(always)]
+    pub fn is_narrow(&self) -> bool
+        ensures fits { result ≡ true → FitsSigned w64 self.now }
+        ensures all { FitsSigned w64 self.now → result ≡ true }
+    {
+        let sign = if self.low < SIGN { 0 } else { -1 };
+        self.high == sign
+    }
+
+    /// Its number of 64 bits.
+    #[inline(always)]
+    pub fn narrow(&self) -> i64
+        requires { FitsSigned w64 self.now }
+        ensures { result ≡ self.now }
+    {
+        self.value() as i64
     }
 
     /// Its number.

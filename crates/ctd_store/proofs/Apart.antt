@@ -1,12 +1,14 @@
 -- What is pinned of a name and what is assigned to it, at other index lists.
-use Rattle.std.proofs.Common.{◌≡◌, Bool, true, false, cond, not, ◌&&◌, T, List, [], ◌∷◌, ◌++◌, IsTrue, Result, Ok, Err, OnOk, OnErr, refl, ap, sym, subst, ◌∙◌}
+use Rattle.std.proofs.Common.{◌≡◌, Bool, true, false, cond, not, ◌&&◌, T, List, [], ◌∷◌, ◌++◌, IsTrue, Option, Some, None, is_some, Result, Ok, Err, OnOk, OnErr, refl, ap, sym, subst, ◌∙◌}
 use Rattle.std.specs.List.{list_all}
-use Rattle.std.specs.FinMap.{put, is_sorted}
+use Rattle.std.specs.FinMap.{find, put, is_sorted}
+use Rattle.std.specs.Option.{option_or}
+use Rattle.std.proofs.lemmas.Map.Views.{tells_apart}
 use Rattle.std.specs.FinMap.Entries.{by_order, is_sorted-put}
 use Rattle.std.specs.declared.cmp.Ordering.TheVariants.{Less, Equal, Greater}
 use Rattle.ctd_store.specs.declared.value.Value.{Value}
-use Rattle.ctd_store.specs.Order.{values_cmp}
-use Rattle.ctd_store.specs.inner.OrderLaws.{values_total}
+use Rattle.ctd_store.specs.Order.{values_cmp, same_values}
+use Rattle.ctd_store.specs.inner.OrderLaws.{values_total, exact_lists}
 use Rattle.ctd_store.specs.Store.{Array, Bindings, array_of, values_of, has_indices, first_of_each}
 use Rattle.ctd_store.specs.inner.Store.{are_apart}
 use Rattle.ctd_store.specs.inner.Reading.{visible_entries}
@@ -32,6 +34,30 @@ values_sorted p vs h = right_of (is_sorted values_cmp p) _ (left_of (is_sorted v
 none_pinned : (p vs : Array) → T (are_apart p vs) → T (list_all (λ e. not (has_indices p e.0)) vs)
 none_pinned p vs h = right_of (is_sorted values_cmp p && is_sorted values_cmp vs) (list_all (λ e. not (has_indices p e.0)) vs) h
 
+no_value : {X : Type 0} (o : Option X) → is_some o ≡ false → o ≡ None
+no_value None e = refl
+no_value (Some x) e = cc
+
+not_true : (b : Bool) → T (not b) → b ≡ false
+not_true true h = absurd h
+not_true false h = refl
+
+-- what has a value in the other is not in the one
+free_beside : (p vs : Array) (k : List Value) → T (list_all (λ e. not (has_indices p e.0)) vs) → has_indices vs k ≡ true → has_indices p k ≡ false
+free_beside p [] k h = λ there. cc
+free_beside p (e ∷ vs) k h = elim (same_values k e.0) as (λ b. same_values k e.0 ≡ b → is_some (cond b (Some e.1) (find values_cmp k vs)) ≡ true → has_indices p k ≡ false) [
+  | true ↦ λ same _. ap (has_indices p) (tells_apart exact_lists k e.0 same) ∙ not_true _ (left_of _ _ h)
+  | false ↦ λ _ there. free_beside p vs k (right_of _ _ h) there
+] refl
+
+-- an index list with a value that is assigned is not pinned
+pub unpinned : (p vs : Array) (k : List Value) → IsTrue (are_apart p vs) → has_indices vs k ≡ true → has_indices p k ≡ false
+unpinned p vs k h there = free_beside p vs k (none_pinned p vs (holds _ h)) there
+
+-- and its value is the assigned one
+pub assigned_value : (p vs : Array) (k : List Value) (v : Value) → IsTrue (are_apart p vs) → find values_cmp k vs ≡ Some v → option_or (find values_cmp k p) (find values_cmp k vs) ≡ Some v
+assigned_value p vs k v h found = ap (λ o. option_or o (find values_cmp k vs)) (no_value (find values_cmp k p) (unpinned p vs k h (ap is_some found))) ∙ found
+
 -- all index lists still pass a test where one that passes it gets a value
 all_put : (F : List Value → Bool) (k : List Value) (v : Value) (es : Array) → T (F k) → T (list_all (λ e. F e.0) es) → T (list_all (λ e. F e.0) (put values_cmp k v es))
 all_put F k v [] here h = both (F k) true here tt
@@ -52,6 +78,12 @@ pub apart_after : {A E : Type 0} (r : Result A E) (p old new : Array) (k : List 
     → IsTrue (are_apart p new)
 apart_after (Ok x) p old new k v free h written refused = subst (λ es. IsTrue (are_apart p es)) (sym written) (is_true _ (apart_put p old k v free (holds _ h)))
 apart_after (Err e) p old new k v free h written refused = subst (λ es. IsTrue (are_apart p es)) (sym refused) h
+
+-- whether a value took the place of another or not
+pub apart_with : (b : Bool) (p old new : Array) (k : List Value) (v : Value) → IsTrue (are_apart p old) → (b ≡ true → new ≡ put values_cmp k v old) → (b ≡ true → has_indices old k ≡ true) → (b ≡ false → new ≡ old)
+    → IsTrue (are_apart p new)
+apart_with true p old new k v h written there stays = subst (λ es. IsTrue (are_apart p es)) (sym (written refl)) (is_true _ (apart_put p old k v (unpinned p old k h (there refl)) (holds _ h)))
+apart_with false p old new k v h written there stays = subst (λ es. IsTrue (are_apart p es)) (sym (stays refl)) h
 
 -- where nothing is assigned
 none_apart : (p vs : Array) → vs ≡ [] → T (is_sorted values_cmp p) → IsTrue (are_apart p vs)

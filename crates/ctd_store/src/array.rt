@@ -1,6 +1,6 @@
 //! The array of a name: index lists with their values.
 
-ghost use Rattle.std.specs.Prelude.{◌≡◌, [], ◌∷◌, ◌++◌, map, Some, IfSome, IfOk, IsPermutation, OnOk, OnErr};
+ghost use Rattle.std.specs.Prelude.{◌≡◌, [], ◌∷◌, ◌++◌, map, true, false, Some, IfSome, IfOk, IsPermutation, OnOk, OnErr};
 ghost use Rattle.std.specs.List.{list_any};
 ghost use Rattle.std.specs.Option.{option_copied, unwrap_or};
 ghost use Rattle.std.specs.FinMap.{find, put};
@@ -11,7 +11,8 @@ ghost use Rattle.ctd_store.specs.inner.Reading.{visible_entries};
 ghost use Rattle.ctd_store.specs.Order.{values_cmp, same_value};
 ghost use Rattle.ctd_store.specs.calls.Showing.{entry};
 ghost use Rattle.ctd_store.specs.calls.Store.{numbered};
-ghost use Rattle.ctd_store.specs.Store.{first_of_each};
+ghost use Rattle.ctd_store.specs.Store.{first_of_each, has_indices};
+ghost use Rattle.ctd_store.specs.declared.value.Value.TheVariants as values;
 
 use crate::index::{Index, Indices, copy_all};
 use crate::line::Row;
@@ -72,12 +73,38 @@ impl Array {
         ensures value { option_copied result ≡ find values_cmp (indices_at index.entry) self.now }
     {
         match index {
-            Index::Scalar => self.places.scalar.as_ref(),
+            Index::Scalar => self.places.scalar.value(),
             _ => match self.places.at(index) {
                 Some(value) => Some(value),
                 None => self.value_by_list(index),
             },
         }
+    }
+
+    /// The number that stands without indices, where it has 64 bits. `None` means: take the general path. Calls nothing.
+    #[inline(always)]
+    pub(crate) fn fast_number(&self) -> Option<i64>
+        ensures value { IfSome result (λ n. find values_cmp [] self.now ≡ Some (values.Int n)) }
+    {
+        self.places.scalar.fast_number()
+    }
+
+    /// Puts a number in the place of one of 64 bits without indices, and tells whether there was one. Else all is as it was. Calls nothing.
+    #[inline(always)]
+    pub(crate) fn put_number(&mut self, n: i64) -> bool
+        ensures done { result ≡ true → self.new ≡ put values_cmp [] (values.Int n) self.old }
+        ensures there { result ≡ true → has_indices self.old [] ≡ true }
+        ensures stays { result ≡ false → self.new ≡ self.old }
+    {
+        self.places.put_number(n)
+    }
+
+    /// The value at an index, where it stands in its place. `None` means: take the general path. Calls nothing.
+    #[inline(always)]
+    pub(crate) fn fast_value(&self, index: Index<'_>) -> Option<&Value>
+        ensures value { IfSome result (λ x. find values_cmp (indices_at index.entry) self.now ≡ Some x.now) }
+    {
+        self.places.at(index)
     }
 
     /// The value at an index, by a list of its values. Out of line: keeps the caller small.

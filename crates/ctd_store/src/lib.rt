@@ -9,6 +9,7 @@ mod line;
 mod order;
 mod places;
 mod positions;
+mod scalar;
 mod slot;
 mod store;
 mod value;

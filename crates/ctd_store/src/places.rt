@@ -11,21 +11,23 @@ ghost use Rattle.ctd_store.specs.calls.ValueRef.{value_of_ref};
 ghost use Rattle.ctd_store.specs.calls.Places.{place_entries, scalar_entry};
 ghost use Rattle.ctd_store.specs.inner.Reading.{ReadsAs};
 ghost use Rattle.ctd_store.specs.Order.{values_cmp, same_value};
+ghost use Rattle.ctd_store.specs.Store.{has_indices};
+ghost use Rattle.ctd_store.specs.declared.value.Value.TheVariants as values;
 
 use crate::array::add_entry;
 use crate::grid::Grid;
 use crate::index::{Index, Indices};
 use crate::line::{Line, Row};
+use crate::scalar::Scalar;
 use crate::store::EntryRef;
 use crate::value::Value;
 use crate::value_ref::ValueRef;
 use std::alloc::{AllocError, Global};
-use std::mem::replace;
 
 /// Values at no index, at one number and at two numbers.
 pub(crate) struct Places {
     // The value without indices, which is asked for most.
-    pub(crate) scalar: Option<Value>,
+    pub(crate) scalar: Scalar,
     // From 0, from 1 or from behind a pin on.
     pub(crate) row: Line,
     pub(crate) grid: Grid,
@@ -48,7 +50,7 @@ impl Places {
         ensures empty { place_entries result ≡ [] }
     {
         Places {
-            scalar: None,
+            scalar: Scalar::none(),
             row: Line::new(alloc),
             grid: Grid::new(alloc),
         }
@@ -60,7 +62,7 @@ impl Places {
         ensures value { IfSome result (λ value. find values_cmp (indices_at index.entry) (place_entries self.now) ≡ Some value.now) }
     {
         match index {
-            Index::Scalar => self.scalar.as_ref(),
+            Index::Scalar => self.scalar.value(),
             Index::One(number) => self.row.at(number),
             Index::Two(row, column) => self.grid.at(row, column),
             Index::List(_) => None,
@@ -72,7 +74,7 @@ impl Places {
         ensures value { option_copied result ≡ find values_cmp indices.now (place_entries self.now) }
     {
         match indices {
-            [] => self.scalar.as_ref(),
+            [] => self.scalar.value(),
             [index] => self.row.get(index),
             [row, column] => self.grid.get(row, column),
             _ => None,
@@ -109,11 +111,21 @@ impl Places {
         ensures err { OnErr result (place_entries self.new ≡ place_entries self.old) }
     {
         match index {
-            Index::Scalar => write_scalar(alloc, &mut self.scalar, value),
+            Index::Scalar => self.scalar.write(alloc, value),
             Index::One(number) => self.row.write(alloc, number, value),
             Index::Two(row, column) => self.grid.write(alloc, row, column, value),
             Index::List(_) => Ok(false),
         }
+    }
+
+    /// Puts a number in the place of one of 64 bits without indices, and tells whether there was one. Else all is as it was.
+    #[inline(always)]
+    pub(crate) fn put_number(&mut self, n: i64) -> bool
+        ensures done { result ≡ true → ReadsAs (place_entries self.new) (([], values.Int n) ∷ place_entries self.old) }
+        ensures there { result ≡ true → has_indices (place_entries self.old) [] ≡ true }
+        ensures stays { result ≡ false → place_entries self.new ≡ place_entries self.old }
+    {
+        self.scalar.put_number(n)
     }
 
     /// Gives an index list a value, where that has a place here or begins one, and tells whether it did. Else all is as it was; so it is after
@@ -132,7 +144,7 @@ impl Places {
     {
         match indices {
             [] => {
-                drop(replace(&mut self.scalar, Some(value.to_value(alloc)?)));
+                self.scalar.put(value.to_value(alloc)?);
                 Ok(true)
             }
             [index] => self.row.insert(alloc, index, value),
@@ -145,7 +157,7 @@ impl Places {
     pub(crate) fn clear(&mut self)
         ensures empty { place_entries self.new ≡ [] }
     {
-        drop(replace(&mut self.scalar, None));
+        self.scalar.clear();
         self.row.clear();
         self.grid.clear();
     }
@@ -176,44 +188,21 @@ impl Places {
     }
 }
 
-/// Puts a value in the place of another, if there is one, and tells whether it did. Else all is as it was; so it is after an error.
-#[inline(always)]
-fn write_scalar(
-    alloc: Global,
-    scalar: &mut Option<Value>,
-    value: ValueRef<'_>,
-) -> Result<bool, AllocError>
-    ensures done { result ≡ Ok true → scalar.new ≡ Some (value_of_ref value.entry) }
-    ensures stays { result ≡ Ok false → scalar.new ≡ scalar.old }
-    ensures err { OnErr result (scalar.new ≡ scalar.old) }
-{
-    match scalar {
-        Some(stored) => {
-            value.put_into(alloc, stored)?;
-            Ok(true)
-        }
-        None => Ok(false),
-    }
-}
-
 /// Adds the entry of a value without indices, if there is one, to others.
-fn add_scalar<'s>(
-    scalar: &'s Option<Value>,
-    entries: &mut Vec<EntryRef<'s>>,
-) -> Result<(), AllocError>
+fn add_scalar<'s>(scalar: &'s Scalar, entries: &mut Vec<EntryRef<'s>>) -> Result<(), AllocError>
     ensures added { OnOk result (map entry entries.new.items ≡ map entry entries.old.items ++ scalar_entry scalar.now) }
 {
-    match scalar {
+    match scalar.value() {
         Some(value) => add_entry(Indices::List(&[]), value, entries),
         None => Ok(()),
     }
 }
 
 /// Whether a value is the one without indices.
-fn is_scalar(scalar: &Option<Value>, value: ValueRef<'_>) -> bool
+fn is_scalar(scalar: &Scalar, value: ValueRef<'_>) -> bool
     ensures value { result ≡ list_any (λ e. same_value (value_of_ref value.entry) e.1) (scalar_entry scalar.now) }
 {
-    match scalar {
+    match scalar.value() {
         Some(stored) => value.is_same(stored),
         None => false,
     }

@@ -1,6 +1,6 @@
 //! The slot of a name: what is pinned of it, and what is assigned to it.
 
-ghost use Rattle.std.specs.Prelude.{◌≡◌, [], ◌∷◌, None, IfOk, IsOk, IsTrue, OnOk, OnErr};
+ghost use Rattle.std.specs.Prelude.{◌≡◌, [], ◌∷◌, true, false, None, Some, IfSome, IfOk, IsOk, IsTrue, OnOk, OnErr};
 ghost use Rattle.std.specs.Option.{option_copied, option_or, unwrap_or};
 ghost use Rattle.std.specs.FinMap.{find, put};
 ghost use Rattle.ctd_store.specs.calls.Index.{indices_at};
@@ -8,6 +8,7 @@ ghost use Rattle.ctd_store.specs.calls.ValueRef.{value_of_ref};
 ghost use Rattle.ctd_store.specs.Order.{values_cmp};
 ghost use Rattle.ctd_store.specs.Store.{has_indices};
 ghost use Rattle.ctd_store.specs.inner.Store.{are_apart, with_unpinned};
+ghost use Rattle.ctd_store.specs.declared.value.Value.TheVariants as values;
 
 use crate::array::Array;
 use crate::index::Index;
@@ -104,6 +105,35 @@ impl Slot {
             Some(pins) => { value_under_pins(pins, &self.values, index.to_indices().as_slice()) }
             None => self.values.value(index),
         }
+    }
+
+    /// The number without indices, where it is assigned and has 64 bits: then none is pinned. `None` means: take the general path. Calls nothing.
+    #[inline(always)]
+    pub(crate) fn fast_number(&self) -> Option<i64>
+        ensures value { IfSome result (λ n. option_or (find values_cmp [] (pins_in self.now)) (find values_cmp [] self.now.values) ≡ Some (values.Int n)) }
+    {
+        self.values.fast_number()
+    }
+
+    /// Puts a number in the place of one of 64 bits without indices that is assigned, and tells whether there was one. Else all is as it was.
+    /// Calls nothing.
+    #[inline(always)]
+    pub(crate) fn put_number(&mut self, n: i64) -> bool
+        ensures name { self.new.name ≡ self.old.name }
+        ensures pins { pins_in self.new ≡ pins_in self.old }
+        ensures done { result ≡ true → self.new.values ≡ with_unpinned (pins_in self.old) [] (values.Int n) self.old.values }
+        ensures stays { result ≡ false → self.new.values ≡ self.old.values }
+    {
+        self.values.put_number(n)
+    }
+
+    /// The value at an index, where it is assigned and stands in its place: then none is pinned. `None` means: take the general path. Calls
+    /// nothing.
+    #[inline(always)]
+    pub(crate) fn fast_value(&self, index: Index<'_>) -> Option<&Value>
+        ensures value { IfSome result (λ x. option_or (find values_cmp (indices_at index.entry) (pins_in self.now)) (find values_cmp (indices_at index.entry) self.now.values) ≡ Some x.now) }
+    {
+        self.values.fast_value(index)
     }
 
     /// Gives an index list a value, unless a preset pins it; after an error all is as it was.

@@ -1,6 +1,6 @@
 //! The variables: what is pinned, and what is assigned.
 
-ghost use Rattle.std.specs.Prelude.{◌≡◌, ◌≢◌, ◌↔◌, ℕ, [], ◌∷◌, ◌++◌, true, length, None, Some, IfSome, IfNone, IfOk, OnOk, OnErr, IsOk, IsTrue, IsPermutation, AllPairs, map};
+ghost use Rattle.std.specs.Prelude.{◌≡◌, ◌≢◌, ◌↔◌, ℕ, [], ◌∷◌, ◌++◌, true, false, length, None, Some, IfSome, IfNone, IfOk, OnOk, OnErr, IsOk, IsTrue, IsPermutation, AllPairs, map};
 ghost use Rattle.std.specs.List.{list_any};
 ghost use Rattle.std.specs.Option.{option_copied, unwrap_or};
 ghost use Rattle.std.specs.FinMap.{find, put};
@@ -11,6 +11,7 @@ ghost use Rattle.ctd_store.specs.inner.Slot.{name_in};
 ghost use Rattle.ctd_store.specs.Store.{initial, is_pinned, value_at, array_of, assign, unset, values_of, value_of, with_pin, with_value, has_indices};
 ghost use Rattle.ctd_store.specs.calls.Store.{numbered};
 ghost use Rattle.ctd_store.specs.calls.Showing.{entry};
+ghost use Rattle.ctd_store.specs.declared.value.Value.TheVariants as values;
 
 use crate::array::{Array, add_entries, get, has_value};
 use crate::index::{Index, Indices};
@@ -133,14 +134,37 @@ impl Store {
         }
     }
 
-    /// The value of a name at an index, where its hint leads to the name. Where no preset is of the name, it calls nothing without an index. `None`
-    /// means: take the general path.
+    /// The value of a name at an index, where its hint leads to the name and the value stands in its place. `None` means: take the general path.
+    /// Calls nothing.
     #[inline(always)]
     pub fn fast_value_at(&self, name: &Name, index: Index<'_>) -> Option<&Value>
         ensures value { IfSome result (λ x. value_at self.now (record { name = name.now; indices = indices_at index.entry }) ≡ Some x.now) }
     {
         let at = fast_position(&self.slots, &self.positions, name)?;
-        self.slots[at].value(index)
+        self.slots[at].fast_value(index)
+    }
+
+    /// The number that a name has without indices, where its hint leads to the name and the number has 64 bits. `None` means: take the
+    /// general path. Calls nothing.
+    #[inline(always)]
+    pub fn fast_number(&self, name: &Name) -> Option<i64>
+        ensures value { IfSome result (λ n. value_at self.now (record { name = name.now; indices = [] }) ≡ Some (values.Int n)) }
+    {
+        let at = fast_position(&self.slots, &self.positions, name)?;
+        self.slots[at].fast_number()
+    }
+
+    /// Gives a name a number, as `assign` does, where its hint leads to the name and it has another one of 64 bits, and tells whether it did. Else
+    /// all is as it was. Calls nothing.
+    #[inline(always)]
+    pub fn put_number(&mut self, name: &Name, n: i64) -> bool
+        ensures done { result ≡ true → self.new ≡ assign self.old (record { name = name.now; indices = [] }) (values.Int n) }
+        ensures stays { result ≡ false → self.new ≡ self.old }
+    {
+        match fast_position(&self.slots, &self.positions, name) {
+            Some(at) => self.slots[at].put_number(n),
+            None => false,
+        }
     }
 
     /// The value of a name at an index, by a search. In line, so that only this rare way makes room for the values of the index.

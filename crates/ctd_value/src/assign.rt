@@ -11,7 +11,7 @@ ghost use Rattle.ctd_value.specs.calls.Assignments.{with_variable, with_expressi
 use crate::expression::{eval, fast_i64, fast_index, fast_name_index, index_values};
 use crate::fault::EvalFault;
 use ctd_program::{Expr, Var};
-use ctd_store::{Index, Store, Value, ValueRef};
+use ctd_store::{Index, Store, Value, ValueRef, as_i64};
 use std::alloc::Global;
 
 /// Evaluates the indices of a variable and sets it to a number; a pinned variable stays as it is. After a fault the variables are as they
@@ -22,10 +22,29 @@ pub fn set_number(alloc: Global, v: &Var, n: i128, store: &mut Store) -> Result<
     ensures err { OnErr result (store.new ≡ store.old) }
 {
     if v.indices.as_slice().is_empty() {
-        store.assign_at(alloc, &v.name, Index::Scalar, ValueRef::Int(n))?;
-        return Ok(());
+        if let Some(n) = as_i64(n) {
+            if store.put_number(&v.name, n) {
+                return Ok(());
+            }
+        }
     }
-    set_element_to_number(alloc, v, n, store)
+    set_any_to_number(alloc, v, n, store)?;
+    Ok(())
+}
+
+/// Sets a variable to a number, whatever its indices and the size of the number. Out of line: keeps `set_number` small.
+#[inline(never)]
+fn set_any_to_number(alloc: Global, v: &Var, n: i128, store: &mut Store) -> Result<(), EvalFault>
+    ensures value { Gives (map_ok (λ _. store.new) result) (with_variable (var_tree v.now) (values.Int n) store.old) }
+    ensures err { OnErr result (store.new ≡ store.old) }
+{
+    match v.indices.as_slice() {
+        [index] => match fast_name_index(index, store) {
+            Some(at) => Ok(store.assign_at(alloc, &v.name, Index::One(at), ValueRef::Int(n))?),
+            None => set_number_at_any(alloc, v, n, store),
+        },
+        _ => set_cell_to_number(alloc, v, n, store),
+    }
 }
 
 /// Evaluates the indices of a variable and sets it to a string; a pinned variable stays as it is. After a fault the variables are as they
@@ -44,9 +63,10 @@ pub fn set_expression(alloc: Global, v: &Var, e: &Expr, store: &mut Store) -> Re
     ensures err { OnErr result (store.new ≡ store.old) }
 {
     match fast_i64(e, store) {
-        Some(n) => set_number(alloc, v, n as i128, store),
-        None => set_to_any_expression(alloc, v, e, store),
+        Some(n) => set_number(alloc, v, n as i128, store)?,
+        None => set_to_any_expression(alloc, v, e, store)?,
     }
+    Ok(())
 }
 
 /// Sets a variable to the value of an expression that may be a string or a large number. Out of line: keeps `set_expression` small.
@@ -62,27 +82,6 @@ fn set_to_any_expression(
 {
     let value = eval(alloc, e, store)?;
     set_variable(alloc, v, ValueRef::of(&value), store)
-}
-
-/// Sets a variable with indices to a number. An index that is a name comes first: most are, and then nothing is kept over a call. Out of
-/// line: keeps `set_number` small.
-#[inline(never)]
-fn set_element_to_number(
-    alloc: Global,
-    v: &Var,
-    n: i128,
-    store: &mut Store,
-) -> Result<(), EvalFault>
-    ensures value { Gives (map_ok (λ _. store.new) result) (with_variable (var_tree v.now) (values.Int n) store.old) }
-    ensures err { OnErr result (store.new ≡ store.old) }
-{
-    match v.indices.as_slice() {
-        [index] => match fast_name_index(index, store) {
-            Some(at) => Ok(store.assign_at(alloc, &v.name, Index::One(at), ValueRef::Int(n))?),
-            None => set_number_at_any(alloc, v, n, store),
-        },
-        _ => set_cell_to_number(alloc, v, n, store),
-    }
 }
 
 /// Sets a variable to a number whose two indices are names, or one with indices of any kind. Out of line: keeps the caller small.

@@ -10,7 +10,7 @@ use Rattle.ctd_value.proofs.FastNumbers.{element_known, of_one, of_two, is_one, 
 use Rattle.ctd_value.proofs.expression.+fast_i64.Goals as goal
 
 pub fast_node-returns-in_err-fast_i64-in-Minus : goal.fast_node-returns-in_err-fast_i64-in-Minus
-fast_node-returns-in_err-fast_i64-in-Minus t c = record { value = says_nothing _ c.from_residual-in_err-fast_i64-in-Minus.ensures }
+fast_node-returns-in_err-fast_i64-in-Minus t c = record { value = says_nothing _ c.from_residual.ensures }
 
 pub fast_node-returns-in_err-x-in-Add : goal.fast_node-returns-in_err-x-in-Add
 fast_node-returns-in_err-x-in-Add t c = record { value = says_nothing _ c.from_residual-in_err-x-in-Add.ensures }
@@ -43,7 +43,9 @@ pub fast_node-returns-in_err-fast_i64-in-Rem : goal.fast_node-returns-in_err-fas
 fast_node-returns-in_err-fast_i64-in-Rem t c = record { value = says_nothing _ c.from_residual-in_err-fast_i64-in-Rem.ensures }
 
 pub fast_i64-returns-in-Element-clause-value : goal.fast_i64-returns-in-Element-clause-value
-fast_i64-returns-in-Element-clause-value t c = subst (λ e. IfSome c.fast_element.result (λ n. val e c.args.store.now ≡ Ok (values.Int n))) (sym (ap expr_tree c.in-Element.is ∙ boxed_element c.in-Element.v ∙ ap element_tree (sym c.deref.ensures))) c.fast_element.ensures.value
+fast_i64-returns-in-Element-clause-value t c =
+    ap (λ e. val e c.args.store.now) (ap expr_tree c.in-Element.is ∙ boxed_element c.in-Element.v ∙ ap element_tree (sym c.deref.ensures))
+    ∙ in_register c.in_ok-n.n (search rules) c.in_ok-n.ensures.value
 
 pub fast_node-returns-in_ok-fast_i64-in-Add : goal.fast_node-returns-in_ok-fast_i64-in-Add
 fast_node-returns-in_ok-fast_i64-in-Add t c = record {

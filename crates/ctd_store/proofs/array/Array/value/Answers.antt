@@ -8,7 +8,7 @@ use Rattle.ctd_store.proofs.array.Array.value.Goals as goal
 
 pub returns-in-Scalar : goal.returns-in-Scalar
 returns-in-Scalar c = record {
-  value = c.as_ref.ensures.value
+  value = c.value.ensures
       ∙ sym (ap (λ i. find values_cmp (indices_at i) c.args.self.now) c.in-Scalar.is ∙ scalar_found c.self.inside.places (listed c.self.inside.rest.entries) c.args.self.now c.self.view_is c.self.invariant);
 }
 

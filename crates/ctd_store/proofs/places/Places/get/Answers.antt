@@ -7,7 +7,7 @@ use Rattle.ctd_store.proofs.places.Places.get.Goals as goal
 
 pub returns-in-empty : goal.returns-in-empty
 returns-in-empty c = record {
-  value = c.as_ref.ensures.value ∙ sym (ap (λ q. find values_cmp q (place_entries c.args.self.now)) (none_of c.args.indices.now c.in-empty.len_below) ∙ found_scalar c.args.self.now);
+  value = c.value.ensures ∙ sym (ap (λ q. find values_cmp q (place_entries c.args.self.now)) (none_of c.args.indices.now c.in-empty.len_below) ∙ found_scalar c.args.self.now);
 }
 
 pub returns-in-len1 : goal.returns-in-len1

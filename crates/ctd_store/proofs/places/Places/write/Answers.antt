@@ -11,7 +11,7 @@ use Rattle.ctd_store.proofs.places.Places.write.Goals as goal
 pub returns-in-One-clause-done : goal.returns-in-One-clause-done
 returns-in-One-clause-done c done q =
     let self = c.args.self.now in
-    written_row (at_number c.in-One.number) (value_of_ref c.args.value) self.scalar (along [] c.write.new.self) (along [] self.row) (cells self.grid) (c.write.ensures.done done []) q
+    written_row (at_number c.in-One.number) (value_of_ref c.args.value) self.scalar (along [] c.write-in-One.new.self) (along [] self.row) (cells self.grid) (c.write-in-One.ensures.done done []) q
     ∙ ap (λ i. find values_cmp q ((indices_at i, value_of_ref c.args.value) ∷ place_entries self)) (sym c.in-One.is)
 
 pub returns-in-Two-clause-done : goal.returns-in-Two-clause-done
