@@ -56,7 +56,10 @@ impl<'d, D: Source> Run<'d, D> {
         ensures performs { Performs self.old self.new result (keep (target v.now) (values.Int n)) }
     {
         match v {
-            Some(v) => self.set_to_number(v, n),
+            Some(v) => {
+                self.set_to_number(v, n)?;
+                Ok(())
+            }
             None => Ok(()),
         }
     }
@@ -69,7 +72,10 @@ impl<'d, D: Source> Run<'d, D> {
     {
         match self.fast_answer(t) {
             Some(answer) => Ok(answer),
-            None => self.any_answer(t),
+            None => {
+                let answer = self.any_answer(t)?;
+                Ok(answer)
+            }
         }
     }
 

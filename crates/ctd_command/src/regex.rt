@@ -33,7 +33,7 @@ impl<'d, D: Source> Run<'d, D> {
     /// RegexMismatch, and a match of the whole window is MatchTooLong; both pass nothing.
     ///
     /// The matcher at the number of the command is taken if it is of the literal of the command. Else the pattern is built.
-    #[inline(never)]
+    #[inline(always)]
     pub fn regex(
         &mut self,
         arguments: &RegexArguments,
@@ -50,6 +50,7 @@ impl<'d, D: Source> Run<'d, D> {
     }
 
     /// Passes the match of the pattern of a literal, by a matcher that may be that of another one.
+    #[inline(never)]
     fn pass_match_of(
         &mut self,
         literal: &[u8],
@@ -80,6 +81,7 @@ impl<'d, D: Source> Run<'d, D> {
     }
 
     /// Passes the match of a matcher, and keeps it in a variable, if there is one.
+    #[inline(always)]
     fn pass_match(
         &mut self,
         matcher: &mut Matcher<'_>,
@@ -99,8 +101,8 @@ impl<'d, D: Source> Run<'d, D> {
     }
 
     /// Passes the match at the start of the window and keeps it in a variable. It is copied from where it stands, so it is passed
-    /// behind that; a fault of the variable comes after both. Out of line: keeps the caller small.
-    #[inline(never)]
+    /// behind that; a fault of the variable comes after both.
+    #[inline(always)]
     fn keep_match(&mut self, v: &Var, matcher: &mut Matcher<'_>) -> Result<(), CommandFailure>
         requires sound { IsSound self.old }
         ensures performs { Performs self.old self.new result (regex matcher.old (Some (var_tree v.now))) }
