@@ -41,7 +41,7 @@ use Rattle.ctd_outcome.specs.declared.outcome.Checked.{Checked}
 use Rattle.ctd_check.specs.inner.Halts.{halt_of, at_limit, Concludes}
 use Rattle.ctd_check.specs.inner.Opening.{halt_result, Opens}
 use Rattle.ctd_check.specs.declared.frame.Frame.{Frame}
-use Rattle.ctd_check.specs.inner.FrameTasks.{to_do, left_tasks}
+use Rattle.ctd_check.specs.inner.FrameTasks.{to_do}
 use Rattle.ctd_check.specs.inner.Advances.{ContinuesWith, Advances, RunsTo}
 
 -- a command has its own place
@@ -145,13 +145,11 @@ module _ {R : Type 0} {G : Ghosts R} where
   task_opens old new c left left' rest from to spot site (Err failure) one same is there at opens =
       task_failed old new (start c) left spot (halt_of spot site failure) failure rest to (one ∙ ap (λ n. n + 1) (sym same)) there (ap (λ s. halt_of spot s failure) at) opens.performs
 
-  -- it leaves the frame that was put on top
-  pub opens_leaving : (old new : Run R G) (from to : FrameStack) (c : CommandTree) (r : Result (Option Frame) CommandFailure) (q : Result (Unit {0}) CommandFailure) → q ≡ map_ok (λ _. tt) r → Performs old new (map_ok left_tasks r) (act_of c)
-      → IfOk r (λ frame. to_do to.frames.items ≡ left_tasks frame ++ to_do from.frames.items) → Opens old new from to c q
-  opens_leaving old new from to c (Ok frame) (Ok x) same p first = record { more = left_tasks frame; performs = p; comes_first = first }
-  opens_leaving old new from to c (Ok frame) (Err e) same p first = cc
-  opens_leaving old new from to c (Err failure) (Ok x) same p first = cc
-  opens_leaving old new from to c (Err failure) (Err e) same p first = let is : e ≡ failure = cc in record { more = []; performs = answers_as (ap Err is) p; comes_first = tt }
+  -- what fails leaves nothing
+  pub opens_none : (old new : Run R G) (from to : FrameStack) (c : CommandTree) (failure : CommandFailure) (q : Result (Unit {0}) CommandFailure) → IsErr q × IsErrAnd q (λ e. e ≡ failure)
+      → Performs {A = List Task} old new (Err failure) (act_of c) → Opens old new from to c q
+  opens_none old new from to c failure (Ok x) is p = let e : true ≡ false = sym is.0 in cc
+  opens_none old new from to c failure (Err e) is p = record { more = []; performs = answers_as (ap Err is.1) p; comes_first = tt }
 
   -- under the names of the command and of the state before it
   pub opens_as : {old before new : Run R G} {from to : FrameStack} {c d : CommandTree} {r : Result (Unit {0}) CommandFailure} → before ≡ old → c ≡ d → Opens before new from to d r → Opens old new from to c r

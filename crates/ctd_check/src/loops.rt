@@ -1,5 +1,5 @@
 //! IF and the loops: the frames that they leave to be done, and the turns of a loop.
-ghost use Rattle.std.specs.Prelude.{◌≡◌, ℕ, List, ◌+◌, ◌≤◌, ◌∷◌, ◌++◌, [], max, Some};
+ghost use Rattle.std.specs.Prelude.{◌≡◌, ◌≤◌, ◌∷◌, [], max, IfOk};
 ghost use Rattle.ctd_program.specs.calls.Blocks.{list_blocks, separator_blocks};
 ghost use Rattle.ctd_program.specs.inner.View.{boxed_separator};
 ghost use Rattle.ctd_program.specs.calls.View.{boxed_target, command_list, guard_tree, test_tree};
@@ -8,7 +8,7 @@ ghost use Rattle.ctd_value.specs.calls.Lending.{map_ok};
 ghost use Rattle.ctd_check.specs.Loops.{tasks, turn, take_turn, goes_on, guard_of, repeat, choice};
 ghost use Rattle.ctd_check.specs.calls.Loops.{loop_of};
 ghost use Rattle.ctd_check.specs.inner.Loops.{count_turn};
-ghost use Rattle.ctd_check.specs.inner.FrameTasks.{frame_tasks, separator_in, frame_blocks, loop_turn, guard_in, counter_in, loop_in, left_tasks, IsWithin, NeedsRoom};
+ghost use Rattle.ctd_check.specs.inner.FrameTasks.{frame_tasks, separator_in, frame_blocks, loop_turn, guard_in, counter_in, loop_in};
 
 use crate::frame::{Frame, Guard, RunningLoop};
 use ctd_command::{CommandFailure, Run};
@@ -64,20 +64,6 @@ fn loop_frame<'p>(
     }
 }
 
-/// The frame of a list; none where it has no commands.
-fn list_frame(commands: &Commands) -> Option<Frame<'_>>
-    ensures tasks { left_tasks result ≡ tasks (command_list commands.now) }
-    ensures within { (most : ℕ) → list_blocks (command_list commands.now) ≤ most → IsWithin result (1 + most) }
-{
-    match commands.as_slice() {
-        [] => None,
-        rest => Some(Frame {
-            rest,
-            running_loop: None,
-        }),
-    }
-}
-
 /// IF: one of two lists is left to be done.
 #[inline(always)]
 pub(crate) fn choose<'p, D: Source>(
@@ -85,15 +71,15 @@ pub(crate) fn choose<'p, D: Source>(
     t: &Test,
     then_do: &'p Commands,
     else_do: &'p Commands,
-) -> Result<Option<Frame<'p>>, CommandFailure>
+) -> Result<&'p Commands, CommandFailure>
     requires sound { IsSound run.old }
-    ensures performs { Performs run.old run.new (map_ok left_tasks result) (choice (test_tree t.now) (command_list then_do.now) (command_list else_do.now)) }
-    ensures room { NeedsRoom result (1 + max (list_blocks (command_list then_do.now)) (list_blocks (command_list else_do.now))) }
+    ensures performs { Performs run.old run.new (map_ok (λ list. tasks (command_list list.now)) result) (choice (test_tree t.now) (command_list then_do.now) (command_list else_do.now)) }
+    ensures room { IfOk result (λ list. list_blocks (command_list list.now) ≤ max (list_blocks (command_list then_do.now)) (list_blocks (command_list else_do.now))) }
 {
     if run.answer(t)? {
-        return Ok(list_frame(then_do));
+        return Ok(then_do);
     }
-    Ok(list_frame(else_do))
+    Ok(else_do)
 }
 
 /// How long a loop goes on that starts: the number of its turns is evaluated once, its test in each turn.
@@ -123,13 +109,14 @@ pub(crate) fn repeat<'p, D: Source>(
     counter: &'p Option<Box<Var>>,
     between: &'p Option<Box<Command>>,
     body: &'p Commands,
-) -> Result<Option<Frame<'p>>, CommandFailure>
+) -> Result<Frame<'p>, CommandFailure>
     requires sound { IsSound run.old }
-    ensures performs { Performs run.old run.new (map_ok left_tasks result) (repeat place (guard_tree guard.now) (boxed_target counter.now) (boxed_separator between.now) (command_list body.now)) }
-    ensures room { NeedsRoom result (1 + max (separator_blocks (boxed_separator between.now)) (list_blocks (command_list body.now))) }
+    ensures performs { Performs run.old run.new (map_ok frame_tasks result) (repeat place (guard_tree guard.now) (boxed_target counter.now) (boxed_separator between.now) (command_list body.now)) }
+    ensures blocks { IfOk result (λ frame. frame_blocks frame ≡ max (separator_blocks (boxed_separator between.now)) (list_blocks (command_list body.now))) }
+    ensures turn { IfOk result (λ frame. loop_turn frame.running_loop ≡ 0) }
 {
     let guard = guard_of(run, guard)?;
-    Ok(Some(loop_frame(place, guard, counter, between, body)))
+    Ok(loop_frame(place, guard, counter, between, body))
 }
 
 /// Gives a counter, where there is one, the number of a turn.
@@ -142,7 +129,10 @@ fn count_turn<D: Source>(
     ensures performs { Performs run.old run.new result (count_turn (counter_in counter.entry) turn) }
 {
     match counter {
-        Some(v) => run.set_to_number(v, i128::from(turn)),
+        Some(v) => {
+            run.set_to_number(v, i128::from(turn))?;
+            Ok(())
+        }
         None => Ok(()),
     }
 }

@@ -59,8 +59,9 @@ fn open_if<'p, D: Source>(
     ensures len { length stack.new.frames.items ≤ length stack.old.frames.items + 1 }
     ensures opens { (place : Place) → Opens run.old run.new stack.old stack.new (if_at place parts.now) result }
 {
-    let (then_do, else_do) = (&parts.then_do, &parts.else_do);
-    stack.leave(choose(run, &parts.condition, then_do, else_do))
+    let list = choose(run, &parts.condition, &parts.then_do, &parts.else_do)?;
+    stack.push_list(list);
+    Ok(())
 }
 
 /// Starts a loop that stands at this place, and puts its frame on top. Out of line: keeps `begin` small.
@@ -80,7 +81,8 @@ fn open_loop<'p, D: Source>(
 {
     let (guard, counter) = (&parts.guard, &parts.counter);
     let (between, body) = (&parts.between, &parts.body);
-    stack.leave(repeat(run, place, guard, counter, between, body))
+    stack.push(repeat(run, place, guard, counter, between, body)?);
+    Ok(())
 }
 
 /// The separator before a turn, which the first turn lacks.
@@ -119,9 +121,9 @@ fn begin_turn<D: Source>(
             Site::At(running_loop.place),
         ));
     }
-    let separator = separator_before(running_loop);
     match take_turn(run, running_loop) {
         Ok(true) => {
+            let separator = separator_before(running_loop);
             stack.next_turn();
             match separator {
                 Some(command) => {

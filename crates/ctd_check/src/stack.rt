@@ -3,17 +3,17 @@ ghost use Rattle.std.specs.Prelude.{◌≡◌, ℕ, ◌≤◌, ◌<◌, ◌+◌,
 ghost use Rattle.std.specs.Option.{option_copied};
 ghost use Rattle.ctd_token.specs.declared.limits.TheConstants.{NESTING_LIMIT};
 ghost use Rattle.ctd_program.specs.calls.Blocks.{blocks, list_blocks};
-ghost use Rattle.ctd_program.specs.calls.View.{command_tree, command_trees};
+ghost use Rattle.ctd_program.specs.calls.View.{command_list, command_tree, command_trees};
 ghost use Rattle.ctd_value.specs.calls.Lending.{map_ok};
 ghost use Rattle.ctd_check.specs.Loops.{start, tasks, finish};
 ghost use Rattle.ctd_check.specs.declared.frame.RunningLoop.{RunningLoop};
-ghost use Rattle.ctd_check.specs.inner.FrameTasks.{most_frames, Fits, fits_prop, to_do, top_loop, frame_tasks, left_tasks, body_tasks, loop_blocks, frame_blocks, loop_turn, IsAtTurn, IsListDone, NeedsRoom};
+ghost use Rattle.ctd_check.specs.inner.FrameTasks.{most_frames, Fits, fits_prop, to_do, top_loop, frame_tasks, body_tasks, loop_blocks, frame_blocks, loop_turn, IsAtTurn, IsListDone};
 
 use crate::frame::{Frame, RunningLoop};
 use arrayvec::ArrayVec;
 use ctd_command::{CommandFailure, Failure};
 use ctd_outcome::Fault;
-use ctd_syntax::Command;
+use ctd_syntax::{Command, Commands};
 use ctd_token::NESTING_LIMIT;
 
 /// The program's list, and blocks in one another.
@@ -172,26 +172,21 @@ impl<'p> FrameStack<'p> {
         self.frames.push(frame);
     }
 
-    /// Puts the frame on top that a command leaves, if it leaves one. The failure of a command is handed on.
+    /// Puts a list on top, if it has commands.
     #[inline(always)]
-    pub(crate) fn leave(
-        &mut self,
-        frame: Result<Option<Frame<'p>>, CommandFailure>,
-    ) -> Result<(), CommandFailure>
-        requires room { NeedsRoom frame (most_frames - length self.old.frames.items) }
+    pub(crate) fn push_list(&mut self, list: &'p Commands)
+        requires room { length self.old.frames.items + 1 + list_blocks (command_list list.now) ≤ most_frames }
         requires bound { self.old.left + 1 ≤ 2 ^ 64 }
         ensures left { self.new.left ≡ self.old.left }
         ensures len { length self.new.frames.items ≤ length self.old.frames.items + 1 }
-        ensures same { result ≡ map_ok (λ _. tt) frame.entry }
-        ensures to_do { IfOk frame.entry (λ f. to_do self.new.frames.items ≡ left_tasks f ++ to_do self.old.frames.items) }
+        ensures to_do { to_do self.new.frames.items ≡ tasks (command_list list.now) ++ to_do self.old.frames.items }
     {
-        match frame {
-            Ok(Some(frame)) => {
-                self.push(frame);
-                Ok(())
-            }
-            Ok(None) => Ok(()),
-            Err(failure) => Err(failure),
+        match list.as_slice() {
+            [] => {}
+            rest => self.push(Frame {
+                rest,
+                running_loop: None,
+            }),
         }
     }
 }

@@ -51,11 +51,6 @@ loop_tasks (Some running_loop) = turn (loop_in running_loop) running_loop.turn �
 abbrev pub frame_tasks : Frame → List Task
 frame_tasks frame = tasks (command_trees frame.rest.now) ++ loop_tasks frame.running_loop
 
--- those of the frame that a command leaves, if it leaves one
-abbrev pub left_tasks : Option Frame → List Task
-left_tasks None = []
-left_tasks (Some frame) = frame_tasks frame
-
 -- the topmost frame, which is the last, comes first, and what lies below them comes last
 abbrev pub stack_tasks : List Frame → List Task → List Task
 stack_tasks [] below = below
@@ -104,16 +99,6 @@ frame_blocks frame = max (loop_blocks frame.running_loop) (list_blocks (command_
 abbrev pub loop_turn : Option RunningLoop → ℕ
 loop_turn None = 0
 loop_turn (Some running_loop) = running_loop.turn
-
--- a frame, where there is one, has room within so many blocks, and its loop is before the first turn
-abbrev pub IsWithin : Option Frame → ℕ → Type 0
-IsWithin None blocks = Unit {0}
-IsWithin (Some frame) blocks = (1 + frame_blocks frame ≤ blocks) × (loop_turn frame.running_loop ≡ 0)
-
--- the frame that a command leaves, if it leaves one, has room within so many blocks
-abbrev pub NeedsRoom : Result (Option Frame) CommandFailure → ℕ → Type 0
-NeedsRoom (Ok frame) blocks = IsWithin frame blocks
-NeedsRoom (Err e) blocks = Unit {0}
 
 -- how many frames may lie on one another: that of the program itself, and those of blocks in one another
 abbrev pub most_frames : ℕ
