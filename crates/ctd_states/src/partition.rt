@@ -176,15 +176,15 @@ fn widen_state(
     }
 }
 
-/// The next candidate for an invariant: the last one, widened by the states at the end of a turn. No contract speaks of it: it is checked where it is
-/// used.
+/// The next candidate for an invariant: the states at the end of a turn, widened where they are not within the last one. No contract speaks of it: it
+/// is checked where it is used.
 pub fn widen_partition(
     context: Context,
     candidate: &[State],
     end: &[State],
     round: usize,
 ) -> Result<Vec<State>, Stop> {
-    let mut next = join(context, Vec::new(context.alloc), candidate)?;
+    let mut next = Vec::new(context.alloc);
     for state in end {
         let wider = widen_state(context, candidate, state.entries.as_slice(), round)?;
         next = join_state(context, next, wider)?;

@@ -21,23 +21,23 @@ fn reach(slope: u64) -> Option<i128> {
     i128::from(slope).checked_mul(i128::from(u64::MAX))
 }
 
-/// The upper end of two ranges, with its slope: the greater slope where that end is above the other however many steps are left.
+/// The upper end of two ranges, with the greater slope, and so high that it is above both however many steps are left.
 fn join_high(a: Range, b: Range) -> (i128, u64) {
     let (steep, flat) = if a.fall >= b.fall { (a, b) } else { (b, a) };
     let gain = reach(steep.fall.saturating_sub(flat.fall));
     match gain.and_then(|gain| flat.high.checked_add(gain)) {
-        Some(most) if most <= steep.high => (steep.high, steep.fall),
-        _ => (a.high.max(b.high), flat.fall),
+        Some(most) => (steep.high.max(most), steep.fall),
+        None => (a.high.max(b.high), flat.fall),
     }
 }
 
-/// The lower end of two ranges, with its slope.
+/// The lower end of two ranges, with the greater slope, and so low that it is below both.
 fn join_low(a: Range, b: Range) -> (i128, u64) {
     let (steep, flat) = if a.rise >= b.rise { (a, b) } else { (b, a) };
     let gain = reach(steep.rise.saturating_sub(flat.rise));
     match gain.and_then(|gain| flat.low.checked_sub(gain)) {
-        Some(least) if least >= steep.low => (steep.low, steep.rise),
-        _ => (a.low.min(b.low), flat.rise),
+        Some(least) => (steep.low.min(least), steep.rise),
+        None => (a.low.min(b.low), flat.rise),
     }
 }
 
@@ -74,7 +74,7 @@ fn join_names(a: AbstractValue, b: AbstractValue) -> AbstractValue {
     }
 }
 
-/// In which rounds ends that move get a slope, are given up, and all values are possible.
+/// In which rounds ends that move get a slope, are given up, and all values are possible. A join in each odd round lets a new slope settle.
 const SLOPES: usize = 2;
 
 const NO_BOUNDS: usize = 6;
@@ -110,21 +110,22 @@ fn widen_lengths(old: Option<Lengths>, all: Option<Lengths>) -> Option<Lengths> 
     }
 }
 
-/// How far an end moved in a turn, and a slope that is greater by that.
-fn steeper(moved: Option<i128>, slope: u64) -> Option<u64> {
+/// A slope that is greater by what an end moved in a turn, and how much further the end moves by that over all steps but one.
+fn steeper(moved: Option<i128>, slope: u64) -> Option<(i128, u64)> {
     let by = u64::try_from(moved?).ok()?;
-    slope.checked_add(by.max(1))
+    let gain = reach(by)?.saturating_sub(i128::from(by));
+    Some((gain, slope.checked_add(by)?))
 }
 
-/// An upper end that moved, with a slope for that, or with no bound.
+/// An upper end that moved, with a slope for that, or with no bound. The slope begins a turn earlier, in which the end moved as far.
 fn widen_high(old: Range, all: Range, is_sloped: bool) -> (i128, u64) {
-    if all.high <= old.high && all.fall >= old.fall {
+    let is_kept = all.high <= old.high && all.fall >= old.fall;
+    if is_kept || is_sloped && all.fall > old.fall {
         return (all.high, all.fall);
     }
     if is_sloped
-        && let Some(slope) = steeper(all.high.checked_sub(old.high), old.fall.max(all.fall))
-        && let Some(gain) = reach(slope)
-        && let Some(high) = all.high.checked_add(gain)
+        && let Some((gain, slope)) = steeper(all.high.checked_sub(old.high), old.fall)
+        && let Some(high) = old.high.checked_add(gain)
     {
         return (high, slope);
     }
@@ -133,13 +134,13 @@ fn widen_high(old: Range, all: Range, is_sloped: bool) -> (i128, u64) {
 
 /// A lower end that moved, with a slope for that, or with no bound.
 fn widen_low(old: Range, all: Range, is_sloped: bool) -> (i128, u64) {
-    if all.low >= old.low && all.rise >= old.rise {
+    let is_kept = all.low >= old.low && all.rise >= old.rise;
+    if is_kept || is_sloped && all.rise > old.rise {
         return (all.low, all.rise);
     }
     if is_sloped
-        && let Some(slope) = steeper(old.low.checked_sub(all.low), old.rise.max(all.rise))
-        && let Some(gain) = reach(slope)
-        && let Some(low) = all.low.checked_sub(gain)
+        && let Some((gain, slope)) = steeper(old.low.checked_sub(all.low), old.rise)
+        && let Some(low) = old.low.checked_sub(gain)
     {
         return (low, slope);
     }
@@ -174,7 +175,7 @@ fn widen_values(old: PossibleValues, all: PossibleValues, is_sloped: bool) -> Po
 /// The abstract value of a name in a candidate, widened by that at the end of a turn.
 fn widen_name(old: AbstractValue, end: AbstractValue, round: usize) -> AbstractValue {
     let all = join_names(old, end);
-    if round < SLOPES {
+    if round < SLOPES || round % 2 == 1 {
         return all;
     }
     if round < ALL_VALUES {
