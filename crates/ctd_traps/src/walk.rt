@@ -25,7 +25,10 @@ use ctd_states::{Context, State, Stop, are_within, join, pay_each, union, widen_
 use ctd_token::Place;
 
 /// How many candidates for the invariant of a loop are tried.
-const ROUNDS: usize = 12;
+const ROUNDS: usize = 14;
+
+/// From which round on a candidate was widened. Once it is inductive, it is narrowed to the states at the end of a turn.
+const WIDENED: usize = 3;
 
 /// The numbers of later turns. Turn k comes after k steps at least, and there are no more than 2^64 - 1 steps.
 const LATER: Range = Range {
@@ -327,7 +330,7 @@ fn go_round(
     })
 }
 
-/// The states behind a loop. A candidate for those before each turn but the first is widened until it is inductive.
+/// The states behind a loop. A candidate for those before each turn but the first is widened until it is inductive, and then narrowed once.
 #[cycle(walk)]
 fn repeat(
     repeated: &Loop,
@@ -343,6 +346,7 @@ fn repeat(
     let begun = begin(repeated, context, states)?;
     note_start(&repeated.guard, place, begun.turns, states, noted)?;
     let mut candidate = Vec::new(context.alloc);
+    let mut is_narrowed = false;
     for round in 0..ROUNDS {
         let mut inside = nothing_noted(context.alloc);
         let passed = go_round(
@@ -355,15 +359,25 @@ fn repeat(
             budget,
         )?;
         if is_inductive(candidate.as_slice(), &passed) {
-            return conclude(
+            if is_narrowed || round < WIDENED {
+                return conclude(
+                    context,
+                    begun.first.outside.as_slice(),
+                    passed.outside,
+                    inside,
+                    noted,
+                );
+            }
+            is_narrowed = true;
+            candidate = passed.end;
+        } else {
+            candidate = widen_partition(
                 context,
-                begun.first.outside.as_slice(),
-                passed.outside,
-                inside,
-                noted,
-            );
+                candidate.as_slice(),
+                passed.end.as_slice(),
+                round,
+            )?;
         }
-        candidate = widen_partition(context, candidate.as_slice(), passed.end.as_slice(), round)?;
     }
     Err(Stop::GaveUp)
 }

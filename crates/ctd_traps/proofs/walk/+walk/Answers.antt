@@ -110,16 +110,16 @@ choose-returns-clause-keeps t c =
 pub go_round-returns-clause-more : goal.go_round-returns-clause-more
 go_round-returns-clause-more t c = λ x e is. c.in_ok-end.ensures.more x e (c.in_ok-separated.ensures.more x e (c.in_ok-later.ensures.more x e is))
 
-pub repeat-returns-then-is_inductive-clause-more : goal.repeat-returns-then-is_inductive-clause-more
-repeat-returns-then-is_inductive-clause-more t c =
+pub repeat-returns-then-is_narrowed-clause-more : goal.repeat-returns-then-is_narrowed-clause-more
+repeat-returns-then-is_narrowed-clause-more t c =
     let first = c.args.noted.now in
     let started = c.note_start.new.noted in
     let old = c.loop-round.noted in
     let new = c.conclude.new.noted in
     if_ok_more (λ (v : Vec State). IsPart old new) (λ (v : Vec State). IsPart first new) c.conclude.result (λ v so. part_trans first started new c.in_ok-note_start.ensures.more (part_trans started old new c.loop-round.invariant so)) c.conclude.ensures.more
 
-pub repeat-returns-then-is_inductive-clause-keeps : goal.repeat-returns-then-is_inductive-clause-keeps
-repeat-returns-then-is_inductive-clause-keeps t c =
+pub repeat-returns-then-is_narrowed-clause-keeps : goal.repeat-returns-then-is_narrowed-clause-keeps
+repeat-returns-then-is_narrowed-clause-keeps t c =
     let g = c.args.context in
     let pinned = pins_in g in
     let l = c.args.repeated.now in
@@ -138,12 +138,12 @@ repeat-returns-then-is_inductive-clause-keeps t c =
     let old = c.loop-round.noted in
     let new = c.conclude.new.noted in
     let start = c.in_ok-note_start.ensures in
-    if_ok_both (λ (v : Vec State). IsPart old new) (λ (v : Vec State). Concludes (states_in g c.as_slice-then-is_inductive.result.now) outside inside new (states_in g v.items)) (λ (v : Vec State). StepKeeps pinned states (states_in g v.items) new (loop_at place l)) c.conclude.result
+    if_ok_both (λ (v : Vec State). IsPart old new) (λ (v : Vec State). Concludes (states_in g c.as_slice-then-is_narrowed.result.now) outside inside new (states_in g v.items)) (λ (v : Vec State). StepKeeps pinned states (states_in g v.items) new (loop_at place l)) c.conclude.result
     (λ v more so. let part = part_trans started old new c.loop-round.invariant more in
     repeat_keeps pinned states candidate turns first_inside first_outside outside end (states_in g v.items) first.faults place l inside new c.in_ok-begun.ensures.starts c.in_ok-begun.ensures.enters
     (subst (λ k. RoundKeeps pinned (states_in g k) turns first_inside first_outside first.faults outside end inside place l) c.as_slice.ensures.value c.in_ok-passed.ensures.keeps)
     (subst (λ k. PartitionIsWithin end (states_in g k)) c.as_slice-in-loop-round.ensures.value (c.is_inductive.ensures c.if-is_inductive.true g))
-    (subst (λ k. Concludes (states_in g k) outside inside new (states_in g v.items)) c.as_slice-then-is_inductive.ensures.value so)
+    (subst (λ k. Concludes (states_in g k) outside inside new (states_in g v.items)) c.as_slice-then-is_narrowed.ensures.value so)
     (noted_more started new place begins states part (start.begun g)) (λ by is. noted_more started new place goes_on states part (start.gone by is g)))
     c.conclude.ensures.more c.conclude.ensures.concludes
 
