@@ -184,6 +184,27 @@ pub fn product(a: Range, b: Range) -> Computed
     )
 }
 
+/// The product of a number of a range and itself, which is not below 0.
+fn square(a: Range) -> Computed
+    ensures { (n : ℕ) (x : ℤ) → IsIn a n x → Covers result n (in_range (x *ℤ x)) }
+{
+    let all = product(a, a);
+    let from_zero = Range {
+        low: 0,
+        high: all.range.high,
+        rise: 0,
+        fall: all.range.fall,
+    };
+    if all.range.low > 0 {
+        all
+    } else {
+        Computed {
+            range: from_zero,
+            ..all
+        }
+    }
+}
+
 /// The negation of a number of a range.
 pub fn negation(a: Range) -> Computed
     ensures covers { (n : ℕ) (x : ℤ) → IsIn a n x → Covers result n (in_range (neg_ℤ x)) }
@@ -334,6 +355,9 @@ fn least_power(base: i128, exponent: i128) -> i128
 pub fn power(a: Range, b: Range) -> Computed
     ensures covers { (n : ℕ) (x y : ℤ) → IsIn a n x → IsIn b n y → Covers result n (power x y) }
 {
+    if b.low == 2 && b.high == 2 {
+        return square(a);
+    }
     let has_bad_exponent = may_be_no_exponent(b);
     if a.low >= 0 {
         match greatest_power(a.high, b.high) {

@@ -3,6 +3,9 @@ use Rattle.ctd_traps.proofs.Common.{AbstractValue, AllFailBy, AreOperands, Bindi
 use Rattle.ctd_traps.proofs.Common.{IsComputed, IsIn, IsPossible, List, MayBe, NameStands, NamedValue, None, Ok, Operates, Operator, Option, PossibleResult, Range, Result, Some, Tells, Value, [], ap}
 use Rattle.ctd_traps.proofs.Common.{arithmetic, as_number, as_text, at_drop_more, at_key, boxed_element, drop, drop_all, expr_list, expr_tree, exprs_of, get_or, in_range, inl, inr, length, measured}
 use Rattle.ctd_traps.proofs.Common.{neg_ℤ, negated, operate, pos, refl, subst, sym, true, val, vals, value_at, value_or_undefined, ℕ, ℤ, ◌+◌, ◌<◌, ◌>>=◌, ◌∙◌, ◌∷◌, ◌≡◌, ◌≢◌, ◌≤◌, ◌⊎◌}
+use Rattle.std.specs.Prelude.{◌*ℤ◌}
+use Rattle.ctd_range.proofs.Squares.{squared}
+use Rattle.ctd_value.specs.Arithmetic.{power}
 use Rattle.ctd_program.specs.declared.tree.Expr.TheVariants as variants
 use Rattle.ctd_program.specs.Tree
 use Rattle.ctd_store.specs.declared.value.Value.TheVariants as values
@@ -44,6 +47,26 @@ operands_give entries e a b o f g r (inr (inr (inl is))) has left right applies 
 operands_give entries e a b o f g r (inr (inr (inr (inl is)))) has left right applies = subst (λ x. Gives entries (expr_tree x) r) (sym is) (applied_tree entries (expr_tree a.value) (expr_tree b.value) (expr_tree (variants.Div a b)) o operators.Quotient f g r (λ h. refl) (subst (λ x. HasOperator o x) is has) left right applies)
 operands_give entries e a b o f g r (inr (inr (inr (inr (inl is))))) has left right applies = subst (λ x. Gives entries (expr_tree x) r) (sym is) (applied_tree entries (expr_tree a.value) (expr_tree b.value) (expr_tree (variants.Rem a b)) o operators.Remainder f g r (λ h. refl) (subst (λ x. HasOperator o x) is has) left right applies)
 operands_give entries e a b o f g r (inr (inr (inr (inr (inr is))))) has left right applies = subst (λ x. Gives entries (expr_tree x) r) (sym is) (applied_tree entries (expr_tree a.value) (expr_tree b.value) (expr_tree (variants.Pow a b)) o operators.Power f g r (λ h. refl) (subst (λ x. HasOperator o x) is has) left right applies)
+
+-- a number times itself
+squared_value : (r : Result Value Fault) → arithmetic power r (Ok (values.Int (pos 2))) ≡ arithmetic (λ x y. in_range (x *ℤ y)) r r
+squared_value (Err e) = refl
+squared_value (Ok (values.Text bytes)) = refl
+squared_value (Ok (values.Int x)) = ap (λ n. in_range n >>= (λ z. Ok (values.Int z))) (squared x)
+
+first_factor : (e : Expr) (a b : Box Expr) (t : ExprTree) → HasOperands e a b → expr_tree e ≡ Tree.times t t → expr_tree a.value ≡ t
+first_factor e a b t (inl is) square = absurd (cc (ap expr_tree is, square))
+first_factor e a b t (inr (inl is)) square = absurd (cc (ap expr_tree is, square))
+first_factor e a b t (inr (inr (inl is))) square = cc (ap expr_tree is, square)
+first_factor e a b t (inr (inr (inr (inl is)))) square = absurd (cc (ap expr_tree is, square))
+first_factor e a b t (inr (inr (inr (inr (inl is))))) square = absurd (cc (ap expr_tree is, square))
+first_factor e a b t (inr (inr (inr (inr (inr is))))) square = absurd (cc (ap expr_tree is, square))
+
+pub square_gives : (entries : List NamedValue) (e : Expr) (a b : Box Expr) (f two r : PossibleResult) → HasOperands e a b → (t : ExprTree) × (expr_tree e ≡ Tree.times t t) → Gives entries (expr_tree a.value) f → ((k : ℕ) → IsPossible two k (Ok (values.Int (pos 2))))
+    → ((k : ℕ) (left right : Result Value Fault) → IsPossible f k left → IsPossible two k right → IsPossible r k (arithmetic (operate operators.Power) left right)) → Gives entries (expr_tree e) r
+square_gives entries e a b f two r has square gives is_two applies k h each =
+    let factor : IsPossible f k (val square.0 h) = subst (λ t. IsPossible f k (val t h)) (first_factor e a b square.0 has square.1) (gives k h each) in
+    subst (λ t. IsPossible r k (val t h)) (sym square.1) (subst (IsPossible r k) (squared_value (val square.0 h)) (applies k (val square.0 h) (Ok (values.Int (pos 2))) factor (is_two k)))
 
 pub negates : (a f g : PossibleResult) (text : Bool) (k : ℕ) (r : Result Value Fault) → ((x : ℤ) → MayBe a.values k (values.Int x) → IsComputed f k (in_range (neg_ℤ x))) → ((bytes : List ℕ) → MayBe a.values k (values.Text bytes) → text ≡ true) →
     g.values ≡ f.values → (text ≡ true → IsAmong g.faults faults.WrongType) → AreFaults f.faults g.faults → AreFaults a.faults g.faults → IsPossible a k r → IsPossible g k (negated r)

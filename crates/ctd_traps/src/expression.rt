@@ -2,6 +2,7 @@
 
 ghost use Rattle.std.specs.Prelude.{◌≡◌, ◌≢◌, ◌≤◌, ℕ, ℤ, List, length, neg_ℤ, pos, true, [], Result, Ok, Option, IfOk, IfSome};
 ghost use Rattle.ctd_program.specs.Tree;
+ghost use Rattle.ctd_program.specs.Tree.{ExprTree};
 ghost use Rattle.ctd_program.specs.declared.tree.Expr.{Expr};
 ghost use Rattle.ctd_program.specs.calls.View.{expr_tree, expr_list};
 ghost use Rattle.ctd_store.specs.declared.value.Value.{Value};
@@ -299,6 +300,26 @@ fn apply(operator: Operator, a: PossibleResult, b: PossibleResult) -> PossibleRe
     with_faults(with_faults(own, a.faults), b.faults)
 }
 
+/// Whether two expressions are the same name.
+fn are_one_name(a: &Expr, b: &Expr) -> bool
+    ensures { result ≡ true → expr_tree a.now ≡ expr_tree b.now }
+{
+    match (a, b) {
+        (Expr::Name(name), Expr::Name(other)) => name.as_slice() == other.as_slice(),
+        _ => false,
+    }
+}
+
+/// Whether an expression is the product of a name and itself.
+fn is_square(e: &Expr) -> bool
+    ensures { result ≡ true → (t : ExprTree) × (expr_tree e.now ≡ Tree.times t t) }
+{
+    match e {
+        Expr::Mul(a, b) => are_one_name(a, b),
+        _ => false,
+    }
+}
+
 /// Whether a value may be a string.
 pub(crate) fn may_be_text(possible: PossibleValues) -> bool
     ensures { (k : ℕ) (bytes : List ℕ) → MayBe possible k (values.Text bytes) → result ≡ true }
@@ -421,6 +442,9 @@ pub(crate) fn listed_result(
         | Expr::Pow(a, b) => {
             let left = listed_result(a, names, entries)?;
             let right = listed_result(b, names, entries)?;
+            if is_square(e) {
+                return Some(apply(Operator::Power, left, of_number(2)));
+            }
             Some(apply(operator_of(e), left, right))
         }
     }

@@ -1,7 +1,12 @@
 use Rattle.ctd_range.proofs.Common.{FitsSigned, arith, ints, pos, refl, rules, to_z-of_z, w128}
 use Rattle.ctd_range.proofs.Ends.{power_covers}
 use Rattle.ctd_range.proofs.Divisions.{above_low, below_high, power_up_to}
+use Rattle.ctd_range.proofs.Squares.{power_by_two}
 use Rattle.ctd_range.proofs.arithmetic.power.Goals as goal
+
+pub returns-then-b-eq2-2 : goal.returns-then-b-eq2-2
+returns-then-b-eq2-2 c =
+    record { covers = λ n x y left right. power_by_two c.args.b c.square.result n x y (search rules) (search rules) right (c.square.ensures n x left) }
 
 pub returns-in-Some : goal.returns-in-Some
 returns-in-Some c =

@@ -1,5 +1,5 @@
 use Rattle.ctd_traps.proofs.Common.{AllFailBy, FitsSigned, drop, expr_list, expr_tree, named_values, refl, rules, subst, sym, to_z-of_z, val, w128, ◌+◌}
-use Rattle.ctd_traps.proofs.Applying.{Leads, element_found, element_is, expr_first, expr_last, leads_on, none_fail, operands_give}
+use Rattle.ctd_traps.proofs.Applying.{Leads, element_found, element_is, expr_first, expr_last, leads_on, none_fail, operands_give, square_gives}
 use Rattle.ctd_traps.proofs.expression.+listed_result.Goals as goal
 
 pub listed_result-returns-in-Numeral : goal.listed_result-returns-in-Numeral
@@ -23,10 +23,16 @@ listed_result-returns-in_ok-indices-in-Element t c =
           c.in_ok-indices-in-Element.ensures.some c.in_ok-indices-in-Element.ensures.fail c.element_result.ensures;
     }
 
-pub listed_result-returns-in_ok-right-in-Add : goal.listed_result-returns-in_ok-right-in-Add
-listed_result-returns-in_ok-right-in-Add t c = record {
-  gives = operands_give (named_values c.args.names.now c.args.entries.now) c.args.e.now c.in-Add.a c.in-Add.b c.operator_of.result c.in_ok-left-in-Add.left c.in_ok-right-in-Add.right c.apply.result c.in-Add.is c.operator_of.ensures
-      (rw c.deref-in-Add.ensures at c.in_ok-left-in-Add.ensures.gives) (rw c.deref-in-Add-2.ensures at c.in_ok-right-in-Add.ensures.gives) c.apply.ensures;
+pub listed_result-returns-else-is_square : goal.listed_result-returns-else-is_square
+listed_result-returns-else-is_square t c = record {
+  gives = operands_give (named_values c.args.names.now c.args.entries.now) c.args.e.now c.in-Add.a c.in-Add.b c.operator_of.result c.in_ok-left-in-Add.left c.in_ok-right-in-Add.right c.apply-in-Add.result c.in-Add.is c.operator_of.ensures
+      (rw c.deref-in-Add.ensures at c.in_ok-left-in-Add.ensures.gives) (rw c.deref-in-Add-2.ensures at c.in_ok-right-in-Add.ensures.gives) c.apply-in-Add.ensures;
+}
+
+pub listed_result-returns-then-is_square : goal.listed_result-returns-then-is_square
+listed_result-returns-then-is_square t c = record {
+  gives = square_gives (named_values c.args.names.now c.args.entries.now) c.args.e.now c.in-Add.a c.in-Add.b c.in_ok-left-in-Add.left c.of_number-then-is_square.result c.apply.result c.in-Add.is (c.is_square.ensures c.if-is_square.true)
+      (rw c.deref-in-Add.ensures at c.in_ok-left-in-Add.ensures.gives) c.of_number-then-is_square.ensures c.apply.ensures;
 }
 
 pub index_faults-loop-index-preserved : goal.index_faults-loop-index-preserved
