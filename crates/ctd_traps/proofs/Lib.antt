@@ -16,6 +16,7 @@ pub mod Pinning
 pub mod Applying
 pub mod Deciding
 pub mod Comparing
+pub mod Moving
 pub mod Dividing
 pub mod Additions
 pub mod Trees

@@ -7,8 +7,9 @@ ghost use Rattle.ctd_store.specs.declared.value.Value.{Value};
 ghost use Rattle.ctd_range.specs.declared.range.Range.{Range};
 ghost use Rattle.ctd_range.specs.calls.Ranges.{IsIn, Relates};
 ghost use Rattle.ctd_states.specs.calls.States.{MayBe, entries_in};
-ghost use Rattle.ctd_traps.specs.inner.Compared.{Cuts, CutsBoth, MayCompare};
+ghost use Rattle.ctd_traps.specs.inner.Compared.{Cuts, CutsBoth, CutsOperand, MayCompare};
 
+use crate::expression::{Operator, apply, of_values, possible_result};
 use ctd_program::{Compare, Expr};
 use ctd_range::{Range, is_empty, restrict};
 use ctd_states::{
@@ -101,6 +102,7 @@ fn cut_values(by: Compare, a: PossibleValues, b: PossibleValues) -> PossibleValu
 }
 
 /// Restricts a state to where an expression compares so with one of some values.
+#[cycle(cut)]
 fn cut(
     context: Context,
     entries: &mut [AbstractValue],
@@ -121,8 +123,31 @@ fn cut(
             replace_value(context.names, entries, name.as_slice(), narrowed);
             Ok(())
         }
+        Expr::Add(a, b) => cut_operand(context, entries, a, by, Operator::Difference, possible, b),
+        Expr::Sub(a, b) => cut_operand(context, entries, a, by, Operator::Sum, possible, b),
         _ => Ok(()),
     }
+}
+
+/// Restricts a state to where an operand compares so with what an operator gives of one of some values and of another operand.
+#[cycle(cut)]
+fn cut_operand(
+    context: Context,
+    entries: &mut [AbstractValue],
+    e: &Expr,
+    by: Compare,
+    operator: Operator,
+    possible: PossibleValues,
+    other: &Expr,
+) -> Result<(), Stop>
+    ensures { OnOk result (CutsOperand (entries_in context.entry entries.old) (expr_tree e.now) by operator possible (expr_tree other.now) (entries_in context.entry entries.new)) }
+{
+    let found = possible_result(other, context.names, entries)?;
+    let moved = apply(operator, of_values(possible), found);
+    if !moved.faults.overflow {
+        cut(context, entries, e, by, moved.values)?;
+    }
+    Ok(())
 }
 
 /// A state, restricted to where two expressions compare so.

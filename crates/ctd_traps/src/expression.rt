@@ -139,7 +139,7 @@ fn element_result(
 
 /// An operator between two numbers.
 #[derive(Clone, Copy)]
-enum Operator {
+pub(crate) enum Operator {
     Sum,
     Difference,
     Product,
@@ -202,6 +202,16 @@ fn no_value() -> PossibleResult {
         },
         faults: no_faults(),
         operand: None,
+    }
+}
+
+/// One of some values, and no fault.
+pub(crate) fn of_values(values: PossibleValues) -> PossibleResult
+    ensures { (k : ℕ) (v : Value) → MayBe values k v → IsPossible result k (Ok v) }
+{
+    PossibleResult {
+        values,
+        ..no_value()
     }
 }
 
@@ -290,7 +300,7 @@ fn with_type_fault(
 }
 
 /// What an operator gives of what its operands may give.
-fn apply(operator: Operator, a: PossibleResult, b: PossibleResult) -> PossibleResult
+pub(crate) fn apply(operator: Operator, a: PossibleResult, b: PossibleResult) -> PossibleResult
     ensures { (k : ℕ) (left right : Result Value Fault) → IsPossible a k left → IsPossible b k right → IsPossible result k (arithmetic (operate operator) left right) }
 {
     let (numbers, wrong_type) = operands(a.values, b.values);
