@@ -55,12 +55,12 @@ squared_value (Ok (values.Text bytes)) = refl
 squared_value (Ok (values.Int x)) = ap (λ n. in_range n >>= (λ z. Ok (values.Int z))) (squared x)
 
 first_factor : (e : Expr) (a b : Box Expr) (t : ExprTree) → HasOperands e a b → expr_tree e ≡ Tree.times t t → expr_tree a.value ≡ t
-first_factor e a b t (inl is) square = absurd (cc (ap expr_tree is, square))
-first_factor e a b t (inr (inl is)) square = absurd (cc (ap expr_tree is, square))
-first_factor e a b t (inr (inr (inl is))) square = cc (ap expr_tree is, square)
-first_factor e a b t (inr (inr (inr (inl is)))) square = absurd (cc (ap expr_tree is, square))
-first_factor e a b t (inr (inr (inr (inr (inl is))))) square = absurd (cc (ap expr_tree is, square))
-first_factor e a b t (inr (inr (inr (inr (inr is))))) square = absurd (cc (ap expr_tree is, square))
+first_factor e a b t (inl is) square = absurd (cc (is, square))
+first_factor e a b t (inr (inl is)) square = absurd (cc (is, square))
+first_factor e a b t (inr (inr (inl is))) square = cc (is, square)
+first_factor e a b t (inr (inr (inr (inl is)))) square = absurd (cc (is, square))
+first_factor e a b t (inr (inr (inr (inr (inl is))))) square = absurd (cc (is, square))
+first_factor e a b t (inr (inr (inr (inr (inr is))))) square = absurd (cc (is, square))
 
 pub square_gives : (entries : List NamedValue) (e : Expr) (a b : Box Expr) (f two r : PossibleResult) → HasOperands e a b → (t : ExprTree) × (expr_tree e ≡ Tree.times t t) → Gives entries (expr_tree a.value) f → ((k : ℕ) → IsPossible two k (Ok (values.Int (pos 2))))
     → ((k : ℕ) (left right : Result Value Fault) → IsPossible f k left → IsPossible two k right → IsPossible r k (arithmetic (operate operators.Power) left right)) → Gives entries (expr_tree e) r
