@@ -74,7 +74,7 @@ fn join_names(a: AbstractValue, b: AbstractValue) -> AbstractValue {
     }
 }
 
-/// In which rounds ends that move get a slope, are given up, and all values are possible. A join in each odd round lets a new slope settle.
+/// In which rounds ends that move get a slope, are given up, and all values are possible. An odd round before ends are given up lets a slope settle.
 const SLOPES: usize = 2;
 
 const NO_BOUNDS: usize = 6;
@@ -175,7 +175,8 @@ fn widen_values(old: PossibleValues, all: PossibleValues, is_sloped: bool) -> Po
 /// The abstract value of a name in a candidate, widened by that at the end of a turn.
 fn widen_name(old: AbstractValue, end: AbstractValue, round: usize) -> AbstractValue {
     let all = join_names(old, end);
-    if round < SLOPES || round % 2 == 1 {
+    let settles = round < NO_BOUNDS && round % 2 == 1;
+    if round < SLOPES || settles {
         return all;
     }
     if round < ALL_VALUES {
