@@ -1,10 +1,9 @@
 //! What a run has still to do: its frames, and the steps that are left.
-ghost use Rattle.std.specs.Prelude.{◌≡◌, ℕ, ◌≤◌, ◌<◌, ◌+◌, ◌-◌, ◌^◌, ◌++◌, ◌∷◌, [], length, is_some, true, false, None, Some, OnOk, IfErr, IfNone, IfOk, IfSome};
+ghost use Rattle.std.specs.Prelude.{◌≡◌, ℕ, ◌≤◌, ◌<◌, ◌+◌, ◌-◌, ◌^◌, ◌++◌, ◌∷◌, [], length, is_some, true, false, None, Some, OnOk, IfErr, IfNone, IfSome};
 ghost use Rattle.std.specs.Option.{option_copied};
 ghost use Rattle.ctd_token.specs.declared.limits.TheConstants.{NESTING_LIMIT};
 ghost use Rattle.ctd_program.specs.calls.Blocks.{blocks, list_blocks};
 ghost use Rattle.ctd_program.specs.calls.View.{command_list, command_tree, command_trees};
-ghost use Rattle.ctd_value.specs.calls.Lending.{map_ok};
 ghost use Rattle.ctd_check.specs.Loops.{start, tasks, finish};
 ghost use Rattle.ctd_check.specs.declared.frame.RunningLoop.{RunningLoop};
 ghost use Rattle.ctd_check.specs.inner.FrameTasks.{most_frames, Fits, fits_prop, to_do, top_loop, frame_tasks, body_tasks, loop_blocks, frame_blocks, loop_turn, IsAtTurn, IsListDone};

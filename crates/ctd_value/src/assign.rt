@@ -11,7 +11,7 @@ ghost use Rattle.ctd_value.specs.calls.Assignments.{with_variable, with_expressi
 use crate::expression::{eval, fast_i64, fast_index, fast_name_index, index_values};
 use crate::fault::EvalFault;
 use ctd_program::{Expr, Var};
-use ctd_store::{Index, Store, Value, ValueRef, as_i64};
+use ctd_store::{Index, Store, ValueRef, as_i64};
 use std::alloc::Global;
 
 /// Evaluates the indices of a variable and sets it to a number; a pinned variable stays as it is. After a fault the variables are as they

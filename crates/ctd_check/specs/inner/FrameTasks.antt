@@ -2,7 +2,7 @@
 use Rattle.ctd_program.specs.Tree
 use Rattle.ctd_check.specs.declared.frame.Guard.TheVariants as guards
 use Rattle.ctd_check.specs.Loops
-use Rattle.std.specs.Prelude.{◌≡◌, ℕ, ◌+◌, ◌^◌, ◌≤◌, max, List, [], ◌∷◌, ◌++◌, Option, Some, None, Result, Ok, Err}
+use Rattle.std.specs.Prelude.{◌≡◌, ℕ, ◌+◌, ◌^◌, ◌≤◌, max, List, [], ◌∷◌, ◌++◌, Option, Some, None}
 use Rattle.std.specs.Coded.{×_prop, Unit-prop, le_prop}
 use Rattle.std.proofs.Common.{Bor}
 use Rattle.ctd_token.specs.declared.limits.TheConstants.{NESTING_LIMIT}
@@ -11,7 +11,6 @@ use Rattle.ctd_program.specs.declared.tree.Var.{Var}
 use Rattle.ctd_program.specs.Tree.{VarTree, Separator}
 use Rattle.ctd_program.specs.calls.Blocks.{list_blocks, separator_blocks}
 use Rattle.ctd_program.specs.calls.View.{var_tree, test_tree, command_tree, command_trees}
-use Rattle.ctd_command.specs.declared.failure.CommandFailure.{CommandFailure}
 use Rattle.ctd_check.specs.declared.frame.Guard.{Guard}
 use Rattle.ctd_check.specs.declared.frame.RunningLoop.{RunningLoop}
 use Rattle.ctd_check.specs.declared.frame.Frame.{Frame}
