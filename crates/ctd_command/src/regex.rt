@@ -116,6 +116,7 @@ impl<'d, D: Source> Run<'d, D> {
     }
 
     /// How many bytes a pattern matches at the start of the window.
+    #[inline(always)]
     fn match_len(&mut self, matcher: &mut Matcher<'_>) -> Result<usize, CommandFailure>
         requires sound { IsSound self.old }
         ensures performs { Performs self.old self.new result (match_len matcher.old) }
