@@ -10,8 +10,9 @@ others.
     tests/fuzz.py --self-test                 sees that each of ten wrong bodies in the reference makes a difference
 
 With --verdicts it compares the built checker with the built ctd-lint: each fault of a value by which a run stops has to be told, as a trap
-at its place, and no such run may be of a program of which ctd-lint says that every data file gets a verdict. The last line counts the faults
-that are told, as passed, and the others. With --self-test too it sees that a report without the lines of a kind is complained of.
+at its place, and no such run may be of a program of which ctd-lint says that every data file gets a verdict. Of each eight programs one fills arrays
+and reads them. The last line counts the faults that are told, as passed, and the others. With --self-test too it sees that a report without the lines
+of a kind is complained of.
 
 With --findings it holds what ctd-lint finds against the runs of the reference: variables that count for nothing, commands that no run begins or
 passes, and tests that are never true or never false. The last line counts such findings, as passed, and the cases with a wrong one. With --self-test
@@ -32,7 +33,7 @@ from fuzzing.checker import Checker
 from fuzzing.findings import IDLE_KINDS, NEVER, Held, hold, wrong_claims_seen
 from fuzzing.findings import complaints_of as complaints_of_findings
 from fuzzing.shrink import shrink
-from fuzzing.verdicts import Comparison, Linter, complaints_of, wrong_reports_seen
+from fuzzing.verdicts import Comparison, Linter, case_to_compare, complaints_of, wrong_reports_seen
 from fuzzing.verdicts import compare as compare_verdicts
 from reference.faults import LeftOut
 from reference.tool import Answer
@@ -179,7 +180,7 @@ def fuzz_verdicts(program: Path, linter: Path, seed: int, numbers: range, jobs: 
             found.add(part)
     with checker_in_folder(program) as checker:
         for number in sorted(found.untold)[:MOST_PRINTED]:
-            case = shrink(case_of(seed, number), lambda case: bool(complaints_of(case, checker, Linter(linter))))
+            case = shrink(case_to_compare(seed, number), lambda case: bool(complaints_of(case, checker, Linter(linter))))
             print(f"fuzz: case {number} of seed {seed} has a fault that is not told; made smaller:\n{case}")
             print("\n".join(complaints_of(case, checker, Linter(linter))))
     missing = [kind for kind in TRAP_KINDS if kind not in found.kinds] if len(numbers) >= MANY_CASES else []

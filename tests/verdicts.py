@@ -1,7 +1,7 @@
 #!/usr/bin/env python3
 """Springs the traps of the programs of tests/verdicts/ with the built checker: a run on the data of a row of programs.toml stops by the fault and at
-the place of the row. With --lint the built ctd-lint reads all programs there: it tells the trap of the row, and of other traps, but for those of
-elements and of arrays in UNIQUE, just the `reports` of the row, which no data can spring.
+the place of the row. With --lint the built ctd-lint reads all programs there: it tells the trap of the row, and of other traps just the `reports` of
+the row, which no data can spring.
 
 The last line counts what passed and failed. usage: tests/verdicts.py [--lint] [PROGRAM]"""
 from __future__ import annotations
@@ -17,8 +17,6 @@ from results import TOP, checker_to_test, linter_to_test, print_results
 from traps_told import KINDS, Told, report_of
 
 FOLDER = TOP / "tests/verdicts"
-
-NOT_COVERED = ["no-element-here", "other-shape"]
 
 
 @dataclass(frozen=True)
@@ -49,8 +47,8 @@ def faults_of_run(checker: Path, row: Row) -> Iterator[str]:
 
 
 def traps_told(linter: Path, row: Row) -> frozenset[Told]:
-    """The traps that ctd-lint tells of a program, those of elements among them, and those that a finding would tell in their place."""
-    run = subprocess.run([linter, "--elements", "--ignore=no-value,wrong-type", FOLDER / f"{row.name}.ctd"], capture_output=True, text=True, check=False)
+    """The traps that ctd-lint tells of a program, and those that a finding would tell in their place."""
+    run = subprocess.run([linter, "--ignore=no-value,wrong-type", FOLDER / f"{row.name}.ctd"], capture_output=True, text=True, check=False)
     return report_of(run.stdout).traps
 
 
@@ -60,7 +58,7 @@ def faults_of_lint(linter: Path, row: Row) -> Iterator[str]:
     planted = [(row.line, row.column, kind) for kind in KINDS.get(row.fault, [])]
     if planted and not told.intersection(planted):
         yield f"does not tell the {row.fault} at {row.line}:{row.column}"
-    others = sorted(trap for trap in told if trap not in planted and trap[2] not in NOT_COVERED)
+    others = sorted(trap for trap in told if trap not in planted)
     reports = sorted(tuple(report) for report in row.reports)
     if others != reports:
         yield f"tells {others}, wanted {reports}"

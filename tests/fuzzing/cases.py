@@ -7,6 +7,7 @@ from reference.faults import Fault, Refused
 from reference.presets import Presets, read_presets
 from reference.words import Settings
 
+from .arrays import PRESETS, ArrayPrograms
 from .case import DATA, PROGRAM, Case, Source
 from .draft import changed_data, fitting_data
 from .expressions import Scope
@@ -41,6 +42,17 @@ def case_of(seed: int, number: int) -> Case:
     if random.random() < 0.02:
         given = changed_words(random, given)
     return Case(given, None if random.random() < 0.003 else program, data, source)
+
+
+def case_with_arrays(seed: int, number: int) -> Case:
+    """A case whose program fills arrays and reads them, of a seed and a number, and of nothing else."""
+    random = Random(f"arrays {seed} {number}")
+    program = ArrayPrograms(random).program().encode()
+    define = random.choice(PRESETS) if random.random() < 0.15 else None
+    data, _ = fitting_data(random, program, Settings("program", None, presets_of(define), False, False, MOST_STEPS))
+    if random.random() < 0.2:
+        data = changed_data(random, data)
+    return Case(words(random, MOST_STEPS, False, define, Source.FILE), program, data)
 
 
 def long_case(random: Random) -> Case:

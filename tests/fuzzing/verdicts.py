@@ -16,7 +16,7 @@ from reference.words import Asked, sort_words
 from traps_told import EVERY, KINDS, TRAP_KINDS, Report, report_of
 
 from .case import Case
-from .cases import case_of
+from .cases import case_of, case_with_arrays
 from .checker import Checker, write_program
 
 STOP = re.compile(rb"checktestdata: line \d+ column \d+: (.*) \(program line (\d+) column (\d+)\)\n")
@@ -68,8 +68,13 @@ class Linter:
 
     def report(self, case: Case) -> Report | None:
         """What it tells of the program of a case, if it tells something."""
-        output = self.output(case, "--verdicts", "--elements", "--ignore=no-value,wrong-type")
+        output = self.output(case, "--verdicts", "--ignore=no-value,wrong-type")
         return report_of(output) if output else None
+
+
+def case_to_compare(seed: int, number: int) -> Case:
+    """The case of a seed and a number: of each eight one that fills arrays and reads them."""
+    return case_with_arrays(seed, number) if number % 8 == 7 else case_of(seed, number)
 
 
 def stop_of(answer: Answer) -> Stop | None:
@@ -123,7 +128,7 @@ def compare(checker: Checker, linter: Linter, seed: int, numbers: Sequence[int])
     """Compares the faults of the cases of these numbers."""
     found = Comparison()
     for number in numbers:
-        case = case_of(seed, number)
+        case = case_to_compare(seed, number)
         answer = checker.answer(case)
         stop = stop_of(answer)
         if stop is None and answer.status not in VERDICTS:
@@ -152,7 +157,7 @@ def wrong_reports_seen(checker: Checker, linter: Linter, seed: int, count: int) 
     """Which wrong reports are complained of, each with the number of the first case that shows it, and at last those that no case shows."""
     missing = [name for name, _ in wrong_reports(Report(frozenset()))]
     for number in range(count):
-        case = case_of(seed, number)
+        case = case_to_compare(seed, number)
         stop = stop_of(checker.answer(case))
         report = linter.report(case) if stop else None
         if stop is None or report is None:

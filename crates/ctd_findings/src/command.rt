@@ -66,7 +66,7 @@ fn list_without_value<'p>(
     found: &mut Collector<Remark>,
 ) {
     for m in mentions {
-        let needs = has_role(Role::Needs, m.used_as) && !names.given.contains(&m.name.as_slice());
+        let needs = has_role(Role::Needs, m) && !names.given.contains(&m.name.as_slice());
         remark_about_if(alloc, needs, Kind::NoValue, m.name, found);
     }
 }
@@ -79,7 +79,7 @@ fn list_unread<'p>(
     found: &mut Collector<Remark>,
 ) {
     for m in mentions {
-        if has_role(Role::Sets, m.used_as)
+        if has_role(Role::Sets, m)
             && !(names.read_elsewhere.contains(&m.name.as_slice()) || is_set_aside(m.name))
         {
             let kind = if names.read.contains(&m.name.as_slice()) {

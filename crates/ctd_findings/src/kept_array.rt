@@ -49,7 +49,7 @@ fn list_kept_in<'p>(
     let filled = names_in_role(alloc, Role::Fills, loops.as_slice(), &[])?;
     let unset = names_in_role(alloc, Role::Forgets, own.as_slice(), &[])?;
     for m in &own {
-        if has_role(Role::LooksAtAll, m.used_as) {
+        if has_role(Role::LooksAtAll, m) {
             let is_kept = filled.contains(&m.name.as_slice())
                 && !unset.contains(&m.name.as_slice());
             remark_about_if(alloc, is_kept, Kind::KeptArray, m.name, found);

@@ -101,7 +101,7 @@ fn keep_matched<'p>(
     }
     let mentions = found.finish()?;
     for m in &mentions {
-        if has_role(Role::Gives, m.used_as) {
+        if has_role(Role::Gives, m) {
             names.remove(&m.name.as_slice());
         }
     }

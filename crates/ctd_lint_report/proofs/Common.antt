@@ -5,7 +5,7 @@ pub use Rattle.ctd_lint_report.specs.calls.Kinds.{is_ignored, trap_named_among}
 pub use Rattle.ctd_lint_report.specs.calls.Reasons.{reason_of}
 pub use Rattle.ctd_lint_report.specs.calls.Report.{AreRemarks, IsLintReport, findings_status, is_told, program_report, remarks_of}
 pub use Rattle.ctd_lint_report.specs.calls.Text.{findings_lines, kept, refusal_lines}
-pub use Rattle.ctd_lint_report.specs.calls.Traps.{AreTraps, condition_text, every_text, is_open, kept_traps, places_behind, places_text, some_element, some_shape, some_shown_by_default, traps_lines, verdict_status, verdict_text}
+pub use Rattle.ctd_lint_report.specs.calls.Traps.{AreTraps, condition_text, every_text, is_open, kept_traps, places_behind, places_text, some_element, some_shape, some_unconditional, traps_lines, verdict_status, verdict_text}
 pub use Rattle.ctd_lint_report.specs.declared.kind.LintKind.{LintKind}
 pub use Rattle.ctd_lint_report.specs.declared.setup.LintSetup.{LintSetup}
 pub use Rattle.ctd_loader.specs.calls.Loading.{LoadsFrom}

@@ -1,7 +1,7 @@
 //! The kinds of traps, and the kinds that the command line names.
 
 ghost use Rattle.std.specs.Prelude.{◌≡◌};
-ghost use Rattle.ctd_lint_report.specs.calls.Kinds.{is_element, is_ignored, is_mistyped, is_shape, is_shown_by_default, is_told_kind, is_valueless, lint_kind_name, lint_kind_named, trap_name, trap_named_among, trap_text};
+ghost use Rattle.ctd_lint_report.specs.calls.Kinds.{is_element, is_ignored, is_mistyped, is_shape, is_told_kind, is_unconditional, is_valueless, lint_kind_name, lint_kind_named, trap_name, trap_named_among, trap_text};
 
 use ctd_findings::Kind;
 use ctd_states::TrapKind;
@@ -100,8 +100,8 @@ pub(crate) fn is_told_kind(kind: Kind, trap: TrapKind) -> bool
 }
 
 /// Whether a trap is neither of an element nor of arrays in UNIQUE.
-pub(crate) fn is_shown_by_default(kind: TrapKind) -> bool
-    ensures { result ≡ is_shown_by_default kind }
+pub(crate) fn is_unconditional(kind: TrapKind) -> bool
+    ensures { result ≡ is_unconditional kind }
 {
     !matches!(kind, TrapKind::NoElement | TrapKind::OtherShape)
 }

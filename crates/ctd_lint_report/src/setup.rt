@@ -11,8 +11,6 @@ pub struct LintSetup {
     pub ignored: Vec<LintKind>,
     /// Whether a line tells of verdicts.
     pub verdicts: bool,
-    /// Whether the traps of elements and of arrays in UNIQUE are shown too.
-    pub elements: bool,
 }
 
 impl Drop for LintSetup {
@@ -21,7 +19,6 @@ impl Drop for LintSetup {
             presets: _,
             ignored: _,
             verdicts: _,
-            elements: _,
         } = self;
     }
 }

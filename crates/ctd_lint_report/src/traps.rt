@@ -2,14 +2,14 @@
 
 ghost use Rattle.std.specs.Prelude.{◌≡◌, ◌++◌, OnOk, IfOk, if◌then◌else◌, []};
 ghost use Rattle.std.specs.List.{list_any};
-ghost use Rattle.ctd_lint_report.specs.calls.Kinds.{is_shown_by_default, trap_name};
+ghost use Rattle.ctd_lint_report.specs.calls.Kinds.{is_unconditional, trap_name};
 ghost use Rattle.ctd_lint_report.specs.calls.Reasons.{reason_of};
 ghost use Rattle.ctd_lint_report.specs.calls.Report.{is_told, tells};
 ghost use Rattle.ctd_lint_report.specs.calls.Text.{kept};
-ghost use Rattle.ctd_lint_report.specs.calls.Traps.{condition_text, every_text, is_kind_shown, is_open, is_place_before, is_same_place, is_shown, kept_traps, places_behind, places_text, some_element, some_shape, some_shown_by_default, too_large_line, trap_line, traps_lines, verdict_line, verdict_text};
+ghost use Rattle.ctd_lint_report.specs.calls.Traps.{condition_text, every_text, is_kind_shown, is_open, is_place_before, is_same_place, is_shown, kept_traps, places_behind, places_text, some_element, some_shape, some_unconditional, too_large_line, trap_line, traps_lines, verdict_line, verdict_text};
 
 use crate::kind::{
-    LintKind, is_element, is_ignored, is_shape, is_shown_by_default, is_told_kind, trap_name,
+    LintKind, is_element, is_ignored, is_shape, is_told_kind, is_unconditional, trap_name,
     trap_text,
 };
 use crate::reason::write_reason;
@@ -50,10 +50,9 @@ fn is_told(found: &[Finding], ignored: &[LintKind], trap: &Trap) -> bool
 
 /// Whether traps of a kind are shown.
 fn is_kind_shown(kind: TrapKind, setup: &LintSetup) -> bool
-    ensures { result ≡ is_kind_shown setup.now (is_shown_by_default kind) (trap_name kind) }
+    ensures { result ≡ is_kind_shown setup.now (trap_name kind) }
 {
-    (is_shown_by_default(kind) || setup.elements)
-        && !is_ignored(trap_name(kind), setup.ignored.as_slice())
+    !is_ignored(trap_name(kind), setup.ignored.as_slice())
 }
 
 /// Whether a trap is shown.
@@ -103,11 +102,11 @@ pub(crate) fn traps_text(
 }
 
 /// Whether some traps are neither of elements nor of arrays in UNIQUE.
-fn some_shown_by_default(traps: &[Trap]) -> bool
-    ensures { result ≡ some_shown_by_default traps.now }
+fn some_unconditional(traps: &[Trap]) -> bool
+    ensures { result ≡ some_unconditional traps.now }
 {
     for trap in traps {
-        if is_shown_by_default(trap.kind) {
+        if is_unconditional(trap.kind) {
             return true;
         }
     }
@@ -203,7 +202,7 @@ fn write_every(condition: &str, text: &mut Vec<u8>) -> Result<(), AllocError>
 fn write_verdict(traps: &[Trap], text: &mut Vec<u8>) -> Result<(), AllocError>
     ensures { OnOk result (text.new.items ≡ text.old.items ++ verdict_text traps.now) }
 {
-    if some_shown_by_default(traps) {
+    if some_unconditional(traps) {
         return write_places(count_places(traps), text);
     }
     write_every(condition_of(traps), text)
@@ -240,7 +239,7 @@ pub(crate) fn too_large_text(alloc: Global, file: &[u8]) -> Result<Vec<u8>, Allo
 fn is_open(kind: TrapKind, ignored: &[LintKind]) -> bool
     ensures { result ≡ is_open ignored.now kind }
 {
-    is_shown_by_default(kind) || !is_ignored(trap_name(kind), ignored)
+    is_unconditional(kind) || !is_ignored(trap_name(kind), ignored)
 }
 
 /// Whether some traps leave that open.

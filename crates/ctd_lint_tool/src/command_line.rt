@@ -94,7 +94,6 @@ fn command<'a>(alloc: Global) -> Result<Command<'a>, AllocError>
         define_option(alloc),
         option(alloc, "ignore"),
         flag(alloc, "verdicts"),
-        flag(alloc, "elements"),
         program_names(alloc),
     ]?;
     Command::new(alloc, "ctd-lint")
@@ -194,7 +193,6 @@ fn setup_of(alloc: Global, matches: &ArgMatches<'_>) -> Result<Setup, LintFault>
         presets,
         ignored,
         verdicts: is_set(matches, "verdicts"),
-        elements: is_set(matches, "elements"),
     };
     Ok(Setup { programs, report })
 }

@@ -6,7 +6,7 @@ ghost use Rattle.ctd_range.specs.calls.Ranges.{IsIn};
 use crate::range::Range;
 
 /// The numbers of a range below this end.
-fn with_high(a: Range, high: i128, fall: u64) -> Range
+pub fn with_high(a: Range, high: i128, fall: u64) -> Range
     ensures { (n : ℕ) (x : ℤ) → (x +ℤ pos (fall * n)) ≤ℤ high → IsIn a n x → IsIn result n x }
 {
     if high < a.high {
@@ -17,7 +17,7 @@ fn with_high(a: Range, high: i128, fall: u64) -> Range
 }
 
 /// The numbers of a range above this end.
-fn with_low(a: Range, low: i128, rise: u64) -> Range
+pub fn with_low(a: Range, low: i128, rise: u64) -> Range
     ensures { (n : ℕ) (x : ℤ) → (low +ℤ pos (rise * n)) ≤ℤ x → IsIn a n x → IsIn result n x }
 {
     if low > a.low {

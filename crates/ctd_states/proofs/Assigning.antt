@@ -22,15 +22,15 @@ abbrev others_stay : (h : Bindings) (name : List ℕ) (js : List Value) (v : Val
 others_stay h name js v other is apart = assignment_keeps_other_keys h (at_key name js) (at_key other is) v (other_names name other is js apart)
 
 -- what describes the pins describes the pins of a history
-pinned_value : (pins : Variables) (h : Bindings) (key : Key) → h.pins ≡ pins → value_under key h.pins ≡ value_at (pins_alone pins) key
+pub pinned_value : (pins : Variables) (h : Bindings) (key : Key) → h.pins ≡ pins → value_under key h.pins ≡ value_at (pins_alone pins) key
 pinned_value pins h key same = ap (λ p. value_under key p) same
 
 -- a name that is surely pinned, or surely not
-sure_value : (f : AbstractValue) (n : ℕ) (v : Option Value) → f.may_lack ≡ false → MayHave f n v → is_some v ≡ true
+pub sure_value : (f : AbstractValue) (n : ℕ) (v : Option Value) → f.may_lack ≡ false → MayHave f n v → is_some v ≡ true
 sure_value f n None sure may = absurd (cc (sure, may))
 sure_value f n (Some v) sure may = refl
 
-free_value : (f : AbstractValue) (n : ℕ) (v : Option Value) → ((k : ℕ) (w : Value) → MayBe f.alone k w → ⊥) → MayHave f n v → is_some v ≡ false
+pub free_value : (f : AbstractValue) (n : ℕ) (v : Option Value) → ((k : ℕ) (w : Value) → MayBe f.alone k w → ⊥) → MayHave f n v → is_some v ≡ false
 free_value f n None none may = refl
 free_value f n (Some v) none may = absurd (none n v may)
 

@@ -2,15 +2,12 @@
 pub use Rattle.ctd_range.specs.calls.Ranges.{IsIn}
 pub use Rattle.ctd_range.specs.declared.range.Range.{Range}
 pub use Rattle.ctd_states.specs.calls.Changed.{AssignsAlone, AssignsElements, Clears, PaysStep, with_value}
-pub use Rattle.ctd_states.specs.calls.Partitions.{IsWithinPartition, OneStands, PartitionIsWithin, state_in, states_in}
-pub use Rattle.ctd_states.specs.calls.States.{EachStands, MayBe, MayHave, NameStands, NamedValue, Tells, at_key, entries_in, name_at, named_values, pins_alone, pins_in}
+pub use Rattle.ctd_states.specs.calls.States.{EachStands, MayBe, MayHave, NameStands, NamedValue, Tells, at_key, entries_in, name_at, named_values, pins_alone, pins_in, IsImpossible, StateIsWithin}
 pub use Rattle.ctd_states.specs.declared.assign.Context.{Context}
-pub use Rattle.ctd_states.specs.declared.partition.State.{State}
 pub use Rattle.ctd_states.specs.declared.value.AbstractValue.{AbstractValue}
 pub use Rattle.ctd_states.specs.declared.value.Lengths.{Lengths}
 pub use Rattle.ctd_states.specs.declared.value.PossibleValues.{PossibleValues}
 pub use Rattle.ctd_states.specs.inner.Changed.{AreWithin, NameIsWithin, NamePays, ValuesPay}
-pub use Rattle.ctd_states.specs.inner.States.{IsImpossible, StateIsWithin}
 pub use Rattle.ctd_store.proofs.StoreLaws.{assigned_key_has_its_value, assignment_keeps_other_keys, pinned_key_stays, unset_keeps_other_names, unset_key_has_its_pin}
 pub use Rattle.ctd_store.specs.Order.{same_values}
 pub use Rattle.ctd_store.specs.Store.{Bindings, Key, Variables, assign, is_pinned, unset, value_at, value_under}

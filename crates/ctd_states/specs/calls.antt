@@ -1,5 +1,4 @@
 -- What the contracts of public calls say.
 pub mod States
 pub mod Changed
-pub mod Partitions
 pub mod Faults

@@ -1,3 +1,2 @@
 -- What only the proofs of this crate use.
-pub mod States
 pub mod Changed

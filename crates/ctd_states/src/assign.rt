@@ -14,12 +14,20 @@ use crate::value::{
 use crate::widen::join_values;
 use std::alloc::Global;
 
-/// What an analysis goes by: memory, the names of the program, and the abstract values of its pins.
+/// Two arrays, by the indices of their names, of which a program asks whether the one has a value wherever the other has one, or at each value of it.
+#[derive(Clone, Copy)]
+pub struct Pair {
+    pub array: usize,
+    pub other: usize,
+}
+
+/// What an analysis goes by: memory, the names of the program, the abstract values of its pins, and the pairs of arrays of which it asks.
 #[derive(Clone, Copy)]
 pub struct Context<'g> {
     pub alloc: Global,
     pub names: &'g [&'g [u8]],
     pub pinned: &'g [AbstractValue],
+    pub pairs: &'g [Pair],
 }
 
 /// The abstract value of a name. `Stop::GaveUp` where the name is not listed.

@@ -22,9 +22,3 @@ impl<T: Drop> From<AllocFailed<T>> for Stop {
         Stop::Memory
     }
 }
-
-/// Takes one from a budget, if it is not used up.
-pub(crate) fn pay(budget: &mut u64) -> Result<(), Stop> {
-    *budget = budget.checked_sub(1).ok_or(Stop::GaveUp)?;
-    Ok(())
-}

@@ -6,8 +6,7 @@ ghost use Rattle.ctd_range.specs.declared.range.Range.{Range};
 ghost use Rattle.ctd_range.specs.calls.Ranges.{IsIn};
 ghost use Rattle.ctd_states.specs.declared.value.Lengths.{Lengths};
 ghost use Rattle.std.specs.Borrow.{Bor};
-ghost use Rattle.ctd_states.specs.calls.States.{MayBe, named_values, Tells, name_at};
-ghost use Rattle.ctd_states.specs.inner.States.{IsImpossible, StateIsWithin};
+ghost use Rattle.ctd_states.specs.calls.States.{MayBe, named_values, Tells, name_at, IsImpossible, StateIsWithin};
 ghost use Rattle.ctd_states.specs.inner.Changed.{NameIsWithin};
 ghost use Rattle.ctd_states.specs.calls.Changed.{with_value};
 
@@ -129,7 +128,7 @@ fn is_impossible(value: AbstractValue) -> bool
 }
 
 /// Whether no run comes to a state.
-pub(crate) fn is_unreachable(entries: &[AbstractValue]) -> bool
+pub fn is_unreachable(entries: &[AbstractValue]) -> bool
     ensures never { result ≡ true → (names : List (Bor (List ℕ))) → IsImpossible (named_values names entries.now) }
 {
     for value in entries {
@@ -154,7 +153,7 @@ fn follow(entries: &[AbstractValue], others: &[AbstractValue]) -> bool
 }
 
 /// Whether a state is within another, or unreachable.
-pub(crate) fn is_within(entries: &[AbstractValue], others: &[AbstractValue]) -> bool
+pub fn is_within(entries: &[AbstractValue], others: &[AbstractValue]) -> bool
     ensures all { result ≡ true → (names : List (Bor (List ℕ))) → StateIsWithin (named_values names entries.now) (named_values names others.now) }
 {
     is_unreachable(entries) || follow(entries, others)

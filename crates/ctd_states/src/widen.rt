@@ -194,7 +194,7 @@ fn widen_name(old: AbstractValue, end: AbstractValue, round: usize) -> AbstractV
 }
 
 /// A state of a candidate, widened by one at the end of a turn.
-pub(crate) fn widen(
+pub fn widen_entries(
     alloc: Global,
     candidate: &[AbstractValue],
     end: &[AbstractValue],
@@ -222,5 +222,5 @@ pub(crate) fn merge(
     if is_unreachable(b) {
         return copy_of(alloc, a);
     }
-    widen(alloc, a, b, 0)
+    widen_entries(alloc, a, b, 0)
 }

@@ -1,7 +1,7 @@
 -- Lists, simple commands, choices and loops: what they lead to, over the tasks of a run.
 use Rattle.ctd_program.specs.Tree
 use Rattle.ctd_traps.proofs.Common.{Act, At, Before, Bool, CommandLeads, CommandList, CommandTree, Effect, Event, Events, Fault, GoesOn, Guard, GuardTree, Happens, IsOfValue, IsSimple, Leads, Leaves}
-use Rattle.ctd_traps.proofs.Common.{List, LoopLeads, Option, Place, Safe, Separator, Splits, Task, TestData, TestTree, VarTree, [], answer, answers, ap, append_assoc, arith, at_once, begins, by_step}
+use Rattle.ctd_traps.proofs.Common.{List, LoopLeads, Option, Place, Safe, Separator, Splits, Task, TestData, TestTree, TurnLeads, VarTree, [], answer, answers, ap, append_assoc, arith, at_once, begins, by_step}
 use Rattle.ctd_traps.proofs.Common.{command, command_begins, command_goes_on, done, fails, false, faulty, guard_of, if_answers, if◌then◌else◌, is_assert, is_eof, is_int, is_newline, is_regex, is_set}
 use Rattle.ctd_traps.proofs.Common.{is_space, is_string, is_unset, le_refl, le_trans, loop_of, perform, place_of, proceed, refl, rejected, separator_before, simple, site_of, start, subst, suc, sym}
 use Rattle.ctd_traps.proofs.Common.{take_turn, task_fails, tasks, tasks_before_turn, true, turn, turn_answers, turn_tasks, zero, ℕ, ⊤, ◌++◌, ◌∙◌, ◌∷◌, ◌≡◌, ◌≤◌}
@@ -135,7 +135,7 @@ branch_is_safe : (d : TestData) (events : Events) (then_do else_do : CommandList
 branch_is_safe d events then_do else_do if_true if_false after ts n true t left right here next = left ts n t here next
 branch_is_safe d events then_do else_do if_true if_false after ts n false t left right here next = right ts n t here next
 
-fewer_go_on : (d : TestData) (events : Events) (n m : ℕ) (after : Before) (ts : List Task) → m ≤ n → GoesOn d events n after ts → GoesOn d events m after ts
+pub fewer_go_on : (d : TestData) (events : Events) (n m : ℕ) (after : Before) (ts : List Task) → m ≤ n → GoesOn d events n after ts → GoesOn d events m after ts
 fewer_go_on d events n m after ts less next l t fewer here = next l t (le_trans fewer less) here
 
 pub choice_leads : (d : TestData) (events : Events) (place : Place) (test : TestTree) (then_do else_do : CommandList) (before if_true if_false after : Before) →
@@ -183,33 +183,40 @@ in_turn loop k ts =
     ∙ sym (append_assoc sep (tasks loop.body) (turn loop (suc k) ∷ ts))
     ∙ sym (append_assoc (sep ++ tasks loop.body) (turn loop (suc k) ∷ []) ts)
 
--- the turns from one on are safe that has so few steps
-abbrev TurnsLead : TestData → Events → Loop → (head : ℕ → Before) → (after : Before) → ℕ → Type 0
-TurnsLead d events loop head after most = (k n : ℕ) (ts : List Task) (s : State) → n ≤ most → head k n s → GoesOn d events n after ts → Safe d events n (turn loop k ∷ ts) s
-
-turn_is_safe : (d : TestData) (events : Events) (loop : Loop) (head inside within : ℕ → Before) (after : Before) → LoopLeads d events loop head inside within after → (n : ℕ) → TurnsLead d events loop head after n → (k : ℕ) (ts : List Task) (b : Bool) (t : State) →
-    ByAnswer (inside k n) (after n) b t → GoesOn d events n after ts → Safe d events n (turn_leaves loop k b ++ ts) t
-turn_is_safe d events loop head inside within after leads n later k ts true t here next =
+turn_is_safe : (d : TestData) (events : Events) (loop : Loop) (k : ℕ) (head inside within end after : Before) → TurnLeads d events loop k head inside within end after → (n : ℕ) (ts : List Task) → GoesOn d events n end (turn loop (suc k) ∷ ts) → (b : Bool) (t : State) →
+    ByAnswer (inside n) (after n) b t → GoesOn d events n after ts → Safe d events n (turn_leaves loop k b ++ ts) t
+turn_is_safe d events loop k head inside within end after leads n ts later true t here next =
     subst (λ l. Safe d events n l t) (in_turn loop k ts)
-    (leads.separator k (tasks loop.body ++ (turn loop (suc k) ∷ ts)) n t here (λ m u less between.
-    leads.body k (turn loop (suc k) ∷ ts) m u between (λ l v fewer again.
-    later (suc k) l ts v (le_trans fewer less) again (fewer_go_on d events n l after ts (le_trans fewer less) next))))
-turn_is_safe d events loop head inside within after leads n later k ts false t here next = next n t (le_refl n) here
+    (leads.separator (tasks loop.body ++ (turn loop (suc k) ∷ ts)) n t here (λ m u less between.
+    leads.body (turn loop (suc k) ∷ ts) m u between (fewer_go_on d events n m end (turn loop (suc k) ∷ ts) less later)))
+turn_is_safe d events loop k head inside within end after leads n ts later false t here next = next n t (le_refl n) here
 
-turns_lead : (d : TestData) (events : Events) (loop : Loop) (head inside within : ℕ → Before) (after : Before) → LoopLeads d events loop head inside within after → (most : ℕ) → TurnsLead d events loop head after most
-turns_lead d events loop head inside within after leads most k zero ts s less here next = safe_without_steps d events (turn loop k ∷ ts) s
-turns_lead d events loop head inside within after leads zero k (suc n) ts s less here next = absurd (omega (arith, less))
-turns_lead d events loop head inside within after leads (suc most) k (suc n) ts s less here next =
-    let P : State → Type 0 = inside k n in
+-- a turn is safe, if the next one is, for which fewer steps are left
+pub turn_leads : (d : TestData) (events : Events) (loop : Loop) (k : ℕ) (head inside within end after : Before) → TurnLeads d events loop k head inside within end after → (n : ℕ) (ts : List Task) (s : State) →
+    ((m : ℕ) → suc m ≤ n → GoesOn d events m end (turn loop (suc k) ∷ ts)) → head n s → GoesOn d events n after ts → Safe d events n (turn loop k ∷ ts) s
+turn_leads d events loop k head inside within end after leads zero ts s later here next = safe_without_steps d events (turn loop k ∷ ts) s
+turn_leads d events loop k head inside within end after leads (suc n) ts s later here next =
+    let P : State → Type 0 = inside n in
     let Q : State → Type 0 = after n in
     let a : Effect Bool = take_turn loop k d s in
-    let splits : Splits events loop.place P Q a = leads.begin k n s here in
+    let splits : Splits events loop.place P Q a = leads.begin n s here in
     let leaves : Leaves events loop.place (ByAnswer P Q) a = split_leaves events loop.place P Q a splits in
     safe_task d events n (turn loop k) ts s
     (all_are_events d events (turn loop k) loop.place s (ByAnswer P Q) (turn_leaves loop k) a refl refl leaves (no_begin d events loop k s) (no_going d events loop k s) (turn_answered d events loop k P Q s splits))
     (λ more t is. let was : WasDone (turn_leaves loop k) (ByAnswer P Q) more t = was_done events loop.place (ByAnswer P Q) (turn_leaves loop k) a more t leaves is in
     subst (λ l. Safe d events n (l ++ ts) t) was.tasks
-    (turn_is_safe d events loop head inside within after leads n (λ i m us u few again go. turns_lead d events loop head inside within after leads most i m us u (omega (arith, few, less)) again go) k ts was.answer t was.holds (fewer_go_on d events (suc n) n after ts (omega arith) next)))
+    (turn_is_safe d events loop k head inside within end after leads n ts (later n (le_refl (suc n))) was.answer t was.holds (fewer_go_on d events (suc n) n after ts (omega arith) next)))
+
+-- the turns from one on are safe that has so few steps
+abbrev TurnsLead : TestData → Events → Loop → (head : ℕ → Before) → (after : Before) → ℕ → Type 0
+TurnsLead d events loop head after most = (k n : ℕ) (ts : List Task) (s : State) → n ≤ most → head k n s → GoesOn d events n after ts → Safe d events n (turn loop k ∷ ts) s
+
+turns_lead : (d : TestData) (events : Events) (loop : Loop) (head inside within : ℕ → Before) (after : Before) → LoopLeads d events loop head inside within after → (most : ℕ) → TurnsLead d events loop head after most
+turns_lead d events loop head inside within after leads zero k zero ts s less here next = safe_without_steps d events (turn loop k ∷ ts) s
+turns_lead d events loop head inside within after leads zero k (suc n) ts s less here next = absurd (omega (arith, less))
+turns_lead d events loop head inside within after leads (suc most) k n ts s less here next =
+    turn_leads d events loop k (head k) (inside k) (within k) (head (suc k)) after (leads k) n ts s
+    (λ m one l u few again. turns_lead d events loop head inside within after leads most (suc k) l ts u (omega (arith, few, one, less)) again (fewer_go_on d events n l after ts (omega (arith, few, one)) next)) here next
 
 pub loop_leads : (d : TestData) (events : Events) (loop : Loop) (head inside within : ℕ → Before) (after : Before) → LoopLeads d events loop head inside within after → (k n : ℕ) (ts : List Task) (s : State) → head k n s → GoesOn d events n after ts → Safe d events n (turn loop k ∷ ts) s
 loop_leads d events loop head inside within after leads k n ts s = turns_lead d events loop head inside within after leads n k n ts s (le_refl n)

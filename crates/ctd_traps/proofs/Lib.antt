@@ -2,10 +2,9 @@ pub mod Common
 pub mod Listed
 pub mod Leading
 pub mod PostFixpoint
-pub mod Fits
-pub mod Acting
-pub mod Rows
 pub mod Turning
+pub mod KeptLimits
+pub mod Sparing
 pub mod Walking
 pub mod Steps
 pub mod Reaching
@@ -13,10 +12,9 @@ pub mod Whole
 pub mod Noting
 pub mod Absent
 pub mod Pinning
-pub mod Applying
-pub mod Deciding
-pub mod Comparing
-pub mod Moving
-pub mod Dividing
 pub mod Additions
 pub mod Trees
+pub mod Framing
+pub mod Holding
+pub mod Looping
+pub mod Unrolling

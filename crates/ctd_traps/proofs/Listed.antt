@@ -1,6 +1,8 @@
 -- Traps that are added to others.
 use borrow.Author.Count.{below_more}
-use Rattle.ctd_traps.proofs.Common.{AreListed, ArePart, Contains, Contains-append_left, Contains-append_right, Contains-push, Faults, IsOfKind, List, Place, PlacedFault, Trap, TrapKind, [], ap}
+use Rattle.std.proofs.lemmas.List.{get_or-map, length-map}
+use Rattle.std.proofs.lemmas.List.Elements.{Contains-get_or}
+use Rattle.ctd_traps.proofs.Common.{AreListed, ArePart, Contains, Contains-append_left, Contains-append_right, Contains-push, Faults, IsOfKind, List, Place, PlacedFault, Trap, TrapKind, [], ap, ap₂, length}
 use Rattle.ctd_traps.proofs.Common.{fault_of, fault_of_kind, faults_of, get_or, inl, inr, refl, subst, sym, true, ℕ, ◌++◌, ◌+◌, ◌<◌, ◌∙◌, ◌∷◌, ◌≡◌}
 use Rattle.ctd_outcome.specs.declared.reason.Fault.TheVariants as faults
 
@@ -16,6 +18,15 @@ part_right a b all is t has = subst (λ l. Contains l t) (sym (ap faults_of is �
 
 pub pushed : (a all : List Trap) (f : Trap) → all ≡ a ++ f ∷ [] → Contains (faults_of all) (fault_of f)
 pushed a all f is = subst (λ l. Contains l (fault_of f)) (sym (ap faults_of is ∙ traps_both a (f ∷ []))) (Contains-push (faults_of a) (fault_of f))
+
+-- one of them is listed
+abbrev placed_at : Place → TrapKind → PlacedFault
+placed_at place kind = record { place = place; fault = fault_of_kind kind }
+
+pub listed_at : (traps : List Trap) (i : ℕ) (d : Trap) (place : Place) (kind : TrapKind) → i < length traps → (get_or traps i d).place ≡ place → (get_or traps i d).kind ≡ kind → Contains (faults_of traps) (record { place = place; fault = fault_of_kind kind })
+listed_at traps i d place kind inside same_place same_kind =
+    subst (Contains (faults_of traps)) (get_or-map fault_of traps i d (fault_of d) inside ∙ ap₂ placed_at same_place same_kind)
+    (Contains-get_or (faults_of traps) i (fault_of d) (subst (λ n. i < n) (sym (length-map traps fault_of)) inside))
 
 -- all faults are listed
 pub all_listed : (traps : List PlacedFault) (place : Place) (f : Faults) → (f.no_value ≡ true → Contains traps (record { place = place; fault = faults.Undefined })) → (f.no_element ≡ true → Contains traps (record { place = place; fault = faults.Undefined })) →

@@ -1,6 +1,6 @@
 -- Notes that are added to others.
-use Rattle.ctd_traps.proofs.Common.{ArePart, Contains, Contains-append_left, Contains-append_right, Contains-push, EventKind, IsPart, List, Note, Noted, Place, PlacedEvent, [], answers, ap, begins}
-use Rattle.ctd_traps.proofs.Common.{event_of, event_of_kind, events_of, fails, faults_of, noted_in, refl, subst, sym, ◌++◌, ◌∙◌, ◌∷◌, ◌≡◌}
+use Rattle.ctd_traps.proofs.Common.{AbstractState, AreNoted, ArePart, Contains, Contains-append_left, Contains-append_right, Contains-push, Context, Event, EventKind, Faults, IsPart, List, Note, Noted}
+use Rattle.ctd_traps.proofs.Common.{NotedIn, Place, PlacedEvent, [], answers, ap, begins, event_of, event_of_kind, events_of, fails, faults_of, noted_in, refl, subst, sym, ◌++◌, ◌∙◌, ◌∷◌, ◌≡◌}
 use Rattle.ctd_traps.specs.calls.Events.{goes_on}
 use Rattle.ctd_traps.specs.declared.note.EventKind.TheVariants as kinds
 
@@ -34,3 +34,17 @@ kind_noted noted place kinds.Begins has = has
 kind_noted noted place kinds.GoesOn has = has
 kind_noted noted place kinds.IsTrue has = has
 kind_noted noted place kinds.IsFalse has = has
+
+-- parts of parts
+pub part_refl : (a : Noted) → IsPart a a
+part_refl a place event is = is
+
+pub part_trans : (a b c : Noted) → IsPart a b → IsPart b c → IsPart a c
+part_trans a b c first second place event is = second place event (first place event is)
+
+-- what is noted in fewer is noted in more
+pub noted_more : (g : Context) (a b : Noted) (place : Place) (event : Event) (states : List AbstractState) → IsPart a b → NotedIn g a place event states → NotedIn g b place event states
+noted_more g a b place event states part noted n h one = part place event (noted n h one)
+
+pub faults_more : (a b : Noted) (place : Place) (f : Faults) → IsPart a b → AreNoted a place f → AreNoted b place f
+faults_more a b place f part noted why of_value is = part place (fails why) (noted why of_value is)

@@ -1,138 +1,114 @@
 -- The commands of the code, one by one.
-use Rattle.ctd_traps.proofs.Common.{Act, ActKeeps, Action, Acts, Assignment, Assignments, BeginsLater, Box, Choice, ClearsAll, Command, CommandTree, Concludes, Enters, Expr, Faults, Guard, Holds}
-use Rattle.ctd_traps.proofs.Common.{IntArguments, IsGuard, IsPart, IsPlain, IsSimple, List, NamedValue, Names, Noted, NotedIn, PartitionIsWithin, Place, RegexArguments, RoundKeeps, Separator}
-use Rattle.ctd_traps.proofs.Common.{SeparatorKeeps, StartsIn, StepKeeps, Turns, WalkKeeps, action_tree, answers, ap, assignment, assignments_of, at_drop_more, begins, boxed_separator, boxed_target}
-use Rattle.ctd_traps.proofs.Common.{choice_at, choice_tree, command_list, command_tree, command_trees, drop, drop_all, end, expr_tree, false, first_turn, get_or, guard_tree, inl, inr, int, is_eof}
-use Rattle.ctd_traps.proofs.Common.{is_int, is_newline, is_regex, is_set, is_space, is_string, is_unset, length, loop_at, loop_tree, map, names_of, newline, noted_in, out-Loop, regex}
-use Rattle.ctd_traps.proofs.Common.{separator_before, set, space, string, subst, suc, sym, target, true, unset_all, ℕ, ⊤, ◌+◌, ◌<◌, ◌∙◌, ◌≡◌, ◌≤◌, ◌⊎◌}
+use Rattle.ctd_traps.proofs.Common.{AbstractState, Action, BeginsLater, BegunFrom, Box, Choice, Command, Context, Counting, Faults, Guard, IsBegun, IsGuard, IsJoined, IsPart, List, LoopStart, Noted, NotedIn, PartitionIsWithin}
+use Rattle.ctd_traps.proofs.Common.{Passage, Passes, Place, RoundKeeps, Spares, SparesLoop, StepKeeps, WalkKeeps, action_tree, answers, ap, at_drop_more, begins, Bindings, choice_at, choice_tree, command_tree, command_trees, drop, drop_all, false}
+use Rattle.ctd_traps.proofs.Common.{get_or, guard_tree, IfOk, IfSome, inl, inr, IsOneOf, IsSameOrNone, None, Option, PassesOnceBegun, Result, Some, Stop, length, loop_at, loop_tree, noted_in, out-Loop, started_of, subst, sym, true, ℕ, ◌+◌, ◌<◌, ◌∙◌, ◌≡◌, ◌≤◌}
 use Rattle.ctd_program.specs.Tree
 use Rattle.ctd_program.specs.declared.tree.Action.TheVariants as actions
 use Rattle.ctd_program.specs.declared.tree.Loop.{Loop}
 use Rattle.ctd_traps.specs.calls.Events.{goes_on}
-use Rattle.ctd_traps.proofs.Fits.{end_fits, newline_fits, space_fits}
-use Rattle.ctd_traps.proofs.Acting.{clear_acts, same_acts}
-use Rattle.ctd_traps.proofs.Leading.{weaker_leads}
-use Rattle.ctd_traps.proofs.Walking.{WalkLeads, nothing_walked, part_refl, part_trans, walk_leads_on}
-use Rattle.ctd_traps.proofs.Turning.{faults_more, loop_command, noted_more, tells_holds}
-
--- simple commands, by the code
-abbrev ActsAt : (pinned entries after : List NamedValue) → Faults → Place → Action → Type 0
-ActsAt pinned entries after f place a = ActKeeps pinned entries after f (action_tree a place)
-
-simple_acts : (pinned entries after : List NamedValue) (f : Faults) (c : CommandTree) (m : Act ⊤) → IsSimple c m → IsPlain c → Acts pinned entries after f m → ActKeeps pinned entries after f c
-simple_acts pinned entries after f c m simple plain acts = record { act = m; simple = simple; plain = plain; holds = acts }
-
-as_action : (pinned entries after : List NamedValue) (f : Faults) (place : Place) (a b : Action) → a ≡ b → ActsAt pinned entries after f place b → ActsAt pinned entries after f place a
-as_action pinned entries after f place a b is acts = subst (ActsAt pinned entries after f place) (sym is) acts
-
-space_step : (pinned entries after : List NamedValue) (f : Faults) (a : Action) (place : Place) → a ≡ actions.Space → after ≡ entries → ActsAt pinned entries after f place a
-space_step pinned entries after f a place is same = as_action pinned entries after f place a actions.Space is (subst (λ k. ActsAt pinned entries k f place actions.Space) (sym same)
-    (simple_acts pinned entries entries f (Tree.space place) space is_space tt (same_acts pinned entries f space (space_fits f))))
-
-newline_step : (pinned entries after : List NamedValue) (f : Faults) (a : Action) (place : Place) → a ≡ actions.Newline → after ≡ entries → ActsAt pinned entries after f place a
-newline_step pinned entries after f a place is same = as_action pinned entries after f place a actions.Newline is (subst (λ k. ActsAt pinned entries k f place actions.Newline) (sym same)
-    (simple_acts pinned entries entries f (Tree.newline place) newline is_newline tt (same_acts pinned entries f newline (newline_fits f))))
-
-eof_step : (pinned entries after : List NamedValue) (f : Faults) (a : Action) (place : Place) → a ≡ actions.Eof → after ≡ entries → ActsAt pinned entries after f place a
-eof_step pinned entries after f a place is same = as_action pinned entries after f place a actions.Eof is (subst (λ k. ActsAt pinned entries k f place actions.Eof) (sym same)
-    (simple_acts pinned entries entries f (Tree.eof place) end is_eof tt (same_acts pinned entries f end (end_fits f))))
-
-pub blank_step : (pinned entries after : List NamedValue) (f : Faults) (a : Action) (place : Place) → (a ≡ actions.Space) ⊎ ((a ≡ actions.Newline) ⊎ (a ≡ actions.Eof)) → after ≡ entries → ActsAt pinned entries after f place a
-blank_step pinned entries after f a place (inl is) same = space_step pinned entries after f a place is same
-blank_step pinned entries after f a place (inr (inl is)) same = newline_step pinned entries after f a place is same
-blank_step pinned entries after f a place (inr (inr is)) same = eof_step pinned entries after f a place is same
-
-pub int_step : (pinned entries after : List NamedValue) (f : Faults) (a : Action) (x : Box IntArguments) (y : IntArguments) (place : Place) → a ≡ actions.Int x → y ≡ x.value → Acts pinned entries after f (int (expr_tree y.low) (expr_tree y.high) (target y.target)) → ActsAt pinned entries after f place a
-int_step pinned entries after f a x y place is held acts = as_action pinned entries after f place a (actions.Int x) is
-    (simple_acts pinned entries after f (action_tree (actions.Int x) place) (int (expr_tree x.value.low) (expr_tree x.value.high) (target x.value.target)) is_int tt
-    (subst (λ (z : IntArguments). Acts pinned entries after f (int (expr_tree z.low) (expr_tree z.high) (target z.target))) held acts))
-
-pub string_step : (pinned entries after : List NamedValue) (f : Faults) (a : Action) (x : Box Expr) (y : Expr) (place : Place) → a ≡ actions.String x → y ≡ x.value → Acts pinned entries after f (string (expr_tree y)) → ActsAt pinned entries after f place a
-string_step pinned entries after f a x y place is held acts = as_action pinned entries after f place a (actions.String x) is
-    (simple_acts pinned entries after f (Tree.string place (expr_tree x.value)) (string (expr_tree x.value)) is_string tt (subst (λ z. Acts pinned entries after f (string (expr_tree z))) held acts))
-
-pub regex_step : (pinned entries after : List NamedValue) (f : Faults) (a : Action) (x : Box RegexArguments) (y : RegexArguments) (place : Place) → a ≡ actions.Regex x → y ≡ x.value → Acts pinned entries after f (regex y.literal.bytes (target y.target)) → ActsAt pinned entries after f place a
-regex_step pinned entries after f a x y place is held acts = as_action pinned entries after f place a (actions.Regex x) is
-    (simple_acts pinned entries after f (Tree.regex place x.value.literal (target x.value.target)) (regex x.value.literal.bytes (target x.value.target)) is_regex tt
-    (subst (λ (z : RegexArguments). Acts pinned entries after f (regex z.literal.bytes (target z.target))) held acts))
-
-pub set_step : (pinned entries after : List NamedValue) (f : Faults) (a : Action) (x : Box Assignments) (xs : List Assignment) (place : Place) → a ≡ actions.Set x → xs ≡ assignments_of x.value → Acts pinned entries after f (set (map assignment xs)) → ActsAt pinned entries after f place a
-set_step pinned entries after f a x xs place is held acts = as_action pinned entries after f place a (actions.Set x) is
-    (simple_acts pinned entries after f (Tree.set place (map assignment (assignments_of x.value))) (set (map assignment (assignments_of x.value))) is_set tt (subst (λ z. Acts pinned entries after f (set (map assignment z))) held acts))
-
-pub unset_step : (pinned entries after : List NamedValue) (f : Faults) (a : Action) (x : Box Names) (names : List (List ℕ)) (place : Place) → a ≡ actions.Unset x → names ≡ names_of x.value → ClearsAll pinned entries names after → ActsAt pinned entries after f place a
-unset_step pinned entries after f a x names place is held clears = as_action pinned entries after f place a (actions.Unset x) is
-    (simple_acts pinned entries after f (Tree.unset place (names_of x.value)) (unset_all (names_of x.value)) is_unset tt (clear_acts pinned entries after (names_of x.value) f (subst (λ z. ClearsAll pinned entries z after) held clears)))
+use Rattle.ctd_traps.proofs.Framing.{beside_command}
+use Rattle.ctd_traps.proofs.Looping.{is_post_fixpoint, loop_starts}
+use Rattle.ctd_traps.proofs.Noting.{faults_more, noted_more, part_refl, part_trans}
+use Rattle.ctd_traps.proofs.PostFixpoint.{post_fixpoints_lead}
+use Rattle.ctd_traps.proofs.Walking.{WalkLeads, nothing_walked, walk_leads_on}
 
 -- commands of states, by the code
-abbrev Steps : (pinned : List NamedValue) (states after : List (List NamedValue)) → Noted → Place → Action → Type 0
-Steps pinned states after noted place a = StepKeeps pinned states after noted (action_tree a place)
+abbrev Steps : (g : Context) (states after : List AbstractState) → Noted → Place → Action → Type 0
+Steps g states after noted place a = StepKeeps g states after noted (action_tree a place)
 
 -- a list of commands from its front
 pub command_first : (cs : List Command) (i : ℕ) (c : Command) → i < length cs → c ≡ get_or cs i c → command_trees (drop i cs) ≡ Tree.then (command_tree c) (command_trees (drop (i + 1) cs))
 command_first cs i c inside is = at_drop_more command_trees cs i c inside ∙ ap (λ (x : Command). Tree.then (command_tree x) (command_trees (drop (i + 1) cs))) (sym is)
 
-pub walk_step : (pinned : List NamedValue) (states before slice after : List (List NamedValue)) (old new : Noted) (cs : List Command) (i : ℕ) (c : Command) → slice ≡ before → i < length cs → c ≡ get_or cs i c → IsPart old new → StepKeeps pinned slice after new (command_tree c)
-    → WalkLeads pinned states before old (command_trees (drop i cs)) (command_trees cs) → WalkLeads pinned states after new (command_trees (drop (i + 1) cs)) (command_trees cs)
-walk_step pinned states before slice after old new cs i c lent inside is part step leads =
-    walk_leads_on pinned states before after old new (command_tree c) (command_trees (drop (i + 1) cs)) (command_trees cs) part (subst (λ b. StepKeeps pinned b after new (command_tree c)) lent step)
-    (subst (λ l. WalkLeads pinned states before old l (command_trees cs)) (command_first cs i c inside is) leads)
+pub walk_step : (g : Context) (states before slice after : List AbstractState) (old new : Noted) (cs : List Command) (i : ℕ) (c : Command) → slice ≡ before → i < length cs → c ≡ get_or cs i c → IsPart old new → StepKeeps g slice after new (command_tree c)
+    → WalkLeads g states before old (command_trees (drop i cs)) (command_trees cs) → WalkLeads g states after new (command_trees (drop (i + 1) cs)) (command_trees cs)
+walk_step g states before slice after old new cs i c lent inside is part step leads =
+    walk_leads_on g states before after old new (command_tree c) (command_trees (drop (i + 1) cs)) (command_trees cs) part (subst (λ b. StepKeeps g b after new (command_tree c)) lent step)
+    (subst (λ l. WalkLeads g states before old l (command_trees cs)) (command_first cs i c inside is) leads)
 
-pub walk_done : (pinned : List NamedValue) (states after : List (List NamedValue)) (noted : Noted) (cs : List Command) (i : ℕ) → length cs ≤ i → WalkLeads pinned states after noted (command_trees (drop i cs)) (command_trees cs) → WalkKeeps pinned states after noted (command_trees cs)
-walk_done pinned states after noted cs i all leads = leads after noted (part_refl noted) (subst (λ l. WalkKeeps pinned after after noted (command_trees l)) (sym (drop_all i cs all)) (nothing_walked pinned after noted))
+pub walk_done : (g : Context) (states after : List AbstractState) (noted : Noted) (cs : List Command) (i : ℕ) → length cs ≤ i → WalkLeads g states after noted (command_trees (drop i cs)) (command_trees cs) → WalkKeeps g states after noted (command_trees cs)
+walk_done g states after noted cs i all leads = leads after noted (part_refl noted) (subst (λ l. WalkKeeps g after after noted (command_trees l)) (sym (drop_all i cs all)) (nothing_walked g after noted))
 
 -- IF and loops, by what their boxes hold
-pub choice_step : (pinned : List NamedValue) (states after : List (List NamedValue)) (noted : Noted) (a : Action) (x : Box Choice) (ch : Choice) (place : Place) → a ≡ actions.If x → ch ≡ x.value → StepKeeps pinned states after noted (choice_at place ch) → Steps pinned states after noted place a
-choice_step pinned states after noted a x ch place is held steps = subst (StepKeeps pinned states after noted) (sym (choice_tree a x ch place is held)) steps
+pub choice_step : (g : Context) (states after : List AbstractState) (noted : Noted) (a : Action) (x : Box Choice) (ch : Choice) (place : Place) → a ≡ actions.If x → ch ≡ x.value → StepKeeps g states after noted (choice_at place ch) → Steps g states after noted place a
+choice_step g states after noted a x ch place is held steps = subst (StepKeeps g states after noted) (sym (choice_tree a x ch place is held)) steps
 
-pub loop_step : (pinned : List NamedValue) (states after : List (List NamedValue)) (noted : Noted) (a : Action) (x : Box Loop) (l : Loop) (place : Place) → a ≡ actions.Loop x → l ≡ x.value → StepKeeps pinned states after noted (loop_at place l) → Steps pinned states after noted place a
-loop_step pinned states after noted a x l place is held steps = subst (StepKeeps pinned states after noted) (sym (loop_tree a x l place is held)) steps
+pub loop_step : (g : Context) (states after : List AbstractState) (noted : Noted) (a : Action) (x : Box Loop) (l : Loop) (place : Place) → a ≡ actions.Loop x → l ≡ x.value → StepKeeps g states after noted (loop_at place l) → Steps g states after noted place a
+loop_step g states after noted a x l place is held steps = subst (StepKeeps g states after noted) (sym (loop_tree a x l place is held)) steps
 
--- a loop with a candidate that is inductive
-pub repeat_keeps : (pinned : List NamedValue) (states candidate : List (List NamedValue)) (turns : Turns) (first_inside first_outside outside end after : List (List NamedValue)) (first : Faults) (place : Place) (l : Loop) (inside noted : Noted) →
-    StartsIn states (guard_tree (out-Loop l).guard) turns → Enters pinned states (guard_tree (out-Loop l).guard) turns (boxed_target (out-Loop l).counter) first_turn first_inside first_outside first → RoundKeeps pinned candidate turns first_inside first_outside first outside end inside place l →
-    PartitionIsWithin end candidate → Concludes first_outside outside inside noted after → NotedIn noted place begins states → ((started : Guard) → IsGuard (guard_tree (out-Loop l).guard) turns started → NotedIn noted place goes_on states) → StepKeeps pinned states after noted (loop_at place l)
-repeat_keeps pinned states candidate turns first_inside first_outside outside end after first place l inside noted starts first_enters round again concludes begun gone pins d all stand within =
-    let part : IsPart inside all = part_trans inside noted all concludes.part within in
-    let begins_later : BeginsLater pinned candidate turns first_inside first_outside first round.later_inside outside round.later inside place l = round.begun in
-    loop_command pinned states candidate first_inside first_outside round.later_inside outside round.before end after place (guard_tree (out-Loop l).guard) turns (boxed_target (out-Loop l).counter) (boxed_separator (out-Loop l).between) (command_list (out-Loop l).body) first round.later pins d all
+-- a passage by a candidate that is inductive
+pub search_passes : (g : Context) (states candidate : List AbstractState) (counting : Counting) (first_inside first_outside outside end : List AbstractState) (first : Faults) (place : Place) (l : Loop) (inside : Noted) (p : Passage) →
+    IsBegun g states l counting first_inside first_outside first → RoundKeeps g candidate counting first_inside first_outside first outside end inside place l →
+    PartitionIsWithin g end candidate → IsJoined g first_outside outside inside p → Passes g states counting place l p
+search_passes g states candidate counting first_inside first_outside outside end first place l inside p begun round again joined =
+    let begins_later : BeginsLater g candidate counting first_inside first_outside first round.later_inside outside round.later inside place l = round.begun in
+    let kept : IsPart inside p.inside = subst (IsPart inside) (sym joined.noted) (part_refl inside) in
+    record {
+      start_noted = faults_more inside p.inside place counting.turns.faults kept begins_later.start_noted;
+      turns = λ counted pins d all h guard stand within is n ts s here next. let part : IsPart inside all = part_trans inside p.inside all kept within in
+          post_fixpoints_lead d g pins (noted_in all) l counting (started_of place l guard) h
+          (record { first = states; later = candidate; first_inside = first_inside; later_inside = round.later_inside; before_body = round.before; after_body = end; after = p.after.items })
+          (is_post_fixpoint {first = first} {later = round.later} {noted = all} (record {
+            stand = stand;
+            counted = counted;
+            first_enters = begun.enters;
+            later_enters = begins_later.enters counted;
+            first_true = noted_more g inside all place (answers true) first_inside part begins_later.first_true;
+            first_false = noted_more g inside all place (answers false) first_outside part begins_later.first_false;
+            later_true = noted_more g inside all place (answers true) round.later_inside part begins_later.later_true;
+            later_false = noted_more g inside all place (answers false) outside part begins_later.later_false;
+            first_noted = faults_more inside all place first part begins_later.first_noted;
+            later_noted = faults_more inside all place round.later part begins_later.later_noted;
+            first_before = round.first_before;
+            separator = λ k b. round.separates pins d all k b stand part;
+            body_leads = λ b. round.body pins d all b stand part;
+            again = again;
+            first_after = joined.first_after;
+            later_after = joined.later_after;
+          }) h guard is) n ts s here next;
+    }
+
+-- a loop, by a passage through it
+pub passed_keeps : (g : Context) (states : List AbstractState) (begun : LoopStart) (place : Place) (l : Loop) (p : Passage) (noted : Noted) → BegunFrom g states begun l → Passes g states begun.counting place l p → IsPart p.inside noted → NotedIn g noted place begins states →
+    ((h : Bindings) (started : Guard) → IsGuard g (guard_tree (out-Loop l).guard) begun.counting.turns h started → NotedIn g noted place goes_on states) → StepKeeps g states p.after.items noted (loop_at place l)
+passed_keeps g states begun place l p noted starts passes part begins_noted gone pins d all h stand within =
+    let kept : IsPart p.inside all = part_trans p.inside noted all part within in
+    beside_command d (noted_in all) g pins states p.after.items (loop_at place l) (λ name. SparesLoop name l) (λ name. Spares name (loop_at place l)) h (λ name spared. (spared.0, (spared.1, spared.2)))
+    (λ b. loop_starts g states p.after.items place l begun.counting pins d all b
     (record {
       stand = stand;
-      starts = starts;
-      first_enters = first_enters;
-      later_enters = begins_later.enters;
-      begun = noted_more noted all place begins states within begun;
-      gone = λ started is. noted_more noted all place goes_on states within (gone started is);
-      first_true = noted_more inside all place (answers true) first_inside part begins_later.first_true;
-      first_false = noted_more inside all place (answers false) first_outside part begins_later.first_false;
-      later_true = noted_more inside all place (answers true) round.later_inside part begins_later.later_true;
-      later_false = noted_more inside all place (answers false) outside part begins_later.later_false;
-      first_noted = faults_more inside all place first part begins_later.first_noted;
-      later_noted = faults_more inside all place round.later part begins_later.later_noted;
-      start_noted = faults_more inside all place turns.faults part begins_later.start_noted;
-      first_before = round.first_before;
-      separator = λ k. round.separates pins d all k stand part;
-      body_leads = round.body pins d all stand part;
-      again = again;
-      first_after = concludes.first_after;
-      later_after = concludes.later_after;
+      starts = starts.starts;
+      begun = noted_more g noted all place begins states within begins_noted;
+      gone = λ k started is. noted_more g noted all place goes_on states within (gone k started is);
+      start_noted = faults_more p.inside all place begun.counting.turns.faults kept passes.start_noted;
     })
-
--- one pass over a loop
-pub separator_more : (pinned : List NamedValue) (states after wider : List (List NamedValue)) (old new : Noted) (sep : Separator) → PartitionIsWithin after wider → IsPart old new → SeparatorKeeps pinned states after old sep → SeparatorKeeps pinned states wider new sep
-separator_more pinned states after wider old new sep tells part keeps pins d all k stand within =
-    weaker_leads d (noted_in all) (Holds pins states) (Holds pins after) (Holds pins wider) (separator_before (suc k) sep) (tells_holds pins after wider tells) (keeps pins d all k stand (part_trans old new all part within))
+    (λ k by is. passes.turns starts.counted pins d all k by stand kept is))
 
 -- the begin of a turn, with more notes
-pub begins_more : (pinned : List NamedValue) (candidate : List (List NamedValue)) (turns : Turns) (first_inside first_outside : List (List NamedValue)) (first : Faults) (inside outside : List (List NamedValue)) (later : Faults) (old new : Noted) (place : Place) (l : Loop) → IsPart old new →
-    BeginsLater pinned candidate turns first_inside first_outside first inside outside later old place l → BeginsLater pinned candidate turns first_inside first_outside first inside outside later new place l
-begins_more pinned candidate turns first_inside first_outside first inside outside later old new place l part begun = record {
+pub begins_more : (g : Context) (candidate : List AbstractState) (counting : Counting) (first_inside first_outside : List AbstractState) (first : Faults) (inside outside : List AbstractState) (later : Faults) (old new : Noted) (place : Place) (l : Loop) → IsPart old new →
+    BeginsLater g candidate counting first_inside first_outside first inside outside later old place l → BeginsLater g candidate counting first_inside first_outside first inside outside later new place l
+begins_more g candidate counting first_inside first_outside first inside outside later old new place l part begun = record {
   enters = begun.enters;
-  start_noted = faults_more old new place turns.faults part begun.start_noted;
+  start_noted = faults_more old new place counting.turns.faults part begun.start_noted;
   first_noted = faults_more old new place first part begun.first_noted;
   later_noted = faults_more old new place later part begun.later_noted;
-  first_true = noted_more old new place (answers true) first_inside part begun.first_true;
-  first_false = noted_more old new place (answers false) first_outside part begun.first_false;
-  later_true = noted_more old new place (answers true) inside part begun.later_true;
-  later_false = noted_more old new place (answers false) outside part begun.later_false;
+  first_true = noted_more g old new place (answers true) first_inside part begun.first_true;
+  first_false = noted_more g old new place (answers false) first_outside part begun.first_false;
+  later_true = noted_more g old new place (answers true) inside part begun.later_true;
+  later_false = noted_more g old new place (answers false) outside part begun.later_false;
 }
+
+-- one of two passages
+pub one_passes : (one : Passage) (other : Option Passage) (p : Passage) (P : Passage → Type 0) → IsOneOf one other p → P one → IfSome other P → P p
+one_passes one other p P (inl is) first second = subst P (sym is) first
+one_passes one other p P (inr is) first second = subst (λ o. IfSome o P) is second
+
+-- what was found, or none
+pub same_or_none : (found answer : Result (Option Passage) Stop) (P : Passage → Type 0) → IsSameOrNone found answer → IfOk found (λ a. IfSome a P) → IfOk answer (λ a. IfSome a P)
+same_or_none found answer P (inl is) so = subst (λ r. IfOk r (λ a. IfSome a P)) (sym is) so
+same_or_none found answer P (inr is) so = subst (λ r. IfOk r (λ a. IfSome a P)) (sym is) tt
+
+-- a passage, if there is one, once the loop has begun
+pub begun_passes : (g : Context) (states : List AbstractState) (begun : LoopStart) (place : Place) (l : Loop) (o : Option Passage) → BegunFrom g states begun l → IfSome o (λ p. PassesOnceBegun g begun place l p) → IfSome o (λ p. Passes g states begun.counting place l p)
+begun_passes g states begun place l None starts so = tt
+begun_passes g states begun place l (Some p) starts so = so states starts

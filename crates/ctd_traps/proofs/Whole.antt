@@ -1,10 +1,13 @@
 -- From what commands lead to, to the theorems.
-use Rattle.ctd_traps.proofs.Common.{Bindings, BlanksOk, Bool, CommandList, Effect, Err, Events, Exact, ExpectedEof, HasEachEvent, HasEachTrap, Holds, IsOfValue, IsWithinPartition, Leads, List}
-use Rattle.ctd_traps.proofs.Common.{LookFault, Mode, NamedValue, None, Ok, OneStands, Option, PinsStand, PlacedFault, Preset, Result, Some, TestData, Value, ap, at_key, at_start, done, each_same, end}
-use Rattle.ctd_traps.proofs.Common.{end_in, eof, false, fault_of_look, faulty, first_skip, if◌then◌else◌, initial, is_blank, is_end, lift, next_byte, option_or, pins_alone, pins_of, prefix_len}
-use Rattle.ctd_traps.proofs.Common.{proceed, refl, reject, rejected, return, see_next, skip_blanks, start_in, subst, sym, true, value_at, value_under, visible, with_fault, ℕ, ⊤, ◌+◌, ◌<◌, ◌^◌, ◌≡◌}
+use Rattle.ctd_traps.proofs.Common.{AbstractState, Bindings, BlanksOk, Bool, CommandList, Context, Effect, Err, Events, Exact, ExpectedEof, HasEachEvent, HasEachTrap, Holds, IsOfValue, List, LookFault}
+use Rattle.ctd_traps.proofs.Common.{Mode, None, Noted, Ok, OneStands, Option, PinsAreIn, PinsStand, PlacedFault, Preset, Result, Some, SparesEach, TestData, Value, Variables, WalkKeeps, ap, at_key, at_start}
+use Rattle.ctd_traps.proofs.Common.{done, each_same, end, end_in, eof, false, fault_of_look, faulty, first_skip, if◌then◌else◌, initial, is_blank, is_end, lift, next_byte, noted_in, option_or, pins_alone}
+use Rattle.ctd_traps.proofs.Common.{pins_in, pins_of, prefix_len, proceed, refl, reject, rejected, return, see_next, skip_blanks, start_in, subst, sym, true, value_at, value_under, visible, with_fault, ℕ, ⊤}
+use Rattle.ctd_traps.proofs.Common.{◌+◌, ◌<◌, ◌^◌, ◌≡◌}
 use Rattle.ctd_source.specs.declared.spot.LookFault.TheVariants as looks
 use Rattle.ctd_command.specs.State.{State}
+use Rattle.ctd_traps.proofs.Framing.{framed_leads}
+use Rattle.ctd_traps.proofs.Noting.{part_refl}
 use Rattle.ctd_traps.proofs.Reaching.{AreTraps, NoFault, events_follow, traps_are_events}
 
 -- an effect with no fault of a value
@@ -75,21 +78,23 @@ no_fault : {A : Type 0} (a : Effect A) → OnlyLooks a → NoFault a
 no_fault a looks fault consumed of_value is = subst OnlyLooks is looks of_value
 
 -- before the first command a run is in the first of the states
-first_holds : (presets : List Preset) (pinned : List NamedValue) (first : List (List NamedValue)) → PinsStand pinned (pins_of presets) → IsWithinPartition pinned first →
-    (mode : Mode) (d : TestData) (n : ℕ) (s : State) → n < 2 ^ 64 → first_skip d (at_start mode presets) ≡ done tt s → Holds (pins_of presets) first n s
-first_holds presets pinned first stand tells mode d n s less skipped =
+first_holds : (presets : List Preset) (g : Context) (first : List AbstractState) → PinsStand (pins_in g) (pins_of presets) → PinsAreIn g first →
+    (mode : Mode) (d : TestData) (n : ℕ) (s : State) → n < 2 ^ 64 → first_skip d (at_start mode presets) ≡ done tt s → Holds g (pins_of presets) first n s
+first_holds presets g first stand tells mode d n s less skipped =
     let same : s.store ≡ initial presets = subst (Keeps_store (initial presets)) skipped (start_same mode d (at_start mode presets)) in
     record {
       steps = less;
       pinned = ap (λ h. h.pins) same;
-      one = subst (λ h. OneStands first n h) (sym same) (tells n (initial presets) (each_same pinned n (pins_alone (pins_of presets)) (initial presets) (at_first presets) (stand n less)));
+      one = subst (λ h. OneStands g first n h) (sym same) (tells n (initial presets) (each_same (pins_in g) n (pins_alone (pins_of presets)) (initial presets) (at_first presets) (stand n less)));
     }
 
 -- all that happens is noted
-pub events_noted : (program : CommandList) (presets : List Preset) (events : Events) (pinned : List NamedValue) (first last : List (List NamedValue)) → PinsStand pinned (pins_of presets) → IsWithinPartition pinned first →
-    ((d : TestData) → Leads d events (Holds (pins_of presets) first) program (Holds (pins_of presets) last)) → HasEachEvent program presets events
-events_noted program presets events pinned first last stand tells leads =
-    events_follow program presets events (Holds (pins_of presets) first) (Holds (pins_of presets) last) (first_holds presets pinned first stand tells) leads
+pub events_noted : (program : CommandList) (presets : List Preset) (g : Context) (first last : List AbstractState) (noted : Noted) → PinsStand (pins_in g) (pins_of presets) → PinsAreIn g first → WalkKeeps g first last noted program → HasEachEvent program presets (noted_in noted)
+events_noted program presets g first last noted stand tells keeps =
+    let pins : Variables = pins_of presets in
+    events_follow program presets (noted_in noted) (Holds g pins first) (Holds g pins last) (first_holds presets g first stand tells)
+    (λ d. framed_leads d (noted_in noted) program (Holds g pins first) (Holds g pins last) (Holds g pins first) (Holds g pins last) (λ name. SparesEach name program) (λ h. keeps pins d noted h stand (part_refl noted))
+    (λ n s here. here) (λ n m s t less here end same. end))
 
 -- and so is each trap
 pub traps_noted : (program : CommandList) (presets : List Preset) (events : Events) (traps : List PlacedFault) → AreTraps events traps → HasEachEvent program presets events → HasEachTrap program presets traps

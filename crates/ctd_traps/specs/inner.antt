@@ -1,12 +1,12 @@
 -- What only the proofs of this crate use.
-pub mod PossibleResults
-pub mod Operators
-pub mod Compared
-pub mod Divides
 pub mod Holds
 pub mod Noted
 pub mod Absent
 pub mod Triples
 pub mod PostFixpoint
+pub mod Sparing
 pub mod Walk
+pub mod Turns
+pub mod Unrolled
+pub mod Passages
 pub mod Listed

@@ -1,24 +1,24 @@
 //! Where a run of a program may stop without a verdict, and what never happens in its runs.
 #![tactic(auto)]
 
-mod assign;
 mod block;
+mod budget;
 mod collector;
-mod condition;
-mod cut;
-mod divide;
-mod expression;
+mod lasting;
 mod mentions;
 mod names;
 mod never;
 mod note;
-mod operand;
+mod pairs;
+mod passage;
 mod program;
 mod roles;
 mod simple;
-mod transfer;
+mod spare;
+mod start;
 mod trap;
 mod turn;
+mod unroll;
 mod walk;
 
 pub use block::{CommandInBlock, all_commands};

@@ -20,21 +20,26 @@ pub enum Use {
     /// UNSET forgets its values.
     Forgets,
     /// INT, REGEX or SET gives it, or an element of it, a value.
-    Sets { is_element: bool },
+    Sets,
     /// A loop counts in it, or in an element of it.
-    Counts { is_element: bool },
+    Counts,
 }
 
-/// A name in a command, and what the command does with it there.
+/// A name in a command, its indices there, and what the command does with it.
 #[derive(Clone, Copy)]
 pub struct MentionedName<'p> {
     pub name: &'p Name,
+    pub indices: &'p [Expr],
     pub used_as: Use,
 }
 
-/// Adds a name.
+/// Adds a name without indices.
 fn list_one<'p>(used_as: Use, name: &'p Name, found: &mut Collector<MentionedName<'p>>) {
-    found.add(MentionedName { name, used_as });
+    found.add(MentionedName {
+        name,
+        indices: &[],
+        used_as,
+    });
 }
 
 /// Adds names.
@@ -60,8 +65,13 @@ fn list_expr<'p>(assigned: Option<&Name>, e: &'p Expr, found: &mut Collector<Men
         Expr::Numeral(_) | Expr::Text(_) => (),
         Expr::Element(element) => {
             let Element { name, indices } = &**element;
-            list_one(read_use(assigned, name), name, found);
-            list_indices(assigned, indices.as_slice(), found)
+            let indices = indices.as_slice();
+            found.add(MentionedName {
+                name,
+                indices,
+                used_as: read_use(assigned, name),
+            });
+            list_indices(assigned, indices, found)
         }
         Expr::Strlen(e) | Expr::Minus(e) => list_expr(assigned, e, found),
         Expr::Add(a, b)
@@ -123,26 +133,19 @@ fn list_variable<'p>(
     v: &'p Var,
     found: &mut Collector<MentionedName<'p>>,
 ) {
-    list_one(used_as, &v.name, found);
-    list_indices(assigned, v.indices.as_slice(), found)
-}
-
-/// Whether a variable is an element.
-fn is_element(v: &Var) -> bool {
-    !v.indices.as_slice().is_empty()
-}
-
-/// What INT, REGEX or SET does with its variable.
-fn sets_use(v: &Var) -> Use {
-    Use::Sets {
-        is_element: is_element(v),
-    }
+    let indices = v.indices.as_slice();
+    found.add(MentionedName {
+        name: &v.name,
+        indices,
+        used_as,
+    });
+    list_indices(assigned, indices, found)
 }
 
 /// Adds the names in the variable of INT or REGEX, if there is one.
 fn list_target<'p>(variable: &'p Option<Var>, found: &mut Collector<MentionedName<'p>>) {
     match variable {
-        Some(v) => list_variable(sets_use(v), None, v, found),
+        Some(v) => list_variable(Use::Sets, None, v, found),
         None => (),
     }
 }
@@ -157,7 +160,7 @@ fn list_int<'p>(int: &'p IntArguments, found: &mut Collector<MentionedName<'p>>)
 fn list_assignment<'p>(a: &'p Assignment, found: &mut Collector<MentionedName<'p>>) {
     let Assignment { target, value } = a;
     let assigned = Some(&target.name);
-    list_variable(sets_use(target), assigned, target, found);
+    list_variable(Use::Sets, assigned, target, found);
     list_expr(assigned, value, found)
 }
 
@@ -171,10 +174,7 @@ fn list_assignments<'p>(assignments: &'p [Assignment], found: &mut Collector<Men
 /// Adds the names in a counter, if there is one.
 fn list_counter<'p>(counter: &'p Option<Box<Var>>, found: &mut Collector<MentionedName<'p>>) {
     match counter {
-        Some(v) => {
-            let is_element = is_element(v);
-            list_variable(Use::Counts { is_element }, None, v, found)
-        }
+        Some(v) => list_variable(Use::Counts, None, v, found),
         None => (),
     }
 }

@@ -1,18 +1,35 @@
 //! The names of a program. No contract speaks of them: where one is not listed, the analysis gives up.
 
-use crate::block::{CommandInBlock, all_commands};
+use crate::block::all_commands;
 use crate::mentions::{MentionedName, all_mentions};
-use ctd_program::{Action, Command, Preset, Presets};
+use crate::pairs::pairs_in;
+use ctd_program::{Command, Expr, Preset, Presets};
+use ctd_states::Pair;
 use std::alloc::{AllocError, Global};
 
-/// The names of a program and of presets, each once, and what one pass over the program costs.
+/// The names of a program and of presets, each once, with the strings that are indices among them; and the pairs of arrays of which it asks.
 #[derive(Drop)]
 pub(crate) struct Mentioned<'p> {
     pub(crate) names: Vec<&'p [u8]>,
-    pub(crate) cost: u64,
+    pub(crate) pairs: Vec<Pair>,
 }
 
-/// The names that stand in some places and those of presets, each once.
+/// Adds the strings that are indices.
+fn list_texts<'p>(
+    mut words: Vec<&'p [u8]>,
+    places: &[MentionedName<'p>],
+) -> Result<Vec<&'p [u8]>, AllocError> {
+    for place in places {
+        for index in place.indices {
+            if let Expr::Text(bytes) = index {
+                words.push(bytes.as_slice())?;
+            }
+        }
+    }
+    Ok(words)
+}
+
+/// The names that stand in some places with the strings that are indices, and those of presets, each once.
 fn each_once<'p>(
     alloc: Global,
     places: &[MentionedName<'p>],
@@ -25,24 +42,13 @@ fn each_once<'p>(
     for preset in presets {
         once.push(preset.name.as_slice())?;
     }
+    once = list_texts(once, places)?;
     once.sort()?;
     once.dedup();
     Ok(once)
 }
 
-/// How many of some commands have blocks of their own.
-fn count_blocks(commands: &[CommandInBlock]) -> usize {
-    let mut blocks: usize = 0;
-    for entry in commands {
-        if matches!(&entry.command.action, Action::Loop(_) | Action::If(_)) {
-            blocks = blocks.saturating_add(1);
-        }
-    }
-    blocks
-}
-
-/// The names of a program and of presets, and the cost of a pass: that of a name for each command, for each place where one stands, and for each name
-/// behind each block, where states are joined.
+/// The names of a program and of presets, and the pairs of its arrays.
 pub(crate) fn mentioned_in<'p>(
     alloc: Global,
     commands: &'p [Command],
@@ -50,14 +56,12 @@ pub(crate) fn mentioned_in<'p>(
 ) -> Result<Mentioned<'p>, AllocError> {
     let entries = all_commands(alloc, commands)?;
     let places = all_mentions(alloc, entries.as_slice())?;
-    let pins = presets.pins();
-    let names = each_once(alloc, places.as_slice(), pins)?;
-    let behind = count_blocks(entries.as_slice()).saturating_mul(names.len());
-    let each = places
-        .len()
-        .saturating_add(pins.len())
-        .saturating_add(entries.len())
-        .saturating_add(behind);
-    let cost = (each as u64).saturating_mul(names.len() as u64);
-    Ok(Mentioned { names, cost })
+    let names = each_once(alloc, places.as_slice(), presets.pins())?;
+    let pairs = pairs_in(
+        alloc,
+        entries.as_slice(),
+        places.as_slice(),
+        names.as_slice(),
+    )?;
+    Ok(Mentioned { names, pairs })
 }

@@ -2,13 +2,13 @@
 
 ghost use Rattle.std.specs.Prelude.{OnOk};
 ghost use Rattle.ctd_states.specs.declared.assign.Context.{Context};
-ghost use Rattle.ctd_states.specs.calls.Partitions.{states_in};
 ghost use Rattle.ctd_traps.specs.calls.Events.{answers, begins, event_of_kind, goes_on};
 ghost use Rattle.ctd_traps.specs.inner.Noted.{AreNoted, IsPart, NotedIn};
 ghost use Rattle.std.specs.Prelude.{true, false};
 
 use crate::trap::{Trap, report};
-use ctd_states::{Faults, State};
+use ctd_partitions::State;
+use ctd_states::Faults;
 use ctd_token::Place;
 use std::alloc::{AllocError, Global};
 
@@ -64,7 +64,7 @@ pub(crate) fn note_event(
     noted: &mut Noted,
 ) -> Result<(), AllocError>
     ensures more { OnOk result (IsPart noted.old noted.new) }
-    ensures event { OnOk result ((g : Context) → NotedIn noted.new place (event_of_kind kind) (states_in g states.now)) }
+    ensures event { OnOk result ((g : Context) → NotedIn g noted.new place (event_of_kind kind) states.now) }
 {
     if states.is_empty() {
         return Ok(());
@@ -81,8 +81,8 @@ pub(crate) fn note_run(
     noted: &mut Noted,
 ) -> Result<(), AllocError>
     ensures more { OnOk result (IsPart noted.old noted.new) }
-    ensures begun { OnOk result ((g : Context) → NotedIn noted.new place begins (states_in g before.now)) }
-    ensures gone { OnOk result ((g : Context) → NotedIn noted.new place goes_on (states_in g after.now)) }
+    ensures begun { OnOk result ((g : Context) → NotedIn g noted.new place begins before.now) }
+    ensures gone { OnOk result ((g : Context) → NotedIn g noted.new place goes_on after.now) }
 {
     note_event(place, EventKind::Begins, before, noted)?;
     note_event(place, EventKind::GoesOn, after, noted)?;
@@ -97,8 +97,8 @@ pub(crate) fn note_answers(
     noted: &mut Noted,
 ) -> Result<(), AllocError>
     ensures more { OnOk result (IsPart noted.old noted.new) }
-    ensures on_true { OnOk result ((g : Context) → NotedIn noted.new place (answers true) (states_in g if_true.now)) }
-    ensures on_false { OnOk result ((g : Context) → NotedIn noted.new place (answers false) (states_in g if_false.now)) }
+    ensures on_true { OnOk result ((g : Context) → NotedIn g noted.new place (answers true) if_true.now) }
+    ensures on_false { OnOk result ((g : Context) → NotedIn g noted.new place (answers false) if_false.now) }
 {
     note_event(place, EventKind::IsTrue, if_true, noted)?;
     note_event(place, EventKind::IsFalse, if_false, noted)?;

@@ -7,26 +7,25 @@ ghost use Rattle.ctd_store.specs.inner.Store.{pins_of};
 ghost use Rattle.ctd_traps.specs.calls.Traps.{HasEachTrap, faults_of};
 ghost use Rattle.ctd_traps.specs.calls.Events.{HasEachEvent, NeverHappens, events_of};
 ghost use Rattle.ctd_traps.specs.calls.Laws.{ComesAsItRuns, EachEndIsReached};
+ghost use Rattle.ctd_traps.specs.inner.Holds.{PinsAreIn};
 ghost use Rattle.ctd_traps.specs.inner.Noted.{noted_in};
-ghost use Rattle.ctd_states.specs.calls.Partitions.{IsWithinPartition, states_in};
 ghost use Rattle.ctd_states.specs.calls.States.{MayBe, PinsStand, pins_in, named_values, entries_in};
 ghost use Rattle.std.specs.Borrow.{Bor};
 
+use crate::budget::whole_budget;
 use crate::names::{Mentioned, mentioned_in};
 use crate::never::absent_in;
 use crate::note::{Note, Noted, nothing_noted};
-use crate::trap::Trap;
+use crate::trap::{Trap, in_text_order};
 use crate::walk::walk;
+use ctd_partitions::{State, join_state};
 use ctd_program::{Command, Preset, PresetValue, Presets};
 use ctd_range::Range;
 use ctd_states::{
-    AbstractValue, Context, Lengths, PossibleValues, State, Stop, assign_alone, assign_element,
-    copy_of, join_state,
+    AbstractValue, Context, Lengths, Pair, PossibleValues, Stop, assign_alone, assign_element,
+    copy_of,
 };
 use std::alloc::{AllocError, Global};
-
-/// What the passes over a program may cost. A pass is made in each state, of which there are at most four.
-const BUDGET: u64 = 20_000_000;
 
 /// No values.
 const NONE: PossibleValues = PossibleValues {
@@ -123,16 +122,18 @@ fn state_before(
         alloc,
         names,
         pinned: nothing.as_slice(),
+        pairs: &[],
     };
     pin_all(without, presets.pins())
 }
 
 /// The partition before the first command: the state of the pins.
 fn first_state(context: Context) -> Result<Vec<State>, Stop>
-    ensures { IfOk result (λ first. IsWithinPartition (pins_in context.entry) (states_in context.entry first.items)) }
+    ensures { IfOk result (λ first. PinsAreIn context.entry first.items) }
 {
     let entries = copy_of(context.alloc, context.pinned)?;
-    join_state(context, Vec::new(context.alloc), entries)
+    let facts = Vec::new(context.alloc);
+    join_state(context, Vec::new(context.alloc), State { entries, facts })
 }
 
 /// Where a run of some commands with these names may stop by a fault of a value, and what else may happen where.
@@ -141,7 +142,7 @@ fn events_in(
     commands: &[Command],
     presets: &Presets,
     names: &[&[u8]],
-    passes: u64,
+    pairs: &[Pair],
 ) -> Result<Noted, Stop>
     ensures { IfOk result (λ noted. HasEachEvent (command_trees commands.now) presets.now (noted_in noted)) }
 {
@@ -150,10 +151,11 @@ fn events_in(
         alloc,
         names,
         pinned: pinned.as_slice(),
+        pairs,
     };
     let first = first_state(context)?;
     let mut noted = nothing_noted(alloc);
-    let mut budget = passes;
+    let mut budget = whole_budget();
     walk(commands, context, first, &mut noted, &mut budget)?;
     Ok(noted)
 }
@@ -168,14 +170,11 @@ pub fn traps<'p>(
     ensures each { IfOk result (λ answer. IfSome answer (λ list. HasEachTrap (command_trees commands.now) presets.now (faults_of list.traps.items))) }
     ensures never { IfOk result (λ answer. IfSome answer (λ list. NeverHappens (command_trees commands.now) presets.now (events_of list.never.items))) }
 {
-    let Mentioned { names, cost } = mentioned_in(alloc, commands, presets)?;
-    let passes = BUDGET / cost.max(1);
-    if passes == 0 {
-        return Ok(None);
-    }
-    match events_in(alloc, commands, presets, names.as_slice(), passes) {
+    let Mentioned { names, pairs } = mentioned_in(alloc, commands, presets)?;
+    match events_in(alloc, commands, presets, names.as_slice(), pairs.as_slice()) {
         Ok(noted) => {
             let Noted { traps, events } = noted;
+            let traps = in_text_order(traps)?;
             let never = absent_in(alloc, commands, events.as_slice())?;
             Ok(Some(TrapList {
                 traps,

@@ -29,9 +29,9 @@ pub enum Role {
     Fills,
 }
 
-/// Whether a use has a role.
-pub fn has_role(role: Role, used_as: Use) -> bool {
-    match used_as {
+/// Whether a name has a role where it stands.
+pub fn has_role(role: Role, mention: &MentionedName) -> bool {
+    match mention.used_as {
         Use::Reads => matches!(
             role,
             Role::Mentions | Role::Reads | Role::ReadsElsewhere | Role::Needs
@@ -42,14 +42,14 @@ pub fn has_role(role: Role, used_as: Use) -> bool {
             Role::Mentions | Role::Reads | Role::ReadsElsewhere | Role::LooksAtAll | Role::Needs
         ),
         Use::Forgets => matches!(role, Role::Mentions | Role::Forgets | Role::Needs),
-        Use::Sets { is_element } => match role {
+        Use::Sets => match role {
             Role::Mentions | Role::Sets | Role::Gives => true,
-            Role::Fills => is_element,
+            Role::Fills => !mention.indices.is_empty(),
             _ => false,
         },
-        Use::Counts { is_element } => match role {
+        Use::Counts => match role {
             Role::Mentions | Role::Gives => true,
-            Role::Fills => is_element,
+            Role::Fills => !mention.indices.is_empty(),
             _ => false,
         },
     }
@@ -57,7 +57,7 @@ pub fn has_role(role: Role, used_as: Use) -> bool {
 
 /// Whether a name has a role in one of the places where it stands.
 pub fn is_in_role(name: &Name, role: Role, mentions: &[MentionedName]) -> bool {
-    mentions.iter().any(|m| has_role(role, m.used_as) && name.as_slice() == m.name.as_slice())
+    mentions.iter().any(|m| has_role(role, m) && name.as_slice() == m.name.as_slice())
 }
 
 /// The names that have a role where they stand, and those of these presets, by their bytes.
@@ -69,7 +69,7 @@ pub fn names_in_role<'p>(
 ) -> Result<BTreeSet<&'p [u8]>, AllocError> {
     let mut names = BTreeSet::new(alloc);
     for m in mentions {
-        if has_role(role, m.used_as) {
+        if has_role(role, m) {
             names.insert(m.name.as_slice())?;
         }
     }

@@ -1,91 +1,100 @@
-//! The transfer functions of INT, STRING and REGEX.
+//! Commands in which no others stand, and the branches of IF.
 
-ghost use Rattle.std.specs.Prelude.{◌≤ℤ◌, ◌≤◌, ℕ, ℤ, List, length, IfOk};
-ghost use Rattle.ctd_source.specs.declared.limits.TheConstants.{WINDOW};
-ghost use Rattle.ctd_program.specs.calls.View.{expr_tree, target};
-ghost use Rattle.ctd_store.specs.declared.value.Value.TheVariants as values;
-ghost use Rattle.ctd_command.specs.Commands.{int, string};
-ghost use Rattle.ctd_command.specs.Regex.{regex};
-ghost use Rattle.ctd_states.specs.calls.States.{MayBe, pins_in, entries_in};
-ghost use Rattle.ctd_traps.specs.inner.Walk.{Acts};
+ghost use Rattle.std.specs.Prelude.{OnOk, IfOk};
+ghost use Rattle.ctd_program.specs.Tree;
+ghost use Rattle.ctd_program.specs.calls.View.{command_tree, test_tree};
+ghost use Rattle.ctd_traps.specs.calls.Events.{goes_on};
+ghost use Rattle.ctd_traps.specs.inner.Noted.{IsPart, NotedIn};
+ghost use Rattle.ctd_traps.specs.inner.Walk.{AreBranches, Asks, StepKeeps};
 
-use crate::assign::keep;
-use crate::cut::expect_value;
-use crate::expression::{number_faults, possible_result, text_alone, text_faults};
-use ctd_program::{Expr, IntArguments, RegexArguments};
-use ctd_range::Range;
-use ctd_source::WINDOW;
-use ctd_states::{AbstractValue, Context, Faults, Lengths, PossibleValues, Stop, union};
+use crate::note::{EventKind, Noted, note_answers, note_event, note_faults, note_run};
+use ctd_partitions::{State, join_partitions};
+use ctd_program::{Command, Test};
+use ctd_states::{Context, Stop};
+use ctd_token::Place;
+use ctd_transfer::{SplitStates, divide, transfer_each};
 
-/// The numbers from a possible one to another.
-fn between(a: PossibleValues, b: PossibleValues) -> PossibleValues
-    ensures { (k : ℕ) (x y z : ℤ) → MayBe a k (values.Int x) → MayBe b k (values.Int y) → x ≤ℤ z → z ≤ℤ y → MayBe result k (values.Int z) }
+/// The states behind a command in which no others stand.
+pub(crate) fn take(
+    command: &Command,
+    context: Context,
+    states: &[State],
+    noted: &mut Noted,
+) -> Result<Vec<State>, Stop>
+    ensures more { OnOk result (IsPart noted.old noted.new) }
+    ensures keeps { IfOk result (λ after. StepKeeps context.entry states.now after.items noted.new (command_tree command.now)) }
 {
-    let number = match (a.number, b.number) {
-        (Some(least), Some(most)) => Some(Range {
-            low: least.low,
-            high: most.high,
-            rise: least.rise,
-            fall: most.fall,
-        }),
-        _ => None,
-    };
-    PossibleValues { text: None, number }
+    let acted = transfer_each(command, context, states)?;
+    note_faults(command.place, acted.faults, noted)?;
+    note_run(command.place, states, acted.after.as_slice(), noted)?;
+    Ok(acted.after)
 }
 
-/// Does what INT does.
-pub(crate) fn take_integer(
-    arguments: &IntArguments,
+/// The states where a test of a command is true, and those where it is false. That the command begins, the answers and the faults are noted.
+fn ask(
+    t: &Test,
+    place: Place,
     context: Context,
-    entries: &mut [AbstractValue],
-) -> Result<Faults, Stop>
-    ensures { IfOk result (λ faults. Acts (pins_in context.entry) (entries_in context.entry entries.old) (entries_in context.entry entries.new) faults (int (expr_tree arguments.now.low) (expr_tree arguments.now.high) (target arguments.now.target))) }
+    states: &[State],
+    noted: &mut Noted,
+) -> Result<SplitStates, Stop>
+    ensures more { OnOk result (IsPart noted.old noted.new) }
+    ensures asks { IfOk result (λ s. Asks context.entry states.now s.if_true.items s.if_false.items (test_tree t.now) s.faults noted.new place) }
 {
-    let low = possible_result(&arguments.low, context.names, entries)?;
-    let high = possible_result(&arguments.high, context.names, entries)?;
-    let kept = keep(
-        context,
-        &arguments.target,
-        between(low.values, high.values),
-        entries,
+    let divided = divide(context, t, states)?;
+    note_event(place, EventKind::Begins, states, noted)?;
+    note_faults(place, divided.faults, noted)?;
+    note_answers(
+        place,
+        divided.if_true.as_slice(),
+        divided.if_false.as_slice(),
+        noted,
     )?;
-    let bounds = union(number_faults(low), number_faults(high));
-    Ok(union(bounds, kept))
+    Ok(divided)
 }
 
-/// Does what STRING does, which gives no variable a value.
-pub(crate) fn take_string(
-    e: &Expr,
+/// The states behind ASSERT.
+pub(crate) fn assert(
+    t: &Test,
+    place: Place,
     context: Context,
-    entries: &mut [AbstractValue],
-) -> Result<Faults, Stop>
-    ensures { IfOk result (λ faults. Acts (pins_in context.entry) (entries_in context.entry entries.old) (entries_in context.entry entries.new) faults (string (expr_tree e.now))) }
+    states: &[State],
+    noted: &mut Noted,
+) -> Result<Vec<State>, Stop>
+    ensures more { OnOk result (IsPart noted.old noted.new) }
+    ensures keeps { IfOk result (λ after. StepKeeps context.entry states.now after.items noted.new (Tree.assert place (test_tree t.now))) }
 {
-    let found = possible_result(e, context.names, entries)?;
-    expect_value(text_alone(found.values), entries);
-    Ok(text_faults(found))
+    let asked = ask(t, place, context, states, noted)?;
+    note_event(place, EventKind::GoesOn, asked.if_true.as_slice(), noted)?;
+    Ok(asked.if_true)
 }
 
-/// The strings that a window may have.
-fn in_window() -> PossibleValues
-    ensures { (k : ℕ) (bytes : List ℕ) → length bytes ≤ WINDOW → MayBe result k (values.Text bytes) }
-{
-    PossibleValues {
-        text: Some(Lengths {
-            least: 0,
-            most: WINDOW as u64,
-        }),
-        number: None,
-    }
-}
-
-/// Does what REGEX does.
-pub(crate) fn take_match(
-    arguments: &RegexArguments,
+/// The states where the test of IF is true, and those where it is false: a run goes on in both.
+pub(crate) fn ask_branches(
+    t: &Test,
+    place: Place,
     context: Context,
-    entries: &mut [AbstractValue],
-) -> Result<Faults, Stop>
-    ensures { IfOk result (λ faults. Acts (pins_in context.entry) (entries_in context.entry entries.old) (entries_in context.entry entries.new) faults (regex arguments.now.literal.bytes (target arguments.now.target))) }
+    states: &[State],
+    noted: &mut Noted,
+) -> Result<SplitStates, Stop>
+    ensures more { OnOk result (IsPart noted.old noted.new) }
+    ensures asks { IfOk result (λ s. Asks context.entry states.now s.if_true.items s.if_false.items (test_tree t.now) s.faults noted.new place) }
+    ensures on_true { IfOk result (λ s. NotedIn context.entry noted.new place goes_on s.if_true.items) }
+    ensures on_false { IfOk result (λ s. NotedIn context.entry noted.new place goes_on s.if_false.items) }
 {
-    keep(context, &arguments.target, in_window(), entries)
+    let asked = ask(t, place, context, states, noted)?;
+    note_event(place, EventKind::GoesOn, asked.if_true.as_slice(), noted)?;
+    note_event(place, EventKind::GoesOn, asked.if_false.as_slice(), noted)?;
+    Ok(asked)
+}
+
+/// The states behind IF: the join of those behind its branches.
+pub(crate) fn join_branches(
+    context: Context,
+    yes: Vec<State>,
+    no: Vec<State>,
+) -> Result<Vec<State>, Stop>
+    ensures { IfOk result (λ after. AreBranches context.entry yes.items no.items after.items) }
+{
+    join_partitions(context, yes, no.as_slice())
 }

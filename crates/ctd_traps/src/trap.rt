@@ -1,6 +1,6 @@
 //! A trap: where a run may stop, and by which fault.
 
-ghost use Rattle.std.specs.Prelude.{◌≡◌, true, OnOk, Contains};
+ghost use Rattle.std.specs.Prelude.{◌≡◌, true, OnOk, IfOk, Contains};
 ghost use Rattle.ctd_traps.specs.calls.Traps.{fault_of_kind, faults_of};
 ghost use Rattle.ctd_traps.specs.inner.Holds.{AreListed, ArePart};
 ghost use Rattle.ctd_states.specs.calls.Faults.{IsOfKind};
@@ -64,7 +64,35 @@ fn operand_of(faults: &Faults, kind: TrapKind) -> Option<Operand> {
     }
 }
 
-/// Adds a trap of a kind, if there is such a fault.
+/// Whether two kinds of traps are the same.
+fn is_kind(a: TrapKind, b: TrapKind) -> bool
+    ensures { result ≡ true → a ≡ b }
+{
+    match a {
+        TrapKind::NoValue => matches!(b, TrapKind::NoValue),
+        TrapKind::NoElement => matches!(b, TrapKind::NoElement),
+        TrapKind::WrongType => matches!(b, TrapKind::WrongType),
+        TrapKind::Overflow => matches!(b, TrapKind::Overflow),
+        TrapKind::DivisionByZero => matches!(b, TrapKind::DivisionByZero),
+        TrapKind::BadExponent => matches!(b, TrapKind::BadExponent),
+        TrapKind::BadCount => matches!(b, TrapKind::BadCount),
+        TrapKind::OtherShape => matches!(b, TrapKind::OtherShape),
+    }
+}
+
+/// Whether a trap of a kind is listed at a place.
+fn is_listed(place: Place, kind: TrapKind, traps: &[Trap]) -> bool
+    ensures { result ≡ true → Contains (faults_of traps.now) (record { place = place; fault = fault_of_kind kind }) }
+{
+    for trap in traps {
+        if trap.place == place && is_kind(trap.kind, kind) {
+            return true;
+        }
+    }
+    false
+}
+
+/// Adds a trap of a kind, if there is such a fault and none is listed at the place.
 fn report_kind(
     place: Place,
     faults: &Faults,
@@ -77,6 +105,9 @@ fn report_kind(
     if !has(faults, kind) {
         return Ok(());
     }
+    if is_listed(place, kind, traps.as_slice()) {
+        return Ok(());
+    }
     traps.push(Trap {
         place,
         kind,
@@ -85,7 +116,7 @@ fn report_kind(
     Ok(())
 }
 
-/// Adds a trap for each of some faults at a place.
+/// Adds a trap for each of some faults at a place, unless it is listed there.
 pub(crate) fn report(place: Place, faults: Faults, traps: &mut Vec<Trap>) -> Result<(), AllocError>
     ensures more { OnOk result (ArePart (faults_of traps.old.items) (faults_of traps.new.items)) }
     ensures listed { OnOk result (AreListed (faults_of traps.new.items) place faults) }
@@ -94,4 +125,13 @@ pub(crate) fn report(place: Place, faults: Faults, traps: &mut Vec<Trap>) -> Res
         report_kind(place, &faults, *kind, traps)?;
     }
     Ok(())
+}
+
+/// Traps in the order of the text. An error where memory ran out.
+pub(crate) fn in_text_order(traps: Vec<Trap>) -> Result<Vec<Trap>, AllocError>
+    ensures { IfOk result (λ sorted. ArePart (faults_of traps.items) (faults_of sorted.items)) }
+{
+    let mut sorted = traps;
+    sorted.sort_by_key(|trap| (trap.place.line, trap.place.column))?;
+    Ok(sorted)
 }

@@ -1,27 +1,21 @@
-//! How loops start, and how their turns begin.
+//! How the turns of loops begin.
 
-ghost use Rattle.std.specs.Prelude.{◌≡◌, ◌≤◌, ◌<◌, ◌<ℤ◌, ◌^◌, ℕ, ℤ, pos, true, false, IfOk};
-ghost use Rattle.ctd_program.specs.calls.View.{boxed_target, expr_tree, guard_tree};
-ghost use Rattle.ctd_store.specs.declared.value.Value.TheVariants as values;
+ghost use Rattle.std.specs.Prelude.{◌≡◌, ◌≤◌, ◌<◌, ℕ, pos, true, false, None, Some, IfOk};
+ghost use Rattle.ctd_program.specs.calls.View.{boxed_target, var_tree};
 ghost use Rattle.ctd_range.specs.calls.Ranges.{IsIn};
-ghost use Rattle.ctd_range.specs.inner.Ranges.{IsCount};
-ghost use Rattle.ctd_states.specs.calls.States.{MayBe, pins_in, entries_in};
-ghost use Rattle.ctd_traps.specs.inner.Walk.{Counts, CountsEach, CountsLast, CountsTurn, Enters, IsGuard, Starts, StartsIn, first_turn};
 ghost use Rattle.ctd_program.specs.declared.tree.Loop.{out-Loop};
-ghost use Rattle.ctd_states.specs.calls.Partitions.{states_in};
-ghost use Rattle.ctd_check.specs.Loops.{Guard};
+ghost use Rattle.ctd_traps.specs.inner.Turns.{CountsEach, CountsLast, CountsTurn, KnowsTurn, StandsBeside};
+ghost use Rattle.ctd_traps.specs.inner.Walk.{AreCounted, Enters, IsBegun, IsFreeName, IsSpared, IsTurn};
 
-use crate::assign::assign;
-use crate::cut::expect_value;
-use crate::divide::divide;
-use crate::expression::{number_faults, possible_result};
-use crate::transfer::StatesAfter;
-use ctd_program::{Expr, Loop, LoopGuard, Var};
-use ctd_range::{Range, less};
-use ctd_states::{
-    AbstractValue, Blame, Context, Faults, NO_BLAME, PossibleValues, State, Stop, after_step,
-    join_all, join_state, no_faults, union,
-};
+use crate::lasting::lasting_limits;
+use crate::spare::turns_spare;
+use crate::start::{Turns, start_each};
+use ctd_limits::{ValueLimits, anything, as_limits, limits_of_name, limits_of_number, next_turn};
+use ctd_partitions::{State, after_step, compared, equal, is_pinned, join_state, view_of};
+use ctd_program::{Compare, Loop, LoopGuard, Var};
+use ctd_range::{Range, less, with_high, with_low};
+use ctd_states::{Context, Faults, PossibleValues, Stop, index_of, no_faults, union};
+use ctd_transfer::{StateAfter, StatesAfter, assign, divide, keep_nothing};
 
 /// The states where a turn begins, and those where the loop is over.
 #[derive(Drop)]
@@ -29,105 +23,6 @@ pub(crate) struct LoopEntry {
     pub(crate) inside: Vec<State>,
     pub(crate) outside: Vec<State>,
     pub(crate) faults: Faults,
-}
-
-/// Whether a possible number may lie outside 0 to 2^64-1.
-fn may_be_no_count(possible: PossibleValues) -> bool
-    ensures { result ≡ false → (k : ℕ) (x : ℤ) → MayBe possible k (values.Int x) → IsCount x }
-{
-    match possible.number {
-        Some(range) => range.low < 0 || range.high > i128::from(u64::MAX),
-        None => false,
-    }
-}
-
-/// How many turns a possible number may give at most.
-fn most_of(possible: PossibleValues) -> u64
-    ensures { (k n : ℕ) → n < 2 ^ 64 → MayBe possible k (values.Int (pos n)) → n ≤ result }
-{
-    match possible.number {
-        Some(range) => u64::try_from(range.high).unwrap_or(u64::MAX),
-        None => 0,
-    }
-}
-
-/// How many turns a possible number gives at least: more than at most where there is none.
-fn least_of(possible: PossibleValues) -> u64
-    ensures { (k n : ℕ) → n < 2 ^ 64 → MayBe possible k (values.Int (pos n)) → result ≤ n }
-{
-    match possible.number {
-        Some(range) => u64::try_from(range.low).unwrap_or(0),
-        None => 1,
-    }
-}
-
-/// How a loop may start: the faults, and how many turns it has at least and at most where it counts them.
-#[derive(Clone, Copy)]
-pub(crate) struct Turns {
-    pub(crate) faults: Faults,
-    pub(crate) least: u64,
-    pub(crate) most: u64,
-}
-
-/// What a count of turns may be.
-fn count_turns(e: &Expr, context: Context, entries: &[AbstractValue]) -> Result<Turns, Stop>
-    ensures { IfOk result (λ t. Counts (entries_in context.entry entries.now) (expr_tree e.now) t) }
-{
-    let count = possible_result(e, context.names, entries)?;
-    let is_bad = may_be_no_count(count.values);
-    let blame = Blame {
-        count: if is_bad { count.operand } else { None },
-        ..NO_BLAME
-    };
-    let bad = Faults {
-        count: is_bad,
-        blame,
-        ..no_faults()
-    };
-    Ok(Turns {
-        faults: union(number_faults(count), bad),
-        least: least_of(count.values),
-        most: most_of(count.values),
-    })
-}
-
-/// How a loop may start.
-fn start(guard: &LoopGuard, context: Context, entries: &[AbstractValue]) -> Result<Turns, Stop>
-    ensures { IfOk result (λ t. Starts (entries_in context.entry entries.now) (guard_tree guard.now) t) }
-{
-    match guard {
-        LoopGuard::Times(e) => count_turns(e, context, entries),
-        LoopGuard::While(_) => Ok(Turns {
-            faults: no_faults(),
-            least: 0,
-            most: 0,
-        }),
-    }
-}
-
-/// Whether a loop may start: a count is at least, and at most, so large.
-pub(crate) fn may_start(guard: &LoopGuard, turns: Turns) -> bool
-    ensures { result ≡ false → (started : Guard) → IsGuard (guard_tree guard.now) turns started → ⊥ }
-{
-    match guard {
-        LoopGuard::Times(_) => turns.least <= turns.most,
-        LoopGuard::While(_) => true,
-    }
-}
-
-/// How a loop may start in some states.
-fn start_each(guard: &LoopGuard, context: Context, states: &[State]) -> Result<Turns, Stop>
-    ensures { IfOk result (λ t. StartsIn (states_in context.entry states.now) (guard_tree guard.now) t) }
-{
-    if states.is_empty() {
-        return Ok(Turns {
-            faults: no_faults(),
-            least: 0,
-            most: 0,
-        });
-    }
-    let all = join_all(context, states)?;
-    start(guard, context, all.as_slice())
 }
 
 /// The numbers of turns that are below a count.
@@ -143,25 +38,208 @@ fn below(turn: Range, most: u64) -> Range
     less(turn, counts)
 }
 
-/// Gives the counter of a loop, if there is one, the number of a turn.
+/// Turns of a loop: the one of a number, or all but the first.
+#[derive(Clone, Copy)]
+pub(crate) enum Phase {
+    At(u64),
+    Later,
+}
+
+/// Whether a turn is the first one.
+fn is_first(phase: Phase) -> bool
+    ensures first { result ≡ true → (n k : ℕ) → IsTurn phase n k → k ≡ 0 }
+    ensures later { result ≡ false → (n k : ℕ) → IsTurn phase n k → 0 < k }
+{
+    match phase {
+        Phase::At(k) => k == 0,
+        Phase::Later => false,
+    }
+}
+
+/// The number of one turn.
+fn number_alone(k: u64) -> Range
+    ensures { (n : ℕ) → IsIn result n (pos k) }
+{
+    Range {
+        low: i128::from(k),
+        high: i128::from(k),
+        rise: 0,
+        fall: 0,
+    }
+}
+
+/// The numbers of later turns. Turn k comes after k steps at least, and there are no more than 2^64 - 1 steps.
+const LATER: Range = Range {
+    low: 1,
+    high: 18_446_744_073_709_551_615,
+    rise: 0,
+    fall: 1,
+};
+
+/// The numbers of turns.
+fn numbers_of(phase: Phase) -> Range
+    ensures { (n k : ℕ) → IsTurn phase n k → IsIn result n (pos k) }
+{
+    match phase {
+        Phase::At(k) => number_alone(k),
+        Phase::Later => LATER,
+    }
+}
+
+/// How a loop starts: its turns, the counter if it is a name without indices that no preset pins, whether this one still has its number at the end of a
+/// turn, and how the first turn begins.
+#[derive(Drop)]
+pub(crate) struct LoopStart {
+    pub(crate) counting: Counting,
+    pub(crate) first: LoopEntry,
+}
+
+/// The turns of a loop, and whether its counter is a name without indices that no preset pins, and whether it then still has its number at the end of each turn.
+#[derive(Drop)]
+pub(crate) struct Counting {
+    pub(crate) turns: Turns,
+    pub(crate) is_name: bool,
+    pub(crate) is_kept: bool,
+}
+
+/// Whether a counter is a name without indices that no preset pins.
+fn is_free_name(counter: &Option<Box<Var>>, context: Context) -> Result<bool, Stop>
+    ensures { IfOk result (λ b. b ≡ true → IsFreeName context.entry (boxed_target counter.now)) }
+{
+    match counter {
+        Some(variable) => {
+            if !variable.indices.as_slice().is_empty() {
+                return Ok(false);
+            }
+            let pinned = is_pinned(context, variable.name.as_slice())?;
+            Ok(!pinned)
+        }
+        None => Ok(false),
+    }
+}
+
+/// Whether a counter still has its number at the end of a turn.
+fn keeps_number(repeated: &Loop) -> bool
+    ensures { result ≡ true → IsSpared (boxed_target (out-Loop repeated.now).counter) repeated.now }
+{
+    match &repeated.counter {
+        Some(variable) => turns_spare(variable.name.as_slice(), repeated),
+        None => false,
+    }
+}
+
+/// What is known of the number of a turn.
+fn turn_limits(
+    variable: &Var,
+    phase: Phase,
+    counting: &Counting,
+    context: Context,
+    state: &State,
+) -> Result<ValueLimits, Stop>
+    ensures { IfOk result (λ l. KnowsTurn context.entry state.now (var_tree variable.now) phase counting.now l) }
+{
+    let view = view_of(context, state);
+    if is_first(phase) {
+        let zero = limits_of_number(context.alloc, 0)?;
+        return Ok(zero);
+    }
+    if !counting.is_name || !counting.is_kept {
+        return Ok(anything(context.alloc));
+    }
+    match index_of(context.names, view.entries, variable.name.as_slice()) {
+        Some(i) => {
+            let next = next_turn(context.alloc, view, i)?;
+            Ok(next)
+        }
+        None => Err(Stop::GaveUp),
+    }
+}
+
+/// The state where the number of a turn, which the counter has, compares so with the count.
+fn beside_count(
+    variable: &Var,
+    by: Compare,
+    counting: &Counting,
+    context: Context,
+    state: State,
+) -> Result<State, Stop>
+    ensures { IfOk result (λ after. StandsBeside context.entry state (var_tree variable.now) by counting.now after) }
+{
+    if !counting.is_name {
+        return Ok(state);
+    }
+    let view = view_of(context, &state);
+    let own = limits_of_name(context.alloc, view, variable.name.as_slice())?;
+    let count = as_limits(&counting.turns.count);
+    match by {
+        Compare::Equal => equal(context, &state, as_limits(&own), count),
+        _ => compared(context, &state, by, as_limits(&own), count),
+    }
+}
+
+/// Numbers alone.
+fn numbers_alone(range: Range) -> PossibleValues
+    ensures { result ≡ record { text = None; number = Some range } }
+{
+    PossibleValues {
+        text: None,
+        number: Some(range),
+    }
+}
+
+/// Gives the counter of a loop the number of a turn.
+fn give_number(
+    variable: &Var,
+    turn: Range,
+    phase: Phase,
+    counting: &Counting,
+    context: Context,
+    state: &State,
+) -> Result<StateAfter, Stop>
+    ensures { IfOk result (λ a. CountsTurn context.entry state.now (Some (var_tree variable.now)) turn phase None counting.now a.after a.faults) }
+{
+    let limits = turn_limits(variable, phase, counting, context, state)?;
+    let possible = numbers_alone(turn);
+    assign(context, variable, possible, as_limits(&limits), state)
+}
+
+/// Gives the counter of a loop the number of a turn, which compares so with the count.
+fn count_beside(
+    variable: &Var,
+    turn: Range,
+    phase: Phase,
+    by: Compare,
+    counting: &Counting,
+    context: Context,
+    state: &State,
+) -> Result<StateAfter, Stop>
+    ensures { IfOk result (λ a. CountsTurn context.entry state.now (Some (var_tree variable.now)) turn phase (Some by) counting.now a.after a.faults) }
+{
+    let StateAfter { after, faults } = give_number(
+        variable, turn, phase, counting, context, state,
+    )?;
+    let after = beside_count(variable, by, counting, context, after)?;
+    Ok(StateAfter { after, faults })
+}
+
+/// Gives the counter of a loop, if there is one, the number of a turn, and compares it with the count.
 fn count_turn(
     counter: &Option<Box<Var>>,
     turn: Range,
+    phase: Phase,
+    by: Option<Compare>,
+    counting: &Counting,
     context: Context,
-    entries: &mut [AbstractValue],
-) -> Result<Faults, Stop>
-    ensures { IfOk result (λ faults. CountsTurn (pins_in context.entry) (entries_in context.entry entries.old) (boxed_target counter.now) turn (entries_in context.entry entries.new) faults) }
+    state: &State,
+) -> Result<StateAfter, Stop>
+    ensures { IfOk result (λ a. CountsTurn context.entry state.now (boxed_target counter.now) turn phase by counting.now a.after a.faults) }
 {
-    let possible = PossibleValues {
-        text: None,
-        number: Some(turn),
-    };
     match counter {
-        Some(variable) => assign(context, variable, possible, entries),
-        None => {
-            expect_value(possible, entries);
-            Ok(no_faults())
-        }
+        Some(variable) => match by {
+            Some(by) => count_beside(variable, turn, phase, by, counting, context, state),
+            None => give_number(variable, turn, phase, counting, context, state),
+        },
+        None => keep_nothing(context, numbers_alone(turn), state),
     }
 }
 
@@ -169,63 +247,79 @@ fn count_turn(
 fn count_each(
     counter: &Option<Box<Var>>,
     turn: Range,
+    phase: Phase,
+    by: Option<Compare>,
+    counting: &Counting,
     context: Context,
     states: &[State],
 ) -> Result<StatesAfter, Stop>
-    ensures { IfOk result (λ a. CountsEach (pins_in context.entry) (states_in context.entry states.now) (boxed_target counter.now) turn (states_in context.entry a.after.items) a.faults) }
+    ensures { IfOk result (λ a. CountsEach context.entry states.now (boxed_target counter.now) turn phase by counting.now a.after.items a.faults) }
 {
     let mut after = Vec::new(context.alloc);
     let mut faults = no_faults();
     for state in states {
-        let mut entries = after_step(context.alloc, state.entries.as_slice())?;
-        let own = count_turn(counter, turn, context, entries.as_mut_slice())?;
-        after = join_state(context, after, entries)?;
-        faults = union(faults, own);
+        let paid = after_step(context, state)?;
+        let own = count_turn(counter, turn, phase, by, counting, context, &paid)?;
+        after = join_state(context, after, own.after)?;
+        faults = union(faults, own.faults);
     }
     Ok(StatesAfter { after, faults })
 }
 
-/// Whether all numbers of a range are below a count.
-fn are_below(turn: Range, count: u64) -> bool
-    ensures { result ≡ true → turn.high <ℤ pos count }
+/// The numbers of turns with which a loop of so many may be over.
+fn last_numbers(turn: Range, least: u64, most: u64) -> Range
+    ensures { (n k : ℕ) → least ≤ k → k ≤ most → IsIn turn n (pos k) → IsIn result n (pos k) }
 {
-    turn.high < i128::from(count)
+    with_high(with_low(turn, i128::from(least), 0), i128::from(most), 0)
 }
 
 /// The states where a loop that has at least so many turns is over at a turn.
 fn count_last(
     counter: &Option<Box<Var>>,
-    turn: Range,
-    least: u64,
+    phase: Phase,
+    counting: &Counting,
     context: Context,
     states: &[State],
 ) -> Result<StatesAfter, Stop>
-    ensures { IfOk result (λ a. CountsLast (pins_in context.entry) (states_in context.entry states.now) (boxed_target counter.now) turn least (states_in context.entry a.after.items) a.faults) }
+    ensures { IfOk result (λ a. CountsLast context.entry states.now (boxed_target counter.now) phase counting.now a.after.items a.faults) }
 {
-    if are_below(turn, least) {
-        return Ok(StatesAfter {
-            after: Vec::new(context.alloc),
-            faults: no_faults(),
-        });
-    }
-    count_each(counter, turn, context, states)
+    let turns = &counting.turns;
+    let turn = last_numbers(numbers_of(phase), turns.least, turns.most);
+    count_each(
+        counter,
+        turn,
+        phase,
+        Some(Compare::Equal),
+        counting,
+        context,
+        states,
+    )
 }
 
-/// The states where a turn of a loop begins whose number is of a range, and those where the loop is over.
+/// The states where a turn of a loop begins, and those where the loop is over.
 pub(crate) fn enter(
-    guard: &LoopGuard,
-    counter: &Option<Box<Var>>,
-    turn: Range,
-    turns: Turns,
+    repeated: &Loop,
+    phase: Phase,
+    counting: &Counting,
     context: Context,
     states: &[State],
 ) -> Result<LoopEntry, Stop>
-    ensures { IfOk result (λ e. Enters (pins_in context.entry) (states_in context.entry states.now) (guard_tree guard.now) turns (boxed_target counter.now) turn (states_in context.entry e.inside.items) (states_in context.entry e.outside.items) e.faults) }
+    ensures { IfOk result (λ e. AreCounted context.entry repeated.now counting.now → Enters context.entry states.now repeated.now counting.now phase e.inside.items e.outside.items e.faults) }
 {
+    let Loop { guard, counter, .. } = repeated;
+    let turn = numbers_of(phase);
     match guard {
         LoopGuard::Times(_) => {
-            let inside = count_each(counter, below(turn, turns.most), context, states)?;
-            let outside = count_last(counter, turn, turns.least, context, states)?;
+            let inside = count_each(
+                counter,
+                below(turn, counting.turns.most),
+                phase,
+                Some(Compare::Less),
+                counting,
+                context,
+                states,
+            )?;
+            let outside = count_last(counter, phase, counting, context, states)?;
             Ok(LoopEntry {
                 inside: inside.after,
                 outside: outside.after,
@@ -233,7 +327,7 @@ pub(crate) fn enter(
             })
         }
         LoopGuard::While(t) => {
-            let counted = count_each(counter, turn, context, states)?;
+            let counted = count_each(counter, turn, phase, None, counting, context, states)?;
             let divided = divide(context, t, counted.after.as_slice())?;
             Ok(LoopEntry {
                 inside: divided.if_true,
@@ -244,28 +338,23 @@ pub(crate) fn enter(
     }
 }
 
-/// The number of the first turn.
-const FIRST: Range = Range {
-    low: 0,
-    high: 0,
-    rise: 0,
-    fall: 0,
-};
-
-/// How a loop starts, and how its first turn begins.
-#[derive(Drop)]
-pub(crate) struct LoopStart {
-    pub(crate) turns: Turns,
-    pub(crate) first: LoopEntry,
-}
-
 /// How a loop starts, and how its first turn begins.
 pub(crate) fn begin(repeated: &Loop, context: Context, states: &[State]) -> Result<LoopStart, Stop>
-    ensures starts { IfOk result (λ b. StartsIn (states_in context.entry states.now) (guard_tree (out-Loop repeated.now).guard) b.turns) }
-    ensures enters { IfOk result (λ b. Enters (pins_in context.entry) (states_in context.entry states.now) (guard_tree (out-Loop repeated.now).guard) b.turns (boxed_target (out-Loop repeated.now).counter) first_turn (states_in context.entry b.first.inside.items) (states_in context.entry b.first.outside.items) b.first.faults) }
+    ensures { IfOk result (λ b. IsBegun context.entry states.now repeated.now b.counting b.first.inside.items b.first.outside.items b.first.faults) }
 {
-    let Loop { guard, counter, .. } = repeated;
-    let turns = start_each(guard, context, states)?;
-    let first = enter(guard, counter, FIRST, turns, context, states)?;
-    Ok(LoopStart { turns, first })
+    let started = start_each(&repeated.guard, context, states)?;
+    let count = lasting_limits(context, repeated, &started.count)?;
+    let is_name = is_free_name(&repeated.counter, context)?;
+    let counting = Counting {
+        turns: Turns {
+            faults: started.faults,
+            least: started.least,
+            most: started.most,
+            count,
+        },
+        is_name,
+        is_kept: keeps_number(repeated),
+    };
+    let first = enter(repeated, Phase::At(0), &counting, context, states)?;
+    Ok(LoopStart { counting, first })
 }

@@ -1,27 +1,28 @@
 //! The analysis of the commands of a program, with a post-fixpoint for each loop.
 
-ghost use Rattle.std.specs.Prelude.{◌≡◌, true, OnOk, IfOk};
+ghost use Rattle.std.specs.Prelude.{OnOk, IfOk, IfSome};
 ghost use Rattle.ctd_program.specs.Tree;
-ghost use Rattle.ctd_program.specs.calls.View.{command_list, command_tree, command_trees, guard_tree, test_tree};
+ghost use Rattle.ctd_program.specs.calls.View.{command_list, command_tree, command_trees};
 ghost use Rattle.ctd_program.specs.inner.View.{boxed_separator};
-ghost use Rattle.ctd_traps.specs.inner.Divides.{Divides};
-ghost use Rattle.ctd_traps.specs.calls.Events.{begins, goes_on};
-ghost use Rattle.ctd_check.specs.Loops.{Guard};
-ghost use Rattle.ctd_states.specs.calls.Partitions.{PartitionIsWithin, states_in};
-ghost use Rattle.ctd_traps.specs.inner.Noted.{IsPart, NotedIn};
-ghost use Rattle.ctd_traps.specs.inner.Walk.{AreBranches, Asks, BeginsLater, Concludes, IsGuard, RoundKeeps, SeparatorKeeps, StepKeeps, WalkKeeps, choice_at, loop_at};
-ghost use Rattle.ctd_states.specs.calls.States.{pins_in};
-ghost use Rattle.ctd_states.specs.declared.assign.Context.{Context};
+ghost use Rattle.ctd_traps.specs.inner.Noted.{IsPart};
+ghost use Rattle.ctd_traps.specs.inner.Passages.{BegunFrom, Passes, PassesOnceBegun};
+ghost use Rattle.ctd_traps.specs.inner.Unrolled.{SeparatesAt, TurnKeeps};
+ghost use Rattle.ctd_traps.specs.inner.Walk.{RoundKeeps, SeparatorKeeps, StepKeeps, WalkKeeps, choice_at, loop_at};
 
-use crate::divide::{SplitStates, divide};
-use crate::note::{
-    EventKind, Noted, note_all, note_answers, note_event, note_faults, note_run, nothing_noted,
+use crate::budget::{Budget, may_try, part_of, pay, pay_part, pay_round, pay_turn};
+use crate::note::{Noted, note_all, note_faults, nothing_noted};
+use crate::passage::{
+    Passage, Round, begin_later, is_inductive, join_outside, none_if_given_up, note_start,
+    with_fewer_traps,
 };
-use crate::transfer::transfer_each;
-use crate::turn::{LoopEntry, LoopStart, Turns, begin, enter, may_start};
-use ctd_program::{Action, Choice, Command, Commands, Loop, LoopGuard, Test};
-use ctd_range::Range;
-use ctd_states::{Context, State, Stop, are_within, join, pay_each, union, widen_partition};
+use crate::simple::{ask_branches, assert, join_branches, take};
+use crate::turn::{Counting, LoopStart, begin};
+use crate::unroll::{
+    TURNS, begin_turn, facts_allowed, has_few_turns, has_inner_loop, have_few_facts, is_plain,
+};
+use ctd_partitions::{State, join_partitions, widen_partition};
+use ctd_program::{Action, Choice, Command, Commands, Loop};
+use ctd_states::{Context, Stop};
 use ctd_token::Place;
 
 /// How many candidates for the invariant of a loop are tried.
@@ -30,176 +31,6 @@ const ROUNDS: usize = 14;
 /// From which round on a candidate was widened. Once it is inductive, it is narrowed to the states at the end of a turn.
 const WIDENED: usize = 3;
 
-/// The numbers of later turns. Turn k comes after k steps at least, and there are no more than 2^64 - 1 steps.
-const LATER: Range = Range {
-    low: 1,
-    high: 18_446_744_073_709_551_615,
-    rise: 0,
-    fall: 1,
-};
-
-/// The states behind a command in which no others stand.
-fn take(
-    command: &Command,
-    context: Context,
-    states: &[State],
-    noted: &mut Noted,
-) -> Result<Vec<State>, Stop>
-    ensures more { OnOk result (IsPart noted.old noted.new) }
-    ensures keeps { IfOk result (λ after. StepKeeps (pins_in context.entry) (states_in context.entry states.now) (states_in context.entry after.items) noted.new (command_tree command.now)) }
-{
-    let acted = transfer_each(command, context, states)?;
-    note_faults(command.place, acted.faults, noted)?;
-    note_run(command.place, states, acted.after.as_slice(), noted)?;
-    Ok(acted.after)
-}
-
-/// The states where a test of a command is true, and those where it is false. That the command begins, the answers and the faults are noted.
-fn ask(
-    t: &Test,
-    place: Place,
-    context: Context,
-    states: &[State],
-    noted: &mut Noted,
-) -> Result<SplitStates, Stop>
-    ensures more { OnOk result (IsPart noted.old noted.new) }
-    ensures asks { IfOk result (λ s. Asks (states_in context.entry states.now) (states_in context.entry s.if_true.items) (states_in context.entry s.if_false.items) (test_tree t.now) s.faults noted.new place) }
-{
-    let divided = divide(context, t, states)?;
-    note_event(place, EventKind::Begins, states, noted)?;
-    note_faults(place, divided.faults, noted)?;
-    note_answers(
-        place,
-        divided.if_true.as_slice(),
-        divided.if_false.as_slice(),
-        noted,
-    )?;
-    Ok(divided)
-}
-
-/// The states behind ASSERT.
-fn assert(
-    t: &Test,
-    place: Place,
-    context: Context,
-    states: &[State],
-    noted: &mut Noted,
-) -> Result<Vec<State>, Stop>
-    ensures more { OnOk result (IsPart noted.old noted.new) }
-    ensures keeps { IfOk result (λ after. StepKeeps (pins_in context.entry) (states_in context.entry states.now) (states_in context.entry after.items) noted.new (Tree.assert place (test_tree t.now))) }
-{
-    let asked = ask(t, place, context, states, noted)?;
-    note_event(place, EventKind::GoesOn, asked.if_true.as_slice(), noted)?;
-    Ok(asked.if_true)
-}
-
-/// The states where the test of IF is true, and those where it is false: a run goes on in both.
-fn ask_branches(
-    t: &Test,
-    place: Place,
-    context: Context,
-    states: &[State],
-    noted: &mut Noted,
-) -> Result<SplitStates, Stop>
-    ensures more { OnOk result (IsPart noted.old noted.new) }
-    ensures asks { IfOk result (λ s. Asks (states_in context.entry states.now) (states_in context.entry s.if_true.items) (states_in context.entry s.if_false.items) (test_tree t.now) s.faults noted.new place) }
-    ensures on_true { IfOk result (λ s. NotedIn noted.new place goes_on (states_in context.entry s.if_true.items)) }
-    ensures on_false { IfOk result (λ s. NotedIn noted.new place goes_on (states_in context.entry s.if_false.items)) }
-{
-    let asked = ask(t, place, context, states, noted)?;
-    note_event(place, EventKind::GoesOn, asked.if_true.as_slice(), noted)?;
-    note_event(place, EventKind::GoesOn, asked.if_false.as_slice(), noted)?;
-    Ok(asked)
-}
-
-/// The states behind IF: the join of those behind its branches.
-fn join_branches(context: Context, yes: Vec<State>, no: Vec<State>) -> Result<Vec<State>, Stop>
-    ensures { IfOk result (λ after. AreBranches (states_in context.entry yes.items) (states_in context.entry no.items) (states_in context.entry after.items)) }
-{
-    join(context, yes, no.as_slice())
-}
-
-/// How a turn of a loop but the first begins, by a candidate for the states before it. What may happen where a turn begins is noted.
-fn begin_later(
-    repeated: &Loop,
-    place: Place,
-    context: Context,
-    begun: &LoopStart,
-    candidate: &[State],
-    noted: &mut Noted,
-) -> Result<LoopEntry, Stop>
-    ensures more { OnOk result (IsPart noted.old noted.new) }
-    ensures begins { IfOk result (λ e. BeginsLater (pins_in context.entry) (states_in context.entry candidate.now) begun.now.turns (states_in context.entry begun.now.first.inside.items) (states_in context.entry begun.now.first.outside.items) begun.now.first.faults (states_in context.entry e.inside.items) (states_in context.entry e.outside.items) e.faults noted.new place repeated.now) }
-{
-    let Loop { guard, counter, .. } = repeated;
-    let later = enter(guard, counter, LATER, begun.turns, context, candidate)?;
-    let faults = union(begun.turns.faults, union(begun.first.faults, later.faults));
-    let first = &begun.first;
-    note_faults(place, faults, noted)?;
-    note_answers(
-        place,
-        first.inside.as_slice(),
-        first.outside.as_slice(),
-        noted,
-    )?;
-    note_answers(
-        place,
-        later.inside.as_slice(),
-        later.outside.as_slice(),
-        noted,
-    )?;
-    Ok(later)
-}
-
-/// States leaving the loop, and at the end of a turn.
-#[derive(Drop)]
-struct Round {
-    outside: Vec<State>,
-    end: Vec<State>,
-}
-
-/// Whether a candidate for the states before each turn but the first is inductive: whether the states at the end of a turn are within it.
-fn is_inductive(candidate: &[State], passed: &Round) -> bool
-    ensures { result ≡ true → (g : Context) → PartitionIsWithin (states_in g passed.now.end.items) (states_in g candidate.now) }
-{
-    are_within(passed.end.as_slice(), candidate)
-}
-
-/// Notes that a loop begins in some states, and that a run goes on there, if the loop may start.
-fn note_start(
-    guard: &LoopGuard,
-    place: Place,
-    turns: Turns,
-    states: &[State],
-    noted: &mut Noted,
-) -> Result<(), Stop>
-    ensures more { OnOk result (IsPart noted.old noted.new) }
-    ensures begun { OnOk result ((g : Context) → NotedIn noted.new place begins (states_in g states.now)) }
-    ensures gone { OnOk result ((started : Guard) → IsGuard (guard_tree guard.now) turns started → (g : Context) → NotedIn noted.new place goes_on (states_in g states.now)) }
-{
-    note_event(place, EventKind::Begins, states, noted)?;
-    if !may_start(guard, turns) {
-        return Ok(());
-    }
-    note_event(place, EventKind::GoesOn, states, noted)?;
-    Ok(())
-}
-
-/// The states behind a loop: those behind its first turn and those behind later ones. What was noted in it is added.
-fn conclude(
-    context: Context,
-    first: &[State],
-    later: Vec<State>,
-    inside: Noted,
-    noted: &mut Noted,
-) -> Result<Vec<State>, Stop>
-    ensures more { OnOk result (IsPart noted.old noted.new) }
-    ensures concludes { IfOk result (λ after. Concludes (states_in context.entry first.now) (states_in context.entry later.items) inside noted.new (states_in context.entry after.items)) }
-{
-    note_all(inside, noted)?;
-    join(context, later, first)
-}
-
 /// The states behind some commands.
 #[cycle(walk)]
 pub(crate) fn walk(
@@ -207,10 +38,10 @@ pub(crate) fn walk(
     context: Context,
     states: Vec<State>,
     noted: &mut Noted,
-    budget: &mut u64,
+    budget: &mut Budget,
 ) -> Result<Vec<State>, Stop>
     ensures more { OnOk result (IsPart noted.old noted.new) }
-    ensures keeps { IfOk result (λ after. WalkKeeps (pins_in context.entry) (states_in context.entry states.items) (states_in context.entry after.items) noted.new (command_trees commands.now)) }
+    ensures keeps { IfOk result (λ after. WalkKeeps context.entry states.items after.items noted.new (command_trees commands.now)) }
 {
     let mut after = states;
     for command in commands {
@@ -226,10 +57,10 @@ fn walk_block(
     context: Context,
     states: Vec<State>,
     noted: &mut Noted,
-    budget: &mut u64,
+    budget: &mut Budget,
 ) -> Result<Vec<State>, Stop>
     ensures more { OnOk result (IsPart noted.old noted.new) }
-    ensures keeps { IfOk result (λ after. WalkKeeps (pins_in context.entry) (states_in context.entry states.items) (states_in context.entry after.items) noted.new (command_list block.now)) }
+    ensures keeps { IfOk result (λ after. WalkKeeps context.entry states.items after.items noted.new (command_list block.now)) }
 {
     walk(block.as_slice(), context, states, noted, budget)
 }
@@ -241,11 +72,12 @@ fn step(
     context: Context,
     states: &[State],
     noted: &mut Noted,
-    budget: &mut u64,
+    budget: &mut Budget,
 ) -> Result<Vec<State>, Stop>
     ensures more { OnOk result (IsPart noted.old noted.new) }
-    ensures keeps { IfOk result (λ after. StepKeeps (pins_in context.entry) (states_in context.entry states.now) (states_in context.entry after.items) noted.new (command_tree command.now)) }
+    ensures keeps { IfOk result (λ after. StepKeeps context.entry states.now after.items noted.new (command_tree command.now)) }
 {
+    pay(budget, command, states)?;
     let place = command.place;
     match &command.action {
         Action::Space
@@ -270,10 +102,10 @@ fn choose(
     context: Context,
     states: &[State],
     noted: &mut Noted,
-    budget: &mut u64,
+    budget: &mut Budget,
 ) -> Result<Vec<State>, Stop>
     ensures more { OnOk result (IsPart noted.old noted.new) }
-    ensures keeps { IfOk result (λ after. StepKeeps (pins_in context.entry) (states_in context.entry states.now) (states_in context.entry after.items) noted.new (choice_at place choice.now)) }
+    ensures keeps { IfOk result (λ after. StepKeeps context.entry states.now after.items noted.new (choice_at place choice.now)) }
 {
     let Choice {
         condition,
@@ -293,10 +125,10 @@ fn separate(
     context: Context,
     states: Vec<State>,
     noted: &mut Noted,
-    budget: &mut u64,
+    budget: &mut Budget,
 ) -> Result<Vec<State>, Stop>
     ensures more { OnOk result (IsPart noted.old noted.new) }
-    ensures keeps { IfOk result (λ after. SeparatorKeeps (pins_in context.entry) (states_in context.entry states.items) (states_in context.entry after.items) noted.new (boxed_separator between.now)) }
+    ensures keeps { IfOk result (λ after. SeparatorKeeps context.entry states.items after.items noted.new (boxed_separator between.now)) }
 {
     match between {
         Some(command) => step(command, context, states.as_slice(), noted, budget),
@@ -313,16 +145,16 @@ fn go_round(
     begun: &LoopStart,
     candidate: &[State],
     noted: &mut Noted,
-    budget: &mut u64,
+    budget: &mut Budget,
 ) -> Result<Round, Stop>
     ensures more { OnOk result (IsPart noted.old noted.new) }
-    ensures keeps { IfOk result (λ r. RoundKeeps (pins_in context.entry) (states_in context.entry candidate.now) begun.now.turns (states_in context.entry begun.now.first.inside.items) (states_in context.entry begun.now.first.outside.items) begun.now.first.faults (states_in context.entry r.outside.items) (states_in context.entry r.end.items) noted.new place repeated.now) }
+    ensures keeps { IfOk result (λ r. RoundKeeps context.entry candidate.now begun.now.counting begun.now.first.inside.items begun.now.first.outside.items begun.now.first.faults r.outside.items r.end.items noted.new place repeated.now) }
 {
     let Loop { between, body, .. } = repeated;
-    pay_each(budget, candidate)?;
+    pay_round(budget, candidate)?;
     let later = begin_later(repeated, place, context, begun, candidate, noted)?;
     let separated = separate(between, context, later.inside, noted, budget)?;
-    let before = join(context, separated, begun.first.inside.as_slice())?;
+    let before = join_partitions(context, separated, begun.first.inside.as_slice())?;
     let end = walk_block(body, context, before, noted, budget)?;
     Ok(Round {
         outside: later.outside,
@@ -330,21 +162,103 @@ fn go_round(
     })
 }
 
-/// The states behind a loop. A candidate for those before each turn but the first is widened until it is inductive, and then narrowed once.
+/// The states behind the separator before one turn of a loop, if there is one: the first turn has none.
 #[cycle(walk)]
-fn repeat(
+fn separate_before(
+    k: u64,
+    between: &Option<Box<Command>>,
+    context: Context,
+    states: Vec<State>,
+    noted: &mut Noted,
+    budget: &mut Budget,
+) -> Result<Vec<State>, Stop>
+    ensures more { OnOk result (IsPart noted.old noted.new) }
+    ensures keeps { IfOk result (λ after. SeparatesAt context.entry states.items after.items noted.new k (boxed_separator between.now)) }
+{
+    if k == 0 {
+        return Ok(states);
+    }
+    separate(between, context, states, noted, budget)
+}
+
+/// One turn of a loop, by the states before it.
+#[cycle(walk)]
+fn take_turn(
     repeated: &Loop,
     place: Place,
     context: Context,
+    counting: &Counting,
+    k: u64,
     states: &[State],
     noted: &mut Noted,
-    budget: &mut u64,
-) -> Result<Vec<State>, Stop>
+    budget: &mut Budget,
+) -> Result<Round, Stop>
     ensures more { OnOk result (IsPart noted.old noted.new) }
-    ensures keeps { IfOk result (λ after. StepKeeps (pins_in context.entry) (states_in context.entry states.now) (states_in context.entry after.items) noted.new (loop_at place repeated.now)) }
+    ensures keeps { IfOk result (λ r. TurnKeeps context.entry states.now counting.now r.outside.items r.end.items noted.new place repeated.now k) }
 {
-    let begun = begin(repeated, context, states)?;
-    note_start(&repeated.guard, place, begun.turns, states, noted)?;
+    let Loop { between, body, .. } = repeated;
+    pay_turn(budget, states)?;
+    let begun = begin_turn(repeated, place, context, counting, k, states, noted)?;
+    let before = separate_before(k, between, context, begun.inside, noted, budget)?;
+    let end = walk_block(body, context, before, noted, budget)?;
+    Ok(Round {
+        outside: begun.outside,
+        end,
+    })
+}
+
+/// The passage through a loop whose turns are taken one by one, until there is no state in which one begins; none where this takes too long.
+#[cycle(walk)]
+fn unroll(
+    repeated: &Loop,
+    place: Place,
+    context: Context,
+    counting: &Counting,
+    states: &[State],
+    budget: &mut Budget,
+) -> Result<Option<Passage>, Stop>
+    ensures { IfOk result (λ answer. IfSome answer (λ p. Passes context.entry states.now counting.now place repeated.now p)) }
+{
+    let mut inside = nothing_noted(context.alloc);
+    note_faults(place, counting.turns.faults, &mut inside)?;
+    let facts = facts_allowed(states);
+    let mut before = join_partitions(context, Vec::new(context.alloc), states)?;
+    let mut after = Vec::new(context.alloc);
+    for k in 0..TURNS + 2 {
+        if before.is_empty() {
+            return Ok(Some(Passage { after, inside }));
+        }
+        if !have_few_facts(before.as_slice(), facts) {
+            return Ok(None);
+        }
+        let turn = take_turn(
+            repeated,
+            place,
+            context,
+            counting,
+            k,
+            before.as_slice(),
+            &mut inside,
+            budget,
+        )?;
+        after = join_partitions(context, after, turn.outside.as_slice())?;
+        before = turn.end;
+    }
+    Ok(None)
+}
+
+/// The passage through a loop by a candidate for the states before each turn but the first. It is widened until it is inductive, and then narrowed
+/// once. None where it is not inductive in the end.
+#[cycle(walk)]
+fn search(
+    repeated: &Loop,
+    place: Place,
+    context: Context,
+    begun: &LoopStart,
+    budget: &mut Budget,
+) -> Result<Option<Passage>, Stop>
+    ensures { IfOk result (λ answer. IfSome answer (λ p. PassesOnceBegun context.entry begun.now place repeated.now p)) }
+{
     let mut candidate = Vec::new(context.alloc);
     let mut is_narrowed = false;
     for round in 0..ROUNDS {
@@ -353,20 +267,16 @@ fn repeat(
             repeated,
             place,
             context,
-            &begun,
+            begun,
             candidate.as_slice(),
             &mut inside,
             budget,
         )?;
-        if is_inductive(candidate.as_slice(), &passed) {
+        if is_inductive(context, candidate.as_slice(), &passed) {
             if is_narrowed || round < WIDENED {
-                return conclude(
-                    context,
-                    begun.first.outside.as_slice(),
-                    passed.outside,
-                    inside,
-                    noted,
-                );
+                let first = begun.first.outside.as_slice();
+                let passage = join_outside(context, first, passed.outside, inside)?;
+                return Ok(Some(passage));
             }
             is_narrowed = true;
             candidate = passed.end;
@@ -379,5 +289,118 @@ fn repeat(
             )?;
         }
     }
-    Err(Stop::GaveUp)
+    Ok(None)
+}
+
+/// The passage through a loop by a candidate, where the loops in it have candidates too.
+#[cycle(walk)]
+fn search_plainly(
+    repeated: &Loop,
+    place: Place,
+    context: Context,
+    begun: &LoopStart,
+    budget: &mut Budget,
+) -> Result<Passage, Stop>
+    ensures { IfOk result (λ p. PassesOnceBegun context.entry begun.now place repeated.now p) }
+{
+    let is_inner = budget.is_inner;
+    budget.is_inner = true;
+    let found = search(repeated, place, context, begun, budget)?;
+    budget.is_inner = is_inner;
+    match found {
+        Some(passage) => Ok(passage),
+        None => Err(Stop::GaveUp),
+    }
+}
+
+/// The passage through a loop by a candidate, where the loops in it are passed as well as can be, if a part of the budget is enough.
+#[cycle(walk)]
+fn try_inner(
+    repeated: &Loop,
+    place: Place,
+    context: Context,
+    begun: &LoopStart,
+    budget: &mut Budget,
+) -> Result<Option<Passage>, Stop>
+    ensures { IfOk result (λ answer. IfSome answer (λ p. PassesOnceBegun context.entry begun.now place repeated.now p)) }
+{
+    if !has_inner_loop(context.alloc, repeated)? {
+        return Ok(None);
+    }
+    let mut part = part_of(budget);
+    let found = search(repeated, place, context, begun, &mut part);
+    pay_part(budget, &part);
+    none_if_given_up(found)
+}
+
+/// The passage through a loop whose few turns are taken one by one, if a part of the budget is enough.
+#[cycle(walk)]
+fn try_turns(
+    repeated: &Loop,
+    place: Place,
+    context: Context,
+    counting: &Counting,
+    states: &[State],
+    budget: &mut Budget,
+) -> Result<Option<Passage>, Stop>
+    ensures { IfOk result (λ answer. IfSome answer (λ p. Passes context.entry states.now counting.now place repeated.now p)) }
+{
+    if budget.is_inner || !has_few_turns(context.alloc, repeated, &counting.turns)? {
+        return Ok(None);
+    }
+    let mut part = part_of(budget);
+    let found = unroll(repeated, place, context, counting, states, &mut part);
+    pay_part(budget, &part);
+    none_if_given_up(found)
+}
+
+/// The passage through a loop that tells the fewest traps, of those that are tried.
+#[cycle(walk)]
+fn pass(
+    repeated: &Loop,
+    place: Place,
+    context: Context,
+    begun: &LoopStart,
+    states: &[State],
+    budget: &mut Budget,
+) -> Result<Passage, Stop>
+    ensures { IfOk result (λ p. BegunFrom context.entry states.now begun.now repeated.now → Passes context.entry states.now begun.now.counting place repeated.now p) }
+{
+    let counting = &begun.counting;
+    if is_plain(context.alloc, repeated, &counting.turns)? {
+        if let Some(passage) = try_turns(repeated, place, context, counting, states, budget)? {
+            return Ok(passage);
+        }
+    }
+    let plain = search_plainly(repeated, place, context, begun, budget)?;
+    if plain.inside.traps.is_empty() || !may_try(budget) {
+        return Ok(plain);
+    }
+    let by_turns = try_turns(repeated, place, context, counting, states, budget)?;
+    let fewer = with_fewer_traps(plain, by_turns);
+    if fewer.inside.traps.is_empty() || !may_try(budget) {
+        return Ok(fewer);
+    }
+    let by_inner = try_inner(repeated, place, context, begun, budget)?;
+    Ok(with_fewer_traps(fewer, by_inner))
+}
+
+/// The states behind a loop.
+#[cycle(walk)]
+fn repeat(
+    repeated: &Loop,
+    place: Place,
+    context: Context,
+    states: &[State],
+    noted: &mut Noted,
+    budget: &mut Budget,
+) -> Result<Vec<State>, Stop>
+    ensures more { OnOk result (IsPart noted.old noted.new) }
+    ensures keeps { IfOk result (λ after. StepKeeps context.entry states.now after.items noted.new (loop_at place repeated.now)) }
+{
+    let begun = begin(repeated, context, states)?;
+    note_start(&repeated.guard, place, &begun.counting.turns, states, noted)?;
+    let Passage { after, inside } = pass(repeated, place, context, &begun, states, budget)?;
+    note_all(inside, noted)?;
+    Ok(after)
 }

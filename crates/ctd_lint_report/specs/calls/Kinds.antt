@@ -57,11 +57,11 @@ is_told_kind findings.NoValue trap = is_valueless trap
 is_told_kind findings.WrongSort trap = is_mistyped trap
 is_told_kind kind trap = false
 
--- whether a trap is neither of an element nor of arrays in UNIQUE, of which most are listed though no data can spring them
-abbrev pub is_shown_by_default : TrapKind → Bool
-is_shown_by_default traps.NoElement = false
-is_shown_by_default traps.OtherShape = false
-is_shown_by_default _ = true
+-- whether a trap is neither of an element nor of arrays in UNIQUE
+abbrev pub is_unconditional : TrapKind → Bool
+is_unconditional traps.NoElement = false
+is_unconditional traps.OtherShape = false
+is_unconditional _ = true
 
 -- the first of some kinds of traps that has this name
 abbrev pub trap_named_among : List TrapKind → List ℕ → Option TrapKind

@@ -1,7 +1,7 @@
 -- The lines of traps, and the line that tells of verdicts.
 use Rattle.std.specs.Prelude.{ℕ, Bool, true, false, not, ◌||◌, ◌&&◌, ◌+◌, List, [], ◌∷◌, ◌++◌, codes, Option, Some, None, IfSome, if◌then◌else◌, nat_eq}
 use Rattle.ctd_lint_report.specs.Prelude.{CommandList, HasEachTrap, LintKind, LintSetup, Place, Preset, Trap, TrapKind, TrapList, decimal, faults_of, list_any}
-use Rattle.ctd_lint_report.specs.calls.Kinds.{is_element, is_ignored, is_shape, is_shown_by_default, trap_name, trap_text}
+use Rattle.ctd_lint_report.specs.calls.Kinds.{is_element, is_ignored, is_shape, is_unconditional, trap_name, trap_text}
 
 -- These are all places at which a run of a program may stop by a fault of a value, if they are told.
 abbrev pub AreTraps : CommandList → List Preset → Option TrapList → Type 0
@@ -11,13 +11,13 @@ AreTraps program presets trap_list = IfSome trap_list (λ list. HasEachTrap prog
 abbrev pub is_same_place : Place → Place → Bool
 is_same_place p q = nat_eq p.line q.line && nat_eq p.column q.column
 
--- whether traps of a kind are shown: those of elements and arrays only where that is asked for
-abbrev pub is_kind_shown : LintSetup → Bool → List ℕ → Bool
-is_kind_shown setup by_default name = (by_default || setup.elements) && not (is_ignored setup.ignored.items name)
+-- whether traps of a kind are shown: not where they are left out
+abbrev pub is_kind_shown : LintSetup → List ℕ → Bool
+is_kind_shown setup name = not (is_ignored setup.ignored.items name)
 
 -- whether a trap is shown: not where a line of a finding tells it
 abbrev pub is_shown : LintSetup → (Trap → Bool) → Trap → Bool
-is_shown setup told t = is_kind_shown setup (is_shown_by_default t.kind) (trap_name t.kind) && not (told t)
+is_shown setup told t = is_kind_shown setup (trap_name t.kind) && not (told t)
 
 -- the traps that are shown
 abbrev pub kept_traps : LintSetup → (Trap → Bool) → List Trap → List Trap
@@ -38,8 +38,8 @@ traps_lines file reason [] = []
 traps_lines file reason (t ∷ rest) = trap_line file reason t ++ traps_lines file reason rest
 
 -- whether some traps are neither of elements nor of arrays
-abbrev pub some_shown_by_default : List Trap → Bool
-some_shown_by_default traps = list_any (λ t. is_shown_by_default t.kind) traps
+abbrev pub some_unconditional : List Trap → Bool
+some_unconditional traps = list_any (λ t. is_unconditional t.kind) traps
 
 -- whether some are of elements
 abbrev pub some_element : List Trap → Bool
@@ -76,7 +76,7 @@ every_text condition = codes "every data file gets a verdict" ++ condition
 
 -- what these traps say of verdicts
 abbrev pub verdict_text : List Trap → List ℕ
-verdict_text traps = if some_shown_by_default traps then places_text (places_behind None traps) else every_text (condition_text (some_element traps) (some_shape traps))
+verdict_text traps = if some_unconditional traps then places_text (places_behind None traps) else every_text (condition_text (some_element traps) (some_shape traps))
 
 -- the line that tells it of a file
 abbrev pub verdict_line : List ℕ → List Trap → List ℕ
@@ -94,7 +94,7 @@ verdict_lines file setup reason told (Some list) =
 
 -- whether traps of a kind leave open whether each data file gets a verdict: not where they are of elements or arrays, and --ignore accepts them
 abbrev pub is_open : List LintKind → TrapKind → Bool
-is_open ignored kind = is_shown_by_default kind || not (is_ignored ignored (trap_name kind))
+is_open ignored kind = is_unconditional kind || not (is_ignored ignored (trap_name kind))
 
 -- the status that --verdicts asks for: 0 where each data file gets a verdict, be it under conditions that --ignore accepts, else 1
 abbrev pub verdict_status : LintSetup → Option TrapList → ℕ

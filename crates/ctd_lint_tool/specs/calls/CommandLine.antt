@@ -24,10 +24,6 @@ ignore_rule = option_rule (codes "ignore") None Set
 abbrev pub verdicts_rule : Rule
 verdicts_rule = option_rule (codes "verdicts") None SetTrue
 
--- --elements
-abbrev pub elements_rule : Rule
-elements_rule = option_rule (codes "elements") None SetTrue
-
 -- the names of the programs' files, of which one has to be there
 abbrev pub programs_rule : Rule
 programs_rule = record (new_rule (codes "PROGRAM")) { required = true; action = Some Append }
@@ -38,7 +34,7 @@ bare_linter = on_top (λ s. record s { has_version = true }) (new_app (codes "ct
 
 -- It is opened only by name: computed at words that are not known, what clap makes of it is very large.
 unfoldable pub linter : App
-linter = with_rule (with_rule (with_rule (with_rule (with_rule bare_linter define_rule) ignore_rule) verdicts_rule) elements_rule) programs_rule
+linter = with_rule (with_rule (with_rule (with_rule bare_linter define_rule) ignore_rule) verdicts_rule) programs_rule
 
 -- what clap finds in the words
 abbrev pub found_in : List Text → List Row
@@ -61,11 +57,10 @@ AreKindsOf (Some text) kinds = map Some kinds ≡ map lint_kind_named (parts tex
 abbrev pub IsTaken : List Text → Type 0
 IsTaken words = All IsUtf8 words × (errors_in words ≡ [])
 
--- the words are texts that clap takes, name these programs, presets and kinds, and ask for this of verdicts and elements
+-- the words are texts that clap takes, name these programs, presets and kinds, and ask for this of verdicts
 pub record IsLintSetup (words : List Text) (s : Setup) : Type 0 where
   pub taken : IsTaken words
   pub programs : all_of (codes "PROGRAM") (found_in words) ≡ Some s.programs.items
   pub presets : ArePresetsOf (first_of (codes "define") (found_in words)) s.report.presets
   pub ignored : AreKindsOf (first_of (codes "ignore") (found_in words)) s.report.ignored.items
   pub verdicts : s.report.verdicts ≡ is_on (codes "verdicts") (found_in words)
-  pub elements : s.report.elements ≡ is_on (codes "elements") (found_in words)

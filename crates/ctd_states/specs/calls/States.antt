@@ -71,3 +71,11 @@ name_at (q ∷ qs) (suc i) = name_at qs i
 -- the abstract value of one name, by a state
 abbrev pub Tells : List NamedValue → List ℕ → AbstractValue → Type 0
 Tells entries name value = (n : ℕ) (h : Bindings) → EachStands entries n h → NameStands name value n h
+
+-- where all of one list is so, all of the other is
+abbrev pub StateIsWithin : List NamedValue → List NamedValue → Type 0
+StateIsWithin entries others = (n : ℕ) (h : Bindings) → EachStands entries n h → EachStands others n h
+
+-- no variables are so
+abbrev pub IsImpossible : List NamedValue → Type 0
+IsImpossible entries = (n : ℕ) (h : Bindings) → EachStands entries n h → ⊥

@@ -1,6 +1,6 @@
 -- What a walk has noted.
 use Rattle.std.specs.Prelude.{ℕ, List, Contains}
-use Rattle.ctd_traps.specs.Prelude.{Bindings, Fault, Faults, IsAmong, NamedValue, Noted, OneStands, Place}
+use Rattle.ctd_traps.specs.Prelude.{AbstractState, Bindings, Context, Fault, Faults, IsAmong, Noted, OneStands, Place}
 use Rattle.ctd_traps.specs.calls.Traps.{IsOfValue, faults_of}
 use Rattle.ctd_traps.specs.calls.Events.{Event, Events, begins, goes_on, answers, fails, events_of}
 
@@ -16,8 +16,8 @@ abbrev pub IsPart : Noted → Noted → Type 0
 IsPart some all = (place : Place) (event : Event) → noted_in some place event → noted_in all place event
 
 -- an event is noted, where a run is in one of some states
-abbrev pub NotedIn : Noted → Place → Event → List (List NamedValue) → Type 0
-NotedIn noted place event states = (n : ℕ) (h : Bindings) → OneStands states n h → noted_in noted place event
+abbrev pub NotedIn : Context → Noted → Place → Event → List AbstractState → Type 0
+NotedIn g noted place event states = (n : ℕ) (h : Bindings) → OneStands g states n h → noted_in noted place event
 
 -- each of these faults is noted at a place
 abbrev pub AreNoted : Noted → Place → Faults → Type 0

@@ -6,7 +6,7 @@ use Rattle.ctd_traps.proofs.program.traps.Goals as goal
 pub returns-in-Ok-clause-each : goal.returns-in-Ok-clause-each
 returns-in-Ok-clause-each c =
     let noted : Noted = c.in-Ok.noted in
-    traps_noted (command_trees c.args.commands.now) c.args.presets.now (noted_in noted) (faults_of noted.traps.items) (λ place fault has. has) c.in-Ok.ensures
+    traps_noted (command_trees c.args.commands.now) c.args.presets.now (noted_in noted) (faults_of c.in_ok-traps-in-Ok.traps.items) (λ place fault has. c.in_ok-traps-in-Ok.ensures (record { place = place; fault = fault }) has) c.in-Ok.ensures
 
 pub returns-in-Ok-clause-never : goal.returns-in-Ok-clause-never
 returns-in-Ok-clause-never c =

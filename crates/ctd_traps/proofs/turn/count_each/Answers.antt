@@ -1,21 +1,12 @@
-use Rattle.ctd_traps.proofs.Common.{IsWithinPartition, ap, arith, at, beyond, boxed_target, entries_in, pins_in, state_in, states_in, subst, with_items_is, within}
+use Rattle.ctd_traps.proofs.Common.{boxed_target}
 use Rattle.ctd_traps.proofs.Turning.{count_done, count_step}
 use Rattle.ctd_traps.proofs.turn.count_each.Goals as goal
 
 pub loop-state-preserved : goal.loop-state-preserved
 loop-state-preserved c =
-    let g = c.args.context in
-    let states = c.args.states.now in
-    let i = c.loop-state.state-index in
-    let state = c.state-item.result in
-    let paid = c.in_ok-entries.entries in
-    let after = c.count_turn.new.entries in
-    let next = states_in g c.in_ok-after.after.items in
-    count_step (pins_in g) (states_in g states) i (state_in g state) (boxed_target c.args.counter.now) c.args.turn (entries_in g c.as_slice.result.now) (entries_in g paid.items) (entries_in g c.as_mut_slice.result.now) (entries_in g after) c.in_ok-own.own c.loop-state.faults c.union-faults.result
-    (states_in g c.loop-state.after.items) next (ap (entries_in g) c.as_slice.ensures.value) (within g states i c.loop-state-test.true) (at g states i state c.state-item.is) (c.in_ok-entries.ensures.pays g.names.now) (ap (entries_in g) c.as_mut_slice.ensures.value) c.in_ok-own.ensures
-    c.in_ok-after.ensures.others (subst (λ l. IsWithinPartition (entries_in g l) next) (with_items_is paid after (omega arith)) c.in_ok-after.ensures.added) c.union-faults.ensures.first c.union-faults.ensures.second c.loop-state.invariant
+    let own = c.in_ok-own.own in
+    count_step c.args.context c.args.states.now c.loop-state.state-index c.state-item.result (boxed_target c.args.counter.now) c.args.turn c.args.phase c.args.by c.args.counting.now c.in_ok-paid.paid own.after own.faults c.loop-state.faults c.union-faults.result
+    c.loop-state.after.items c.in_ok-after.after.items c.loop-state-test.true c.state-item.is c.in_ok-paid.ensures c.in_ok-own.ensures c.in_ok-after.ensures.others c.in_ok-after.ensures.added c.union-faults.ensures.first c.union-faults.ensures.second c.loop-state.invariant
 
 pub returns : goal.returns
-returns c =
-    let g = c.args.context in
-    count_done (pins_in g) (states_in g c.args.states.now) c.loop-state.state-index (boxed_target c.args.counter.now) c.args.turn (states_in g c.loop-state.after.items) c.loop-state.faults (beyond g c.args.states.now c.loop-state.state-index c.loop-state-test.false) c.loop-state.invariant
+returns c = count_done c.args.context c.args.states.now c.loop-state.state-index (boxed_target c.args.counter.now) c.args.turn c.args.phase c.args.by c.args.counting.now c.loop-state.after.items c.loop-state.faults c.loop-state-test.false c.loop-state.invariant

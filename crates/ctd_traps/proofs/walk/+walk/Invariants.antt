@@ -1,12 +1,16 @@
-use Rattle.ctd_traps.proofs.Common.{IsPart, command_trees, drop, pins_in, states_in}
+use Rattle.ctd_traps.proofs.Common.{AreNoted, IsPart, command_trees, drop}
+use Rattle.ctd_traps.proofs.Unrolling.{UnrollLeads}
 use Rattle.ctd_traps.proofs.Walking.{WalkLeads}
 use Rattle.ctd_traps.proofs.walk.+walk.Given as goal
 
 abbrev pub invariant-walk-loop-command : goal.invariant-walk-loop-command
 invariant-walk-loop-command l = record {
   more : IsPart l.initial.noted l.noted;
-  leads : WalkLeads (pins_in l.context) (states_in l.context l.initial.after.items) (states_in l.context l.after.items) l.noted (command_trees (drop l.command-index l.commands)) (command_trees l.commands);
+  leads : WalkLeads l.context l.initial.after.items l.after.items l.noted (command_trees (drop l.command-index l.commands)) (command_trees l.commands);
 }
 
-abbrev pub invariant-repeat-loop-round : goal.invariant-repeat-loop-round
-invariant-repeat-loop-round l = IsPart l.initial.noted l.noted
+abbrev pub invariant-unroll-loop-k : goal.invariant-unroll-loop-k
+invariant-unroll-loop-k l = record {
+  start : AreNoted l.inside l.place l.counting.turns.faults;
+  leads : UnrollLeads l.context l.states l.before.items l.after.items l.inside l.place l.repeated l.counting l.k;
+}

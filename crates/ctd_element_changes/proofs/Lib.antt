@@ -1,0 +1,10 @@
+pub mod Common
+pub mod Sameness
+pub mod Earlier
+pub mod Assigned
+pub mod Giving
+pub mod KeysKept
+pub mod Comparing
+pub mod Joined
+pub mod Sparing
+pub mod KeyTests

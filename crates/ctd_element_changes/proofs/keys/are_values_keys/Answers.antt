@@ -1,0 +1,6 @@
+use Rattle.ctd_element_changes.proofs.Common.{refl}
+use Rattle.ctd_element_changes.proofs.KeyTests.{values_by}
+use Rattle.ctd_element_changes.proofs.keys.are_values_keys.Goals as goal
+
+pub returns : goal.returns
+returns c = λ yes. values_by c.args.state c.args.array c.args.other c.all_keys.result (c.if-not-lacks_alone.ensures refl) c.all_keys.ensures (c.follows.ensures yes)

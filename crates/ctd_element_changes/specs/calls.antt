@@ -1,0 +1,4 @@
+-- What the contracts of public calls say.
+pub mod Changes
+pub mod Tests
+pub mod Joins

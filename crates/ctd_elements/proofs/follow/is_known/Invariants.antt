@@ -1,0 +1,4 @@
+use Rattle.ctd_elements.proofs.follow.is_known.Given as goal
+
+abbrev pub invariant-loop-other : goal.invariant-loop-other
+invariant-loop-other l = Unit {0}

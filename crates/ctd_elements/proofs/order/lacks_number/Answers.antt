@@ -1,0 +1,12 @@
+use Rattle.std.proofs.Common.{rules}
+use Rattle.ctd_elements.proofs.Common.{get_or, length, subst, ◌<◌, ◌≡◌}
+use Rattle.ctd_elements.specs.inner.Bounds.{IsNoNumber}
+use Rattle.ctd_elements.proofs.Bounds.{named_lacks}
+use Rattle.ctd_elements.proofs.order.lacks_number.Goals as goal
+
+pub returns-in-Some-get : goal.returns-in-Some-get
+returns-in-Some-get c =
+    let t = c.in-Some.term in
+    let inside : t.name < length c.args.state.entries.now = search rules in
+    let is : c.in-Some-get.value.now ≡ get_or c.args.state.entries.now t.name c.in-Some-get.value.now = search rules in
+    λ yes. named_lacks c.args.state t c.in-Some-get.value.now c.args.b inside c.in-Some.is (subst (λ v. IsNoNumber v) is (c.is_no_number.ensures yes))

@@ -1,0 +1,5 @@
+use Rattle.ctd_partitions.proofs.Changing.{hit_tidied, when_ok}
+use Rattle.ctd_partitions.proofs.question.hit.Goals as goal
+
+pub returns : goal.returns
+returns c = when_ok c.with_changed.result (λ after is. hit_tidied c.args.context c.args.state.now after c.view_of-view.result c.args.limits c.args.array c.in_ok-changed.changed.items c.view_of-view.ensures c.in_ok-changed.ensures is) c.with_changed.ensures

@@ -1,0 +1,4 @@
+-- What the contracts of public calls say.
+pub mod States
+pub mod Partitions
+pub mod Tests

@@ -1,0 +1,43 @@
+//! States with facts.
+
+ghost use Rattle.std.specs.Prelude.{◌≡◌, ◌++◌, IfOk};
+ghost use Rattle.ctd_states.specs.declared.assign.Context.{Context};
+ghost use Rattle.ctd_partitions.specs.calls.States.{IsViewOf};
+
+use ctd_elements::{AbstractState, Fact};
+use ctd_states::{AbstractValue, Context, Stop};
+use std::alloc::Global;
+
+/// A state: the abstract value of each name, and facts.
+#[derive(Drop)]
+pub struct State {
+    pub entries: Vec<AbstractValue>,
+    pub facts: Vec<Fact>,
+}
+
+/// The same, with the names, to be looked at.
+pub fn view_of<'s>(context: Context<'s>, state: &'s State) -> AbstractState<'s>
+    ensures { IsViewOf context.entry state.now result }
+{
+    AbstractState {
+        names: context.names,
+        entries: state.entries.as_slice(),
+        facts: state.facts.as_slice(),
+    }
+}
+
+/// The same facts.
+pub(crate) fn copy_of_facts(alloc: Global, facts: &[Fact]) -> Result<Vec<Fact>, Stop>
+    ensures { IfOk result (λ after. after.items ≡ facts.now) }
+{
+    let copy = facts.to_vec(alloc)?;
+    Ok(copy)
+}
+
+/// Some facts, and others behind them.
+pub(crate) fn with_facts(mut facts: Vec<Fact>, more: &[Fact]) -> Result<Vec<Fact>, Stop>
+    ensures { IfOk result (λ all. all.items ≡ facts.items ++ more.now) }
+{
+    facts.extend_from_slice(more)?;
+    Ok(facts)
+}

@@ -1,0 +1,13 @@
+pub mod Common
+pub mod Fits
+pub mod Acting
+pub mod Rows
+pub mod Applying
+pub mod Indexing
+pub mod Evaluating
+pub mod Divisors
+pub mod Deciding
+pub mod Comparing
+pub mod Moving
+pub mod Dividing
+pub mod Plain

@@ -1,5 +1,0 @@
-use Rattle.ctd_outcome.specs.declared.reason.Fault.TheVariants.{WrongType}
-use Rattle.ctd_traps.proofs.expression.with_type_fault.Goals as goal
-
-pub returns-clause-wrong_type : goal.returns-clause-wrong_type
-returns-clause-wrong_type c = λ is. c.with_faults.ensures.others WrongType is
