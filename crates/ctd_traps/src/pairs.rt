@@ -10,6 +10,9 @@ use std::alloc::{AllocError, Global};
 /// How many pairs are looked at.
 const MOST: usize = 16;
 
+/// Of how many arrays with a name as their index these are made.
+const INDEXED: usize = 64;
+
 /// The index of a name.
 fn place_of(names: &[&[u8]], name: &Name) -> Option<usize> {
     let word = name.as_slice();
@@ -84,7 +87,13 @@ struct Indexed<'p> {
     index: &'p Name,
 }
 
-/// The arrays that have a name as their one index.
+/// Whether an array with a name as its index is among some.
+fn is_among(all: &[Indexed], array: &Name, index: &Name) -> bool {
+    all.iter().any(|one| one.array.as_slice() == array.as_slice()
+        && one.index.as_slice() == index.as_slice())
+}
+
+/// The first arrays that have a name as their one index, each with an index once.
 fn indexed_in<'p>(
     alloc: Global,
     places: &[MentionedName<'p>],
@@ -93,7 +102,9 @@ fn indexed_in<'p>(
     for place in places {
         if let [Expr::Name(index)] = place.indices {
             let array = place.name;
-            all.push(Indexed { array, index })?;
+            if all.len() < INDEXED && !is_among(all.as_slice(), array, index) {
+                all.push(Indexed { array, index })?;
+            }
         }
     }
     Ok(all)

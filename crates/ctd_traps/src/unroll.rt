@@ -112,8 +112,8 @@ pub(crate) fn has_few_turns(
     Ok(turns.most.saturating_mul(each) <= COMMANDS)
 }
 
-/// Whether turns that are taken one by one surely tell no less than a candidate does. Names with indices and other loops are left to
-/// candidates, since these know more of elements.
+/// Whether turns that are taken one by one know no less than a candidate. Names with indices and other loops are left to candidates, since these
+/// know more of elements.
 pub(crate) fn is_plain(alloc: Global, repeated: &Loop, turns: &Turns) -> Result<bool, AllocError> {
     if !counts_to_number(&repeated.counter, turns)
         || !is_plain_separator(alloc, &repeated.between)?
