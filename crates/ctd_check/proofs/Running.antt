@@ -28,7 +28,6 @@ use Rattle.ctd_command.specs.Blanks.{first_skip}
 use Rattle.ctd_program.specs.declared.mode.Mode.{Mode}
 use Rattle.ctd_command.specs.calls.Performs.{Does, state, Performs}
 use Rattle.ctd_value.specs.calls.Lending.{map_ok}
-use Rattle.ctd_check.specs.declared.stack.FrameStack.{FrameStack}
 use Rattle.ctd_outcome.specs.declared.outcome.Site.{Site}
 use Rattle.ctd_outcome.specs.declared.outcome.Site.TheVariants.{Start, At}
 use Rattle.ctd_check.specs.declared.halt.Halt.{Halt}
@@ -40,7 +39,6 @@ use Rattle.ctd_check.specs.inner.Acts.{act_of}
 use Rattle.ctd_outcome.specs.declared.outcome.Checked.{Checked}
 use Rattle.ctd_check.specs.inner.Halts.{halt_of, at_limit, Concludes}
 use Rattle.ctd_check.specs.inner.Opening.{halt_result, Opens}
-use Rattle.ctd_check.specs.inner.FrameTasks.{to_do}
 use Rattle.ctd_check.specs.inner.Advances.{ContinuesWith, Advances, RunsTo}
 
 -- a command has its own place
@@ -95,13 +93,13 @@ module _ {R : Type 0} {G : Ghosts R} where
       advances_so p.goes (λ d _ e. paid d t left left' (state old) rest one ∙ ap (λ x. resume d (site_of t) old.cursor.spot.offset left' x (λ more u. run d left' (more ++ rest) u)) e ∙ ap (λ ts. run d left' ts (state new)) (sym is))
 
   -- a task that is done leaves its tasks and the rest
-  pub task_done : (old new : Run R G) (t : Task) (left left' : ℕ) (more rest : List Task) (stack : FrameStack) → left ≡ left' + 1 → stack.left ≡ left' → to_do stack.frames.items ≡ more ++ rest → Performs old new (Ok more) (perform t)
-      → Advances {A = Unit {0}} old new left (t ∷ rest) stack (Ok tt)
-  task_done old new t left left' more rest stack one same is p = record { sound = p.sound; goes = done_goes old new t left stack.left more rest (to_do stack.frames.items) (one ∙ ap (λ n. n + 1) (sym same)) is p }
+  pub task_done : (old new : Run R G) (t : Task) (left left' : ℕ) (more rest after : List Task) → left ≡ left' + 1 → after ≡ more ++ rest → Performs old new (Ok more) (perform t)
+      → Advances {A = Unit {0}} old new left (t ∷ rest) left' after (Ok tt)
+  task_done old new t left left' more rest after one is p = record { sound = p.sound; goes = done_goes old new t left left' more rest after one is p }
 
   -- the same under another name of what was to be done
-  pub advances_as : {old new : Run R G} {left : ℕ} {before named : List Task} {stack : FrameStack} {r : Result (Unit {0}) Halt} → named ≡ before → Advances old new left before stack r → Advances old new left named stack r
-  advances_as {old = old} {new = new} {left = left} {stack = stack} {r = r} same p = let P : List Task → Type 0 = λ ts. Advances old new left ts stack r in subst P (sym same) p
+  pub advances_as : {old new : Run R G} {left left' : ℕ} {before named after : List Task} {r : Result (Unit {0}) Halt} → named ≡ before → Advances old new left before left' after r → Advances old new left named left' after r
+  advances_as {old = old} {new = new} {left = left} {left' = left'} {after = after} {r = r} same p = let P : List Task → Type 0 = λ ts. Advances old new left ts left' after r in subst P (sym same) p
 
   -- a task that is rejected ends the run
   failed_goes : (old new : Run R G) (t : Task) (left left' : ℕ) (spot : Spot) (halt : Halt) (failure : CommandFailure) (rest after : List Task) → left ≡ left' + 1 → spot ≡ old.cursor.spot → halt ≡ halt_of spot (site_of t) failure → Performs {A = List Task} old new (Err failure) (perform t)
@@ -112,9 +110,9 @@ module _ {R : Type 0} {G : Ghosts R} where
       subst P (sym is) (follows_as {A = Unit {0}} d (Err (halt_of spot (site_of t) failure)) left' after (state new) _ _ (paid d t left left' (state old) rest one)
       (failed_by d (site_of t) old.cursor.spot.offset left' spot failure (state new) (perform t d (state old)) (λ more u. run d left' (more ++ rest) u) after (there ∙ stand.before.spot) e)))
 
-  pub task_failed : (old new : Run R G) (t : Task) (left : ℕ) (spot : Spot) (halt : Halt) (failure : CommandFailure) (rest : List Task) (stack : FrameStack) → left ≡ stack.left + 1 → spot ≡ old.cursor.spot → halt ≡ halt_of spot (site_of t) failure → Performs {A = List Task} old new (Err failure) (perform t)
-      → Advances {A = Unit {0}} old new left (t ∷ rest) stack (Err halt)
-  task_failed old new t left spot halt failure rest stack one there is p = record { sound = tt; goes = failed_goes old new t left stack.left spot halt failure rest (to_do stack.frames.items) one there is p }
+  pub task_failed : (old new : Run R G) (t : Task) (left left' : ℕ) (spot : Spot) (halt : Halt) (failure : CommandFailure) (rest after : List Task) → left ≡ left' + 1 → spot ≡ old.cursor.spot → halt ≡ halt_of spot (site_of t) failure → Performs {A = List Task} old new (Err failure) (perform t)
+      → Advances {A = Unit {0}} old new left (t ∷ rest) left' after (Err halt)
+  task_failed old new t left left' spot halt failure rest after one there is p = record { sound = tt; goes = failed_goes old new t left left' spot halt failure rest after one there is p }
 
   -- a task with no step left ends the run
   unpaid_goes : (old : Run R G) (t : Task) (left left' : ℕ) (spot : Spot) (halt : Halt) (rest after : List Task) → left ≡ 0 → left' ≡ 0 → spot ≡ old.cursor.spot → halt ≡ halts.Outcome (at_limit spot (site_of t))
@@ -125,48 +123,49 @@ module _ {R : Type 0} {G : Ghosts R} where
       let at : spot ≡ spot_at d.bytes old.cursor.spot.offset = there ∙ stand.before.spot in
       subst P (sym is) (ap (λ n. run d n (t ∷ rest) (state old)) none ∙ (λ i. stopped (at_limit (sym at i) (site_of t)) old.cursor.spot.offset (sym none' i))))
 
-  pub task_unpaid : (old : Run R G) (t : Task) (left : ℕ) (spot : Spot) (halt : Halt) (rest : List Task) (stack : FrameStack) (q : Result (Unit {0}) Halt) → IsErr q × IsErrAnd q (λ e. e ≡ halt) → left ≡ 0 → stack.left ≡ 0 → spot ≡ old.cursor.spot → halt ≡ halts.Outcome (at_limit spot (site_of t))
-      → Advances {A = Unit {0}} old old left (t ∷ rest) stack q
-  task_unpaid old t left spot halt rest stack (Ok x) q none none' there is = let e : true ≡ false = sym q.0 in cc
-  task_unpaid old t left spot halt rest stack (Err e) q none none' there is = record { sound = tt; goes = unpaid_goes old t left stack.left spot e rest (to_do stack.frames.items) none none' there (q.1 ∙ is) }
+  pub task_unpaid : (old : Run R G) (t : Task) (left left' : ℕ) (spot : Spot) (halt : Halt) (rest after : List Task) (q : Result (Unit {0}) Halt) → IsErr q × IsErrAnd q (λ e. e ≡ halt) → left ≡ 0 → left' ≡ 0 → spot ≡ old.cursor.spot → halt ≡ halts.Outcome (at_limit spot (site_of t))
+      → Advances {A = Unit {0}} old old left (t ∷ rest) left' after q
+  task_unpaid old t left left' spot halt rest after (Ok x) q none none' there is = let e : true ≡ false = sym q.0 in cc
+  task_unpaid old t left left' spot halt rest after (Err e) q none none' there is = record { sound = tt; goes = unpaid_goes old t left left' spot e rest after none none' there (q.1 ∙ is) }
 
   -- a command that stands in no other, by its answer
-  pub task_does : (old new : Run R G) (t : Task) (left left' : ℕ) (rest : List Task) (stack : FrameStack) (spot : Spot) (site : Site) (r : Result (Unit {0}) CommandFailure) → left ≡ left' + 1 → stack.left ≡ left' → to_do stack.frames.items ≡ rest → spot ≡ old.cursor.spot → site ≡ site_of t → Performs {A = List Task} old new (map_ok (λ _. []) r) (perform t)
-      → Advances {A = Unit {0}} old new left (t ∷ rest) stack (halt_result spot site r)
-  task_does old new t left left' rest stack spot site (Ok x) one same is there at p = task_done old new t left left' [] rest stack one same is p
-  task_does old new t left left' rest stack spot site (Err failure) one same is there at p =
-      task_failed old new t left spot (halt_of spot site failure) failure rest stack (one ∙ ap (λ n. n + 1) (sym same)) there (ap (λ s. halt_of spot s failure) at) p
+  pub task_does : (old new : Run R G) (t : Task) (left left' : ℕ) (rest after : List Task) (spot : Spot) (site : Site) (r : Result (Unit {0}) CommandFailure) → left ≡ left' + 1 → after ≡ rest → spot ≡ old.cursor.spot → site ≡ site_of t → Performs {A = List Task} old new (map_ok (λ _. []) r) (perform t)
+      → Advances {A = Unit {0}} old new left (t ∷ rest) left' after (halt_result spot site r)
+  task_does old new t left left' rest after spot site (Ok x) one is there at p = task_done old new t left left' [] rest after one is p
+  task_does old new t left left' rest after spot site (Err failure) one is there at p =
+      task_failed old new t left left' spot (halt_of spot site failure) failure rest after one there (ap (λ s. halt_of spot s failure) at) p
 
   -- a command that was started with this answer
-  pub task_opens : (old new : Run R G) (c : CommandTree) (left left' : ℕ) (rest : List Task) (from to : FrameStack) (spot : Spot) (site : Site) (r : Result (Unit {0}) CommandFailure) → left ≡ left' + 1 → to.left ≡ left' → to_do from.frames.items ≡ rest → spot ≡ old.cursor.spot → site ≡ site_of (start c)
-      → Opens old new from to c r → Advances {A = Unit {0}} old new left (start c ∷ rest) to (halt_result spot site r)
-  task_opens old new c left left' rest from to spot site (Ok x) one same is there at opens = task_done old new (start c) left left' opens.more rest to one same (opens.comes_first ∙ ap (λ ts. opens.more ++ ts) is) opens.performs
-  task_opens old new c left left' rest from to spot site (Err failure) one same is there at opens =
-      task_failed old new (start c) left spot (halt_of spot site failure) failure rest to (one ∙ ap (λ n. n + 1) (sym same)) there (ap (λ s. halt_of spot s failure) at) opens.performs
+  pub task_opens : (old new : Run R G) (c : CommandTree) (left left' : ℕ) (rest after : List Task) (spot : Spot) (site : Site) (r : Result (Unit {0}) CommandFailure) → left ≡ left' + 1 → spot ≡ old.cursor.spot → site ≡ site_of (start c)
+      → Opens old new rest after c r → Advances {A = Unit {0}} old new left (start c ∷ rest) left' after (halt_result spot site r)
+  task_opens old new c left left' rest after spot site (Ok x) one there at opens = task_done old new (start c) left left' opens.more rest after one opens.comes_first opens.performs
+  task_opens old new c left left' rest after spot site (Err failure) one there at opens =
+      task_failed old new (start c) left left' spot (halt_of spot site failure) failure rest after one there (ap (λ s. halt_of spot s failure) at) opens.performs
 
   -- what fails leaves nothing
-  pub opens_none : (old new : Run R G) (from to : FrameStack) (c : CommandTree) (failure : CommandFailure) (q : Result (Unit {0}) CommandFailure) → IsErr q × IsErrAnd q (λ e. e ≡ failure)
-      → Performs {A = List Task} old new (Err failure) (act_of c) → Opens old new from to c q
-  opens_none old new from to c failure (Ok x) is p = let e : true ≡ false = sym is.0 in cc
-  opens_none old new from to c failure (Err e) is p = record { more = []; performs = answers_as (ap Err is.1) p; comes_first = tt }
+  pub opens_none : (old new : Run R G) (rest after : List Task) (c : CommandTree) (failure : CommandFailure) (q : Result (Unit {0}) CommandFailure) → IsErr q × IsErrAnd q (λ e. e ≡ failure)
+      → Performs {A = List Task} old new (Err failure) (act_of c) → Opens old new rest after c q
+  opens_none old new rest after c failure (Ok x) is p = let e : true ≡ false = sym is.0 in cc
+  opens_none old new rest after c failure (Err e) is p = record { more = []; performs = answers_as (ap Err is.1) p; comes_first = tt }
 
-  -- under the names of the command and of the state before it
-  pub opens_as : {old before new : Run R G} {from to : FrameStack} {c d : CommandTree} {r : Result (Unit {0}) CommandFailure} → before ≡ old → c ≡ d → Opens before new from to d r → Opens old new from to c r
-  opens_as {before = before} {new = new} {from = from} {to = to} {c = c} {r = r} stays is opens =
-      let P : Run R G → Type 0 = λ run. Opens run new from to c r in
-      let Q : CommandTree → Type 0 = λ t. Opens before new from to t r in
-      subst P stays (subst Q (sym is) opens)
+  -- under the names of the command, of the state before it and of what comes behind it
+  pub opens_as : {old before new : Run R G} {rest named after : List Task} {c d : CommandTree} {r : Result (Unit {0}) CommandFailure} → before ≡ old → c ≡ d → named ≡ rest → Opens before new named after d r → Opens old new rest after c r
+  opens_as {old = old} {before = before} {new = new} {named = named} {after = after} {c = c} {r = r} stays is same opens =
+      let P : Run R G → Type 0 = λ run. Opens run new named after c r in
+      let Q : CommandTree → Type 0 = λ t. Opens before new named after t r in
+      let S : List Task → Type 0 = λ ts. Opens old new ts after c r in
+      subst S same (subst P stays (subst Q (sym is) opens))
 
   -- the same with no step left
-  pub task_not_paid : (old : Run R G) (t : Task) (left : ℕ) (spot : Spot) (site : Site) (failure : CommandFailure) (rest : List Task) (stack : FrameStack) (q : Result (Unit {0}) CommandFailure) → IsErr q × IsErrAnd q (λ e. e ≡ failure) → failure ≡ Stopped StepLimit → left ≡ 0 → stack.left ≡ 0 → spot ≡ old.cursor.spot → site ≡ site_of t
-      → Advances {A = Unit {0}} old old left (t ∷ rest) stack (halt_result spot site q)
-  task_not_paid old t left spot site failure rest stack (Ok x) q limit none none' there at = let e : true ≡ false = sym q.0 in cc
-  task_not_paid old t left spot site failure rest stack (Err e) q limit none none' there at =
-      task_unpaid old t left spot (halt_of spot site e) rest stack (Err (halt_of spot site e)) (refl, refl) none none' there (ap (halt_of spot site) (q.1 ∙ limit) ∙ ap (λ s. halts.Outcome (at_limit spot s)) at)
+  pub task_not_paid : (old : Run R G) (t : Task) (left left' : ℕ) (spot : Spot) (site : Site) (failure : CommandFailure) (rest after : List Task) (q : Result (Unit {0}) CommandFailure) → IsErr q × IsErrAnd q (λ e. e ≡ failure) → failure ≡ Stopped StepLimit → left ≡ 0 → left' ≡ 0 → spot ≡ old.cursor.spot → site ≡ site_of t
+      → Advances {A = Unit {0}} old old left (t ∷ rest) left' after (halt_result spot site q)
+  task_not_paid old t left left' spot site failure rest after (Ok x) q limit none none' there at = let e : true ≡ false = sym q.0 in cc
+  task_not_paid old t left left' spot site failure rest after (Err e) q limit none none' there at =
+      task_unpaid old t left left' spot (halt_of spot site e) rest after (Err (halt_of spot site e)) (refl, refl) none none' there (ap (halt_of spot site) (q.1 ∙ limit) ∙ ap (λ s. halts.Outcome (at_limit spot s)) at)
 
   -- under its name the halt of a failure
-  pub halted_as : {old new : Run R G} {left : ℕ} {before : List Task} {stack : FrameStack} {halt : Halt} (spot there : Spot) (site : Site) (failure : CommandFailure) → halt ≡ halt_of spot site failure → spot ≡ there → Advances {A = Unit {0}} old new left before stack (Err (halt_of there site failure)) → Advances {A = Unit {0}} old new left before stack (Err halt)
-  halted_as {old = old} {new = new} {left = left} {before = before} {stack = stack} spot there site failure is same p = let P : Halt → Type 0 = λ h. Advances {A = Unit {0}} old new left before stack (Err h) in subst P (sym (is ∙ ap (λ s. halt_of s site failure) same)) p
+  pub halted_as : {old new : Run R G} {left left' : ℕ} {before after : List Task} {halt : Halt} (spot there : Spot) (site : Site) (failure : CommandFailure) → halt ≡ halt_of spot site failure → spot ≡ there → Advances {A = Unit {0}} old new left before left' after (Err (halt_of there site failure)) → Advances {A = Unit {0}} old new left before left' after (Err halt)
+  halted_as {old = old} {new = new} {left = left} {left' = left'} {before = before} {after = after} spot there site failure is same p = let P : Halt → Type 0 = λ h. Advances {A = Unit {0}} old new left before left' after (Err h) in subst P (sym (is ∙ ap (λ s. halt_of s site failure) same)) p
 
   -- the same at the end of the program
   pub ends_done : (old new : Run R G) (t : Task) (left left' : ℕ) (before : List Task) → left ≡ left' + 1 → before ≡ t ∷ [] → Performs old new (Ok []) (perform t) → RunsTo {A = Unit {0}} old new (λ d. run d left before (state old)) left' (Ok tt)
@@ -182,19 +181,19 @@ module _ {R : Type 0} {G : Ghosts R} where
   ends_unpaid old t left left' before spot halt (Err e) q none none' is there same = record { sound = tt; goes = advances_so (unpaid_goes old t left left' spot e [] [] none none' there (q.1 ∙ same)) (λ d _ f. follows_as {A = Unit {0}} d (Err e) left' [] (state old) _ _ (ap (λ ts. run d left ts (state old)) is) f) }
 
   -- a task that is done, and then the first of its tasks
-  pub task_then : (a b c : Run R G) (t : Task) (left left' : ℕ) (more rest all : List Task) (stack : FrameStack) (r : Result (Unit {0}) Halt) → left ≡ left' + 1 → all ≡ more ++ rest → Performs a b (Ok more) (perform t) → Advances b c left' all stack r → Advances a c left (t ∷ rest) stack r
-  task_then a b c t left left' more rest all stack r one is p q = record {
+  pub task_then : (a b c : Run R G) (t : Task) (left left' now : ℕ) (more rest all after : List Task) (r : Result (Unit {0}) Halt) → left ≡ left' + 1 → all ≡ more ++ rest → Performs a b (Ok more) (perform t) → Advances b c left' all now after r → Advances a c left (t ∷ rest) now after r
+  task_then a b c t left left' now more rest all after r one is p q = record {
     sound = q.sound;
-    goes = advances_so (advances_both (done_goes a b t left left' more rest all one is p) q.goes) (λ d _ e. follows_as d r stack.left (to_do stack.frames.items) (state c) _ _ e.0 e.1);
+    goes = advances_so (advances_both (done_goes a b t left left' more rest all one is p) q.goes) (λ d _ e. follows_as d r now after (state c) _ _ e.0 e.1);
   }
 
   -- what was done so far, and then the end
-  pub ends_early : (a b c : Run R G) (left left' now : ℕ) (before all split : List Task) (stack : FrameStack) (halt : Halt) (q : Result (Unit {0}) Halt) → IsErr q × IsErrAnd q (λ e. e ≡ halt) → AdvancesSuchThat a.cursor b.cursor (λ d. run d left before (state a) ≡ run d left' all (state b))
-      → now ≡ left' → all ≡ split → Advances {A = Unit {0}} b c now split stack (Err halt) → RunsTo {A = Unit {0}} a c (λ d. run d left before (state a)) stack.left q
-  ends_early a b c left left' now before all split stack halt (Ok x) q goes same is p = let e : true ≡ false = sym q.0 in cc
-  ends_early a b c left left' now before all split stack halt (Err e) q goes same is p =
-      let P : Halt → Type 0 = λ h. RunsTo {A = Unit {0}} a c (λ d. run d left before (state a)) stack.left (Err h) in
-      subst P (sym q.1) (record { sound = tt; goes = advances_so (advances_both goes p.goes) (λ d _ f. halted d halt stack.left (to_do stack.frames.items) [] (state c) _ _ (f.0 ∙ ap (λ ts. run d left' ts (state b)) is ∙ ap (λ n. run d n split (state b)) (sym same)) f.1) })
+  pub ends_early : (a b c : Run R G) (left left' now : ℕ) (before all after : List Task) (halt : Halt) (q : Result (Unit {0}) Halt) → IsErr q × IsErrAnd q (λ e. e ≡ halt) → AdvancesSuchThat a.cursor b.cursor (λ d. run d left before (state a) ≡ run d left' all (state b))
+      → Advances {A = Unit {0}} b c left' all now after (Err halt) → RunsTo {A = Unit {0}} a c (λ d. run d left before (state a)) now q
+  ends_early a b c left left' now before all after halt (Ok x) q goes p = let e : true ≡ false = sym q.0 in cc
+  ends_early a b c left left' now before all after halt (Err e) q goes p =
+      let P : Halt → Type 0 = λ h. RunsTo {A = Unit {0}} a c (λ d. run d left before (state a)) now (Err h) in
+      subst P (sym q.1) (record { sound = tt; goes = advances_so (advances_both goes p.goes) (λ d _ f. halted d halt now after [] (state c) _ _ f.0 f.1) })
 
   -- what stands before the first command, and then the tasks
   pub start_done : (a b c : Run R G) (n left' : ℕ) (ts : List Task) (r : Result (Unit {0}) Halt) → Performs {A = ⊤} a b (Ok tt) first_skip → RunsTo b c (λ d. run d n ts (state b)) left' r → RunsTo a c (λ d. run_from d n ts (state a)) left' r

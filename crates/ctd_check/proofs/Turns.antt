@@ -1,17 +1,18 @@
 -- The topmost frame's loop.
-use Rattle.std.proofs.Common.{arith, ◌≡◌, ◌≤◌, ◌<◌, ℕ, suc, ◌+◌, ◌-◌, ◌^◌, List, [], ◌∷◌, ◌++◌, length, take, drop, refl, ap, sym, ◌∙◌, subst, Option, None, Some, IfSome, MatchOption, Bor}
+use Rattle.std.proofs.Common.{arith, ◌≡◌, ◌≤◌, ◌<◌, ℕ, suc, ◌+◌, ◌-◌, ◌^◌, List, [], ◌∷◌, ◌++◌, length, take, drop, refl, ap, sym, ◌∙◌, subst, append_assoc, Option, None, Some, IfSome, max, Bor}
 use Rattle.std.specs.Prelude.{slice_get, slice_set, option_map}
 use Rattle.std.specs.Option.{option_to_list, option_copied}
 use Rattle.std.proofs.lemmas.List.{append-nil, length-append, same_from_push}
 use Rattle.std.proofs.Math.Seq.{take-append_seam}
 use Rattle.std.specs.List.{refill}
-use Rattle.ctd_program.specs.calls.Blocks.{list_blocks}
-use Rattle.ctd_program.specs.calls.View.{command_trees}
+use Rattle.ctd_program.specs.declared.tree.Command.{Command}
+use Rattle.ctd_program.specs.calls.Blocks.{blocks, list_blocks}
+use Rattle.ctd_program.specs.calls.View.{command_tree, command_trees}
 use Rattle.ctd_check.specs.declared.frame.Frame.{Frame}
 use Rattle.ctd_check.specs.declared.frame.RunningLoop.{RunningLoop}
 use Rattle.ctd_check.specs.Loops.{turn, tasks}
-use Rattle.ctd_check.specs.inner.FrameTasks.{most_frames, to_do, Fits, top_loop, next_turn, loop_tasks, loop_in, body_tasks, frame_tasks, frame_blocks, loop_blocks, loop_turn, IsAtTurn, IsListDone}
-use Rattle.ctd_check.proofs.Stacks.{IsOnTop, split_last, with_top, to_do_push, fits_pop, fits_push, fits_less}
+use Rattle.ctd_check.specs.inner.FrameTasks.{most_frames, to_do, all_to_do, Fits, top_loop, next_turn, loop_tasks, loop_in, body_tasks, frame_tasks, frame_blocks, loop_blocks, loop_turn, IsAtTurn, IsListDone, IsInHand}
+use Rattle.ctd_check.proofs.Stacks.{IsOnTop, split_last, with_top, to_do_push, to_do_by_top, top_done, fits_pop, fits_push, fits_less}
 
 top_of : (below : List Frame) (f : Frame) → top_loop (below ++ f ∷ []) ≡ f.running_loop
 top_of [] f = refl
@@ -78,29 +79,47 @@ to_do_at all running_loop at = to_do_push all at.below at.frame at.is ∙ ap (λ
 -- what going round does to a frame
 pub record TakesNextTurn (f g : Frame) : Type 0 where
   pub running_loop : g.running_loop ≡ option_map next_turn f.running_loop
-  pub rest : MatchOption f.running_loop (g ≡ f) (λ running_loop. g.rest.now ≡ running_loop.body.now)
+  pub rest : g.rest ≡ f.rest
 
-loop_of_turn : (f g : Frame) (running_loop : RunningLoop) → TakesNextTurn f g → f.running_loop ≡ Some running_loop → frame_tasks g ≡ body_tasks running_loop
-loop_of_turn f g running_loop goes is =
-    let P : Option RunningLoop → Type 0 = λ o. MatchOption o (g ≡ f) (λ l. g.rest.now ≡ l.body.now) in
-    ap (λ cs. tasks (command_trees cs) ++ loop_tasks g.running_loop) (subst P is goes.rest) ∙ ap (λ o. tasks (command_trees running_loop.body.now) ++ loop_tasks o) (goes.running_loop ∙ ap (option_map next_turn) is)
-
-pub after_next_turn : (all : List Frame) (last : ℕ) (f g : Frame) (running_loop : RunningLoop) (at : IsAtTurn all running_loop) → IsOnTop all last f → TakesNextTurn f g → to_do (slice_set all last g) ≡ body_tasks running_loop ++ to_do at.below
-after_next_turn all last f g running_loop at top goes =
+pub after_next_turn : (all : List Frame) (last : ℕ) (f g : Frame) (running_loop : RunningLoop) (at : IsAtTurn all running_loop) (body : List Command) → IsOnTop all last f → TakesNextTurn f g → IfSome f.running_loop (λ l. body ≡ l.body.now)
+    → all_to_do body (slice_set all last g) ≡ body_tasks running_loop ++ to_do at.below
+after_next_turn all last f g running_loop at body top goes is =
     let same = same_from_push at.below top.below at.frame f (sym at.is ∙ top.is) in
-    to_do_push (slice_set all last g) top.below g (with_top all last f g top)
-    ∙ ap (λ ts. ts ++ to_do top.below) (loop_of_turn f g running_loop goes (ap (λ x. x.running_loop) (sym same.1) ∙ at.loop_is))
-    ∙ ap (λ fs. body_tasks running_loop ++ to_do fs) (sym same.0)
+    let loop_is : f.running_loop ≡ Some running_loop = ap (λ x. x.running_loop) (sym same.1) ∙ at.loop_is in
+    let none : g.rest.now ≡ [] = ap (λ r. r.now) goes.rest ∙ ap (λ x. x.rest.now) (sym same.1) ∙ at.done in
+    let P : Option RunningLoop → Type 0 = λ o. IfSome o (λ l. body ≡ l.body.now) in
+    let body_is : body ≡ running_loop.body.now = subst P loop_is is in
+    ap (λ cs. tasks (command_trees cs) ++ to_do (slice_set all last g)) body_is
+    ∙ ap (λ ts. tasks (command_trees running_loop.body.now) ++ ts) (to_do_by_top (slice_set all last g) top.below g [] (Some (next_turn running_loop)) (with_top all last f g top) none (goes.running_loop ∙ ap (option_map next_turn) loop_is))
+    ∙ ap (λ fs. tasks (command_trees running_loop.body.now) ++ turn (loop_in running_loop) (running_loop.turn + 1) ∷ to_do fs) (sym same.0)
+    ∙ simp append_assoc refl
 
-turn_blocks : (f g : Frame) (o : Option RunningLoop) → f.running_loop ≡ o → TakesNextTurn f g → frame_blocks g ≤ frame_blocks f
+-- the list of the frame is done as before
+pub done_at_turn : (all : List Frame) (last : ℕ) (f g : Frame) → IsOnTop all last f → TakesNextTurn f g → IsListDone all → IsListDone (slice_set all last g)
+done_at_turn all last f g top goes done = top_done all last f g top (ap (λ r. r.now) goes.rest ∙ done top.below f top.is)
+
+-- the body of a loop is in hand in its turn, and so is its separator before it
+pub body_in_hand : (frames : List Frame) (running_loop : RunningLoop) (body : List Command) (n : ℕ) → IsListDone frames → body ≡ running_loop.body.now → length frames ≡ n → 0 < n → n + loop_blocks (Some running_loop) ≤ most_frames → IsInHand body frames
+body_in_hand frames running_loop body n done is same some room =
+    record { done = done; room = omega (arith, same, room, ap (λ cs. list_blocks (command_trees cs)) is); taken = λ c rest _. omega (arith, same, some) }
+
+pub separator_in_hand : (frames : List Frame) (running_loop : RunningLoop) (c : Command) (body : List Command) (n : ℕ) → IsListDone frames → body ≡ running_loop.body.now → length frames ≡ n → 0 < n → n + loop_blocks (Some running_loop) ≤ most_frames → blocks (command_tree c) ≤ loop_blocks (Some running_loop)
+    → IsInHand (c ∷ body) frames
+separator_in_hand frames running_loop c body n done is same some room within =
+    record { done = done; room = omega (arith, same, room, within, ap (λ cs. list_blocks (command_trees cs)) is); taken = λ d rest _. omega (arith, same, some) }
+
+-- a stack whose topmost frame is of a loop has frames
+pub some_frames : (frames : List Frame) (running_loop : RunningLoop) → top_loop frames ≡ Some running_loop → 0 < length frames
+some_frames [] running_loop is = cc
+some_frames (f ∷ fs) running_loop is = omega arith
+
+turn_blocks : (f g : Frame) (o : Option RunningLoop) → f.running_loop ≡ o → TakesNextTurn f g → frame_blocks g ≡ frame_blocks f
 turn_blocks f g None is goes =
-    let P : Option RunningLoop → Type 0 = λ o. MatchOption o (g ≡ f) (λ l. g.rest.now ≡ l.body.now) in
-    omega (arith, ap frame_blocks (subst P is goes.rest))
+    ap (λ r. max (loop_blocks g.running_loop) (list_blocks (command_trees r.now))) goes.rest
+    ∙ ap (λ o. max (loop_blocks o) (list_blocks (command_trees f.rest.now))) (goes.running_loop ∙ ap (option_map next_turn) is ∙ sym is)
 turn_blocks f g (Some running_loop) is goes =
-    let P : Option RunningLoop → Type 0 = λ o. MatchOption o (g ≡ f) (λ l. g.rest.now ≡ l.body.now) in
-    let body : list_blocks (command_trees g.rest.now) ≡ list_blocks (command_trees running_loop.body.now) = ap (λ cs. list_blocks (command_trees cs)) (subst P is goes.rest) in
-    let after : loop_blocks g.running_loop ≡ loop_blocks (Some running_loop) = ap loop_blocks (goes.running_loop ∙ ap (option_map next_turn) is) in
-    omega (arith, body, after, ap loop_blocks is)
+    ap (λ r. max (loop_blocks g.running_loop) (list_blocks (command_trees r.now))) goes.rest
+    ∙ ap (λ n. max n (list_blocks (command_trees f.rest.now))) (ap loop_blocks (goes.running_loop ∙ ap (option_map next_turn) is) ∙ ap loop_blocks (sym is))
 
 turn_number : (f g : Frame) (o : Option RunningLoop) → f.running_loop ≡ o → TakesNextTurn f g → loop_turn g.running_loop ≤ loop_turn f.running_loop + 1
 turn_number f g None is goes = omega (arith, ap loop_turn (goes.running_loop ∙ ap (option_map next_turn) is))
@@ -117,8 +136,8 @@ turn_fits left all last f g top goes fits =
     (fits_push left top.below g (fits_less (left + 1) left top.below (omega arith) known.below) (omega (arith, room, turn_blocks f g f.running_loop refl goes)) (omega (arith, turn, turn_number f g f.running_loop refl goes)))
 
 -- a list that is written over whole
-pub refilled : (xs ws : List Frame) → length ws ≡ length xs → refill (length xs) xs ws ≡ ws
-refilled xs ws same = ap (λ n. take n (ws ++ drop (length ws) xs)) (sym same) ∙ take-append_seam ws (drop (length ws) xs)
+pub refilled : (n : ℕ) (xs ws : List Frame) → length ws ≡ n → refill n xs ws ≡ ws
+refilled n xs ws same = ap (λ m. take m (ws ++ drop (length ws) xs)) (sym same) ∙ take-append_seam ws (drop (length ws) xs)
 
 -- a list that is done, of no loop, leaves nothing
 pub left_list : (all fs : List Frame) (r : Option Frame) → all ≡ fs ++ option_to_list r → IsListDone all → top_loop all ≡ None → to_do fs ≡ to_do all

@@ -47,6 +47,7 @@ fn loop_frame<'p>(
     ensures tasks { frame_tasks result ≡ turn (loop_of place (guard_in guard.entry) (boxed_target counter.now) (boxed_separator between.now) (command_list body.now)) 0 ∷ [] }
     ensures blocks { frame_blocks result ≡ max (separator_blocks (boxed_separator between.now)) (list_blocks (command_list body.now)) }
     ensures turn { loop_turn result.running_loop ≡ 0 }
+    ensures list { result.rest.now ≡ [] }
 {
     let counter = unbox_counter(counter);
     let between = unbox(between);
@@ -114,6 +115,7 @@ pub(crate) fn repeat<'p, D: Source>(
     ensures performs { Performs run.old run.new (map_ok frame_tasks result) (repeat place (guard_tree guard.now) (boxed_target counter.now) (boxed_separator between.now) (command_list body.now)) }
     ensures blocks { IfOk result (λ frame. frame_blocks frame ≡ max (separator_blocks (boxed_separator between.now)) (list_blocks (command_list body.now))) }
     ensures turn { IfOk result (λ frame. loop_turn frame.running_loop ≡ 0) }
+    ensures list { IfOk result (λ frame. frame.rest.now ≡ []) }
 {
     let guard = guard_of(run, guard)?;
     Ok(loop_frame(place, guard, counter, between, body))

@@ -1,19 +1,19 @@
 //! The run of a program: its tasks one after the other, each for one step.
-ghost use Rattle.std.specs.Prelude.{◌≡◌, ◌≤◌, ◌<◌, ◌+◌, ◌*◌, ◌^◌, ◌∷◌, [], length, is_some, true, OnOk, IfSome, Some};
+ghost use Rattle.std.specs.Prelude.{◌≡◌, ◌≤◌, ◌<◌, ◌+◌, ◌*◌, ◌^◌, ◌∷◌, ◌++◌, [], length, is_some, true, OnOk, IfSome, Some};
 ghost use Rattle.ctd_source.specs.calls.SourceReads.{state_of};
 ghost use Rattle.ctd_token.specs.declared.text.Place.{Place};
-ghost use Rattle.ctd_program.specs.calls.Blocks.{blocks};
-ghost use Rattle.ctd_program.specs.calls.View.{command_tree};
+ghost use Rattle.ctd_program.specs.calls.Blocks.{blocks, list_blocks};
+ghost use Rattle.ctd_program.specs.calls.View.{command_tree, command_trees};
 ghost use Rattle.ctd_command.specs.calls.Performs.{IsSound, state};
-ghost use Rattle.ctd_check.specs.Loops.{start, tasks_before_turn};
-ghost use Rattle.ctd_check.specs.inner.FrameTasks.{most_frames, to_do, top_loop, loop_blocks, separator_in, separator_tasks, IsListDone};
+ghost use Rattle.ctd_check.specs.Loops.{start, tasks, tasks_before_turn};
+ghost use Rattle.ctd_check.specs.inner.FrameTasks.{most_frames, to_do, all_to_do, top_loop, loop_blocks, separator_in, separator_tasks, IsListDone, IsInHand};
 ghost use Rattle.ctd_check.specs.inner.Advances.{Advances, RunsTo};
 ghost use Rattle.ctd_check.specs.inner.Opening.{Opens, halt_result};
 ghost use Rattle.ctd_check.specs.inner.Progress.{if_at, if_blocks, loop_at};
 ghost use Rattle.ctd_check.specs.Run.{run as result_of, run_from};
 
 use crate::command::{Progress, act};
-use crate::frame::RunningLoop;
+use crate::frame::{Frame, RunningLoop};
 use crate::halt::Halt;
 use crate::loops::{choose, repeat, take_turn};
 use crate::stack::FrameStack;
@@ -23,65 +23,101 @@ use ctd_pattern::Matcher;
 use ctd_source::Source;
 use ctd_syntax::{Choice, Command, Loop, Place};
 
-/// Pays for a command and starts it. Returns the small failure, so that it fits in registers.
+/// Pays for a command and starts it. Behind it comes the list in hand. Returns the small failure, so that it fits in registers.
 #[inline(always)]
 fn begin<'p, D: Source>(
     command: &'p Command,
+    list: &mut &'p [Command],
     run: &mut Run<'_, D>,
     stack: &mut FrameStack<'p>,
     matchers: &mut [Matcher<'_>],
 ) -> Result<(), CommandFailure>
     requires sound { IsSound run.old }
-    requires room { length stack.old.frames.items + blocks (command_tree command.now) ≤ most_frames }
+    requires in_hand { IsInHand (command.now ∷ list.old.now) stack.old.frames.items }
     ensures spent { stack.new.left ≤ stack.old.left }
     ensures less { OnOk result (2 * stack.new.left + length stack.new.frames.items < 2 * stack.old.left + length stack.old.frames.items) }
-    ensures advances { Advances run.old run.new stack.old.left (start (command_tree command.now) ∷ to_do stack.old.frames.items) stack.new (halt_result (state_of run.old.cursor).spot (Site.At command.now.place) result) }
+    ensures in_hand { OnOk result (IsInHand list.new.now stack.new.frames.items) }
+    ensures advances { Advances run.old run.new stack.old.left (start (command_tree command.now) ∷ all_to_do list.old.now stack.old.frames.items) stack.new.left (all_to_do list.new.now stack.new.frames.items) (halt_result (state_of run.old.cursor).spot (Site.At command.now.place) result) }
 {
     stack.pay()?;
     match act(run, command, matchers) {
         Progress::Done(done) => done,
-        Progress::If(parts) => open_if(parts, run, stack),
-        Progress::Loop(parts) => open_loop(command.place, parts, run, stack),
+        Progress::If(parts) => open_if(parts, list, run, stack),
+        Progress::Loop(parts) => {
+            let rest = *list;
+            *list = &[];
+            open_loop(command.place, parts, rest, run, stack)
+        }
     }
 }
 
-/// Starts an IF, and puts the list that its test picks on top.
+/// Starts an IF: the list that its test picks is in hand then. What was in hand is put on the stack, unless nothing is left of it.
 #[inline(always)]
 fn open_if<'p, D: Source>(
     parts: &'p Choice,
+    list: &mut &'p [Command],
     run: &mut Run<'_, D>,
     stack: &mut FrameStack<'p>,
 ) -> Result<(), CommandFailure>
     requires sound { IsSound run.old }
+    requires in_hand { IsInHand list.old.now stack.old.frames.items }
+    requires some { 0 < length stack.old.frames.items }
     requires room { length stack.old.frames.items + if_blocks parts.now ≤ most_frames }
     requires bound { stack.old.left + 1 ≤ 2 ^ 64 }
     ensures left { stack.new.left ≡ stack.old.left }
     ensures len { length stack.new.frames.items ≤ length stack.old.frames.items + 1 }
-    ensures opens { (place : Place) → Opens run.old run.new stack.old stack.new (if_at place parts.now) result }
+    ensures in_hand { OnOk result (IsInHand list.new.now stack.new.frames.items) }
+    ensures opens { (place : Place) → Opens run.old run.new (all_to_do list.old.now stack.old.frames.items) (all_to_do list.new.now stack.new.frames.items) (if_at place parts.now) result }
 {
-    let list = choose(run, &parts.condition, &parts.then_do, &parts.else_do)?;
-    stack.push_list(list);
+    let picked = choose(run, &parts.condition, &parts.then_do, &parts.else_do)?;
+    take_up(picked.as_slice(), list, stack);
     Ok(())
 }
 
-/// Starts a loop that stands at this place, and puts its frame on top. Out of line: keeps `begin` small.
+/// Takes a list in hand. What was in hand is put on the stack, unless nothing is left of it.
+#[inline(always)]
+fn take_up<'p>(picked: &'p [Command], list: &mut &'p [Command], stack: &mut FrameStack<'p>)
+    requires in_hand { IsInHand list.old.now stack.old.frames.items }
+    requires some { 0 < length stack.old.frames.items }
+    requires room { length stack.old.frames.items + 1 + list_blocks (command_trees picked.now) ≤ most_frames }
+    requires bound { stack.old.left + 1 ≤ 2 ^ 64 }
+    ensures left { stack.new.left ≡ stack.old.left }
+    ensures len { length stack.new.frames.items ≤ length stack.old.frames.items + 1 }
+    ensures in_hand { IsInHand list.new.now stack.new.frames.items }
+    ensures to_do { all_to_do list.new.now stack.new.frames.items ≡ tasks (command_trees picked.now) ++ all_to_do list.old.now stack.old.frames.items }
+{
+    if picked.is_empty() {
+        return;
+    }
+    if !list.is_empty() {
+        stack.open(*list, Frame::of_list());
+    }
+    *list = picked;
+}
+
+/// Starts a loop that stands at this place, and puts its frame on top, above the list behind it. Out of line: keeps `begin` small.
 #[inline(never)]
 fn open_loop<'p, D: Source>(
     place: Place,
     parts: &'p Loop,
+    list: &'p [Command],
     run: &mut Run<'_, D>,
     stack: &mut FrameStack<'p>,
 ) -> Result<(), CommandFailure>
     requires sound { IsSound run.old }
+    requires in_hand { IsInHand list.now stack.old.frames.items }
+    requires some { 0 < length stack.old.frames.items }
     requires room { length stack.old.frames.items + blocks (loop_at place parts.now) ≤ most_frames }
     requires bound { stack.old.left + 1 ≤ 2 ^ 64 }
     ensures left { stack.new.left ≡ stack.old.left }
     ensures len { length stack.new.frames.items ≤ length stack.old.frames.items + 1 }
-    ensures opens { Opens run.old run.new stack.old stack.new (loop_at place parts.now) result }
+    ensures in_hand { OnOk result (IsInHand [] stack.new.frames.items) }
+    ensures opens { Opens run.old run.new (all_to_do list.now stack.old.frames.items) (to_do stack.new.frames.items) (loop_at place parts.now) result }
 {
     let (guard, counter) = (&parts.guard, &parts.counter);
     let (between, body) = (&parts.between, &parts.body);
-    stack.push(repeat(run, place, guard, counter, between, body)?);
+    let frame = repeat(run, place, guard, counter, between, body)?;
+    stack.open(list, frame);
     Ok(())
 }
 
@@ -96,11 +132,12 @@ fn separator_before<'p>(running_loop: &RunningLoop<'p>) -> Option<&'p Command>
     running_loop.between
 }
 
-/// The next turn of the loop of the topmost frame, whose list is done. The frame stays where it is as long as the loop goes
-/// on.
-fn begin_turn<D: Source>(
+/// The next turn of the loop of the topmost frame: its body is in hand then. The frame stays where it is as long as the loop goes on.
+#[inline(always)]
+fn begin_turn<'p, D: Source>(
+    list: &mut &'p [Command],
     run: &mut Run<'_, D>,
-    stack: &mut FrameStack<'_>,
+    stack: &mut FrameStack<'p>,
     matchers: &mut [Matcher<'_>],
 ) -> Result<(), Halt>
     requires sound { IsSound run.old }
@@ -108,7 +145,8 @@ fn begin_turn<D: Source>(
     requires has_loop { is_some (top_loop stack.old.frames.items) ≡ true }
     ensures spent { stack.new.left ≤ stack.old.left }
     ensures less { OnOk result (2 * stack.new.left + length stack.new.frames.items < 2 * stack.old.left + length stack.old.frames.items) }
-    ensures advances { Advances run.old run.new stack.old.left (to_do stack.old.frames.items) stack.new result }
+    ensures in_hand { OnOk result (IsInHand list.new.now stack.new.frames.items) }
+    ensures advances { Advances run.old run.new stack.old.left (to_do stack.old.frames.items) stack.new.left (all_to_do list.new.now stack.new.frames.items) result }
 {
     let spot = run.cursor.spot();
     let Some(running_loop) = stack.running_loop() else {
@@ -123,21 +161,24 @@ fn begin_turn<D: Source>(
     }
     match take_turn(run, running_loop) {
         Ok(true) => {
-            let separator = separator_before(running_loop);
-            stack.next_turn();
-            match separator {
+            match separator_before(running_loop) {
                 Some(command) => {
+                    *list = stack.next_turn();
                     let spot = run.cursor.spot();
-                    match begin(command, run, stack, matchers) {
+                    match begin(command, list, run, stack, matchers) {
                         Ok(()) => Ok(()),
                         Err(failure) => Err(Halt::of(failure, spot, Site::At(command.place))),
                     }
                 }
-                None => Ok(()),
+                None => {
+                    *list = stack.next_turn();
+                    Ok(())
+                }
             }
         }
         Ok(false) => {
             stack.end_loop();
+            *list = stack.take_list();
             Ok(())
         }
         Err(failure) => {
@@ -165,7 +206,7 @@ fn conclude<D: Source>(run: &mut Run<'_, D>, stack: &mut FrameStack<'_>) -> Resu
     }
 }
 
-/// Runs what is to be done, to its end.
+/// Runs what is to be done, to its end. The list of the topmost frame is in hand, and not on the stack.
 fn run_tasks<D: Source>(
     run: &mut Run<'_, D>,
     stack: &mut FrameStack<'_>,
@@ -175,21 +216,24 @@ fn run_tasks<D: Source>(
     ensures spent { stack.new.left ≤ stack.old.left }
     ensures ends { RunsTo run.old run.new (λ d. result_of d stack.old.left (to_do stack.old.frames.items) (state run.old)) stack.new.left result }
 {
+    let mut list = stack.take_list();
     loop {
-        if let Some(command) = stack.next_command() {
+        if let Some((command, rest)) = list.split_first() {
+            list = rest;
             let spot = run.cursor.spot();
-            match begin(command, run, stack, matchers) {
+            match begin(command, &mut list, run, stack, matchers) {
                 Ok(()) => continue,
                 Err(failure) => return Err(Halt::of(failure, spot, Site::At(command.place))),
             }
         }
         if stack.has_loop() {
-            begin_turn(run, stack, matchers)?;
+            begin_turn(&mut list, run, stack, matchers)?;
             continue;
         }
         if !stack.leave_list() {
             return conclude(run, stack);
         }
+        list = stack.take_list();
     }
 }
 

@@ -1,75 +1,96 @@
 //! What a run has still to do: its frames, and the steps that are left.
-ghost use Rattle.std.specs.Prelude.{◌≡◌, ℕ, ◌≤◌, ◌<◌, ◌+◌, ◌-◌, ◌^◌, ◌++◌, ◌∷◌, [], length, is_some, true, false, None, Some, OnOk, IfErr, IfNone, IfSome};
+ghost use Rattle.std.specs.Prelude.{◌≡◌, ℕ, ◌≤◌, ◌<◌, ◌+◌, ◌-◌, ◌^◌, ◌++◌, ◌∷◌, [], length, is_some, true, false, None, Some, OnOk, IfErr, IfOk, IfSome, vec_capacity};
 ghost use Rattle.std.specs.Option.{option_copied};
 ghost use Rattle.ctd_token.specs.declared.limits.TheConstants.{NESTING_LIMIT};
-ghost use Rattle.ctd_program.specs.calls.Blocks.{blocks, list_blocks};
-ghost use Rattle.ctd_program.specs.calls.View.{command_list, command_tree, command_trees};
-ghost use Rattle.ctd_check.specs.Loops.{start, tasks, finish};
+ghost use Rattle.ctd_program.specs.calls.Blocks.{list_blocks};
+ghost use Rattle.ctd_program.specs.calls.View.{command_trees};
+ghost use Rattle.ctd_check.specs.Loops.{tasks, finish};
 ghost use Rattle.ctd_check.specs.declared.frame.RunningLoop.{RunningLoop};
-ghost use Rattle.ctd_check.specs.inner.FrameTasks.{most_frames, Fits, fits_prop, to_do, top_loop, frame_tasks, body_tasks, loop_blocks, frame_blocks, loop_turn, IsAtTurn, IsListDone};
+ghost use Rattle.ctd_check.specs.inner.FrameTasks.{most_frames, Fits, fits_prop, to_do, all_to_do, top_loop, frame_tasks, body_tasks, loop_blocks, frame_blocks, loop_turn, IsAtTurn, IsListDone, IsInHand};
 
 use crate::frame::{Frame, RunningLoop};
-use arrayvec::ArrayVec;
 use ctd_command::{CommandFailure, Failure};
 use ctd_outcome::Fault;
-use ctd_syntax::{Command, Commands};
+use ctd_syntax::Command;
 use ctd_token::NESTING_LIMIT;
+use std::alloc::{AllocError, Global};
 
 /// The program's list, and blocks in one another.
 const MOST_FRAMES: usize = NESTING_LIMIT as usize + 1;
 
-/// The frames of the blocks that are open, and the steps that are left.
+/// The frames of the blocks that are open, in memory for as many as there may be, and the steps that are left.
 #[derive(Drop)]
 pub(crate) struct FrameStack<'p> {
-    frames: ArrayVec<Frame<'p>, MOST_FRAMES>,
+    frames: Vec<Frame<'p>>,
     left: u64,
     ghost fits: { Fits left frames.items } by { fits_prop left frames.items },
+    ghost reserved: { most_frames ≤ vec_capacity frames },
 }
 
-/// Takes the next command of the last frame, where its list has one.
-fn next_command_in<'p>(frames: &mut [Frame<'p>]) -> Option<&'p Command>
+/// Takes the list of the last frame, which is then done.
+fn take_list_in<'p>(frames: &mut [Frame<'p>]) -> &'p [Command]
     ensures len { length frames.new ≡ length frames.old }
-    ensures to_do { IfSome result (λ c. to_do frames.old ≡ start (command_tree c.now) ∷ to_do frames.new) }
-    ensures room { (left : ℕ) → Fits left frames.old → IfSome result (λ c. length frames.old + blocks (command_tree c.now) ≤ most_frames) }
+    ensures to_do { to_do frames.old ≡ all_to_do result.now frames.new }
     ensures fits { (left : ℕ) → Fits left frames.old → Fits left frames.new }
-    ensures none { IfNone result ((frames.new ≡ frames.old) × IsListDone frames.old) }
+    ensures in_hand { (left : ℕ) → Fits left frames.old → IsInHand result.now frames.new }
 {
     match frames.len().checked_sub(1) {
-        Some(last) => frames[last].next_command(),
-        None => None,
+        Some(last) => frames[last].take_list(),
+        None => &[],
     }
 }
 
-/// Goes on with the loop of the last frame.
-fn next_turn_in(frames: &mut [Frame<'_>])
-    requires turn { IfSome (top_loop frames.old) (λ running_loop. running_loop.turn + 1 < 2 ^ 64) }
+/// Puts a list into the last frame, whose list is done.
+fn put_list_in<'p>(frames: &mut [Frame<'p>], list: &'p [Command])
+    requires in_hand { IsInHand list.now frames.old }
+    requires some { 0 < length frames.old }
     ensures len { length frames.new ≡ length frames.old }
-    ensures to_do { (running_loop : RunningLoop) → (at : IsAtTurn frames.old running_loop) → to_do frames.new ≡ body_tasks running_loop ++ to_do at.below }
-    ensures fits { (left : ℕ) → Fits (left + 1) frames.old → Fits left frames.new }
+    ensures to_do { to_do frames.new ≡ all_to_do list.now frames.old }
+    ensures fits { (left : ℕ) → Fits left frames.old → Fits left frames.new }
 {
     if let Some(last) = frames.len().checked_sub(1) {
-        frames[last].next_turn();
+        frames[last].rest = list;
+    }
+}
+
+/// Goes on with the loop of the last frame, and gives its body.
+fn next_turn_in<'p>(frames: &mut [Frame<'p>]) -> &'p [Command]
+    requires turn { IfSome (top_loop frames.old) (λ running_loop. running_loop.turn + 1 < 2 ^ 64) }
+    requires done { IsListDone frames.old }
+    ensures len { length frames.new ≡ length frames.old }
+    ensures to_do { (running_loop : RunningLoop) → (at : IsAtTurn frames.old running_loop) → all_to_do result.now frames.new ≡ body_tasks running_loop ++ to_do at.below }
+    ensures body { IfSome (top_loop frames.old) (λ running_loop. result.now ≡ running_loop.body.now) }
+    ensures done { IsListDone frames.new }
+    ensures fits { (left : ℕ) → Fits (left + 1) frames.old → Fits left frames.new }
+{
+    match frames.len().checked_sub(1) {
+        Some(last) => frames[last].next_turn(),
+        None => &[],
     }
 }
 
 impl<'p> FrameStack<'p> {
-    /// The commands of a program.
-    pub(crate) fn new(commands: &'p [Command], steps: u64) -> FrameStack<'p>
+    /// The commands of a program; or an error where no memory is left for the frames.
+    pub(crate) fn new(
+        alloc: Global,
+        commands: &'p [Command],
+        steps: u64,
+    ) -> Result<FrameStack<'p>, AllocError>
         requires { list_blocks (command_trees commands.now) ≤ NESTING_LIMIT }
-        ensures left { result.left ≡ steps }
-        ensures len { length result.frames.items ≡ 1 }
-        ensures to_do { to_do result.frames.items ≡ tasks (command_trees commands.now) ++ finish ∷ [] }
+        ensures left { IfOk result (λ stack. stack.left ≡ steps) }
+        ensures len { IfOk result (λ stack. length stack.frames.items ≡ 1) }
+        ensures to_do { IfOk result (λ stack. to_do stack.frames.items ≡ tasks (command_trees commands.now) ++ finish ∷ []) }
     {
-        let mut frames = ArrayVec::<Frame, MOST_FRAMES>::new();
+        let mut frames = Vec::with_capacity(alloc, MOST_FRAMES)?;
         let frame = Frame {
             rest: commands,
             running_loop: None,
         };
-        frames.push(frame);
-        FrameStack {
+        frames.push_reserved(frame);
+        Ok(FrameStack {
             frames,
             left: steps,
-        }
+        })
     }
 
     /// The steps that are left.
@@ -97,15 +118,14 @@ impl<'p> FrameStack<'p> {
         }
     }
 
-    /// Takes the next command of the topmost frame, where its list has one.
-    pub(crate) fn next_command(&mut self) -> Option<&'p Command>
+    /// Takes the list of the topmost frame, which is then done.
+    pub(crate) fn take_list(&mut self) -> &'p [Command]
         ensures left { self.new.left ≡ self.old.left }
         ensures len { length self.new.frames.items ≡ length self.old.frames.items }
-        ensures to_do { IfSome result (λ c. to_do self.old.frames.items ≡ start (command_tree c.now) ∷ to_do self.new.frames.items) }
-        ensures room { IfSome result (λ c. length self.old.frames.items + blocks (command_tree c.now) ≤ most_frames) }
-        ensures none { IfNone result ((self.new.frames.items ≡ self.old.frames.items) × IsListDone self.old.frames.items) }
+        ensures to_do { to_do self.old.frames.items ≡ all_to_do result.now self.new.frames.items }
+        ensures in_hand { IsInHand result.now self.new.frames.items }
     {
-        next_command_in(self.frames.as_mut_slice())
+        take_list_in(self.frames.as_mut_slice())
     }
 
     /// Whether the topmost frame is of a loop.
@@ -126,15 +146,18 @@ impl<'p> FrameStack<'p> {
         }
     }
 
-    /// Pays a step and goes on with the loop of the topmost frame: its body, and then the turn after that.
-    pub(crate) fn next_turn(&mut self)
+    /// Pays a step and goes on with the loop of the topmost frame. Gives its body, which comes before the turn after this one.
+    pub(crate) fn next_turn(&mut self) -> &'p [Command]
         requires left { 0 < self.old.left }
+        requires done { IsListDone self.old.frames.items }
         ensures paid { self.old.left ≡ self.new.left + 1 }
         ensures len { length self.new.frames.items ≡ length self.old.frames.items }
-        ensures to_do { (running_loop : RunningLoop) → (at : IsAtTurn self.old.frames.items running_loop) → to_do self.new.frames.items ≡ body_tasks running_loop ++ to_do at.below }
+        ensures to_do { (running_loop : RunningLoop) → (at : IsAtTurn self.old.frames.items running_loop) → all_to_do result.now self.new.frames.items ≡ body_tasks running_loop ++ to_do at.below }
+        ensures body { IfSome (top_loop self.old.frames.items) (λ running_loop. result.now ≡ running_loop.body.now) }
+        ensures done { IsListDone self.new.frames.items }
     {
         self.left -= 1;
-        next_turn_in(self.frames.as_mut_slice());
+        next_turn_in(self.frames.as_mut_slice())
     }
 
     /// Pays a step and takes the topmost frame off, whose loop is over.
@@ -160,32 +183,18 @@ impl<'p> FrameStack<'p> {
         self.frames.pop().is_some()
     }
 
-    /// Puts a frame on top.
-    pub(crate) fn push(&mut self, frame: Frame<'p>)
+    /// Puts the list in hand back into the topmost frame, and the frame of a block on top.
+    pub(crate) fn open(&mut self, list: &'p [Command], frame: Frame<'p>)
+        requires in_hand { IsInHand list.now self.old.frames.items }
+        requires some { 0 < length self.old.frames.items }
         requires room { length self.old.frames.items + 1 + frame_blocks frame ≤ most_frames }
         requires turn { loop_turn frame.running_loop + self.old.left + 1 ≤ 2 ^ 64 }
         ensures left { self.new.left ≡ self.old.left }
         ensures len { length self.new.frames.items ≡ length self.old.frames.items + 1 }
-        ensures to_do { to_do self.new.frames.items ≡ frame_tasks frame.entry ++ to_do self.old.frames.items }
+        ensures to_do { to_do self.new.frames.items ≡ frame_tasks frame.entry ++ all_to_do list.now self.old.frames.items }
+        ensures done { frame.entry.rest.now ≡ [] → IsListDone self.new.frames.items }
     {
-        self.frames.push(frame);
-    }
-
-    /// Puts a list on top, if it has commands.
-    #[inline(always)]
-    pub(crate) fn push_list(&mut self, list: &'p Commands)
-        requires room { length self.old.frames.items + 1 + list_blocks (command_list list.now) ≤ most_frames }
-        requires bound { self.old.left + 1 ≤ 2 ^ 64 }
-        ensures left { self.new.left ≡ self.old.left }
-        ensures len { length self.new.frames.items ≤ length self.old.frames.items + 1 }
-        ensures to_do { to_do self.new.frames.items ≡ tasks (command_list list.now) ++ to_do self.old.frames.items }
-    {
-        match list.as_slice() {
-            [] => {}
-            rest => self.push(Frame {
-                rest,
-                running_loop: None,
-            }),
-        }
+        put_list_in(self.frames.as_mut_slice(), list);
+        self.frames.push_reserved(frame);
     }
 }

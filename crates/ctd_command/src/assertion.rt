@@ -12,7 +12,7 @@ use ctd_source::Source;
 
 impl<'d, D: Source> Run<'d, D> {
     /// ASSERT: a test that is false rejects the data.
-    #[inline(never)]
+    #[inline(always)]
     pub fn assert(&mut self, t: &Test) -> Result<(), CommandFailure>
         requires sound { IsSound self.old }
         ensures performs { Performs self.old self.new result (assert (test_tree t.now)) }

@@ -11,7 +11,9 @@ use crate::failure::CommandFailure;
 use crate::machine::Run;
 use ctd_program::{Expr, Test, Var};
 use ctd_source::Source;
-use ctd_value::{count_of, fast_number, fast_test, holds, number_of, set_number, test_at_byte};
+use ctd_value::{
+    count_of, fast_number, fast_test, holds, literal_number, number_of, set_number, test_at_byte,
+};
 
 impl<'d, D: Source> Run<'d, D> {
     /// The value of an expression that has to be a number.
@@ -25,11 +27,20 @@ impl<'d, D: Source> Run<'d, D> {
 
     /// The fast path of `number`; `None` means: take the general path.
     #[inline(always)]
-    pub(crate) fn fast_number(&self, e: &Expr) -> Option<i128>
+    pub(crate) fn fast_number(&self, e: &Expr) -> Option<i64>
         requires sound { IsSound self.now }
         ensures performs { IfSome result (λ n. Performs self.now self.now (Ok n) (evaluate (number_of (expr_tree e.now)))) }
     {
         fast_number(e, &self.store)
+    }
+
+    /// The number of a literal, behind a minus or none; `None` means: take another path of `number`.
+    #[inline(always)]
+    pub(crate) fn literal_number(&self, e: &Expr) -> Option<i64>
+        requires sound { IsSound self.now }
+        ensures performs { IfSome result (λ n. Performs self.now self.now (Ok n) (evaluate (number_of (expr_tree e.now)))) }
+    {
+        literal_number(e)
     }
 
     /// How often a loop runs. A string is WrongType, and a number outside 0 .. 2^64 - 1 is Count.

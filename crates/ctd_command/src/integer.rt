@@ -7,7 +7,7 @@ ghost use Rattle.ctd_command.specs.Commands.{int, integer};
 ghost use Rattle.ctd_command.specs.Integer.{is_minus, with_sign};
 ghost use Rattle.ctd_command.specs.inner.Passing.{IsBufferedInteger, PassesMinus, PassesDigits};
 ghost use Rattle.ctd_command.specs.calls.Performs.{IsSound, Performs};
-ghost use Rattle.ctd_command.specs.inner.Performs.{IsBetween};
+ghost use Rattle.ctd_command.specs.inner.Performs.{IsAtLeast, IsAtMost};
 
 use crate::digits::{DigitSummary, MAX_U64_DIGITS, leading_number};
 use crate::failure::CommandFailure;
@@ -15,10 +15,10 @@ use crate::machine::Run;
 use ctd_program::{Expr, Var};
 use ctd_source::{Cursor, LookFault, Source};
 
-/// An integer at the front of some bytes.
+/// An integer of 64 bits at the front of some bytes.
 #[derive(Clone, Copy)]
 struct BufferedInteger {
-    value: i128,
+    value: i64,
     /// How many bytes it takes.
     len: usize,
 }
@@ -30,16 +30,16 @@ fn begins_with_minus(bytes: &[u8]) -> bool
     matches!(bytes, [b'-', ..])
 }
 
-/// The value of a sign and a size of 64 bits.
+/// The value of a sign and a size, where both have 64 bits but for -2^63.
 #[inline(always)]
-fn with_sign(is_negative: bool, size: u64) -> i128
-    ensures { result ≡ with_sign is_negative size }
+fn with_sign(is_negative: bool, size: u64) -> Option<i64>
+    ensures { IfSome result (λ n. n ≡ with_sign is_negative size) }
 {
-    let value = i128::from(size);
-    if is_negative { -value } else { value }
+    let value = i64::try_from(size).ok()?;
+    Some(if is_negative { -value } else { value })
 }
 
-/// The integer that some bytes begin with, where it has at most 19 digits, ends before the bytes do and is written as INT wants it.
+/// The integer that some bytes begin with, where its size is below 2^63, it ends before the bytes do and is written as INT wants it.
 fn buffered_integer(bytes: &[u8]) -> Option<BufferedInteger>
     ensures { IfSome result (λ front. IsBufferedInteger bytes.now front.value front.len) }
 {
@@ -55,7 +55,7 @@ fn buffered_integer(bytes: &[u8]) -> Option<BufferedInteger>
         return None;
     }
     Some(BufferedInteger {
-        value: with_sign(is_negative, size),
+        value: with_sign(is_negative, size)?,
         len: sign_len + count,
     })
 }
@@ -114,25 +114,64 @@ impl<'d, D: Source> Run<'d, D> {
         let Some(front) = buffered_integer(self.cursor.held_run()) else {
             return self.any_int(low, high, var);
         };
-        if !self.is_between(front.value, low, high) {
+        if !self.is_at_least(front.value, low) || !self.is_at_most(front.value, high) {
             return self.any_int(low, high, var);
         }
         self.cursor.take_in_line(front.len);
-        self.keep(var, front.value)
+        self.keep(var, i128::from(front.value))
     }
 
-    /// Whether the fast path gives both bounds and the value lies between them.
+    /// Whether the lower bound has a value and this one is not below it.
     #[inline(always)]
-    fn is_between(&self, value: i128, low: &Expr, high: &Expr) -> bool
+    fn is_at_least(&self, value: i64, low: &Expr) -> bool
         requires sound { IsSound self.now }
-        ensures { result ≡ true → IsBetween self.now value (expr_tree low.now) (expr_tree high.now) }
+        ensures { result ≡ true → IsAtLeast self.now value (expr_tree low.now) }
     {
-        match self.fast_number(low) {
-            Some(least) if least <= value => match self.fast_number(high) {
-                Some(most) => value <= most,
-                None => false,
+        match self.literal_number(low) {
+            Some(least) => least <= value,
+            None => match self.fast_number(low) {
+                Some(least) => least <= value,
+                None => self.is_any_at_least(value, low),
             },
-            _ => false,
+        }
+    }
+
+    /// `is_at_least` of a bound of any size. Out of line: keeps the caller small.
+    #[inline(never)]
+    fn is_any_at_least(&self, value: i64, low: &Expr) -> bool
+        requires sound { IsSound self.now }
+        ensures { result ≡ true → IsAtLeast self.now value (expr_tree low.now) }
+    {
+        match self.number(low) {
+            Ok(least) => least <= i128::from(value),
+            Err(_) => false,
+        }
+    }
+
+    /// Whether the upper bound has a value and this one is not above it.
+    #[inline(always)]
+    fn is_at_most(&self, value: i64, high: &Expr) -> bool
+        requires sound { IsSound self.now }
+        ensures { result ≡ true → IsAtMost self.now value (expr_tree high.now) }
+    {
+        match self.literal_number(high) {
+            Some(most) => value <= most,
+            None => match self.fast_number(high) {
+                Some(most) => value <= most,
+                None => self.is_any_at_most(value, high),
+            },
+        }
+    }
+
+    /// `is_at_most` of a bound of any size. Out of line: keeps the caller small.
+    #[inline(never)]
+    fn is_any_at_most(&self, value: i64, high: &Expr) -> bool
+        requires sound { IsSound self.now }
+        ensures { result ≡ true → IsAtMost self.now value (expr_tree high.now) }
+    {
+        match self.number(high) {
+            Ok(most) => i128::from(value) <= most,
+            Err(_) => false,
         }
     }
 

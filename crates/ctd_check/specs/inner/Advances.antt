@@ -7,9 +7,7 @@ use Rattle.ctd_source.specs.calls.Received.{AdvancesSuchThat}
 use Rattle.ctd_command.specs.declared.machine.Run.{Run}
 use Rattle.ctd_command.specs.calls.Performs.{state, IsSound}
 use Rattle.ctd_command.specs.State.{State}
-use Rattle.ctd_check.specs.declared.stack.FrameStack.{FrameStack}
 use Rattle.ctd_check.specs.declared.halt.Halt.{Halt}
-use Rattle.ctd_check.specs.inner.FrameTasks.{to_do}
 use Rattle.ctd_check.specs.Loops.{Task}
 use Rattle.ctd_check.specs.Run.{RunResult, stopped, run}
 
@@ -20,10 +18,10 @@ ContinuesWith d (Err (halts.Outcome outcome)) left rest s whole = whole ≡ stop
 ContinuesWith d (Err halts.Memory) left rest s whole = Unit {0}
 
 module _ {R : Type 0} {G : Ghosts R} where
-  -- for all these data, what was to be done with so many steps left is what is still to be done, or the run is over
-  pub record Advances {A : Type 0} (old new : Run R G) (left : ℕ) (before : List Task) (stack : FrameStack) (result : Result A Halt) : Type 0 where
+  -- for all these data, what was to be done with so many steps left is what is to be done with those that are left now, or the run is over
+  pub record Advances {A : Type 0} (old new : Run R G) (left : ℕ) (before : List Task) (left_now : ℕ) (after : List Task) (result : Result A Halt) : Type 0 where
     pub sound : OnOk result (IsSound new)
-    pub goes : AdvancesSuchThat old.cursor new.cursor (λ d. ContinuesWith d result stack.left (to_do stack.frames.items) (state new) (run d left before (state old)))
+    pub goes : AdvancesSuchThat old.cursor new.cursor (λ d. ContinuesWith d result left_now after (state new) (run d left before (state old)))
 
   -- for all these data, the run that is meant is over, with so many steps left
   pub record RunsTo {A : Type 0} (old new : Run R G) (meant : TestData → RunResult) (left_now : ℕ) (result : Result A Halt) : Type 0 where

@@ -2,7 +2,7 @@
 use Rattle.ctd_program.specs.Tree
 use Rattle.ctd_check.specs.declared.frame.Guard.TheVariants as guards
 use Rattle.ctd_check.specs.Loops
-use Rattle.std.specs.Prelude.{◌≡◌, ℕ, ◌+◌, ◌^◌, ◌≤◌, max, List, [], ◌∷◌, ◌++◌, Option, Some, None}
+use Rattle.std.specs.Prelude.{◌≡◌, ℕ, ◌+◌, ◌^◌, ◌<◌, ◌≤◌, max, List, [], ◌∷◌, ◌++◌, length, Option, Some, None}
 use Rattle.std.specs.Coded.{×_prop, Unit-prop, le_prop}
 use Rattle.std.proofs.Common.{Bor}
 use Rattle.ctd_token.specs.declared.limits.TheConstants.{NESTING_LIMIT}
@@ -59,6 +59,10 @@ stack_tasks (frame ∷ above) below = stack_tasks above (frame_tasks frame ++ be
 abbrev pub to_do : List Frame → List Task
 to_do frames = stack_tasks frames (finish ∷ [])
 
+-- the list in hand comes before what the frames have to do
+abbrev pub all_to_do : List Command → List Frame → List Task
+all_to_do list frames = tasks (command_trees list) ++ to_do frames
+
 -- the list of the topmost frame, if there is one, is done
 abbrev pub IsListDone : List Frame → Type 0
 IsListDone frames = (below : List Frame) (frame : Frame) → frames ≡ below ++ frame ∷ [] → frame.rest.now ≡ []
@@ -102,6 +106,12 @@ loop_turn (Some running_loop) = running_loop.turn
 -- how many frames may lie on one another: that of the program itself, and those of blocks in one another
 abbrev pub most_frames : ℕ
 most_frames = NESTING_LIMIT + 1
+
+-- this list was taken from the topmost frame, and there is room for its blocks
+pub record IsInHand (list : List Command) (frames : List Frame) : Type 0 where
+  pub done : IsListDone frames
+  pub room : length frames + list_blocks (command_trees list) ≤ most_frames
+  pub taken : (c : Command) (rest : List Command) → list ≡ c ∷ rest → 0 < length frames
 
 -- each frame, from number i on, has room for its blocks, and its turns can be counted
 abbrev pub FitsFrom : ℕ → ℕ → List Frame → Type 0

@@ -23,11 +23,14 @@ Tells (Err (Stopped fault)) meant = meant ≡ Err fault
 Tells (Err Memory) meant = Unit {0}
 
 module _ {R : Type 0} {G : Ghosts R} where
-  -- these expressions are numbers, and the value lies between them
-  pub record IsBetween (r : Run R G) (value : ℤ) (low high : ExprTree) : Type 0 where
+  -- this expression is a number, and the value is not below it
+  pub record IsAtLeast (r : Run R G) (value : ℤ) (low : ExprTree) : Type 0 where
     pub least : ℤ
-    pub most : ℤ
     pub low_is : Performs r r (Ok least) (evaluate (number_of low))
-    pub high_is : Performs r r (Ok most) (evaluate (number_of high))
     pub above : int_le least value ≡ true
+
+  -- this expression is a number, and the value is not above it
+  pub record IsAtMost (r : Run R G) (value : ℤ) (high : ExprTree) : Type 0 where
+    pub most : ℤ
+    pub high_is : Performs r r (Ok most) (evaluate (number_of high))
     pub below : int_le value most ≡ true

@@ -52,7 +52,7 @@ pub(super) enum Step {
     /// How often a loop of the expression would run, or its fault.
     Count(Result<u64, EvalFault>),
     /// The number of the expression that is at hand.
-    NumberAtHand(Option<i128>),
+    NumberAtHand(Option<i64>),
     /// The names are unset.
     Unset,
     /// The answer to the test that is at hand.

@@ -52,9 +52,11 @@ const AT_HAND: Steps = &[
     ("SET(x=7)", Step::NumberAtHand(Some(7))),
     ("SET(x=-1000000)", Step::NumberAtHand(Some(-1_000_000))),
     (
-        "SET(x=9223372036854775808)",
-        Step::NumberAtHand(Some(9_223_372_036_854_775_808)),
+        "SET(x=9223372036854775807)",
+        Step::NumberAtHand(Some(9_223_372_036_854_775_807)),
     ),
+    ("SET(x=9223372036854775808)", Step::NumberAtHand(None)),
+    ("SET(x=-9223372036854775808)", Step::NumberAtHand(None)),
     ("SET(x=9223372036854775807+1)", Step::NumberAtHand(None)),
     (
         "SET(x=-9223372036854775807-1)",

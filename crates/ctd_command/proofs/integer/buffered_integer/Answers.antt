@@ -2,7 +2,7 @@ use Rattle.std.proofs.Common.{◌≡◌, ◌-◌, false, ap, ◌∙◌, arith, r
 use Rattle.std.proofs.lemmas.Grind.{common_steps}
 use Rattle.std.proofs.lemmas.Int.{to_z-of_z}
 use Rattle.std.proofs.lemmas.List.{take_rest}
-use Rattle.std.specs.Int.{w128}
+use Rattle.std.specs.Int.{w64}
 use Rattle.ctd_command.proofs.HeldIntegers.{in_front, sign_bytes}
 use Rattle.ctd_command.proofs.integer.buffered_integer.Goals.{else-few-eq48-via-then-few-eq48+else-count-gt1, else-few-eq48-via-else-few-eq48}
 use Rattle.ctd_command.proofs.integer.buffered_integer.Goals as goal
@@ -18,10 +18,10 @@ returns c =
       | else-few-eq48-via-then-few-eq48+else-count-gt1 w ↦ λ _. (w.if-count-gt1.false.0, omega (arith, w.if-count-gt1.false.1, c.if-count-eq0.false))
       | else-few-eq48-via-else-few-eq48 w ↦ λ zero. absurd (w.if-few-eq48.false zero)
     ] in
-    let fits : FitsSigned w128 c.with_sign.result = search rules in
+    let fits : FitsSigned w64 c.in_ok-with_sign.field-0 = search rules in
     let read = in_front c.args.bytes.now few _ negative sign m c.leading_number-size.result.0 count c.begins_with_minus-is_negative.ensures (c.from-sign_len.ensures ∙ sign_bytes negative) (ap (take m) (take_rest c.args.bytes.now sign))
-    c.leading_number-size.ensures.number c.leading_number-size.ensures.count c.if-count-few.false c.if-count-eq0.false form c.with_sign.ensures in
-    simp (to_z-of_z w128 c.with_sign.result fits) read
+    c.leading_number-size.ensures.number c.leading_number-size.ensures.count c.if-count-few.false c.if-count-eq0.false form c.in_ok-with_sign.ensures in
+    simp (to_z-of_z w64 c.in_ok-with_sign.field-0 fits) read
 
 pub overflow_add-result : goal.overflow_add-result
 overflow_add-result c = grind (arith, common_steps)
