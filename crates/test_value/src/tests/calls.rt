@@ -7,7 +7,8 @@ use ctd_source::{LookFault, Plain};
 use ctd_syntax::{Action, Assignment, Command, Name, Test, Var, parse};
 use ctd_value::{
     EntryRef, EvalFault, Key, Store, TestFault, Value, count_of, eval, fast_number, fast_test,
-    holds, locate, number_of, set_expression, set_number, set_text, test_at_byte, text_of,
+    holds, literal_number, locate, number_of, set_expression, set_number, set_text, test_at_byte,
+    text_of,
 };
 use std::alloc::{AllocError, Global};
 use std::process::Abort;
@@ -53,6 +54,8 @@ pub(super) enum Step {
     Count(Result<u64, EvalFault>),
     /// The number of the expression that is at hand.
     NumberAtHand(Option<i64>),
+    /// The number that the expression is as a literal.
+    Literal(Option<i64>),
     /// The names are unset.
     Unset,
     /// The answer to the test that is at hand.
@@ -176,6 +179,7 @@ fn take_assignment_step(
         Step::Text(bytes) => return Ok(text_of(alloc, &a.value, store)? == bytes),
         Step::Count(count) => return is_count(alloc, store, a, count),
         Step::NumberAtHand(n) => return Ok(fast_number(&a.value, store) == n),
+        Step::Literal(n) => return Ok(literal_number(&a.value) == n),
         other => return is_state_of(alloc, store, a, other),
     }
     Ok(true)

@@ -66,6 +66,16 @@ const AT_HAND: Steps = &[
     ("SET(x=n*n-2)", Step::NumberAtHand(Some(7))),
     ("SET(x=\"7\")", Step::NumberAtHand(None)),
     ("SET(x=n/0)", Step::NumberAtHand(None)),
+    ("SET(x=7)", Step::Literal(Some(7))),
+    ("SET(x=-7)", Step::Literal(Some(-7))),
+    (
+        "SET(x=-9223372036854775807)",
+        Step::Literal(Some(-9_223_372_036_854_775_807)),
+    ),
+    ("SET(x=9223372036854775808)", Step::Literal(None)),
+    ("SET(x=n)", Step::Literal(None)),
+    ("SET(x=3+4)", Step::Literal(None)),
+    ("SET(x=\"7\")", Step::Literal(None)),
 ];
 
 /// What tests of arrays say where each look would fail.
