@@ -11,4 +11,5 @@ pub mod Prefixes
 pub mod Turns
 pub mod Running
 pub mod Stacks
+pub mod Staying
 pub mod StepLimits

@@ -33,8 +33,9 @@ use Rattle.ctd_outcome.specs.declared.outcome.Site.TheVariants.{Start, At}
 use Rattle.ctd_check.specs.declared.halt.Halt.{Halt}
 use Rattle.ctd_check.specs.declared.halt.Halt.TheVariants as halts
 use Rattle.ctd_outcome.specs.declared.outcome.Outcome.TheVariants as outcomes
-use Rattle.ctd_check.specs.Loops.{Task, start, finish, tasks}
+use Rattle.ctd_check.specs.Loops.{Loop, Task, start, turn, finish, tasks, run_turn}
 use Rattle.ctd_check.specs.Run.{RunResult, stopped, site_of, perform, resume, run, run_from, with_steps, meaning, at_start}
+use Rattle.ctd_check.proofs.Staying.{ends_at, turn_stays}
 use Rattle.ctd_check.specs.inner.Acts.{act_of}
 use Rattle.ctd_outcome.specs.declared.outcome.Checked.{Checked}
 use Rattle.ctd_check.specs.inner.Halts.{halt_of, at_limit, Concludes}
@@ -73,6 +74,15 @@ failed_by d site p left' spot (Rejected reason) now e k after is does =
 failed_by d site p left' spot (Stopped fault) now e k after is does =
     ap (λ x. resume d site p left' x k) does ∙ ap (λ x. stopped (outcomes.Stopped x site fault) now.offset left') (sym is)
 failed_by d site p left' spot Memory now e k after is does = tt
+
+-- a turn that fails ends where it began
+turn_failed_by : (d : TestData) (site : Site) (loop : Loop) (k left' : ℕ) (spot : Spot) (failure : CommandFailure) (before now : State) (next : List Task → State → RunResult) (after : List Task) → spot ≡ spot_at d.bytes now.offset
+    → Does {A = List Task} (Err failure) now (run_turn loop k d before) → ContinuesWith {A = Unit {0}} d (Err (halt_of spot site failure)) left' after now (resume d site before.offset left' (run_turn loop k d before) next)
+turn_failed_by d site loop k left' spot (Rejected reason) before now next after is does =
+    failed_by d site before.offset left' spot (Rejected reason) now _ next after (is ∙ ap (spot_at d.bytes) (sym (ap ends_at does) ∙ turn_stays loop k d before)) does
+turn_failed_by d site loop k left' spot (Stopped fault) before now next after is does =
+    failed_by d site before.offset left' spot (Stopped fault) now _ next after (is ∙ ap (spot_at d.bytes) (sym (ap ends_at does) ∙ turn_stays loop k d before)) does
+turn_failed_by d site loop k left' spot Memory before now next after is does = tt
 
 -- what follows a run follows each name of it
 pub follows_as : {A : Type 0} (d : TestData) (r : Result A Halt) (left : ℕ) (after : List Task) (s : State) (whole other : RunResult) → other ≡ whole → ContinuesWith d r left after s whole → ContinuesWith d r left after s other
@@ -113,6 +123,17 @@ module _ {R : Type 0} {G : Ghosts R} where
   pub task_failed : (old new : Run R G) (t : Task) (left left' : ℕ) (spot : Spot) (halt : Halt) (failure : CommandFailure) (rest after : List Task) → left ≡ left' + 1 → spot ≡ old.cursor.spot → halt ≡ halt_of spot (site_of t) failure → Performs {A = List Task} old new (Err failure) (perform t)
       → Advances {A = Unit {0}} old new left (t ∷ rest) left' after (Err halt)
   task_failed old new t left left' spot halt failure rest after one there is p = record { sound = tt; goes = failed_goes old new t left left' spot halt failure rest after one there is p }
+
+  -- so does a turn, which passes nothing: it began where it ends
+  pub turn_failed : (old new : Run R G) (loop : Loop) (k left left' : ℕ) (spot : Spot) (halt : Halt) (failure : CommandFailure) (rest after : List Task) → left ≡ left' + 1 → spot ≡ new.cursor.spot → halt ≡ halt_of spot (At loop.place) failure → Performs {A = List Task} old new (Err failure) (run_turn loop k)
+      → Advances {A = Unit {0}} old new left (turn loop k ∷ rest) left' after (Err halt)
+  turn_failed old new loop k left left' spot halt failure rest after one there is p = record {
+    sound = tt;
+    goes = advances_so p.goes (λ d stand e.
+        let P : Halt → Type 0 = λ h. ContinuesWith {A = Unit {0}} d (Err h) left' after (state new) (run d left (turn loop k ∷ rest) (state old)) in
+        subst P (sym is) (follows_as {A = Unit {0}} d (Err (halt_of spot (At loop.place) failure)) left' after (state new) _ _ (paid d (turn loop k) left left' (state old) rest one)
+        (turn_failed_by d (At loop.place) loop k left' spot failure (state old) (state new) (λ more u. run d left' (more ++ rest) u) after (there ∙ stand.after.spot) e)));
+  }
 
   -- a task with no step left ends the run
   unpaid_goes : (old : Run R G) (t : Task) (left left' : ℕ) (spot : Spot) (halt : Halt) (rest after : List Task) → left ≡ 0 → left' ≡ 0 → spot ≡ old.cursor.spot → halt ≡ halts.Outcome (at_limit spot (site_of t))

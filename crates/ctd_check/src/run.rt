@@ -148,14 +148,13 @@ fn begin_turn<'p, D: Source>(
     ensures in_hand { OnOk result (IsInHand list.new.now stack.new.frames.items) }
     ensures advances { Advances run.old run.new stack.old.left (to_do stack.old.frames.items) stack.new.left (all_to_do list.new.now stack.new.frames.items) result }
 {
-    let spot = run.cursor.spot();
     let Some(running_loop) = stack.running_loop() else {
         unreachable!();
     };
     if stack.left() == 0 {
         return Err(Halt::of(
             CommandFailure::stopped(Fault::StepLimit),
-            spot,
+            run.cursor.spot(),
             Site::At(running_loop.place),
         ));
     }
@@ -182,7 +181,8 @@ fn begin_turn<'p, D: Source>(
             Ok(())
         }
         Err(failure) => {
-            let halt = Halt::of(failure, spot, Site::At(running_loop.place));
+            // A turn passes no byte, so it began here.
+            let halt = Halt::of(failure, run.cursor.spot(), Site::At(running_loop.place));
             stack.end_loop();
             Err(halt)
         }

@@ -62,6 +62,7 @@ impl<'d, D: Source> Run<'d, D> {
     }
 
     /// Gives a target, where there is one, an integer.
+    #[inline(always)]
     pub(crate) fn keep(&mut self, v: &Option<Var>, n: i128) -> Result<(), CommandFailure>
         requires sound { IsSound self.old }
         ensures performs { Performs self.old self.new result (keep (target v.now) (values.Int n)) }

@@ -30,7 +30,7 @@ fn begins_with_minus(bytes: &[u8]) -> bool
     matches!(bytes, [b'-', ..])
 }
 
-/// The value of a sign and a size, where both have 64 bits but for -2^63.
+/// The number of a sign and a size, where the size is below 2^63.
 #[inline(always)]
 fn with_sign(is_negative: bool, size: u64) -> Option<i64>
     ensures { IfSome result (λ n. n ≡ with_sign is_negative size) }

@@ -8,7 +8,8 @@ ghost use Rattle.ctd_value.specs.calls.Fault.{Gives};
 ghost use Rattle.ctd_value.specs.calls.Lending.{map_ok};
 ghost use Rattle.ctd_value.specs.calls.Assignments.{with_variable, with_expression};
 
-use crate::expression::{eval, fast_i64, fast_index, fast_name_index, index_values};
+use crate::at_hand::fast_name_index;
+use crate::expression::{eval, fast_i64, fast_index, index_values};
 use crate::fault::EvalFault;
 use ctd_program::{Expr, Var};
 use ctd_store::{Index, Store, ValueRef, as_i64};
