@@ -21,6 +21,12 @@ bashdir ?= $(datadir)/bash-completion/completions
 zshdir ?= $(datadir)/zsh/site-functions
 fishdir ?= $(datadir)/fish/vendor_completions.d
 vimdir ?= $(datadir)/vim/vimfiles
+# A prefix that is no full path lies below this folder.
+ifneq ($(filter-out /%,$(firstword $(PREFIX))),)
+override PREFIX := $(CURDIR)/$(PREFIX)
+endif
+# (with it, cd may go elsewhere)
+unexport CDPATH
 # What belongs to these programs alone: the companions with their modules, and the grammar for editors.
 ourdir := $(datadir)/checktestdata
 pythondir ?= $(ourdir)/python
@@ -35,6 +41,7 @@ companions := ctd-show ctd-cover ctd-mutate ctd-package ctd-validate ctd-languag
 modules := $(sort $(notdir $(wildcard tools/ctd_*.py)))
 commands := $(programs) $(companions)
 manuals := $(commands:=.1) checktestdata.5
+vim_files := $(patsubst editors/vim/%,%,$(wildcard editors/vim/*/*.vim))
 texts := README.md CHANGELOG.md SECURITY.md LICENSE-MIT LICENSE-APACHE NOTICE
 
 # Where a program is built, or in BUILT, if that is given.
@@ -105,7 +112,7 @@ $(modules_made): $(sources) $(wildcard $(packed)) portable/wasm.sh
 
 # What is missing for the page is said before anything is compiled for it.
 page-needs:
-	@web/needs.sh
+	@web/needs.sh $(modules_made)
 
 page: page-needs $(modules_made)
 	@web/build.sh
@@ -132,49 +139,59 @@ fuzz: build
 bench: build
 	@bench/whole_runs.py --checker $(call built,checktestdata)
 
-# Installs one file: MODE, FROM, FOLDER, NAME. BSD and macOS have no install -D.
-put = mkdir -p '$(DESTDIR)$(3)' && install -m $(1) $(2) '$(DESTDIR)$(3)/$(4)'
-# Copies all files below a folder, from where they stand in it: FOLDER, TO.
-copy_tree = cd $(1) && find . -type d -exec mkdir -p '$(DESTDIR)$(2)/{}' ';' && find . -type f -exec install -m 644 '{}' '$(DESTDIR)$(2)/{}' ';'
+# A word of the shell, and a place in DESTDIR as one.
+quoted = '$(subst ','\'',$(1))'
+staged = $(call quoted,$(DESTDIR)$(1))
+# Makes a folder that all may enter, whatever the umask is.
+folder = umask 022 && mkdir -p $(call staged,$(1))
+# Installs files: MODE, FILES, FOLDER, for one file a NAME. BSD and macOS have no install -D.
+put = $(call folder,$(3)) && install -m $(1) $(2) $(call staged,$(3)/$(4))
+# Copies a folder with all that is in it, for all to read, to one that is ours alone: FOLDER, TO.
+copy_tree = $(call folder,$(2)) && cp -R $(1)/. $(call staged,$(2)) && chmod -R u=rwX,go=rX $(call staged,$(2))
 # Links a companion from where commands stand, by a relative path where ln can. COMPANION.
-link = mkdir -p '$(DESTDIR)$(bindir)' && { ln -sfr '$(DESTDIR)$(ourdir)/tools/$(1)' '$(DESTDIR)$(bindir)/$(1)' 2>/dev/null || ln -sf '$(ourdir)/tools/$(1)' '$(DESTDIR)$(bindir)/$(1)'; }
+link = $(call folder,$(bindir)) && { ln -sfr $(call staged,$(ourdir)/tools/$(1)) $(call staged,$(bindir)/$(1)) 2>/dev/null || ln -sf $(call quoted,$(ourdir)/tools/$(1)) $(call staged,$(bindir)/$(1)); }
 
 install: build
 	@$(MAKE) --no-print-directory install-built
 
 # The files of install, with the program as it stands.
 install-built:
-	$(foreach program,$(programs),$(call put,755 $(strip),$(call built,$(program)),$(bindir),$(program)) &&) true
-	$(foreach script,$(companions),$(call put,755,tools/$(script),$(ourdir)/tools,$(script)) &&) true
-	$(foreach module,$(modules),$(call put,644,tools/$(module),$(ourdir)/tools,$(module)) &&) true
+	$(foreach program,$(programs),$(call put,755 $(strip),$(call quoted,$(call built,$(program))),$(bindir),$(program)) &&) true
+	$(call put,755,$(addprefix tools/,$(companions)),$(ourdir)/tools)
+	$(call put,644,$(addprefix tools/,$(modules)),$(ourdir)/tools)
 	$(foreach script,$(companions),$(call link,$(script)) &&) true
-	$(foreach page,$(manuals),$(call put,644,man/$(page),$(mandir)/man$(subst .,,$(suffix $(page))),$(page)) &&) true
-	$(foreach command,$(commands),$(call put,644,completions/bash/$(command),$(bashdir),$(command)) &&) true
-	$(foreach command,$(commands),$(call put,644,completions/zsh/_$(command),$(zshdir),_$(command)) &&) true
-	$(foreach command,$(commands),$(call put,644,completions/fish/$(command).fish,$(fishdir),$(command).fish) &&) true
-	$(call copy_tree,editors/vim,$(vimdir))
+	$(foreach section,1 5,$(call put,644,$(addprefix man/,$(filter %.$(section),$(manuals))),$(mandir)/man$(section)) &&) true
+	$(call put,644,$(addprefix completions/bash/,$(commands)),$(bashdir))
+	$(call put,644,$(addprefix completions/zsh/_,$(commands)),$(zshdir))
+	$(call put,644,$(patsubst %,completions/fish/%.fish,$(commands)),$(fishdir))
+	$(foreach file,$(vim_files),$(call put,644,editors/vim/$(file),$(vimdir)/$(file:%/$(notdir $(file))=%)) &&) true
 	$(call copy_tree,editors/vscode,$(ourdir)/vscode)
-	$(foreach text,$(texts),$(call put,644,$(text),$(docdir),$(text)) &&) true
+	$(call put,644,$(texts),$(docdir))
 	$(call copy_tree,docs,$(docdir)/docs)
 	$(call copy_tree,examples,$(docdir)/examples)
-	scripts/take_out_links.sh '$(DESTDIR)$(docdir)'
+	scripts/take_out_links.sh $(call staged,$(docdir))
 
 lib: build-lib
 	$(call put,644,embed/out/libchecktestdata.a,$(libdir),libchecktestdata.a)
 	$(call put,755,embed/out/libchecktestdata.so.1,$(libdir),libchecktestdata.so.1)
-	ln -sf libchecktestdata.so.1 '$(DESTDIR)$(libdir)/libchecktestdata.so'
+	ln -sf libchecktestdata.so.1 $(call staged,$(libdir)/libchecktestdata.so)
 	$(call put,644,embed/checktestdata.h,$(includedir),checktestdata.h)
-	mkdir -p '$(DESTDIR)$(libdir)/pkgconfig'
-	sed -e 's|@prefix@|$(PREFIX)|; s|@libdir@|$(libdir)|; s|@includedir@|$(includedir)|; s|@version@|$(version)|' embed/checktestdata.pc.in >'$(DESTDIR)$(libdir)/pkgconfig/checktestdata.pc'
+	$(call folder,$(libdir)/pkgconfig)
+	umask 022 && { printf '%s\n' $(call quoted,libdir=$(libdir)) $(call quoted,includedir=$(includedir)) 'Version: $(version)' && cat embed/checktestdata.pc; } >$(call staged,$(libdir)/pkgconfig/checktestdata.pc)
 	$(call put,644,embed/python/checktestdata.py,$(pythondir),checktestdata.py)
 
+# The folders of what is installed, which uninstall takes out where they are empty then.
+emptied = $(foreach name,man1 man5,$(call quoted,$(mandir)/$(name))) $(foreach name,$(sort $(dir $(vim_files))),$(call quoted,$(vimdir)/$(name))) \
+    $(call quoted,$(libdir)/pkgconfig) $(foreach name,bindir bashdir zshdir fishdir libdir includedir ourdir docdir,$(call quoted,$($(name))))
+
 uninstall:
-	rm -f $(foreach command,$(commands),'$(DESTDIR)$(bindir)/$(command)')
-	rm -f $(foreach page,$(manuals),'$(DESTDIR)$(mandir)/man$(subst .,,$(suffix $(page)))/$(page)')
-	rm -f $(foreach command,$(commands),'$(DESTDIR)$(bashdir)/$(command)' '$(DESTDIR)$(zshdir)/_$(command)' '$(DESTDIR)$(fishdir)/$(command).fish')
-	rm -f '$(DESTDIR)$(libdir)'/libchecktestdata.a '$(DESTDIR)$(libdir)'/libchecktestdata.so* '$(DESTDIR)$(libdir)/pkgconfig/checktestdata.pc' '$(DESTDIR)$(includedir)/checktestdata.h'
-	cd editors/vim && find . -type f -exec rm -f '$(DESTDIR)$(vimdir)/{}' ';'
-	rm -rf '$(DESTDIR)$(ourdir)' '$(DESTDIR)$(docdir)'
+	rm -f $(foreach command,$(commands),$(call staged,$(bindir)/$(command)))
+	rm -f $(foreach page,$(manuals),$(call staged,$(mandir)/man$(subst .,,$(suffix $(page)))/$(page)))
+	rm -f $(foreach command,$(commands),$(call staged,$(bashdir)/$(command)) $(call staged,$(zshdir)/_$(command)) $(call staged,$(fishdir)/$(command).fish))
+	rm -f $(call staged,$(libdir))/libchecktestdata.a $(call staged,$(libdir))/libchecktestdata.so* $(call staged,$(libdir)/pkgconfig/checktestdata.pc) $(call staged,$(includedir)/checktestdata.h)
+	rm -f $(foreach file,$(vim_files),$(call staged,$(vimdir)/$(file)))
+	rm -rf $(call staged,$(ourdir)) $(call staged,$(docdir))
+	scripts/take_out_empty.sh $(call quoted,$(DESTDIR)) $(emptied)
 
 deb: build
 	@packaging/deb.sh $(version)

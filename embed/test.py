@@ -2,6 +2,7 @@
 """Tests the libraries in embed/out, or in the folder that LIBRARIES names: the C example and the examples of docs/EMBEDDING.md, buffers of every
 size, valgrind where it is there, and the Python module on the rows of tests/tables/, many files and many threads. The last line counts what passed
 and failed."""
+import ctypes.util
 import doctest
 import os
 import re
@@ -10,12 +11,13 @@ import subprocess
 import sys
 import tempfile
 import unittest
+from collections.abc import Iterator
 from concurrent.futures import ThreadPoolExecutor
 from pathlib import Path
 
 TOP = Path(__file__).resolve().parent.parent
 OUT = Path(os.environ.get("LIBRARIES", TOP / "embed" / "out"))
-os.environ.setdefault("CHECKTESTDATA_LIBRARY", str(OUT / "libchecktestdata.so"))
+os.environ.setdefault("CHECKTESTDATA_LIBRARY", str(OUT / "libchecktestdata.so.1"))
 sys.path[:0] = [str(TOP / "tests"), str(TOP / "embed" / "python")]
 import checktestdata
 import tables
@@ -25,10 +27,21 @@ GUIDE = (TOP / "docs" / "EMBEDDING.md").read_text()
 LIST = "INT(1,1000,n) NEWLINE REPI(i,n,SPACE) INT(0,9,a[i]) END NEWLINE"
 
 
+def calls_of_rows(*files: str) -> Iterator[tuple[str, bytes, bytes, bytes, tuple[int, str]]]:
+    """The rows of tests/tables/, or of these files there: the name, words, program, data, and the status and the message that are wanted."""
+    for file in sorted((TOP / "tests" / "tables").glob("*.toml")):
+        for name, row in tables.rows_of(file) if not files or file.stem in files else ():
+            if row.fails:
+                continue
+            words = "\0".join(["checktestdata", *map(tables.unfolded, row.words), "--", "program", "testdata"]).encode()
+            status, out, err = row.wanted()
+            yield name, words, tables.bytes_of(row.program), tables.bytes_of(row.data), (status, (out + err).decode().removesuffix("\n"))
+
+
 def compiled(source: Path, folder: str, kind: str) -> Path:
     """A C program with the static or the shared library."""
     program = Path(folder) / f"{source.stem}-{kind}"
-    library = ["-L", str(OUT), "-lchecktestdata", f"-Wl,-rpath,{OUT}"] if kind == "shared" else [str(OUT / "libchecktestdata.a")]
+    library = [str(OUT / "libchecktestdata.so.1"), f"-Wl,-rpath,{OUT}"] if kind == "shared" else [str(OUT / "libchecktestdata.a")]
     words = ["cc", "-std=c11", "-Wall", "-Wextra", "-Werror", "-pthread", "-I", str(TOP / "embed"), str(source), *library, "-o", str(program)]
     subprocess.run(words, check=True)
     return program
@@ -70,7 +83,7 @@ class CLibrary(unittest.TestCase):
         self.assertEqual((ran.returncode, ran.stdout), (0, "ok\n"), ran.stderr)
 
     def test_only_the_documented_function_is_exported(self) -> None:
-        named = subprocess.run(["nm", "-D", "--defined-only", OUT / "libchecktestdata.so"], capture_output=True, text=True, check=True)
+        named = subprocess.run(["nm", "-D", "--defined-only", OUT / "libchecktestdata.so.1"], capture_output=True, text=True, check=True)
         self.assertEqual([line.split()[-1] for line in named.stdout.splitlines()], ["checktestdata_run"])
 
 
@@ -139,6 +152,57 @@ class PythonModule(unittest.TestCase):
         with self.assertRaisesRegex(TypeError, "^the program must be its text, as str or bytes, and not PosixPath$"):
             checktestdata.check(Path("program.ctd"), b"5\n")
 
+    def test_arguments_of_other_types(self) -> None:
+        for wrong in (
+            {"data": bytearray(b"5\n")},
+            {"program": 5},
+            {"presets": None},
+            {"presets": 5},
+            {"presets": ["n"]},
+            {"presets": {"n": None}},
+            {"presets": {"n": 1.5}},
+            {"presets": {5: 1}},
+            {"max_steps": "9"},
+            {"max_steps": 1.5},
+            {"whitespace_ok": "no"},
+        ):
+            with self.subTest(wrong), self.assertRaises(TypeError):
+                checktestdata.check(**{"program": "", "data": b"", **wrong})
+
+    def test_texts_that_no_file_can_hold(self) -> None:
+        for wrong in {"program": "\ud800"}, {"presets": "n=\ud800"}, {"presets": {"n": "\ud800"}}, {"presets": {"\ud800": 1}}:
+            with self.subTest(wrong), self.assertRaisesRegex(ValueError, "^a lone surrogate in the (program|presets)$"):
+                checktestdata.check(**{"program": "", "data": b"", **wrong})
+
+    def test_numbers_past_every_limit(self) -> None:
+        for number in 10**5000, -(10**5000), 1 << 64:
+            self.assertEqual(checktestdata.check("", b"", max_steps=number).message, "checktestdata: bad step limit")
+        for number in 10**5000, -(10**5000), 1 << 127:
+            self.assertEqual(checktestdata.check("", b"", presets={"n": number}).message, "checktestdata: bad preset")
+
+    def test_presets_of_no_entry(self) -> None:
+        self.assertTrue(checktestdata.check("", b"", presets={}).accepted)
+
+    def test_another_library(self) -> None:
+        for path, words in (ctypes.util.find_library("c"), "is no library of checktestdata"), ("/none/library.so", "/none/library.so"):
+            call = "import checktestdata\ntry: checktestdata.check('', b'')\nexcept OSError as error: print(error)"
+            self.assertIn(words, self.answer_of(call, CHECKTESTDATA_LIBRARY=path))
+
+    def test_a_thread_of_a_small_stack(self) -> None:
+        call = """import checktestdata, threading
+threading.stack_size(65536)
+program = "ASSERT(" + "(" * 198 + "1" + ")" * 198 + "==1)"
+caller = threading.Thread(target=lambda: print(checktestdata.check(program, b"").message))
+caller.start()
+caller.join()
+print(threading.stack_size())"""
+        self.assertEqual(self.answer_of(call), "testdata ok!\n65536\n")
+
+    def answer_of(self, call: str, **variables: str) -> str:
+        """What a program of Python writes that uses the module."""
+        environment = {**os.environ, "PYTHONPATH": str(TOP / "embed/python"), "PYTHONDONTWRITEBYTECODE": "1", **variables}
+        return subprocess.run([sys.executable, "-c", call], env=environment, capture_output=True, text=True, check=False).stdout
+
     def test_options(self) -> None:
         self.assertTrue(checktestdata.check("INT(0,9) SPACE INT(0,9) NEWLINE", b"  1 \t 2 \r\n  ", whitespace_ok=True).accepted)
         self.assertEqual(checktestdata.check("SPACE", b" ", max_steps=1).message, "checktestdata: line 1 column 2: step limit reached (program end)")
@@ -152,16 +216,31 @@ class PythonModule(unittest.TestCase):
             self.assertEqual({result.status for result in pool.map(lambda data: checktestdata.check(LIST, data), broken)}, {Status.REJECTED})
 
     def test_the_rows_of_the_tables(self) -> None:
-        for file in sorted((TOP / "tests" / "tables").glob("*.toml")):
-            for name, row in tables.rows_of(file):
-                if row.fails:
-                    continue
-                words = "\0".join(["checktestdata", *map(tables.unfolded, row.words), "--", "program", "testdata"]).encode()
-                program, data = (tables.bytes_of(text) for text in (row.program, row.data))
-                status, out, err = row.wanted()
-                result = checktestdata._run(words, program, data)
-                with self.subTest(name):
-                    self.assertEqual((result.status, result.message), (status, (out + err).decode().removesuffix("\n")))
+        for name, words, program, data, wanted in calls_of_rows():
+            result = checktestdata._run(words, program, data)
+            with self.subTest(name):
+                self.assertEqual((result.status, result.message), wanted)
+
+    def test_the_rows_in_the_stack_that_the_guide_names(self) -> None:
+        """A call that needs more ends the process."""
+        stack = int(re.search(r"(\d+) KiB of stack", GUIDE)[1]) * 1024
+        self.assertLessEqual(stack, checktestdata._STACK_SIZE)
+        call = f"""import ctypes, sys, threading
+sys.path[:0] = {sys.path[:2]}
+import checktestdata, test
+run = checktestdata._library().checktestdata_run
+out, err, lengths, statuses = ctypes.create_string_buffer(4096), ctypes.create_string_buffer(4096), checktestdata._Lengths(), []
+calls = [(words, program, data, wanted[0]) for _, words, program, data, wanted in test.calls_of_rows("depths", "nests", "patterns", "hostile")]
+def call():
+    for words, program, data, _ in calls:
+        texts = [words, len(words), program, len(program), data, len(data), out, 4096, err, 4096]
+        statuses.append(run(*texts, ctypes.byref(lengths)))
+threading.stack_size({stack})
+caller = threading.Thread(target=call)
+caller.start()
+caller.join()
+print(statuses == [wanted for *_, wanted in calls], len(calls) > 50)"""
+        self.assertEqual(self.answer_of(call, PYTHONPATH=f"{TOP / 'embed'}", CHECKTESTDATA_LIBRARY=os.environ["CHECKTESTDATA_LIBRARY"]), "True True\n")
 
 
 if __name__ == "__main__":

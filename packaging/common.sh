@@ -1,9 +1,21 @@
 # shellcheck shell=bash
 # What the package and the archive share; read by both scripts.
 
+unset CDPATH
+
 # Where the package and the archive are put.
 out=${OUT:-out}
 mkdir -p "$out"
+
+# put FILE: copies a file into that folder, and prints its name there. It comes whole or not at all.
+put() {
+    local made=$out/${1##*/}
+    if ! cp "$1" "$made.$$" || ! mv "$made.$$" "$made"; then
+        rm -f "$made.$$"
+        exit 1
+    fi
+    echo "$made"
+}
 
 # The last change of the sources, in seconds, so that the same sources give the same files.
 SOURCE_DATE_EPOCH=${SOURCE_DATE_EPOCH:-$(git log -1 --format=%ct 2>/dev/null || date +%s)}

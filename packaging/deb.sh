@@ -3,15 +3,17 @@
 #
 # DEBFULLNAME and DEBEMAIL name another maintainer, OUT another folder.
 set -eu
-cd "$(dirname "${BASH_SOURCE[0]}")/.."
+CDPATH='' cd "$(dirname "${BASH_SOURCE[0]}")/.."
 . packaging/common.sh
 version=$1-1
 name=checktestdata-nagdimot
 maintainer="${DEBFULLNAME:-The Nagdimot developers} <${DEBEMAIL:-maintainers@users.noreply.nagdimot.example}>"
+escaped=$(printf '%s' "$maintainer" | sed 's/[|&\\]/\\&/g')
 architecture=$(dpkg --print-architecture)
-package=$out/${name}_${version}_$architecture.deb
-stage=$(mktemp -d)
-trap 'rm -rf "$stage"' EXIT
+work=$(mktemp -d)
+trap 'rm -rf "$work"' EXIT
+stage=$work/stage
+package=$work/${name}_${version}_$architecture.deb
 documents=$stage/usr/share/doc/$name
 
 make --silent install-built DESTDIR="$stage" PREFIX=/usr docdir=/usr/share/doc/$name zshdir=/usr/share/zsh/vendor-completions
@@ -37,8 +39,8 @@ by_c=(-e '/@BY_C@/d')
 command -v rt >/dev/null || by_c=(-e '/@BY_C@/r packaging/debian/by_c' "${by_c[@]}")
 size=$(du --summarize --apparent-size --block-size=1024 "$stage" | cut -f 1)
 mkdir "$stage/DEBIAN"
-sed "${by_c[@]}" -e "s|@VERSION@|$version|; s|@MAINTAINER@|$maintainer|; s|@SIZE@|$size|; s|@ARCHITECTURE@|$architecture|; s|@LIBC@|$(needed_libc "$stage/usr/bin/checktestdata")|" packaging/debian/control >"$stage/DEBIAN/control"
+sed "${by_c[@]}" -e "s|@VERSION@|$version|; s|@MAINTAINER@|$escaped|; s|@SIZE@|$size|; s|@ARCHITECTURE@|$architecture|; s|@LIBC@|$(needed_libc "$stage/usr/bin/checktestdata")|" packaging/debian/control >"$stage/DEBIAN/control"
 (cd "$stage" && find usr -type f -print0 | sort --zero-terminated | xargs --null md5sum >DEBIAN/md5sums)
 settle "$stage"
 dpkg-deb --build --root-owner-group -Zxz "$stage" "$package" >/dev/null
-echo "$package"
+put "$package"

@@ -5,8 +5,8 @@
 # For x86_64-linux the programs are linked statically from what the toolchain compiled of them, if it did; else, and for other systems, they are
 # compiled from their C file: aarch64-linux, x86_64-windows, and wasm, WebAssembly with WASI. Of a system whose compiler is not there no archive is
 # made, and it is said which package of Debian has it. OUT names another folder.
-set -eu
-cd "$(dirname "${BASH_SOURCE[0]}")/.."
+set -eu -o pipefail
+CDPATH='' cd "$(dirname "${BASH_SOURCE[0]}")/.."
 . packaging/common.sh
 version=$1
 shift
@@ -66,17 +66,16 @@ for_windows() {
     rm -r "$1"/share/{man,bash-completion,zsh,fish}
 }
 
-# archive SYSTEM FOLDER NAME: packs a folder into out/, and prints the archive.
+# archive SYSTEM FOLDER NAME: packs a folder beside it, and prints the archive.
 archive() {
     case $1 in
         *-windows)
-            (cd "$2" && rm -f "$3.zip" && find "$3" ! -type d | LC_ALL=C sort | TZ=UTC zip --quiet -X -@ "$3.zip")
-            mv "$2/$3.zip" "$out/"
-            echo "$3.zip"
+            (cd "$2" && find "$3" ! -type d | LC_ALL=C sort | TZ=UTC zip --quiet -X -@ "$3.zip")
+            echo "$2/$3.zip"
             ;;
         *)
-            tar --create --directory="$2" --sort=name --owner=0 --group=0 --numeric-owner "$3" | gzip -9n >"$out/$3.tar.gz"
-            echo "$3.tar.gz"
+            tar --create --directory="$2" --sort=name --owner=0 --group=0 --numeric-owner "$3" | gzip -9n >"$2/$3.tar.gz"
+            echo "$2/$3.tar.gz"
             ;;
     esac
 }
@@ -103,8 +102,9 @@ pack() {
     (cd "$stage/$name" && find . -type f -printf '%P\0' | sort --zero-terminated | xargs --null sha256sum >"$stage/sums" && mv "$stage/sums" SHA256SUMS)
     settle "$stage/$name"
     file=$(archive "$1" "$stage" "$name")
-    (cd "$out" && sha256sum "$file" >"$file.sha256")
-    echo "$out/$file"
+    (cd "$stage" && sha256sum "${file##*/}" >"$file.sha256")
+    put "$file"
+    put "$file.sha256" >/dev/null
 }
 
 # why_not SYSTEM: in one line why no archive can be made for a system, if that is so.
@@ -119,7 +119,7 @@ why_not() {
     [ -z "$missing" ] || { echo "$missing (in Debian: apt install ${packages[$1]})" && return; }
     ! is_by_c "$1" || for program in checktestdata ctd-lint; do
         CC=${commands[$1]%% *} portable/obstacle.sh "$program"
-    done | head -n 1
+    done | sed -n 1p
 }
 
 for system in "$@"; do

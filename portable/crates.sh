@@ -1,6 +1,6 @@
 #!/bin/sh
 # Prints the crates of this repository that a program is made of, its own among them: portable/crates.sh PROGRAM, as ctd-lint or ctd_lint.
-cd "$(dirname "$0")/.." || exit
+CDPATH='' cd "$(dirname "$0")/.." || exit
 awk -v wanted="$1" '
     { sub(/#.*/, "") }
     /:/ { name = $1; sub(/:.*/, "", name); rest = $0; sub(/^[^:]*:/, "", rest); uses[name] = rest }

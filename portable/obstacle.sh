@@ -1,6 +1,6 @@
 #!/bin/sh
 # Prints in one line why a program cannot be compiled from the packed C file here, and what to do; nothing where it can: portable/obstacle.sh PROGRAM.
-cd "$(dirname "$0")/.." || exit
+CDPATH='' cd "$(dirname "$0")/.." || exit
 packed=portable/checktestdata.c.xz
 
 # need COMMAND..: one of these commands is there; else says so, and ends.
@@ -17,7 +17,7 @@ need() {
 toolchain=$(scripts/missing_toolchain.sh)
 [ -f "$packed" ] || { echo "$packed is not there${toolchain:+, and $toolchain}" && exit; }
 compiler=${CC:-cc}
-for command in "${compiler%% *}" awk find grep sed sort xargs; do
+for command in "${compiler%% *}" awk bash find grep sed sort xargs; do
     need "$command"
 done
 need sha256sum shasum

@@ -2,7 +2,7 @@
 # Prints the SHA-256 sums of all that decides what stands in the C file of some programs, or of both: portable/sums.sh [PROGRAM..]. That is the code of
 # the crates that they are made of, and the scripts that make C of it. Definitions (specs/) and proofs are not among them: they decide whether a
 # program is built, and not what it is.
-cd "$(dirname "$0")/.." || exit
+CDPATH='' cd "$(dirname "$0")/.." || exit
 [ $# -gt 0 ] || set -- checktestdata ctd-lint
 {
     for program in "$@"; do

@@ -4,13 +4,14 @@
 #
 # WASM_CC is the compiler, clang-16 by default, with the C library of WASI. Clang 14 crashes on the file.
 set -eu
-here=$(cd "$(dirname "$0")" && pwd)
+here=$(CDPATH='' cd "$(dirname "$0")" && pwd)
 mkdir -p "$1"
-folder=$(cd "$1" && pwd)
+folder=$(CDPATH='' cd "$1" && pwd)
 shift
 [ $# -gt 0 ] || set -- checktestdata ctd-lint
 compiler=${WASM_CC:-clang-16}
-work=$(mktemp -d)
+# (in the same folder, so that each file comes whole or not at all)
+work=$(mktemp -d "$folder/compiling.XXXXXX")
 trap 'rm -rf "$work"' EXIT
 
 # (for size: -O2 makes the modules a tenth larger, and no faster)

@@ -78,6 +78,8 @@ LOOPS = b"""INT(1,9,n) SET(sum=0)
 REPI(i,n,SPACE) INT(0,9,x) SET(sum=sum+x) WHILE(MATCH("-")) STRING("-") IF(x>5) SET(last=x) END END END
 ASSERT(sum/n>last)
 """
+# A loop of which a candidate tells a trap, and whose turns, taken one by one, tell none. Without memory for these the trap is no answer.
+FEW_TURNS = b"SET(a[0]=1) REP(2) SET(a[0]=a[0]*9) END ASSERT(a[0]<80)"
 LONG_LINE = b'REGEX("([a-z]+ )*",line) REGEX("[0-9]",digit) NEWLINE'
 
 
@@ -203,14 +205,16 @@ def lint_lines(folder: Path) -> dict[str, CommandLine]:
     """Command lines of ctd-lint by what they do."""
     (folder / "false.ctd").write_bytes(b"INT(1,9,longestname) ASSERT(1==2)")
     (folder / "loops.ctd").write_bytes(LOOPS)
-    names = {name: str(folder / name) for name in ["false.ctd", "loops.ctd", "open.ctd", "none.ctd"]}
-    loops = names["loops.ctd"]
+    (folder / "turns.ctd").write_bytes(FEW_TURNS)
+    names = {name: str(folder / name) for name in ["false.ctd", "loops.ctd", "turns.ctd", "open.ctd", "none.ctd"]}
+    loops, turns = names["loops.ctd"], names["turns.ctd"]
     trap = f"{loops}:3:1: risk: may be without a value here: last [no-value-here]\n{loops}: places that may stop a run without a verdict: at most 1\n".encode()
     finding = f"{names['false.ctd']}:1:22: warning: the test is false whatever the data are [always-false]\n".encode()
     lines: dict[str, tuple[list[str], Left]] = {
         "findings": (["--ignore=unread,caret", "-D", "longestname=3", names["false.ctd"]], (1, finding, b"")),
         "traps": (["--verdicts", loops], (1, trap, b"")),
-        "a program that is refused": ([names["open.ctd"]], (2, b"", f"{names['open.ctd']}:1:9: error: syntax error\n".encode())),
+        "turns one by one": (["--verdicts", turns], (0, f"{turns}: every data file gets a verdict\n".encode(), b"")),
+        "a program that is refused": ([names["open.ctd"]], (2, b"", f"{names['open.ctd']}:1:9: error: syntax error: expected , or ) or an operator\n".encode())),
         "a program that is not there": ([names["none.ctd"]], (2, b"", f"{names['none.ctd']}: error: cannot open\n".encode())),
         "a kind that there is not": (["--ignore=caret,longestname", names["false.ctd"]], (2, b"", b"ctd-lint: unknown kind: longestname\n")),
         "a bad preset": (["-D", "n", names["false.ctd"]], (2, b"", b"ctd-lint: bad preset\n")),

@@ -1,6 +1,6 @@
 #!/usr/bin/env python3
 """Tries the rules of the build on a copy of the repository in which crates are empty and a stub stands for the toolchain: it writes down which
-crate it proves and makes an empty file. The last line counts what passed and failed."""
+crate it proves and makes an empty file. Then, with the toolchain, on a repository of one small program. The last line counts what passed and failed."""
 import os
 import shutil
 import signal
@@ -36,6 +36,9 @@ mkdir -p "$(dirname "$made")"
 echo "#!/bin/sh" >"$made"
 chmod +x "$made"
 echo 'a line of the toolchain'
+rests=
+[ "$name" != "${STUB_RESTS:-none}" ] || rests=' foreign=low::getpid'
+echo "logic=proved functions=1$rests sum=1"
 """
 
 
@@ -122,6 +125,14 @@ class Build(unittest.TestCase):
         self.assertFalse((self.top / PROGRAM).exists())
         self.assertEqual((self.build().returncode, "ctd_token" in self.proved()), (0, False))
 
+    def test_a_crate_that_rests_on_a_contract_of_c_is_not_proved(self) -> None:
+        ran = self.build(STUB_RESTS="ctd_syntax")
+        self.assertEqual(ran.returncode, 2)
+        self.assertIn("the gate refuses what this proof rests on: foreign=low::getpid\n", ran.stderr)
+        self.assertIn("could not prove ctd_syntax, after 0 min ", ran.stderr)
+        self.assertFalse((self.top / "crates/ctd_syntax/out/build/ctd_syntax.rlib").exists())
+        self.assertFalse((self.top / PROGRAM).exists())
+
     def test_the_first_use_builds(self) -> None:
         ran = self.run_in_copy("./checktestdata", "a", "b")
         self.assertEqual((ran.returncode, ran.stdout), (0, ""), ran)
@@ -158,11 +169,14 @@ class Build(unittest.TestCase):
         compiler.parent.mkdir(parents=True)
         compiler.write_text("#!/bin/sh\necho compiled\n")
         compiler.chmod(0o755)
+        compiler.with_name("llvm-ar").symlink_to("clang")
         (self.scratch / "module.bc").write_text("a module")
         folder = self.run_in_copy("scripts/toolchain.sh", "checktestdata").stdout.rstrip("\n")
         ran = self.run_in_copy(f"{folder}/bin/clang", "-c", str(self.scratch / "module.bc"))
         self.assertEqual((ran.returncode, ran.stdout), (0, "compiled\n"), ran)
         self.assertEqual((self.top / "crates/checktestdata/out/build/checktestdata.bc").read_text(), "a module")
+        self.assertEqual(self.run_in_copy(f"{folder}/bin/llvm-ar").stdout, "compiled\n")
+        self.assertEqual([path for path in self.top.rglob("*") if path.is_symlink()], [])
 
     def test_an_interrupt_ends_all(self) -> None:
         environment = {**self.environment, "STUB_SECONDS": "61"}
@@ -185,6 +199,49 @@ class Build(unittest.TestCase):
             self.assertNotEqual(make.wait(OUT_OF_TIME), 0)
         running = subprocess.run(["ps", "-eo", "args"], capture_output=True, text=True, check=True).stdout
         self.assertNotIn(f"{self.kit}/bin/rattle build", running)
+
+
+@unittest.skipUnless(shutil.which("rt"), "the toolchain is not there")
+class Toolchain(unittest.TestCase):
+    """A repository of one program, with the scripts of this one and its own toolchain."""
+
+    def setUp(self) -> None:
+        self.top = Path(self.enterContext(tempfile.TemporaryDirectory()))
+        (self.top / ".git").mkdir()
+        shutil.copytree(TOP / "scripts", self.top / "scripts")
+        shutil.copy(TOP / "HANDLES", self.top)
+
+    def add_crate(self, line: str, root: str, text: str) -> None:
+        """A crate with its line of crates.txt."""
+        with (self.top / "crates.txt").open("a") as crates:
+            crates.write(f"{line}\n")
+        source = self.top / "crates" / line.partition(":")[0] / "src" / root
+        source.parent.mkdir(parents=True)
+        source.write_text(f"#![tactic(auto)]\n\n{text}")
+
+    def run_there(self, *words: str) -> subprocess.CompletedProcess[str]:
+        return subprocess.run(words, cwd=self.top, capture_output=True, text=True, timeout=10 * OUT_OF_TIME, check=False)
+
+    def test_the_gate_takes_a_tree_in_which_a_program_was_built(self) -> None:
+        self.add_crate("small:", "main.rt", "fn main() {}\n")
+        made = "crates/small/out/small"
+        ran = self.run_there("make", "-f", "scripts/crates.mk", made)
+        self.assertEqual((ran.returncode, (self.top / made).exists()), (0, True), ran)
+        self.assertTrue((self.top / "crates/small/out/build/small.bc").exists())
+        ran = self.run_there("rt", "ci")
+        self.assertEqual((ran.returncode, ran.stdout.splitlines()[-1]), (0, "1 passed, 0 failed"), ran)
+
+    def test_a_contract_of_c_is_not_proved(self) -> None:
+        self.add_crate(
+            "low:",
+            "lib.rt",
+            "ghost use Rattle.std.specs.Prelude.{pos, ◌≡◌};\n\nunsafe extern \"C\" {\n    safe fn getpid() -> i32\n"
+            "        ensures is_five { result ≡ pos 5 };\n}\n\npub fn five() -> i32\n    ensures { result ≡ pos 5 }\n{\n    getpid()\n}\n",
+        )
+        library = "crates/low/out/build/low.rlib"
+        ran = self.run_there("make", "-f", "scripts/crates.mk", library)
+        self.assertIn("the gate refuses what this proof rests on: foreign=low::getpid\n", ran.stderr)
+        self.assertEqual((ran.returncode, (self.top / library).exists()), (2, False))
 
 
 if __name__ == "__main__":

@@ -120,7 +120,7 @@ class Show(CompanionTest):
             "sum.ctd:\n"
             "      2 | ASSERT(a<b)\n"
             "        | ^\n"
-            "assertion failed: a = 5 < b = 4\n",
+            "assertion failed: a = 5, b = 4, in a<b\n",
             "sum.ctd",
             "wrong.in",
         )
@@ -136,7 +136,7 @@ class Show(CompanionTest):
             "small.ctd:\n"
             "      1 | NEWLINE INT(0,9,a) ASSERT(a<5) NEWLINE\n"
             "        |                    ^\n"
-            "assertion failed: a = 7 < 5\n",
+            "assertion failed: a = 7, in a<5\n",
             "small.ctd",
             "wrong.in",
         )
@@ -152,7 +152,7 @@ class Show(CompanionTest):
             "never.ctd:\n"
             "      1 | ASSERT(1==2)\n"
             "        | ^\n"
-            "assertion failed: 1 == 2\n",
+            "assertion failed: 1==2 is false\n",
             "never.ctd",
             "empty.in",
         )
@@ -542,6 +542,42 @@ class Mutate(CompanionTest):
             ("exchanged-lines", b"1\n2\n\n3\n", [b"2\n1\n\n3\n", b"1\n\n2\n3\n", b"1\n2\n3\n\n"]),
             ("exchanged-lines", b"1\n2\n3", [b"2\n1\n3", b"1\n3\n2"]),
             ("letter-case", b"aB1\n", [b"AB1\n", b"ab1\n"]),
+            ("above-all", b"3 9\n4 5\n-7 2\n", [b"3 10\n4 5\n-7 2\n", b"3 9\n5 5\n-7 2\n"]),
+            ("below-all", b"3 9\n4 5\n-7 2\n", [b"3 9\n4 5\n-8 2\n", b"3 9\n4 5\n-7 1\n"]),
+            # (lines with other words have columns of their own)
+            ("above-all", b"3\n9\na 5\na 4\n", [b"3\n10\na 5\na 4\n", b"3\n9\na 6\na 4\n"]),
+            ("as-above", b"1 ab\n2 c,d\n\n5\n", [b"1 ab\n1 c,d\n\n5\n", b"1 ab\n2 ab,d\n\n5\n"]),
+            ("exchanged-words", b"1 ab\n2 c,d\n3 3\n", [b"ab 1\n2 c,d\n3 3\n", b"1 ab\nc 2,d\n3 3\n", b"1 ab\n2 d,c\n3 3\n"]),
+            ("as-line-above", b"1 2\n3 4\n5\n5\n6", [b"1 2\n1 2\n5\n5\n6", b"1 2\n3 4\n5\n5\n5"]),
+            ("reversed-line", b"1 2\n3,4\n5\n6\n", [b"1 2\n2 1\n5\n6\n"]),
+            # (the byte is at an even offset, and then at an odd one)
+            ("other-letter", b"S.#.\n5-3\n", [b"#.#.\n5-3\n", b"SS#.\n5-3\n", b"S..#\n5-3\n".replace(b".#", b"..", 1), b"S.#S\n5-3\n"]),
+            ("other-letter", b"aa 1\n", []),
+            ("dropped-letter", b"ab 1.5 .#\n", [b"b 1.5 .#\n", b"a 1.5 .#\n", b"ab 1.5 #\n", b"ab 1.5 .\n"]),
+            ("doubled-letter", b"ab -5 .\n", [b"aab -5 .\n", b"abb -5 .\n", b"ab -5 ..\n"]),
+            ("exchanged-letters", b"aab 10\nc\n", [b"aba 10\nc\n", b"aab 01\nc\n"]),
+            ("longer-word", b"3 ann\n4 bobby\n5 bob\nlonely\n", [b"3 ann\n4 bobbyy\n5 bob\nlonely\n", b"3 ann\n4 bobby\n5 bob\nlonelyy\n"]),
+            ("text-at-end", b"1 2\n3\n", [b"1 2\n3x\n", b"1 2\n3 x\n", b"1 2\n3\nx\n"]),
+            ("text-at-end", b"1\nab\n", [b"1x\nab\n", b"1\nab x\n", b"1\nab\nx\n"]),
+            ("text-at-end", b"1\nab", [b"1x\nab", b"1\nab x"]),
+            ("empty-list", b"3\n1 2 4\n", [b"0\n\n", b"0\n"]),
+            ("empty-list", b"3 1 2 3\n", [b"0\n"]),
+            ("empty-list", b"4\nabcd\n", [b"0\n\n", b"0\n"]),
+            ("empty-list", b"3 5\nabc 1\nd 2\ne 4\n", [b"0 5\n"]),
+            # a tree, of which one node is left
+            ("empty-list", b"4\n1 9\n3 4\n1 5\n", [b"1\n"]),
+            # test cases of which the lines are not known
+            ("empty-list", b"2\na b c\nc\n\n", [b"0\n"]),
+            ("single-list", b"3\n1 2 4\n", [b"1\n1\n"]),
+            ("single-list", b"3\na\nb\nc\n", [b"1\na\n"]),
+            ("shorter-list", b"3\n1 2 4\n", [b"2\n1 2\n"]),
+            ("shorter-list", b"3 4\n1 3\n3 5\n1 5\n3 3\n", [b"3 3\n1 3\n3 5\n1 5\n"]),
+            # the longest item comes twice
+            ("longer-list", b"3\n1 22 4\n", [b"4\n1 22 22 4\n"]),
+            ("longer-list", b"4\nabcd\n", [b"5\nabcdd\n"]),
+            ("longer-list", b"2\n1\n7 8\n3\n1 2 4", [b"3\n1\n7 8\n3\n1 2 4\n3\n1 2 4", b"2\n1\n7 8\n4\n1 1 2 4"]),
+            ("doubled-list", b"3\n1 2 4\n", [b"6\n1 2 4 1 2 4\n"]),
+            ("doubled-list", b"2\nx\ny z\n\nu\n", [b"4\nx\ny z\n\nu\nx\ny z\n\nu\n"]),
             ("empty-file", b"1\n2\n", [b""]),
             ("empty-file", b"", []),
         ]:
@@ -550,7 +586,24 @@ class Mutate(CompanionTest):
 
     def test_every_kind_is_tried_above(self) -> None:
         listed = [line.split()[0] for line in self.run_tool("--kinds").stdout.decode().splitlines()]
-        self.assertEqual(len(listed), 28)
+        self.assertEqual(len(listed), 45)
+
+    def test_the_man_page_has_each_kind_with_what_it_asks(self) -> None:
+        page = (TOP / "man/ctd-mutate.1").read_text()
+        for kind in load("ctd-mutate").sys.modules["ctd_changes"].KINDS:
+            with self.subTest(kind.name):
+                self.assertIn(f".It Cm {kind.name}\n{kind.title}{f':{chr(10)}{kind.sees}' if kind.may_fit else ''}", page)
+
+    def test_lists_of_a_large_file_are_those_that_its_windows_show(self) -> None:
+        # Nine windows' worth: the first window has the list of three, the last one that of two, and none the list of all lines.
+        changes, edits = (load("ctd-mutate").sys.modules[name] for name in ("ctd_changes", "ctd_edits"))
+        lines = 9 * 2**9
+        self.write("large.in", b"%d\n3\na\nb\nc\n" % lines + b"x 1 y z\n" * lines + b"2\nab cd\n")
+        with open(self.folder / "large.in", "rb") as file, mock.patch.object(edits, "WINDOW", 1 << 12):
+            source = changes.Source(file, 0, os.path.getsize(self.folder / "large.in"))
+            self.assertEqual(sorted(counted.number for found in source.form.lists.values() for counted in found), [2, 3])
+            (edit,) = [edit for kind in changes.KINDS if kind.name == "single-list" for edit in kind.edits(source, 10)]
+            self.assertEqual(b"".join(edit.applied(source))[:16], b"4608\n1\na\nx 1 y z")
 
     def test_changes_are_spread_over_the_file(self) -> None:
         # In 18 bytes: the first line that begins at 0, at 9.7 or later, and at 13.4 or later.
@@ -570,30 +623,33 @@ class Mutate(CompanionTest):
         self.assertEqual(self.made("exchanged-lines", b"1\n1\n1\n2\n", "-n", "1"), [b"1\n1\n2\n1\n"])
 
     def test_all_are_rejected(self) -> None:
-        self.write("number.ctd", "INT(1,10) NEWLINE")
+        self.write("number.ctd", "INT(5,5) NEWLINE")
         self.write("right.in", "5\n")
         self.assert_run(
             0,
-            "should not fit                             made  rejected  let through  no verdict\n"
-            "a space at the end of a line                  1         1            0           0\n"
-            "no line feed at the end of the file           1         1            0           0\n"
-            "a carriage return at the end of a line        1         1            0           0\n"
-            "a carriage return at the end of each line     1         1            0           0\n"
-            "an extra blank line                           2         2            0           0\n"
-            "a byte order mark                             1         1            0           0\n"
-            "a number with a leading zero                  1         1            0           0\n"
-            "a number with a plus                          1         1            0           0\n"
-            "a number of 40 digits                         1         1            0           0\n"
-            "may fit                                    made  rejected  let through  no verdict\n"
-            "0 in place of a number                        1         1            0           0\n"
-            "-1 in place of a number                       1         1            0           0\n"
-            "a number dropped                              1         1            0           0\n"
-            "a number too many                             1         1            0           0\n"
-            "a line dropped                                1         1            0           0\n"
-            "a line twice                                  1         1            0           0\n"
-            "an empty file                                 1         1            0           0\n"
+            "should not fit     made  rejected  let through  no verdict\n"
+            "trailing-space        1         1            0           0  a space at the end of a line\n"
+            "no-last-newline       1         1            0           0  no line feed at the end of the file\n"
+            "crlf                  1         1            0           0  a carriage return at the end of a line\n"
+            "crlf-everywhere       1         1            0           0  a carriage return at the end of each line\n"
+            "blank-line            2         2            0           0  an extra blank line\n"
+            "byte-order-mark       1         1            0           0  a byte order mark\n"
+            "leading-zero          1         1            0           0  a number with a leading zero\n"
+            "plus                  1         1            0           0  a number with a plus\n"
+            "huge                  1         1            0           0  a number of 40 digits\n"
+            "may fit            made  rejected  let through  no verdict\n"
+            "zero                  1         1            0           0  0 in place of a number\n"
+            "minus-one             1         1            0           0  -1 in place of a number\n"
+            "above-all             1         1            0           0  a number one more than all of its column\n"
+            "below-all             1         1            0           0  a number one less than all of its column\n"
+            "dropped-number        1         1            0           0  a number dropped\n"
+            "extra-number          1         1            0           0  a number too many\n"
+            "dropped-line          1         1            0           0  a line dropped\n"
+            "doubled-line          1         1            0           0  a line twice\n"
+            "text-at-end           3         3            0           0  text behind the last number or line\n"
+            "empty-file            1         1            0           0  an empty file\n"
             "should not fit: 10 made, 10 rejected, 0 let through, 0 without verdict\n"
-            "may fit: 7 made, 7 rejected, 0 let through, 0 without verdict\n",
+            "may fit: 12 made, 12 rejected, 0 let through, 0 without verdict\n",
             "number.ctd",
             "right.in",
         )
@@ -603,12 +659,12 @@ class Mutate(CompanionTest):
         self.write("divide.ctd", "INT(-9,9,n) SPACE INT(-9,9) NEWLINE ASSERT(8/n<9)")
         self.write("right.in", "5 -1\n")
         shown = (
-            "may fit                                    made  rejected  let through  no verdict\n"
-            "a number one more than the one after it       1         0            0           1\n"
-            "a number one more than the one before it      1         0            1           0\n"
-            "no verdict: a number one more than the one after it (may be another file that fits)\n"
+            "may fit            made  rejected  let through  no verdict\n"
+            "above-next            1         0            0           1  a number one more than the one after it\n"
+            "above-previous        1         0            1           0  a number one more than the one before it\n"
+            "no verdict: above-next: a number one more than the one after it (may be another file that fits)\n"
             '  right.in:1: "5·-1\\n" → "0·-1\\n": division by zero\n'
-            "let through: a number one more than the one before it (may be another file that fits)\n"
+            "let through: above-previous: does the program see a number that may not be above the one before it? (may be another file that fits)\n"
             '  right.in:1: "5·-1\\n" → "5·6\\n"\n'
             "may fit: 2 made, 0 rejected, 1 let through, 1 without verdict\n"
         )
@@ -667,7 +723,7 @@ class Mutate(CompanionTest):
 
     def test_places_in_a_large_file(self) -> None:
         # Each pattern matches at the same places in windows as in the whole; of a large file, the windows are spread from its start to its end.
-        changes = load("ctd-mutate").sys.modules["ctd_changes"]
+        changes, edits = (load("ctd-mutate").sys.modules[name] for name in ("ctd_changes", "ctd_edits"))
         part = b"1 -2 x3\n\n0, 12 9\na.b 007\r\n" + b"5" * 999 + b" "
         data = b"7" + part * (2_500_000 // len(part))
         (self.folder / "large.in").write_bytes(data)
@@ -677,7 +733,7 @@ class Mutate(CompanionTest):
                 with self.subTest(kind.name):
                     self.assertEqual([place.start for place in source.places(kind.place, 0)], [found.start() for found in kind.place.finditer(data[1:])])
         source = changes.Source(io.BytesIO(), 0, 100_000_000)
-        self.assertEqual((source.windows[0], source.windows[-1]), (0, 100_000_001 - changes.WINDOW))
+        self.assertEqual((source.windows[0], source.windows[-1]), (0, 100_000_001 - edits.WINDOW))
         self.assertEqual(len(source.windows), 8)
 
     def test_five_of_a_kind_are_listed_or_all(self) -> None:
@@ -687,7 +743,7 @@ class Mutate(CompanionTest):
         changed = ["Abcdefg", "aBcdefg", "abCdefg", "abcDefg", "abcdEfg"]
         listed = [f'  right.in:1: "abcdefg\\n" → "{line}\\n"' for line in changed]
         ending = ["  and 2 more", "may fit: 7 made, 0 rejected, 7 let through, 0 without verdict"]
-        self.assertEqual(lines[2:], ["let through: a letter of the other case (may be another file that fits)", *listed, *ending])
+        self.assertEqual(lines[2:], ["let through: letter-case: does the program see a letter of the wrong case? (may be another file that fits)", *listed, *ending])
         self.assertIn('"abcdefG\\n"', self.run_tool("-a", "--only", "letter-case", "anything.ctd", "right.in").stdout.decode())
 
     def test_a_file_that_does_not_fit(self) -> None:

@@ -16,6 +16,7 @@ import unittest
 from collections.abc import Callable, Iterator, Sequence
 from dataclasses import replace
 from pathlib import Path
+from unittest import mock
 
 from companions import CompanionTest
 from fuzzing.case import Case, Source
@@ -28,9 +29,12 @@ from results import TOP, checker_to_test, run_unit_tests
 from tables import TABLES, Row, bytes_of, rows_of, unfolded
 
 sys.path.insert(0, str(TOP / "tools"))
+import ctd_file_runs  # noqa: E402
+import ctd_untried  # noqa: E402
 import fuzz  # noqa: E402
 from ctd_companion import Answer, Checker, DataFile, answer_of  # noqa: E402
-from ctd_coverage import FileRun, Skeleton, Thing  # noqa: E402
+from ctd_coverage import Skeleton, Thing  # noqa: E402
+from ctd_file_runs import FileRun  # noqa: E402
 from ctd_program import GRAMMAR, commands_of, cut, parse  # noqa: E402
 from ctd_questions import Asker, Copy, Question, fresh_name, offset_at, place_at  # noqa: E402
 from ctd_untried import Coverage, cover, rows  # noqa: E402
@@ -433,7 +437,7 @@ class Cover(CompanionTest):
 
     def test_a_program_that_cannot_be_read_again(self) -> None:
         self.write("1.in", "5\n")
-        ran = self.run_shell(f"mkfifo pipe; echo 'INT(5,5) NEWLINE' >pipe & {TOP}/tools/ctd-cover --checker {CHECKER} pipe 1.in")
+        ran = self.run_shell(f"mkfifo pipe; {TOP}/tools/ctd-cover --checker {CHECKER} pipe 1.in")
         told = b"ctd-cover: pipe: the program is no file, and cannot be read again\n"
         self.assertEqual((ran.stdout, ran.stderr, ran.returncode), (b"", told, 2))
 
@@ -444,20 +448,45 @@ class Cover(CompanionTest):
     def test_whitespace(self) -> None:
         self.assertEqual(self.told("INT(1,9) SPACE INT(1,9) NEWLINE", " 1\t9 \n", "9  1\n", words=["-w"])[0], 0)
 
-    def test_three_runs_at_most_that_do_not_stop_early(self) -> None:
-        """A file costs one run for its verdict, and one for what stays open; all others stop at something that was found."""
-        self.write("p.ctd", "REP(2000) INT(0,999) NEWLINE END")
-        (self.folder / "1.in").write_text("".join(f"{(number * 7919 + 13) % 997 + 1}\n" for number in range(2000)))
-        checker = self.counting_checker()
-        ran = self.run_tool("p.ctd", "1.in", checker=str(checker))
-        self.assertEqual(ran.returncode, 1)
-        statuses = (self.folder / "statuses").read_text().split()
-        self.assertEqual(statuses.count("0"), 2)
 
-    def counting_checker(self) -> Path:
-        """The checker, with its statuses written to a file."""
-        self.write_checker(f'{CHECKER} "$@"\nstatus=$?\necho $status >>statuses\nexit $status')
-        return self.folder / "checktestdata"
+
+class Runs(CompanionTest):
+    """How much of the data the runs read together. So that small files are as large ones, a run counts as no more than some bytes where it starts."""
+
+    tool = "ctd-cover"
+
+    def parts_read(self, program: str, data: str, *options: str) -> list[float]:
+        """Which part of the data each run reads: all, or what stands before the place that its answer names."""
+        self.write("p.ctd", program)
+        self.write("1.in", data)
+        log = self.folder / "answers"
+        self.write_checker(f'answer=$({CHECKER} "$@" 2>&1)\nstatus=$?\necho "$answer" >>{log}\n[ $status = 2 ] && exec >&2\necho "$answer"\nexit $status')
+        checker = Checker(str(self.folder / "checktestdata"), str(self.folder / "p.ctd"), options)
+        with mock.patch.object(ctd_file_runs, "START", 256), mock.patch.object(ctd_file_runs, "LEAST_READ", 0):
+            coverage = ctd_untried.cover(checker, [DataFile(str(self.folder / "1.in"))], JOBS, False)
+        self.assertEqual((coverage.misfits, coverage.files), ([], 1))
+        places = (answer_of(1, line.encode() + b"\n", b"").in_data for line in log.read_text().splitlines())
+        return [offset_at(data.encode(), place) / len(data) if place else 1.0 for place in places]
+
+    def assert_parts(self, most: float, program: str, data: str, *options: str) -> None:
+        parts = self.parts_read(program, data, *options)
+        self.assertLessEqual(sum(parts), most, [round(part, 3) for part in parts])
+
+    def test_numbers_in_any_order(self) -> None:
+        numbers = [(number * 7919 + 13) % 99_991 + 1 for number in range(4000)]
+        self.assert_parts(6, "REP(4000) INT(0,999999) NEWLINE END", "".join(f"{number}\n" for number in numbers))
+
+    def test_numbers_that_rise(self) -> None:
+        lines = "".join(f"{3 * number + 5} {9 * number + 7}\n" for number in range(3000))
+        self.assert_parts(12, "INT(1,9999,n) NEWLINE REPI(i,n) INT(0,99999,a[i]) SPACE INT(0,99999,b[i]) NEWLINE END", f"3000\n{lines}")
+
+    def test_what_begins_late(self) -> None:
+        first = " ".join(str((number * 7919) % 99_991 + 1) for number in range(2000))
+        words = "".join(f"{('add', 'del', 'ask')[number % 3]} {(number * 31) % 997 + 1}\n" for number in range(1000))
+        program = """SET(most=9) INT(1,5000,n) NEWLINE REPI(i,n,SPACE) INT(1,1000000,a[i]) END NEWLINE
+            REP(1000) REGEX("add|del|ask",w) SPACE INT(1,n,x) NEWLINE
+            IF(w=="add" && x>9 || x<5) ASSERT(x!=most) ELSE ASSERT(x<=n && x>0) END END"""
+        self.assert_parts(12, program, f"2000\n{first}\n{words}", "--define=most=0")
 
 
 def numbers_of(line: str) -> list[int]:

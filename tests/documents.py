@@ -2,9 +2,9 @@
 """Runs what the documents show: every session, every file that they write, every program. And it follows their links.
 
 Each document has a folder of its own, in which its files are written and its commands run, one after the other, by bash. `checktestdata` is
-the built checker there, `ctd-lint` the built linter, and `examples` is that of the repository. A command has to write what stands below it, on both streams together.
-A program that stands alone has to be read without a fault. How blocks are marked is told in markdown_blocks.py. A block that needs a program which
-is not there is left out, and a line says so.
+the built checker there, `ctd-lint` the built linter, and `examples` is that of the repository. A command has to write what stands below it, on both
+streams together. A program that stands alone has to be read without a fault. How blocks are marked is told in markdown_blocks.py. A block that needs a
+program which is not there is left out, and a line says so.
 
 The last line counts the commands and programs that did what is written and the links that lead somewhere, as passed, and the others.
 usage: tests/documents.py [PROGRAM]"""
@@ -125,22 +125,12 @@ def results_of(name: str, checker: Path, folder: Path) -> Iterator[tuple[int, st
         yield number, fault_of_link(document, link)
 
 
-def fault_of_speed() -> str | None:
-    """Whether README's two numbers on speed are those that bench/README.md measured."""
-    rows = [line.split() for line in (TOP / "bench/README.md").read_text().splitlines()]
-    ratio = {row[0]: row[4] for row in rows if len(row) > 4 and row[0] in ["integers", "arithmetic"]}
-    wanted = f"{ratio['integers']} times as long as by a C program for just that, and arithmetic alone {ratio['arithmetic']} times"
-    return None if wanted in " ".join((TOP / "README.md").read_text().split()) else f"does not say {wanted!r}"
-
-
 def all_results(checker: Path) -> Iterator[tuple[str, list[str]]]:
     """The results of each document, which has a folder of its own."""
     for name in DOCUMENTS:
         with tempfile.TemporaryDirectory() as folder:
             for number, fault in results_of(name, checker, Path(folder)):
                 yield f"{name}, line {number}", [] if fault is None else [fault]
-    fault = fault_of_speed()
-    yield "README.md, speed", [] if fault is None else [fault]
 
 
 if __name__ == "__main__":

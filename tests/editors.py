@@ -385,6 +385,28 @@ class TextMate(unittest.TestCase):
                 assert match is not None
                 self.assertEqual(tuple(match[pattern[part]] for part in ["file", "line", "column", "severity", "message", "code"]), parts)
 
+    def test_the_matchers_of_lines_without_a_place(self) -> None:
+        matchers = {matcher["name"]: matcher["pattern"] for matcher in self.extension["contributes"]["problemMatchers"]}
+        for name, line, parts in [
+            ("ctd-show-file", "a b.in: error: cannot read: No such file", ("a b.in", "error", "cannot read: No such file")),
+            ("ctd-show-file", "a.in:2:1: error: expected a space (a.ctd:1:1)", None),
+            ("ctd-lint-file", "a.ctd: error: cannot open", ("a.ctd", "error", "cannot open")),
+            ("ctd-lint-file", "a.ctd: warning: the program does not mention: n [unknown-preset]", ("a.ctd", "warning", "the program does not mention: n")),
+            ("ctd-lint-file", "a.ctd:1:1: note: nothing reads this variable: n [unread]", None),
+            ("ctd-lint-file", "a.ctd: every data file gets a verdict", None),
+        ]:
+            with self.subTest(line):
+                match = re.match(matchers[name]["regexp"], line)
+                found = match and tuple(match[matchers[name][part]] for part in ["file", "severity", "message"])
+                self.assertEqual((matchers[name]["kind"], found), ("file", parts))
+
+    def test_no_key_of_the_extension_stands_twice(self) -> None:
+        def once(pairs: list[tuple[str, Any]]) -> dict[str, Any]:
+            self.assertEqual(len(pairs), len(dict(pairs)), pairs)
+            return dict(pairs)
+
+        json.loads((TOP / "editors/vscode/package.json").read_text(), object_pairs_hook=once)
+
     def test_no_example_has_a_fault(self) -> None:
         for program in programs():
             with self.subTest(program.relative_to(TOP)):

@@ -2,7 +2,7 @@
 # Walks the first steps of a user who has no toolchain, in a fresh clone: the first command of README.md, ./ctd-lint, make, make install, and ctd-lint
 # as it is installed. What is not committed is not seen. It needs a C compiler. The last line counts what passed and failed.
 set -u
-cd "$(dirname "${BASH_SOURCE[0]}")/.." || exit
+CDPATH='' cd "$(dirname "${BASH_SOURCE[0]}")/.." || exit
 work=$(mktemp -d)
 trap 'rm -rf "$work"' EXIT
 passed=0

@@ -3,9 +3,10 @@
 # this built: on the rows of tables, with streams that are closed or full, with reads, writes and allocations failing, on the examples, as the
 # documents say, beside its companions, installed and packed, and at last on generated cases, of which a reference in Python knows the answers. The C
 # file of both programs is made again, what is compiled from it runs the tables too, and a fresh clone is used without the toolchain.
-# The rules of the build are tried with a stub for the prover.
+# The rules of the build are tried with a stub for the prover, and what stands around the programs by hostile use.
 # The last line counts what passed and failed in all.
 set -u
+unset CDPATH
 cd "$(dirname "${BASH_SOURCE[0]}")/.." || exit
 # As many checks side by side as there are processors, with one job for each: of several jobs a check takes more processor time
 # (docs/BUILDING.md).
@@ -36,15 +37,18 @@ if [ "$failed" -eq 0 ]; then
     count tests/jury.py
     count tests/package.py
     count tests/validators.py
+    count tests/planted.py
     count tests/statement.py
     count tests/parts.py
     count tests/mistakes.py
     count tests/editors.py
     count tests/language_server.py
     count tests/build.py
+    count tests/hostile.py
     count tests/install.sh
     count tests/examples.py
     count tests/documents.py
+    count tests/sentences.py
     count tests/links.py
     count tests/fuzz.py
     count tests/fuzz.py --verdicts

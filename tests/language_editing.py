@@ -131,6 +131,79 @@ class Names(ServerTest):
 
 
 @unittest.skipUnless(PYTHON, NO_LIBRARY)
+class Broken(ServerTest):
+    """Hovers and definitions while a program is being changed, and is none for the moment: what the last one knew, at the places of now."""
+
+    PROGRAM = "INT(-2,9,n) NEWLINE\nREP(5)\n    INT(0,n,k) SPACE\nEND\nASSERT(k<n)\n"
+
+    def opened(self) -> Client:
+        """A client with the program, which the checker has taken."""
+        client = self.client()
+        client.open(self.PROGRAM)
+        self.assertEqual([one for one in client.diagnostics(1) if one["severity"] == 1], [])
+        return client
+
+    def insert(self, client: Client, version: int, line: int, character: int, text: str, removed: int = 0) -> None:
+        client.change(version, {"range": span(line, character, character + removed), "text": text})
+
+    def definitions(self, client: Client, line: int, character: int) -> list[Json]:
+        return [one["range"] for one in client.ask("definition", line, character)]
+
+    def told(self, client: Client, line: int, character: int) -> str:
+        return str(client.ask("hover", line, character)["contents"]["value"])
+
+    def test_a_quote_that_is_not_closed(self) -> None:
+        client = self.opened()
+        self.insert(client, 2, 1, 0, 'STRING("\n')
+        self.assertEqual(self.definitions(client, 3, 10), [span(0, 9, 10)])
+        self.assertEqual(self.definitions(client, 5, 7), [span(3, 12, 13)])
+        self.assertEqual(self.told(client, 5, 7), "`k`: 0 to 9\n\nset by `` INT(0,n,k) `` in line 4")
+        self.assertEqual(client.ask("hover", 5, 7)["range"], span(5, 7, 8))
+        self.assertEqual(self.told(client, 4, 1), "the end of `` REP(5) `` in line 3")
+        # one edit after the other
+        for version, key in enumerate("abc", 3):
+            self.insert(client, version, 1, 5 + version, key)
+        self.insert(client, 6, 0, 0, "\n\n")
+        self.assertEqual(self.definitions(client, 7, 7), [span(5, 12, 13)])
+        self.assertEqual(self.told(client, 7, 9), "`n`: -2 to 9\n\nset by `` INT(-2,9,n) `` in line 3")
+
+    def test_a_parenthesis_that_is_not_closed(self) -> None:
+        client = self.opened()
+        self.insert(client, 2, 1, 5, "", removed=1)
+        self.assertEqual(self.told(client, 2, 10), "`n`: -2 to 9\n\nset by `` INT(-2,9,n) `` in line 1")
+
+    def test_a_loop_that_is_not_closed(self) -> None:
+        client = self.opened()
+        self.insert(client, 2, 2, 0, "    REP(2)\n")
+        self.assertEqual(self.told(client, 4, 0), "the end of `` REP(5) `` in line 2")
+
+    def test_new_text_is_read_as_it_is(self) -> None:
+        client = self.opened()
+        self.insert(client, 2, 4, 0, "INT(1,3,m) SET(x=m+n \n")
+        self.assertEqual(self.definitions(client, 4, 17), [span(4, 8, 9)])
+        # a name that has become another one is not the old one any more
+        self.insert(client, 3, 4, 20, "1")
+        self.assertEqual(self.definitions(client, 4, 20), [])
+        self.insert(client, 4, 5, 10, "1")
+        self.assertEqual(self.definitions(client, 5, 9), [])
+        self.assertEqual(self.definitions(client, 5, 7), [span(2, 12, 13)])
+
+    def test_what_is_gone_is_not_told(self) -> None:
+        client = self.opened()
+        client.change(2, {"range": span(0, 0, 0, end_line=1), "text": ""}, {"range": span(0, 0, 0), "text": "INT(3,4,n NEWLINE\n"})
+        self.assertEqual(self.definitions(client, 2, 10), [span(0, 8, 9)])
+        self.assertEqual(self.definitions(client, 4, 7), [span(2, 12, 13)])
+
+    def test_a_program_that_is_one_again(self) -> None:
+        client = self.opened()
+        self.insert(client, 2, 0, 7, "8 ")
+        self.assertEqual(self.told(client, 4, 9), "`n`: -2 to 9\n\nset by `` INT(-2,9,n) `` in line 1")
+        self.insert(client, 3, 0, 9, "", removed=1)
+        client.diagnostics(3)
+        self.assertEqual(self.told(client, 4, 9), "`n`: -2 to 8\n\nset by `` INT(-2,8 ,n) `` in line 1")
+
+
+@unittest.skipUnless(PYTHON, NO_LIBRARY)
 class Shape(ServerTest):
     """Outlines and folds."""
 

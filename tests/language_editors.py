@@ -6,8 +6,12 @@ import json
 import os
 import shutil
 import subprocess
+import sys
 import unittest
+import zipfile
+from pathlib import Path
 from typing import Any
+from xml.etree import ElementTree
 
 from language_client import CHECKER, NO_LIBRARY, OUT_OF_TIME, PYTHON, SERVER, Json, ServerTest
 from language_client import tearDownModule  # noqa: F401
@@ -167,12 +171,12 @@ class VisualStudioCode(ServerTest):
 
     EXTENSION = TOP / "editors/vscode"
 
-    def calls(self, *stand_ins: str) -> list[Any]:
+    def calls(self, *stand_ins: str, extension: Path = EXTENSION) -> list[Any]:
         for name in stand_ins:
             self.write(f"modules/{name}", STAND_INS[name])
         script = self.write("use.js", USE)
         environment = {**os.environ, "NODE_PATH": str(self.folder / "modules")}
-        ran = subprocess.run(["node", str(script), str(self.EXTENSION)], env=environment, capture_output=True, text=True, timeout=OUT_OF_TIME, check=False)
+        ran = subprocess.run(["node", str(script), str(extension)], env=environment, capture_output=True, text=True, timeout=OUT_OF_TIME, check=False)
         self.assertEqual((ran.returncode, ran.stderr), (0, ""))
         calls = json.loads(ran.stdout)
         assert isinstance(calls, list)
@@ -191,6 +195,30 @@ class VisualStudioCode(ServerTest):
                 ["stop"],
             ],
         )
+
+    def test_one_file_of_it(self) -> None:
+        """The .vsix, unpacked as VS Code does, is this extension, and names what VS Code looks for."""
+        files = [self.folder / name for name in ("one.vsix", "two.vsix")]
+        for file in files:
+            subprocess.run([sys.executable, str(TOP / "packaging/vsix.py"), str(file)], check=True)
+        self.assertEqual(files[0].read_bytes(), files[1].read_bytes())
+        with zipfile.ZipFile(files[0]) as archive:
+            archive.extractall(self.folder)
+        manifest = ElementTree.parse(self.folder / "extension.vsixmanifest")
+        space = "{http://schemas.microsoft.com/developer/vsx-schema/2011}"
+        identity = manifest.find(f"{space}Metadata/{space}Identity")
+        assert identity is not None
+        self.assertEqual((identity.get("Id"), identity.get("Publisher"), identity.get("Version")), ("checktestdata", "nagdimot", "1.0.0"))
+        assets = [asset.get("Path") for asset in manifest.iter(f"{space}Asset")]
+        self.assertEqual(assets, ["extension/package.json"])
+        types = ElementTree.parse(self.folder / "[Content_Types].xml").getroot()
+        endings = {name.get("Extension") for name in types}
+        self.assertLessEqual({path.suffix for path in (self.folder / "extension").rglob("*.*")}, endings)
+        package = json.loads((self.folder / "extension/package.json").read_text())
+        contributed = package["contributes"]
+        for path in [package["main"], contributed["languages"][0]["configuration"], contributed["grammars"][0]["path"]]:
+            self.assertTrue((self.folder / "extension" / path).is_file(), path)
+        self.assertEqual(self.calls(*STAND_INS, extension=self.folder / "extension")[0][0], "client")
 
     def test_without_the_library(self) -> None:
         calls = self.calls("vscode/index.js")

@@ -21,12 +21,13 @@ from typing import Any
 
 from language_client import CHECKER, LIBRARY, NO_LIBRARY, OUT_OF_TIME, PYTHON, SERVER, Client, Json, JsonRpcException, ServerTest, position, span
 from language_client import tearDownModule  # noqa: F401
-from language_editing import Completions, Names, Shape  # noqa: F401
+from language_editing import Broken, Completions, Names, Shape  # noqa: F401
 from language_editors import Neovim, VisualStudioCode  # noqa: F401
 from results import BUILT_LINTER, TOP, run_unit_tests
 
 from ctd_companion import Place
 from ctd_manual import COMMANDS, FUNCTIONS, TESTS, manual
+from ctd_refusals import PRESETS
 from ctd_text import Text
 
 if PYTHON:
@@ -45,6 +46,21 @@ class Start(unittest.TestCase):
             (Path(folder) / f"{LIBRARY}.py").write_text(f"raise ModuleNotFoundError(name={LIBRARY!r})")
             told = self.run_server("--checker", str(CHECKER), env={**os.environ, "PYTHONPATH": folder})
         self.assertEqual(told, (2, "", f"ctd-language-server: {sys.executable} lacks the package python-lsp-jsonrpc (in Debian: python3-pylsp-jsonrpc)\n"))
+
+    @unittest.skipUnless(PYTHON == "/usr/bin/python3", "the Python of the system has no library")
+    def test_the_python_of_the_system_has_the_library(self) -> None:
+        with tempfile.TemporaryDirectory() as folder:
+            first = Path(folder) / "python3"
+            first.symlink_to(PYTHON)
+            # a module that is there for the Python of the system alone
+            script = f"import sys\nif sys.executable == {str(first)!r}: raise ModuleNotFoundError(name={LIBRARY!r})\n"
+            script += f"sys.path.remove({folder!r})\ndel sys.modules[{LIBRARY!r}]\nimport {LIBRARY}\n"
+            (Path(folder) / f"{LIBRARY}.py").write_text(script)
+            call = [str(first), str(SERVER), "--checker", str(CHECKER)]
+            environment = {**os.environ, "PYTHONPATH": folder}
+            ran = subprocess.run(call, env=environment, stdin=subprocess.DEVNULL, capture_output=True, text=True, timeout=OUT_OF_TIME, check=False)
+        # (a client that went away)
+        self.assertEqual((ran.returncode, ran.stdout, ran.stderr), (1, "", ""))
 
     def test_without_the_checker(self) -> None:
         status, out, err = self.run_server("--checker", "/none")
@@ -145,6 +161,9 @@ class Manual(unittest.TestCase):
         word, meaning = re.findall("`(.*)` \\| (.*) \\|", FUNCTIONS)[0]
         self.assertIn(f"`{word}` is {meaning}.", language)
 
+    def test_the_grammar_of_presets_is_that_of_the_language(self) -> None:
+        self.assertIn(f"```{PRESETS}```", (TOP / "docs/LANGUAGE.md").read_text())
+
     def test_it_has_each_word(self) -> None:
         grammar = (TOP / "docs/LANGUAGE.md").read_text().partition("## Grammar")[2]
         self.assertEqual({*manual(), "ELSE", "END"}, set(re.findall(r'"([A-Z]{2,})"', grammar)))
@@ -231,9 +250,17 @@ class Refusals(ServerTest):
             ('SPACE\n STRING("a b\nNEWLINE', "unfinished string", span(1, 8, 12)),
             ('STRING("ü\\400")', "octal escape above 255", span(0, 9, 10)),
             ("INT(0,170141183460469231731687303715884105728)", "number too large", span(0, 6, 45)),
-            ("FLOAT(0,1)", "not in this profile", span(0, 0, 5)),
-            ("# 😀 ü\nINT(1, 2) # é\nREGEX(\"[\")", "bad pattern", span(2, 6, 9)),
-            ('STRING("😀ü") REGEX("(")', "bad pattern", span(0, 20, 23)),
+            ("FLOAT(0,1)", "not in this profile: numbers are whole here; REGEX reads others", span(0, 0, 5)),
+            ("INT(0.5,1)", "not in this profile: 0.5 has a fraction, and numbers are whole here", span(0, 4, 5)),
+            ("INT(0,1e9)", "not in this profile: 1e9 has an exponent: write 10^9", span(0, 6, 7)),
+            ("INT(0,20E3)", "not in this profile: 20E3 has an exponent: write 20*10^3", span(0, 6, 8)),
+            ("INT(0,007)", "not in this profile: 007 has a leading zero: write 7", span(0, 6, 9)),
+            ("# 😀 ü\nINT(1, 2) # é\nREGEX(\"[\")", "bad pattern: unterminated character set at byte 1 of the pattern", span(2, 6, 9)),
+            ('STRING("😀ü") REGEX("(")', "bad pattern: missing ), unterminated subpattern at byte 1 of the pattern", span(0, 20, 23)),
+            ("ASSERT(n)", "syntax error: expected [ or a comparison or an operator", span(0, 8, 9)),
+            # (a command that is open is told where an END could stand, and at its own place)
+            ("SPACE\n\nREP(3) SPACE\nIF(ISEOF)", "syntax error: expected a command or ELSE or END (IF of line 4 column 1 is open)", span(3, 9, 9)),
+            ("SPACE\nREP(3", "syntax error: expected , or ) or an operator", span(1, 5, 5)),
             ("REP(1) " * 200 + "END " * 200, "nested too deeply", span(0, 7 * 199 + 3, 7 * 199 + 4)),
             ("SPACE " * 200_000, "program too long", span(0, 0, 1_200_000)),
         ]:
@@ -256,8 +283,23 @@ class Refusals(ServerTest):
         self.assertLess(time.monotonic() - started, 5)
 
     def test_presets(self) -> None:
-        self.assertEqual(self.refusal("# preset: n=5\n# ü preset: x\n# preset: n=ü,m=3\nINT(1,n) NEWLINE"), ("bad preset", span(2, 10, 17)))
-        self.assertEqual(self.refusal("\nSPACE", initializationOptions={"presets": "n="}), ("bad preset in the settings: n=", span(0, 0, 0)))
+        for presets, told in [
+            ("n=ü,m=3", "unexpected byte behind n="),
+            ("n=yes", "expected a number or a string or - behind n="),
+            ("a[1=5", "expected , or ] behind a[1"),
+            ("n=1 ,m=2", "there is a blank or a comment behind n=1"),
+            ("n=1,", "expected a name behind n=1,"),
+            ("n=1;", "unexpected byte behind n=1"),
+            ("5", "expected a name at the start"),
+            ("n=05", "05 has a leading zero: write 5"),
+            ("n=5 5", "there is a blank or a comment behind n=5"),
+            (f"{'n' * 40}=", f"expected a number or a string or - behind …{'n' * 29}="),
+        ]:
+            with self.subTest(presets):
+                text = f"# preset: n=5\n# ü preset: x\n# preset: {presets}\nINT(1,n) NEWLINE"
+                self.assertEqual(self.refusal(text), (f"bad preset: {told}", span(2, 10, 10 + len(presets))))
+        told = "bad preset in the settings: n=: expected a number or a string or - behind n="
+        self.assertEqual(self.refusal("\nSPACE", initializationOptions={"presets": "n="}), (told, span(0, 0, 0)))
 
     def test_presets_that_no_command_line_can_have(self) -> None:
         client = self.client(initializationOptions={"presets": "n=5\0"})
@@ -386,6 +428,17 @@ class Data(ServerTest):
         wanted = {"range": span(0, 4, 6), "severity": 1, "source": "checktestdata", "message": "value out of range"}
         self.assertEqual(found["2.in"], [{**wanted, "relatedInformation": [{"location": command, "message": "the command that failed"}]}])
         self.assertEqual([(one["message"], one["range"]) for one in found["3.in"]], [("has to be rejected, and fits", span(0, 0, 0))])
+
+    def test_each_file_of_a_package_is_checked_once(self) -> None:
+        checker = self.checker_beside("true")
+        checker.write_text(f'#!/bin/sh\necho "$*" >>{self.folder}/runs\nexec {CHECKER} "$@"\n')
+        program = self.write("p/input_validators/n.ctd", "INT(1,9,n) NEWLINE IF(n>5) SPACE END")
+        for number in range(1, 6):
+            self.write(f"p/data/secret/{number}.in", f"{number}\n")
+        told, _ = self.check(self.client(checker), program)
+        runs = (self.folder / "runs").read_text().splitlines()
+        of_data = [run for run in runs if "--max-steps=0" not in run]
+        self.assertEqual((told, len(of_data)), ("5 checked, 5 as they have to be, 0 not", 5))
 
     def test_a_folder(self) -> None:
         program = self.write("n.ctd", "# preset: maxn=5\nINT(1,maxn) NEWLINE")

@@ -83,7 +83,7 @@ def programs_of(document: Path) -> Iterator[tuple[str, str]]:
 
 def documented(table: Table) -> Iterator[Case]:
     """All examples, and the programs of the documents: without findings but for those that the table explains."""
-    explained = {row["name"]: row["findings"] for row in table["explained"]}
+    explained = {row["name"]: row.get("findings", []) + row.get("reports", []) for row in table["explained"]}
     texts = {str(file.relative_to(TOP)): file.read_text() for file in sorted((TOP / "examples").rglob("*.ctd"))}
     for document in sorted((TOP / "docs").glob("*.md")):
         texts.update(programs_of(document))

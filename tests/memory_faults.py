@@ -72,7 +72,7 @@ def pattern_before(code: str, at: int) -> str | None:
 def is_pattern(code: str, end: int) -> bool:
     """Whether what ends at `end` is matched and not answered."""
     line = code[end : code.find("\n", end)]
-    return re.match(r"[)\w\s|:.(_]*?(?: if [^=]*)?=>", line) is not None or re.match(r"\)* = ", line) is not None
+    return re.match(r"(?:, _)?[)\w\s|:.(_]*?(?: if [^=]*)?=>", line) is not None or re.match(r"\)* = ", line) is not None
 
 
 def answers_in(place: str, text: str) -> Iterator[Written]:

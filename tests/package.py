@@ -78,6 +78,7 @@ class Checks(PackageTest):
             "data/secret/2.in: line 2 column 1: assertion failed (program line 1 column 22)",
             "data/invalid_inputs/odd.in: has to be rejected, and fits",
             "input_validators/n.ctd accepts, input_validators/odd/odd.ctd rejects",
+            r'  data/sample/1.in:1: "1\n" → "2\n": reduced to "2\n": assertion failed',
             r'  data/secret/2.in: as it is: reduced to "2\n": assertion failed',
             "7 checked, 5 as they have to be, 2 not",
         ]
@@ -108,6 +109,15 @@ class Checks(PackageTest):
         ran = self.run_tool("-v", "p", checker="./checktestdata")
         note = "input_validators/n.ctd:1:15: note: INT: took 1..1 of 1..100: the greatest is never taken (p/data/sample/1.in:1:1)"
         self.assertIn(note, ran.stdout.decode().splitlines())
+
+    def test_without_cover(self) -> None:
+        self.put({"data/secret/2.in": "100\n"})
+        self.write_checker(f'echo "$*" >>runs\nexec {CHECKER} "$@"')
+        ran = self.run_tool("--no-cover", "p", checker="./checktestdata")
+        lines = [line for line in ran.stdout.decode().splitlines() if not line.startswith("ctd-lint: ")]
+        self.assertEqual((ran.returncode, lines), (0, ["2 checked, 2 as they have to be, 0 not"]))
+        # each file is checked once
+        self.assertEqual(len((self.folder / "runs").read_text().splitlines()), 2)
 
     def test_a_step_limit(self) -> None:
         self.put({"data/invalid_inputs/zero.in": "0\n"})

@@ -94,7 +94,7 @@ class Parts(CompanionTest):
         self.assertEqual(self.lines("--merge", "whole.json"), self.lines("p"))
 
     def test_reports_that_do_not_belong_together(self) -> None:
-        one, two, three = self.report("1/2"), self.report("2/2"), self.report("1/3")
+        one, three = self.report("1/2"), self.report("1/3")
         self.write("text.json", "{}")
         self.write("none.json", "x")
         self.write("twice.json", (self.folder / one).read_bytes())
@@ -102,7 +102,7 @@ class Parts(CompanionTest):
             ([one], "part 2 of 2 is missing"),
             ([one, "twice.json"], "twice.json: is part 1 too, as 1-2.json"),
             ([one, three], "1-3.json: is part 1 of 3 of p, and not of the same package and parts"),
-            (["text.json"], "text.json: is no report of ctd-package --json"),
+            (["text.json"], "text.json: is no report of ctd-package --json: package is missing"),
             (["none.json"], "none.json: is no report of ctd-package --json"),
             (["gone.json"], "gone.json: No such file or directory"),
         ]:

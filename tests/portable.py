@@ -1,10 +1,12 @@
 #!/usr/bin/env python3
 """Sees that the packed C file is what these sources give: its sums are theirs, and made again it is the same, byte for byte. And compiles both
-programs of it, and runs the checker on the rows of tests/tables/ and ctd-lint in tests/lint.py. The last line counts what passed and failed."""
+programs of it, and runs the checker on the rows of tests/tables/ and ctd-lint in tests/lint.py; and once more the checker with the compiler's
+sanitizers, on some of the rows. The last line counts what passed and failed."""
 from __future__ import annotations
 
 import difflib
 import lzma
+import shutil
 import subprocess
 import sys
 import tempfile
@@ -18,6 +20,9 @@ from tables import TABLES, all_results
 PORTABLE = TOP / "portable"
 PACKED = PORTABLE / "checktestdata.c.xz"
 SUMS = PORTABLE / "checktestdata.c.sums"
+SANITIZERS = ["-g0", "-fsanitize=address,undefined", "-fno-sanitize-recover=all"]
+# The tables that the checker with sanitizers runs.
+SANITIZED = ["arrays", "depths", "expressions", "integers", "patterns", "refusals", "strings"]
 MEND = "make portable renews the packed file"
 
 
@@ -32,8 +37,8 @@ def faults_of_sums() -> list[str]:
     return [f"{name} is not what the packed file was made of: {MEND}" for name in sorted(names)]
 
 
-def faults_of_bytes(packed: bytes, folder: Path) -> list[str]:
-    """Whether the C file is the same when it is made again. Another version of the toolchain may compile the program otherwise."""
+def results_of_bytes(packed: bytes, folder: Path) -> list[tuple[str, Sequence[str]]]:
+    """Whether the C file is the same when it is made again; no result where another version of the toolchain made it, which may compile otherwise."""
     kit = output_of("rt", "version").strip()
     if kit.encode() not in packed.partition(b"\n")[0]:
         print(f"portable: left out whether the file is the same when it is made again: it was made with another toolchain than {kit}")
@@ -41,14 +46,27 @@ def faults_of_bytes(packed: bytes, folder: Path) -> list[str]:
     made = folder / "again.c"
     ran = subprocess.run([PORTABLE / "whole.sh", made], cwd=TOP, check=False)
     if ran.returncode:
-        return [f"whole.sh ended with status {ran.returncode}"]
-    return [] if made.read_bytes() == packed else [f"it is another file: {MEND}"]
+        faults = [f"whole.sh ended with status {ran.returncode}"]
+    else:
+        faults = [] if made.read_bytes() == packed else [f"it is another file: {MEND}"]
+    return [("the packed file, made again", faults)]
 
 
 def faults_of(*words: str | Path) -> list[str]:
     """Whether a command ends with another status than 0."""
     ran = subprocess.run(words, stdout=sys.stderr, check=False)
     return [f"it ended with status {ran.returncode}"] if ran.returncode else []
+
+
+def results_with_sanitizers(folder: Path) -> Iterator[tuple[str, Sequence[str]]]:
+    """The rows of some tables, by a checker that stops at an access out of bounds and at what C leaves undefined."""
+    checker, tables = folder / "checktestdata-sanitized", folder / "tables"
+    yield "compiling with sanitizers", faults_of(PORTABLE / "compile.sh", "checktestdata", checker, *SANITIZERS)
+    tables.mkdir()
+    for name in SANITIZED:
+        shutil.copy(TABLES / f"{name}.toml", tables)
+    if checker.exists():
+        yield from all_results(checker, tables)
 
 
 def results(folder: Path) -> Iterator[tuple[str, Sequence[str]]]:
@@ -58,15 +76,16 @@ def results(folder: Path) -> Iterator[tuple[str, Sequence[str]]]:
     packed = lzma.decompress(PACKED.read_bytes())
     yield "the sources of the packed file", faults_of_sums()
     with ThreadPoolExecutor() as pool:
-        again = pool.submit(faults_of_bytes, packed, folder)
+        again = pool.submit(results_of_bytes, packed, folder)
         checker, linter = folder / "checktestdata", folder / "ctd-lint"
         for program in checker, linter:
-            yield f"compiling {program.name}", faults_of(PORTABLE / "compile.sh", program.name, program, "-Werror")
+            yield f"compiling {program.name}", faults_of(PORTABLE / "compile.sh", program.name, program, "-Wall", "-Wextra", "-Werror")
         if checker.exists():
             yield from all_results(checker, TABLES)
         if linter.exists():
             yield "tests/lint.py", faults_of(TOP / "tests/lint.py", linter)
-        yield "the packed file, made again", again.result()
+        yield from results_with_sanitizers(folder)
+        yield from again.result()
 
 
 if __name__ == "__main__":

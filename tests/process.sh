@@ -3,7 +3,7 @@
 # do with all of their streams open is in tests/tables/process.toml and tests/lint.toml. The last line counts passed and failed.
 # usage: tests/process.sh [CHECKER [LINTER]]
 set -u
-top=$(cd "$(dirname "${BASH_SOURCE[0]}")/.." && pwd)
+top=$(CDPATH='' cd "$(dirname "${BASH_SOURCE[0]}")/.." && pwd)
 checker=$(readlink -f "${1:-$top/crates/checktestdata/out/checktestdata}")
 linter=$(readlink -f "${2:-$top/crates/ctd_lint/out/ctd_lint}")
 work=$(mktemp -d)
@@ -106,7 +106,7 @@ finding='false.ctd:1:1: warning: the test is false whatever the data are [always
 not_there='none.ctd: error: cannot open\n'
 with_closed "$sets" 'ctd-lint: a finding' 1 "$finding" '' "$linter" false.ctd
 with_closed "$sets" 'ctd-lint: no findings' 0 '' '' "$linter" space.ctd
-with_closed "$sets" 'ctd-lint: a program that is refused' 2 '' 'open.ctd:1:9: error: syntax error\n' "$linter" open.ctd
+with_closed "$sets" 'ctd-lint: a program that is refused' 2 '' 'open.ctd:1:9: error: syntax error: expected , or ) or an operator\n' "$linter" open.ctd
 with_closed "$sets" 'ctd-lint: a folder' 2 '' '.: error: cannot read program\n' "$linter" .
 with_closed "$sets" 'ctd-lint: a file that is not there' 2 '' "$not_there" "$linter" none.ctd
 with_closed "$sets" 'ctd-lint: the version' 0 'ctd-lint 1.0 (whole-number profile)\n' '' "$linter" --version
@@ -117,6 +117,18 @@ expect 'ctd-lint: a full output at the last of two programs' 2 '' "$not_there" f
 expect 'ctd-lint: a full output that is not written to' 0 '' '' full_output space.ctd
 expect 'ctd-lint: a full error output' 2 '' '' full_error none.ctd false.ctd
 expect 'ctd-lint: a full error output that is not written to' 1 "$finding" '' full_error space.ctd false.ctd
+
+# A long command line needs no more open files than a short one: each file is closed once it is read.
+few_files() (
+    ulimit -n 16
+    exec "$linter" "$@"
+)
+many=()
+for ((number = 0; number < 300; number++)); do
+    many+=(space.ctd)
+done
+expect 'ctd-lint: three hundred programs, of which few may be open at once' 0 '' '' few_files "${many[@]}"
+expect 'ctd-lint: the last of three hundred programs' 1 "$finding" '' few_files "${many[@]}" false.ctd
 
 printf '%s passed, %s failed\n' "$passed" "$failed"
 [ "$failed" -eq 0 ]

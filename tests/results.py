@@ -37,9 +37,9 @@ def print_results(test: str, results: Iterable[tuple[str, Sequence[str]]]) -> in
     return print_counts(passed, failed)
 
 
-def run_unit_tests(test: str) -> int:
-    """Runs the unit tests of the program, says which are left out, and prints the counts as the last line. Gives the status."""
-    suite = unittest.defaultTestLoader.loadTestsFromModule(sys.modules["__main__"])
+def run_unit_tests(test: str, suite: unittest.TestSuite | None = None) -> int:
+    """Runs unit tests, by default those of the program, says which are left out, and prints the counts as the last line. Gives the status."""
+    suite = suite or unittest.defaultTestLoader.loadTestsFromModule(sys.modules["__main__"])
     outcome = unittest.TextTestRunner(verbosity=0).run(suite)
     for left_out, reason in outcome.skipped:
         print(f"{test}: left out {left_out.id().removeprefix('__main__.')}: {reason}")

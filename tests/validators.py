@@ -345,14 +345,18 @@ sys.exit(42)
     def test_one_of_them_may_reject_an_invalid_input(self) -> None:
         self.put({"input_validators/n.ctd": "INT(1,99) NEWLINE", "input_validators/second.py": self.SECOND, "data/invalid_inputs/large.in": "11\n"})
         status, lines = self.told()
+        # (that they share the work has to be said)
+        self.assertEqual((status, lines[-1]), (1, "3 checked, 3 as they have to be, 0 not"))
+        status, lines = self.told("--may-disagree")
         self.assertEqual((status, lines[-1]), (0, "3 checked, 3 as they have to be, 0 not"))
 
     def test_what_they_do_not_agree_on(self) -> None:
         self.put({"input_validators/n.ctd": "INT(1,99) SPACE INT(1,99) NEWLINE", "data/sample/1.in": "10 10\n"})
         self.put({"input_validators/run.py": "import sys\na, b = map(int, sys.stdin.read().split(' '))\nsys.exit(42 if a < 11 and b < 11 else 43)\n"})
         status, lines = self.told()
-        self.assertEqual((status, lines[0]), (0, "input_validators/n.ctd accepts, input_validators/run.py rejects"))
+        self.assertEqual((status, lines[0]), (1, "input_validators/n.ctd accepts, input_validators/run.py rejects"))
         self.assertIn(r'  data/sample/1.in:1: "10·10\n" → "11·10\n": reduced to "11·1\n"', lines)
+        self.assertEqual(self.told("--may-disagree")[0], 0)
 
     def test_a_wrapper_finds_the_checker(self) -> None:
         self.put({"input_validators/validate.sh": '#!/bin/sh\nexec ctd-validate "$(dirname "$0")/n.ctd" "$@"\n'})
@@ -370,7 +374,7 @@ sys.exit(42)
         (self.folder / "p/input_validators/third/run").chmod(0o755)
         status, lines = self.told()
         wanted = ["data/sample/1.in: input_validators/second.c: rejected", "data/sample/1.in: input_validators/third: rejected"]
-        self.assertEqual((status, lines[:2], lines[2]), (1, wanted, "ctd-mutate: input_validators/a.java: left out: it has to be compiled"))
+        self.assertEqual((status, lines[:2], lines[2]), (2, wanted, "ctd-mutate: input_validators/a.java: left out: it has to be compiled"))
         self.assertTrue(lines[3].startswith("ctd-mutate: input_validators/b.c: left out: it cannot be compiled: "), lines[3])
         self.assertIn('  data/sample/1.in: as it is: reduced to "10\\n"', lines)
 

@@ -7,7 +7,7 @@ from __future__ import annotations
 
 import sys
 
-from companions import CHECKER, OUT_OF_TIME, CompanionTest
+from companions import CHECKER, CompanionTest
 from results import TOP, run_unit_tests
 
 sys.path.insert(0, str(TOP / "tools"))
@@ -27,7 +27,7 @@ class Values(CompanionTest):
         with (self.folder / "1.in").open("rb") as opened:
             answer, file = checker.check_file(opened)
             self.assertNotEqual(answer.status, FITS)
-            return ctd_values.value_lines(checker, answer, file, 0, float(OUT_OF_TIME))
+            return ctd_values.told_of_fault(checker, answer, file, 0).lines
 
     def assert_values(self, wanted: str, program: str, data: str | bytes, *words: str) -> None:
         with self.subTest(program=program, data=data):
@@ -53,27 +53,55 @@ class Values(CompanionTest):
         least = "-170141183460469231731687303715884105728"
         self.assert_values(f"value out of range: 5; bounds n = {least} .. m = 4", "SET(n=-2^126*2,m=4) INT(n,m)", "5")
         for number in (511, 512, 513, -20, -21, -513, 10**9, 10**18 + 1, 2**126 + 12345, -(10**30)):
-            self.assert_values(f"assertion failed: n = {number} == 5", f"SET(n={number}) ASSERT(n==5)", "")
+            self.assert_values(f"assertion failed: n = {number}, in n==5", f"SET(n={number}) ASSERT(n==5)", "")
 
     def test_an_assertion(self) -> None:
-        self.assert_values("assertion failed: sum = 200001 <= 200000, n = 3 > 3", "SET(sum=200001,n=3) ASSERT(sum<=200000 || n>3)", "")
-        self.assert_values("assertion failed: a[i] = 7 < a[i] = 7, i = 3", "SET(a[3]=7,i=3) ASSERT(a[i]<a[i])", "")
-        self.assert_values("assertion failed: a[b[0],i] = 7 < 7, b[0] = 1, i = 3", "SET(b[0]=1,i=3,a[1,3]=7) ASSERT(a[b[0],i]<7)", "")
+        self.assert_values("assertion failed: sum = 200001, n = 3, in sum<=200000 || n>3", "SET(sum=200001,n=3) ASSERT(sum<=200000 || n>3)", "")
+        self.assert_values("assertion failed: a[i] = 7, i = 3, in a[i]<a[i]", "SET(a[3]=7,i=3) ASSERT(a[i]<a[i])", "")
+        self.assert_values("assertion failed: a[b[0],i] = 7, b[0] = 1, i = 3, in a[b[0],i]<7", "SET(b[0]=1,i=3,a[1,3]=7) ASSERT(a[b[0],i]<7)", "")
 
     def test_the_place_is_the_one_that_fails(self) -> None:
-        self.assert_values("assertion failed: i = 6 < 6", "REPI(i,9) ASSERT(i<6) END", "")
-        self.assert_values("assertion failed: i = 2 < 2", "SET(k=0) REPI(i,9,ASSERT(i<2)) SET(k=k+1) END", "")
+        self.assert_values("assertion failed: i = 6, in i<6", "REPI(i,9) ASSERT(i<6) END", "")
+        self.assert_values("assertion failed: i = 2, in i<2", "SET(k=0) REPI(i,9,ASSERT(i<2)) SET(k=k+1) END", "")
 
     def test_the_side_of_and_that_fails(self) -> None:
         program = "SET(a=3,b=5) ASSERT(a<4 && (b-a>2 && b<9))"
-        self.assert_values("assertion failed: b-a = 2 > 2, b = 5, a = 3", program, "")
-        self.assert_values('assertion failed: STRLEN(s[i]) = 3 <= 2, s[i] = "abc", i = 1', 'SET(i=1) REGEX("[a-z]*",s[i]) ASSERT(i>0 && STRLEN(s[i])<=2)', "abc")
+        self.assert_values("assertion failed: b-a = 2, b = 5, a = 3, in b-a>2", program, "")
+        self.assert_values('assertion failed: STRLEN(s[i]) = 3, s[i] = "abc", i = 1, in STRLEN(s[i])<=2', 'SET(i=1) REGEX("[a-z]*",s[i]) ASSERT(i>0 && STRLEN(s[i])<=2)', "abc")
         self.assert_values('assertion failed: MATCH("x") is false', 'SET(a=3) ASSERT(a<4 && MATCH("x"))', "y")
-        self.assert_values("assertion failed: a = 3", "SET(a=3) ASSERT(a<4 && !(a<4))", "")
+        self.assert_values("assertion failed: a = 3, in !(a<4)", "SET(a=3) ASSERT(a<4 && !(a<4))", "")
+
+    def test_the_test_is_told_as_it_is_written(self) -> None:
+        self.assert_values('assertion failed: s = "a  b", in s != "a  b"', 'REGEX("[a-z ]*",s) ASSERT(\n  s  != # no such name\n "a  b")', "a  b")
+        self.assert_values("assertion failed: a = 1, b = 2, in a > b || b < a", "SET(a=1,b=2) ASSERT(a > b || b\n<\ta)", "")
+        self.assert_values("assertion failed: 1==2 is false", "ASSERT(1==2)", "")
+
+    def test_the_match_of_a_regular_expression_that_an_assertion_rejects(self) -> None:
+        for program, data, mark, told in [
+            ('REGEX("[a-z]+",s) ASSERT(STRLEN(s)<=3) NEWLINE', "abcde\n", "~~~~~^", 'STRLEN(s) = 5, s = "abcde", in STRLEN(s)<=3'),
+            ('INT(0,9) SPACE REGEX("[a-z\t]+",s[1]) ASSERT(s[1]!="a\tb") SPACE', "7 a\tb ", "  ~~~~^", 's[1] = "a\\tb", in s[1]!="a\tb"'),
+            ('REGEX("[a-z]+",s) SET(n=STRLEN(s)) ASSERT(n<3)', "abc", "~~~^", 'n = 3, s = "abc", in n<3'),
+            ('REGEX("[a-z]+",s) IF(1<2) ASSERT(s<"abc") END', "abc", "~~~^", 's = "abc", in s<"abc"'),
+            # the match before is not what the test speaks of, or there is something between
+            ('SET(n=5) REGEX("[a-z]+",s) ASSERT(n<3)', "abc", "   ^", "n = 5, in n<3"),
+            ('REGEX("[a-z]+",s) SPACE ASSERT(s<"abc")', "abc ", "    ^", 's = "abc", in s<"abc"'),
+            ('REGEX("[a-z]+",s) SET(s="abd") ASSERT(s<"abc")', "abc", "   ^", 's = "abd", in s<"abc"'),
+        ]:
+            with self.subTest(program):
+                self.write("p.ctd", program)
+                self.write("1.in", data)
+                lines = self.run_tool("--values=50", "p.ctd", "1.in").stdout.decode().splitlines()
+                self.assertEqual((lines[2], lines[-1]), (f"        | {mark}", f"assertion failed: {told}"))
+
+    def test_a_match_that_is_longer_than_what_is_shown_of_its_line(self) -> None:
+        self.write("p.ctd", 'REGEX("[a-z]+",s) ASSERT(STRLEN(s)<=99) NEWLINE')
+        self.write("1.in", f"{'a' * 100}\n")
+        lines = self.run_tool("--values=50", "p.ctd", "1.in").stdout.decode().splitlines()
+        self.assertEqual(lines[1:3], [f"      1 | …{'a' * 50}", f"        |  {'~' * 50}^"])
 
     def test_a_bound_with_a_name(self) -> None:
-        self.assert_values("assertion failed: sum = 12 <= maxsum = 10", "SET(maxsum=10) INT(0,99,sum) ASSERT(sum<=maxsum)", "12")
-        self.assert_values("assertion failed: a = -3 >= -2", "INT(-9,9,a) ASSERT(a>=-2)", "-3")
+        self.assert_values("assertion failed: sum = 12, maxsum = 10, in sum<=maxsum", "SET(maxsum=10) INT(0,99,sum) ASSERT(sum<=maxsum)", "12")
+        self.assert_values("assertion failed: a = -3, in a>=-2", "INT(-9,9,a) ASSERT(a>=-2)", "-3")
 
     def test_equal_elements_with_two_indices(self) -> None:
         program = "REPI(i,2,NEWLINE) REPI(j,3,SPACE) INT(0,99,d[i{0},j{1}]) END END ASSERT(UNIQUE(d))"
@@ -92,15 +120,15 @@ class Values(CompanionTest):
         self.assertEqual(ran.stdout.decode().splitlines()[-1], "assertion failed: a[11] = a[199998] = 12")
 
     def test_a_variable_without_a_value_is_left_out(self) -> None:
-        self.assert_values("assertion failed: n = 1 > 1", "SET(n=1) ASSERT(n>1 && m==2)", "")
+        self.assert_values("assertion failed: n = 1, in n>1", "SET(n=1) ASSERT(n>1 && m==2)", "")
 
     def test_strings(self) -> None:
-        self.assert_values('assertion failed: s = "ab" != "ab"', 'REGEX("[a-z]*",s) ASSERT(s!="ab")', "ab")
-        self.assert_values('assertion failed: s = "" != ""', 'REGEX("[a-z]*",s) ASSERT(s!="")', "")
-        self.assert_values(r'assertion failed: s = "\"\\\n\t\r\000\377 z" == "x"', 'REGEX("(?s-u).*",s) ASSERT(s=="x")', b'"\\\n\t\r\0\xff z')
-        self.assert_values(f'assertion failed: s = "{40 * "x"}" == "x"', 'REGEX("x*",s) ASSERT(s=="x")', 40 * "x")
-        self.assert_values(f'assertion failed: s = "{40 * "x"}"… == "x"', 'REGEX("x*",s) ASSERT(s=="x")', 41 * "x")
-        self.assert_values('assertion failed: STRLEN(t) = 2 < 2, t = "ab"', 'SET(t="ab",s["x"]="b") ASSERT(t<s["x"] && STRLEN(t)<2)', "")
+        self.assert_values('assertion failed: s = "ab", in s!="ab"', 'REGEX("[a-z]*",s) ASSERT(s!="ab")', "ab")
+        self.assert_values('assertion failed: s = "", in s!=""', 'REGEX("[a-z]*",s) ASSERT(s!="")', "")
+        self.assert_values(r'assertion failed: s = "\"\\\n\t\r\000\377 z", in s=="x"', 'REGEX("(?s-u).*",s) ASSERT(s=="x")', b'"\\\n\t\r\0\xff z')
+        self.assert_values(f'assertion failed: s = "{40 * "x"}", in s=="x"', 'REGEX("x*",s) ASSERT(s=="x")', 40 * "x")
+        self.assert_values(f'assertion failed: s = "{40 * "x"}"…, in s=="x"', 'REGEX("x*",s) ASSERT(s=="x")', 41 * "x")
+        self.assert_values('assertion failed: STRLEN(t) = 2, t = "ab", in STRLEN(t)<2', 'SET(t="ab",s["x"]="b") ASSERT(t<s["x"] && STRLEN(t)<2)', "")
 
     def test_equal_elements(self) -> None:
         for start in (0, 1):
@@ -116,7 +144,7 @@ class Values(CompanionTest):
         self.assert_no_values("SET(a[5]=1,a[7]=1) ASSERT(UNIQUE(a))", "")
 
     def test_what_is_not_in_an_array(self) -> None:
-        self.assert_values("assertion failed: n = 4", "SET(n=4,a[0]=3) ASSERT(INARRAY(n,a))", "")
+        self.assert_values("assertion failed: n = 4, in INARRAY(n,a)", "SET(n=4,a[0]=3) ASSERT(INARRAY(n,a))", "")
 
     def test_other_rejections(self) -> None:
         self.assert_values('string does not match: s = "yes"', 'SET(s="yes") STRING(s)', "no")
@@ -139,18 +167,18 @@ class Values(CompanionTest):
         self.assert_values("value out of range: 6; bounds 1 .. n = 5", "SET(n=9) INT(1,n)", " 6", "-w", "--define=n=5")
 
     def test_names_of_ours_are_not_those_of_the_program(self) -> None:
-        self.assert_values("assertion failed: q0q = 4 == q1qruns = 5", "SET(q0q=4,q1qruns=5) ASSERT(q0q==q1qruns)", "")
+        self.assert_values("assertion failed: q0q = 4, q1qruns = 5, in q0q==q1qruns", "SET(q0q=4,q1qruns=5) ASSERT(q0q==q1qruns)", "")
 
     def test_many_values(self) -> None:
         names = [f"n{number}" for number in range(10)]
         program = "SET(" + ",".join(f"{name}=1" for name in names) + ") ASSERT(" + "+".join(names) + "==0)"
-        self.assert_values("assertion failed: " + "+".join(names) + " = 10 == 0, " + ", ".join(f"{name} = 1" for name in names[:8]) + ", and 2 more", program, "")
+        self.assert_values("assertion failed: " + "+".join(names) + " = 10, " + ", ".join(f"{name} = 1" for name in names[:8]) + ", and 2 more, in " + "+".join(names) + "==0", program, "")
 
-    def test_a_run_that_takes_long(self) -> None:
-        self.write("p.ctd", "SET(n=1) ASSERT(n==2)")
+    def test_more_runs_than_there_may_be(self) -> None:
+        self.write("p.ctd", "SET(n=1) ASSERT(n>0 && n==2)")
         self.write("1.in", "")
-        ran = self.run_tool("--values=1e-9", "p.ctd", "1.in")
-        told = "values left out: asking for them takes longer than 1e-09 s; --values gives more time"
+        ran = self.run_tool("--values=1", "p.ctd", "1.in")
+        told = "values left out: asking for them takes more than 1 run; --values allows more"
         self.assertEqual(ran.stdout.decode().splitlines()[-1], told)
 
     def test_no_values(self) -> None:
@@ -158,13 +186,31 @@ class Values(CompanionTest):
         self.write("1.in", "")
         self.assertNotIn(b"n = 1", self.run_tool("--values=0", "p.ctd", "1.in").stdout)
 
-    def test_the_time_goes_by_what_a_check_takes(self) -> None:
-        self.assertEqual([ctd_values.seconds_for(check, None) for check in (0.001, 0.1, 100)], [1, 15, 30])
-        self.assertEqual(ctd_values.seconds_for(100, 2.5), 2.5)
+    def test_few_runs(self) -> None:
+        """Behind the check no more than five runs ask for the values."""
+        rows = "".join(f"{number} {(number * 7919) % 99_991 + 10}\n" for number in range(3000))
+        pairs = "INT(1,9999,n) NEWLINE REPI(i,n) INT(0,9999,a[i]) SPACE INT(10,{},b[i]) NEWLINE {} END"
+        words = "".join(f"word{number}\n" for number in range(10_000, 12_000))
+        for program, data in [
+            (pairs.format(100_000, "ASSERT(b[i]<100000 || a[i]==0)"), f"3001\n{rows}3000 100000\n"),
+            (pairs.format("100000+n-n", ""), f"3001\n{rows}3000 100001\n"),
+            (pairs.format(100_000, ""), f"3001\n{rows}3000 x\n"),
+            (pairs.format(100_000, "SET(c=a[i]/(b[i]-11))"), f"3001\n{rows}3000 11\n"),
+            ('REPI(i,2001) REGEX("[a-z0-9]+",w[i]) ASSERT(i==0 || w[i-1]<w[i]) NEWLINE END', f"{words}word11998\n"),
+            ('SET(e="end") REPI(i,2001) IF(i<2000) REGEX("[a-z0-9]+") ELSE STRING(e) END NEWLINE END', f"{words}word11998\n"),
+        ]:
+            with self.subTest(program=program):
+                self.write_checker(f'echo >>{self.folder}/runs\nexec {CHECKER} "$@"')
+                self.write("p.ctd", program)
+                self.write("1.in", data)
+                self.write("runs", "")
+                ran = self.run_tool("p.ctd", "1.in", checker=str(self.folder / "checktestdata"))
+                self.assertIn(" = ", ran.stdout.decode().splitlines()[-1])
+                self.assertLessEqual(len((self.folder / "runs").read_text().splitlines()), 6)
 
-    def test_a_time_that_is_none(self) -> None:
+    def test_a_number_of_runs_that_is_none(self) -> None:
         self.write("p.ctd", "EOF")
-        for text in ("x", "-1", "inf", "nan"):
+        for text in ("x", "-1", "1.5"):
             ran = self.run_tool(f"--values={text}", "p.ctd", "-")
             self.assertEqual((ran.stdout, ran.returncode), (b"", 2))
             self.assertIn(b"argument --values: invalid", ran.stderr)

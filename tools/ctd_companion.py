@@ -8,10 +8,14 @@ import io
 import os
 import re
 import shutil
+import signal
+import stat
 import subprocess
 import sys
 import tempfile
+import threading
 import time
+import traceback
 from collections import deque
 from collections.abc import Callable, Iterable, Iterator, Sequence
 from concurrent.futures import Future, ThreadPoolExecutor, wait
@@ -19,16 +23,21 @@ from dataclasses import dataclass, field
 from pathlib import Path
 from typing import IO, TextIO, TypeVar
 
+from ctd_processes import WATCHER, run_command, started
+
 VERSION = "1.0"
 CHECKER = "checktestdata"
 # How the name of a program that can be run ends.
 EXECUTABLE_SUFFIX = ".exe" if os.name == "nt" else ""
 FITS, REJECTED, NO_VERDICT = 0, 1, 2
-INTERRUPTED = 130
+# The variable of the environment that has the traceback of an unforeseen fault shown.
+TRACEBACK = "CTD_TRACEBACK"
 # The name that stands for standard input.
 STANDARD_INPUT = "-"
 # How the names of the files end that are looked for in a folder.
 DATA_SUFFIX = ".in"
+# What is said of a pipe or a device among files.
+NO_FILE = "is no file"
 # Bytes that are handed on at once, where data can be read only once.
 BLOCK = 65536
 # How many tasks for each worker are begun or wait, before the first result is taken.
@@ -115,8 +124,8 @@ class Checker:
         """Checks the data of a file from where it stands. The second result is a file that can be read again: the same, or where it is a pipe
         a copy of what the checker was given. Raises subprocess.TimeoutExpired where a file takes longer than so many seconds."""
         if data.seekable():
-            ran = subprocess.run(self.words, stdin=data, stdout=subprocess.PIPE, stderr=subprocess.PIPE, timeout=seconds, check=False)
-            return answer_of(ran.returncode, ran.stdout, ran.stderr), data
+            ran = run_command(self.words, data, seconds)
+            return answer_of(ran.status, ran.out, ran.err), data
         copy = tempfile.TemporaryFile()
         answer = self.check_blocks(copied_blocks(data, copy))
         copy.flush()
@@ -124,7 +133,7 @@ class Checker:
 
     def check_blocks(self, blocks: Iterable[bytes]) -> Answer:
         """Checks data that come in blocks. No more are asked for than the checker takes."""
-        with subprocess.Popen(self.words, stdin=subprocess.PIPE, stdout=subprocess.PIPE, stderr=subprocess.PIPE) as process:
+        with started(self.words, stdin=subprocess.PIPE, stdout=subprocess.PIPE, stderr=subprocess.PIPE) as process:
             assert process.stdin and process.stdout and process.stderr
             try:
                 with process.stdin:
@@ -158,7 +167,8 @@ def find_program(name: str, *folders: Path) -> str | None:
 def find_checker(given: str | None) -> str | None:
     """The path of the checker: what was given, or beside this program, or in its checkout, or on PATH."""
     if given is not None:
-        return shutil.which(given)
+        found = shutil.which(given)
+        return found and os.path.abspath(found)
     return find_program(CHECKER, Path(sys.argv[0]).parent, Path(__file__).resolve().parent)
 
 
@@ -189,6 +199,15 @@ class DataFile:
         return printable(self.name)
 
 
+def is_special(path: str | Path) -> bool:
+    """Whether something is there that is no file and no folder, as a pipe or a device: to open it may wait without end."""
+    try:
+        mode = os.stat(path).st_mode
+    except OSError:
+        return False
+    return not stat.S_ISREG(mode) and not stat.S_ISDIR(mode)
+
+
 def open_data(name: str) -> IO[bytes]:
     """Opens a file, or standard input, to read bytes."""
     if name == STANDARD_INPUT and sys.stdin is None:
@@ -203,10 +222,11 @@ def files_below(folder: str) -> list[DataFile]:
     def note(error: OSError) -> None:
         unread.append(DataFile(os.fsdecode(error.filename), f"cannot read: {error.strerror}"))
 
-    found = [os.path.join(path, name) for path, _, names in os.walk(folder, onerror=note) for name in names if name.endswith(DATA_SUFFIX)]
+    names = (os.path.join(path, name) for path, _, names in os.walk(folder, onerror=note) for name in names if name.endswith(DATA_SUFFIX))
+    found = [DataFile(name, NO_FILE if is_special(name) else None) for name in names]
     if not found and not unread:
         return [DataFile(folder, f"no files *{DATA_SUFFIX} in this folder")]
-    return sorted([*map(DataFile, found), *unread], key=lambda file: os.fsencode(file.name))
+    return sorted([*found, *unread], key=lambda file: os.fsencode(file.name))
 
 
 def listed_names(path: str) -> list[str]:
@@ -240,8 +260,9 @@ class Progress:
     unit: str
     due: float = field(default_factory=lambda: time.monotonic() + 1)
     shown: bool = False
-    # how many were done before those that are counted
+    # how many were done before those that are counted, and how many runs with questions there were
     before: int = 0
+    runs: int = 0
 
     def behind(self, before: int) -> Progress:
         """The same line, where so many are done already."""
@@ -251,7 +272,7 @@ class Progress:
     def show(self, done: int) -> None:
         """Says how many of all are done, at most ten times a second."""
         if time.monotonic() >= self.due and sys.stderr.isatty():
-            sys.stderr.write(f"\r\x1b[K{self.before + done} of {self.total} {self.unit}")
+            sys.stderr.write(f"\r\x1b[K{self.before + done} of {self.total} {self.unit}{f', {self.runs} runs with questions' if self.runs else ''}")
             sys.stderr.flush()
             self.due, self.shown = time.monotonic() + 0.1, True
 
@@ -331,9 +352,16 @@ def checker_path(words: argparse.ArgumentParser, given: argparse.Namespace) -> s
     return path
 
 
+def refuse_special(program: str) -> None:
+    """Ends the run where a program is a pipe or a device."""
+    if is_special(program):
+        sys.exit(fails(f"{printable(program)}: the program is no file, and cannot be read again"))
+
+
 def checker_of(words: argparse.ArgumentParser, given: argparse.Namespace) -> Checker:
     """The checker with the program and the options that were given."""
     path = checker_path(words, given)
+    refuse_special(given.program)
     # (an option that is given twice is refused by the checker)
     options = ["-w"] if given.whitespace_ok else []
     options += [f"--define={value}" for value in given.define]
@@ -371,11 +399,16 @@ def fails(told: str) -> int:
 
 
 def run(main: Callable[[], int]) -> int:
-    """Runs a companion and gives its status. Standard output that is closed or full, a reader that goes away, an interrupt and a fault
-    of the system end it without a traceback."""
-    if not prepare_output():
+    """Runs a companion and gives its status. Standard output that is closed or full, a reader that goes away, a fault of the system and what nobody
+    has foreseen end it with a line and without a traceback. An interrupt ends it at once, as other signals do; the watcher ends what it started."""
+    if signal.getsignal(signal.SIGINT) is signal.default_int_handler:
+        signal.signal(signal.SIGINT, signal.SIG_DFL)
+    is_open = prepare_output()
+    threading.excepthook = lambda fault: tell_unforeseen(fault.exc_value)
+    if not is_open:
         return fails("standard output is closed")
     try:
+        WATCHER.begin()
         try:
             status = main()
         except SystemExit as end:
@@ -387,5 +420,14 @@ def run(main: Callable[[], int]) -> int:
         return NO_VERDICT
     except OSError as error:
         return fails(fault_text(error))
-    except KeyboardInterrupt:
-        return INTERRUPTED
+    except Exception as fault:
+        return tell_unforeseen(fault)
+    finally:
+        WATCHER.end()
+
+
+def tell_unforeseen(fault: BaseException | None) -> int:
+    """Says that something happened that nobody has foreseen, and where, if that is asked for. Gives the status."""
+    if os.environ.get(TRACEBACK):
+        traceback.print_exception(type(fault), fault, fault.__traceback__ if fault else None)
+    return fails(f"unforeseen fault: {type(fault).__name__}: {printable(str(fault))[:200]} ({TRACEBACK}=1 in the environment shows where)")

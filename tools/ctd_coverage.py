@@ -1,23 +1,26 @@
 """What files of test data try of a program: the things that are watched, and the copies of the program that ask for them."""
 from __future__ import annotations
 
-from collections.abc import Callable, Mapping, Sequence
+from collections.abc import Callable, Iterable, Mapping, Sequence
 from dataclasses import dataclass, field
+from functools import cached_property
+from typing import TYPE_CHECKING
 
-from ctd_companion import Place
 from ctd_decisions import Effect, decisions, numbers_of, tight_comparisons
 from ctd_flow import LOOPS, Apart, Condition, Flow, Happening, Holds, Matched, Part, Took
 from ctd_patterns import alternatives_of, lengths_of
 from ctd_presets import Preset
 from ctd_program import Command, Tree
-from ctd_questions import GREATEST, LEAST, Asker, CannotAsk, Copy, Question, bytes_before, literal, number_asked, numeral
+from ctd_ladders import Ladder
+from ctd_questions import GREATEST, LEAST, Copy, Question, literal, numeral
 from ctd_ranges import Range
 from ctd_takers import parted_integers
 
-# How often one number is found anew in one file, before the copy keeps the greatest itself.
-MOST_RECORDS = 12
-# No number of the language has more digits.
-DIGITS = 40
+if TYPE_CHECKING:
+    from ctd_file_runs import FileRun
+
+# How many outcomes a number gets when a run is to say about how large it is.
+SOME = 16
 
 
 @dataclass(frozen=True)
@@ -56,6 +59,19 @@ class Thing:
         """A test that is true where the number is better than the best."""
         return b"%b%b%b" % (self.expression, b">" if self.sign > 0 else b"<", numeral(best))
 
+    def range_beyond(self, best: int | None) -> tuple[int, int]:
+        """What a number may be that is better than the best: no less than the first and less than the second."""
+        if best is None:
+            return LEAST, GREATEST + 1
+        return (best + 1, GREATEST + 1) if self.sign > 0 else (LEAST, best)
+
+    def steps_to_bound(self, before: Found | None) -> list[int]:
+        """Steps from a number to the bound, each half as far from it as the one before; and one past it."""
+        if self.bound is None or before is None:
+            return []
+        way = abs(self.bound - before.value)
+        return list(dict.fromkeys([self.bound + (self.sign > 0), *(self.bound - self.sign * (way >> power) for power in range(1, SOME - 1))]))
+
     def stays(self, best: int) -> bytes:
         return b"%b%b%b" % (self.expression, b"<=" if self.sign > 0 else b">=", numeral(best))
 
@@ -76,96 +92,7 @@ def merged(first: Findings, second: Findings) -> dict[Thing, Found]:
     return both
 
 
-class FileRun:
-    """The runs of copies on one file, and what is found."""
-
-    def __init__(self, skeleton: Skeleton, asker: Asker, name: str, before: Findings) -> None:
-        self.skeleton, self.asker, self.name = skeleton, asker, name
-        self.found = dict(before)
-        self.records: dict[Thing, int] = {}
-        # a thing that is asked for alone, what is asked of it, and what is put at the start and at the end of the program
-        self.only: Thing | None = None
-        self.asked: list[bytes | Question] = []
-        self.frame: tuple[bytes, list[Question]] = (b"", [])
-
-    def whole(self) -> dict[Thing, Found]:
-        """All that the file gives: runs until a copy fits."""
-        while stopped := self.asker.first_failing(self.skeleton.copy(self)):
-            question, place = stopped
-            thing = self.skeleton.thing_of(question)
-            if not thing.sign:
-                self.found[thing] = Found(self.spot(place))
-                continue
-            self.records[thing] = self.records.get(thing, 0) + 1
-            value, place = self.final(thing) if self.records[thing] > MOST_RECORDS else (self.number(thing, place), place)
-            shift = len(str(value)) if thing.expression in self.skeleton.taken else 0
-            self.found[thing] = Found(self.spot(Place(place.line, place.column - shift)), value)
-        return self.found
-
-    def spot(self, place: Place) -> Spot:
-        return Spot(self.name, place.line, place.column)
-
-    def question_for(self, thing: Thing) -> bytes | None:
-        """What is asked of a thing; None where nothing is open."""
-        found = self.found.get(thing)
-        if thing.sign and found:
-            return None if found.value == thing.bound else b"ASSERT(%b) " % thing.stays(found.value)
-        return None if found else b"ASSERT(%b) " % (b"0!=0" if thing.sign else thing.test)
-
-    def is_open(self, thing: Thing) -> bool:
-        return thing is self.only if self.only else self.question_for(thing) is not None
-
-    def put(self, copy: Copy, thing: Thing) -> None:
-        """Puts into a copy what is asked of a thing."""
-        if thing is self.only:
-            for part in self.asked:
-                if isinstance(part, Question):
-                    copy.ask(part)
-                else:
-                    copy.add(part)
-        elif self.only is None and (text := self.question_for(thing)):
-            copy.ask(self.skeleton.question(thing, text))
-
-    def alone(self, thing: Thing, asked: list[bytes | Question], start: bytes = b"", end: Sequence[Question] = ()) -> tuple[Question, Place]:
-        """Runs a copy that asks for one thing alone."""
-        self.only, self.asked, self.frame = thing, asked, (start, [*end])
-        try:
-            stopped = self.asker.first_failing(self.skeleton.copy(self))
-        finally:
-            self.only, self.asked, self.frame = None, [], (b"", [])
-        if stopped is None:
-            raise CannotAsk("a question that was answered before has another answer")
-        return stopped
-
-    def number(self, thing: Thing, place: Place) -> int:
-        """The number at the place where a question stopped: it stands before it in the data, or else it is asked for."""
-        if thing.is_taken:
-            digits = bytes_before(self.asker.data, place, DIGITS)
-            start = len(digits.rstrip(b"0123456789"))
-            return int(digits[start - (digits[start - 1 : start] == b"-") :])
-        best = self.found.get(thing)
-
-        def ask(questions: Sequence[Question]) -> Question:
-            condition = [b"IF(%b) " % (thing.passes(best.value) if best else b"0==0")]
-            return self.alone(thing, [*condition, *questions, b"END "])[0]
-
-        least, greatest = (LEAST, GREATEST) if best is None else (best.value + 1, GREATEST) if thing.sign > 0 else (LEAST, best.value - 1)
-        return number_asked(thing.expression, ask, least, greatest)
-
-    def final(self, thing: Thing) -> tuple[int, Place]:
-        """The best number of the whole file, and where it comes first: the copy keeps it, and is asked at its end."""
-        best, kept = self.found[thing].value, self.skeleton.fresh + b"kept"
-        keep = b"IF(%b%b%b) SET(%b=%b) END " % (thing.expression, b">" if thing.sign > 0 else b"<", kept, kept, thing.expression)
-
-        def ask(questions: Sequence[Question]) -> Question:
-            return self.alone(thing, [keep], b"SET(%b=%b) " % (kept, numeral(best)), questions)[0]
-
-        least, greatest = (best + 1, GREATEST) if thing.sign > 0 else (LEAST, best - 1)
-        value = number_asked(kept, ask, least, greatest)
-        return value, self.alone(thing, [Question(b"ASSERT(%b!=%b) " % (thing.expression, numeral(value)))])[1]
-
-
-Piece = Callable[[Copy, FileRun], None]
+Piece = Callable[[Copy, "FileRun"], None]
 
 
 @dataclass
@@ -202,6 +129,13 @@ class Watched:
         if thing:
             self.things[name] = thing
 
+    def is_taken(self, bound: str, found: Findings) -> bool:
+        """Whether a bound of an INT or of the lengths of a REGEX is taken, or not known."""
+        if bound in self.things:
+            return self.things[bound] in found
+        only, end = (self.low.only, "least") if bound == "low" else (self.high.only, "greatest")
+        return only is None or ((best := found.get(self.things[end])) is not None and best.value == only)
+
     def add_decisions(self, skeleton: Skeleton, wanted: bool | None, part: Part = Part.ANY) -> list[Thing]:
         """Watches the sides of && and || in the test, which has to have a value, or may have both."""
         for effect in decisions(self.command.arguments[-1], wanted):
@@ -227,18 +161,47 @@ class Skeleton:
 
     # what a run does with it
 
-    def copy(self, run: FileRun) -> Copy:
-        """The program with the questions that are open in a run."""
+    def copy(self, run: FileRun, start: bytes = b"", ladder: Ladder | None = None) -> Copy:
+        """The program with the questions that are open in a run; or with what watches, and at its end what tells of it."""
         copy = Copy()
-        start, end = run.frame
         copy.add(start)
         for piece in self.pieces:
             piece(copy, run)
-        # (a comment may be the last line)
-        copy.add(b"\n" if end else b"")
-        for question in end:
-            copy.ask(question)
+        if ladder:
+            # (a comment may be the last line)
+            copy.add(b"\n")
+            ladder.ask(copy)
         return copy
+
+    @cached_property
+    def owners(self) -> dict[Thing, tuple[Watched, str]]:
+        """The command of each thing, and its name there."""
+        return {thing: (watched, name) for watched in self.watched for name, thing in watched.things.items()}
+
+    @property
+    def things(self) -> Iterable[Thing]:
+        return self.owners
+
+    @cached_property
+    def opposites(self) -> dict[Thing, Thing]:
+        """To the least of numbers the greatest, and the other way round."""
+        pairs = [(one.things["least"], one.things["greatest"]) for one in self.watched if "least" in one.things]
+        return {**dict(pairs), **{greatest: least for least, greatest in pairs}}
+
+    def is_placed(self, thing: Thing, found: Findings) -> bool:
+        """Whether a note tells where a number comes first: that of an INT does, where the bound is not taken."""
+        watched, name = self.owners[thing]
+        return watched.command.word == "INT" and not watched.is_taken("low" if name == "least" else "high", found)
+
+    def is_told(self, thing: Thing, found: Findings) -> bool:
+        """Whether a note may tell something of a thing: of the least and the greatest number only where a bound is not taken."""
+        watched, name = self.owners[thing]
+        if name == "most":
+            return False
+        if name not in ("least", "greatest"):
+            return True
+        has_words = watched.command.word == "REGEX" and any(one in watched.things for one in watched.happenings if one not in ("low", "high"))
+        return not has_words and any(not watched.is_taken(bound, found) for bound in ("low", "high"))
 
     def question(self, thing: Thing, text: bytes) -> Question:
         return ThingQuestion(text, thing)

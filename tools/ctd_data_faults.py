@@ -62,7 +62,7 @@ def written_by(is_wanted: Callable[[], bool], checker: str, companion: str, *wor
 
 def faults_of_package(run: Run, package: Path) -> tuple[list[DataFault], str]:
     """What ctd-package says is not as it has to be."""
-    checks = json.loads(run("ctd-package", "--json", "--", str(package)))["checks"]
+    checks = json.loads(run("ctd-package", "--json", "--no-cover", "--", str(package)))["checks"]
     faults = [fault_of_check(package, check) for check in checks if check["fault"]]
     return faults, f"{len(checks)} checked, {len(checks) - len(faults)} as they have to be, {len(faults)} not"
 

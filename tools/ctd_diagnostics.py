@@ -11,10 +11,11 @@ from enum import IntEnum
 from pathlib import Path
 
 from ctd_companion import FITS, REJECTED, Answer, Checker, Place, find_program, printable, text_of
-from ctd_document import Document
+from ctd_document import Document, Earlier
+from ctd_refusals import expected_words, words_of_presets, words_of_refusal
+from ctd_processes import started
 from ctd_symbols import head_end, open_part, preset_mentions, tokens_in
 from ctd_text import Text
-from ctd_values import expected_line
 
 LINTER = "ctd-lint"
 # A line of ctd-lint behind the name of the file: the place, the rank, the text and the kind. What is said of the whole program has the text alone.
@@ -75,6 +76,7 @@ def diagnostics(tools: Tools, document: Document, presets: str, is_wanted: Calla
         answer = load(tools.checker, program, define)
         if answer.in_data is None:
             return [refusal(tools.checker, program, document, presets, answer)]
+        document.is_program = True
         if tools.linter is None:
             return []
         ran = run_while([tools.linter, *define, "--", program], is_wanted)
@@ -84,7 +86,7 @@ def diagnostics(tools: Tools, document: Document, presets: str, is_wanted: Calla
         return findings(document, text_of(ran.stdout), program)
 
 
-def define_option(document: Document, others: str) -> list[str]:
+def define_option(document: Document | Earlier, others: str) -> list[str]:
     """The option that gives a program its own presets and others. The own come last, since of two for a variable the last counts."""
     return option_of([others, *(text_of(preset.text) for preset in document.presets)])
 
@@ -102,33 +104,34 @@ def load(checker: str, program: str, define: Sequence[str]) -> Answer:
 
 def run_while(words: Sequence[str], is_wanted: Callable[[], bool]) -> subprocess.CompletedProcess[bytes]:
     """Runs a command as long as its result is wanted. Raises NotWanted where it ends before."""
-    with subprocess.Popen(words, stdin=subprocess.DEVNULL, stdout=subprocess.PIPE, stderr=subprocess.PIPE) as process:
+    with started(words, stdin=subprocess.DEVNULL, stdout=subprocess.PIPE, stderr=subprocess.PIPE) as process:
         while True:
             try:
                 out, err = process.communicate(timeout=POLL)
                 return subprocess.CompletedProcess(words, process.returncode, out, err)
             except subprocess.TimeoutExpired:
                 if not is_wanted():
-                    process.kill()
                     raise NotWanted from None
 
 
 def refusal(checker: str, program: str, document: Document, presets: str, answer: Answer) -> Diagnostic:
     """Why a program is refused, at the token to which the answer points; a comment with presets that are wrong is marked."""
-    text, message = document.text, answer.message
+    text, message, told = document.text, answer.message, ""
     start, end = 0, text.line_end(0)
     if message == "bad preset":
         wrong = next((one for one in document.presets if load(checker, program, option_of([text_of(one.text)])).message == message), None)
         if wrong:
-            start, end = wrong.offset, wrong.end
+            start, end, told = wrong.offset, wrong.end, words_of_presets(wrong.text)
         else:
             message = f"bad preset in the settings: {printable(presets)}"
+            told = words_of_presets(presets.encode("utf-8", "surrogatepass"))
     elif answer.in_program:
         start = text.offset_at(answer.in_program)
         end = token_end(text, start)
-        if message == "syntax error":
-            message = f"{message}: {expected_line(open_part(text.data[:start])[0] + text.data[start:end])}"
-    return Diagnostic(start, end, Severity.ERROR, "checktestdata", message)
+        # (of a long program only what is open decides what could stand there)
+        is_syntax = message == "syntax error"
+        told = expected_words(open_part(text.data[:start])[0] + text.data[start:end]) if is_syntax else words_of_refusal(message, text.data, start)
+    return Diagnostic(start, end, Severity.ERROR, "checktestdata", f"{message}: {told}" if told else message)
 
 
 def token_end(text: Text, start: int) -> int:

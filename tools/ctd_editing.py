@@ -7,13 +7,13 @@ from collections.abc import Iterator, Sequence
 
 from ctd_companion import printable
 from ctd_diagnostics import define_option
-from ctd_document import Document
+from ctd_document import Document, Earlier
 from ctd_flow import Flow
 from ctd_manual import COMMANDS, Entry, manual
 from ctd_presets import presets_in
-from ctd_program import NAME, Command, Refused, Token, commands_of
+from ctd_program import NAME, Command, Token
 from ctd_ranges import Range, all_commands
-from ctd_symbols import Block, Use, names_of_presets, next_tokens, part_at
+from ctd_symbols import Block, Use, names_of_presets, next_tokens
 from ctd_text import Json
 
 # Numbers of the protocol: kinds of completions, that one is a snippet, and kinds of symbols, of which an array stands for a loop and a boolean
@@ -39,18 +39,18 @@ class CannotRename(Exception):
 
 def hover(document: Document, position: Json, presets: str) -> Json | None:
     """What the word at a position does, or what is known of the name there."""
-    offset = document.text.offset(position)
-    if mention := document.mention_at(position):
-        return shown("\n\n".join(told_of_name(document, mention.name, presets)), document.range_of(mention))
-    word = part_at(document.symbols.words, offset)
+    source = document.read_at(position)
+    if mention := source.mention_at(position):
+        return shown("\n\n".join(told_of_name(source, mention.name, presets)), source.range_of(mention))
+    word = source.word_at(position)
     if word is None:
         return None
-    block = document.symbols.block_of.get(word.offset)
+    block = source.symbols.block_of.get(word.offset)
     entry = manual().get("IF" if word.text == b"ELSE" else word.text.decode())
     if entry:
-        return shown(entry.markdown, document.text.span(word.offset, word.end))
+        return shown(entry.markdown, source.span(word.offset, word.end))
     if block:
-        return shown(f"the end of {in_line(document, block.offset)}", document.text.span(word.offset, word.end))
+        return shown(f"the end of {in_line(source, block.offset)}", source.span(word.offset, word.end))
     return None
 
 
@@ -58,14 +58,14 @@ def shown(markdown: str, span: Json) -> Json:
     return {"contents": {"kind": "markdown", "value": markdown}, "range": span}
 
 
-def in_line(document: Document, offset: int) -> str:
+def in_line(document: Document | Earlier, offset: int) -> str:
     """The head of a command in the font of programs, and its line."""
     return f"`` {document.head(offset)} `` in line {document.line(offset)}"
 
 
-def told_of_name(document: Document, name: bytes, presets: str) -> Iterator[str]:
+def told_of_name(document: Document | Earlier, name: bytes, presets: str) -> Iterator[str]:
     """What is known of a name: its values, and which commands set it."""
-    mentions = document.symbols.mentions_of(name)
+    mentions = document.mentions_of(name)
     yield f"`{name.decode()}`{known_values(document, name, presets)}"
     given = [f"preset in line {document.line(one.offset)}" for one in mentions if one.use is Use.PRESET]
     given += ["preset in the settings"] if name in names_of_presets(presets) else []
@@ -78,18 +78,16 @@ def told_of_name(document: Document, name: bytes, presets: str) -> Iterator[str]
         yield "nothing gives it a value"
 
 
-def known_values(document: Document, name: bytes, presets: str) -> str:
+def known_values(document: Document | Earlier, name: bytes, presets: str) -> str:
     """What is known of the values of a variable that one command sets, and no other and no preset, to be written behind its name."""
-    mentions = document.symbols.mentions_of(name)
+    mentions = document.mentions_of(name)
     setting = {one.command for one in mentions if one.use is Use.SET}
     if len(setting) != 1 or name in names_of_presets(presets) or any(one.use is Use.PRESET for one in mentions):
         return ""
-    try:
-        commands = commands_of(document.text.data)
-    except Refused:
+    command = next((one for one in all_commands(document.commands) if one.offset in setting), None)
+    if command is None:
         return ""
-    command = next(one for one in all_commands(commands) if one.offset in setting)
-    known = range_set_by(command, Flow(commands, list(presets_in(define_option(document, presets)))))
+    known = range_set_by(command, Flow(document.commands, list(presets_in(define_option(document, presets)))))
     if known.least is None or known.greatest is None or known.least > known.greatest:
         return ""
     return f": {known.least}" if known.only is not None else f": {known.least} to {known.greatest}"
@@ -107,15 +105,16 @@ def range_set_by(command: Command, flow: Flow) -> Range:
 
 def definitions(document: Document, position: Json) -> list[Json]:
     """The places where the name at a position gets a value."""
-    mention = document.mention_at(position)
-    mentions = document.symbols.mentions_of(mention.name) if mention else []
-    return [{"uri": document.uri, "range": document.range_of(one)} for one in mentions if one.use in (Use.SET, Use.PRESET)]
+    source = document.read_at(position)
+    mention = source.mention_at(position)
+    mentions = source.mentions_of(mention.name) if mention else []
+    return [{"uri": document.uri, "range": source.range_of(one)} for one in mentions if one.use in (Use.SET, Use.PRESET)]
 
 
 def references(document: Document, position: Json, with_definitions: bool) -> list[Json]:
     """The places where the name at a position stands."""
     mention = document.mention_at(position)
-    mentions = document.symbols.mentions_of(mention.name) if mention else []
+    mentions = document.mentions_of(mention.name) if mention else []
     return [{"uri": document.uri, "range": document.range_of(one)} for one in mentions if with_definitions or one.use not in (Use.SET, Use.PRESET)]
 
 
@@ -140,7 +139,7 @@ def rename(document: Document, position: Json, new: str, presets: str) -> list[J
         raise CannotRename(f"{old.decode()} has a preset in the settings, which would stay as it is")
     if document.symbols.is_cut_short:
         raise CannotRename("the program has a string without its end, so not all places are known")
-    return [{"range": document.range_of(one), "newText": new} for one in document.symbols.mentions_of(old)]
+    return [{"range": document.range_of(one), "newText": new} for one in document.mentions_of(old)]
 
 
 def completions(document: Document, position: Json, with_snippets: bool) -> list[Json]:

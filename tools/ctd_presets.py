@@ -9,7 +9,7 @@ from typing import Union
 from ctd_program import literal
 
 TEXT = rb'"(?:[^"\\]|\\.)*"'
-PRESET = re.compile(rb"([a-z][a-z0-9]*)(\[(?:[^\]\"]|%b)*\])?=(-?[0-9]+|%b)(?:,|\Z)" % (TEXT, TEXT), re.DOTALL)
+PRESET = re.compile(rb"([a-z][a-z0-9]*)(\[(?:[^\]\"]|%b)*\])?=(-?[0-9]{1,40}|%b)(?:,|\Z)" % (TEXT, TEXT), re.DOTALL)
 
 
 @dataclass(frozen=True)

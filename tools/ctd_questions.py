@@ -2,24 +2,22 @@
 place in the checker's message says which one it was. So each answer rests on a verdict of the checker."""
 from __future__ import annotations
 
+import mmap
 import os
 import re
-import subprocess
-import time
 from bisect import bisect_right
-from collections.abc import Callable, Sequence
-from dataclasses import dataclass, field
+from collections.abc import Sequence
+from concurrent.futures import ThreadPoolExecutor
+from dataclasses import dataclass, field, replace
+from itertools import islice
 from pathlib import Path
 from typing import IO, Optional, Union
 
-from ctd_companion import FITS, Answer, Checker, Place
+from ctd_companion import FITS, Answer, Checker, Place, Progress
 from ctd_program import NAME, cut
 
 LEAST, GREATEST = -(2**127), 2**127 - 1
 MOST_STEPS = 2**64 - 1
-# With how many questions a number is looked for at once, after a first round that finds small numbers and the size of others.
-ROUND = 1000
-COARSE = sorted({*range(-20, 513), *(sign * 2**power for power in range(5, 127) for sign in (-1, 1))})
 BLOCK = 1 << 20
 
 
@@ -35,8 +33,8 @@ class EndedOtherwise(Exception):
         self.message, self.question = answer.message, question
 
 
-class OutOfTime(Exception):
-    """The answers take longer than they may."""
+class TooManyRuns(Exception):
+    """The answers take more runs than they may."""
 
 
 @dataclass(eq=False)
@@ -66,12 +64,24 @@ class Copy:
     def ask(self, question: Question) -> None:
         self.add(question.text, question)
 
+    def finish(self) -> None:
+        """Puts nothing more."""
+
+    def ask_all(self, questions: Sequence[Question]) -> None:
+        for question in questions:
+            self.ask(question)
+
     def source_at(self, place: Place) -> Source:
         """What stands at a place: a question, or the offset in the program from where it is."""
         offset = offset_at(bytes(self.text), place)
         index = bisect_right(self.starts, offset) - 1
         source = self.sources[index]
         return source + offset - self.starts[index] if isinstance(source, int) else source
+
+    def question_at(self, place: Place | None) -> Question | None:
+        """The question that stands at a place, if one does."""
+        source = self.source_at(place) if place else None
+        return source if isinstance(source, Question) else None
 
 
 def offset_at(text: bytes, place: Place) -> int:
@@ -103,6 +113,11 @@ def line_offset(file: IO[bytes], origin: int, number: int) -> int:
             at = block.index(b"\n", at + 1)
         return start + at + 1
     return start
+
+
+def count_breaks(held: mmap.mmap, end: int) -> int:
+    """How many line feeds stand before an offset."""
+    return sum(held[start : min(start + BLOCK, end)].count(b"\n") for start in range(0, end, BLOCK))
 
 
 def bytes_before(file: IO[bytes], place: Place, count: int) -> bytes:
@@ -140,62 +155,82 @@ class Asker:
     checker: Checker
     data: IO[bytes]
     copy_file: Path
-    # where the data begin in the file, and the time by which all answers have to be there
+    # where the data begin in the file, how many runs there may be, and how many there were
     origin: int = 0
-    due: float | None = None
+    most_runs: int | None = None
     runs: int = 0
+    # is told of each run
+    progress: Progress | None = None
 
     def run(self, copy: Copy) -> Answer:
         """The answer to a copy."""
+        if self.runs == self.most_runs:
+            raise TooManyRuns
+        self.runs += 1
+        if self.progress:
+            self.progress.runs += 1
         self.copy_file.write_bytes(copy.text)
         # (a seek of the file object might stay within what it holds, and leave the descriptor where the last run left it)
         os.lseek(self.data.fileno(), self.origin, os.SEEK_SET)
-        self.runs += 1
-        left = None if self.due is None else self.due - time.monotonic()
-        if left is not None and left <= 0:
-            raise OutOfTime
-        try:
-            answer, _ = Checker(self.checker.path, str(self.copy_file), without_step_limit(self.checker.options)).check_file(self.data, left)
-        except subprocess.TimeoutExpired as late:
-            raise OutOfTime from late
+        answer, _ = Checker(self.checker.path, str(self.copy_file), without_step_limit(self.checker.options)).check_file(self.data)
         if answer.is_of_the_call:
             raise CannotAsk(f"questions cannot be put into the program: {answer.message}")
         return answer
+
+    def told(self, copy: Copy) -> int:
+        """The number that a copy tells. Raises EndedOtherwise where its run ends before that."""
+        answer = self.run(copy)
+        found = None
+        if answer.in_program and answer.message == "assertion failed":
+            found = TOLD.match(copy.text, offset_at(bytes(copy.text), answer.in_program))
+        if found is None:
+            raise EndedOtherwise(answer, copy.question_at(answer.in_program))
+        return int(found[1])
+
+    def told_all(self, copies: Sequence[Copy], jobs: int) -> list[int]:
+        """The numbers that some copies tell, with several runs at once."""
+
+        def one(number: int) -> int:
+            with open(self.data.name, "rb", buffering=0) as data:
+                return replace(self, data=data, copy_file=self.copy_file.with_suffix(f".{number}.ctd")).told(copies[number])
+
+        self.runs += len(copies)
+        with ThreadPoolExecutor(jobs) as pool:
+            return list(pool.map(one, range(len(copies))))
+
+    def offset(self, place: Place) -> int:
+        """How many bytes of the data stand before a place."""
+        return line_offset(self.data, self.origin, place.line) + place.column - 1 - self.origin
+
+    def only_place(self, number: int) -> Place | None:
+        """Where a number stands in the data behind a blank, or at their start, and with no digit behind it; None where that is in several places."""
+        held = mmap.mmap(self.data.fileno(), 0, access=mmap.ACCESS_READ)
+        found = (one.start() for one in re.finditer(b"%d(?![0-9])" % number, held))
+        places = list(islice((at for at in found if not at or held[at - 1 : at].isspace()), 2))
+        if len(places) != 1:
+            return None
+        return Place(count_breaks(held, places[0]) + 1, places[0] - held.rfind(b"\n", 0, places[0]))
 
     def first_failing(self, copy: Copy) -> tuple[Question, Place] | None:
         """The question that fails first, and where in the data; None where the data fit."""
         answer = self.run(copy)
         if answer.status == FITS:
             return None
-        source = copy.source_at(answer.in_program) if answer.in_program else None
-        question = source if isinstance(source, Question) else None
+        question = copy.question_at(answer.in_program)
         if question is None or answer.in_data is None or answer.message != "assertion failed":
             raise EndedOtherwise(answer, question)
         return question, answer.in_data
 
 
+# Where a copy tells a number: the assertion that fails names it.
+TOLD = re.compile(rb"ASSERT\([a-z0-9]+!=([0-9]+)\)")
+
+
+def telling(name: bytes, outcomes: int) -> bytes:
+    """Assertions of which the one fails that names the value of a variable, a number below so many."""
+    return b"".join(b"ASSERT(%b!=%d)" % (name, number) for number in range(outcomes))
+
+
 def without_step_limit(options: Sequence[str]) -> list[str]:
     return [option for option in options if not option.startswith("--max-steps=")] + [f"--max-steps={MOST_STEPS}"]
 
-
-# Runs a copy with these questions at one place, and says which of them fails first.
-Ask = Callable[[Sequence[Question]], Question]
-
-
-def number_asked(expression: bytes, ask: Ask, least: int = LEAST, greatest: int = GREATEST) -> int:
-    """The value of an expression at the place where the questions are asked, which lies between two bounds."""
-    steps: Sequence[int] = [step for step in COARSE if least < step <= greatest]
-    if greatest - least < ROUND**2:
-        steps = range(least + 1, greatest + 1, -(-(greatest - least) // ROUND) or 1)
-    while least < greatest:
-        questions = {Question(b"ASSERT(%b>=%b) " % (expression, numeral(step))): step for step in steps}
-        last = Question(b"ASSERT(0!=0) ")
-        failed = ask([*questions, last])
-        if failed is last:
-            least = steps[-1] if steps else least
-        else:
-            index = list(questions).index(failed)
-            least, greatest = steps[index - 1] if index else least, steps[index] - 1
-        width = -(-(greatest - least) // ROUND)
-        steps = range(least + 1, greatest + 1, max(width, 1))
-    return least

@@ -6,15 +6,23 @@ import tempfile
 from collections.abc import Iterable, Iterator, Sequence
 from dataclasses import asdict, dataclass, replace
 from hashlib import sha256
+from itertools import accumulate
 from pathlib import Path
-from typing import Any
+from typing import Optional
 from xml.etree import ElementTree
 
-from ctd_companion import FITS, NO_VERDICT, REJECTED, Checker, printable, text_of
+from ctd_companion import FITS, NO_FILE, NO_VERDICT, REJECTED, Checker, is_special, printable, text_of
 from ctd_coverage import Findings, Found, Skeleton, Spot, merged
 from ctd_problem import Package
-from ctd_shares import Share, size_of
+from ctd_program import Refused
+from ctd_questions import CannotAsk
+from ctd_schema import BadValue, Count, Line, Status, read
+from ctd_shares import MOST_PARTS, Share, size_of
 from ctd_untried import Coverage, notes, rows, skeleton_of, summary
+
+
+# The most bytes of a report, characters of a program in it, and levels of its brackets; the checker takes some two hundred.
+MOST_BYTES, MOST_OF_PROGRAM, DEEPEST = 1 << 28, 1 << 16, 1000
 
 
 class BadReport(Exception):
@@ -25,25 +33,33 @@ class BadReport(Exception):
 class Check:
     """What a program, or all programs together, said to a file; `fault` is empty where it is as it has to be."""
 
-    file: str
-    group: str
-    program: str
+    file: Line
+    group: Line
+    program: Line
     has_to_fit: bool
     options: Sequence[str]
-    status: int
-    answer: str
-    fault: str
+    status: Status
+    answer: Line
+    fault: Line
     seconds: float
 
 
 @dataclass(frozen=True)
 class Remark:
-    """What ctd-lint, ctd-cover or ctd-mutate says of a program."""
+    """What ctd-lint or ctd-cover says of a program."""
 
-    program: str
+    program: Line
     options: Sequence[str]
-    lines: Sequence[str]
-    summary: str = ""
+    lines: Sequence[Line]
+    summary: Line = Line("")
+
+
+@dataclass(frozen=True)
+class Opinion(Remark):
+    """What ctd-mutate says of two validators, or why one was not asked; the status is 0 where that is no fault, 1 where they disagree, and 2 where one
+    was not asked."""
+
+    status: Status = Status(FITS)
 
 
 @dataclass(frozen=True)
@@ -52,8 +68,8 @@ class Tried(Remark):
     find has the number of the watched command, the name of what is watched, the place in the data, and a number."""
 
     source: str = ""
-    files: int = 0
-    found: Sequence[tuple[int, str, str, int, int, int]] = ()
+    files: Count = Count(0)
+    found: Sequence[tuple[Count, Line, Line, Count, Count, int]] = ()
 
 
 @dataclass(frozen=True)
@@ -61,19 +77,19 @@ class Report:
     """What was found of a package, or of a part of it; `data` is a digest of the names, sizes and flags of all its files. `statement` has the notes
     on limits, where there is a statement."""
 
-    package: str
+    package: Line
     part: Share
-    data: str
+    data: Line
     checks: Sequence[Check]
     lint: Sequence[Remark] = ()
-    statement: Sequence[str] | None = None
+    statement: Optional[Sequence[Line]] = None
     cover: Sequence[Tried] = ()
-    against: Sequence[Remark] = ()
+    against: Sequence[Opinion] = ()
 
     @property
     def status(self) -> int:
-        faults = [check for check in self.checks if check.fault]
-        return NO_VERDICT if any(check.status == NO_VERDICT for check in faults) else REJECTED if faults else FITS
+        faults = [NO_VERDICT if check.status == NO_VERDICT else REJECTED for check in self.checks if check.fault]
+        return max([*faults, *(opinion.status for opinion in self.against)], default=FITS)
 
     def json(self) -> str:
         return json.dumps(asdict(self), indent=2)
@@ -81,7 +97,7 @@ class Report:
 
 def data_digest(package: Package) -> str:
     """A digest that is another one where a file is missing or has another size or other flags."""
-    files = [[data.path.as_posix(), size_of(package.folder / data.path), *data.options] for data in package.data]
+    files = [[data.path.as_posix(), size_of(package.folder / data.path), data.flags.words, data.flags.by_name] for data in package.data]
     return sha256(json.dumps(files).encode()).hexdigest()
 
 
@@ -109,6 +125,10 @@ def tried_together(parts: Sequence[Tried]) -> Tried:
     first, fault = parts[0], next((one for one in parts if not one.source), None)
     if fault:
         return fault
+    if len(first.source) > MOST_OF_PROGRAM:
+        raise BadReport(f"the program {first.program} has more than {MOST_OF_PROGRAM} characters")
+    if nesting_of(first.source) > DEEPEST:
+        raise BadReport(f"the program {first.program} nests too deeply")
     with tempfile.TemporaryDirectory() as folder:
         program = Path(folder) / "program.ctd"
         program.write_bytes(program_bytes(first))
@@ -120,6 +140,12 @@ def tried_together(parts: Sequence[Tried]) -> Tried:
     return tried(first.program, program_bytes(first), first.options, coverage)
 
 
+def nesting_of(source: str) -> int:
+    """How deep brackets lie in each other in a program, with those of its texts."""
+    depths = accumulate((one in "([") - (one in ")]") for one in source)
+    return max(depths, default=0)
+
+
 def program_bytes(one: Tried) -> bytes:
     """The program as it stands in a file."""
     return one.source.encode("utf-8", "surrogateescape")
@@ -127,20 +153,20 @@ def program_bytes(one: Tried) -> bytes:
 
 def read_report(path: Path) -> Report:
     """A report from a file. Raises OSError and BadReport."""
+    name = printable(str(path))
+    if is_special(path):
+        raise BadReport(f"{name}: {NO_FILE}")
+    if size_of(path) > MOST_BYTES:
+        raise BadReport(f"{name}: has more than {MOST_BYTES} bytes")
     try:
-        whole: dict[str, Any] = json.loads(path.read_bytes())
-        return Report(
-            whole["package"],
-            Share(**whole["part"]),
-            whole["data"],
-            [Check(**one) for one in whole["checks"]],
-            [Remark(**one) for one in whole["lint"]],
-            whole["statement"],
-            [Tried(**one) for one in whole["cover"]],
-            [Remark(**one) for one in whole["against"]],
-        )
-    except (ValueError, KeyError, TypeError) as fault:
-        raise BadReport(f"{printable(str(path))}: is no report of ctd-package --json") from fault
+        report: Report = read(Report, json.loads(path.read_bytes()))
+    except (ValueError, RecursionError) as fault:
+        raise BadReport(f"{name}: is no report of ctd-package --json") from fault
+    except BadValue as fault:
+        raise BadReport(f"{name}: is no report of ctd-package --json: {fault}") from fault
+    if not report.part.number <= report.part.of <= MOST_PARTS:
+        raise BadReport(f"{name}: is no report of ctd-package --json: there is no part {report.part.number} of {report.part.of}")
+    return report
 
 
 def merge(paths: Sequence[Path]) -> Report:
@@ -162,7 +188,8 @@ def merge(paths: Sequence[Path]) -> Report:
     if missing:
         raise BadReport(f"part {missing[0]} of {first.part.of} is missing")
     checks = sorted((check for report in reports.values() for check in report.checks), key=lambda check: (not check.has_to_fit, check.file.split("/")))
-    against = [one for report in reports.values() for one in report.against]
+    # (a validator that cannot be asked is told of by each part)
+    against = list({(one.program, one.summary, *one.options, *one.lines): one for report in reports.values() for one in report.against}.values())
     return replace(first, part=Share(), checks=checks, cover=cover_together(reports.values()), against=against)
 
 
@@ -176,20 +203,21 @@ def cover_together(reports: Iterable[Report]) -> list[Tried]:
         raise BadReport("the reports are of different programs")
     try:
         return [tried_together(of_program) for of_program in parts.values()]
-    except (KeyError, IndexError) as fault:
-        raise BadReport("the reports were made by another version of ctd-package") from fault
+    except (KeyError, IndexError, Refused, CannotAsk, RecursionError) as fault:
+        raise BadReport("the reports were made by another version of ctd-package, or of no programs") from fault
 
 
 def junit(report: Report) -> ElementTree.ElementTree:
     """The checks in the form of JUnit: a suite for each group and program, a failure for a fault, an error where there is no verdict."""
-    root = ElementTree.Element("testsuites", name=report.package)
+    root = ElementTree.Element("testsuites", name=valid_xml(report.package))
     suites: dict[tuple[str, str], list[Check]] = {}
     for check in report.checks:
         suites.setdefault((check.group, check.program), []).append(check)
     for (group, program), members in suites.items():
-        suite = ElementTree.SubElement(root, "testsuite", name=f"{group} ({program})", **counts(members))
+        suite = ElementTree.SubElement(root, "testsuite", name=valid_xml(f"{group} ({program})"), **counts(members))
         for check in members:
-            case = ElementTree.SubElement(suite, "testcase", classname=group, name=check.file.rpartition("/")[2], time=f"{check.seconds:.3f}")
+            name = valid_xml(check.file.rpartition("/")[2])
+            case = ElementTree.SubElement(suite, "testcase", classname=valid_xml(group), name=name, time=f"{check.seconds:.3f}")
             if check.fault:
                 kind = "error" if check.status == NO_VERDICT else "failure"
                 ElementTree.SubElement(case, kind, message=valid_xml(check.fault)).text = valid_xml(check.answer)

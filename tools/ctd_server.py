@@ -13,13 +13,14 @@ from urllib.request import url2pathname
 
 from pylsp_jsonrpc.endpoint import Endpoint
 from pylsp_jsonrpc.exceptions import JsonRpcException
-from pylsp_jsonrpc.streams import JsonRpcStreamReader, JsonRpcStreamWriter
+from pylsp_jsonrpc.streams import JsonRpcStreamWriter
 
-from ctd_companion import VERSION
+from ctd_companion import VERSION, tell_unforeseen
 from ctd_data_faults import CannotCheck, DataFault, data_faults, range_in
 from ctd_diagnostics import Diagnostic, NotWanted, Severity, Tools, define_option, diagnostics
 from ctd_document import Document
 from ctd_editing import CannotRename, completions, definitions, folds, hover, outline, references, rename, renamed_range
+from ctd_messages import BadJson, messages_of
 from ctd_text import Json, Text
 
 NAME = "ctd-language-server"
@@ -27,6 +28,7 @@ CHECK_DATA = "ctd.checkData"
 # How long after the last key a program is checked, in seconds.
 DELAY = 0.2
 # Codes of errors of the protocol.
+PARSE_ERROR, INTERNAL_ERROR = -32700, -32603
 INVALID_REQUEST, NOT_INITIALIZED, INVALID_PARAMETERS, REQUEST_FAILED = -32600, -32002, -32602, -32803
 # How a client tells changes: by the range that each of them replaces.
 INCREMENTAL = 2
@@ -44,24 +46,6 @@ CAPABILITIES = {
 }
 
 
-class BadStream(Exception):
-    """What comes is no message of the protocol: a line that says so."""
-
-
-class Reader(JsonRpcStreamReader):
-    """A reader of the library that ends at a wrong header, where that one would go on with what it read last."""
-
-    @staticmethod
-    def _content_length(line: bytes) -> int:
-        try:
-            length = JsonRpcStreamReader._content_length(line)
-        except ValueError:
-            length = None
-        if length is None:
-            raise BadStream("standard input has no messages of the Language Server Protocol")
-        return int(length)
-
-
 class Phase(Enum):
     """How far a connection is: a client first asks to initialize, and at last to shut down."""
 
@@ -75,9 +59,10 @@ class Server:
 
     def __init__(self, tools: Tools, reading: IO[bytes], writing: IO[bytes]) -> None:
         self.tools = tools
-        self.reader = Reader(reading)
-        self.endpoint = Endpoint(self, JsonRpcStreamWriter(writing).write)
-        self.phase = Phase.NEW
+        self.reading = reading
+        self.write = JsonRpcStreamWriter(writing).write
+        self.endpoint = Endpoint(self, self.write)
+        self.phase, self.has_exited = Phase.NEW, False
         self.documents: dict[str, Document] = {}
         self.waiting: dict[str, threading.Timer] = {}
         self.presets = ""
@@ -111,7 +96,13 @@ class Server:
     def serve(self) -> int:
         """Answers until the client ends the connection. Gives the status of the protocol: 0 where it had asked to shut down. Raises BadStream."""
         try:
-            self.reader.listen(self.consume)
+            for message in messages_of(self.reading):
+                if isinstance(message, BadJson):
+                    self.write({"jsonrpc": "2.0", "id": None, "error": {"code": PARSE_ERROR, "message": str(message)}})
+                else:
+                    self.endpoint.consume(message)
+                if self.has_exited:
+                    break
             return int(self.phase is not Phase.SHUT_DOWN)
         finally:
             # what is at work is not wanted any more, and ends
@@ -120,16 +111,11 @@ class Server:
                 self.forget(uri)
             self.endpoint.shutdown()
 
-    def consume(self, message: object) -> None:
-        if not isinstance(message, dict):
-            raise BadStream("a message of standard input is no object of JSON")
-        self.endpoint.consume(message)
-
     def __getitem__(self, method: str) -> Callable[[Json], Any]:
         """What handles a method, by the phase of the connection. Raises KeyError for one that there is not."""
         handler = self.methods[method]
         if method == "exit" or (self.phase is Phase.OPEN) == (method != "initialize") and self.phase is not Phase.SHUT_DOWN:
-            return lambda given: handler(given or {})
+            return lambda given: answered(handler, given or {})
         return self.refuse
 
     def refuse(self, _: Json) -> None:
@@ -153,7 +139,7 @@ class Server:
         self.phase = Phase.SHUT_DOWN
 
     def exit(self, _: Json) -> None:
-        self.reader.close()
+        self.has_exited = True
 
     def configure(self, settings: Any) -> None:
         """Takes over the settings of a client: `presets`, as the checker's -D has them."""
@@ -188,10 +174,7 @@ class Server:
     def change(self, given: Json) -> None:
         """Takes over changes of a text, one after the other."""
         document = self.document(given)
-        text = document.text
-        for change in given["contentChanges"]:
-            text = text.changed(change)
-        self.documents[document.uri] = Document(document.uri, given["textDocument"]["version"], text)
+        self.documents[document.uri] = document.changed(given["textDocument"]["version"], given["contentChanges"])
         self.check_soon(document.uri)
 
     def close(self, given: Json) -> None:
@@ -283,6 +266,21 @@ class Server:
                 self.publish(uri, values)
             self.faulty = {uri for uri, values in told.items() if values}
             self.tell(summary, Severity.WARNING if faults else Severity.INFORMATION)
+
+
+def answered(work: Callable[..., Any], *given: Any) -> Any:
+    """The result of a request, also where it is worked out later. Raises JsonRpcException: for parameters that are none, and for what nobody has foreseen,
+    which is said on standard error too."""
+    try:
+        found = work(*given)
+    except JsonRpcException:
+        raise
+    except (AttributeError, KeyError, TypeError) as fault:
+        raise JsonRpcException("the parameters are none that this server can take", INVALID_PARAMETERS) from fault
+    except Exception as fault:
+        tell_unforeseen(fault)
+        raise JsonRpcException(f"unforeseen fault: {type(fault).__name__}", INTERNAL_ERROR) from fault
+    return partial(answered, found) if callable(found) else found
 
 
 def is_set(client: Json, *names: str) -> bool:

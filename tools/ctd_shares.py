@@ -9,8 +9,13 @@ from dataclasses import dataclass
 from pathlib import Path
 from typing import TypeVar
 
+from ctd_schema import Number
+
 # How many bytes to check take about the time that it takes to begin with a file.
 BEGIN = 4096
+
+# The most parts that there are.
+MOST_PARTS = 99_999
 
 File = TypeVar("File")
 
@@ -19,8 +24,8 @@ File = TypeVar("File")
 class Share:
     """The part of this number, from 1, of so many."""
 
-    number: int = 1
-    of: int = 1
+    number: Number = Number(1)
+    of: Number = Number(1)
 
     def take(self, files: Sequence[File], size_of: Callable[[File], int]) -> list[File]:
         """The files of this part, in their order. The largest come first, each into the part that has the fewest bytes, so that parts are
@@ -46,9 +51,9 @@ def size_of(path: str | Path) -> int:
 def share(text: str) -> Share:
     """A part as it is given on the command line, such as 2/4."""
     found = re.fullmatch("([0-9]{1,5})/([0-9]{1,5})", text)
-    if found is None or not 1 <= int(found[1]) <= int(found[2]):
+    if found is None or not 1 <= int(found[1]) <= int(found[2]) <= MOST_PARTS:
         raise argparse.ArgumentTypeError(f"{text} is not K/N, with K from 1 to N")
-    return Share(int(found[1]), int(found[2]))
+    return Share(Number(int(found[1])), Number(int(found[2])))
 
 
 def add_share(words: argparse.ArgumentParser) -> None:

@@ -6,12 +6,11 @@ from collections.abc import Iterable, Iterator, Mapping, Sequence
 from contextlib import suppress
 from dataclasses import dataclass
 from math import log
-from pathlib import Path
 
 from ctd_companion import printable
 from ctd_limits import Mention, Statement, statement_in
 from ctd_presets import presets_in
-from ctd_problem import SETTINGS, Package
+from ctd_problem import Package, program_text
 from ctd_program import NAME, NUMERAL, TEXT, Command, Node, Refused, Token, Tree, commands_of
 from ctd_questions import place_at
 from ctd_ranges import all_commands, name_of, value_of
@@ -20,6 +19,8 @@ STATEMENT_FOLDERS = ("problem_statement", "statement")
 STATEMENT_SUFFIXES = (".tex", ".md")
 # Numbers that stand in programs and statements for much else.
 COMMON = (-1, 0, 1)
+# How many numbers of each side are told of, and with how many each is compared.
+MOST_NOTES, MOST_NEAR = 1000, 2000
 REPETITION = re.compile(rb"\{([0-9]{1,7})(?:,([0-9]{1,7})?)?\}")
 COMPARISONS = ("<", ">", "<=", ">=")
 
@@ -35,7 +36,7 @@ class Numbers:
 def statements_of(package: Package) -> list[Statement]:
     """The statements of a package, one for each language."""
     names = [path for folder in STATEMENT_FOLDERS for path in sorted((package.folder / folder).glob("*")) if path.suffix in STATEMENT_SUFFIXES]
-    return [statement_in(package.folder, path.relative_to(package.folder)) for path in names if path.is_file()]
+    return [statement_in(package.folder, path.relative_to(package.folder)) for path in names if not path.is_dir()]
 
 
 def trees_in(tree: Tree) -> Iterator[Tree]:
@@ -111,12 +112,12 @@ def mention(value: int, place: str) -> Mention:
 
 
 def numbers_of(package: Package) -> Numbers:
-    """The bounds of all programs of a package, and of the flags of its groups. A program that is refused has none."""
+    """The bounds of all programs of a package, and of the flags of its groups. A program that is refused, or nests too deeply, has none."""
     parts = []
     for program in package.programs:
         try:
-            parts.append(numbers_in((package.folder / program).read_bytes(), printable(program.as_posix())))
-        except Refused:
+            parts.append(numbers_in(program_text(package.folder / program), printable(program.as_posix())))
+        except (Refused, RecursionError):
             continue
     presets = list(presets_of(package))
     bounds = [bound for part in parts for bound in part.bounds] + presets
@@ -124,25 +125,14 @@ def numbers_of(package: Package) -> Numbers:
 
 
 def presets_of(package: Package) -> Iterator[Mention]:
-    """The numbers that the flags of groups give to variables, each with the first group that has these flags."""
-    groups: dict[tuple[str, ...], str] = {}
-    for data in package.data:
-        groups.setdefault(data.options, data.group)
-    for options, group in groups.items():
-        with suppress(Refused):
-            for preset in presets_in(options):
-                if isinstance(preset.value, int):
-                    yield mention(preset.value, f"{printable(settings_of(package.folder, group))}: {preset.name}={preset.value}")
-
-
-def settings_of(folder: Path, group: str) -> str:
-    """The file that says the flags of a group: its own, or that of the nearest group around it."""
-    for name in [group, *(parent.as_posix() for parent in Path(group).parents)]:
-        for file in SETTINGS:
-            path = folder / name / file
-            if path.is_file() and "input_validator_" in path.read_text(errors="replace"):
-                return f"{name}/{file}"
-    return group
+    """The numbers that flags give to variables, each with the first settings that have it."""
+    for flags in dict.fromkeys(data.flags for data in package.data):
+        for program in package.programs:
+            with suppress(Refused):
+                for preset in presets_in(flags.options_for(program)):
+                    if isinstance(preset.value, int):
+                        where = printable(flags.path.relative_to(package.folder).as_posix())
+                        yield mention(preset.value, f"{where}: {preset.name}={preset.value}")
 
 
 def differences(package: Package) -> list[str] | None:
@@ -155,10 +145,12 @@ def differences(package: Package) -> list[str] | None:
     said = {number for statement in statements for number in statement.numbers}.union(*(limit.same for limit in limits))
     bounds_alone = [bound for bound in firsts(numbers.bounds) if bound.value not in said]
     limits_alone = [limit for limit in firsts(limits) if not limit.same & numbers.all]
-    return [
-        *(note(bound, "no statement has this bound", limits_alone or limits) for bound in bounds_alone),
-        *(note(limit, "no program has this limit", bounds_alone or numbers.bounds) for limit in limits_alone),
+    notes = [
+        *(note(bound, "no statement has this bound", limits_alone or limits) for bound in bounds_alone[:MOST_NOTES]),
+        *(note(limit, "no program has this limit", bounds_alone or numbers.bounds) for limit in limits_alone[:MOST_NOTES]),
     ]
+    left_out = len(bounds_alone) + len(limits_alone) - len(notes)
+    return [*notes, f"and {left_out} more numbers"] if left_out else notes
 
 
 def firsts(mentions: Iterable[Mention]) -> list[Mention]:
@@ -176,7 +168,7 @@ def note(one: Mention, told: str, others: Sequence[Mention]) -> str:
     def distance(other: Mention) -> float:
         return abs(signed_log(one.value) - signed_log(other.value))
 
-    nearest = min((other for other in others if other.value not in COMMON), key=distance, default=None)
+    nearest = min((other for other in others[:MOST_NEAR] if other.value not in COMMON), key=distance, default=None)
     behind = f"; the nearest is {nearest.value} ({nearest.place})" if nearest else ""
     return f"{one.place}: note: {told}: {one.value}{behind}"
 

@@ -15,6 +15,8 @@ from typing import NamedTuple, Optional, TypeVar
 from ctd_program import BLOCKS, PIECE, Refused, cut, expected, parse, states
 
 COMMENT = re.compile(rb"#[^\n]*")
+# A blank for each byte but a line feed.
+BLANKS = bytes(byte if byte == 0x0A else 0x20 for byte in range(256))
 PRESET = re.compile(rb"#[ \t]*preset:[ \t]*([^\r\n]*[^\r\n \t])")
 # Where a name stands that a command gives a value: the word of the command, and how many commas stand before it.
 SETTING = {("INT", 2), ("REGEX", 1), ("REPI", 0), ("WHILEI", 0)}
@@ -202,9 +204,9 @@ def head_end(text: bytes, offset: int) -> int:
 
 
 def open_part(text: bytes) -> tuple[bytes, bool]:
-    """What of the beginning of a program decides how it goes on: all but the commands that are complete, each with what stands in it. And
-    whether the text ends between tokens, and not in a comment or a string."""
-    kept: list[bytes] = []
+    """What of the beginning of a program decides how it goes on: all but the commands that are complete, each with what stands in it, and
+    the comments. Blanks stand for these, so all else is at its place. And whether the text ends between tokens, and not in a comment or a string."""
+    kept: list[tuple[bytes, int]] = []
     # where each word begins whose parenthesis or block is open, and whether that is a block; a bracket in an expression has no word
     opened: list[tuple[int, bool]] = []
     end = 0
@@ -216,23 +218,26 @@ def open_part(text: bytes) -> tuple[bytes, bool]:
         in_commands = not opened or opened[-1][1]
         if spelling == b"END" and opened and in_commands:
             start, _ = opened.pop()
-            kept.append(spelling)
+            kept.append((spelling, end))
             if not opened or opened[-1][1]:
                 del kept[start:]
         elif spelling in (b"(", b"["):
             opened.append((len(kept) - 1, False))
-            kept.append(spelling)
+            kept.append((spelling, end))
         elif spelling in (b")", b"]") and not in_commands:
             start, _ = opened.pop()
-            kept.append(spelling)
-            if kept[start].decode() in BLOCKS:
+            kept.append((spelling, end))
+            if kept[start][0].decode() in BLOCKS:
                 opened.append((start, True))
-            elif kept[start].isupper() and (not opened or opened[-1][1]):
+            elif kept[start][0].isupper() and (not opened or opened[-1][1]):
                 del kept[start:]
         elif not (in_commands and spelling in (b"SPACE", b"NEWLINE", b"EOF")):
-            kept.append(spelling)
+            kept.append((spelling, end))
+    part = bytearray(text.translate(BLANKS))
+    for spelling, behind in kept:
+        part[behind - len(spelling) : behind] = spelling
     last_line = text[end:].rpartition(b"\n")[2]
-    return b" ".join(kept) + b" ", kind == "end" and b"#" not in last_line
+    return bytes(part), kind == "end" and b"#" not in last_line
 
 
 def next_tokens(text: bytes) -> set[str] | None:

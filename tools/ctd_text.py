@@ -9,7 +9,7 @@ import re
 from bisect import bisect_right
 from dataclasses import dataclass
 from functools import cached_property
-from typing import Any
+from typing import Any, NamedTuple
 
 from ctd_companion import Place
 
@@ -20,6 +20,14 @@ LINE_END = re.compile(rb"\r\n?|\n")
 LINE_FEED = re.compile(rb"\n")
 # A character of more bytes than one. A byte that belongs to none counts as a character.
 WIDE = re.compile(rb"[\xc2-\xdf][\x80-\xbf]|[\xe0-\xef][\x80-\xbf]{2}|[\xf0-\xf4][\x80-\xbf]{3}")
+
+
+class Edit(NamedTuple):
+    """Bytes that stand for those between two offsets of a text."""
+
+    start: int
+    end: int
+    new: bytes
 
 
 @dataclass(frozen=True)
@@ -100,10 +108,16 @@ class Text:
             return len(self.data)
         return min(self.checker_starts[place.line - 1] + place.column - 1, len(self.data))
 
-    def changed(self, change: Json) -> Text:
-        """The text behind a change of the protocol, which gives a range another text, or all of it."""
-        new = Text.of(change["text"])
+    def edit(self, change: Json) -> Edit:
+        """A change of the protocol, which gives a range another text, or all of it."""
+        new = Text.of(change["text"]).data
         if "range" not in change:
-            return new
-        start, end = self.offset(change["range"]["start"]), self.offset(change["range"]["end"])
-        return Text(self.data[:start] + new.data + self.data[end:])
+            return Edit(0, len(self.data), new)
+        return Edit(self.offset(change["range"]["start"]), self.offset(change["range"]["end"]), new)
+
+    def edited(self, edit: Edit) -> Text:
+        return Text(self.data[: edit.start] + edit.new + self.data[edit.end :])
+
+    def changed(self, change: Json) -> Text:
+        """The text behind a change of the protocol."""
+        return self.edited(self.edit(change))

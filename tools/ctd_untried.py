@@ -10,7 +10,8 @@ from dataclasses import dataclass, field
 from pathlib import Path
 
 from ctd_companion import FITS, STANDARD_INPUT, Checker, DataFile, Progress, open_data, results_in_order
-from ctd_coverage import DECIDED, TIGHT, FileRun, Findings, Skeleton, Watched, merged
+from ctd_coverage import DECIDED, TIGHT, Findings, Skeleton, Watched, merged
+from ctd_file_runs import FileRun
 from ctd_flow import LOOPS
 from ctd_presets import presets_in
 from ctd_program import Command, commands_of
@@ -104,8 +105,8 @@ def fitting(checker: Checker, files: Sequence[DataFile], shop: Workshop, jobs: i
         yield found
 
 
-def cover(checker: Checker, given: Sequence[DataFile], jobs: int) -> Coverage:
-    """What files try of a program. Raises Refused where the program is, and CannotAsk where questions cannot be put into it."""
+def cover(checker: Checker, given: Sequence[DataFile], jobs: int, is_whole: bool = True) -> Coverage:
+    """What files try of a program; where it is not to be whole, only what notes tell. Raises Refused where the program is, and CannotAsk where questions cannot be put into it."""
     with tempfile.TemporaryDirectory() as folder:
         shop = Workshop(Path(folder))
         checked = list(fitting(checker, given, shop, jobs))
@@ -117,13 +118,14 @@ def cover(checker: Checker, given: Sequence[DataFile], jobs: int) -> Coverage:
         def one(task: tuple[HeldFile, Findings]) -> tuple[Findings, int]:
             file, before = task
             with file.path.open("rb", buffering=0) as data:
-                asker = Asker(checker, data, shop.copy_file())
-                return FileRun(coverage.skeleton, asker, file.name, before).whole(), asker.runs
+                asker = Asker(checker, data, shop.copy_file(), progress=progress)
+                return FileRun(coverage.skeleton, asker, file.name, before, is_whole, max(1, jobs // together)).whole(), asker.runs
 
-        progress = Progress(len(files), "files asked")
+        progress, together = Progress(len(files), "files asked"), 1
         # small files first: most is answered by them
         for start in range(0, len(files), TOGETHER):
             tasks = [(file, coverage.found) for file in files[start : start + TOGETHER]]
+            together = min(len(tasks), jobs)
             for found, runs in results_in_order(one, tasks, jobs, progress.behind(start)):
                 coverage.found = merged(coverage.found, found)
                 coverage.runs += runs
@@ -192,8 +194,8 @@ def bound_text(skeleton: Skeleton, watched: Watched, index: int, known: Range) -
 
 
 def seen_range(watched: Watched, found: Findings) -> str:
-    least, greatest = found[watched.things["least"]], found[watched.things["greatest"]]
-    return f"{least.value} ({least.spot}) .. {greatest.value} ({greatest.spot})"
+    least, greatest = (found.get(watched.things[end]) for end in ("least", "greatest"))
+    return "" if least is None or greatest is None else f"{least.value} ({least.spot}) .. {greatest.value} ({greatest.spot})"
 
 
 def missed_of(skeleton: Skeleton, watched: Watched, found: Findings, names: Iterable[str]) -> list[str]:
@@ -204,12 +206,8 @@ def missed_of(skeleton: Skeleton, watched: Watched, found: Findings, names: Iter
 
 def missed_bounds(skeleton: Skeleton, watched: Watched, found: Findings) -> list[str]:
     """Which of the ends of an INT or of the lengths of a REGEX were not taken, and can be."""
-    missed = []
-    for bound, end, known in (("low", "least", watched.low), ("high", "greatest", watched.high)):
-        is_taken = watched.things[bound] in found if bound in watched.things else known.only in (None, found[watched.things[end]].value)
-        if not is_taken and skeleton.flow.can_be(watched.happenings[bound]):
-            missed.append(end)
-    return missed
+    ends = {"low": "least", "high": "greatest"}
+    return [end for bound, end in ends.items() if not watched.is_taken(bound, found) and skeleton.flow.can_be(watched.happenings[bound])]
 
 
 def missing_bounds(missed: Sequence[str]) -> str:
@@ -219,9 +217,12 @@ def missing_bounds(missed: Sequence[str]) -> str:
 def of_integer(skeleton: Skeleton, watched: Watched, found: Findings) -> Seen:
     missed = missed_bounds(skeleton, watched, found)
     low, high = bound_text(skeleton, watched, 0, watched.low), bound_text(skeleton, watched, 1, watched.high)
+    seen = f"{seen_range(watched, found)} of {low}..{high}"
+    if not missed:
+        return Seen(seen)
     ends = {name: found[watched.things[name]] for name in ("least", "greatest")}
     before = f"took {ends['least'].value}..{ends['greatest'].value} of {low}..{high}: "
-    return Seen(f"{seen_range(watched, found)} of {low}..{high}", missing_bounds(missed), before, f" ({', '.join(str(ends[name].spot) for name in missed)})")
+    return Seen(seen, missing_bounds(missed), before, f" ({', '.join(str(ends[name].spot) for name in missed)})")
 
 
 def of_regex(skeleton: Skeleton, watched: Watched, found: Findings) -> Seen:
@@ -262,8 +263,8 @@ TURNS = {"none": ("no turn", "never without a turn"), "one": ("one turn", "never
 def of_loop(skeleton: Skeleton, watched: Watched, found: Findings) -> Seen:
     seen = [told for name, (told, _) in TURNS.items() if watched.things[name] in found]
     missed = [*(TURNS[name][1] for name in missed_of(skeleton, watched, found, TURNS)), *undecided(skeleton, watched, found)]
-    most = found[watched.things["most"]]
-    return Seen(f"{', '.join(seen) or 'turns'}; at most {most.value} ({most.spot})", ", ".join(missed))
+    most = found.get(watched.things["most"])
+    return Seen(f"{', '.join(seen) or 'turns'}{f'; at most {most.value} ({most.spot})' if most else ''}", ", ".join(missed))
 
 
 def of_assertion(skeleton: Skeleton, watched: Watched, found: Findings) -> Seen:

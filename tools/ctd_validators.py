@@ -1,7 +1,6 @@
 """Validators of data beside the program that is checked: other programs of checktestdata, and commands. How they are run, and what they say."""
 from __future__ import annotations
 
-import contextlib
 import os
 import shlex
 import shutil
@@ -13,8 +12,9 @@ from dataclasses import dataclass, replace
 from pathlib import Path
 from typing import Protocol
 
-from ctd_companion import FITS, NO_VERDICT, REJECTED, Answer, Checker, printable, text_of
+from ctd_companion import FITS, NO_FILE, NO_VERDICT, REJECTED, Answer, Checker, is_special, printable, text_of
 from ctd_problem import PROGRAM_SUFFIX, BadPackage, options_of
+from ctd_processes import TooMuchWritten, run_command
 
 # The statuses by which commands accept and reject: those of scripts, of the problem package format, and of testlib.
 ACCEPTING = (0, 42)
@@ -22,8 +22,9 @@ REJECTING = (1, 3, 43)
 # The word of a command in whose place the name of the file is put.
 FILE_WORD = "{}"
 LATE = "no answer after"
-# How many characters of what a command says are told.
+# How many characters of what a command says are told, and how many bytes it may write to each of its streams.
 ROOM = 100
+MOST_WRITTEN = 1 << 20
 PYTHON_SUFFIX = ".py"
 # What Python writes where a script ends by an exception; one of an assertion is how a script rejects.
 TRACEBACK = "Traceback (most recent call last):"
@@ -63,33 +64,27 @@ class ProgramValidator:
 
 @dataclass(frozen=True)
 class CommandValidator:
-    """A command that gets the data on standard input, or by the name of their file where a word is `{}`."""
+    """A command that gets the data on standard input, or in place of a word `{}` the name of their file."""
 
     name: str
     words: Sequence[str]
     seconds: float | None = None
 
     def judge(self, path: str) -> Answer:
-        words = [word.replace(FILE_WORD, path) for word in self.words]
-        with open(path if words == list(self.words) else os.devnull, "rb") as data:
-            # (a group of its own, so that what it started ends with it)
-            process = subprocess.Popen(words, stdin=data, stdout=subprocess.PIPE, stderr=subprocess.PIPE, start_new_session=True)
-        with process:
-            try:
-                out, err = process.communicate(timeout=self.seconds)
-            except subprocess.TimeoutExpired:
-                end_group(process)
-                return late(self.seconds)
-        return answer_of(process.returncode, text_of(out), text_of(err))
+        words = [path if word == FILE_WORD else word for word in self.words]
+        return answer_to(words, os.devnull if FILE_WORD in self.words else path, self.seconds)
 
 
-def end_group(process: subprocess.Popen[bytes]) -> None:
-    """Ends a command, and what it started where the system has groups of processes."""
-    with contextlib.suppress(ProcessLookupError):
-        if hasattr(os, "killpg"):
-            os.killpg(process.pid, signal.SIGKILL)
-        else:
-            process.kill()
+def answer_to(words: Sequence[str], path: str, seconds: float | None) -> Answer:
+    """What a command says of a file that it gets on standard input. Raises OSError."""
+    with open(path, "rb") as data:
+        try:
+            ran = run_command(words, data, seconds, MOST_WRITTEN)
+        except subprocess.TimeoutExpired:
+            return late(seconds)
+        except TooMuchWritten:
+            return no_verdict(f"wrote more than {MOST_WRITTEN} bytes")
+    return answer_of(ran.status, text_of(ran.out), text_of(ran.err))
 
 
 def late(seconds: float | None) -> Answer:
@@ -142,6 +137,8 @@ def validator_of(command: str, checker: Checker, seconds: float | None) -> Valid
     if not words:
         raise BadCommand("the command is empty")
     name = printable(command)
+    if is_special(words[0]):
+        raise BadCommand(f"{printable(words[0])}: {NO_FILE}")
     if words[0].endswith(PROGRAM_SUFFIX):
         try:
             options = options_of(Path(words[0]), words[1:])

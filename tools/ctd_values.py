@@ -1,66 +1,101 @@
-"""The values of the variables in a command that failed, asked of the checker by copies of the program; and what could stand where a program
-has a syntax error."""
+"""The values of the variables in a command that failed, asked of the checker by copies of the program."""
 from __future__ import annotations
 
 import re
 import sys
 import tempfile
-import time
-from collections.abc import Iterator, Sequence
-from dataclasses import dataclass
+from collections.abc import Callable, Iterable, Iterator, Sequence
+from dataclasses import dataclass, field
 from pathlib import Path
 from typing import IO, Union
 
-from ctd_companion import Answer, Checker
+from ctd_companion import Answer, Checker, Progress
 from ctd_decisions import operands_of
 from ctd_equal import equal_elements
-from ctd_patterns import pattern_fault
-from ctd_program import BLOCKS, END, NAME, NUMERAL, TEXT, Command, Node, Refused, Token, Tree, commands_of, cut
-from ctd_questions import Asker, CannotAsk, Copy, EndedOtherwise, OutOfTime, Question, fresh_name, line_offset, literal, number_asked, offset_at, place_at
+from ctd_ladders import STRING_ROOM, Ladder, Sought, behind
+from ctd_likely import Likely
+from ctd_program import NAME, NUMERAL, Command, Node, Refused, Token, Tree, commands_of
+from ctd_questions import Asker, CannotAsk, Copy, EndedOtherwise, Question, TooManyRuns, fresh_name, offset_at
 from ctd_ranges import all_commands, name_of
+from ctd_refusals import words_of_refusal
+from ctd_turns import find_turn
 from ctd_state import SIGNS, in_parentheses, is_variable
 
-# How long asking may take: so many times as long as the check, but no less than a second and no more than some.
-TIMES, LEAST_SECONDS, MOST_SECONDS = 150, 1.0, 30.0
-# How many bytes of a string and of a number in the data are shown, and how many values.
-STRING_ROOM = 40
+# How many runs asking may take.
+MOST_RUNS = 60
+# How many values are shown.
 MOST_VALUES = 8
-LEFT_OUT = "values left out: asking for them takes longer than {:.3g} s; --values gives more time"
+LEFT_OUT = "values left out: asking for them takes more than {}; --values allows more"
 
 Value = Union[int, bytes]
 
 
-def seconds_for(check: float, given: float | None) -> float:
-    """How long asking for values may take, where a check takes so long, or the command line says it."""
-    return min(max(TIMES * check, LEAST_SECONDS), MOST_SECONDS) if given is None else given
+@dataclass(frozen=True)
+class Told:
+    """What is shown of a fault: lines, and how many bytes before its place in the data are the match of a REGEX that an assertion rejects."""
+
+    lines: list[str]
+    match: int = 0
 
 
-def value_lines(checker: Checker, answer: Answer, data: IO[bytes], origin: int, seconds: float) -> list[str]:
+NOTHING = Told([])
+
+
+def told_of_fault(
+    checker: Checker, answer: Answer, data: IO[bytes], origin: int, most_runs: int = MOST_RUNS, progress: Progress | None = None
+) -> Told:
     """What is shown of a fault: the values of the variables in its command, or what could stand where a program is refused; nothing where there
-    is none of it. Asking may take so many seconds; with 0 nothing is asked."""
+    is none of it. Asking may take so many runs; with 0 nothing is asked."""
     try:
         if not Path(checker.program).is_file():
             # (a pipe cannot be read again)
-            return []
+            return NOTHING
         text = Path(checker.program).read_bytes()
         if answer.is_of_the_call:
-            return refused_lines(text, answer)
-        if answer.in_program is None or answer.message == "step limit reached" or not seconds:
-            return []
+            told = words_of_refusal(answer.message, text, answer.in_program and offset_at(text, answer.in_program))
+            return Told([told if answer.message == "syntax error" else f"{answer.message}: {told}"] if told else [])
+        if answer.in_program is None or answer.message == "step limit reached" or not most_runs:
+            return NOTHING
         # Programs nest deeply, and each level takes some calls.
         sys.setrecursionlimit(max(sys.getrecursionlimit(), 10_000))
-        offset = offset_at(text, answer.in_program)
-        found = [(one, is_separator) for one, is_separator in with_separators(commands_of(text)) if one.offset == offset]
+        offset, commands = offset_at(text, answer.in_program), commands_of(text)
+        found = [(one, is_separator) for one, is_separator in with_separators(commands) if one.offset == offset]
         if not found:
-            return []
+            return NOTHING
         with tempfile.TemporaryDirectory() as folder:
-            asker = Asker(checker, data, Path(folder) / "copy.ctd", origin, time.monotonic() + seconds)
-            fault = Fault(text, *found[0], answer, asker, fresh_name(text, checker.options))
-            return [f"{answer.message}: {told}" for told in [fault.told()] if told]
-    except OutOfTime:
-        return [LEFT_OUT.format(seconds)]
+            asker = Asker(checker, data, Path(folder) / "copy.ctd", origin, most_runs, progress=progress)
+            fault = Fault(text, *found[0], answer, asker, fresh_name(text, checker.options), match_before(commands, found[0][0]))
+            told = fault.told()
+            return Told([f"{answer.message}: {told}"] if told else [], fault.match_length())
+    except TooManyRuns:
+        return Told([LEFT_OUT.format("1 run" if most_runs == 1 else f"{most_runs} runs")])
     except (OSError, CannotAsk, EndedOtherwise, Refused):
-        return []
+        return NOTHING
+
+
+def commands_before(commands: Sequence[Command], command: Command) -> list[Command] | None:
+    """The commands before one in its block, and in front of an IF around it, the last of them first; None where it is not in them."""
+    for index, one in enumerate(commands):
+        if one is command:
+            return [*commands[:index]][::-1]
+        for block in (one.body, one.otherwise or []):
+            found = commands_before(block, command)
+            if found is not None:
+                return found + ([*commands[:index]][::-1] if one.word == "IF" else [])
+    return None
+
+
+def match_before(commands: Sequence[Command], command: Command) -> Tree | None:
+    """The variable of a REGEX of which an assertion speaks that comes behind it, where nothing between them takes data; else None."""
+    trees = list(command.arguments)
+    for one in commands_before(commands, command) or [] if command.word == "ASSERT" else []:
+        if one.word == "REGEX" and len(one.arguments) == 2:
+            name = name_of(one.arguments[1])
+            return one.arguments[1] if any(name_of(variable) == name for tree in trees for variable in variables_in(tree)) else None
+        if one.word not in ("SET", "UNSET", "ASSERT"):
+            return None
+        trees += one.arguments if one.word == "SET" else []
+    return None
 
 
 def with_separators(commands: Sequence[Command]) -> Iterator[tuple[Command, bool]]:
@@ -69,64 +104,6 @@ def with_separators(commands: Sequence[Command]) -> Iterator[tuple[Command, bool
     separators = {command.separator for command in found}
     for command in found:
         yield command, command in separators
-
-
-# Groups of tokens, and what a group is called where all of it could stand somewhere.
-GROUPS = [
-    ("a command", {"SPACE", "NEWLINE", "EOF", "INT", "STRING", "REGEX", "ASSERT", "SET", "UNSET", "REP", "REPI", "WHILE", "WHILEI", "IF"}),
-    ("a test", {"!", "MATCH", "ISEOF", "UNIQUE", "INARRAY", NAME, NUMERAL, TEXT, "(", "-", "STRLEN"}),
-    ("an expression", {NAME, NUMERAL, TEXT, "(", "-", "STRLEN"}),
-    ("a comparison", {"<", ">", "<=", ">=", "==", "!="}),
-    ("an operator", {"+", "-", "*", "/", "%", "^"}),
-]
-SINGLE = {NAME: "a name", NUMERAL: "a number", TEXT: "a string", END: "the end of the program"}
-# The order of what could stand somewhere: marks, groups, words.
-ORDER = [",", ")", "]", "=", "[", "(", "&&", "||", "!", *(title for title, _ in GROUPS), *SINGLE.values()]
-
-
-def refused_lines(text: bytes, answer: Answer) -> list[str]:
-    """What is told of a program that is refused: what could stand at a syntax error, or what is wrong with a pattern."""
-    if answer.message == "syntax error":
-        return [expected_line(text)]
-    if answer.message == "bad pattern" and answer.in_program:
-        offset = offset_at(text, answer.in_program)
-        token = next((token for token in cut(text) if token.offset == offset and isinstance(token.value, bytes)), None)
-        if token and (told := pattern_fault(token.value)):  # type: ignore[arg-type]
-            return [f"bad pattern: {told}"]
-    return []
-
-
-def open_command(text: bytes, offset: int) -> str:
-    """The last command before an offset that has no END there, with its place; an empty text where there is none."""
-    opened: list[Token] = []
-    for token in cut(text):
-        if token.offset >= offset:
-            break
-        if token.symbol in BLOCKS:
-            opened.append(token)
-        elif token.symbol == "END":
-            opened.pop()
-    if not opened:
-        return ""
-    place = place_at(text, opened[-1].offset)
-    return f"{opened[-1].symbol} of line {place.line} column {place.column} is open"
-
-
-def expected_line(text: bytes) -> str:
-    """What could stand where a program has a syntax error, and which command is open where END could."""
-    try:
-        commands_of(text)
-    except Refused as refused:
-        rest, groups = set(refused.expected), []
-        for title, tokens in GROUPS:
-            if tokens <= rest:
-                rest -= tokens
-                groups.append(title)
-        choices = [*groups, *(SINGLE.get(one, one) for one in sorted(rest))]
-        choices.sort(key=lambda one: ORDER.index(one) if one in ORDER else len(ORDER))
-        told = open_command(text, refused.offset or 0) if "END" in rest else ""
-        return f"expected {' or '.join(choices)}{f' ({told})' if told else ''}"
-    return ""
 
 
 def variables_in(tree: Tree) -> Iterator[Tree]:
@@ -154,6 +131,11 @@ def quoted(value: Value, length: int) -> str:
     return f'"{text}"' + ("…" if length > len(value) else "")
 
 
+def shown_value(sought: Sought) -> str:
+    """A value that was found, as it is shown."""
+    return str(sought.low) if isinstance(sought.low, int) else quoted(sought.low[:STRING_ROOM], len(sought.low))
+
+
 @dataclass
 class Fault:
     """A command that failed, and how its values are asked for: in a copy, behind a test that is true just where it fails."""
@@ -164,6 +146,10 @@ class Fault:
     answer: Answer
     asker: Asker
     fresh: bytes
+    # the variable that has what a REGEX took before the command, if it speaks of that; and the values that are known, None where there is none
+    match: Tree | None = None
+    known: dict[bytes, Sought | None] = field(default_factory=dict)
+    _likely: Likely | None = None
 
     def __post_init__(self) -> None:
         self.condition = b""
@@ -203,98 +189,117 @@ class Fault:
 
     # the copies
 
-    def copy(self, questions: Sequence[Question], setting: bytes = b"") -> Copy:
-        """The program with these questions where the command fails, behind commands that set variables of ours."""
+    def copy(self, put: Callable[[Copy], None], setting: bytes = b"") -> Copy:
+        """The program with something put where the command fails, behind commands that set variables of ours."""
         command, copy = self.command, Copy()
         copy.add(self.start)
         copy.add(self.text[: command.offset], 0)
         copy.add(b"IF(0==0) " if self.is_separator else b"")
         copy.add(self.before)
         copy.add(b"IF(%b)\n%b" % (self.condition, setting))
-        for question in questions:
-            copy.ask(question)
+        put(copy)
         copy.add(b"END\n")
         copy.add(self.new, command.offset)
         copy.add(b" END " if self.is_separator else b"")
         copy.add(self.text[command.end :], command.end)
         return copy
 
-    def ask(self, questions: Sequence[Question], setting: bytes = b"") -> Question:
+    def ask(self, questions: Sequence[Question]) -> Question:
         """The question that fails first. Raises EndedOtherwise where one ends with another fault, or none fails."""
-        stopped = self.asker.first_failing(self.copy(questions, setting))
+        stopped = self.asker.first_failing(self.copy(lambda copy: copy.ask_all(questions)))
         if stopped is None:
             raise CannotAsk("the data fit a copy of a program that they do not fit")
         return stopped[0]
 
     def count(self) -> None:
-        """Finds how often the command has run when it fails: that is how the copies know the place."""
-        name = self.fresh + b"runs"
-        self.start, self.before = b"SET(%b=0) " % name, b"SET(%b=%b+1) " % (name, name)
-        least, most = 1, 2
-        while self.runs_at_least(name, most):
-            least, most = most, most * 2
-        while most - least > 1:
-            middle = (least + most) // 2
-            least, most = (middle, most) if self.runs_at_least(name, middle) else (least, middle)
-        self.condition = b"%b==%d" % (name, least)
-
-    def runs_at_least(self, name: bytes, times: int) -> bool:
-        """Whether the command runs so many times."""
-        self.condition = b"%b==%d" % (name, times)
-        return self.is_failing([Question(b"ASSERT(0!=0) ")])
-
-    def is_failing(self, questions: Sequence[Question], setting: bytes = b"") -> bool:
-        """Whether one of these questions fails, and not something else before."""
-        try:
-            self.ask(questions, setting)
-        except EndedOtherwise as other:
-            if other.question is not None:
-                raise
-            return False
-        return True
+        """Finds at which turn the command fails: that is how the copies know the place."""
+        self.start, self.before, self.condition = find_turn(self)
 
     # the values
 
     def values(self, expressions: Sequence[bytes]) -> list[str]:
         """Expressions with their values, those that have one."""
         told = []
+        self.find(expressions[:MOST_VALUES])
         for expression in expressions[:MOST_VALUES]:
             value = self.value(expression)
             if value is not None:
                 told.append(f"{shown(expression)} = {value}")
         return told + ([f"and {len(expressions) - MOST_VALUES} more"] if len(expressions) > MOST_VALUES else [])
 
-    def number(self, expression: bytes, least: int, greatest: int, setting: bytes) -> int:
-        """The value of an expression that is a number between two others, behind commands that set variables of ours."""
-        return number_asked(expression, lambda questions: self.ask(questions, setting), least, greatest)
-
     def value(self, expression: bytes) -> str | None:
         """The value of an expression as it is shown; None where it has none."""
-        try:
-            return str(number_asked(expression, self.ask))
-        except EndedOtherwise as other:
-            if other.question is None or other.message != "wrong type":
-                return None
-        length = number_asked(b"STRLEN(%b)" % expression, self.ask, 0)
-        value = b""
-        while len(value) < min(length, STRING_ROOM):
-            questions = [Question(b"ASSERT(%b>=%b) " % (expression, literal(value + bytes([byte])))) for byte in range(1, 256)]
-            last = Question(b"ASSERT(0!=0) ")
-            value += bytes([[*questions, last].index(self.ask([*questions, last]))])
-        return quoted(value, length)
+        self.find([expression])
+        found = self.known[expression]
+        return shown_value(found) if found else None
+
+    def find(self, expressions: Iterable[bytes]) -> None:
+        """Finds the values of expressions, of all together."""
+        likely = self.likely
+        open_ones = [likely.sought(one) for one in dict.fromkeys(expressions) if one not in self.known]
+        while open_ones:
+            ladder = Ladder(open_ones, self.fresh)
+            try:
+                ladder.take(self.asker.told(self.copy(ladder.ask)))
+            except EndedOtherwise as other:
+                failed = next((one for one in open_ones if one.question is other.question), None)
+                if failed is None:
+                    raise
+                open_ones.remove(failed)
+                instead = likely.of_other_type(failed) if other.message == "wrong type" else None
+                open_ones += [instead] if instead else []
+                self.known[failed.expression] = None
+            self.known.update((one.expression, one) for one in open_ones if one.is_found)
+            open_ones = [one for one in open_ones if not one.is_found]
+
+    @property
+    def likely(self) -> Likely:
+        """What values may well be."""
+        if self._likely is None:
+            assert self.answer.in_data
+            self._likely = Likely.around(self.asker.data, self.asker.origin, self.answer.in_data, self.text, self.asker.checker.options)
+        return self._likely
+
+    def numbers(self, setting: bytes, sought: Sequence[Sought]) -> list[int]:
+        """Numbers that commands of ours find."""
+        while waiting := [one for one in sought if not one.is_found]:
+            ladder = Ladder(waiting, self.fresh)
+            ladder.take(self.asker.told(self.copy(ladder.ask, setting)))
+        return [int(one.low) for one in sought]
+
+    @property
+    def matched(self) -> list[bytes]:
+        """The variable that has what a REGEX took before the command, if the command speaks of that."""
+        return [self.source(self.match)] if self.match else []
+
+    def match_length(self) -> int:
+        """How many bytes before the place of the fault are the match of which the assertion speaks, where that is known."""
+        found = self.known.get(self.matched[0]) if self.matched else None
+        place, data = self.answer.in_data, self.asker.data
+        if found is None or not isinstance(found.low, bytes) or place is None:
+            return 0
+        before, value, length = self.asker.offset(place), found.low, len(found.low)
+        if found.high != behind(value) and length <= before:
+            # no more than the beginning of the string is known
+            value = found.prefix
+            length = self.numbers(b"", [Sought(b"STRLEN(%b)" % found.expression, len(value), before + 2)])[0]
+        data.seek(self.asker.origin + max(before - length, 0))
+        return length if length <= before and data.read(len(value)) == value else 0
 
     # a test that is false
 
     def told_of_test(self, test: Tree) -> list[str]:
-        """What is told of a test that is false: the values in the parts that make it so."""
+        """What is told of a test that is false: the values in the parts that make it so, and these parts as they are written."""
         parts = self.false_parts(test)
         told: dict[str, None] = {}
         for part in parts:
             told.update(dict.fromkeys(self.told_of_part(part)))
+        told.update(dict.fromkeys(self.values(self.matched)))
         told.pop("", None)
-        if not told and len(self.conjuncts(test)) > 1:
-            return [f"{shown(self.source(part))} is false" for part in parts]
-        return list(told)
+        written = " || ".join(shown(self.source(part), b" ") for part in parts)
+        if told:
+            return [*told] if is_unique(parts[0]) and len(parts) == 1 else [*told, f"in {written}"]
+        return [f"{written} is false"] if is_comparison(parts[0]) or len(self.conjuncts(test)) > 1 else []
 
     def conjuncts(self, test: Tree) -> list[Tree]:
         """The sides of a test with &&, or the test itself."""
@@ -313,24 +318,18 @@ class Fault:
         return [inner]
 
     def told_of_part(self, part: Tree) -> list[str]:
-        """Both sides of a comparison, two equal elements, or the values of variables."""
-        if isinstance(part, Node) and part.parts[0].symbol == "UNIQUE":
+        """The values of both sides of a comparison, two equal elements, or the values of variables."""
+        if isinstance(part, Node) and is_unique(part):
             return [equal_elements(self, [name_of(name) for name in part.parts if name.symbol == NAME])]
+        sides = [side for side in (part.parts[0], part.parts[2]) if not is_plain(side)] if isinstance(part, Node) and is_comparison(part) else []
         variables = self.read_variables([part])
-        if not (isinstance(part, Node) and len(part.parts) == 3 and part.parts[1].symbol in SIGNS):
-            return self.values(variables)
-        left, sign, right = part.parts
-        sides = [self.side(left), self.side(right)]
-        rest = self.values([one for one in variables if one not in (self.source(left), self.source(right))])
-        return [f"{sides[0]} {sign.symbol} {sides[1]}", *rest] if all(sides) else self.values(variables)
+        self.find([*map(self.asked_of, sides), *variables[:MOST_VALUES], *self.matched])
+        values = [f"{shown(self.source(side))} = {value}" for side in sides if (value := self.value(self.asked_of(side))) is not None]
+        return [*values, *self.values([one for one in variables if one not in map(self.source, sides)])]
 
-    def side(self, tree: Tree) -> str:
-        """A side of a comparison with its value; an empty text where it has none."""
-        source = self.source(tree)
-        if isinstance(tree, Token) and tree.symbol != NAME or re.fullmatch(rb"-\s*[0-9]+", source):
-            return shown(source)
-        value = self.value(b"(%b)" % source if not is_variable(tree) else source)
-        return f"{shown(source)} = {value}" if value is not None else ""
+    def asked_of(self, tree: Tree) -> bytes:
+        """An expression as it is asked for."""
+        return self.source(tree) if is_variable(tree) else b"(%b)" % self.source(tree)
 
     # a value out of range
 
@@ -342,33 +341,60 @@ class Fault:
         self.before = b"INT(-2^126*2,2^126-1+2^126,%b) " % taken
         self.condition = b"%b<(%b)||%b>(%b)" % (taken, lower, taken, upper)
         try:
-            bounds = [self.bound(tree) for tree in (low, high)]
+            bounds = self.bounds(variables)
         except EndedOtherwise:
             # a number that no variable can have
             self.new = self.source(self.command)
+            self.known.clear()
             self.count()
-            bounds = [self.bound(tree) for tree in (low, high)]
+            bounds = self.bounds(variables)
         told = f"{self.number_in_data()}; bounds {bounds[0]} .. {bounds[1]}"
         return ", ".join([told, *self.values([one for one in variables if one not in (lower, upper)])])
+
+    def bounds(self, variables: Sequence[bytes]) -> list[str]:
+        """Both bounds as they are shown. They are asked for together with variables."""
+        trees = self.command.arguments[:2]
+        asked = [self.asked_of(tree) for tree in trees if not (isinstance(tree, Token) and tree.symbol == NUMERAL)]
+        self.find([*asked, *variables[:MOST_VALUES]])
+        return [self.bound(tree) for tree in trees]
 
     def bound(self, tree: Tree) -> str:
         source = self.source(tree)
         if isinstance(tree, Token) and tree.symbol == NUMERAL:
             return source.decode()
-        value = str(number_asked(b"(%b)" % source, self.ask))
+        value = str(self.value(self.asked_of(tree)))
         return value if re.fullmatch(rb"-\s*[0-9]+", source) else f"{shown(source)} = {value}"
 
     def number_in_data(self) -> str:
         """The number that the data have at the place of the fault."""
         place, data = self.answer.in_data, self.asker.data
         assert place
-        start = line_offset(data, self.asker.origin, place.line)
-        data.seek(start + place.column - 1)
+        data.seek(self.asker.origin + self.asker.offset(place))
         found = re.match(rb"-?[0-9]*", data.read(2 * STRING_ROOM))
         number = found[0].decode() if found else ""
         return number if len(number) <= STRING_ROOM else number[:STRING_ROOM] + "…"
 
 
-def shown(source: bytes) -> str:
-    """An expression of the program on one line."""
-    return "".join(source.decode("utf-8", "backslashreplace").split())
+def is_unique(part: Tree) -> bool:
+    return isinstance(part, Node) and part.parts[0].symbol == "UNIQUE"
+
+
+def is_plain(tree: Tree) -> bool:
+    """Whether an expression is a numeral, also one with a sign, or a string literal."""
+    if isinstance(tree, Token):
+        return tree.symbol != NAME
+    return len(tree.parts) == 2 and all(isinstance(part, Token) for part in tree.parts) and tree.parts[1].symbol == NUMERAL
+
+
+def is_comparison(part: Tree) -> bool:
+    return isinstance(part, Node) and len(part.parts) == 3 and part.parts[1].symbol in SIGNS
+
+
+# A string of a program; or blanks and comments.
+BLANKS = re.compile(rb'("(?:[^"\\]|\\.)*")|(?:[ \t\r\n]|#[^\n]*)+', re.DOTALL)
+
+
+def shown(source: bytes, blank: bytes = b"") -> str:
+    """A part of the program on one line, with this in place of blanks."""
+    text = BLANKS.sub(lambda found: found[1] or blank, source)
+    return text.decode("utf-8", "backslashreplace").replace("\n", "\\n")

@@ -23,8 +23,7 @@ export class Answer {
   #clear(state, words) {
     part("result").dataset.state = state;
     part("verdict").textContent = words;
-    part("answer").textContent = "";
-    part("cost").textContent = "";
+    for (const id of ["answer", "words", "cost"]) part(id).textContent = "";
     this.#clearPlaces();
   }
 
@@ -56,14 +55,19 @@ export class Answer {
   }
 
   // Shows what the checker answered. `isStale` says that the texts or the options changed while it ran.
-  show({ status, out, err, milliseconds, memory, around }, isStale) {
+  show({ status, out, err, words, milliseconds, memory, around }, isStale) {
     const message = out + err;
-    const [state, words] = VERDICTS[status];
-    this.#clear(state, words);
+    this.#clear(...VERDICTS[status]);
     part("answer").textContent = message;
+    part("words").textContent = words;
     part("cost").textContent = `status ${status}, ${milliseconds.toFixed(1)} ms, ${Math.round(memory / 2 ** 20)} MiB of memory`;
     if (isStale) this.outdate();
     else this.#showPlaces(placesIn(message), around);
+  }
+
+  // Shows more words about a fault.
+  explain(words) {
+    part("words").textContent = words;
   }
 
   // Says of a verdict that it is one on other texts or options.

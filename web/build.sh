@@ -2,7 +2,7 @@
 # Makes the page in web/out, of the two WebAssembly libraries in out/wasm: its files, the editor, the examples and the documents. Its code is one script
 # with all that it needs, so the page also works where it is opened from a folder.
 set -eu
-top=$(cd "$(dirname "${BASH_SOURCE[0]}")/.." && pwd)
+top=$(CDPATH='' cd "$(dirname "${BASH_SOURCE[0]}")/.." && pwd)
 out=$top/web/out
 editor=/usr/share/javascript/codemirror
 work=$(mktemp -d)
@@ -14,6 +14,7 @@ for program in checktestdata ctd-lint; do
 done
 cp "$top/editors/vscode/syntaxes/checktestdata.tmLanguage.json" "$work/made/grammar.json"
 python3 "$top/web/examples.py" "$top/examples" >"$work/made/examples.json"
+python3 -B "$top/web/language.py" >"$work/made/language.json"
 # The files in made/ and the editor are found by NODE_PATH.
 bundle() { NODE_PATH=$work:${editor%/*} esbuild --bundle --minify --log-level=warning --loader:.gz=binary "$@"; }
 bundle "$top/web/worker.js" --outfile="$work/made/worker.txt"

@@ -65,9 +65,9 @@ export class Checker extends Instance {
 }
 
 export class Linter extends Instance {
-  // What ctd-lint says of a program in the memory.
+  // What ctd-lint says of a program in the memory, and of the verdicts that data get.
   findings(options, program) {
-    const { out, err } = this.call(["ctd-lint", ...options, "--", "program"], program, this.reserve(0));
+    const { out, err } = this.call(["ctd-lint", "--verdicts", ...options, "--", "program"], program, this.reserve(0));
     return findingsIn(err + out);
   }
 }

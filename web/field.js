@@ -1,6 +1,9 @@
 // One of the two texts of the page: an editor, and a file that stands in its place where the editor cannot hold it.
 import CodeMirror from "./editor.js";
-import { END, LINE_FEED, columnIn } from "./message.js";
+import { LINE_FEED, columnIn } from "./message.js";
+
+// What stands in the box at the end of a text: nothing that could be read as a part of it.
+const NOTHING = "\u00a0";
 
 // Files with more bytes are checked but not shown.
 const LONGEST = 2 ** 20;
@@ -138,11 +141,33 @@ export class Field {
       const to = { line: from.line, ch: this.#endOfWord(from) };
       return this.editor.markText(from, to, { className, attributes: { title } });
     }
-    const widget = document.createElement("span");
-    widget.className = `${className} end`;
-    widget.textContent = from.line === this.editor.lastLine() ? END : LINE_FEED;
-    widget.title = title;
-    return this.editor.setBookmark(from, { widget, insertLeft: true });
+    return this.#markEnd(from, className, title);
+  }
+
+  // Marks the end of a line or of the text, with a box there. All marks of one place share their box.
+  #markEnd(from, className, title) {
+    const bookmark = this.editor.findMarksAt(from).find(({ box }) => box) ?? this.#boxAt(from);
+    const mark = { className, title };
+    const show = () => {
+      bookmark.box.className = ["end", ...bookmark.marks.map((it) => it.className)].join(" ");
+      bookmark.box.title = bookmark.marks.map((it) => it.title).filter(Boolean).join("\n");
+    };
+    bookmark.marks.push(mark);
+    show();
+    const clear = () => {
+      bookmark.marks.splice(bookmark.marks.indexOf(mark), 1);
+      if (bookmark.marks.length) show();
+      else bookmark.clear();
+    };
+    return { clear };
+  }
+
+  #boxAt(from) {
+    const box = document.createElement("span");
+    const isEnd = from.line === this.editor.lastLine();
+    box.textContent = isEnd ? NOTHING : LINE_FEED;
+    if (isEnd) box.ariaLabel = "end of the text";
+    return Object.assign(this.editor.setBookmark(from, { widget: box, insertLeft: true }), { box, marks: [] });
   }
 
   // Marks the place of a fault with its line, and shows it in the editor without moving the page.

@@ -4,10 +4,15 @@ import { startWorker } from "./engine.js";
 const PAUSE = 300; // milliseconds
 const MOST = 50;
 
+function count(number) {
+  return number === 0 ? "no findings" : number === 1 ? "1 finding" : `${number} findings`;
+}
+
 export class Findings {
-  // `list` is the element of the findings; `job` gives what the worker needs, with the program as it is now.
-  constructor(field, list, job) {
+  // `summary` is the element for what is said of all, and `list` that of the findings; `job` gives what the worker needs, with the program as it is now.
+  constructor(field, summary, list, job) {
     this.field = field;
+    this.summary = summary;
     this.list = list;
     this.job = job;
     this.marks = [];
@@ -17,7 +22,7 @@ export class Findings {
 
   // Looks at the program once nothing has changed for a moment.
   later() {
-    this.list.classList.add("old");
+    for (const part of [this.summary, this.list]) part.classList.add("old");
     clearTimeout(this.timer);
     this.timer = setTimeout(() => this.#look(), PAUSE);
   }
@@ -37,7 +42,7 @@ export class Findings {
 
   async #ask() {
     this.worker ??= startWorker();
-    const brokeOff = (reason) => [{ place: null, rank: "error", text: `ctd-lint broke off: ${reason}` }];
+    const brokeOff = (reason) => ({ findings: [{ place: null, rank: "error", text: `ctd-lint broke off: ${reason}` }], remarks: [] });
     try {
       const job = await this.job();
       return await new Promise((done) => {
@@ -50,9 +55,10 @@ export class Findings {
     }
   }
 
-  #show(findings) {
+  #show({ findings, remarks }) {
     for (const mark of this.marks.splice(0)) mark.clear();
-    this.list.classList.remove("old");
+    for (const part of [this.summary, this.list]) part.classList.remove("old");
+    this.summary.textContent = `ctd-lint: ${[count(findings.length), ...remarks].join("; ")}`;
     const lines = findings.slice(0, MOST).map((finding) => this.#line(finding));
     if (findings.length > MOST) {
       const rest = document.createElement("li");

@@ -6,25 +6,28 @@ const AROUND = 40;
 // How a carriage return, a line feed and the end of a text are shown.
 const CARRIAGE_RETURN = "\\r";
 export const LINE_FEED = "↵";
-export const END = "end";
+const END = "‹end of text›";
 
-// The spot in the data and the place in the program that a message names; null where it names none.
-export function placesIn(message) {
-  const spot = /^(?:checktestdata: )?line (\d+) column (\d+): /.exec(message);
-  const place = /program line (\d+) column (\d+)/.exec(message);
+// The spot in the data and the place in the program that an answer names, null where it names none; and the message, without them.
+export function placesIn(answer) {
+  const spot = /^(?:checktestdata: )?line (\d+) column (\d+): /.exec(answer);
+  const place = /program line (\d+) column (\d+)/.exec(answer);
   const numbers = (found) => found && { line: Number(found[1]), column: Number(found[2]) };
-  return { spot: numbers(spot), place: numbers(place) };
+  const message = answer.trimEnd().replace(/^checktestdata: /, "").replace(/^(?:program )?line \d+ column \d+: /, "").replace(/ \(program .*\)$/, "");
+  return { spot: numbers(spot), place: numbers(place), message };
 }
 
-// The findings in the lines of ctd-lint, `FILE:LINE:COLUMN: RANK: TEXT` or `ctd-lint: TEXT`: each with its rank (error, warning, risk or note), its text,
-// and its place, or null where it has none.
+// What ctd-lint says in lines `FILE:LINE:COLUMN: RANK: TEXT`, `ctd-lint: TEXT` and `FILE: TEXT`: the findings, each with its rank (error, warning, risk or
+// note), its text, and its place, or null where it has none; and the remarks on the whole program.
 export function findingsIn(lines) {
-  const found = [];
+  const found = { findings: [], remarks: [] };
   for (const line of lines.split("\n")) {
     const [, row, column, rank, text] = /^program(?::(\d+):(\d+))?: (error|warning|risk|note): (.*)$/.exec(line) ?? [];
     const fault = /^ctd-lint: (.*)$/.exec(line);
-    if (text) found.push({ place: row ? { line: Number(row), column: Number(column) } : null, rank, text });
-    else if (fault) found.push({ place: null, rank: "error", text: fault[1] });
+    const remark = /^program: (.*)$/.exec(line);
+    if (text) found.findings.push({ place: row ? { line: Number(row), column: Number(column) } : null, rank, text });
+    else if (fault) found.findings.push({ place: null, rank: "error", text: fault[1] });
+    else if (remark) found.remarks.push(remark[1]);
   }
   return found;
 }

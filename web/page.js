@@ -12,6 +12,8 @@ const FIRST_EXAMPLE = "graph: loop.in, does not fit";
 
 // The check that runs: its worker, and whether a text or an option changed since it began. Null where none runs.
 let running = null;
+// The worker that is asked for the values at the fault of the last check. Null where none is.
+let asked = null;
 
 const program = new Field(
   "program",
@@ -24,14 +26,15 @@ const program = new Field(
 const data = new Field(
   "data",
   {
-    options: { screenReaderLabel: "Data", showTrailingSpace: true },
+    // (without this CodeMirror takes the mode of programs, the first that was defined)
+    options: { mode: null, screenReaderLabel: "Data", showTrailingSpace: true },
     // A line of data begins with no blanks of the line before.
     keys: { Enter: (editor) => editor.replaceSelection("\n") },
   },
   changed,
 );
 const answer = new Answer({ data, program });
-const findings = new Findings(program, part("findings"), async () => ({
+const findings = new Findings(program, part("lint"), part("findings"), async () => ({
   module: await modules.linter,
   options: presetOption(),
   program: program.blob(),
@@ -39,8 +42,15 @@ const findings = new Findings(program, part("findings"), async () => ({
 
 function changed() {
   part("examples").value = "";
+  stopAsking();
   if (running) running.isStale = true;
   else answer.outdate();
+}
+
+function stopAsking() {
+  asked?.terminate();
+  asked = null;
+  part("result").ariaBusy = "false";
 }
 
 function presetOption() {
@@ -63,21 +73,39 @@ function end() {
 // Begins a check, in place of one that runs. `reveal` brings its answer in sight.
 async function check(reveal) {
   end();
+  stopAsking();
   part("stop").ariaDisabled = "false";
   answer.checking();
   reveal();
   const run = { worker: startWorker(), isStale: false };
   running = run;
+  const job = { options: options(), program: program.blob(), data: data.blob(), module: await modules.checker };
   const finish = ({ error, ...shown }) => {
     end();
     if (error) answer.brokeOff(error);
     else answer.show(shown, run.isStale);
     reveal();
+    if (!error && !run.isStale && shown.status !== 0) askForValues({ ...job, answer: shown.out + shown.err }, reveal);
   };
   run.worker.onmessage = (event) => finish(event.data);
   run.worker.onerror = (event) => finish({ error: event.message });
-  const job = { job: "check", options: options(), program: program.blob(), data: data.blob() };
-  run.worker.postMessage({ ...job, module: await modules.checker });
+  run.worker.postMessage({ ...job, job: "check" });
+}
+
+// Asks for the values at a fault, and shows them, unless something changes before.
+function askForValues(job, reveal) {
+  const worker = startWorker();
+  asked = worker;
+  part("result").ariaBusy = "true";
+  worker.onmessage = ({ data: told }) => {
+    if (asked !== worker) return;
+    stopAsking();
+    if (!told || told.error) return;
+    answer.explain(told);
+    reveal();
+  };
+  worker.onerror = stopAsking;
+  worker.postMessage({ ...job, job: "values" });
 }
 
 // Begins a check that the user asks for.

@@ -10,7 +10,7 @@
 
 The work is done by the shared library libchecktestdata.so, which is looked for where the variable CHECKTESTDATA_LIBRARY says,
 beside this file, in the folder lib of the prefix in which this file is installed, and where the system keeps its libraries. It keeps no
-state, and Python runs other threads during a check.
+state, and Python runs other threads during a check. Each check has a thread of its own, whose stack is large enough.
 """
 
 from __future__ import annotations
@@ -18,7 +18,8 @@ from __future__ import annotations
 import ctypes
 import os
 import re
-from collections.abc import Mapping
+import threading
+from collections.abc import Callable, Mapping
 from dataclasses import dataclass
 from enum import Enum, IntEnum
 from functools import cache
@@ -28,6 +29,11 @@ __all__ = ["Edge", "Place", "Result", "Spot", "Status", "check"]
 
 _LIBRARY = "libchecktestdata.so.1"
 _TEXT_SIZE = 4096
+_STACK_SIZE = 1 << 20
+"""Bytes of stack for a call of the library: docs/EMBEDDING.md says what it needs."""
+_STACK_SIZE_LOCK = threading.Lock()
+_BEYOND = 10**40
+"""Past every number that the checker takes."""
 _DATA_SPOT = re.compile(r"(?:checktestdata: )?line (\d+) column (\d+): ")
 _PROGRAM_PLACE = re.compile(r"(?:\(program|checktestdata: program) (?:line (\d+) column (\d+)|(start|end))")
 
@@ -109,37 +115,64 @@ def check(
 
     `max_steps` stops the check after that many steps; None stands for the checker's own limit of 10,000,000,000.
 
-    Whatever is wrong with the program, the presets or the data is told in the result. A ValueError is raised only for a
-    byte 0 in the presets, which no command line can hold, and a TypeError for data that are no bytes or a program that is no text.
+    Whatever is wrong with the program, the presets or the data is told in the result. What is raised:
+
+    TypeError: an argument has another type than those above, or a preset has.
+    ValueError: the presets have a byte 0, which no command line can hold; or a text has a lone surrogate, which no file can hold.
+    OSError: the library is not found, or is another one.
+    RuntimeError, MemoryError: there is no thread, or no memory, for the check.
     """
     if not isinstance(program, (str, bytes)):
         raise TypeError(f"the program must be its text, as str or bytes, and not {type(program).__name__}")
     if not isinstance(data, bytes):
         hint = ": write b\"..\", or encode the text by .encode()" if isinstance(data, str) else ""
         raise TypeError(f"the data must be bytes, and not {type(data).__name__}{hint}")
+    if not isinstance(whitespace_ok, int):
+        raise TypeError(f"whitespace_ok must be a bool, and not {type(whitespace_ok).__name__}")
     words = ["checktestdata"]
     if whitespace_ok:
         words.append("-w")
-    if presets:
-        words.append(f"--define={presets if isinstance(presets, str) else _preset_text(presets)}")
+    given = presets if isinstance(presets, str) else _preset_text(presets)
+    if given:
+        words.append(f"--define={given}")
     if max_steps is not None:
-        words.append(f"--max-steps={max_steps}")
+        if not isinstance(max_steps, int):
+            raise TypeError(f"max_steps must be an int or None, and not {type(max_steps).__name__}")
+        words.append(f"--max-steps={_digits(max_steps)}")
     words += ["--", "program", "testdata"]
     if any("\0" in word for word in words):
         raise ValueError("a byte 0 in the presets")
-    return _run("\0".join(words).encode(), program.encode() if isinstance(program, str) else program, data)
+    return _run(_encoded("\0".join(words), "presets"), _encoded(program, "program") if isinstance(program, str) else program, data)
+
+
+def _encoded(text: str, what: str) -> bytes:
+    """The bytes of a text."""
+    try:
+        return text.encode()
+    except UnicodeEncodeError as error:
+        raise ValueError(f"a lone surrogate in the {what}") from error
+
+
+def _digits(number: int) -> str:
+    """A number in decimal. Of a longer one than Python writes, one stands that is past every limit too."""
+    return str(max(-_BEYOND, min(int(number), _BEYOND)))
 
 
 def _preset_text(presets: Mapping[str, int | str | bytes]) -> str:
     """The text of the option -D for a mapping."""
+    if not isinstance(presets, Mapping):
+        raise TypeError(f"the presets must be a text or a mapping, and not {type(presets).__name__}")
+    for name, value in presets.items():
+        if not isinstance(name, str) or not isinstance(value, (int, str, bytes)):
+            raise TypeError(f"a preset must be a str with an int, str or bytes, and not {type(name).__name__} with {type(value).__name__}")
     return ",".join(f"{name}={_literal(value)}" for name, value in presets.items())
 
 
 def _literal(value: int | str | bytes) -> str:
     """A value as a literal of the language. Bytes outside of printable ASCII are written as octal escapes."""
     if isinstance(value, int):
-        return str(int(value))
-    text = value.encode() if isinstance(value, str) else value
+        return _digits(value)
+    text = _encoded(value, "presets") if isinstance(value, str) else value
     return '"' + "".join(chr(byte) if 32 <= byte < 127 and byte not in b'"\\' else f"\\{byte:03o}" for byte in text) + '"'
 
 
@@ -147,11 +180,27 @@ def _run(words: bytes, program: bytes, data: bytes) -> Result:
     """Calls the library. Both of its texts together are one line, or a few lines of help."""
     out, err = (ctypes.create_string_buffer(_TEXT_SIZE) for _ in range(2))
     lengths = _Lengths()
-    status = _library().checktestdata_run(
-        words, len(words), program, len(program), data, len(data), out, _TEXT_SIZE, err, _TEXT_SIZE, ctypes.byref(lengths)
-    )
+    statuses: list[int] = []
+    run = _library().checktestdata_run
+    arguments = (words, len(words), program, len(program), data, len(data), out, _TEXT_SIZE, err, _TEXT_SIZE, ctypes.byref(lengths))
+    _in_thread(lambda: statuses.append(run(*arguments)))
+    if not statuses:
+        raise MemoryError("no memory for the check")
+    status = statuses[0]
     text = out.raw[: lengths.out] + err.raw[: lengths.err]
     return _result(Status(status), text.decode(errors="replace").removesuffix("\n"))
+
+
+def _in_thread(work: Callable[[], None]) -> None:
+    """Does some work in a thread that has stack enough for the library, whatever the caller's has, and waits for it."""
+    thread = threading.Thread(target=work, daemon=True)
+    with _STACK_SIZE_LOCK:
+        before = threading.stack_size(_STACK_SIZE)
+        try:
+            thread.start()
+        finally:
+            threading.stack_size(before)
+    thread.join()
 
 
 def _result(status: Status, message: str) -> Result:
@@ -183,6 +232,8 @@ def _library_path() -> str:
 def _library() -> ctypes.CDLL:
     """The shared library, loaded once."""
     library = ctypes.CDLL(_library_path())
+    if not hasattr(library, "checktestdata_run"):
+        raise OSError(f"{_library_path()} is no library of checktestdata")
     text = [ctypes.c_char_p, ctypes.c_size_t]
     library.checktestdata_run.argtypes = text * 5 + [ctypes.POINTER(_Lengths)]
     library.checktestdata_run.restype = ctypes.c_uint8

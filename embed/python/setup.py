@@ -16,8 +16,7 @@ class BuildWithLibrary(build_py):
         if obstacle:
             sys.exit(obstacle.rstrip())
         subprocess.run([PORTABLE / "library.sh", self.build_lib], check=True)
-        for name in "libchecktestdata.a", "libchecktestdata.so":
-            (Path(self.build_lib) / name).unlink()
+        (Path(self.build_lib) / "libchecktestdata.a").unlink()
 
 
 class WithLibrary(Distribution):

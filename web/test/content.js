@@ -11,6 +11,20 @@ export async function testStart(page) {
   expect("its verdict", await page.answer(), ["rejected", "✗ The data do not fit", message]);
 }
 
+// What may be marked in data that have no fault: blanks at the end of a line, tabs, and bytes that have no look of their own.
+const MARKS_OF_DATA = ["cm-overlay", "cm-trailingspace", "cm-tab", "cm-invalidchar"];
+
+// Data are not coloured, a program has no wrong word, and the lines of the fault are marked, those that the answer names, and no others.
+async function expectMarks(page, name, answer) {
+  const classes = (side) => page.evaluate(`[...new Set([...document.querySelectorAll("#${side}-side .CodeMirror-code [class*=cm-]")].flatMap((it) => [...it.classList]))].filter((it) => it.startsWith("cm-"))`);
+  expect(`${name}: the marks in the data`, (await classes("data")).filter((it) => !MARKS_OF_DATA.includes(it)), []);
+  const words = await classes("program");
+  expect(`${name}: the program is coloured, and has no wrong word`, [words.includes("cm-builtin"), words.includes("cm-error")], [true, false]);
+  const [spot, place] = [/^(?:checktestdata: )?line (\d+) /, /\(program line (\d+) /].map((form) => form.exec(answer)?.slice(1) ?? []);
+  const lines = await page.evaluate(`["program", "data"].map((id) => [...document.querySelectorAll("#" + id + "-side .fault-line .CodeMirror-linenumber")].map((it) => it.textContent))`);
+  expect(`${name}: the lines of the fault`, lines, [place, spot]);
+}
+
 export async function testExamples(page) {
   const groups = JSON.parse(execFileSync("python3", [path.join(web, "examples.py"), path.join(web, "..", "examples")]).toString());
   const folders = fs.readdirSync(path.join(web, "..", "examples"), { withFileTypes: true }).filter((it) => it.isDirectory());
@@ -24,6 +38,7 @@ export async function testExamples(page) {
       await page.set("examples", name);
       expect(`${name} is shown as chosen`, await page.evaluate("examples.value"), name);
       expect(name, await page.check(), answer);
+      await expectMarks(page, name, answer);
     }
   }
 }

@@ -5,10 +5,11 @@ import { pathToFileURL } from "node:url";
 import { Tab, serve } from "./browser.js";
 import { testDocuments, testExamples, testStart, testTables } from "./content.js";
 import { testFiles, testPaste } from "./files.js";
-import { testFindings, testHighlighting, testKeyboard, testMarks } from "./editor.js";
+import { testFindings, testHighlighting, testKeyboard, testMarks, testEnd, testRefusals } from "./editor.js";
 import { testLayout } from "./layout.js";
 import { testLink, testLinkOfTheGuide, testOptions } from "./options.js";
 import { testStale, testWhileItRuns } from "./stale.js";
+import { testValues } from "./values.js";
 import { FirefoxTab } from "./firefox.js";
 import { Page, counts, expect, modules, out, web } from "./tests.js";
 
@@ -16,8 +17,11 @@ const TESTS = [
   testStart,
   testExamples,
   testMarks,
+  testEnd,
   testHighlighting,
   testFindings,
+  testRefusals,
+  testValues,
   testKeyboard,
   testStale,
   testWhileItRuns,

@@ -55,12 +55,12 @@ pub fn check<D: Source>(
     ensures reads { GaveAtMost D.Source (limits.bytes + 1) testdata.old testdata.new }
 {
     let mut matchers = plan.matchers(alloc)?;
-    let mut stack = FrameStack::new(alloc, plan.commands(), limits.steps)?;
     let store = Store::new(alloc, presets)?;
     let buffers = Buffers::new(alloc)?;
     // the source is borrowed once all of these are made
     let cursor = Cursor::with_buffers(buffers, testdata, limits.bytes);
     let mut run = Run::new(alloc, cursor, store, mode);
+    let mut stack = FrameStack::new(plan.commands(), limits.steps);
     let ended = run_program(&mut run, &mut stack, &mut matchers);
     drop(matchers);
     let consumed = run.cursor.spot().offset;

@@ -1,5 +1,5 @@
 //! What a run has still to do: its frames, and the steps that are left.
-ghost use Rattle.std.specs.Prelude.{◌≡◌, ℕ, ◌≤◌, ◌<◌, ◌+◌, ◌-◌, ◌^◌, ◌++◌, ◌∷◌, [], length, is_some, true, false, None, Some, OnOk, IfErr, IfOk, IfSome, vec_capacity};
+ghost use Rattle.std.specs.Prelude.{◌≡◌, ℕ, ◌≤◌, ◌<◌, ◌+◌, ◌-◌, ◌^◌, ◌++◌, ◌∷◌, [], length, is_some, true, false, None, Some, OnOk, IfErr, IfSome};
 ghost use Rattle.std.specs.Option.{option_copied};
 ghost use Rattle.ctd_token.specs.declared.limits.TheConstants.{NESTING_LIMIT};
 ghost use Rattle.ctd_program.specs.calls.Blocks.{list_blocks};
@@ -9,22 +9,21 @@ ghost use Rattle.ctd_check.specs.declared.frame.RunningLoop.{RunningLoop};
 ghost use Rattle.ctd_check.specs.inner.FrameTasks.{most_frames, Fits, fits_prop, to_do, all_to_do, top_loop, frame_tasks, body_tasks, loop_blocks, frame_blocks, loop_turn, IsAtTurn, IsListDone, IsInHand};
 
 use crate::frame::{Frame, RunningLoop};
+use arrayvec::ArrayVec;
 use ctd_command::{CommandFailure, Failure};
 use ctd_outcome::Fault;
 use ctd_syntax::Command;
 use ctd_token::NESTING_LIMIT;
-use std::alloc::{AllocError, Global};
 
 /// The program's list, and blocks in one another.
 const MOST_FRAMES: usize = NESTING_LIMIT as usize + 1;
 
-/// The frames of the blocks that are open, in memory for as many as there may be, and the steps that are left.
+/// The frames of the blocks that are open, and the steps that are left.
 #[derive(Drop)]
 pub(crate) struct FrameStack<'p> {
-    frames: Vec<Frame<'p>>,
+    frames: ArrayVec<Frame<'p>, MOST_FRAMES>,
     left: u64,
     ghost fits: { Fits left frames.items } by { fits_prop left frames.items },
-    ghost reserved: { most_frames ≤ vec_capacity frames },
 }
 
 /// Takes the list of the last frame, which is then done.
@@ -70,27 +69,23 @@ fn next_turn_in<'p>(frames: &mut [Frame<'p>]) -> &'p [Command]
 }
 
 impl<'p> FrameStack<'p> {
-    /// The commands of a program; or an error where no memory is left for the frames.
-    pub(crate) fn new(
-        alloc: Global,
-        commands: &'p [Command],
-        steps: u64,
-    ) -> Result<FrameStack<'p>, AllocError>
+    /// The commands of a program.
+    pub(crate) fn new(commands: &'p [Command], steps: u64) -> FrameStack<'p>
         requires { list_blocks (command_trees commands.now) ≤ NESTING_LIMIT }
-        ensures left { IfOk result (λ stack. stack.left ≡ steps) }
-        ensures len { IfOk result (λ stack. length stack.frames.items ≡ 1) }
-        ensures to_do { IfOk result (λ stack. to_do stack.frames.items ≡ tasks (command_trees commands.now) ++ finish ∷ []) }
+        ensures left { result.left ≡ steps }
+        ensures len { length result.frames.items ≡ 1 }
+        ensures to_do { to_do result.frames.items ≡ tasks (command_trees commands.now) ++ finish ∷ [] }
     {
-        let mut frames = Vec::with_capacity(alloc, MOST_FRAMES)?;
+        let mut frames = ArrayVec::<Frame, MOST_FRAMES>::new();
         let frame = Frame {
             rest: commands,
             running_loop: None,
         };
-        frames.push_reserved(frame);
-        Ok(FrameStack {
+        frames.push(frame);
+        FrameStack {
             frames,
             left: steps,
-        })
+        }
     }
 
     /// The steps that are left.
@@ -195,6 +190,6 @@ impl<'p> FrameStack<'p> {
         ensures done { frame.entry.rest.now ≡ [] → IsListDone self.new.frames.items }
     {
         put_list_in(self.frames.as_mut_slice(), list);
-        self.frames.push_reserved(frame);
+        self.frames.push(frame);
     }
 }

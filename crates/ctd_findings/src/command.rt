@@ -5,7 +5,7 @@ use crate::condition::test_of;
 use crate::finding::Remark;
 use crate::kept_array::list_kept;
 use crate::kind::Kind;
-use crate::loops::{counter_name, is_set_in, loop_body, some_set_fixed};
+use crate::loops::{counter_of, is_set_in, loop_body, some_set_fixed};
 use crate::names::ProgramNames;
 use crate::never::NeverAt;
 use crate::no_index::list_no_index;
@@ -129,13 +129,20 @@ fn list_counter<'p>(
     names: &ProgramNames<'p>,
     found: &mut Collector<Remark>,
 ) {
-    let Some(name) = counter_name(command) else {
+    let Some(counter) = counter_of(command) else {
         return;
     };
+    let name = &counter.name;
     let body = loop_body(command);
     let is_fixed = !names.read.contains(&name.as_slice()) && some_set_fixed(body);
     remark_about_if(alloc, is_fixed, Kind::LiteralIndex, name, found);
-    remark_about_if(alloc, is_set_in(name, body), Kind::CounterSet, name, found)
+    remark_about_if(
+        alloc,
+        is_set_in(counter, body),
+        Kind::CounterSet,
+        name,
+        found,
+    )
 }
 
 /// Whether an expression is the empty string.

@@ -3,7 +3,7 @@
 use crate::command::remark_about_if;
 use crate::finding::Remark;
 use crate::kind::Kind;
-use crate::loops::{counter_name, loop_body};
+use crate::loops::{counter_of, loop_body};
 use crate::names::ProgramNames;
 use ctd_program::Command;
 use ctd_traps::{Collector, MentionedName, Role, has_role, list_mentions, names_in_role};
@@ -65,8 +65,8 @@ pub(crate) fn list_kept<'p>(
     names: &ProgramNames<'p>,
     found: &mut Collector<Remark>,
 ) {
-    if let Some(name) = counter_name(command)
-        && names.read.contains(&name.as_slice())
+    if let Some(counter) = counter_of(command)
+        && names.read.contains(&counter.name.as_slice())
     {
         return;
     }

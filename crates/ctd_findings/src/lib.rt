@@ -21,4 +21,5 @@ mod words;
 
 pub use finding::{Finding, Remark};
 pub use kind::{Kind, Rank};
+pub use pattern::{PatternMistake, pattern_mistake};
 pub use program::findings;

@@ -1,7 +1,6 @@
 //! Loops: their counters, and what their bodies set.
 
 use ctd_program::{Action, Assignment, Choice, Command, Expr, Loop, LoopGuard, Var};
-use ctd_token::Name;
 
 /// Whether an expression is a numeral.
 fn is_numeral(e: &Expr) -> bool {
@@ -31,32 +30,40 @@ pub(crate) fn some_set_fixed(commands: &[Command]) -> bool {
     commands.iter().any(|command| sets_fixed(command))
 }
 
-/// Whether there is a variable, and it has this name.
-fn is_named(name: &Name, variable: &Option<Var>) -> bool {
-    matches!(variable, Some(v) if v.name.as_slice() == name.as_slice())
+/// Whether a variable is an element of an array.
+pub(crate) fn is_element(variable: &Var) -> bool {
+    !variable.indices.as_slice().is_empty()
 }
 
-/// Whether there is a counter, and it has this name.
-fn is_counter(name: &Name, counter: &Option<Box<Var>>) -> bool {
-    matches!(counter, Some(v) if v.name.as_slice() == name.as_slice())
+/// Whether two variables may be the same: they have one name, and both are elements or neither is.
+fn may_be_same(a: &Var, b: &Var) -> bool {
+    a.name.as_slice() == b.name.as_slice() && is_element(a) == is_element(b)
 }
 
-/// Whether an assignment sets this name.
-fn assigns(name: &Name, assignments: &[Assignment]) -> bool {
-    assignments
-        .iter()
-        .any(|a| a.target.name.as_slice() == name.as_slice())
+/// Whether there is a target, and it may be this variable.
+fn is_target(variable: &Var, target: &Option<Var>) -> bool {
+    matches!(target, Some(v) if may_be_same(v, variable))
 }
 
-/// Whether a command, or one in it, gives this name a value.
+/// Whether there is a counter, and it may be this variable.
+fn is_counter(variable: &Var, counter: &Option<Box<Var>>) -> bool {
+    matches!(counter, Some(v) if may_be_same(v, variable))
+}
+
+/// Whether an assignment may set this variable.
+fn assigns(variable: &Var, assignments: &[Assignment]) -> bool {
+    assignments.iter().any(|a| may_be_same(&a.target, variable))
+}
+
+/// Whether a command, or one in it, may give this variable a value.
 ///
 /// It makes no list, since it is asked of each loop with a counter, and loops may stand in loops.
 #[cycle(is_set)]
-pub(crate) fn is_set_by(name: &Name, command: &Command) -> bool {
+pub(crate) fn is_set_by(variable: &Var, command: &Command) -> bool {
     match &command.action {
-        Action::Int(int) => is_named(name, &int.target),
-        Action::Regex(regex) => is_named(name, &regex.target),
-        Action::Set(assignments) => assigns(name, assignments.as_slice()),
+        Action::Int(int) => is_target(variable, &int.target),
+        Action::Regex(regex) => is_target(variable, &regex.target),
+        Action::Set(assignments) => assigns(variable, assignments.as_slice()),
         Action::Loop(repeated) => {
             let Loop {
                 counter,
@@ -64,9 +71,9 @@ pub(crate) fn is_set_by(name: &Name, command: &Command) -> bool {
                 body,
                 ..
             } = &**repeated;
-            is_counter(name, counter)
-                | is_set_between(name, between)
-                | is_set_in(name, body.as_slice())
+            is_counter(variable, counter)
+                | is_set_between(variable, between)
+                | is_set_in(variable, body.as_slice())
         }
         Action::If(choice) => {
             let Choice {
@@ -74,7 +81,7 @@ pub(crate) fn is_set_by(name: &Name, command: &Command) -> bool {
                 else_do,
                 ..
             } = &**choice;
-            is_set_in(name, then_do.as_slice()) | is_set_in(name, else_do.as_slice())
+            is_set_in(variable, then_do.as_slice()) | is_set_in(variable, else_do.as_slice())
         }
         _ => false,
     }
@@ -82,18 +89,18 @@ pub(crate) fn is_set_by(name: &Name, command: &Command) -> bool {
 
 /// Whether a separator does.
 #[cycle(is_set)]
-fn is_set_between(name: &Name, between: &Option<Box<Command>>) -> bool {
+fn is_set_between(variable: &Var, between: &Option<Box<Command>>) -> bool {
     match between {
-        Some(command) => is_set_by(name, command),
+        Some(command) => is_set_by(variable, command),
         None => false,
     }
 }
 
 /// Whether one of these commands does.
 #[cycle(is_set)]
-pub(crate) fn is_set_in(name: &Name, commands: &[Command]) -> bool {
+pub(crate) fn is_set_in(variable: &Var, commands: &[Command]) -> bool {
     for command in commands {
-        if is_set_by(name, command) {
+        if is_set_by(variable, command) {
             return true;
         }
     }
@@ -113,21 +120,21 @@ pub(crate) fn loop_body(command: &Command) -> &[Command] {
     loop_of(command).map_or(&[], |repeated| repeated.body.as_slice())
 }
 
-/// The name of the counter of a loop, if it has one.
-fn name_of_counter(repeated: &Loop) -> Option<&Name> {
-    repeated.counter.as_ref().map(|v| &v.name)
+/// The counter of a loop, if it has one.
+fn own_counter(repeated: &Loop) -> Option<&Var> {
+    repeated.counter.as_ref().map(|v| &**v)
 }
 
-/// The name of the counter of a loop, if a command is one and has one.
-pub(crate) fn counter_name(command: &Command) -> Option<&Name> {
-    name_of_counter(loop_of(command)?)
+/// The counter of a loop, if a command is one and has one.
+pub(crate) fn counter_of(command: &Command) -> Option<&Var> {
+    own_counter(loop_of(command)?)
 }
 
-/// The name of the counter of REPI.
-pub(crate) fn turns_counter(command: &Command) -> Option<&Name> {
+/// The counter of REPI.
+pub(crate) fn turns_counter(command: &Command) -> Option<&Var> {
     let repeated = loop_of(command)?;
     match &repeated.guard {
-        LoopGuard::Times(_) => name_of_counter(repeated),
+        LoopGuard::Times(_) => own_counter(repeated),
         LoopGuard::While(_) => None,
     }
 }

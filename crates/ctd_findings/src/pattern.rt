@@ -31,18 +31,57 @@ enum Edge {
     End,
 }
 
+/// How `regex` reads a pattern over bytes.
+fn config() -> Config {
+    Config {
+        flags: Flags::default(),
+        octal: false,
+        utf8: false,
+        nest_limit: 250,
+    }
+}
+
+/// What is wrong with a literal of REGEX of which no pattern is built.
+#[derive(Clone, Copy)]
+pub struct PatternMistake {
+    /// The words of `regex` where it reads no pattern.
+    pub text: &'static str,
+    /// The number of a byte of the literal, from 1, where the mistake has a place.
+    pub byte: Option<usize>,
+}
+
+/// What is wrong with a literal of REGEX of which no pattern is built (LANGUAGE.md, `bad pattern`). An error where memory ran out.
+pub fn pattern_mistake(alloc: Global, literal: &[u8]) -> Result<PatternMistake, AllocError> {
+    let text = match from_utf8(literal) {
+        Ok(text) => text,
+        Err(error) => {
+            return Ok(PatternMistake {
+                text: "no UTF-8",
+                byte: Some(error.valid_up_to().saturating_add(1)),
+            });
+        }
+    };
+    match parse(alloc, text, &config()) {
+        Ok(_) => Ok(PatternMistake {
+            text: "it needs tables of more than 10 MiB",
+            byte: None,
+        }),
+        Err(error) => match error.kind {
+            ErrorKind::OutOfMemory => Err(AllocError),
+            _ => Ok(PatternMistake {
+                text: error.kind.message(),
+                byte: Some(error.span.start.saturating_add(1)),
+            }),
+        },
+    }
+}
+
 /// The tree that `regex` reads in a pattern, if it is one.
 pub(crate) fn tree_of(alloc: Global, pattern: &[u8]) -> Result<Option<Parsed>, AllocError> {
     let Ok(text) = from_utf8(pattern) else {
         return Ok(None);
     };
-    let config = Config {
-        flags: Flags::default(),
-        octal: false,
-        utf8: false,
-        nest_limit: 250,
-    };
-    match parse(alloc, text, &config) {
+    match parse(alloc, text, &config()) {
         Ok(parsed) => Ok(Some(parsed)),
         Err(error) => match error.kind {
             ErrorKind::OutOfMemory => Err(AllocError),

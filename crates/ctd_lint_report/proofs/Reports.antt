@@ -20,7 +20,7 @@ module _ {V P : Type 0} (tree_of : V → CommandList) (G : Ghosts P) (file : Lis
       })
 
   -- a program that was refused
-  pub reports_refusal : (fault : LoadFault) (unclosed : Option Place) → LoadsFrom tree_of G old new (Err fault) → fault.kind ≢ Memory
-      → IsLintReport AreRemarks file setup (before_after G old new) (on_err (refusal_lines file fault unclosed))
-  reports_refusal fault unclosed l other =
-      inr (record { fault = fault; text = l.bytes; gave_text = l.gave; within = l.short; fails = l.answer other; unclosed = unclosed; report_is = refl })
+  pub reports_refusal : (fault : LoadFault) (told : List ℕ) (unclosed : Option Place) → LoadsFrom tree_of G old new (Err fault) → fault.kind ≢ Memory
+      → IsLintReport AreRemarks file setup (before_after G old new) (on_err (refusal_lines file fault told unclosed))
+  reports_refusal fault told unclosed l other =
+      inr (record { fault = fault; text = l.bytes; gave_text = l.gave; within = l.short; fails = l.answer other; told = told; unclosed = unclosed; report_is = refl })

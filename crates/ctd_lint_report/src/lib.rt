@@ -1,6 +1,8 @@
 //! What is written of a program of the checktestdata language: its likely mistakes, and where it may stop without a verdict.
 #![tactic(auto)]
 
+mod expected;
+mod explanation;
 mod kind;
 mod program;
 mod reason;

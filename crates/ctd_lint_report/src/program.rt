@@ -10,6 +10,7 @@ ghost use Rattle.ctd_lint_report.specs.calls.Report.{AreRemarks, IsLintReport, f
 ghost use Rattle.ctd_lint_report.specs.calls.Text.{kept, refusal_lines};
 ghost use Rattle.ctd_lint_report.specs.calls.Traps.{verdict_lines, verdict_status};
 
+use crate::explanation::explanation;
 use crate::kind::{LintKind, is_ignored};
 use crate::setup::LintSetup;
 use crate::text::{findings_text, refusal_text};
@@ -133,6 +134,7 @@ fn write_refusal<O: Sink, E: Sink>(
     alloc: Global,
     file: &Bytes,
     fault: &LoadFault,
+    told: &[u8],
     unclosed: Option<Place>,
     out: &mut O,
     err: &mut E,
@@ -140,9 +142,9 @@ fn write_refusal<O: Sink, E: Sink>(
     requires out_works { O.has_failed out.old ≡ false }
     requires err_works { E.has_failed err.old ≡ false }
     ensures written { Leaves (before_after O.Sink out.old out.new) (before_after E.Sink err.old err.new)
-        (on_err (refusal_lines file.now fault.now unclosed)) result }
+        (on_err (refusal_lines file.now fault.now told.now unclosed)) result }
 {
-    let text = refusal_text(alloc, file.as_slice(), fault, unclosed)?;
+    let text = refusal_text(alloc, file.as_slice(), fault, told, unclosed)?;
     write_report(&[], text.as_slice(), NO_VERDICT, out, err)
 }
 
@@ -171,8 +173,9 @@ pub fn lint<P: Source, O: Sink, E: Sink>(
         Err(fault) => match fault.kind {
             LoadKind::Memory => return Err(ToolFault::Memory),
             _ => {
+                let told = explanation(alloc, text.as_slice(), &fault)?;
                 let unclosed = unclosed_command(alloc, text.as_slice(), &fault)?;
-                return write_refusal(alloc, file, &fault, unclosed, out, err);
+                return write_refusal(alloc, file, &fault, told.as_slice(), unclosed, out, err);
             }
         },
     };

@@ -121,14 +121,16 @@ pub(crate) fn refusal_text(
     alloc: Global,
     file: &[u8],
     fault: &LoadFault,
+    told: &[u8],
     unclosed: Option<Place>,
 ) -> Result<Vec<u8>, AllocError>
-    ensures { IfOk result (λ text. text.items ≡ refusal_lines file.now fault.now unclosed) }
+    ensures { IfOk result (λ text. text.items ≡ refusal_lines file.now fault.now told.now unclosed) }
 {
     let mut text = file.to_vec(alloc)?;
     write_fault_place(fault.place, &mut text)?;
     text.extend_from_slice(b": error: ")?;
     text.extend_from_slice(fault.kind.text().as_bytes())?;
+    text.extend_from_slice(told)?;
     text.push(b'\n')?;
     write_unclosed(file, unclosed, &mut text)?;
     Ok(text)

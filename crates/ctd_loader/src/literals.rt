@@ -5,14 +5,14 @@ ghost use Rattle.ctd_program.specs.calls.View.{command_tree, command_trees};
 ghost use Rattle.ctd_syntax.specs.inner.PatternLiterals.{literals, command_literals, separator_literals};
 ghost use Rattle.ctd_loader.specs.inner.Literals.{literals_at};
 
-use ctd_syntax::{Action, Choice, Command, Loop, PatternLiteral};
+use ctd_syntax::{Action, Choice, Command, Loop, RegexArguments};
 use std::alloc::{AllocError, Global};
 
 /// Appends the literals of commands to those found before.
 #[cycle(literals)]
 fn list_literals<'p>(
     commands: &'p [Command],
-    found: &mut Vec<&'p PatternLiteral>,
+    found: &mut Vec<&'p RegexArguments>,
 ) -> Result<(), AllocError>
     ensures lists { OnOk result (literals_at found.new.items ≡ literals_at found.old.items ++ literals (command_trees commands.now)) }
 {
@@ -26,7 +26,7 @@ fn list_literals<'p>(
 #[cycle(literals)]
 fn command_literals<'p>(
     command: &'p Command,
-    found: &mut Vec<&'p PatternLiteral>,
+    found: &mut Vec<&'p RegexArguments>,
 ) -> Result<(), AllocError>
     ensures lists { OnOk result (literals_at found.new.items ≡ literals_at found.old.items ++ command_literals (command_tree command.now)) }
 {
@@ -35,7 +35,7 @@ fn command_literals<'p>(
         Action::Int(_) | Action::String(_) | Action::Assert(_) => Ok(()),
         Action::Set(_) | Action::Unset(_) => Ok(()),
         Action::Regex(regex) => {
-            found.push(&regex.literal)?;
+            found.push(&**regex)?;
             Ok(())
         }
         Action::Loop(repeated) => {
@@ -59,7 +59,7 @@ fn command_literals<'p>(
 #[cycle(literals)]
 fn separator_literals<'p>(
     between: &'p Option<Box<Command>>,
-    found: &mut Vec<&'p PatternLiteral>,
+    found: &mut Vec<&'p RegexArguments>,
 ) -> Result<(), AllocError>
     ensures lists { OnOk result (literals_at found.new.items ≡ literals_at found.old.items ++ separator_literals (boxed_separator between.now)) }
 {
@@ -69,11 +69,11 @@ fn separator_literals<'p>(
     }
 }
 
-/// The literals of a program.
+/// The literals of a program, each with what else stands in its REGEX.
 pub(crate) fn literals_of(
     alloc: Global,
     commands: &[Command],
-) -> Result<Vec<&PatternLiteral>, AllocError>
+) -> Result<Vec<&RegexArguments>, AllocError>
     ensures literals { IfOk result (λ found. literals_at found.items ≡ literals (command_trees commands.now)) }
 {
     let mut found = Vec::new(alloc);

@@ -1,25 +1,29 @@
 //! A program that was read, as it is run.
-ghost use Rattle.std.specs.Prelude.{◌≡◌, ◌≢◌, ◌≤◌, None, Some, length, IfOk, IfErr};
+ghost use Rattle.std.specs.Prelude.{◌≡◌, ◌≢◌, ◌≤◌, ◌⊎◌, true, None, Some, length, All, OnOk, IfOk, IfErr, IsErrAnd};
 ghost use Rattle.ctd_source.specs.declared.source.Seen.TheVariants.{Going};
 ghost use Rattle.ctd_token.specs.declared.limits.TheConstants.{NESTING_LIMIT, PROGRAM_LIMIT};
 ghost use Rattle.ctd_program.specs.calls.Blocks.{list_blocks};
 ghost use Rattle.ctd_program.specs.calls.View.{command_trees};
 ghost use Rattle.ctd_syntax.specs.inner.PatternLiterals.{literals};
-ghost use Rattle.ctd_loader.specs.inner.Literals.{literals_at};
+ghost use Rattle.ctd_pattern.specs.Pattern.{IsPattern};
+ghost use Rattle.ctd_loader.specs.inner.Literals.{literals_at, IsBadLiteral};
 ghost use Rattle.ctd_loader.specs.Loading.{ArePatterns, IsBadPattern};
+ghost use Rattle.ctd_source.specs.SourceReads.{GaveBytes};
 
 use crate::literals::literals_of;
 use crate::text::{ReceivedText, receive};
 use ctd_pattern::{Matcher, Pattern, PatternFault};
 use ctd_source::Source;
-use ctd_syntax::{Command, LoadFault, LoadKind, PROGRAM_LIMIT, PatternLiteral, Program, parse};
+use ctd_syntax::{
+    Command, LoadFault, LoadKind, PROGRAM_LIMIT, PatternLiteral, Program, RegexArguments, parse,
+};
 use std::alloc::{AllocError, Global};
 use std::marker::Model;
 
 /// A program that was read, ready for any number of checks, which contracts see as the list of its commands.
 pub struct Plan {
     program: Program,
-    /// The patterns of its literals, in the order of the text, so that each stands at the number of its command.
+    /// The patterns of its literals, in the order of the text and each once, so that one stands at the number of each of its commands.
     patterns: Vec<Pattern>,
     ghost shallow: { list_blocks (command_trees program) ≤ NESTING_LIMIT },
 }
@@ -63,18 +67,57 @@ fn pattern_fault(literal: &PatternLiteral, fault: PatternFault) -> LoadFault
     }
 }
 
-/// Builds the patterns of literals, in order.
-fn build_all(alloc: Global, literals: &[&PatternLiteral]) -> Result<Vec<Pattern>, LoadFault>
+/// Builds the pattern of a literal.
+fn build(alloc: Global, literal: &PatternLiteral) -> Result<Pattern, LoadFault>
+    ensures literal { IfOk result (λ pattern. pattern ≡ literal.now.bytes) }
+    ensures is_pattern { IfOk result IsPattern }
+    ensures bad { IfErr result (λ fault. fault.kind ≢ LoadKind.Memory → IsBadLiteral literal.now fault) }
+    ensures memory { IfErr result (λ fault. fault.kind ≡ LoadKind.Memory → fault.place ≡ None) }
+{
+    match Pattern::read(alloc, literal.bytes.as_slice()) {
+        Ok(pattern) => Ok(pattern),
+        Err(fault) => Err(pattern_fault(literal, fault)),
+    }
+}
+
+/// Whether the pattern of a literal is built: it is the one at its number.
+fn is_built(arguments: &RegexArguments, patterns: &[Pattern]) -> bool
+    ensures { result ≡ true → All IsPattern patterns.now → IsPattern arguments.now.literal.bytes }
+{
+    match patterns.get(arguments.number as usize) {
+        Some(pattern) => pattern.is_of(arguments.literal.bytes.as_slice()),
+        None => false,
+    }
+}
+
+/// Builds the pattern of a literal and adds it to some, unless it is built.
+fn add_pattern(
+    alloc: Global,
+    arguments: &RegexArguments,
+    patterns: &mut Vec<Pattern>,
+) -> Result<(), LoadFault>
+    ensures is_pattern { OnOk result (All IsPattern patterns.old.items → IsPattern arguments.now.literal.bytes) }
+    ensures patterns { OnOk result (All IsPattern patterns.old.items → All IsPattern patterns.new.items) }
+    ensures bad { IfErr result (λ fault. fault.kind ≢ LoadKind.Memory → IsBadLiteral arguments.now.literal fault) }
+    ensures memory { IfErr result (λ fault. fault.kind ≡ LoadKind.Memory → fault.place ≡ None) }
+{
+    if is_built(arguments, patterns.as_slice()) {
+        return Ok(());
+    }
+    let pattern = build(alloc, &arguments.literal)?;
+    patterns.push(pattern)?;
+    Ok(())
+}
+
+/// Builds the patterns of literals, in order, each of them once.
+fn build_all(alloc: Global, literals: &[&RegexArguments]) -> Result<Vec<Pattern>, LoadFault>
     ensures are_patterns { IfOk result (λ _. ArePatterns (literals_at literals.now)) }
     ensures bad { IfErr result (λ fault. fault.kind ≢ LoadKind.Memory → IsBadPattern (literals_at literals.now) fault) }
     ensures memory { IfErr result (λ fault. fault.kind ≡ LoadKind.Memory → fault.place ≡ None) }
 {
     let mut patterns = Vec::new(alloc);
-    for literal in literals {
-        match Pattern::read(alloc, literal.bytes.as_slice()) {
-            Ok(pattern) => patterns.push(pattern)?,
-            Err(fault) => return Err(pattern_fault(literal, fault)),
-        }
+    for arguments in literals {
+        add_pattern(alloc, arguments, &mut patterns)?;
     }
     Ok(patterns)
 }
@@ -112,7 +155,7 @@ impl Plan {
     }
 
     /// What searches for each of its patterns, in their order, with tables that no earlier search has filled. No contract says which
-    /// these are: a command takes one only if it is of its literal.
+    /// these are: a command takes the one at its number only if it is of its literal.
     pub fn matchers(&self, alloc: Global) -> Result<Vec<Matcher<'_>>, AllocError> {
         matchers_of(alloc, self.patterns.as_slice())
     }
@@ -128,7 +171,7 @@ impl Plan {
         Ok(Plan { program, patterns })
     }
 
-    /// As `load`, and leaves the bytes that the source gave in `text`, but where memory ran out.
+    /// As `load`, and leaves in `text` the bytes that the source gave, but where memory ran out.
     pub fn load_text<P: Source>(
         alloc: Global,
         program: &mut P,
@@ -137,6 +180,7 @@ impl Plan {
         requires { P.seen program.old ≡ Going }
         ensures loads { LoadsFrom command_trees P.Source program.old program.new result }
         ensures memory { IfErr result (λ fault. fault.kind ≡ LoadKind.Memory → fault.place ≡ None) }
+        ensures text { IsErrAnd result (λ fault. fault.kind ≡ LoadKind.Memory) ⊎ GaveBytes P.Source program.old program.new text.new.items }
     {
         let received = receive(alloc, program, PROGRAM_LIMIT + 1)?;
         let ReceivedText { bytes, failed } = received;

@@ -1,5 +1,5 @@
 //! Patterns, each built once from its literal.
-ghost use Rattle.std.specs.Prelude.{◌≡◌, ◌↔◌, IfOk, IsUtf8};
+ghost use Rattle.std.specs.Prelude.{◌≡◌, ◌↔◌, true, IfOk, IsUtf8};
 
 use crate::matcher::Matcher;
 use regex::Error;
@@ -66,6 +66,14 @@ impl Pattern {
             Err(Error::OutOfMemory) => Err(PatternFault::Memory),
             Err(Error::Internal) => unreachable!(),
         }
+    }
+
+    /// Whether it is the pattern of a literal.
+    pub fn is_of(&self, literal: &[u8]) -> bool
+        ensures same { result ≡ true → self.now ≡ literal.now }
+        ensures all { self.now ≡ literal.now → result ≡ true }
+    {
+        self.regex.as_str().as_bytes() == literal
     }
 
     /// What searches for this pattern. It has tables of its own, which grow while it searches.

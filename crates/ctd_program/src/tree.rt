@@ -198,8 +198,8 @@ impl Drop for IntArguments {
 
 /// What REGEX takes: its literal, and the variable that gets what it matches, if there is one.
 pub struct RegexArguments {
-    /// How many commands REGEX stand before it in the text. It is a hint for those who look up its pattern, of which no contract says
-    /// anything.
+    /// The number of its literal: 0, 1, 2, .. in the order of the text, one for all that are written alike. It is a hint for those who look
+    /// up its pattern, of which no contract says anything.
     pub number: u32,
     pub literal: PatternLiteral,
     pub target: Option<Var>,

@@ -21,7 +21,7 @@ pub(crate) enum ParserToken<'t> {
     /// A name, with its number among those of the text.
     Name(&'t [u8], u32),
     Numeral(i128),
-    /// A string literal as it stands in the text, with the number that it has as the literal of a REGEX. First the number: behind the
+    /// A string literal as it stands in the text, with its number among those of REGEX, if it is one. First the number: behind the
     /// others it would make each token larger.
     Text(u32, &'t [u8], Place),
     Mark(Mark),
@@ -71,27 +71,32 @@ pub(crate) fn string_of(alloc: Global, literal: &[u8]) -> Result<Bytes, AllocErr
     }
 }
 
-// Counts the words REGEX, and gives a string the number of the last one: the literals of a text are 0, 1, 2, .. in its order.
+// The number of a word, which one that is not yet known gets: the numbers are 0, 1, 2, .. in the order of the text.
+fn number_of<'t>(word: &'t [u8], numbers: &mut BTreeMap<&'t [u8], u32>) -> Result<u32, AllocError> {
+    let next = u32::try_from(numbers.len()).unwrap_or(u32::MAX);
+    Ok(*numbers.entry(word)?.or_insert(next))
+}
+
+// Gives the literal of a REGEX its number. It is the first string behind the word.
 #[inline(always)]
-fn number_text<'t>(token: ParserToken<'t>, words: &mut u32) -> ParserToken<'t>
-    ensures same { lexeme result ≡ lexeme token.entry }
+fn number_literal<'t>(
+    token: ParserToken<'t>,
+    after_regex: &mut bool,
+    numbers: &mut BTreeMap<&'t [u8], u32>,
+) -> Result<ParserToken<'t>, AllocError>
+    ensures same { IfOk result (λ numbered. lexeme numbered ≡ lexeme token.entry) }
 {
     match token {
         ParserToken::Keyword(Keyword::Regex, _) => {
-            *words = words.saturating_add(1);
-            token
+            *after_regex = true;
+            Ok(token)
         }
-        ParserToken::Text(_, text, place) => {
-            ParserToken::Text(words.saturating_sub(1), text, place)
+        ParserToken::Text(_, text, place) if *after_regex => {
+            *after_regex = false;
+            Ok(ParserToken::Text(number_of(text, numbers)?, text, place))
         }
-        other => other,
+        other => Ok(other),
     }
-}
-
-// The number of a name, which a name that is not yet known gets: the numbers are 0, 1, 2, .. in the order of the text.
-fn number_of<'t>(name: &'t [u8], numbers: &mut BTreeMap<&'t [u8], u32>) -> Result<u32, AllocError> {
-    let next = u32::try_from(numbers.len()).unwrap_or(u32::MAX);
-    Ok(*numbers.entry(name)?.or_insert(next))
 }
 
 // Gives a name its number.
@@ -113,10 +118,11 @@ fn number_name<'t>(
 pub(crate) struct ParserTokens<'t> {
     lexer: Lexer<'t>,
     text: &'t [u8],
-    // How many words REGEX were given.
-    words: u32,
-    // The numbers of the names that were given.
-    numbers: BTreeMap<&'t [u8], u32>,
+    // Whether a word REGEX was given, and no string behind it.
+    after_regex: bool,
+    // The numbers of the literals of REGEX that were given, and those of the names.
+    literals: BTreeMap<&'t [u8], u32>,
+    names: BTreeMap<&'t [u8], u32>,
 }
 
 impl<'t> Model for ParserTokens<'t> {
@@ -144,8 +150,9 @@ impl<'t> ParserTokens<'t> {
         Ok(ParserTokens {
             lexer: Lexer::new(text)?,
             text,
-            words: 0,
-            numbers: BTreeMap::new(alloc),
+            after_regex: false,
+            literals: BTreeMap::new(alloc),
+            names: BTreeMap::new(alloc),
         })
     }
 
@@ -162,8 +169,12 @@ impl<'t> ParserTokens<'t> {
             Ok(None) => return Ok(None),
             Err(fault) => return Err(fault),
         };
-        let token = number_text(parser_token_of(self.text, token), &mut self.words);
-        Ok(Some(number_name(token, &mut self.numbers)?))
+        let token = number_literal(
+            parser_token_of(self.text, token),
+            &mut self.after_regex,
+            &mut self.literals,
+        )?;
+        Ok(Some(number_name(token, &mut self.names)?))
     }
 }
 

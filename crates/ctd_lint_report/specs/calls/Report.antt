@@ -43,15 +43,16 @@ pub record ReportsProgram {P : Type 0} {G : Ghosts P} (IsRemark : Remarking) (fi
   pub remarked : IsRemark file setup tree trap_list remarks
   pub report_is : report ≡ program_report file setup remarks trap_list
 
--- the source gave a text that may have this fault, and the report is that of the fault; which command is told to have no END is left open
+-- the source gave a text that may have this fault, and the report is that of the fault; what is told of it besides its name, and which command is told to have no END, is left open
 pub record ReportsRefusal {P : Type 0} {G : Ghosts P} (file : List ℕ) (program : BeforeAfter P G) (report : Report) : Type 0 where
   pub fault : LoadFault
   pub text : List ℕ
   pub gave_text : GaveBytes G program.old program.new text
   pub within : length text ≤ PROGRAM_LIMIT + 1
   pub fails : MayFail text (G.seen program.new) fault
+  pub told : List ℕ
   pub unclosed : Option Place
-  pub report_is : report ≡ on_err (refusal_lines file fault unclosed)
+  pub report_is : report ≡ on_err (refusal_lines file fault told unclosed)
 
 -- what is reported of the program in a file
 abbrev pub IsLintReport : {P : Type 0} {G : Ghosts P} → Remarking → List ℕ → LintSetup → BeforeAfter P G → Report → Type 0

@@ -44,9 +44,9 @@ abbrev pub unclosed_line : List ℕ → Option Place → List ℕ
 unclosed_line file None = []
 unclosed_line file (Some p) = file ++ (place_text p ++ codes ": note: this command has no END\n")
 
--- the lines of a program that is refused
-abbrev pub refusal_lines : List ℕ → LoadFault → Option Place → List ℕ
-refusal_lines file fault unclosed = file ++ fault_place_text fault.place ++ codes ": error: " ++ faults.kind_text fault.kind ++ codes "\n" ++ unclosed_line file unclosed
+-- the lines of a program that is refused, where this is told of the fault besides its name
+abbrev pub refusal_lines : List ℕ → LoadFault → List ℕ → Option Place → List ℕ
+refusal_lines file fault told unclosed = file ++ fault_place_text fault.place ++ codes ": error: " ++ faults.kind_text fault.kind ++ told ++ codes "\n" ++ unclosed_line file unclosed
 
 -- the line of a program that cannot be opened
 abbrev pub open_line : List ℕ → List ℕ

@@ -14,15 +14,15 @@ returns-clause-meaning g c =
     let limit = c.args.limits.steps in
     let program = command_trees c.args.plan.now in
     let presets = c.args.presets.now in
-    let first = c.in_ok-stack.stack in
+    let first = c.new-stack.result in
     let run = c.new-run.result in
     let start = starts_as c.args.testdata.now c.args.limits.bytes _ run.cursor c.new-run.ensures.cursor c.with_buffers-cursor.ensures.source c.with_buffers-cursor.ensures.begins c.with_buffers-cursor.ensures.stands in
     found c.args.testdata.now _ run.cursor c.run_program-ended.new.run.cursor c.args.limits _ _ _ start (search rules) c.run_program-ended.ensures.ends.goes c.taken-taken.ensures.taken c.seen-seen.ensures.seen
     (λ d f. finds c.args.mode d c.run_program-ended.result _ program presets limit c.run_program-ended.new.stack.left (state c.run_program-ended.new.run) c.in_ok-outcome.ensures.outcome (ap (λ n. limit - n) c.left.ensures) (ap (λ s. s.offset) c.spot-consumed.ensures)
     (follows_as d c.run_program-ended.result c.run_program-ended.new.stack.left [] (state c.run_program-ended.new.run) _ _
-    (ap (λ n. run_from d n (tasks program ++ finish ∷ []) (at_start c.args.mode presets)) (sym c.in_ok-stack.ensures.left)
+    (ap (λ n. run_from d n (tasks program ++ finish ∷ []) (at_start c.args.mode presets)) (sym c.new-stack.ensures.left)
     ∙ ap (λ cs. run_from d first.left (tasks (command_trees cs) ++ finish ∷ []) (at_start c.args.mode presets)) (sym c.commands.ensures.whole)
-    ∙ ap (λ ts. run_from d first.left ts (at_start c.args.mode presets)) (sym c.in_ok-stack.ensures.to_do)
+    ∙ ap (λ ts. run_from d first.left ts (at_start c.args.mode presets)) (sym c.new-stack.ensures.to_do)
     ∙ ap (λ p. run_from d first.left (to_do first.frames.items) (record { offset = p; store = initial presets; mode = c.args.mode })) (sym (ap (λ s. s.offset) start.begins.spot))
     ∙ ap (λ h. run_from d first.left (to_do first.frames.items) (record { offset = run.cursor.spot.offset; store = h; mode = c.args.mode })) (sym (c.new-run.ensures.store ∙ c.in_ok-store.ensures.pins))
     ∙ ap (λ m. run_from d first.left (to_do first.frames.items) (record { offset = run.cursor.spot.offset; store = run.store; mode = m })) (sym c.new-run.ensures.mode)) f))
@@ -50,6 +50,3 @@ returns-in_err-store-clause-reads g c = gave_none _ _
 
 pub returns-in_err-buffers-clause-reads : goal.returns-in_err-buffers-clause-reads
 returns-in_err-buffers-clause-reads g c = gave_none _ _
-
-pub returns-in_err-stack-clause-reads : goal.returns-in_err-stack-clause-reads
-returns-in_err-stack-clause-reads g c = gave_none _ _

@@ -1,5 +1,5 @@
-use Rattle.ctd_lint_report.proofs.Common.{All, AreTraps, Finding, IfSome, IsPlaced, IsTrueOfRuns, Leaves-WritesOneOf, List, NeverHappens, command_trees, events_of, on_err, places_of, program_report}
-use Rattle.ctd_lint_report.proofs.Common.{refusal_lines, remarks_of, subst, sym}
+use Rattle.ctd_lint_report.proofs.Common.{All, AreTraps, Finding, IfSome, IsPlaced, IsTrueOfRuns, Leaves-WritesOneOf, List, NeverHappens, command_trees, events_of, places_of, program_report}
+use Rattle.ctd_lint_report.proofs.Common.{remarks_of, subst, sym}
 use Rattle.ctd_lint_report.proofs.Reports.{reports_program, reports_refusal}
 use Rattle.ctd_lint_report.proofs.program.lint.Goals as goal
 
@@ -24,7 +24,7 @@ returns g c =
 
 pub returns-in_default : goal.returns-in_default
 returns-in_default g c = record {
-  written = Leaves-WritesOneOf _ _ _ (on_err (refusal_lines c.args.file.now c.in-Err.fault c.in_ok-unclosed-in_default.unclosed)) c.write_refusal.result
-      (reports_refusal command_trees g.P.Source c.args.file.now c.args.setup.now c.args.program.now _ c.in-Err.fault c.in_ok-unclosed-in_default.unclosed c.in-Err.ensures.loads c.in_default.not-Memory)
+  written = Leaves-WritesOneOf _ _ _ _ c.write_refusal.result
+      (reports_refusal command_trees g.P.Source c.args.file.now c.args.setup.now c.args.program.now _ c.in-Err.fault c.as_slice-in_default-2.result.now c.in_ok-unclosed-in_default.unclosed c.in-Err.ensures.loads c.in_default.not-Memory)
       c.write_refusal.ensures.written;
 }

@@ -6,7 +6,6 @@ use Rattle.ctd_check.proofs.stack.FrameStack.leave_list.Goals as goal
 pub invariant_of-self : goal.invariant_of-self
 invariant_of-self c = record {
   fits = popped c.args.self.now.left c.args.self.now.frames.items c.pop.new.self.items c.pop.result c.pop.ensures.items c.args.self.now.fits;
-  reserved = omega (arith, c.pop.ensures.capacity, c.args.self.now.reserved);
 }
 
 pub returns-clause-to_do : goal.returns-clause-to_do

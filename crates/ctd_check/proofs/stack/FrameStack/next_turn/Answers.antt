@@ -1,4 +1,4 @@
-use Rattle.std.proofs.Common.{refl, sym, ap, ◌∙◌, subst, List}
+use Rattle.std.proofs.Common.{refl, sym, ap, ◌∙◌, subst, List, length}
 use Rattle.ctd_check.specs.declared.frame.Frame.{Frame}
 use Rattle.ctd_check.specs.inner.FrameTasks.{Fits, IsListDone, all_to_do}
 use Rattle.ctd_check.proofs.Turns.{turn_before_last, refilled}
@@ -15,10 +15,10 @@ next_turn_in-requires c =
 
 pub returns-clause-to_do : goal.returns-clause-to_do
 returns-clause-to_do c running_loop at =
-    ap (all_to_do c.next_turn_in.result.now) (refilled _ c.args.self.now.frames.items c.next_turn_in.new.frames (c.next_turn_in.ensures.len ∙ c.as_mut_slice.ensures.len))
+    ap (all_to_do c.next_turn_in.result.now) (refilled _ c.args.self.now.frames.items c.next_turn_in.new.frames (c.next_turn_in.ensures.len ∙ ap length c.as_mut_slice.ensures.value))
     ∙ c.next_turn_in.ensures.to_do running_loop (record { below = at.below; frame = at.frame; is = c.as_mut_slice.ensures.value ∙ at.is; done = at.done; loop_is = at.loop_is })
 
 pub returns-clause-done : goal.returns-clause-done
 returns-clause-done c =
     let P : List Frame → Type 0 = λ fs. IsListDone fs in
-    subst P (sym (refilled _ c.args.self.now.frames.items c.next_turn_in.new.frames (c.next_turn_in.ensures.len ∙ c.as_mut_slice.ensures.len))) c.next_turn_in.ensures.done
+    subst P (sym (refilled _ c.args.self.now.frames.items c.next_turn_in.new.frames (c.next_turn_in.ensures.len ∙ ap length c.as_mut_slice.ensures.value))) c.next_turn_in.ensures.done
