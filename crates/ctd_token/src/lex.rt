@@ -18,6 +18,7 @@ use std::marker::Model;
 
 /// The place of a later offset of a program's text, from the place of an earlier one. Offset 0 has line 1 and column 1,
 /// and the end of the text has a place too. The time is linear in the bytes between the two offsets.
+#[inline(never)] // Its loop needs few registers, and in its callers it has none.
 pub fn advance(place: Place, text: &[u8], at: usize, to: usize) -> Place
     requires short { length text.now ≤ PROGRAM_LIMIT }
     requires here { place ≡ place_at text.now at }
