@@ -218,7 +218,7 @@ pub(crate) fn command_remarks<'p>(
     list_mistyped(command, at, outcomes, &mut found);
     list_counter(alloc, command, names, &mut found);
     list_behind(alloc, entry, &mut found);
-    list_one_answer(command, at, outcomes, &mut found);
+    list_one_answer(command, &names.parameters, at, outcomes, &mut found);
     list_kept(alloc, command, names, &mut found);
     list_no_index(alloc, command, names, &mut found);
     list_other_word(alloc, command, &names.words, &mut found);

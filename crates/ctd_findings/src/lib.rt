@@ -13,6 +13,7 @@ mod never;
 mod no_index;
 mod other_word;
 mod outcome;
+mod parameter;
 mod pattern;
 mod program;
 mod same;

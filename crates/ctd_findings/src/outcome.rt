@@ -6,6 +6,7 @@ use crate::finding::Remark;
 use crate::kind::Kind;
 use crate::loops::loop_of;
 use crate::never::NeverAt;
+use crate::parameter::asks_for_parameters;
 use crate::same::has_variable;
 use ctd_program::{Action, Command, Test};
 use ctd_states::TrapKind;
@@ -134,9 +135,11 @@ fn answer_kinds(command: &Command, t: &Test) -> (Kind, Kind) {
     }
 }
 
-/// Adds the remark on the test of a command that has one answer. Nothing is said where a run may stop at the test.
-pub(crate) fn list_one_answer(
-    command: &Command,
+/// Adds the remark on the test of a command that has one answer. Nothing is said where a run may stop at the test, nor where IF or ASSERT asks for
+/// parameters, to which presets may give another value.
+pub(crate) fn list_one_answer<'p>(
+    command: &'p Command,
+    parameters: &BTreeSet<&'p [u8]>,
     at: NeverAt,
     outcomes: &Outcomes,
     found: &mut Collector<Remark>,
@@ -144,7 +147,10 @@ pub(crate) fn list_one_answer(
     let Some(t) = test_of(command) else {
         return;
     };
-    if outcomes.stopping.contains(&key(command.place)) {
+    let is_loop = loop_of(command).is_some();
+    if outcomes.stopping.contains(&key(command.place))
+        || (!is_loop && asks_for_parameters(t, parameters))
+    {
         return;
     }
     let (if_true, if_false) = answer_kinds(command, t);

@@ -116,9 +116,10 @@ fn never_in<'t>(traps: &'t Option<TrapList<'_>>) -> &'t [Note]
     }
 }
 
-/// The findings of commands, where these presets are given.
+/// The findings of a program with these commands, one after the other, where these presets are given.
 fn findings_in<'p>(
     alloc: Global,
+    program: &'p [Command],
     commands: &[CommandInBlock<'p>],
     presets: &'p Presets,
     traps: &Option<TrapList<'_>>,
@@ -127,7 +128,7 @@ fn findings_in<'p>(
     ensures sound { IfOk result (λ found. All (IsSound (places_in commands.now) never.now) found.items) }
 {
     let mentions = all_mentions(alloc, commands)?;
-    let names = program_names(alloc, commands, mentions.as_slice(), presets.pins())?;
+    let names = program_names(alloc, program, commands, mentions.as_slice(), presets.pins())?;
     let outcomes = outcomes_of(alloc, traps, never)?;
     let mut found = Collector::new(alloc);
     list_not_mentioned(alloc, presets.pins(), &names.mentioned, &mut found);
@@ -148,5 +149,5 @@ pub fn findings<'p>(
         → IfOk result (λ found. All (IsTrueOfRuns (command_trees commands.now) presets.now) found.items) }
 {
     let entries = all_commands(alloc, commands)?;
-    findings_in(alloc, entries.as_slice(), presets, traps, never_in(traps))
+    findings_in(alloc, commands, entries.as_slice(), presets, traps, never_in(traps))
 }

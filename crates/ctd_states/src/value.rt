@@ -47,17 +47,15 @@ fn name_at<'n>(names: &[&'n [u8]], i: usize) -> &'n [u8]
     }
 }
 
-/// The index of a name, if it is listed.
+/// The index of a name, if it is listed among names that stand in order.
 pub fn index_of(names: &[&[u8]], entries: &[AbstractValue], name: &[u8]) -> Option<usize>
     ensures inside { IfSome result (λ i. i < length entries.now) }
     ensures named { IfSome result (λ i. name_at names.now i ≡ name.now) }
 {
-    for i in 0..entries.len() {
-        if name_at(names, i) == name {
-            return Some(i);
-        }
+    match names.binary_search(&name) {
+        Ok(i) if i < entries.len() && name_at(names, i) == name => Some(i),
+        _ => None,
     }
-    None
 }
 
 /// The abstract value of a name, if it is listed.
