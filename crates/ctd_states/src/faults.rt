@@ -65,16 +65,31 @@ pub fn no_faults() -> Faults {
     }
 }
 
+/// The variable that is to blame for one of two faults, with all numbers that it may be by both; of two variables the first.
+pub fn join_operands(a: Option<Operand>, b: Option<Operand>) -> Option<Operand> {
+    let (Some(first), Some(second)) = (a, b) else {
+        return a.or(b);
+    };
+    if first.name != second.name || first.is_element != second.is_element {
+        return a;
+    }
+    Some(Operand {
+        least: first.least.zip(second.least).map(|(x, y)| x.min(y)),
+        most: first.most.zip(second.most).map(|(x, y)| x.max(y)),
+        ..first
+    })
+}
+
 /// What is to blame for the faults of two lists.
-fn first_blame(a: Blame, b: Blame) -> Blame {
+fn join_blames(a: Blame, b: Blame) -> Blame {
     Blame {
         no_value: a.no_value.or(b.no_value),
         no_element: a.no_element.or(b.no_element),
-        wrong_type: a.wrong_type.or(b.wrong_type),
-        overflow: a.overflow.or(b.overflow),
-        division_by_zero: a.division_by_zero.or(b.division_by_zero),
-        exponent: a.exponent.or(b.exponent),
-        count: a.count.or(b.count),
+        wrong_type: join_operands(a.wrong_type, b.wrong_type),
+        overflow: join_operands(a.overflow, b.overflow),
+        division_by_zero: join_operands(a.division_by_zero, b.division_by_zero),
+        exponent: join_operands(a.exponent, b.exponent),
+        count: join_operands(a.count, b.count),
     }
 }
 
@@ -92,7 +107,7 @@ pub fn union(a: Faults, b: Faults) -> Faults
         exponent: a.exponent | b.exponent,
         count: a.count | b.count,
         shape: a.shape | b.shape,
-        blame: first_blame(a.blame, b.blame),
+        blame: join_blames(a.blame, b.blame),
     }
 }
 
