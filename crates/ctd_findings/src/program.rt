@@ -128,7 +128,13 @@ fn findings_in<'p>(
     ensures sound { IfOk result (λ found. All (IsSound (places_in commands.now) never.now) found.items) }
 {
     let mentions = all_mentions(alloc, commands)?;
-    let names = program_names(alloc, program, commands, mentions.as_slice(), presets.pins())?;
+    let names = program_names(
+        alloc,
+        program,
+        commands,
+        mentions.as_slice(),
+        presets.pins(),
+    )?;
     let outcomes = outcomes_of(alloc, traps, never)?;
     let mut found = Collector::new(alloc);
     list_not_mentioned(alloc, presets.pins(), &names.mentioned, &mut found);
@@ -149,5 +155,12 @@ pub fn findings<'p>(
         → IfOk result (λ found. All (IsTrueOfRuns (command_trees commands.now) presets.now) found.items) }
 {
     let entries = all_commands(alloc, commands)?;
-    findings_in(alloc, commands, entries.as_slice(), presets, traps, never_in(traps))
+    findings_in(
+        alloc,
+        commands,
+        entries.as_slice(),
+        presets,
+        traps,
+        never_in(traps),
+    )
 }

@@ -10,7 +10,9 @@ mod value;
 mod widen;
 
 pub use assign::{Context, Pair, assign_alone, assign_element, clear, listed};
-pub use faults::{Blame, Faults, NO_BLAME, Operand, TrapKind, has, join_operands, no_faults, union};
+pub use faults::{
+    Blame, Faults, NO_BLAME, Operand, TrapKind, has, join_operands, no_faults, union,
+};
 pub use join::join_entries;
 pub use steps::after_step;
 pub use stop::Stop;
