@@ -35,6 +35,7 @@ import fuzz  # noqa: E402
 from ctd_companion import Answer, Checker, DataFile, answer_of  # noqa: E402
 from ctd_coverage import Skeleton, Thing  # noqa: E402
 from ctd_file_runs import FileRun  # noqa: E402
+from ctd_guesses import Reading  # noqa: E402
 from ctd_program import GRAMMAR, commands_of, cut, parse  # noqa: E402
 from ctd_questions import Asker, Copy, Question, fresh_name, offset_at, place_at  # noqa: E402
 from ctd_untried import Coverage, cover, rows  # noqa: E402
@@ -52,7 +53,7 @@ class NeverFailing(FileRun):
     """Puts a question that never fails at each place; or with `is_bare` none."""
 
     def __init__(self, skeleton: Skeleton, is_bare: bool) -> None:
-        super().__init__(skeleton, Asker(Checker("", ""), open(os.devnull, "rb"), Path()), "", {})
+        super().__init__(skeleton, Asker(Checker("", ""), open(os.devnull, "rb"), Path()), "", {}, Reading(skeleton, False))
         self.asker.data.close()
         self.is_bare = is_bare
 
