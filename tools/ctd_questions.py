@@ -162,7 +162,8 @@ class Asker:
         if self.progress:
             self.progress.runs += 1
         self.copy_file.write_bytes(copy.text)
-        # (a seek of the file object might stay within what it holds, and leave the descriptor where the last run left it)
+        # (each run moves the descriptor, so the file object may hold nothing to go on from, and a seek of it might stay within what it holds)
+        self.data.seek(0, os.SEEK_END)
         os.lseek(self.data.fileno(), self.origin, os.SEEK_SET)
         answer, _ = Checker(self.checker.path, str(self.copy_file), without_step_limit(self.checker.options)).check_file(self.data)
         if answer.is_of_the_call:
