@@ -10,10 +10,11 @@ from ctd_guesses import Guess, Reading, Watching
 from ctd_ladders import Ladder, Sought
 from ctd_questions import Asker, CannotAsk, Copy, EndedOtherwise, bytes_before, numeral, place_at
 
-# Runs stop at something, so many of them and until they have read as much as the file has, where it counts as some bytes that one starts. Then the
-# file is read here.
-MOST_RUNS = 8
+# Runs stop at something, so many of them and until they have read as much as the file has, where it counts as some bytes that one starts, and a number
+# that does not stand in the data takes some runs more. Then the file is read here.
+MOST_RUNS = 6
 START = 1 << 16
+ROUNDS = 4
 # No number of the language has more digits.
 DIGITS = 40
 
@@ -35,13 +36,13 @@ class FileRun:
         """All that the file gives: runs until nothing is open, or a copy fits."""
         left, is_read = os.fstat(self.asker.data.fileno()).st_size, False
         while any(map(self.is_open, self.skeleton.things)) and (stopped := self.asker.first_failing(self.skeleton.copy(self))):
-            question, place = stopped
-            self.take(self.skeleton.thing_of(question), place)
-            left -= START + self.asker.offset(place)
+            thing, place = self.skeleton.thing_of(stopped[0]), stopped[1]
+            left -= (START + self.asker.offset(place)) * (ROUNDS if thing.sign and not thing.is_taken else 1)
             if not is_read and (left < 0 or self.asker.runs >= MOST_RUNS):
                 is_read = True
                 if self.is_confirmed():
                     break
+            self.take(thing, place)
         return self.found
 
     def is_confirmed(self) -> bool:
