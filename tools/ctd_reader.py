@@ -1,4 +1,4 @@
-"""A program as a Python function that reads data which fit it. It checks nothing, and what it says is a guess until the checker confirms it."""
+"""A program as a Python function that reads data which fit it. What it says is a guess until the checker confirms it."""
 from __future__ import annotations
 
 import re
@@ -18,7 +18,7 @@ Value = Union[int, bytes]
 MOST_DEPTH = 90
 # What a REGEX sees.
 WINDOW = 1 << 20
-BLANKS = rb"[ \t\v\f\r]*"
+BLANKS = rb"[ \t\v\f\r]"
 # What a pattern is made of, so far as it matters here: escapes, classes, and single bytes.
 PIECE = re.compile(rb"\\.|\[\^?\]?[^\]]*\]|.", re.DOTALL)
 HELPERS = {"/": "quotient", "%": "remainder"}
@@ -106,10 +106,15 @@ def reader_of(commands: Sequence[Command], presets: Sequence[Preset], skips_blan
         try:
             # what the data do not fit, or what reads them otherwise than the checker does
             return dict(zip(kept, map(Kept._make, read(data))))  # type: ignore[operator]
-        except (ArithmeticError, AttributeError, LookupError, NameError, TypeError, ValueError) as fault:
+        except (ArithmeticError, AttributeError, LookupError, NameError, TypeError, ValueError, MemoryError) as fault:
             raise CannotRead from fault
 
     return reader
+
+
+def take(text: str, size: int | str) -> str:
+    """A line that takes a text, and raises ValueError where another one stands: so no loop goes on without end behind the data."""
+    return f"pos = data.index({text}, pos, pos + {size}) + {size}"
 
 
 class Translation:
@@ -125,7 +130,7 @@ class Translation:
         if any(preset.has_indices or preset.name in self.arrays for preset in presets):
             raise CannotRead
         self.known: dict[str, object] = {one.__name__: one for one in (Values, quotient, remainder, is_unique)}
-        self.known.update(integer=re.compile(rb"-?[0-9]+").match, blanks=re.compile(BLANKS).match)
+        self.known.update(integer=re.compile(rb"-?[0-9]+").match, blanks=re.compile(BLANKS + rb"*").match, some_blanks=re.compile(BLANKS + rb"+").match)
         self.skips_blanks = skips_blanks
 
     def text(self, commands: Sequence[Command]) -> str:
@@ -171,13 +176,14 @@ class Translation:
             if command.otherwise:
                 self.add_block("else:", command.otherwise)
         elif word == "SPACE":
-            self.add("pos = blanks(data, pos).end()" if self.skips_blanks else "pos += 1")
+            self.add("pos = some_blanks(data, pos).end()" if self.skips_blanks else take("b' '", 1))
         elif word == "NEWLINE":
             self.skip_blanks()
-            self.add("pos += 1")
+            self.add(take(r"b'\n'", 1))
             self.skip_blanks()
         elif word == "STRING":
-            self.add(f"pos += len({self.expression(arguments[0])})")
+            self.add(f"found = {self.expression(arguments[0])}")
+            self.add(take("found", "len(found)"))
         elif word == "INT":
             self.add_taker("integer(data, pos)", "int(found[0])", arguments[2:])
         elif word == "REGEX":
@@ -268,7 +274,7 @@ class Translation:
 
     def test(self, tree: Tree) -> str:
         if isinstance(tree, Token):
-            return "pos == size"
+            return "pos >= size"
         parts, word = tree.parts, tree.parts[0].symbol
         if word == "!":
             return f"(not {self.test(parts[1])})"
