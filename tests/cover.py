@@ -1,197 +1,27 @@
 #!/usr/bin/env python3
 """Runs ctd-cover with the built checker. What it says is compared with texts that were worked out by hand, and on examples with the least
-and greatest values that other readers of the data find. Programs that are put together again have the checker's answer, as they stand and
-with questions that never fail: on the rows of tests/tables and on generated cases.
+and greatest values that other readers of the data find.
 
-The last line counts what passed and failed. usage: tests/cover.py [PROGRAM [CASES]]"""
+The last line counts what passed and failed. usage: tests/cover.py [PROGRAM]"""
 from __future__ import annotations
 
 import importlib.util
-import multiprocessing
 import os
-import subprocess
 import sys
-import tempfile
 import unittest
-from collections.abc import Callable, Iterator, Sequence
-from dataclasses import replace
+from collections.abc import Callable, Sequence
 from pathlib import Path
-from unittest import mock
 
 from companions import CompanionTest
-from fuzzing.case import Case, Source
-from fuzzing.cases import case_of
 from reference import limits
-from reference.faults import Refused
-from reference.syntax import printed_grammar
-from reference.tool import Answer as Left
 from results import TOP, checker_to_test, run_unit_tests
-from tables import TABLES, Row, bytes_of, rows_of, unfolded
 
 sys.path.insert(0, str(TOP / "tools"))
-import ctd_file_runs  # noqa: E402
-import ctd_untried  # noqa: E402
-import fuzz  # noqa: E402
-from ctd_companion import Answer, Checker, DataFile, answer_of  # noqa: E402
-from ctd_coverage import Skeleton, Thing  # noqa: E402
-from ctd_file_runs import FileRun  # noqa: E402
-from ctd_program import GRAMMAR, commands_of, cut, parse  # noqa: E402
-from ctd_questions import Asker, Copy, Question, fresh_name, offset_at, place_at  # noqa: E402
+from ctd_companion import Checker, DataFile  # noqa: E402
 from ctd_untried import Coverage, cover, rows  # noqa: E402
 
 CHECKER = checker_to_test()
-GENERATED = int(sys.argv[2]) if len(sys.argv) > 2 else 1_000
-SEED = 20
-# Longer programs take seconds each to be read in Python: they are put together again where more cases are asked for than the gate does.
-MOST_BYTES = 1 << 20 if GENERATED > 1_000 else 50_000
 JOBS = min(os.cpu_count() or 1, 4)
-STEP_LIMIT = "step limit reached"
-
-
-class NeverFailing(FileRun):
-    """Puts a question that never fails at each place; or with `is_bare` none."""
-
-    def __init__(self, skeleton: Skeleton, is_bare: bool) -> None:
-        super().__init__(skeleton, Asker(Checker("", ""), open(os.devnull, "rb"), Path()), "", {})
-        self.asker.data.close()
-        self.is_bare = is_bare
-
-    def question_for(self, thing: Thing) -> bytes | None:
-        if self.is_bare:
-            return None
-        value = b"%b==0" % thing.expression if thing.sign else b"!(%b)" % thing.test
-        return b"ASSERT(%b||0==0) " % value
-
-
-def told_of(program: bytes, copy: Copy, answer: Answer) -> tuple[object, ...]:
-    """What an answer to a copy says of the program: its place there is brought back."""
-    source = copy.source_at(answer.in_program) if answer.in_program else None
-    place = place_at(program, source) if isinstance(source, int) else source
-    return answer.status, answer.message, answer.in_data, place
-
-
-def differences(program: bytes, words: Sequence[str], wanted: Answer, run: Callable[[bytes], Answer]) -> Iterator[str]:
-    """How the answers to copies differ from that to the program. Where a run has no verdict, one with questions has the same message."""
-    skeleton = Skeleton(program, commands_of(program), fresh_name(program, words), [])
-    for is_bare in (True, False):
-        copy = skeleton.copy(NeverFailing(skeleton, is_bare))
-        answer = run(bytes(copy.text))
-        if answer.message in (STEP_LIMIT, "nested too deeply", "program too long"):
-            continue
-        found, right = told_of(program, copy, answer), (wanted.status, wanted.message, wanted.in_data, wanted.in_program)
-        if wanted.status == 2 and not is_bare:
-            found, right = found[:2], right[:2]
-        if found != right:
-            yield f"{'without' if is_bare else 'with'} questions {found}, wanted {right}"
-
-
-def without_limit(words: Sequence[bytes]) -> list[bytes]:
-    """The words of a command line with another limit of steps, which no case needs."""
-    changed: list[bytes] = []
-    for word in words:
-        is_value = bool(changed) and changed[-1] == b"--max-steps"
-        changed.append(b"100000" if is_value else b"--max-steps=100000" if word.startswith(b"--max-steps=") else word)
-    return changed
-
-
-def compare_cases(numbers: Sequence[int]) -> tuple[int, list[str]]:
-    """How many of the generated cases of these numbers had a program to put together again, and the differences."""
-    compared, told = 0, []
-    with fuzz.checker_in_folder(CHECKER) as checker:
-
-        def run(case: Case) -> Answer:
-            left: Left = checker.answer(case)
-            return answer_of(left.status, left.out, left.err)
-
-        for number in numbers:
-            case = case_of(SEED, number)
-            case = replace(case, words=tuple(word for word in case.words if word not in (b"-q", b"--quiet")))
-            if case.program is None or case.source in (Source.FAILING_INPUT, Source.FOLDER):
-                continue
-            wanted = run(case)
-            # (a help or a version has no program)
-            if (wanted.in_data is None and wanted.line != "testdata ok!") or wanted.message == STEP_LIMIT:
-                continue
-            compared += 1
-            words = without_limit(case.words)
-            found = differences(case.program, [os.fsdecode(word) for word in words], wanted, lambda text: run(replace(case, program=text, words=tuple(words))))
-            told += [f"case {number}: {one}" for one in found]
-    return compared, told
-
-
-class PutTogether(unittest.TestCase):
-    """A program that is put together again does what it did."""
-
-    def setUp(self) -> None:
-        scratch = tempfile.TemporaryDirectory()
-        self.addCleanup(scratch.cleanup)
-        self.folder = Path(scratch.name)
-
-    def run_row(self, row: Row, text: bytes) -> Answer:
-        (self.folder / "program").write_bytes(text)
-        call = [CHECKER, *(unfolded(word) for word in row.words), self.folder / "program"]
-        ran = subprocess.run(call, input=bytes_of(row.data), capture_output=True, check=False)
-        return answer_of(ran.returncode, ran.stdout, ran.stderr)
-
-    def test_the_grammar_is_that_of_the_reference(self) -> None:
-        self.assertEqual(GRAMMAR.strip(), printed_grammar().strip())
-
-    def test_the_rows_of_the_tables(self) -> None:
-        compared = 0
-        for file in sorted(TABLES.glob("*.toml")):
-            for name, row in rows_of(file):
-                wanted = Answer(*answer_fields(row))
-                if row.fails or wanted.message == STEP_LIMIT or (wanted.status == 2 and wanted.in_data is None):
-                    continue
-                program = bytes_of(row.program)
-                if len(program) > MOST_BYTES:
-                    continue
-                compared += 1
-                words = [unfolded(word) for word in row.words]
-                for difference in differences(program, words, wanted, lambda text, row=row: self.run_row(row, text)):
-                    self.fail(f"{name}: {program[:200]!r}: {difference}")
-        self.assertGreater(compared, 800)
-
-    def test_the_parser_refuses_what_the_checker_refuses(self) -> None:
-        others = ("nested too deeply", "bad pattern", "program too long", "cannot read program")
-        for file in sorted(TABLES.glob("*.toml")):
-            for name, row in rows_of(file):
-                wanted = Answer(*answer_fields(row))
-                program = bytes_of(row.program)
-                if wanted.message in others or len(program) > 100_000:
-                    continue
-                is_refused = wanted.status == 2 and wanted.in_data is None and wanted.in_program is not None
-                try:
-                    parse(cut(program))
-                    found = None
-                except Refused as refused:
-                    assert refused.offset is not None
-                    found = refused.message, place_at(program, refused.offset)
-                self.assertEqual(found, (wanted.message, wanted.in_program) if is_refused else None, f"{name}: {program[:200]!r}")
-
-    def test_generated_cases(self) -> None:
-        with multiprocessing.Pool(JOBS) as pool:
-            parts = pool.map(compare_cases, [range(job, GENERATED, JOBS) for job in range(JOBS)])
-        self.assertEqual([one for _, told in parts for one in told], [])
-        self.assertGreater(sum(compared for compared, _ in parts), GENERATED // 2)
-
-    def test_a_place_comes_back(self) -> None:
-        copy = Copy()
-        copy.add(b"ab\ncd", 0)
-        question = Question(b"x\ny")
-        copy.ask(question)
-        copy.add(b"ef", 5)
-        text = bytes(copy.text)
-        for part, source in ((b"d", 4), (b"x", question), (b"y", question), (b"f", 6)):
-            self.assertEqual(copy.source_at(place_at(text, text.index(part))), source)
-        self.assertEqual(offset_at(text, place_at(text, 7)), 7)
-
-
-def answer_fields(row: Row) -> tuple[object, ...]:
-    """The fields of the answer that a row has to give."""
-    status, out, err = row.wanted()
-    answer = answer_of(status, out, err)
-    return answer.status, answer.line, answer.message, answer.in_data, answer.command, answer.in_program
 
 
 class Cover(CompanionTest):
@@ -447,46 +277,6 @@ class Cover(CompanionTest):
 
     def test_whitespace(self) -> None:
         self.assertEqual(self.told("INT(1,9) SPACE INT(1,9) NEWLINE", " 1\t9 \n", "9  1\n", words=["-w"])[0], 0)
-
-
-
-class Runs(CompanionTest):
-    """How much of the data the runs read together. So that small files are as large ones, a run counts as no more than some bytes where it starts."""
-
-    tool = "ctd-cover"
-
-    def parts_read(self, program: str, data: str, *options: str) -> list[float]:
-        """Which part of the data each run reads: all, or what stands before the place that its answer names."""
-        self.write("p.ctd", program)
-        self.write("1.in", data)
-        log = self.folder / "answers"
-        self.write_checker(f'answer=$({CHECKER} "$@" 2>&1)\nstatus=$?\necho "$answer" >>{log}\n[ $status = 2 ] && exec >&2\necho "$answer"\nexit $status')
-        checker = Checker(str(self.folder / "checktestdata"), str(self.folder / "p.ctd"), options)
-        with mock.patch.object(ctd_file_runs, "START", 256), mock.patch.object(ctd_file_runs, "LEAST_READ", 0):
-            coverage = ctd_untried.cover(checker, [DataFile(str(self.folder / "1.in"))], JOBS, False)
-        self.assertEqual((coverage.misfits, coverage.files), ([], 1))
-        places = (answer_of(1, line.encode() + b"\n", b"").in_data for line in log.read_text().splitlines())
-        return [offset_at(data.encode(), place) / len(data) if place else 1.0 for place in places]
-
-    def assert_parts(self, most: float, program: str, data: str, *options: str) -> None:
-        parts = self.parts_read(program, data, *options)
-        self.assertLessEqual(sum(parts), most, [round(part, 3) for part in parts])
-
-    def test_numbers_in_any_order(self) -> None:
-        numbers = [(number * 7919 + 13) % 99_991 + 1 for number in range(4000)]
-        self.assert_parts(6, "REP(4000) INT(0,999999) NEWLINE END", "".join(f"{number}\n" for number in numbers))
-
-    def test_numbers_that_rise(self) -> None:
-        lines = "".join(f"{3 * number + 5} {9 * number + 7}\n" for number in range(3000))
-        self.assert_parts(12, "INT(1,9999,n) NEWLINE REPI(i,n) INT(0,99999,a[i]) SPACE INT(0,99999,b[i]) NEWLINE END", f"3000\n{lines}")
-
-    def test_what_begins_late(self) -> None:
-        first = " ".join(str((number * 7919) % 99_991 + 1) for number in range(2000))
-        words = "".join(f"{('add', 'del', 'ask')[number % 3]} {(number * 31) % 997 + 1}\n" for number in range(1000))
-        program = """SET(most=9) INT(1,5000,n) NEWLINE REPI(i,n,SPACE) INT(1,1000000,a[i]) END NEWLINE
-            REP(1000) REGEX("add|del|ask",w) SPACE INT(1,n,x) NEWLINE
-            IF(w=="add" && x>9 || x<5) ASSERT(x!=most) ELSE ASSERT(x<=n && x>0) END END"""
-        self.assert_parts(12, program, f"2000\n{first}\n{words}", "--define=most=0")
 
 
 def numbers_of(line: str) -> list[int]:

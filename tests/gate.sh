@@ -33,6 +33,8 @@ if [ "$failed" -eq 0 ]; then
     count tests/companions.py
     count tests/values.py
     count tests/cover.py
+    count tests/cover_copies.py
+    count tests/cover_runs.py
     count tests/flow.py
     count tests/jury.py
     count tests/package.py

@@ -77,6 +77,7 @@ share/checktestdata/tools/ctd_edits.py
 share/checktestdata/tools/ctd_equal.py
 share/checktestdata/tools/ctd_file_runs.py
 share/checktestdata/tools/ctd_flow.py
+share/checktestdata/tools/ctd_guesses.py
 share/checktestdata/tools/ctd_ladders.py
 share/checktestdata/tools/ctd_likely.py
 share/checktestdata/tools/ctd_limits.py
@@ -91,6 +92,7 @@ share/checktestdata/tools/ctd_processes.py
 share/checktestdata/tools/ctd_program.py
 share/checktestdata/tools/ctd_questions.py
 share/checktestdata/tools/ctd_ranges.py
+share/checktestdata/tools/ctd_reader.py
 share/checktestdata/tools/ctd_reduce.py
 share/checktestdata/tools/ctd_refusals.py
 share/checktestdata/tools/ctd_report.py

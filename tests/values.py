@@ -45,6 +45,9 @@ class Values(CompanionTest):
         self.assert_values("value out of range: 7; bounds 0 .. 5, i = 2", "REPI(i,3,SPACE) INT(0,5,a[i]) END", "1 5 7")
         self.assert_values("value out of range: 7; bounds a[i-1] = 8 .. 9, i = 1", "SET(a[0]=8) REPI(i,2) IF(i>0) INT(a[i-1],9) END END", "7")
 
+    def test_a_value_that_is_needed_behind_its_command(self) -> None:
+        self.assert_values("value out of range: 9; bounds 1 .. n = 5", "INT(1,9,n) REP(2) SPACE INT(1,n,u) ASSERT(u>1) END", "5 2 9")
+
     def test_a_number_that_no_variable_can_have(self) -> None:
         self.assert_values(f"value out of range: {40 * '9'}…; bounds 1 .. n = 5", "SET(n=5) INT(1,n)", 41 * "9")
         self.assert_values(f"value out of range: -{39 * '9'}; bounds 1 .. n = 5", "SET(n=5) INT(1,n)", "-" + 39 * "9")

@@ -4,23 +4,16 @@ from __future__ import annotations
 from collections.abc import Callable, Iterable, Mapping, Sequence
 from dataclasses import dataclass, field
 from functools import cached_property
-from typing import TYPE_CHECKING
+from typing import Protocol
 
 from ctd_decisions import Effect, decisions, numbers_of, tight_comparisons
 from ctd_flow import LOOPS, Apart, Condition, Flow, Happening, Holds, Matched, Part, Took
 from ctd_patterns import alternatives_of, lengths_of
 from ctd_presets import Preset
 from ctd_program import Command, Tree
-from ctd_ladders import Ladder
 from ctd_questions import GREATEST, LEAST, Copy, Question, literal, numeral
 from ctd_ranges import Range
 from ctd_takers import parted_integers
-
-if TYPE_CHECKING:
-    from ctd_file_runs import FileRun
-
-# How many outcomes a number gets when a run is to say about how large it is.
-SOME = 16
 
 
 @dataclass(frozen=True)
@@ -65,13 +58,6 @@ class Thing:
             return LEAST, GREATEST + 1
         return (best + 1, GREATEST + 1) if self.sign > 0 else (LEAST, best)
 
-    def steps_to_bound(self, before: Found | None) -> list[int]:
-        """Steps from a number to the bound, each half as far from it as the one before; and one past it."""
-        if self.bound is None or before is None:
-            return []
-        way = abs(self.bound - before.value)
-        return list(dict.fromkeys([self.bound + (self.sign > 0), *(self.bound - self.sign * (way >> power) for power in range(1, SOME - 1))]))
-
     def stays(self, best: int) -> bytes:
         return b"%b%b%b" % (self.expression, b"<=" if self.sign > 0 else b">=", numeral(best))
 
@@ -92,7 +78,18 @@ def merged(first: Findings, second: Findings) -> dict[Thing, Found]:
     return both
 
 
-Piece = Callable[[Copy, "FileRun"], None]
+class Putter(Protocol):
+    """What puts something into a copy for things that are open, and may count the NEWLINEs in a variable."""
+
+    @property
+    def counter(self) -> bytes | None: ...
+
+    def is_open(self, thing: Thing) -> bool: ...
+
+    def put(self, copy: Copy, thing: Thing) -> None: ...
+
+
+Piece = Callable[[Copy, Putter], None]
 
 
 @dataclass
@@ -161,16 +158,15 @@ class Skeleton:
 
     # what a run does with it
 
-    def copy(self, run: FileRun, start: bytes = b"", ladder: Ladder | None = None) -> Copy:
-        """The program with the questions that are open in a run; or with what watches, and at its end what tells of it."""
+    def copy(self, putter: Putter, start: bytes = b"", end: bytes = b"") -> Copy:
+        """The program with what is put in for things, and something at its start and its end."""
         copy = Copy()
         copy.add(start)
         for piece in self.pieces:
-            piece(copy, run)
-        if ladder:
+            piece(copy, putter)
+        if end:
             # (a comment may be the last line)
-            copy.add(b"\n")
-            ladder.ask(copy)
+            copy.add(b"\n" + end)
         return copy
 
     @cached_property
@@ -187,11 +183,6 @@ class Skeleton:
         """To the least of numbers the greatest, and the other way round."""
         pairs = [(one.things["least"], one.things["greatest"]) for one in self.watched if "least" in one.things]
         return {**dict(pairs), **{greatest: least for least, greatest in pairs}}
-
-    def is_placed(self, thing: Thing, found: Findings) -> bool:
-        """Whether a note tells where a number comes first: that of an INT does, where the bound is not taken."""
-        watched, name = self.owners[thing]
-        return watched.command.word == "INT" and not watched.is_taken("low" if name == "least" else "high", found)
 
     def is_told(self, thing: Thing, found: Findings) -> bool:
         """Whether a note may tell something of a thing: of the least and the greatest number only where a bound is not taken."""
@@ -215,7 +206,7 @@ class Skeleton:
     def verbatim(self, end: int) -> None:
         """Takes over the text up to an offset."""
         start, self.at = self.at, end
-        self.pieces.append(lambda copy, run: copy.add(self.text[start:end], start))
+        self.pieces.append(lambda copy, putter: copy.add(self.text[start:end], start))
 
     def insert(self, piece: Piece) -> None:
         self.pieces.append(piece)
@@ -223,11 +214,11 @@ class Skeleton:
     def put_all(self, things: Sequence[Thing], before: bytes = b" ") -> None:
         """Puts what is open of some things here, behind other text."""
 
-        def piece(copy: Copy, run: FileRun) -> None:
-            if any(run.is_open(thing) for thing in things):
+        def piece(copy: Copy, putter: Putter) -> None:
+            if any(putter.is_open(thing) for thing in things):
                 copy.add(before)
                 for thing in things:
-                    run.put(copy, thing)
+                    putter.put(copy, thing)
 
         self.insert(piece)
 
@@ -244,17 +235,21 @@ class Skeleton:
         self.verbatim(command.end)
         if command.word in ENDINGS:
             ENDINGS[command.word](self, watched)
+        if command.word == "NEWLINE":
+            self.insert(lambda copy, putter: copy.add(b" SET(%b=%b+1)" % (putter.counter, putter.counter)) if putter.counter else None)
 
     def add_separator(self, command: Command, block: Block) -> None:
         """A separator is one command, so it gets an IF around it that is always true."""
         self.verbatim(command.offset)
         self.blocks.append(block)
-        plain = command.word not in MAKERS
-        if not plain:
-            self.insert(lambda copy, run: copy.add(b"IF(0==0) "))
+        is_counted, is_plain = command.word == "NEWLINE", command.word not in MAKERS
+
+        def unless_plain(text: bytes) -> Piece:
+            return lambda copy, putter: None if is_plain and not (is_counted and putter.counter) else copy.add(text)
+
+        self.insert(unless_plain(b"IF(0==0) "))
         self.add_command(command, block)
-        if not plain:
-            self.insert(lambda copy, run: copy.add(b" END"))
+        self.insert(unless_plain(b" END"))
 
     def variable(self) -> bytes:
         """A name that the program does not have."""
@@ -293,11 +288,11 @@ def add_taker(skeleton: Skeleton, watched: Watched, behind: int, target: Tree | 
     rest = skeleton.text[behind : command.end]
     setting = b"SET(%b=%b) " % (skeleton.source(target), name) if target else b""
 
-    def piece(copy: Copy, run: FileRun) -> None:
-        if any(run.is_open(thing) for thing in things):
+    def piece(copy: Copy, putter: Putter) -> None:
+        if any(putter.is_open(thing) for thing in things):
             copy.add(b",%b) " % name)
             for thing in things:
-                run.put(copy, thing)
+                putter.put(copy, thing)
             copy.add(setting)
         else:
             copy.add(rest, behind)
@@ -370,7 +365,7 @@ def add_loop(skeleton: Skeleton, watched: Watched) -> None:
     sides = [] if is_counted or command.separator else watched.add_decisions(skeleton, None, Part.TEST)
 
     def unless_closed(text: bytes) -> Piece:
-        return lambda copy, run: copy.add(text) if any(run.is_open(thing) for thing in things) else None
+        return lambda copy, putter: copy.add(text) if any(putter.is_open(thing) for thing in things) else None
 
     skeleton.verbatim(command.offset)
     if is_counted:

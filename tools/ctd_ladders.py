@@ -23,13 +23,12 @@ DISTANCES = [0, *(round(2 ** (power / 4)) for power in range(4 * 32)), *(2**powe
 @dataclass(eq=False)
 class Sought:
     """A value that is looked for: an expression, what it is no less than, what it is less than (of strings None where that is not known),
-    what it may well be, the likeliest first, and steps that part it best at first."""
+    what it may well be, the likeliest first."""
 
     expression: bytes
     low: Value = LEAST
     high: Optional[Value] = GREATEST + 1
     likely: Sequence[Value] = ()
-    first_steps: Sequence[Value] = ()
     # the steps of one run, and what is put into its copy for them
     steps: Sequence[Value] = ()
     question: Question = field(default_factory=lambda: Question(b""))
@@ -60,9 +59,6 @@ class Sought:
     def choose_steps(self, most: int) -> None:
         """Chooses steps, so many at most: around what is likely, and where there is room others."""
         room = min(most, MOST_COMPARED)
-        if most > 1 and (steps := [step for step in self.first_steps if self.is_inside(step)]):
-            self.steps = sorted(steps[:room])  # type: ignore[type-var]
-            return
         around = dict.fromkeys(step for one in self.likely for step in (one, behind(one)) if self.is_inside(step))
         others: Sequence[Value]
         if isinstance(self.low, bytes):

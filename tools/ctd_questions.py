@@ -2,14 +2,11 @@
 place in the checker's message says which one it was. So each answer rests on a verdict of the checker."""
 from __future__ import annotations
 
-import mmap
 import os
 import re
 from bisect import bisect_right
 from collections.abc import Sequence
-from concurrent.futures import ThreadPoolExecutor
-from dataclasses import dataclass, field, replace
-from itertools import islice
+from dataclasses import dataclass, field
 from pathlib import Path
 from typing import IO, Optional, Union
 
@@ -115,11 +112,6 @@ def line_offset(file: IO[bytes], origin: int, number: int) -> int:
     return start
 
 
-def count_breaks(held: mmap.mmap, end: int) -> int:
-    """How many line feeds stand before an offset."""
-    return sum(held[start : min(start + BLOCK, end)].count(b"\n") for start in range(0, end, BLOCK))
-
-
 def bytes_before(file: IO[bytes], place: Place, count: int) -> bytes:
     """The bytes of a file before a place, in its line, at most so many."""
     start = line_offset(file, 0, place.line)
@@ -170,7 +162,8 @@ class Asker:
         if self.progress:
             self.progress.runs += 1
         self.copy_file.write_bytes(copy.text)
-        # (a seek of the file object might stay within what it holds, and leave the descriptor where the last run left it)
+        # (each run moves the descriptor, so the file object may hold nothing to go on from, and a seek of it might stay within what it holds)
+        self.data.seek(0, os.SEEK_END)
         os.lseek(self.data.fileno(), self.origin, os.SEEK_SET)
         answer, _ = Checker(self.checker.path, str(self.copy_file), without_step_limit(self.checker.options)).check_file(self.data)
         if answer.is_of_the_call:
@@ -187,29 +180,14 @@ class Asker:
             raise EndedOtherwise(answer, copy.question_at(answer.in_program))
         return int(found[1])
 
-    def told_all(self, copies: Sequence[Copy], jobs: int) -> list[int]:
-        """The numbers that some copies tell, with several runs at once."""
-
-        def one(number: int) -> int:
-            with open(self.data.name, "rb", buffering=0) as data:
-                return replace(self, data=data, copy_file=self.copy_file.with_suffix(f".{number}.ctd")).told(copies[number])
-
-        self.runs += len(copies)
-        with ThreadPoolExecutor(jobs) as pool:
-            return list(pool.map(one, range(len(copies))))
-
     def offset(self, place: Place) -> int:
         """How many bytes of the data stand before a place."""
         return line_offset(self.data, self.origin, place.line) + place.column - 1 - self.origin
 
-    def only_place(self, number: int) -> Place | None:
-        """Where a number stands in the data behind a blank, or at their start, and with no digit behind it; None where that is in several places."""
-        held = mmap.mmap(self.data.fileno(), 0, access=mmap.ACCESS_READ)
-        found = (one.start() for one in re.finditer(b"%d(?![0-9])" % number, held))
-        places = list(islice((at for at in found if not at or held[at - 1 : at].isspace()), 2))
-        if len(places) != 1:
-            return None
-        return Place(count_breaks(held, places[0]) + 1, places[0] - held.rfind(b"\n", 0, places[0]))
+    def content(self) -> bytes:
+        """All data."""
+        self.data.seek(self.origin)
+        return self.data.read()
 
     def first_failing(self, copy: Copy) -> tuple[Question, Place] | None:
         """The question that fails first, and where in the data; None where the data fit."""

@@ -13,6 +13,7 @@ from ctd_companion import FITS, STANDARD_INPUT, Checker, DataFile, Progress, ope
 from ctd_coverage import DECIDED, TIGHT, Findings, Skeleton, Watched, merged
 from ctd_file_runs import FileRun
 from ctd_flow import LOOPS
+from ctd_guesses import Reading
 from ctd_presets import presets_in
 from ctd_program import Command, commands_of
 from ctd_questions import Asker, CannotAsk, fresh_name, place_at
@@ -119,13 +120,12 @@ def cover(checker: Checker, given: Sequence[DataFile], jobs: int, is_whole: bool
             file, before = task
             with file.path.open("rb", buffering=0) as data:
                 asker = Asker(checker, data, shop.copy_file(), progress=progress)
-                return FileRun(coverage.skeleton, asker, file.name, before, is_whole, max(1, jobs // together)).whole(), asker.runs
+                return FileRun(skeleton, asker, file.name, before, reading, is_whole).whole(), asker.runs
 
-        progress, together = Progress(len(files), "files asked"), 1
+        progress, reading = Progress(len(files), "files asked"), Reading(skeleton, "-w" in checker.options)
         # small files first: most is answered by them
         for start in range(0, len(files), TOGETHER):
             tasks = [(file, coverage.found) for file in files[start : start + TOGETHER]]
-            together = min(len(tasks), jobs)
             for found, runs in results_in_order(one, tasks, jobs, progress.behind(start)):
                 coverage.found = merged(coverage.found, found)
                 coverage.runs += runs

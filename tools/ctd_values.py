@@ -337,7 +337,7 @@ class Fault:
         """The number in the data, the bounds, and the variables of both."""
         low, high, *target = self.command.arguments
         lower, upper, taken = self.source(low), self.source(high), self.fresh + b"taken"
-        self.new = b""
+        self.new = b"".join(b"SET(%b=%b)" % (self.source(one), taken) for one in target)
         self.before = b"INT(-2^126*2,2^126-1+2^126,%b) " % taken
         self.condition = b"%b<(%b)||%b>(%b)" % (taken, lower, taken, upper)
         try:
