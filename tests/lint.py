@@ -4,8 +4,8 @@
 A row has a program, further words of the command line, and the findings that it has to tell: the line and the column of a command, the kind, and the
 name of a variable. Where it has `traps`, these are told behind the findings, and `verdict` is the line that --verdicts asks for; else all kinds of
 traps are left out. `{3 ab}` in a program stands for `ababab`, and each `@` in such a text for the number of its turn. A row of the table `refusals`
-has the line on standard error in place of the findings, and one of `calls` has several programs. What lists the kinds lists all of them. Programs of
-a megabyte are timed too, and no program may take too much memory.
+has the line on standard error in place of the findings, and one of `calls` has several programs. What lists the kinds lists all of them. With --json
+each program has to be told the same as text tells. Programs of a megabyte are timed too, and no program may take too much memory.
 The last line counts passed and failed. usage: tests/lint.py [PROGRAM]"""
 from __future__ import annotations
 
@@ -19,6 +19,7 @@ from collections.abc import Iterator
 from pathlib import Path
 from typing import Any
 
+from lint_json import bytes_of, objects_of, streams_of, unmeant
 from markdown_blocks import blocks
 from tables import unfolded
 from traps_told import EVERY
@@ -31,6 +32,9 @@ TIME_LIMIT = 1.0
 MEMORY_LIMIT = 200_000
 TRIES = 5
 MEGABYTE = 1_048_576
+
+# The name of a file with bytes that JSON has to write otherwise.
+STRANGE = 'caf\u00e9 "\\\t\x7f\u20ac.ctd'
 
 # Where the kinds of findings are listed, and how a line that has some of them begins.
 LISTS = {
@@ -151,10 +155,31 @@ def listed(file: str, beginning: str) -> list[str]:
     return sorted(kind for cell in cells for kind in re.findall(r"[a-z]+(?:-[a-z]+)*", cell))
 
 
+def as_json(linter: Linter, text: str, words: list[str], status: int) -> Iterator[tuple[str, object, object]]:
+    """What --json leaves, as text, is what text leaves, and ends with the verdict; with each finding on runs it tells what never happens."""
+    all_words = words if "--verdicts" in words else [*words, "--verdicts"]
+    _, out, err = linter.run(text, all_words)
+    json_status, json_out, json_err = linter.run(text, [*words, "--json"])
+    objects = objects_of(json_out)
+    yield "as JSON", (status, out, err), (json_status, *(("", json_err) if json_err else streams_of(objects)))
+    yield "what never happens as JSON", [], unmeant(objects)
+
+
+def strange_names(linter: Linter) -> Iterator[tuple[str, object, object]]:
+    """The name of a file comes back from JSON byte for byte, also of one that is not there."""
+    _, out, _ = linter.run_on({STRANGE: "INT(1,9,n)"}, ["--json", STRANGE, "x" + STRANGE])
+    objects = objects_of(out)
+    yield "a strange name of a file", [STRANGE.encode()] * 2 + [b"x" + STRANGE.encode()], [bytes_of(said["file"]) for said in objects]
+    yield "the ranks beside it", ["note", "verdict", "error"], [said["rank"] for said in objects]
+
+
 def outcomes(linter: Linter, table: Table) -> Iterator[tuple[str, object, object]]:
     """A name for each test, with what is wanted and what is found."""
     for name, text, words, wanted in [*rows(table), *documented(table)]:
         yield name, wanted, linter.run(text, words)
+        for told, json_wanted, found in as_json(linter, text, words, wanted[0]):
+            yield f"{name}, {told}", json_wanted, found
+    yield from strange_names(linter)
     for call in table["calls"]:
         wanted = (call["status"], call.get("out", ""), call.get("err", ""))
         yield f"call {call['words']}", wanted, linter.run_on(call["files"], call["words"])

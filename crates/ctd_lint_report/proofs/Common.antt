@@ -1,10 +1,11 @@
 -- What the proofs take from elsewhere.
 pub use Rattle.ctd_findings.specs.calls.Findings.{IsPlaced, IsTrueOfRuns, places_of}
 pub use Rattle.ctd_findings.specs.declared.finding.Finding.{Finding}
+pub use Rattle.ctd_lint_report.specs.calls.Json.{byte_text, never_object}
 pub use Rattle.ctd_lint_report.specs.calls.Kinds.{is_ignored, trap_named_among}
 pub use Rattle.ctd_lint_report.specs.calls.Reasons.{reason_of}
-pub use Rattle.ctd_lint_report.specs.calls.Report.{AreRemarks, IsLintReport, findings_status, is_told, program_report, remarks_of}
-pub use Rattle.ctd_lint_report.specs.calls.Text.{findings_lines, kept, refusal_lines}
+pub use Rattle.ctd_lint_report.specs.calls.Report.{AreRemarks, IsLintReport, findings_status, is_told, program_report, refusal_report, remarks_of}
+pub use Rattle.ctd_lint_report.specs.calls.Text.{findings_lines, kept}
 pub use Rattle.ctd_lint_report.specs.calls.Traps.{AreTraps, condition_text, every_text, is_open, kept_traps, places_behind, places_text, some_element, some_shape, some_unconditional, traps_lines, verdict_status, verdict_text}
 pub use Rattle.ctd_lint_report.specs.declared.kind.LintKind.{LintKind}
 pub use Rattle.ctd_lint_report.specs.declared.setup.LintSetup.{LintSetup}
@@ -12,7 +13,6 @@ pub use Rattle.ctd_loader.specs.calls.Loading.{LoadsFrom}
 pub use Rattle.ctd_program.specs.Tree.{CommandList}
 pub use Rattle.ctd_program.specs.calls.View.{command_trees}
 pub use Rattle.ctd_report.proofs.WrittenLemmas.{Leaves-WritesOneOf}
-pub use Rattle.ctd_report.specs.Report.{on_err}
 pub use Rattle.ctd_report.specs.Written.{before_after}
 pub use Rattle.ctd_source.specs.declared.source.Source.{Ghosts}
 pub use Rattle.ctd_token.specs.declared.fault.LoadFault.{LoadFault}
@@ -26,4 +26,4 @@ pub use Rattle.std.proofs.lemmas.Int.{to_z-of_z}
 pub use Rattle.std.proofs.lemmas.List.{append_assoc}
 pub use Rattle.std.specs.Fmt.{signed_decimal}
 pub use Rattle.std.specs.Int.{w128}
-pub use Rattle.std.specs.List.{list_any}
+pub use Rattle.std.specs.List.{flat_map, list_any}

@@ -1,6 +1,7 @@
 -- What the contracts of public calls say.
 pub mod Kinds
+pub mod Json
+pub mod Text
 pub mod Traps
 pub mod Reasons
-pub mod Text
 pub mod Report

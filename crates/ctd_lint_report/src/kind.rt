@@ -1,9 +1,9 @@
 //! The kinds of traps, and the kinds that the command line names.
 
 ghost use Rattle.std.specs.Prelude.{◌≡◌};
-ghost use Rattle.ctd_lint_report.specs.calls.Kinds.{is_element, is_ignored, is_mistyped, is_shape, is_told_kind, is_unconditional, is_valueless, lint_kind_name, lint_kind_named, trap_name, trap_named_among, trap_text};
+ghost use Rattle.ctd_lint_report.specs.calls.Kinds.{is_element, is_ignored, is_mistyped, is_shape, is_told_kind, is_unconditional, is_valueless, lint_kind_name, lint_kind_named, rank_text, trap_name, trap_named_among, trap_text};
 
-use ctd_findings::Kind;
+use ctd_findings::{Kind, Rank};
 use ctd_states::TrapKind;
 
 /// All kinds of traps.
@@ -25,6 +25,16 @@ pub enum LintKind {
     Finding(Kind),
     /// Where a run may stop without a verdict.
     Trap(TrapKind),
+}
+
+/// The word of a rank.
+pub(crate) fn rank_text(rank: Rank) -> &'static str
+    ensures { result.now ≡ rank_text rank }
+{
+    match rank {
+        Rank::Note => "note",
+        Rank::Warning => "warning",
+    }
 }
 
 /// The name of a kind of traps, as `bad-count`.

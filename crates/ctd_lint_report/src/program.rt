@@ -2,23 +2,21 @@
 
 ghost use Rattle.std.specs.Prelude.{◌≡◌, IfOk, false};
 ghost use Rattle.ctd_source.specs.declared.source.Seen.TheVariants.{Going};
-ghost use Rattle.ctd_report.specs.Report.{on_err};
 ghost use Rattle.ctd_report.specs.calls.Written.{Leaves};
 ghost use Rattle.ctd_report.specs.Written.{WritesOneOf, before_after};
-ghost use Rattle.ctd_lint_report.specs.calls.Reasons.{reason_of};
-ghost use Rattle.ctd_lint_report.specs.calls.Report.{AreRemarks, IsLintReport, findings_status, is_told, names_of, program_lines, program_report, program_status, remarks_of};
-ghost use Rattle.ctd_lint_report.specs.calls.Text.{kept, refusal_lines};
+ghost use Rattle.ctd_lint_report.specs.calls.Report.{AreRemarks, IsLintReport, findings_status, program_lines, program_report, program_status, refusal_report, remarks_of, unopened_report};
+ghost use Rattle.ctd_lint_report.specs.calls.Text.{findings_lines, kept};
 ghost use Rattle.ctd_lint_report.specs.calls.Traps.{verdict_lines, verdict_status};
 
+use crate::entry::{refusal_text, unopened_text, write_error, write_finding, write_never};
 use crate::explanation::explanation;
 use crate::kind::{LintKind, is_ignored};
-use crate::setup::LintSetup;
-use crate::text::{findings_text, refusal_text};
-use crate::traps::{some_open, too_large_text, traps_text, write_verdict_line};
+use crate::setup::{Form, LintSetup};
+use crate::traps::{some_open, too_large_entry, traps_text, write_verdict_of};
 use crate::unclosed::unclosed_command;
 use ctd_findings::{Finding, Rank, findings};
 use ctd_loader::Plan;
-use ctd_report::{NO_VERDICT, Sink, ToolFault, write_report};
+use ctd_report::{Sink, ToolFault, write_report};
 use ctd_source::Source;
 use ctd_token::{Bytes, LoadFault, LoadKind, Place};
 use ctd_traps::{TrapList, traps};
@@ -29,6 +27,24 @@ pub const NO_WARNINGS: u8 = 0;
 
 /// The status of a program with warnings, and where `--verdicts` does not find that every data file gets a verdict.
 const WARNINGS: u8 = 1;
+
+/// What is written of the findings in a file, but for those of kinds that are left out.
+fn findings_text(
+    alloc: Global,
+    file: &[u8],
+    setup: &LintSetup,
+    found: &[Finding],
+) -> Result<Vec<u8>, AllocError>
+    ensures { IfOk result (λ text. text.items ≡ findings_lines setup.now.form file.now (kept setup.now.ignored.items found.now)) }
+{
+    let mut text = Vec::new(alloc);
+    for finding in found {
+        if !is_ignored(finding.remark.kind.name(), setup.ignored.as_slice()) {
+            write_finding(setup.form, file, finding, &mut text)?;
+        }
+    }
+    Ok(text)
+}
 
 /// The status for some findings, but for those of kinds that are left out.
 fn status_of(found: &[Finding], ignored: &[LintKind]) -> u8
@@ -73,7 +89,7 @@ fn program_status(
     own.max(verdict_status(setup, trap_list))
 }
 
-/// What is written of the traps of a program, but for those that findings tell too.
+/// What is written of the traps of a program, but for those that findings tell too, and of what never happens.
 fn verdict_text(
     alloc: Global,
     file: &[u8],
@@ -81,14 +97,15 @@ fn verdict_text(
     found: &[Finding],
     trap_list: &Option<TrapList<'_>>,
 ) -> Result<Vec<u8>, AllocError>
-    ensures { IfOk result (λ text. text.items ≡ verdict_lines file.now setup.now (reason_of (names_of trap_list.now)) (is_told (kept setup.now.ignored.items found.now)) trap_list.now) }
+    ensures { IfOk result (λ text. text.items ≡ verdict_lines file.now setup.now (remarks_of file.now setup.now found.now trap_list.now) trap_list.now) }
 {
     let Some(list) = trap_list else {
-        return too_large_text(alloc, file);
+        return too_large_entry(alloc, setup.form, file);
     };
     let traps = list.traps.as_slice();
     let mut text = traps_text(alloc, file, setup, found, list.names.as_slice(), traps)?;
-    write_verdict_line(file, setup, traps, &mut text)?;
+    write_never(setup.form, file, list.never.as_slice(), &mut text)?;
+    write_verdict_of(alloc, file, setup, traps, &mut text)?;
     Ok(text)
 }
 
@@ -102,8 +119,7 @@ fn program_text(
 ) -> Result<Vec<u8>, AllocError>
     ensures { IfOk result (λ text. text.items ≡ program_lines file.now setup.now (remarks_of file.now setup.now found.now trap_list.now) trap_list.now) }
 {
-    let ignored = setup.ignored.as_slice();
-    let mut text = findings_text(alloc, file.as_slice(), found, ignored)?;
+    let mut text = findings_text(alloc, file.as_slice(), setup, found)?;
     let lines = verdict_text(alloc, file.as_slice(), setup, found, trap_list)?;
     text.extend_from_slice(lines.as_slice())?;
     Ok(text)
@@ -132,6 +148,7 @@ fn write_program<O: Sink, E: Sink>(
 /// Writes why a program is refused, and returns the status.
 fn write_refusal<O: Sink, E: Sink>(
     alloc: Global,
+    form: Form,
     file: &Bytes,
     fault: &LoadFault,
     told: &[u8],
@@ -142,14 +159,31 @@ fn write_refusal<O: Sink, E: Sink>(
     requires out_works { O.has_failed out.old ≡ false }
     requires err_works { E.has_failed err.old ≡ false }
     ensures written { Leaves (before_after O.Sink out.old out.new) (before_after E.Sink err.old err.new)
-        (on_err (refusal_lines file.now fault.now told.now unclosed)) result }
+        (refusal_report form file.now fault.now told.now unclosed) result }
 {
-    let text = refusal_text(alloc, file.as_slice(), fault, told, unclosed)?;
-    write_report(&[], text.as_slice(), NO_VERDICT, out, err)
+    let text = refusal_text(alloc, form, file.as_slice(), fault, told, unclosed)?;
+    write_error(form, text.as_slice(), out, err)
+}
+
+/// Writes that a program cannot be opened, and returns the status.
+pub fn write_unopened<O: Sink, E: Sink>(
+    alloc: Global,
+    form: Form,
+    file: &Bytes,
+    out: &mut O,
+    err: &mut E,
+) -> Result<u8, ToolFault>
+    requires out_works { O.has_failed out.old ≡ false }
+    requires err_works { E.has_failed err.old ≡ false }
+    ensures written { Leaves (before_after O.Sink out.old out.new) (before_after E.Sink err.old err.new) (unopened_report form file.now) result }
+{
+    let text = unopened_text(alloc, form, file.as_slice())?;
+    write_error(form, text.as_slice(), out, err)
 }
 
 /// Reads the program in a file and writes a line for each finding and trap, and returns the status. A program that is refused has a line on
-/// standard error, and where it breaks off a second one at the command that has no END.
+/// standard error, and where it breaks off a second one at the command that has no END. As JSON all is on standard output, with what never
+/// happens besides.
 ///
 /// `Write` is returned where a stream failed, which then holds a part of its text from the start, and the other stream nothing.
 /// `Memory` is returned where memory ran out: nothing was written.
@@ -175,7 +209,8 @@ pub fn lint<P: Source, O: Sink, E: Sink>(
             _ => {
                 let told = explanation(alloc, text.as_slice(), &fault)?;
                 let unclosed = unclosed_command(alloc, text.as_slice(), &fault)?;
-                return write_refusal(alloc, file, &fault, told.as_slice(), unclosed, out, err);
+                let told = told.as_slice();
+                return write_refusal(alloc, setup.form, file, &fault, told, unclosed, out, err);
             }
         },
     };

@@ -1,12 +1,14 @@
 //! Why a trap is one: the variable that is to blame, and the numbers that it may be.
 
-ghost use Rattle.std.specs.Prelude.{◌≡◌, ◌++◌, OnOk, option_map};
+ghost use Rattle.std.specs.Prelude.{◌≡◌, ◌++◌, IfOk, OnOk, option_map};
 ghost use Rattle.std.specs.Fmt.{signed_decimal};
-ghost use Rattle.ctd_lint_report.specs.calls.Reasons.{between_text, bounds_text, least_text, most_text, name_at, operand_text, reason_text, same_text};
+ghost use Rattle.ctd_lint_report.specs.calls.Reasons.{between_text, bounds_text, least_text, most_text, name_at, operand_text, reason_of, same_text};
 
 use ctd_states::Operand;
+use ctd_token::Bytes;
+use ctd_traps::Trap;
 use itoa::Buffer;
-use std::alloc::AllocError;
+use std::alloc::{AllocError, Global};
 
 /// Appends a number.
 fn write_number(number: i128, text: &mut Vec<u8>) -> Result<(), AllocError>
@@ -96,18 +98,19 @@ fn write_operand(
     Ok(())
 }
 
-/// Appends the reason of a trap, if a variable is to blame: by its index in these names.
-pub(crate) fn write_reason(
+/// The reason of a trap, if a variable is to blame: by its index in these names.
+pub(crate) fn reason_of(
+    alloc: Global,
     names: &[&[u8]],
-    operand: Option<Operand>,
-    text: &mut Vec<u8>,
-) -> Result<(), AllocError>
-    ensures { OnOk result (text.new.items ≡ text.old.items ++ reason_text names.now operand) }
+    trap: &Trap,
+) -> Result<Option<Bytes>, AllocError>
+    ensures { IfOk result (λ reason. reason ≡ reason_of names.now trap.now) }
 {
-    let Some(operand) = operand else {
-        return Ok(());
+    let Some(operand) = trap.operand else {
+        return Ok(None);
     };
-    text.extend_from_slice(b": ")?;
-    write_operand(name_at(names, operand.name), operand, text)?;
-    write_bounds(operand.least, operand.most, text)
+    let mut text = Vec::new(alloc);
+    write_operand(name_at(names, operand.name), operand, &mut text)?;
+    write_bounds(operand.least, operand.most, &mut text)?;
+    Ok(Some(Bytes::copy(alloc, text.as_slice())?))
 }

@@ -1,34 +1,24 @@
-//! How findings and faults are written: as compilers do, so that editors find their places.
+//! What is written as text: lines as compilers have them, so that editors find their places.
 
-ghost use Rattle.std.specs.Prelude.{◌≡◌, ◌++◌, decimal, OnOk, IfOk};
-ghost use Rattle.ctd_lint_report.specs.calls.Text.{fault_place_text, finding_line, findings_lines, kept, name_text, open_line, rank_text, refusal_lines, remark_text, unclosed_line};
-ghost use Rattle.ctd_lint_report.specs.calls.Traps.{place_text};
+ghost use Rattle.std.specs.Prelude.{◌≡◌, ◌++◌, decimal, OnOk};
+ghost use Rattle.ctd_lint_report.specs.calls.Text.{about_text, error_lines, error_place_text, finding_line, place_text, remark_text, trap_line, unclosed_line, verdict_line};
 
-use crate::kind::{LintKind, is_ignored};
-use ctd_findings::{Finding, Rank, Remark};
-use ctd_token::{Bytes, LoadFault, Place};
+use crate::kind::{rank_text, trap_name, trap_text};
+use ctd_findings::{Finding, Remark};
+use ctd_token::{Bytes, Place};
+use ctd_traps::Trap;
 use itoa::Buffer;
-use std::alloc::{AllocError, Global};
+use std::alloc::AllocError;
 
-/// The word of a rank.
-fn rank_text(rank: Rank) -> &'static str
-    ensures { result.now ≡ rank_text rank }
+/// Appends the name that a finding is about, or the reason of a trap, if there is one.
+fn write_about(about: &Option<Bytes>, text: &mut Vec<u8>) -> Result<(), AllocError>
+    ensures { OnOk result (text.new.items ≡ text.old.items ++ about_text about.now) }
 {
-    match rank {
-        Rank::Note => "note",
-        Rank::Warning => "warning",
-    }
-}
-
-/// Appends the name that a remark is about, if there is one.
-fn write_name(name: &Option<Bytes>, text: &mut Vec<u8>) -> Result<(), AllocError>
-    ensures { OnOk result (text.new.items ≡ text.old.items ++ name_text name.now) }
-{
-    let Some(name) = name else {
+    let Some(about) = about else {
         return Ok(());
     };
     text.extend_from_slice(b": ")?;
-    text.extend_from_slice(name.as_slice())
+    text.extend_from_slice(about.as_slice())
 }
 
 /// Appends what a remark says, with the name of its kind.
@@ -38,21 +28,21 @@ fn write_remark(remark: &Remark, text: &mut Vec<u8>) -> Result<(), AllocError>
     text.extend_from_slice(rank_text(remark.kind.rank()).as_bytes())?;
     text.extend_from_slice(b": ")?;
     text.extend_from_slice(remark.kind.text().as_bytes())?;
-    write_name(&remark.name, text)?;
+    write_about(&remark.name, text)?;
     text.extend_from_slice(b" [")?;
     text.extend_from_slice(remark.kind.name().as_bytes())?;
     text.extend_from_slice(b"]\n")
 }
 
 /// Appends a number.
-fn write_number(number: u32, text: &mut Vec<u8>) -> Result<(), AllocError>
+pub(crate) fn write_number(number: u32, text: &mut Vec<u8>) -> Result<(), AllocError>
     ensures { OnOk result (text.new.items ≡ text.old.items ++ decimal number) }
 {
     text.extend_from_slice(Buffer::new().format(number).as_bytes())
 }
 
 /// Appends a place behind the name of a file.
-pub(crate) fn write_place(place: Place, text: &mut Vec<u8>) -> Result<(), AllocError>
+fn write_place(place: Place, text: &mut Vec<u8>) -> Result<(), AllocError>
     ensures { OnOk result (text.new.items ≡ text.old.items ++ place_text place) }
 {
     text.push(b':')?;
@@ -63,7 +53,11 @@ pub(crate) fn write_place(place: Place, text: &mut Vec<u8>) -> Result<(), AllocE
 }
 
 /// Appends the line of a finding in a file.
-fn write_finding(file: &[u8], finding: &Finding, text: &mut Vec<u8>) -> Result<(), AllocError>
+pub(crate) fn write_finding_line(
+    file: &[u8],
+    finding: &Finding,
+    text: &mut Vec<u8>,
+) -> Result<(), AllocError>
     ensures { OnOk result (text.new.items ≡ text.old.items ++ finding_line file.now finding.now) }
 {
     text.extend_from_slice(file)?;
@@ -72,27 +66,42 @@ fn write_finding(file: &[u8], finding: &Finding, text: &mut Vec<u8>) -> Result<(
     write_remark(&finding.remark, text)
 }
 
-/// The lines of the findings in a file, but for those of kinds that are left out.
-pub(crate) fn findings_text(
-    alloc: Global,
+/// Appends the line of a trap in a file, with its reason.
+pub(crate) fn write_trap_line(
     file: &[u8],
-    found: &[Finding],
-    ignored: &[LintKind],
-) -> Result<Vec<u8>, AllocError>
-    ensures { IfOk result (λ text. text.items ≡ findings_lines file.now (kept ignored.now found.now)) }
+    trap: &Trap,
+    reason: &Option<Bytes>,
+    text: &mut Vec<u8>,
+) -> Result<(), AllocError>
+    ensures { OnOk result (text.new.items ≡ text.old.items ++ trap_line file.now reason.now trap.now) }
 {
-    let mut text = Vec::new(alloc);
-    for finding in found {
-        if !is_ignored(finding.remark.kind.name(), ignored) {
-            write_finding(file, finding, &mut text)?;
-        }
-    }
-    Ok(text)
+    text.extend_from_slice(file)?;
+    write_place(trap.place, text)?;
+    text.extend_from_slice(b": risk: ")?;
+    text.extend_from_slice(trap_text(trap.kind).as_bytes())?;
+    write_about(reason, text)?;
+    text.extend_from_slice(b" [")?;
+    text.extend_from_slice(trap_name(trap.kind).as_bytes())?;
+    text.extend_from_slice(b"]\n")
 }
 
-/// Appends the place of a fault, where it has one.
-fn write_fault_place(place: Option<Place>, text: &mut Vec<u8>) -> Result<(), AllocError>
-    ensures { OnOk result (text.new.items ≡ text.old.items ++ fault_place_text place) }
+/// Appends the line of what is said of verdicts.
+pub(crate) fn write_verdict_line(
+    file: &[u8],
+    said: &[u8],
+    text: &mut Vec<u8>,
+) -> Result<(), AllocError>
+    ensures { OnOk result (text.new.items ≡ text.old.items ++ verdict_line file.now said.now) }
+{
+    text.extend_from_slice(file)?;
+    text.extend_from_slice(b": ")?;
+    text.extend_from_slice(said)?;
+    text.extend_from_slice(b"\n")
+}
+
+/// Appends the place of an error, where it has one.
+fn write_error_place(place: Option<Place>, text: &mut Vec<u8>) -> Result<(), AllocError>
+    ensures { OnOk result (text.new.items ≡ text.old.items ++ error_place_text place) }
 {
     match place {
         Some(place) => write_place(place, text),
@@ -116,31 +125,20 @@ fn write_unclosed(
     text.extend_from_slice(b": note: this command has no END\n")
 }
 
-/// The lines of a program that is refused.
-pub(crate) fn refusal_text(
-    alloc: Global,
+/// Appends the lines of why a program is not read.
+pub(crate) fn write_error_lines(
     file: &[u8],
-    fault: &LoadFault,
-    told: &[u8],
+    place: Option<Place>,
+    said: &[u8],
     unclosed: Option<Place>,
-) -> Result<Vec<u8>, AllocError>
-    ensures { IfOk result (λ text. text.items ≡ refusal_lines file.now fault.now told.now unclosed) }
+    text: &mut Vec<u8>,
+) -> Result<(), AllocError>
+    ensures { OnOk result (text.new.items ≡ text.old.items ++ error_lines file.now place said.now unclosed) }
 {
-    let mut text = file.to_vec(alloc)?;
-    write_fault_place(fault.place, &mut text)?;
+    text.extend_from_slice(file)?;
+    write_error_place(place, text)?;
     text.extend_from_slice(b": error: ")?;
-    text.extend_from_slice(fault.kind.text().as_bytes())?;
-    text.extend_from_slice(told)?;
+    text.extend_from_slice(said)?;
     text.push(b'\n')?;
-    write_unclosed(file, unclosed, &mut text)?;
-    Ok(text)
-}
-
-/// The line of a program that cannot be opened.
-pub fn open_text(alloc: Global, file: &[u8]) -> Result<Vec<u8>, AllocError>
-    ensures { IfOk result (λ text. text.items ≡ open_line file.now) }
-{
-    let mut text = file.to_vec(alloc)?;
-    text.extend_from_slice(b": error: cannot open\n")?;
-    Ok(text)
+    write_unclosed(file, unclosed, text)
 }

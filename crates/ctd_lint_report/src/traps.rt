@@ -5,16 +5,14 @@ ghost use Rattle.std.specs.List.{list_any};
 ghost use Rattle.ctd_lint_report.specs.calls.Kinds.{is_unconditional, trap_name};
 ghost use Rattle.ctd_lint_report.specs.calls.Reasons.{reason_of};
 ghost use Rattle.ctd_lint_report.specs.calls.Report.{is_told, tells};
-ghost use Rattle.ctd_lint_report.specs.calls.Text.{kept};
-ghost use Rattle.ctd_lint_report.specs.calls.Traps.{condition_text, every_text, is_kind_shown, is_open, is_place_before, is_same_place, is_shown, kept_traps, places_behind, places_text, some_element, some_shape, some_unconditional, too_large_line, trap_line, traps_lines, verdict_line, verdict_text};
+ghost use Rattle.ctd_lint_report.specs.calls.Text.{kept, verdict_entry};
+ghost use Rattle.ctd_lint_report.specs.calls.Traps.{condition_text, every_text, is_kind_shown, is_open, is_place_before, is_same_place, is_shown, kept_traps, places_behind, places_text, some_element, some_shape, some_unconditional, tells_verdict, too_large_text, traps_lines, verdict_text};
 
+use crate::entry::{write_trap, write_verdict};
 use crate::kind::{
     LintKind, is_element, is_ignored, is_shape, is_told_kind, is_unconditional, trap_name,
-    trap_text,
 };
-use crate::reason::write_reason;
-use crate::setup::LintSetup;
-use crate::text::write_place;
+use crate::setup::{Form, LintSetup};
 use ctd_findings::Finding;
 use ctd_states::TrapKind;
 use ctd_token::Place;
@@ -62,26 +60,7 @@ fn is_shown(setup: &LintSetup, found: &[Finding], trap: &Trap) -> bool
     is_kind_shown(trap.kind, setup) && !is_told(found, setup.ignored.as_slice(), trap)
 }
 
-/// Appends the line of a trap in a file.
-fn write_trap(
-    file: &[u8],
-    names: &[&[u8]],
-    trap: &Trap,
-    text: &mut Vec<u8>,
-) -> Result<(), AllocError>
-    ensures { OnOk result (text.new.items ≡ text.old.items ++ trap_line file.now (reason_of names.now) trap.now) }
-{
-    text.extend_from_slice(file)?;
-    write_place(trap.place, text)?;
-    text.extend_from_slice(b": risk: ")?;
-    text.extend_from_slice(trap_text(trap.kind).as_bytes())?;
-    write_reason(names, trap.operand, text)?;
-    text.extend_from_slice(b" [")?;
-    text.extend_from_slice(trap_name(trap.kind).as_bytes())?;
-    text.extend_from_slice(b"]\n")
-}
-
-/// The lines of the traps that are shown.
+/// What is written of the traps that are shown.
 pub(crate) fn traps_text(
     alloc: Global,
     file: &[u8],
@@ -90,12 +69,12 @@ pub(crate) fn traps_text(
     names: &[&[u8]],
     traps: &[Trap],
 ) -> Result<Vec<u8>, AllocError>
-    ensures { IfOk result (λ text. text.items ≡ traps_lines file.now (reason_of names.now) (kept_traps setup.now (is_told (kept setup.now.ignored.items found.now)) traps.now)) }
+    ensures { IfOk result (λ text. text.items ≡ traps_lines setup.now.form file.now (reason_of names.now) (kept_traps setup.now (is_told (kept setup.now.ignored.items found.now)) traps.now)) }
 {
     let mut text = Vec::new(alloc);
     for trap in traps {
         if is_shown(setup, found, trap) {
-            write_trap(file, names, trap, &mut text)?;
+            write_trap(alloc, setup.form, file, names, trap, &mut text)?;
         }
     }
     Ok(text)
@@ -199,39 +178,49 @@ fn write_every(condition: &str, text: &mut Vec<u8>) -> Result<(), AllocError>
 }
 
 /// Appends what traps say of verdicts.
-fn write_verdict(traps: &[Trap], text: &mut Vec<u8>) -> Result<(), AllocError>
-    ensures { OnOk result (text.new.items ≡ text.old.items ++ verdict_text traps.now) }
+fn write_said(traps: &[Trap], said: &mut Vec<u8>) -> Result<(), AllocError>
+    ensures { OnOk result (said.new.items ≡ said.old.items ++ verdict_text traps.now) }
 {
     if some_unconditional(traps) {
-        return write_places(count_places(traps), text);
+        return write_places(count_places(traps), said);
     }
-    write_every(condition_of(traps), text)
+    write_every(condition_of(traps), said)
 }
 
-/// Appends the line that tells of verdicts, if it is asked for.
-pub(crate) fn write_verdict_line(
+/// Whether verdicts are told of: where it is asked for, and always as JSON.
+fn tells_verdict(setup: &LintSetup) -> bool
+    ensures { result ≡ tells_verdict setup.now.form setup.now.verdicts }
+{
+    match setup.form {
+        Form::Text => setup.verdicts,
+        Form::Json => true,
+    }
+}
+
+/// Appends what is written of verdicts, if they are told of.
+pub(crate) fn write_verdict_of(
+    alloc: Global,
     file: &[u8],
     setup: &LintSetup,
     traps: &[Trap],
     text: &mut Vec<u8>,
 ) -> Result<(), AllocError>
-    ensures { OnOk result (text.new.items ≡ text.old.items ++ (if setup.now.verdicts then verdict_line file.now traps.now else [])) }
+    ensures { OnOk result (text.new.items ≡ text.old.items ++ (if tells_verdict setup.now.form setup.now.verdicts then verdict_entry setup.now.form file.now (verdict_text traps.now) else [])) }
 {
-    if !setup.verdicts {
+    if !tells_verdict(setup) {
         return Ok(());
     }
-    text.extend_from_slice(file)?;
-    text.extend_from_slice(b": ")?;
-    write_verdict(traps, text)?;
-    text.extend_from_slice(b"\n")
+    let mut said = Vec::new(alloc);
+    write_said(traps, &mut said)?;
+    write_verdict(setup.form, file, said.as_slice(), text)
 }
 
-/// The line that says that it cannot be told where a run may stop.
-pub(crate) fn too_large_text(alloc: Global, file: &[u8]) -> Result<Vec<u8>, AllocError>
-    ensures { IfOk result (λ text. text.items ≡ too_large_line file.now) }
+/// What is written where it cannot be told where a run may stop.
+pub(crate) fn too_large_entry(alloc: Global, form: Form, file: &[u8]) -> Result<Vec<u8>, AllocError>
+    ensures { IfOk result (λ text. text.items ≡ verdict_entry form file.now too_large_text) }
 {
-    let mut text = file.to_vec(alloc)?;
-    text.extend_from_slice(b": too large to tell\n")?;
+    let mut text = Vec::new(alloc);
+    write_verdict(form, file, b"too large to tell", &mut text)?;
     Ok(text)
 }
 

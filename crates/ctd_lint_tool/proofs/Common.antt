@@ -10,10 +10,9 @@ pub use Rattle.ctd_arguments.specs.Usage.{ArePresetsOf}
 pub use Rattle.ctd_arguments.specs.calls.Usage.{HasNoPresets, is_on}
 pub use Rattle.ctd_arguments.specs.declared.setup.UsageFault.{UsageFault}
 pub use Rattle.ctd_lint_report.specs.calls.Kinds.{lint_kind_named}
-pub use Rattle.ctd_lint_report.specs.calls.Report.{AreRemarks}
-pub use Rattle.ctd_lint_report.specs.calls.Text.{open_line}
+pub use Rattle.ctd_lint_report.specs.calls.Report.{AreRemarks, unopened_report}
 pub use Rattle.ctd_lint_report.specs.declared.setup.LintSetup.{LintSetup}
-pub use Rattle.ctd_lint_tool.specs.calls.CommandLine.{AreKindsOf, IsTaken, bare_linter, found_in}
+pub use Rattle.ctd_lint_tool.specs.calls.CommandLine.{AreKindsOf, IsTaken, bare_linter, form_by, found_in}
 pub use Rattle.ctd_lint_tool.specs.calls.FileReport.{not_opened, of_program, usage_report}
 pub use Rattle.ctd_lint_tool.specs.calls.Opening.{WasAskedFor, handed_back, not_read}
 pub use Rattle.ctd_lint_tool.specs.calls.Run.{EndsArgs, EndsIn, EndsInFault, EndsWords, FailsMidwayAt, IsReportOf, Lints, Means, RunsOutAt, Stand, bad_words, broken_run, no_memory, no_program, no_room, of_fault, of_programs, one_more, stand, whole_run, with_words}

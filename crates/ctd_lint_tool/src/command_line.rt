@@ -3,7 +3,7 @@
 ghost use Rattle.std.specs.Prelude.{◌≡◌, ◌⊎◌, IfErr, IfOk, List, MatchResult, None, Some, codes, map, option_map};
 ghost use Rattle.clap.specs.Words.{FailsBy, Text, all_of, app_of, fault_of, found_of, matches_of, rows_of, rule_of};
 ghost use Rattle.ctd_arguments.specs.calls.Options.{IsLocal};
-ghost use Rattle.ctd_lint_tool.specs.calls.CommandLine.{AreKindsOf, IsLintSetup, linter, parts, programs_rule};
+ghost use Rattle.ctd_lint_tool.specs.calls.CommandLine.{AreKindsOf, IsLintSetup, form_by, linter, parts, programs_rule};
 ghost use Rattle.ctd_lint_report.specs.calls.Kinds.{lint_kind_named};
 ghost use Rattle.ctd_lint_tool.specs.calls.Usage.{IsLintFault, TellsUnknown, first_unknown, unknown_in};
 ghost use Rattle.ctd_lint_tool.specs.inner.Usage.{IsFoundIn};
@@ -12,7 +12,7 @@ use clap::{Arg, ArgAction, ArgMatches, Command, Error};
 use ctd_arguments::{
     UsageFault, define_option, fault_for, flag, is_set, option, presets_of, texts_of, value_of,
 };
-use ctd_lint_report::{LintKind, LintSetup};
+use ctd_lint_report::{Form, LintKind, LintSetup};
 use ctd_token::Bytes;
 use std::alloc::{AllocError, Global};
 
@@ -94,6 +94,7 @@ fn command<'a>(alloc: Global) -> Result<Command<'a>, AllocError>
         define_option(alloc),
         option(alloc, "ignore"),
         flag(alloc, "verdicts"),
+        flag(alloc, "json"),
         program_names(alloc),
     ]?;
     Command::new(alloc, "ctd-lint")
@@ -181,6 +182,13 @@ fn programs_of(alloc: Global, matches: &ArgMatches<'_>) -> Result<Vec<Bytes>, Li
     }
 }
 
+/// The form of the reports, by whether it is to be JSON.
+fn form_by(is_json: bool) -> Form
+    ensures { result ≡ form_by is_json }
+{
+    if is_json { Form::Json } else { Form::Text }
+}
+
 /// What is asked for by the values that clap found.
 fn setup_of(alloc: Global, matches: &ArgMatches<'_>) -> Result<Setup, LintFault>
     ensures setup { IfOk result (λ s. (words : List Text) → IsFoundIn words (rows_of (found_of matches.now)) → IsLintSetup words s) }
@@ -193,6 +201,7 @@ fn setup_of(alloc: Global, matches: &ArgMatches<'_>) -> Result<Setup, LintFault>
         presets,
         ignored,
         verdicts: is_set(matches, "verdicts"),
+        form: form_by(is_set(matches, "json")),
     };
     Ok(Setup { programs, report })
 }

@@ -1,37 +1,19 @@
 //! The programs, opened and linted one after the other.
 
 ghost use Rattle.std.specs.Prelude.{◌≡◌, ◌≢◌, Err, false};
-ghost use Rattle.ctd_report.specs.Report.{on_err};
-ghost use Rattle.ctd_report.specs.calls.Written.{Leaves};
 ghost use Rattle.ctd_report.specs.Written.{WritesOneOf, before_after};
 ghost use Rattle.ctd_lint_tool.specs.calls.FileReport.{IsNamedReport};
 ghost use Rattle.ctd_lint_tool.specs.calls.Run.{stand};
 ghost use Rattle.ctd_lint_tool.specs.inner.Run.{LeavesRun};
 ghost use Rattle.ctd_lint_report.specs.calls.Report.{AreRemarks};
-ghost use Rattle.ctd_lint_report.specs.calls.Text.{open_line};
 ghost use Rattle.ctd_lint_tool.specs.calls.Opening.{WasAskedFor};
 
 use crate::programs::Programs;
-use ctd_lint_report::{LintSetup, NO_WARNINGS, lint, open_text};
-use ctd_report::{NO_VERDICT, Sink, ToolFault, write_report};
+use ctd_lint_report::{LintSetup, NO_WARNINGS, lint, write_unopened};
+use ctd_report::{Sink, ToolFault};
 use ctd_source::Source;
 use ctd_token::Bytes;
 use std::alloc::Global;
-
-/// Writes that a file cannot be opened, and returns the status.
-fn write_unopened<O: Sink, E: Sink>(
-    alloc: Global,
-    name: &Bytes,
-    out: &mut O,
-    err: &mut E,
-) -> Result<u8, ToolFault>
-    requires out_works { O.has_failed out.old ≡ false }
-    requires err_works { E.has_failed err.old ≡ false }
-    ensures written { Leaves (before_after O.Sink out.old out.new) (before_after E.Sink err.old err.new) (on_err (open_line name.now)) result }
-{
-    let text = open_text(alloc, name.as_slice())?;
-    write_report(&[], text.as_slice(), NO_VERDICT, out, err)
-}
 
 /// Opens a program, writes its report, hands its source back, and returns the status.
 fn lint_named<P: Programs, O: Sink, E: Sink>(
@@ -55,7 +37,7 @@ fn lint_named<P: Programs, O: Sink, E: Sink>(
             programs.close_program(program);
             status
         }
-        None => write_unopened(alloc, name, out, err),
+        None => write_unopened(alloc, setup.form, name, out, err),
     }
 }
 

@@ -1,9 +1,15 @@
 -- The kinds of traps, and what --ignore names.
 use Rattle.ctd_findings.specs.declared.kind.Kind.TheVariants as findings
+use Rattle.ctd_findings.specs.declared.kind.Rank.TheVariants as ranks
 use Rattle.ctd_states.specs.declared.faults.TrapKind.TheVariants as traps
 use Rattle.ctd_lint_report.specs.declared.kind.LintKind.TheVariants as kinds
 use Rattle.std.specs.Prelude.{ℕ, Bool, true, false, List, [], ◌∷◌, codes, Option, Some, None, if◌then◌else◌}
-use Rattle.ctd_lint_report.specs.Prelude.{Kind, LintKind, TrapKind, bytes_eq, kind_named, kind_row, list_any}
+use Rattle.ctd_lint_report.specs.Prelude.{Kind, LintKind, Rank, TrapKind, bytes_eq, kind_named, kind_row, list_any}
+
+-- the word of a rank
+abbrev pub rank_text : Rank → List ℕ
+rank_text ranks.Note = codes "note"
+rank_text ranks.Warning = codes "warning"
 
 -- all kinds of traps
 abbrev pub all_traps : List TrapKind

@@ -34,11 +34,11 @@ bounds_text (Some least) None = least_text least
 bounds_text None (Some most) = most_text most
 bounds_text (Some least) (Some most) = if int_eq least most then same_text least else between_text least most
 
--- the reason of a trap, by the names that a program has
-abbrev pub reason_text : List (Bor (List ℕ)) → Option Operand → List ℕ
-reason_text names None = []
-reason_text names (Some o) = codes ": " ++ operand_text (name_at names o.name) o ++ bounds_text o.least o.most
+-- the reason of a trap, by the names that a program has, if a variable is to blame
+abbrev pub reason_text : List (Bor (List ℕ)) → Option Operand → Option (List ℕ)
+reason_text names None = None
+reason_text names (Some o) = Some (operand_text (name_at names o.name) o ++ bounds_text o.least o.most)
 
 -- the same of each trap of a list
-abbrev pub reason_of : List (Bor (List ℕ)) → Trap → List ℕ
+abbrev pub reason_of : List (Bor (List ℕ)) → Trap → Option (List ℕ)
 reason_of names t = reason_text names t.operand

@@ -1,19 +1,14 @@
 -- What ctd-lint writes of a program.
 use Rattle.ctd_findings.specs.declared.kind.Rank.TheVariants as ranks
-use Rattle.std.specs.Prelude.{◌≡◌, ◌⊎◌, ◌+◌, ◌≤◌, ◌++◌, ◌&&◌, ℕ, Bool, List, [], ◌∷◌, All, length, max, Option, Some, None, if◌then◌else◌}
-use Rattle.ctd_lint_report.specs.Prelude.{BeforeAfter, Bor, CommandList, Finding, GaveBytes, Ghosts, IsPlaced, IsTrueOfRuns, LintSetup, LoadFault, Loads, MayFail, PROGRAM_LIMIT, Place, Rank, Report}
-use Rattle.ctd_lint_report.specs.Prelude.{Trap, TrapList, kind_row, list_any, on_err, on_out, places_of}
+use Rattle.ctd_lint_report.specs.declared.setup.Form.TheVariants as forms
+use Rattle.ctd_token.specs.FaultText as faults
+use Rattle.std.specs.Prelude.{◌≡◌, ◌⊎◌, ◌+◌, ◌≤◌, ◌++◌, ◌&&◌, ℕ, Bool, List, [], ◌∷◌, All, length, max, codes, Option, Some, None, IfSome, if◌then◌else◌}
+use Rattle.ctd_lint_report.specs.Prelude.{BeforeAfter, Bor, CommandList, Finding, Form, GaveBytes, Ghosts, IsPlaced, IsTrueOfRuns, LintSetup, LoadFault, Loads, MayFail, NeverHappens, Note, PROGRAM_LIMIT, Place, Rank, Report}
+use Rattle.ctd_lint_report.specs.Prelude.{Trap, TrapList, events_of, kind_row, list_any, on_err, on_out, places_of}
 use Rattle.ctd_lint_report.specs.calls.Kinds.{is_told_kind}
 use Rattle.ctd_lint_report.specs.calls.Reasons.{reason_of}
-use Rattle.ctd_lint_report.specs.calls.Text.{findings_lines, kept, refusal_lines}
-use Rattle.ctd_lint_report.specs.calls.Traps.{AreTraps, is_same_place, verdict_lines, verdict_status}
-
--- what a report says besides traps and verdicts: the lines of findings, the status that these ask for, whether they tell a trap too, and the reason of each trap
-pub record Remarks : Type 0 where
-  pub lines : List ℕ
-  pub status : ℕ
-  pub told : Trap → Bool
-  pub reason : Trap → List ℕ
+use Rattle.ctd_lint_report.specs.calls.Text.{error_entry, findings_lines, kept, never_lines}
+use Rattle.ctd_lint_report.specs.calls.Traps.{AreTraps, Remarks, is_same_place, verdict_lines, verdict_status}
 
 -- which remarks a report may have on a program in a file, whose traps are told
 abbrev pub Remarking : Type 1
@@ -21,7 +16,7 @@ Remarking = List ℕ → LintSetup → CommandList → Option TrapList → Remar
 
 -- the remarks, then the traps, and then the line that tells of verdicts, if it is asked for
 abbrev pub program_lines : List ℕ → LintSetup → Remarks → Option TrapList → List ℕ
-program_lines file setup remarks trap_list = remarks.lines ++ verdict_lines file setup remarks.reason remarks.told trap_list
+program_lines file setup remarks trap_list = remarks.lines ++ verdict_lines file setup remarks trap_list
 
 -- the status: that of the remarks, and where verdicts are asked for the greater of it and theirs
 abbrev pub program_status : LintSetup → Remarks → Option TrapList → ℕ
@@ -30,6 +25,19 @@ program_status setup remarks trap_list = if setup.verdicts then max remarks.stat
 -- the report on a program in a file
 abbrev pub program_report : List ℕ → LintSetup → Remarks → Option TrapList → Report
 program_report file setup remarks trap_list = on_out (program_lines file setup remarks trap_list) (program_status setup remarks trap_list)
+
+-- the report of an error: as text on standard error, and as JSON on standard output
+abbrev pub error_report : Form → List ℕ → Report
+error_report forms.Text text = on_err text
+error_report forms.Json text = on_out text 2
+
+-- the report of a fault of a program, with what is told of it besides its name, and the place of a command that has no END, if one is found
+abbrev pub refusal_report : Form → List ℕ → LoadFault → List ℕ → Option Place → Report
+refusal_report form file fault told unclosed = error_report form (error_entry form file fault.place (faults.kind_text fault.kind ++ told) unclosed)
+
+-- the report of a file that cannot be opened
+abbrev pub unopened_report : Form → List ℕ → Report
+unopened_report form file = error_report form (error_entry form file None (codes "cannot open") None)
 
 -- The source gave the text of a program, and the report is that of all the program's traps, with such remarks.
 pub record ReportsProgram {P : Type 0} {G : Ghosts P} (IsRemark : Remarking) (file : List ℕ) (setup : LintSetup) (program : BeforeAfter P G) (report : Report) : Type 0 where
@@ -44,7 +52,7 @@ pub record ReportsProgram {P : Type 0} {G : Ghosts P} (IsRemark : Remarking) (fi
   pub report_is : report ≡ program_report file setup remarks trap_list
 
 -- the source gave a text that may have this fault, and the report is that of the fault; what is told of it besides its name, and which command is told to have no END, is left open
-pub record ReportsRefusal {P : Type 0} {G : Ghosts P} (file : List ℕ) (program : BeforeAfter P G) (report : Report) : Type 0 where
+pub record ReportsRefusal {P : Type 0} {G : Ghosts P} (file : List ℕ) (setup : LintSetup) (program : BeforeAfter P G) (report : Report) : Type 0 where
   pub fault : LoadFault
   pub text : List ℕ
   pub gave_text : GaveBytes G program.old program.new text
@@ -52,11 +60,11 @@ pub record ReportsRefusal {P : Type 0} {G : Ghosts P} (file : List ℕ) (program
   pub fails : MayFail text (G.seen program.new) fault
   pub told : List ℕ
   pub unclosed : Option Place
-  pub report_is : report ≡ on_err (refusal_lines file fault told unclosed)
+  pub report_is : report ≡ refusal_report setup.form file fault told unclosed
 
 -- what is reported of the program in a file
 abbrev pub IsLintReport : {P : Type 0} {G : Ghosts P} → Remarking → List ℕ → LintSetup → BeforeAfter P G → Report → Type 0
-IsLintReport IsRemark file setup program report = ReportsProgram IsRemark file setup program report ⊎ ReportsRefusal file program report
+IsLintReport IsRemark file setup program report = ReportsProgram IsRemark file setup program report ⊎ ReportsRefusal file setup program report
 
 -- the status for a finding of a rank, where that of the others is known
 abbrev pub status_with : Rank → ℕ → ℕ
@@ -81,18 +89,25 @@ abbrev pub names_of : Option TrapList → List (Bor (List ℕ))
 names_of None = []
 names_of (Some list) = list.names.items
 
--- the remarks of some findings, but for those that are left out
+-- what never happens, as the analysis found it
+abbrev pub never_of : Option TrapList → List Note
+never_of None = []
+never_of (Some list) = list.never.items
+
+-- the remarks of some findings, but for those that are left out, and of what never happens
 abbrev pub remarks_of : List ℕ → LintSetup → List Finding → Option TrapList → Remarks
 remarks_of file setup found trap_list = record {
-  lines = findings_lines file (kept setup.ignored.items found);
+  lines = findings_lines setup.form file (kept setup.ignored.items found);
   status = findings_status (kept setup.ignored.items found);
   told = is_told (kept setup.ignored.items found);
   reason = reason_of (names_of trap_list);
+  never = never_lines setup.form file (never_of trap_list);
 }
 
--- the remarks are those of some findings, each of which has the place of a command, and is so in all runs if it says something of them
+-- the remarks are those of some findings, each of which has the place of a command, and is so in all runs if it says something of them, and of what never happens in any run
 pub record AreRemarks (file : List ℕ) (setup : LintSetup) (program : CommandList) (trap_list : Option TrapList) (remarks : Remarks) : Type 0 where
   pub found : List Finding
   pub placed : All (IsPlaced (places_of program)) found
   pub meant : All (IsTrueOfRuns program setup.presets) found
+  pub never : IfSome trap_list (λ list. NeverHappens program setup.presets (events_of list.never.items))
   pub remarks_are : remarks ≡ remarks_of file setup found trap_list

@@ -1,7 +1,9 @@
 -- The lines of traps, and the line that tells of verdicts.
 use Rattle.std.specs.Prelude.{ℕ, Bool, true, false, not, ◌||◌, ◌&&◌, ◌+◌, List, [], ◌∷◌, ◌++◌, codes, Option, Some, None, IfSome, if◌then◌else◌, nat_eq}
-use Rattle.ctd_lint_report.specs.Prelude.{CommandList, HasEachTrap, LintKind, LintSetup, Place, Preset, Trap, TrapKind, TrapList, decimal, faults_of, list_any}
-use Rattle.ctd_lint_report.specs.calls.Kinds.{is_element, is_ignored, is_shape, is_unconditional, trap_name, trap_text}
+use Rattle.ctd_lint_report.specs.Prelude.{CommandList, Form, HasEachTrap, LintKind, LintSetup, Place, Preset, Trap, TrapKind, TrapList, decimal, faults_of, list_any}
+use Rattle.ctd_lint_report.specs.calls.Kinds.{is_element, is_ignored, is_shape, is_unconditional, trap_name}
+use Rattle.ctd_lint_report.specs.calls.Text.{trap_entry, verdict_entry}
+use Rattle.ctd_lint_report.specs.declared.setup.Form.TheVariants as forms
 
 -- These are all places at which a run of a program may stop by a fault of a value, if they are told.
 abbrev pub AreTraps : CommandList → List Preset → Option TrapList → Type 0
@@ -24,18 +26,10 @@ abbrev pub kept_traps : LintSetup → (Trap → Bool) → List Trap → List Tra
 kept_traps setup told [] = []
 kept_traps setup told (t ∷ rest) = if is_shown setup told t then t ∷ kept_traps setup told rest else kept_traps setup told rest
 
--- a place behind the name of a file
-abbrev pub place_text : Place → List ℕ
-place_text p = codes ":" ++ decimal p.line ++ codes ":" ++ decimal p.column
-
--- the line of a trap in a file
-abbrev pub trap_line : List ℕ → (Trap → List ℕ) → Trap → List ℕ
-trap_line file reason t = file ++ place_text t.place ++ codes ": risk: " ++ trap_text t.kind ++ reason t ++ codes " [" ++ trap_name t.kind ++ codes "]\n"
-
--- a line for each trap
-abbrev pub traps_lines : List ℕ → (Trap → List ℕ) → List Trap → List ℕ
-traps_lines file reason [] = []
-traps_lines file reason (t ∷ rest) = trap_line file reason t ++ traps_lines file reason rest
+-- what is written of each of some traps
+abbrev pub traps_lines : Form → List ℕ → (Trap → Option (List ℕ)) → List Trap → List ℕ
+traps_lines form file reason [] = []
+traps_lines form file reason (t ∷ rest) = trap_entry form file (reason t) t ++ traps_lines form file reason rest
 
 -- whether some traps are neither of elements nor of arrays
 abbrev pub some_unconditional : List Trap → Bool
@@ -78,19 +72,28 @@ every_text condition = codes "every data file gets a verdict" ++ condition
 abbrev pub verdict_text : List Trap → List ℕ
 verdict_text traps = if some_unconditional traps then places_text (places_behind None traps) else every_text (condition_text (some_element traps) (some_shape traps))
 
--- the line that tells it of a file
-abbrev pub verdict_line : List ℕ → List Trap → List ℕ
-verdict_line file traps = file ++ codes ": " ++ verdict_text traps ++ codes "\n"
+-- what is said where they cannot be told
+abbrev pub too_large_text : List ℕ
+too_large_text = codes "too large to tell"
 
--- the line where it cannot be told
-abbrev pub too_large_line : List ℕ → List ℕ
-too_large_line file = file ++ codes ": too large to tell\n"
+-- whether verdicts are told of: where it is asked for, and always as JSON
+abbrev pub tells_verdict : Form → Bool → Bool
+tells_verdict forms.Text asked = asked
+tells_verdict forms.Json asked = true
 
--- what is written of the traps of a program: a line for each that is shown, and the last line, if it is asked for; or that they cannot be told
-abbrev pub verdict_lines : List ℕ → LintSetup → (Trap → List ℕ) → (Trap → Bool) → Option TrapList → List ℕ
-verdict_lines file setup reason told None = too_large_line file
-verdict_lines file setup reason told (Some list) =
-    traps_lines file reason (kept_traps setup told list.traps.items) ++ (if setup.verdicts then verdict_line file list.traps.items else [])
+-- what a report says besides traps and verdicts: the lines of findings, the status that these ask for, whether they tell a trap too, the reason of each trap, and the lines of what never happens
+pub record Remarks : Type 0 where
+  pub lines : List ℕ
+  pub status : ℕ
+  pub told : Trap → Bool
+  pub reason : Trap → Option (List ℕ)
+  pub never : List ℕ
+
+-- what is written of the traps of a program: a line for each that is shown, what never happens, and the last line, if verdicts are told of; or that the traps cannot be told
+abbrev pub verdict_lines : List ℕ → LintSetup → Remarks → Option TrapList → List ℕ
+verdict_lines file setup remarks None = verdict_entry setup.form file too_large_text
+verdict_lines file setup remarks (Some list) =
+    traps_lines setup.form file remarks.reason (kept_traps setup remarks.told list.traps.items) ++ (remarks.never ++ (if tells_verdict setup.form setup.verdicts then verdict_entry setup.form file (verdict_text list.traps.items) else []))
 
 -- whether traps of a kind leave open whether each data file gets a verdict: not where they are of elements or arrays, and --ignore accepts them
 abbrev pub is_open : List LintKind → TrapKind → Bool

@@ -18,13 +18,13 @@ returns g c =
     (subst (λ p. IfSome trap_list (λ list. NeverHappens (command_trees p) setup.presets (events_of list.never.items)) → All (IsTrueOfRuns (command_trees p) setup.presets) c.in_ok-found.found.items) c.commands-2.ensures.whole c.in_ok-found.ensures.meant never) in
     record {
       written = Leaves-WritesOneOf _ _ _ (program_report c.args.file.now setup (remarks_of c.args.file.now setup found trap_list) trap_list) c.write_program.result
-          (reports_program command_trees g.P.Source c.args.file.now setup c.args.program.now _ c.in-Ok.plan found trap_list c.in-Ok.ensures.loads placed meant traps)
+          (reports_program command_trees g.P.Source c.args.file.now setup c.args.program.now _ c.in-Ok.plan found trap_list c.in-Ok.ensures.loads placed meant traps never)
           c.write_program.ensures.written;
     }
 
 pub returns-in_default : goal.returns-in_default
 returns-in_default g c = record {
   written = Leaves-WritesOneOf _ _ _ _ c.write_refusal.result
-      (reports_refusal command_trees g.P.Source c.args.file.now c.args.setup.now c.args.program.now _ c.in-Err.fault c.as_slice-in_default-2.result.now c.in_ok-unclosed-in_default.unclosed c.in-Err.ensures.loads c.in_default.not-Memory)
+      (reports_refusal command_trees g.P.Source c.args.file.now c.args.setup.now c.args.program.now _ c.in-Err.fault c.as_slice-told.result.now c.in_ok-unclosed-in_default.unclosed c.in-Err.ensures.loads c.in_default.not-Memory)
       c.write_refusal.ensures.written;
 }

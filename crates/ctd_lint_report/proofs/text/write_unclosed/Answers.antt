@@ -1,7 +1,6 @@
 use Rattle.std.proofs.Common.{◌≡◌, ◌++◌, arith, codes, subst, sym, OnOk}
 use Rattle.std.proofs.lemmas.Grind.{common_steps}
-use Rattle.ctd_lint_report.specs.calls.Text.{unclosed_line}
-use Rattle.ctd_lint_report.specs.calls.Traps.{place_text}
+use Rattle.ctd_lint_report.specs.calls.Text.{place_text, unclosed_line}
 use Rattle.ctd_lint_report.proofs.Appended.{then_more}
 use Rattle.ctd_lint_report.proofs.text.write_unclosed.Goals as goal
 

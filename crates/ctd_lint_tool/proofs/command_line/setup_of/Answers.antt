@@ -1,4 +1,4 @@
-use Rattle.ctd_lint_tool.proofs.Common.{AreKindsOf, ArePresetsOf, all_of, ap, codes, first_of, is_on, lint_fault, subst, sym, ◌∙◌}
+use Rattle.ctd_lint_tool.proofs.Common.{AreKindsOf, ArePresetsOf, all_of, ap, codes, first_of, form_by, is_on, lint_fault, subst, sym, ◌∙◌}
 use Rattle.ctd_lint_tool.proofs.UsageFaults.{holds_on_return, named, no_kinds, no_presets, no_programs}
 use Rattle.ctd_lint_tool.proofs.command_line.setup_of.Goals as goal
 
@@ -25,4 +25,5 @@ returns-clause-setup c = λ words found. record {
   presets = subst (λ v. ArePresetsOf v c.in_ok-presets.presets) (c.value_of.ensures ∙ ap (first_of (codes "define")) found.1) c.in_ok-presets.ensures;
   ignored = subst (λ v. AreKindsOf v c.in_ok-ignored.ignored.items) (c.value_of-2.ensures ∙ ap (first_of (codes "ignore")) found.1) c.in_ok-ignored.ensures.kinds;
   verdicts = c.is_set.ensures ∙ ap (is_on (codes "verdicts")) found.1;
+  form = c.form_by.ensures ∙ ap form_by (c.is_set-2.ensures ∙ ap (is_on (codes "json")) found.1);
 }

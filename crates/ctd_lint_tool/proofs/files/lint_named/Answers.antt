@@ -1,4 +1,4 @@
-use Rattle.ctd_lint_tool.proofs.Common.{Leaves-WritesOneOf, WritesOneOf-weaker, handed_back, not_opened, not_read, of_program, on_err, open_line, refl, rules}
+use Rattle.ctd_lint_tool.proofs.Common.{Leaves-WritesOneOf, WritesOneOf-weaker, handed_back, not_opened, not_read, of_program, refl, rules, unopened_report}
 use Rattle.ctd_lint_tool.proofs.files.lint_named.Goals as goal
 
 pub returns-in-Some : goal.returns-in-Some
@@ -9,6 +9,6 @@ returns-in-Some g c = record {
 
 pub returns-in-None : goal.returns-in-None
 returns-in-None g c = record {
-  written = Leaves-WritesOneOf _ _ _ (on_err (open_line c.args.name.now)) c.write_unopened.result (not_opened (search rules) refl) c.write_unopened.ensures.written;
+  written = Leaves-WritesOneOf _ _ _ (unopened_report c.args.setup.now.form c.args.name.now) c.write_unopened.result (not_opened (search rules) refl) c.write_unopened.ensures.written;
   asked = not_read (search rules);
 }
