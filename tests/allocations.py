@@ -6,6 +6,7 @@ With none failing, each command line has to end as it stands here, and each test
 `out of memory` on standard error, nothing on standard output and status 2; a test, with an error that says so. The last line counts the command
 lines and tests of which each run did so, as passed, and the others.
 usage: tests/allocations.py [CHECKER [LINTER]]; with CHECKER it runs no tests"""
+import json
 import os
 import re
 import subprocess
@@ -210,9 +211,20 @@ def lint_lines(folder: Path) -> dict[str, CommandLine]:
     loops, turns = names["loops.ctd"], names["turns.ctd"]
     trap = f"{loops}:3:1: risk: may be without a value here: last [no-value-here]\n{loops}: places that may stop a run without a verdict: at most 1\n".encode()
     finding = f"{names['false.ctd']}:1:22: warning: the test is false whatever the data are [always-false]\n".encode()
+    objects: list[dict[str, str | int]] = [
+        {"line": 1, "column": 1, "rank": "note", "kind": "unread", "text": "nothing reads this variable", "name": "longestname"},
+        {"line": 1, "column": 22, "rank": "warning", "kind": "always-false", "text": "the test is false whatever the data are"},
+        {"line": 1, "column": 22, "rank": "never", "kind": "goes-on"},
+        {"line": 1, "column": 22, "rank": "never", "kind": "is-true"},
+        {"rank": "verdict", "text": "every data file gets a verdict"},
+    ]
+    as_json = "".join(json.dumps({"file": names["false.ctd"], **said}, separators=(",", ":")) + "\n" for said in objects).encode()
+    unopened = json.dumps({"file": names["none.ctd"], "rank": "error", "text": "cannot open"}, separators=(",", ":")).encode() + b"\n"
     lines: dict[str, tuple[list[str], Left]] = {
         "findings": (["--ignore=unread,caret", "-D", "longestname=3", names["false.ctd"]], (1, finding, b"")),
         "traps": (["--verdicts", loops], (1, trap, b"")),
+        "findings as JSON": (["--json", names["false.ctd"]], (1, as_json, b"")),
+        "a program that is not there, as JSON": (["--json", names["none.ctd"]], (2, unopened, b"")),
         "turns one by one": (["--verdicts", turns], (0, f"{turns}: every data file gets a verdict\n".encode(), b"")),
         "a program that is refused": ([names["open.ctd"]], (2, b"", f"{names['open.ctd']}:1:9: error: syntax error: expected , or ) or an operator\n".encode())),
         "a program that is not there": ([names["none.ctd"]], (2, b"", f"{names['none.ctd']}: error: cannot open\n".encode())),

@@ -114,6 +114,7 @@ checker=$linter
 expect 'ctd-lint: a full output' 2 '' '' full_output false.ctd
 expect 'ctd-lint: a full output at the first of two programs' 2 '' '' full_output false.ctd none.ctd
 expect 'ctd-lint: a full output at the last of two programs' 2 '' "$not_there" full_output none.ctd false.ctd
+expect 'ctd-lint: a full output for an error as JSON' 2 '' '' full_output --json none.ctd false.ctd
 expect 'ctd-lint: a full output that is not written to' 0 '' '' full_output space.ctd
 expect 'ctd-lint: a full error output' 2 '' '' full_error none.ctd false.ctd
 expect 'ctd-lint: a full error output that is not written to' 1 "$finding" '' full_error space.ctd false.ctd
