@@ -18,3 +18,5 @@ pub mod Framing
 pub mod Holding
 pub mod Looping
 pub mod Unrolling
+pub mod Knowing
+pub mod Ending

@@ -1,6 +1,6 @@
 -- The commands of the code, one by one.
-use Rattle.ctd_traps.proofs.Common.{AbstractState, Action, BeginsLater, BegunFrom, Box, Choice, Command, Context, Counting, Faults, Guard, IsBegun, IsGuard, IsJoined, IsPart, List, LoopStart, Noted, NotedIn, PartitionIsWithin}
-use Rattle.ctd_traps.proofs.Common.{Passage, Passes, Place, RoundKeeps, Spares, SparesLoop, StepKeeps, WalkKeeps, action_tree, answers, ap, at_drop_more, begins, Bindings, choice_at, choice_tree, command_tree, command_trees, drop, drop_all, false}
+use Rattle.ctd_traps.proofs.Common.{AbstractState, Action, BeginsLater, BegunFrom, BegunIn, Box, Choice, Command, Context, Counting, Faults, Guard, IsBegun, IsGuard, IsJoined, IsPart, List, LoopStart, Noted, NotedIn, PartitionIsWithin}
+use Rattle.ctd_traps.proofs.Common.{Passage, Passes, Place, RoundKeeps, Spares, SparesLoop, StepKeeps, WalkKeeps, action_tree, answers, ap, at_drop_more, Bindings, choice_at, choice_tree, command_tree, command_trees, drop, drop_all, false}
 use Rattle.ctd_traps.proofs.Common.{get_or, guard_tree, IfOk, IfSome, inl, inr, IsOneOf, IsSameOrNone, None, Option, PassesOnceBegun, Result, Some, Stop, length, loop_at, loop_tree, noted_in, out-Loop, started_of, subst, sym, true, ℕ, ◌+◌, ◌<◌, ◌∙◌, ◌≡◌, ◌≤◌}
 use Rattle.ctd_program.specs.Tree
 use Rattle.ctd_program.specs.declared.tree.Action.TheVariants as actions
@@ -8,7 +8,7 @@ use Rattle.ctd_program.specs.declared.tree.Loop.{Loop}
 use Rattle.ctd_traps.specs.calls.Events.{goes_on}
 use Rattle.ctd_traps.proofs.Framing.{beside_command}
 use Rattle.ctd_traps.proofs.Looping.{is_post_fixpoint, loop_starts}
-use Rattle.ctd_traps.proofs.Noting.{faults_more, noted_more, part_refl, part_trans}
+use Rattle.ctd_traps.proofs.Noting.{begun_more, ended_more, faults_more, noted_more, part_refl, part_trans}
 use Rattle.ctd_traps.proofs.PostFixpoint.{post_fixpoints_lead}
 use Rattle.ctd_traps.proofs.Walking.{WalkLeads, nothing_walked, walk_leads_on}
 
@@ -46,13 +46,14 @@ search_passes g states candidate counting first_inside first_outside outside end
     record {
       start_noted = faults_more inside p.inside place counting.turns.faults kept begins_later.start_noted;
       turns = λ counted pins d all h guard stand within is n ts s here next. let part : IsPart inside all = part_trans inside p.inside all kept within in
-          post_fixpoints_lead d g pins (noted_in all) l counting (started_of place l guard) h
+          post_fixpoints_lead d g pins (noted_in g all) l counting (started_of place l guard) h
           (record { first = states; later = candidate; first_inside = first_inside; later_inside = round.later_inside; before_body = round.before; after_body = end; after = p.after.items })
           (is_post_fixpoint {first = first} {later = round.later} {noted = all} (record {
             stand = stand;
             counted = counted;
             first_enters = begun.enters;
             later_enters = begins_later.enters counted;
+            ended = ended_more g inside all place candidate part begins_later.ended;
             first_true = noted_more g inside all place (answers true) first_inside part begins_later.first_true;
             first_false = noted_more g inside all place (answers false) first_outside part begins_later.first_false;
             later_true = noted_more g inside all place (answers true) round.later_inside part begins_later.later_true;
@@ -69,16 +70,16 @@ search_passes g states candidate counting first_inside first_outside outside end
     }
 
 -- a loop, by a passage through it
-pub passed_keeps : (g : Context) (states : List AbstractState) (begun : LoopStart) (place : Place) (l : Loop) (p : Passage) (noted : Noted) → BegunFrom g states begun l → Passes g states begun.counting place l p → IsPart p.inside noted → NotedIn g noted place begins states →
+pub passed_keeps : (g : Context) (states : List AbstractState) (begun : LoopStart) (place : Place) (l : Loop) (p : Passage) (noted : Noted) → BegunFrom g states begun l → Passes g states begun.counting place l p → IsPart p.inside noted → BegunIn g noted place states →
     ((h : Bindings) (started : Guard) → IsGuard g (guard_tree (out-Loop l).guard) begun.counting.turns h started → NotedIn g noted place goes_on states) → StepKeeps g states p.after.items noted (loop_at place l)
 passed_keeps g states begun place l p noted starts passes part begins_noted gone pins d all h stand within =
     let kept : IsPart p.inside all = part_trans p.inside noted all part within in
-    beside_command d (noted_in all) g pins states p.after.items (loop_at place l) (λ name. SparesLoop name l) (λ name. Spares name (loop_at place l)) h (λ name spared. (spared.0, (spared.1, spared.2)))
+    beside_command d (noted_in g all) g pins states p.after.items (loop_at place l) (λ name. SparesLoop name l) (λ name. Spares name (loop_at place l)) h (λ name spared. (spared.0, (spared.1, spared.2)))
     (λ b. loop_starts g states p.after.items place l begun.counting pins d all b
     (record {
       stand = stand;
       starts = starts.starts;
-      begun = noted_more g noted all place begins states within begins_noted;
+      begun = begun_more g noted all place states within begins_noted;
       gone = λ k started is. noted_more g noted all place goes_on states within (gone k started is);
       start_noted = faults_more p.inside all place begun.counting.turns.faults kept passes.start_noted;
     })
@@ -89,6 +90,7 @@ pub begins_more : (g : Context) (candidate : List AbstractState) (counting : Cou
     BeginsLater g candidate counting first_inside first_outside first inside outside later old place l → BeginsLater g candidate counting first_inside first_outside first inside outside later new place l
 begins_more g candidate counting first_inside first_outside first inside outside later old new place l part begun = record {
   enters = begun.enters;
+  ended = ended_more g old new place candidate part begun.ended;
   start_noted = faults_more old new place counting.turns.faults part begun.start_noted;
   first_noted = faults_more old new place first part begun.first_noted;
   later_noted = faults_more old new place later part begun.later_noted;

@@ -8,19 +8,20 @@ use Rattle.ctd_traps.specs.declared.turn.Phase.TheVariants as phases
 use Rattle.ctd_traps.proofs.Framing.{framed_leads}
 use Rattle.ctd_traps.proofs.Leading.{fewer_go_on, turn_leads}
 use Rattle.ctd_traps.proofs.Looping.{begins_so}
-use Rattle.ctd_traps.proofs.Noting.{faults_more, noted_more, part_refl, part_trans}
+use Rattle.ctd_traps.proofs.Noting.{ended_more, faults_more, noted_more, part_refl, part_trans}
 use Rattle.ctd_traps.proofs.PostFixpoint.{in_turn_kept, in_turn_tells}
 
 -- the parts of one turn
 one_turn : (g : Context) (states last : List AbstractState) (counting : Counting) (outside end : List AbstractState) (noted all : Noted) (place : Place) (l : Loop) (k : ℕ) → AreCounted g l counting → (turn : TurnKeeps g states counting outside end noted place l k) →
     PartitionIsWithin g outside last → IsPart noted all → (pins : Variables) (d : TestData) (h : Bindings) (guard : Guard) → PinsStand (pins_in g) pins → IsGuard g (guard_tree (out-Loop l).guard) counting.turns h guard →
-    TurnLeads d (noted_in all) (started_of place l guard) k (InTurn g pins l counting (started_of place l guard) h states k) (InTurn g pins l counting (started_of place l guard) h turn.inside (suc k)) (InTurn g pins l counting (started_of place l guard) h turn.before (suc k))
+    TurnLeads d (noted_in g all) (started_of place l guard) k (InTurn g pins l counting (started_of place l guard) h states k) (InTurn g pins l counting (started_of place l guard) h turn.inside (suc k)) (InTurn g pins l counting (started_of place l guard) h turn.before (suc k))
     (InTurn g pins l counting (started_of place l guard) h end (suc k)) (HoldsBeside g pins last (λ name. SparesLoop name l) h)
 one_turn g states last counting outside end noted all place l k counted turn tells part pins d h guard stand is =
     let loop : Started = started_of place l guard in
     let between : List ℕ → Type 0 = λ name. SparesBetween name (boxed_separator (out-Loop l).between) in
     let each : List ℕ → Type 0 = λ name. SparesEach name (command_list (out-Loop l).body) in
     record {
+      ended = λ j n s is here. ended_more g noted all place states part (turn.begun.ended j is) (suc n) s.store here.holds.one;
       begin = λ n s here. begins_so g l counting place (phases.At k) states turn.inside outside last turn.faults all
           (record {
             counted = counted;
@@ -30,10 +31,10 @@ one_turn g states last counting outside end noted all place l k counted turn tel
             if_false = noted_more g noted all place (answers false) outside part turn.begun.if_false;
             faults = faults_more noted all place turn.faults part turn.begun.faults;
           }) pins d h guard k n s stand is refl here;
-      separator = framed_leads d (noted_in all) (separator_before k loop.between) (Holds g pins turn.inside) (Holds g pins turn.before) (InTurn g pins l counting loop h turn.inside (suc k)) (InTurn g pins l counting loop h turn.before (suc k)) between
+      separator = framed_leads d (noted_in g all) (separator_before k loop.between) (Holds g pins turn.inside) (Holds g pins turn.before) (InTurn g pins l counting loop h turn.inside (suc k)) (InTurn g pins l counting loop h turn.before (suc k)) between
           (λ b. turn.separates pins d all b stand part) (λ n s here. here.holds)
           (λ n m s t less here end same. in_turn_kept g pins l counting loop h turn.inside turn.before between k n m s t counted (λ name spared. spared.0) less here end same);
-      body = framed_leads d (noted_in all) loop.body (Holds g pins turn.before) (Holds g pins end) (InTurn g pins l counting loop h turn.before (suc k)) (InTurn g pins l counting loop h end (suc k)) each
+      body = framed_leads d (noted_in g all) loop.body (Holds g pins turn.before) (Holds g pins end) (InTurn g pins l counting loop h turn.before (suc k)) (InTurn g pins l counting loop h end (suc k)) each
           (λ b. turn.body pins d all b stand part) (λ n s here. here.holds)
           (λ n m s t less here done same. in_turn_kept g pins l counting loop h turn.before end each k n m s t counted (λ name spared. spared.1) less here done same);
     }
@@ -44,13 +45,14 @@ pub turn_keeps : (g : Context) (states last : List AbstractState) (counting : Co
 turn_keeps g states last counting outside end noted more place l k counted turn tells part later pins d all h guard stand within is n ts s here next =
     let loop : Started = started_of place l guard in
     let S : List ℕ → Type 0 = λ name. SparesLoop name l in
-    turn_leads d (noted_in all) loop k (InTurn g pins l counting loop h states k) (InTurn g pins l counting loop h turn.inside (suc k)) (InTurn g pins l counting loop h turn.before (suc k)) (InTurn g pins l counting loop h end (suc k)) (HoldsBeside g pins last S h)
+    turn_leads d (noted_in g all) loop k (InTurn g pins l counting loop h states k) (InTurn g pins l counting loop h turn.inside (suc k)) (InTurn g pins l counting loop h turn.before (suc k)) (InTurn g pins l counting loop h end (suc k)) (HoldsBeside g pins last S h)
     (one_turn g states last counting outside end noted all place l k counted turn tells (part_trans noted more all part within) pins d h guard stand is) n ts s
-    (λ m one j t few again. later pins d all h guard stand within is j ts t again (fewer_go_on d (noted_in all) n j (HoldsBeside g pins last S h) ts (omega (arith, few, one)) next)) here next
+    (λ m one j t few again. later pins d all h guard stand within is j ts t again (fewer_go_on d (noted_in g all) n j (HoldsBeside g pins last S h) ts (omega (arith, few, one)) next)) here next
 
 -- more notes
 pub begins_at_more : (g : Context) (states : List AbstractState) (counting : Counting) (inside outside : List AbstractState) (f : Faults) (old new : Noted) (place : Place) (l : Loop) (k : ℕ) → IsPart old new → BeginsAt g states counting inside outside f old place l k → BeginsAt g states counting inside outside f new place l k
 begins_at_more g states counting inside outside f old new place l k part begun = record {
+  ended = λ j is. ended_more g old new place states part (begun.ended j is);
   enters = begun.enters;
   if_true = noted_more g old new place (answers true) inside part begun.if_true;
   if_false = noted_more g old new place (answers false) outside part begun.if_false;

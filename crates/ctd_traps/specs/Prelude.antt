@@ -45,6 +45,7 @@ pub use Rattle.ctd_traps.specs.declared.collector.Collector.{Collector}
 pub use Rattle.ctd_traps.specs.declared.note.EventKind.{EventKind}
 pub use Rattle.ctd_traps.specs.declared.note.Note.{Note}
 pub use Rattle.ctd_traps.specs.declared.note.Noted.{Noted}
+pub use Rattle.ctd_traps.specs.declared.note.Seen.{Seen}
 pub use Rattle.ctd_traps.specs.declared.passage.Passage.{Passage}
 pub use Rattle.ctd_traps.specs.declared.trap.Trap.{Trap}
 pub use Rattle.ctd_traps.specs.declared.turn.Counting.{Counting}

@@ -1,6 +1,7 @@
 -- What only the proofs of this crate use.
 pub mod Holds
 pub mod Noted
+pub mod Seen
 pub mod Absent
 pub mod Triples
 pub mod PostFixpoint

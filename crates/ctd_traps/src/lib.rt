@@ -4,6 +4,7 @@
 mod block;
 mod budget;
 mod collector;
+mod known;
 mod lasting;
 mod mentions;
 mod names;
@@ -23,6 +24,7 @@ mod walk;
 
 pub use block::{CommandInBlock, all_commands};
 pub use collector::Collector;
+pub use known::{Known, KnownAt};
 pub use mentions::{MentionedName, Use, all_mentions, list_mentions, mentions_of};
 pub use note::{EventKind, Note};
 pub use program::{TrapList, events_are_of_the_run, traps};

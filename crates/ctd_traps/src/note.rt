@@ -1,14 +1,14 @@
 //! What a walk notes: where a run may stop, and which other events it may have where.
 
-ghost use Rattle.std.specs.Prelude.{OnOk};
+ghost use Rattle.std.specs.Prelude.{◌≡◌, ℕ, suc, OnOk};
 ghost use Rattle.ctd_states.specs.declared.assign.Context.{Context};
-ghost use Rattle.ctd_traps.specs.calls.Events.{answers, begins, event_of_kind, goes_on};
-ghost use Rattle.ctd_traps.specs.inner.Noted.{AreNoted, IsPart, NotedIn};
+ghost use Rattle.ctd_traps.specs.calls.Events.{answers, event_of_kind, goes_on};
+ghost use Rattle.ctd_traps.specs.inner.Noted.{AreNoted, BegunIn, EndedIn, FoundIn, IsPart, NotedIn};
 ghost use Rattle.std.specs.Prelude.{true, false};
 
 use crate::trap::{Trap, report};
-use ctd_partitions::State;
-use ctd_states::Faults;
+use ctd_partitions::{State, join_all};
+use ctd_states::{Context, Faults, Stop};
 use ctd_token::Place;
 use std::alloc::{AllocError, Global};
 
@@ -32,11 +32,20 @@ pub struct Note {
     pub kind: EventKind,
 }
 
-/// Where a run may stop, and which other events it may have where.
+/// A state in which a run may be where a command begins.
+#[derive(Drop)]
+pub(crate) struct Seen {
+    pub(crate) place: Place,
+    pub(crate) state: State,
+}
+
+/// Where a run may stop, which other events it may have where, and which variables commands find.
 #[derive(Drop)]
 pub(crate) struct Noted {
     pub(crate) traps: Vec<Trap>,
     pub(crate) events: Vec<Note>,
+    pub(crate) seen: Vec<Seen>,
+    pub(crate) turned: Vec<Seen>,
 }
 
 /// Nothing is noted.
@@ -44,6 +53,8 @@ pub(crate) fn nothing_noted(alloc: Global) -> Noted {
     Noted {
         traps: Vec::new(alloc),
         events: Vec::new(alloc),
+        seen: Vec::new(alloc),
+        turned: Vec::new(alloc),
     }
 }
 
@@ -73,18 +84,88 @@ pub(crate) fn note_event(
     Ok(())
 }
 
+/// Notes the variables that a run has at a place, by the states in which it may be there.
+pub(crate) fn note_seen(
+    place: Place,
+    context: Context,
+    states: &[State],
+    noted: &mut Noted,
+) -> Result<(), Stop>
+    ensures more { OnOk result (IsPart noted.old noted.new) }
+    ensures found { OnOk result (FoundIn context.entry noted.new place states.now) }
+{
+    if states.is_empty() {
+        return Ok(());
+    }
+    let state = join_all(context, states)?;
+    noted.seen.push(Seen { place, state })?;
+    Ok(())
+}
+
+/// Notes the variables that a run has at the end of a turn, by the states in which it may be there.
+pub(crate) fn note_ended(
+    place: Place,
+    context: Context,
+    states: &[State],
+    noted: &mut Noted,
+) -> Result<(), Stop>
+    ensures more { OnOk result (IsPart noted.old noted.new) }
+    ensures ended { OnOk result (EndedIn context.entry noted.new place states.now) }
+{
+    if states.is_empty() {
+        return Ok(());
+    }
+    let state = join_all(context, states)?;
+    noted.turned.push(Seen { place, state })?;
+    Ok(())
+}
+
+/// The same before a turn of a number: before the first one none has ended.
+pub(crate) fn note_turn(
+    place: Place,
+    context: Context,
+    k: u64,
+    states: &[State],
+    noted: &mut Noted,
+) -> Result<(), Stop>
+    ensures more { OnOk result (IsPart noted.old noted.new) }
+    ensures ended { OnOk result ((j : ℕ) → k ≡ suc j → EndedIn context.entry noted.new place states.now) }
+{
+    if k == 0 {
+        return Ok(());
+    }
+    note_ended(place, context, states, noted)?;
+    Ok(())
+}
+
+/// Notes that a command begins in some states, and the variables that it finds.
+pub(crate) fn note_begin(
+    place: Place,
+    context: Context,
+    states: &[State],
+    noted: &mut Noted,
+) -> Result<(), Stop>
+    ensures more { OnOk result (IsPart noted.old noted.new) }
+    ensures begun { OnOk result (BegunIn context.entry noted.new place states.now) }
+{
+    note_event(place, EventKind::Begins, states, noted)?;
+    note_seen(place, context, states, noted)?;
+    Ok(())
+}
+
 /// Notes that a command begins in some states, and that a run goes on in others.
 pub(crate) fn note_run(
     place: Place,
+    context: Context,
     before: &[State],
     after: &[State],
     noted: &mut Noted,
-) -> Result<(), AllocError>
+) -> Result<(), Stop>
     ensures more { OnOk result (IsPart noted.old noted.new) }
-    ensures begun { OnOk result ((g : Context) → NotedIn g noted.new place begins before.now) }
+    ensures begun { OnOk result (BegunIn context.entry noted.new place before.now) }
     ensures gone { OnOk result ((g : Context) → NotedIn g noted.new place goes_on after.now) }
 {
-    note_event(place, EventKind::Begins, before, noted)?;
+    note_begin(place, context, before, noted)?;
     note_event(place, EventKind::GoesOn, after, noted)?;
     Ok(())
 }
@@ -106,11 +187,13 @@ pub(crate) fn note_answers(
 }
 
 /// Adds all that was noted to other notes.
-pub(crate) fn note_all(more: Noted, noted: &mut Noted) -> Result<(), AllocError>
+pub(crate) fn note_all(mut more: Noted, noted: &mut Noted) -> Result<(), AllocError>
     ensures more { OnOk result (IsPart noted.old noted.new) }
     ensures all { OnOk result (IsPart more noted.new) }
 {
     noted.traps.extend_from_slice(more.traps.as_slice())?;
     noted.events.extend_from_slice(more.events.as_slice())?;
+    noted.seen.append(&mut more.seen)?;
+    noted.turned.append(&mut more.turned)?;
     Ok(())
 }

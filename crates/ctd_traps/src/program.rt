@@ -5,17 +5,19 @@ ghost use Rattle.ctd_program.specs.calls.View.{command_trees};
 ghost use Rattle.ctd_store.specs.Store.{Variables, value_of, with_pin};
 ghost use Rattle.ctd_store.specs.inner.Store.{pins_of};
 ghost use Rattle.ctd_traps.specs.calls.Traps.{HasEachTrap, faults_of};
-ghost use Rattle.ctd_traps.specs.calls.Events.{HasEachEvent, NeverHappens, events_of};
+ghost use Rattle.ctd_traps.specs.calls.Events.{NeverHappens, events_of};
+ghost use Rattle.ctd_traps.specs.calls.Known.{EachAcceptedHas, EachFinds, EachTurnLeaves};
 ghost use Rattle.ctd_traps.specs.calls.Laws.{ComesAsItRuns, EachEndIsReached};
 ghost use Rattle.ctd_traps.specs.inner.Holds.{PinsAreIn};
-ghost use Rattle.ctd_traps.specs.inner.Noted.{noted_in};
+ghost use Rattle.ctd_traps.specs.inner.Seen.{IsFound};
 ghost use Rattle.ctd_states.specs.calls.States.{MayBe, PinsStand, pins_in, named_values, entries_in};
 ghost use Rattle.std.specs.Borrow.{Bor};
 
 use crate::budget::whole_budget;
 use crate::names::{Mentioned, mentioned_in};
+use crate::known::{Known, KnownAt, known_at, known_where};
 use crate::never::absent_in;
-use crate::note::{Note, Noted, nothing_noted};
+use crate::note::{Note, Noted, note_seen, nothing_noted};
 use crate::trap::{Trap, in_text_order};
 use crate::walk::walk;
 use ctd_partitions::{State, join_state};
@@ -25,6 +27,7 @@ use ctd_states::{
     AbstractValue, Context, Lengths, Pair, PossibleValues, Stop, assign_alone, assign_element,
     copy_of,
 };
+use ctd_token::Place;
 use std::alloc::{AllocError, Global};
 
 /// No values.
@@ -101,13 +104,29 @@ fn pin_all(without: Context, presets: &[Preset]) -> Result<Vec<AbstractValue>, S
     Ok(entries)
 }
 
-/// The traps of a program, what never happens, and the names to which the traps refer.
+/// The traps of a program, what never happens, what is known where commands begin, where turns of loops have ended, and in the end of each file that is accepted (none where no file is
+/// accepted), and the names to which the traps and what is known refer.
 #[derive(Drop)]
 pub struct TrapList<'p> {
     pub traps: Vec<Trap>,
     pub never: Vec<Note>,
+    pub begun: Vec<KnownAt>,
+    pub turns: Vec<KnownAt>,
+    pub at_end: Option<Vec<Known>>,
     pub names: Vec<&'p [u8]>,
 }
+
+/// What is noted of a program, and what is known of its variables.
+#[derive(Drop)]
+pub(crate) struct Found {
+    pub(crate) noted: Noted,
+    pub(crate) begun: Vec<KnownAt>,
+    pub(crate) turns: Vec<KnownAt>,
+    pub(crate) at_end: Option<Vec<Known>>,
+}
+
+/// The place of the end of a program, where no command stands.
+const END: Place = Place { line: 0, column: 0 };
 
 /// The state before the first command of a program with these names.
 fn state_before(
@@ -143,8 +162,8 @@ fn events_in(
     presets: &Presets,
     names: &[&[u8]],
     pairs: &[Pair],
-) -> Result<Noted, Stop>
-    ensures { IfOk result (λ noted. HasEachEvent (command_trees commands.now) presets.now (noted_in noted)) }
+) -> Result<Found, Stop>
+    ensures { IfOk result (λ found. IsFound names.now (command_trees commands.now) presets.now found) }
 {
     let pinned = state_before(alloc, presets, names)?;
     let context = Context {
@@ -156,8 +175,17 @@ fn events_in(
     let first = first_state(context)?;
     let mut noted = nothing_noted(alloc);
     let mut budget = whole_budget();
-    walk(commands, context, first, &mut noted, &mut budget)?;
-    Ok(noted)
+    let last = walk(commands, context, first, &mut noted, &mut budget)?;
+    note_seen(END, context, last.as_slice(), &mut noted)?;
+    let at_end = known_at(context, END, noted.seen.as_slice())?;
+    let begun = known_where(context, commands, noted.seen.as_slice())?;
+    let turns = known_where(context, commands, noted.turned.as_slice())?;
+    Ok(Found {
+        noted,
+        begun,
+        turns,
+        at_end,
+    })
 }
 
 /// The places at which a run of some commands may stop by a fault of a value, and what never happens in a run, whatever the data, the mode and
@@ -169,16 +197,28 @@ pub fn traps<'p>(
 ) -> Result<Option<TrapList<'p>>, AllocError>
     ensures each { IfOk result (λ answer. IfSome answer (λ list. HasEachTrap (command_trees commands.now) presets.now (faults_of list.traps.items))) }
     ensures never { IfOk result (λ answer. IfSome answer (λ list. NeverHappens (command_trees commands.now) presets.now (events_of list.never.items))) }
+    ensures begun { IfOk result (λ answer. IfSome answer (λ list. EachFinds (command_trees commands.now) presets.now list.names.items list.begun.items)) }
+    ensures turns { IfOk result (λ answer. IfSome answer (λ list. EachTurnLeaves (command_trees commands.now) presets.now list.names.items list.turns.items)) }
+    ensures ends { IfOk result (λ answer. IfSome answer (λ list. EachAcceptedHas (command_trees commands.now) presets.now list.names.items list.at_end)) }
 {
     let Mentioned { names, pairs } = mentioned_in(alloc, commands, presets)?;
     match events_in(alloc, commands, presets, names.as_slice(), pairs.as_slice()) {
-        Ok(noted) => {
-            let Noted { traps, events } = noted;
+        Ok(found) => {
+            let Found {
+                noted,
+                begun,
+                turns,
+                at_end,
+            } = found;
+            let Noted { traps, events, .. } = noted;
             let traps = in_text_order(traps)?;
             let never = absent_in(alloc, commands, events.as_slice())?;
             Ok(Some(TrapList {
                 traps,
                 never,
+                begun,
+                turns,
+                at_end,
                 names,
             }))
         }

@@ -7,7 +7,7 @@ ghost use Rattle.ctd_traps.specs.calls.Events.{goes_on};
 ghost use Rattle.ctd_traps.specs.inner.Noted.{IsPart, NotedIn};
 ghost use Rattle.ctd_traps.specs.inner.Walk.{AreBranches, Asks, StepKeeps};
 
-use crate::note::{EventKind, Noted, note_answers, note_event, note_faults, note_run};
+use crate::note::{EventKind, Noted, note_answers, note_begin, note_event, note_faults, note_run};
 use ctd_partitions::{State, join_partitions};
 use ctd_program::{Command, Test};
 use ctd_states::{Context, Stop};
@@ -26,7 +26,7 @@ pub(crate) fn take(
 {
     let acted = transfer_each(command, context, states)?;
     note_faults(command.place, acted.faults, noted)?;
-    note_run(command.place, states, acted.after.as_slice(), noted)?;
+    note_run(command.place, context, states, acted.after.as_slice(), noted)?;
     Ok(acted.after)
 }
 
@@ -42,7 +42,7 @@ fn ask(
     ensures asks { IfOk result (λ s. Asks context.entry states.now s.if_true.items s.if_false.items (test_tree t.now) s.faults noted.new place) }
 {
     let divided = divide(context, t, states)?;
-    note_event(place, EventKind::Begins, states, noted)?;
+    note_begin(place, context, states, noted)?;
     note_faults(place, divided.faults, noted)?;
     note_answers(
         place,

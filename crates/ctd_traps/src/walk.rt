@@ -399,7 +399,14 @@ fn repeat(
     ensures keeps { IfOk result (λ after. StepKeeps context.entry states.now after.items noted.new (loop_at place repeated.now)) }
 {
     let begun = begin(repeated, context, states)?;
-    note_start(&repeated.guard, place, &begun.counting.turns, states, noted)?;
+    note_start(
+        &repeated.guard,
+        place,
+        context,
+        &begun.counting.turns,
+        states,
+        noted,
+    )?;
     let Passage { after, inside } = pass(repeated, place, context, &begun, states, budget)?;
     note_all(inside, noted)?;
     Ok(after)

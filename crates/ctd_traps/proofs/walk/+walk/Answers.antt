@@ -1,8 +1,8 @@
-use Rattle.ctd_traps.proofs.Common.{AbstractState, AreBranches, Asks, Command, IfOk, IfSome, IsJoined, IsPart, PartitionIsWithin, Passage, Passes, PassesOnceBegun, RoundKeeps, SeparatesAt, SeparatorKeeps, StepKeeps, Test, TurnKeeps, Vec, begins, boxed_separator, choice_at}
+use Rattle.ctd_traps.proofs.Common.{AbstractState, AreBranches, Asks, Command, IfOk, IfSome, IsJoined, IsPart, PartitionIsWithin, Passage, Passes, PassesOnceBegun, RoundKeeps, SeparatesAt, SeparatorKeeps, StepKeeps, Test, TurnKeeps, Vec, boxed_separator, choice_at}
 use Rattle.ctd_traps.proofs.Common.{arith, command_list, command_tree, if_ok_more, list_commands, loop_at, nat_tests, out-Choice, out-Loop, subst, sym, test_tree}
 use Rattle.ctd_program.specs.Tree
 use Rattle.ctd_traps.specs.calls.Events.{goes_on}
-use Rattle.ctd_traps.proofs.Noting.{faults_more, noted_more, part_trans}
+use Rattle.ctd_traps.proofs.Noting.{begun_more, faults_more, noted_more, part_trans}
 use Rattle.ctd_traps.proofs.Walking.{between_keeps, choice_steps, separator_more}
 use Rattle.ctd_traps.proofs.Steps.{begins_more, begun_passes, choice_step, loop_step, one_passes, passed_keeps, same_or_none, search_passes, walk_done, walk_step}
 use Rattle.ctd_traps.proofs.Unrolling.{begins_at_more, nothing_left, separates_later, separates_more, unroll_ends, unroll_goes_on, unroll_starts}
@@ -79,7 +79,7 @@ pub choose-returns-clause-more : goal.choose-returns-clause-more
 choose-returns-clause-more t c =
     let new = c.walk_block-2.new.noted in
     if_ok_more (λ (v : Vec AbstractState). AreBranches c.args.context c.in_ok-yes.yes.items c.in_ok-no.no.items v.items) (λ (v : Vec AbstractState). IsPart c.args.noted.now new) c.join_branches.result
-    (λ v so x e is. c.in_ok-no.ensures.more x e (c.in_ok-yes.ensures.more x e (c.in_ok-asked.ensures.more x e is))) c.join_branches.ensures
+    (λ v so j x e is. c.in_ok-no.ensures.more j x e (c.in_ok-yes.ensures.more j x e (c.in_ok-asked.ensures.more j x e is))) c.join_branches.ensures
 
 pub choose-returns-clause-keeps : goal.choose-returns-clause-keeps
 choose-returns-clause-keeps t c =
@@ -105,7 +105,7 @@ choose-returns-clause-keeps t c =
     c.join_branches.ensures
 
 pub go_round-returns-clause-more : goal.go_round-returns-clause-more
-go_round-returns-clause-more t c = λ x e is. c.in_ok-end.ensures.more x e (c.in_ok-separated.ensures.more x e (c.in_ok-later.ensures.more x e is))
+go_round-returns-clause-more t c = λ j x e is. c.in_ok-end.ensures.more j x e (c.in_ok-separated.ensures.more j x e (c.in_ok-later.ensures.more j x e is))
 
 pub walk-returns-clause-more : goal.walk-returns-clause-more
 walk-returns-clause-more t c = c.loop-command.invariant.more
@@ -132,7 +132,7 @@ pub step-returns-in-Space-clause-keeps : goal.step-returns-in-Space-clause-keeps
 step-returns-in-Space-clause-keeps t c = c.take.ensures.keeps
 
 pub take_turn-returns-clause-more : goal.take_turn-returns-clause-more
-take_turn-returns-clause-more t c = λ x e is. c.in_ok-end.ensures.more x e (c.in_ok-before.ensures.more x e (c.in_ok-begun.ensures.more x e is))
+take_turn-returns-clause-more t c = λ j x e is. c.in_ok-end.ensures.more j x e (c.in_ok-before.ensures.more j x e (c.in_ok-begun.ensures.more j x e is))
 
 pub take_turn-returns-clause-keeps : goal.take_turn-returns-clause-keeps
 take_turn-returns-clause-keeps t c =
@@ -237,7 +237,7 @@ repeat-returns-clause-keeps t c =
     let part = c.in_ok-note_all.ensures.more in
     let starts = c.in_ok-begun.ensures in
     passed_keeps g c.args.states.now begun c.args.place c.args.repeated.now c.in_ok-after.field-0 new starts (c.in_ok-after.ensures starts) c.in_ok-note_all.ensures.all
-    (noted_more g started new c.args.place begins c.args.states.now part (start.begun g)) (λ h by is. noted_more g started new c.args.place goes_on c.args.states.now part (start.gone g h by is))
+    (begun_more g started new c.args.place c.args.states.now part start.begun) (λ h by is. noted_more g started new c.args.place goes_on c.args.states.now part (start.gone g h by is))
 
 pub pass-returns-in-Some : goal.pass-returns-in-Some
 pass-returns-in-Some t c = λ starts. subst (λ o. IfSome o (λ (p : Passage). Passes c.args.context c.args.states.now c.args.begun.now.counting c.args.place c.args.repeated.now p)) c.in-Some.is c.in_ok-passage.ensures
