@@ -1,7 +1,7 @@
 -- Events that are not noted never happen.
-use Rattle.ctd_traps.proofs.Common.{AreAbsent, Bindings, Bool, CommandList, Context, Contains, Contains-append_cases, Contains-append_left, Contains-append_right, Contains-push, Contains-push_cases, Event, EventKind}
+use Rattle.ctd_traps.proofs.Common.{AreAbsent, Bindings, Bool, CommandList, Contains, Context, Moment, Contains-append_cases, Contains-append_left, Contains-append_right, Contains-push, Contains-push_cases, Event, EventKind}
 use Rattle.ctd_traps.proofs.Common.{Fault, HasEachEvent, List, NeverHappens, Note, Noted, Place, PlacedEvent, Preset, [], answers, ap, arith, at_drop_more, begins, cond, drop, drop_all, event_of}
-use Rattle.ctd_traps.proofs.Common.{event_of_kind, ends_turn, events_of, fails, false, finds, get_or, inl, inr, length, noted_in, refl, subst, sym, true, ℕ, ◌++◌, ◌+◌, ◌<◌, ◌∙◌, ◌∷◌, ◌≡◌, ◌≤◌, ◌⊎◌}
+use Rattle.ctd_traps.proofs.Common.{event_of_kind, events_of, fails, false, finds, get_or, inl, inr, length, noted_in, refl, subst, sym, true, ℕ, ◌++◌, ◌+◌, ◌<◌, ◌∙◌, ◌∷◌, ◌≡◌, ◌≤◌, ◌⊎◌}
 use Rattle.ctd_traps.specs.calls.Events.{goes_on}
 use Rattle.ctd_traps.specs.declared.note.EventKind.TheVariants as kinds
 use Rattle.ctd_traps.proofs.Noting.{events_both}
@@ -46,8 +46,7 @@ note_of (x ∷ notes) e has = note_first x notes e (note_of notes e) (first_or_r
 -- the kind of an event
 abbrev kind_back : Event → EventKind
 kind_back begins = kinds.Begins
-kind_back (finds h) = kinds.Begins
-kind_back (ends_turn h) = kinds.Begins
+kind_back (finds moment h) = kinds.Begins
 kind_back goes_on = kinds.GoesOn
 kind_back (answers true) = kinds.IsTrue
 kind_back (answers false) = kinds.IsFalse
@@ -115,20 +114,12 @@ no_fault_in never place fault has = let n : NoteOf never (record { place = place
     of_kind kinds.IsFalse is = cc
 
 -- that variables are found is not among the events
-nothing_found_in : (never : List Note) (place : Place) (h : Bindings) → Contains (events_of never) (record { place = place; event = finds h }) → ⊥
-nothing_found_in never place h has = let n : NoteOf never (record { place = place; event = finds h }) = note_of never (record { place = place; event = finds h }) has in of_kind n.note.kind (ap (λ (e : PlacedEvent). e.event) n.is)
+nothing_found_in : (never : List Note) (place : Place) (moment : Moment) (h : Bindings) → Contains (events_of never) (record { place = place; event = finds moment h }) → ⊥
+nothing_found_in never place moment h has =
+    let n : NoteOf never (record { place = place; event = finds moment h }) = note_of never (record { place = place; event = finds moment h }) has in
+    of_kind n.note.kind (ap (λ (e : PlacedEvent). e.event) n.is)
   where
-    of_kind : (k : EventKind) → event_of_kind k ≡ finds h → ⊥
-    of_kind kinds.Begins is = cc
-    of_kind kinds.GoesOn is = cc
-    of_kind kinds.IsTrue is = cc
-    of_kind kinds.IsFalse is = cc
-
--- nor that a turn has ended
-no_turn_ended_in : (never : List Note) (place : Place) (h : Bindings) → Contains (events_of never) (record { place = place; event = ends_turn h }) → ⊥
-no_turn_ended_in never place h has = let n : NoteOf never (record { place = place; event = ends_turn h }) = note_of never (record { place = place; event = ends_turn h }) has in of_kind n.note.kind (ap (λ (e : PlacedEvent). e.event) n.is)
-  where
-    of_kind : (k : EventKind) → event_of_kind k ≡ ends_turn h → ⊥
+    of_kind : (k : EventKind) → event_of_kind k ≡ finds moment h → ⊥
     of_kind kinds.Begins is = cc
     of_kind kinds.GoesOn is = cc
     of_kind kinds.IsTrue is = cc
@@ -141,8 +132,7 @@ never_happens g program presets noted never each absent mode d steps n s t task 
   where
     of_event : (event : Event) → noted_in g noted place event → Contains (events_of never) (record { place = place; event = event }) → ⊥
     of_event begins is listed = absent (record { place = place; event = begins }) listed is
-    of_event (finds h) is listed = nothing_found_in never place h listed
-    of_event (ends_turn h) is listed = no_turn_ended_in never place h listed
+    of_event (finds moment h) is listed = nothing_found_in never place moment h listed
     of_event goes_on is listed = absent (record { place = place; event = goes_on }) listed is
     of_event (answers b) is listed = absent (record { place = place; event = answers b }) listed is
     of_event (fails fault) is listed = no_fault_in never place fault listed

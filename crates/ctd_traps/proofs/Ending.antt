@@ -1,13 +1,15 @@
--- The end of a run that does all its tasks, and what is known there and where commands begin.
-use Rattle.ctd_traps.proofs.Common.{Bindings, BlanksOk, Bool, Comes, CommandList, Contains, Context, Effect, Exact, ExpectedEof, Fault, HasEachEvent, IsSeen, List, Mode, None, Noted, Option, Place, Preset, Result, Ok, Err, Some, Start, Task, TestData, Vec, [], all_done}
-use Rattle.ctd_traps.proofs.Common.{ap, append_assoc, at_once, at_start, by_step, command_finds, done, end, end_finds, end_in, ends_turn, eof, false, fault_of_look, faulty, finds, finish, first_skip, if◌then◌else◌, is_blank, is_end, lift, next_byte, noted_in, perform}
+-- The end of a run that does all its tasks, and what is known there and at the places to which runs come.
+use Rattle.ctd_traps.proofs.Common.{Bindings, BlanksOk, Bool, Comes, CommandList, Contains, Context, Effect, Event, Exact, ExpectedEof, Fault, HasEachEvent, IfSome, IsFound, List, Moment, Mode, None, Noted, Option, Place, Preset, Result, Ok, Err, Some, Start, Task, TestData, Vec, [], all_done}
+use Rattle.ctd_traps.proofs.Common.{ap, append_assoc, at_once, at_start, by_step, done, end, end_finds, end_in, eof, false, fault_of_look, faulty, finds, finish, first_skip, if◌then◌else◌, is_blank, is_end, lift, next_byte, noted_in, perform}
 use Rattle.ctd_traps.proofs.Common.{place_of, prefix_len, proceed, program_end, refl, reject, rejected, resume, return, run, run_from, see_next, site_of, skip_blanks, start, subst, suc, sym, tasks, true, turn, turn_ends, visible, with_fault, zero, ℕ, ⊤, ◌++◌, ◌+◌, ◌<◌, ◌^◌, ◌∙◌, ◌∷◌, ◌≡◌, Bor}
 use Rattle.ctd_command.specs.State.{State}
 use Rattle.ctd_outcome.specs.declared.outcome.Site.TheVariants.{Finish}
-use Rattle.ctd_traps.specs.calls.Known.{AreSo, EachAcceptedHas, EachFinds, EachTurnLeaves, IsKnownOf}
+use Rattle.ctd_traps.specs.calls.Known.{AreSo, EachAcceptedHas, EachFinds, IsKnownOf}
+use Rattle.ctd_traps.specs.declared.joined.Moment.TheVariants as moments
 use Rattle.ctd_traps.specs.declared.known.Known.{Known}
 use Rattle.ctd_traps.specs.declared.known.KnownAt.{KnownAt}
-use Rattle.ctd_traps.specs.inner.Seen.{AllAreKnown}
+use Rattle.ctd_traps.specs.declared.known.Knowledge.{Knowledge}
+use Rattle.ctd_traps.specs.inner.Knowing.{IsKnowledge}
 
 -- an effect leaves these variables
 abbrev Leaves_store : Bindings → {A : Type 0} → Effect A → Type 0
@@ -80,22 +82,33 @@ comes_to_end d (suc n) (task ∷ us) s after left is = end_by_case d n (comes_to
 
 -- what is known in the end of each file that is accepted
 pub accepted_has : (program : CommandList) (presets : List Preset) (names : List (Bor (List ℕ))) (known : Option (Vec Known)) (g : Context) (noted : Noted) → HasEachEvent program presets (noted_in g noted) →
-    ((h : Bindings) → IsSeen g noted.seen.items program_end h → IsKnownOf names h known) → EachAcceptedHas program presets names known
+    ((h : Bindings) → IsFound g noted.joined program_end moments.Done h → IsKnownOf names h known) → EachAcceptedHas program presets names known
 accepted_has program presets names known g noted each knows mode d steps left after less is = from_skip (first_skip d (at_start mode presets)) refl is
   where
     from_skip : (a : Effect ⊤) → first_skip d (at_start mode presets) ≡ a → resume d Start 0 steps a (λ _ t. run d steps (tasks program ++ finish ∷ []) t) ≡ all_done after left → IsKnownOf names after.store known
     from_skip (done tt t) skipped is =
         let e : ComesToEnd d steps (tasks program ++ finish ∷ []) t after = comes_to_end d steps (tasks program) t after left is in
-        subst (λ h. IsKnownOf names h known) e.same (knows e.state.store (each mode d steps e.left t e.state finish e.rest program_end (finds e.state.store) less skipped e.comes end_finds))
+        subst (λ h. IsKnownOf names h known) e.same (knows e.state.store (each mode d steps e.left t e.state finish e.rest program_end (finds moments.Done e.state.store) less skipped e.comes end_finds))
     from_skip (rejected reason consumed) skipped is = absurd (cc is)
     from_skip (faulty fault consumed) skipped is = absurd (cc is)
 
--- and where commands begin
-pub each_finds : (program : CommandList) (presets : List Preset) (found : List KnownAt) (g : Context) (noted : Noted) → HasEachEvent program presets (noted_in g noted) → AllAreKnown g noted.seen.items found → EachFinds program presets g.names.now found
-each_finds program presets found g noted each known mode d steps n s t c rest x less skipped comes among at =
-    known x among t.store (subst (λ p. IsSeen g noted.seen.items p t.store) at (each mode d steps n s t (start c) rest (place_of c) (finds t.store) less skipped comes command_finds))
+-- what is found is noted
+found_noted : (g : Context) (noted : Noted) (place other : Place) (event : Event) (moment : Moment) (h : Bindings) → noted_in g noted place event → place ≡ other → event ≡ finds moment h → IsFound g noted.joined other moment h
+found_noted g noted place other event moment h is same finding = subst (λ p. IsFound g noted.joined p moment h) same (subst (λ e. noted_in g noted place e) finding is)
 
--- and where turns have ended
-pub each_turn_leaves : (program : CommandList) (presets : List Preset) (found : List KnownAt) (g : Context) (noted : Noted) → HasEachEvent program presets (noted_in g noted) → AllAreKnown g noted.turned.items found → EachTurnLeaves program presets g.names.now found
-each_turn_leaves program presets found g noted each known mode d steps n s t loop k rest x less skipped comes among at =
-    known x among t.store (subst (λ p. IsSeen g noted.turned.items p t.store) at (each mode d steps n s t (turn loop (suc k)) rest loop.place (ends_turn t.store) less skipped comes turn_ends))
+-- and at the places to which runs come
+pub each_finds : (program : CommandList) (presets : List Preset) (known : List KnownAt) (g : Context) (noted : Noted) → HasEachEvent program presets (noted_in g noted) →
+    ((x : KnownAt) → Contains known x → (h : Bindings) → IsFound g noted.joined x.place x.moment h → AreSo g.names.now h x.known.items) → EachFinds program presets g.names.now known
+each_finds program presets known g noted each knows x h among mode d steps n s t task rest place event less skipped comes happens at finding =
+    knows x among h (found_noted g noted place x.place event x.moment h (each mode d steps n s t task rest place event less skipped comes happens) at finding)
+
+-- both, of what is known, if it is asked for
+pub knowledge_ends : (program : CommandList) (presets : List Preset) (g : Context) (noted : Noted) (answer : Option Knowledge) → HasEachEvent program presets (noted_in g noted) → IfSome answer (λ k. IsKnowledge g noted.joined k) →
+    IfSome answer (λ k. EachAcceptedHas program presets g.names.now k.at_end)
+knowledge_ends program presets g noted None each knows = tt
+knowledge_ends program presets g noted (Some k) each knows = accepted_has program presets g.names.now k.at_end g noted each knows.at_end
+
+pub knowledge_finds : (program : CommandList) (presets : List Preset) (g : Context) (noted : Noted) (answer : Option Knowledge) → HasEachEvent program presets (noted_in g noted) → IfSome answer (λ k. IsKnowledge g noted.joined k) →
+    IfSome answer (λ k. EachFinds program presets g.names.now k.at_places.items)
+knowledge_finds program presets g noted None each knows = tt
+knowledge_finds program presets g noted (Some k) each knows = each_finds program presets k.at_places.items g noted each knows.at_places

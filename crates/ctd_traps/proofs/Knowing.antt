@@ -1,5 +1,5 @@
 -- What is known of the variables of a run.
-use Rattle.ctd_traps.proofs.Common.{AbstractState, AbstractValue, Bindings, Bor, Contains, Contains-push_cases, Context, IsSeen, Lengths, List, MayBe, NameStands, None, Option, Place, PossibleValues, Range, Seen, Some, Value, [], EachStands, MayHave, ap, arith, at_drop_more, at_key, entries_in, named_values}
+use Rattle.ctd_traps.proofs.Common.{AbstractState, AbstractValue, Bindings, Bor, Contains, Contains-push_cases, Context, Describes, JoinedState, Lengths, List, MayBe, NameStands, Moment, None, OneDescribes, Option, Place, PossibleValues, Range, Some, Value, [], EachStands, MayHave, ap, arith, at_drop_more, at_key, entries_in, named_values}
 use Rattle.ctd_traps.proofs.Common.{drop, drop_all, false, get_or, inl, inr, ints, length, refl, subst, sym, true, value_at, ℕ, ◌++◌, ◌+◌, ◌<◌, ◌∷◌, ◌≡◌, ◌≤◌, ◌⊎◌, ◌∙◌}
 use Rattle.ctd_elements.proofs.Bounds.{all_at}
 use Rattle.ctd_elements.specs.calls.Blocks.{AllStand}
@@ -12,8 +12,8 @@ use Rattle.ctd_traps.specs.calls.Known.{AreSo, IsOneOf, IsSo}
 use Rattle.ctd_traps.specs.declared.known.Known.{Known}
 use Rattle.ctd_traps.specs.declared.known.Known.TheVariants as kinds
 use Rattle.ctd_traps.specs.declared.known.KnownAt.{KnownAt}
-use Rattle.ctd_traps.specs.inner.Seen.{AllAreKnown, IsJoinOf, SomeStands, TellsAll}
-use Rattle.ctd_traps.proofs.Absent.{first_or_rest, none_in}
+use Rattle.ctd_traps.specs.inner.Knowing.{AreKnown, IsJoinOf, SomeStands, TellsAll}
+use Rattle.ctd_traps.proofs.Absent.{none_in}
 
 -- nothing is known, and one thing more
 pub nothing_known : (names : List (Bor (List ℕ))) (h : Bindings) → AreSo names h []
@@ -69,47 +69,41 @@ copy_joins g state copy is = record {
 pub both_join : (g : Context) (other state both : AbstractState) → IsStateWithin g other both → IsStateWithin g state both → IsJoinOf g (Some other) state both
 both_join g other state both left right = record { first = λ h some. (some.0, left some.0 h some.1); second = right }
 
--- states that were seen at a place, from the front: what they describe is described by one that is left, or by the join
-abbrev pub SeenOr : Context → (rest whole : List Seen) → Place → Option AbstractState → Type 0
-SeenOr g rest whole place all = (h : Bindings) → IsSeen g whole place h → IsSeen g rest place h ⊎ SomeStands g all h
+-- joined states from the front: what they describe at a place and a moment is described by one that is left, or by a state
+abbrev pub LeftOr : Context → (rest whole : List JoinedState) → Place → Moment → Option AbstractState → Type 0
+LeftOr g rest whole place moment all = (h : Bindings) → OneDescribes g whole place moment h → OneDescribes g rest place moment h ⊎ SomeStands g all h
 
--- a state that was seen is the first, or one of the rest
-seen_first : (g : Context) (x : Seen) (rest : List Seen) (place : Place) (h : Bindings) (X : Type 0) → ((n : ℕ) → x.place ≡ place → StateStands g x.state n h → X) → IsSeen g (x ∷ rest) place h → IsSeen g rest place h ⊎ X
-seen_first g x rest place h X found seen = which (first_or_rest x rest seen.entry seen.among)
-  where
-    which : (x ≡ seen.entry) ⊎ Contains rest seen.entry → IsSeen g rest place h ⊎ X
-    which (inl same) = inr (found seen.left (subst (λ (y : Seen). y.place ≡ place) (sym same) seen.at) (subst (λ (y : Seen). StateStands g y.state seen.left h) (sym same) seen.stands))
-    which (inr later) = inl (record { entry = seen.entry; among = later; at = seen.at; left = seen.left; stands = seen.stands })
+next_or_left : (g : Context) (x : JoinedState) (rest : List JoinedState) (place : Place) (moment : Moment) (h : Bindings) (A B : Type 0) → (A → B) → (Describes g x place moment h → B) → OneDescribes g (x ∷ rest) place moment h ⊎ A → OneDescribes g rest place moment h ⊎ B
+next_or_left g x rest place moment h A B more here (inl (inl describes)) = inr (here describes)
+next_or_left g x rest place moment h A B more here (inl (inr left)) = inl left
+next_or_left g x rest place moment h A B more here (inr a) = inr (more a)
 
-pub seen_next : (g : Context) (whole : List Seen) (i : ℕ) (x : Seen) (place : Place) (old new : Option AbstractState) → i < length whole → x ≡ get_or whole i x → ((h : Bindings) → SomeStands g old h → SomeStands g new h) →
-    ((n : ℕ) (h : Bindings) → x.place ≡ place → StateStands g x.state n h → SomeStands g new h) → SeenOr g (drop i whole) whole place old → SeenOr g (drop (i + 1) whole) whole place new
-seen_next g whole i x place old new inside is more here so_far h seen = which (so_far h seen)
+pub state_next : (g : Context) (whole : List JoinedState) (i : ℕ) (x : JoinedState) (place : Place) (moment : Moment) (old new : Option AbstractState) → i < length whole → x ≡ get_or whole i x → ((h : Bindings) → SomeStands g old h → SomeStands g new h) →
+    ((h : Bindings) → Describes g x place moment h → SomeStands g new h) → LeftOr g (drop i whole) whole place moment old → LeftOr g (drop (i + 1) whole) whole place moment new
+state_next g whole i x place moment old new inside is more here so_far h one =
+    next_or_left g x (drop (i + 1) whole) place moment h (SomeStands g old h) (SomeStands g new h) (more h) (here h) (subst (λ l. OneDescribes g l place moment h ⊎ SomeStands g old h) front (so_far h one))
   where
     front : drop i whole ≡ x ∷ drop (i + 1) whole
-    front = at_drop_more (λ l. l) whole i x inside ∙ ap (λ (y : Seen). y ∷ drop (i + 1) whole) (sym is)
+    front = at_drop_more (λ l. l) whole i x inside ∙ ap (λ (y : JoinedState). y ∷ drop (i + 1) whole) (sym is)
 
-    which : IsSeen g (drop i whole) place h ⊎ SomeStands g old h → IsSeen g (drop (i + 1) whole) place h ⊎ SomeStands g new h
-    which (inl left) = seen_first g x (drop (i + 1) whole) place h (SomeStands g new h) (λ n at stands. here n h at stands) (subst (λ l. IsSeen g l place h) front left)
-    which (inr joined) = inr (more h joined)
+none_left : (g : Context) (place : Place) (moment : Moment) (h : Bindings) (A : Type 0) → OneDescribes g [] place moment h ⊎ A → A
+none_left g place moment h A (inl one) = absurd one
+none_left g place moment h A (inr a) = a
 
-pub seen_done : (g : Context) (whole : List Seen) (i : ℕ) (place : Place) (all : Option AbstractState) → length whole ≤ i → SeenOr g (drop i whole) whole place all → (h : Bindings) → IsSeen g whole place h → SomeStands g all h
-seen_done g whole i place all done so_far h seen = which (so_far h seen)
-  where
-    which : IsSeen g (drop i whole) place h ⊎ SomeStands g all h → SomeStands g all h
-    which (inl left) = absurd (none_in left.entry (subst (λ l. Contains l left.entry) (drop_all i whole done) left.among))
-    which (inr joined) = joined
+pub state_done : (g : Context) (whole : List JoinedState) (i : ℕ) (place : Place) (moment : Moment) (all : Option AbstractState) → length whole ≤ i → LeftOr g (drop i whole) whole place moment all → (h : Bindings) → OneDescribes g whole place moment h → SomeStands g all h
+state_done g whole i place moment all done so_far h one = none_left g place moment h (SomeStands g all h) (subst (λ l. OneDescribes g l place moment h ⊎ SomeStands g all h) (drop_all i whole done) (so_far h one))
 
 -- what is known by a state that describes the variables
 pub told_by : (g : Context) (state : AbstractState) (known : List Known) (h : Bindings) → TellsAll state known → SomeStands g (Some state) h → AreSo g.names.now h known
 told_by g state known h told some = told g some.0 h some.1
 
 -- no places, and one more
-pub no_places : (g : Context) (seen : List Seen) → AllAreKnown g seen []
-no_places g seen x has = absurd (none_in x has)
+pub no_places : (g : Context) (states : List JoinedState) → AreKnown g states []
+no_places g states x has = absurd (none_in x has)
 
-pub place_pushed : (g : Context) (seen : List Seen) (old all : List KnownAt) (y : KnownAt) → all ≡ old ++ y ∷ [] → ((h : Bindings) → IsSeen g seen y.place h → AreSo g.names.now h y.known.items) → AllAreKnown g seen old → AllAreKnown g seen all
-place_pushed g seen old all y is one so x has = which (Contains-push_cases old y x (subst (λ l. Contains l x) is has))
+pub place_pushed : (g : Context) (states : List JoinedState) (old all : List KnownAt) (y : KnownAt) → all ≡ old ++ y ∷ [] → ((h : Bindings) → OneDescribes g states y.place y.moment h → AreSo g.names.now h y.known.items) → AreKnown g states old → AreKnown g states all
+place_pushed g states old all y is one so x has = which (Contains-push_cases old y x (subst (λ l. Contains l x) is has))
   where
-    which : Contains old x ⊎ (y ≡ x) → (h : Bindings) → IsSeen g seen x.place h → AreSo g.names.now h x.known.items
+    which : Contains old x ⊎ (y ≡ x) → (h : Bindings) → OneDescribes g states x.place x.moment h → AreSo g.names.now h x.known.items
     which (inl before) = so x before
-    which (inr same) = subst (λ (z : KnownAt). (h : Bindings) → IsSeen g seen z.place h → AreSo g.names.now h z.known.items) same one
+    which (inr same) = subst (λ (z : KnownAt). (h : Bindings) → OneDescribes g states z.place z.moment h → AreSo g.names.now h z.known.items) same one

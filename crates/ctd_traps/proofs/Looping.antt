@@ -1,5 +1,5 @@
 -- How a loop starts, how its turns begin, and what it keeps.
-use Rattle.ctd_traps.proofs.Common.{AbstractState, AreCounted, AreNoted, BegunIn, Bindings, EndedIn, Bool, CommandLeads, Context, Counting, Effect, Enters, Faults, Fits, GoesOn, Guard, GuardTree, HasNumber}
+use Rattle.ctd_traps.proofs.Common.{AbstractState, AreCounted, AreNoted, BegunIn, Bindings, Bool, CommandLeads, Context, Counting, Effect, Enters, Faults, Fits, GoesOn, Guard, GuardTree, HasNumber}
 use Rattle.ctd_traps.proofs.Common.{HasTurns, Holds, HoldsBeside, InTurn, IsFreeName, IsGuard, IsPostFixpoint, IsTurn, Lasts, Leads, Leaves, List, Noted, NotedIn, PartitionIsWithin, Phase}
 use Rattle.ctd_traps.proofs.Common.{PinsStand, Place, Safe, SparesBetween, SparesEach, SparesLoop, SparesTarget, Splits, StartsIn, Task, TestData, Turns, Unchanged, Variables, answers}
 use Rattle.ctd_traps.proofs.Common.{arith, boxed_separator, boxed_target, command_list, done, false, faulty, guard_of, guard_tree, ints, keep, loop_at}
@@ -18,6 +18,7 @@ use Rattle.ctd_traps.proofs.Leading.{StartsSafe, start_leads}
 use Rattle.ctd_traps.proofs.Noting.{begins_by}
 use Rattle.ctd_traps.proofs.Sparing.{turn_spares}
 use Rattle.ctd_traps.proofs.Turning.{number_given}
+use Rattle.ctd_traps.specs.declared.joined.Moment.TheVariants as moments
 
 -- an act that was done after another
 record Came {A B : Type 0} (a : Effect A) (next : A → State → Effect B) (y : B) (t : State) : Type 0 where
@@ -103,7 +104,7 @@ pub record LoopParts (g : Context) (states candidate first_inside first_outside 
   pub counted : AreCounted g l counting
   pub first_enters : Enters g states l counting (phases.At 0) first_inside first_outside first
   pub later_enters : Enters g candidate l counting phases.Later later_inside later_outside later
-  pub ended : EndedIn g noted place candidate
+  pub ended : FoundIn g noted place moments.TurnEnded candidate
   pub first_true : NotedIn g noted place (answers true) first_inside
   pub first_false : NotedIn g noted place (answers false) first_outside
   pub later_true : NotedIn g noted place (answers true) later_inside

@@ -5,9 +5,10 @@ use Rattle.ctd_traps.proofs.Common.{at_once, at_start, by_step, done, end, end_f
 use Rattle.ctd_traps.proofs.Common.{stopped, subst, suc, sym, task_fails, tasks, turn, with_steps, zero, ℕ, ⊤, ◌++◌, ◌<◌, ◌^◌, ◌∙◌, ◌∷◌, ◌≡◌}
 use Rattle.ctd_command.specs.State.{State}
 use Rattle.ctd_traps.proofs.Leading.{safe_at_end}
+use Rattle.ctd_traps.specs.declared.joined.Moment.TheVariants as moments
 
 -- the end of a program: variables are found there, and nothing else happens
-end_is_safe : (d : TestData) (events : Events) (n : ℕ) (s : State) → events program_end (finds s.store) → Safe d events n (finish ∷ []) s
+end_is_safe : (d : TestData) (events : Events) (n : ℕ) (s : State) → events program_end (finds moments.Done s.store) → Safe d events n (finish ∷ []) s
 end_is_safe d events n s found m task rest u place event (at_once) (task_fails site of_value is) = absurd (cc)
 end_is_safe d events n s found m task rest u place event (at_once) (end_finds) = found
 end_is_safe d events n s found m task rest u place event (by_step {n = i} {more} {t} is comes) happens =
@@ -22,7 +23,7 @@ end_is_safe d events n s found m task rest u place event (by_step {n = i} {more}
 -- the events of a program that its commands lead through
 pub events_follow : (program : CommandList) (presets : List Preset) (events : Events) (before after : Before) →
     ((mode : Mode) (d : TestData) (n : ℕ) (s : State) → n < 2 ^ 64 → first_skip d (at_start mode presets) ≡ done tt s → before n s) →
-    ((d : TestData) → Leads d events before program after) → ((n : ℕ) (s : State) → after n s → events program_end (finds s.store)) → HasEachEvent program presets events
+    ((d : TestData) → Leads d events before program after) → ((n : ℕ) (s : State) → after n s → events program_end (finds moments.Done s.store)) → HasEachEvent program presets events
 events_follow program presets events before after first leads ends mode d steps n s t task rest place event less skipped comes happens =
     leads d (finish ∷ []) steps s (first mode d steps s less skipped) (λ m u fewer here. end_is_safe d events m u (ends m u here)) n task rest t place event comes happens
 

@@ -35,22 +35,22 @@ acts_step g states after f c noted keeps begun gone faults pins d all h stand pa
     (λ t end. noted_more g noted all (place_of c) goes_on after part gone n t.store end.0.one) (λ place b happens. absurd (no_answer d c does.act s place b does.plain does.simple happens))
     (leaves_more (noted_in g all) (place_of c) (λ _ t. Holds g pins after n t) (λ _ t. HoldsBeside g pins after S h n t) (does.act d s)
     (λ x t is holds. (holds, then_same S h s.store t.store here.1 (simple_spares c does.act d s t x does.simple is)))
-    (fits_leaves g all (place_of c) f pins after n (does.act d s) less (faults_more noted all (place_of c) f part faults) (does.holds pins d s refl stand here.0.pinned))) next
+    (fits_leaves g all (place_of c) f pins after n (does.act d s) less (faults_more g noted all (place_of c) f part faults) (does.holds pins d s refl stand here.0.pinned))) next
 
 -- a test, of which all is noted
-pub asks_more : (g : Context) (states on_true others : List AbstractState) (t : TestTree) (f : Faults) (a b : Noted) (place : Place) → IsPart a b → Asks g states on_true others t f a place → Asks g states on_true others t f b place
+pub asks_more : (g : Context) (states on_true others : List AbstractState) (t : TestTree) (f : Faults) (a b : Noted) (place : Place) → IsPart g a b → Asks g states on_true others t f a place → Asks g states on_true others t f b place
 asks_more g states on_true others t f a b place part asks = record {
   divides = asks.divides;
   begun = begun_more g a b place states part asks.begun;
   true_noted = noted_more g a b place (answers true) on_true part asks.true_noted;
   false_noted = noted_more g a b place (answers false) others part asks.false_noted;
-  faults_noted = faults_more a b place f part asks.faults_noted;
+  faults_noted = faults_more g a b place f part asks.faults_noted;
 }
 
 still_beside : (g : Context) (pins : Variables) (states : List AbstractState) (S : List ℕ → Type 0) (h : Bindings) (n : ℕ) (s t : State) → s ≡ t → Unchanged S h s.store → Holds g pins states n t → HoldsBeside g pins states S h n t
 still_beside g pins states S h n s t is same holds = (holds, subst (λ (u : State). Unchanged S h u.store) is same)
 
-asks_splits : (g : Context) (states on_true others : List AbstractState) (t : TestTree) (f : Faults) (noted all : Noted) (place : Place) → IsPart noted all → Asks g states on_true others t f noted place → (pins : Variables) (d : TestData) (S : List ℕ → Type 0) (h : Bindings) (n : ℕ) (s : State) → HoldsBeside g pins states S h (suc n) s →
+asks_splits : (g : Context) (states on_true others : List AbstractState) (t : TestTree) (f : Faults) (noted all : Noted) (place : Place) → IsPart g noted all → Asks g states on_true others t f noted place → (pins : Variables) (d : TestData) (S : List ℕ → Type 0) (h : Bindings) (n : ℕ) (s : State) → HoldsBeside g pins states S h (suc n) s →
     Splits (noted_in g all) place (HoldsBeside g pins on_true S h n) (HoldsBeside g pins others S h n) (answer t d s)
 asks_splits g states on_true others t f noted all place part asks pins d S h n s here =
     let steps = here.0.steps in
@@ -83,39 +83,39 @@ assert_steps g states on_true others f place t noted asks gone pins d all h stan
     (assert_leaves (noted_in g all) place P Q d (answer t d s) splits) next
 
 -- more states behind commands, and more notes
-pub walk_more : (g : Context) (states after wider : List AbstractState) (old new : Noted) (cs : CommandList) → PartitionIsWithin g after wider → IsPart old new → WalkKeeps g states after old cs → WalkKeeps g states wider new cs
+pub walk_more : (g : Context) (states after wider : List AbstractState) (old new : Noted) (cs : CommandList) → PartitionIsWithin g after wider → IsPart g old new → WalkKeeps g states after old cs → WalkKeeps g states wider new cs
 walk_more g states after wider old new cs tells part keeps pins d all h stand within =
     let S : List ℕ → Type 0 = λ name. SparesEach name cs in
-    weaker_leads d (noted_in g all) (HoldsBeside g pins states S h) (HoldsBeside g pins after S h) (HoldsBeside g pins wider S h) cs (λ m t here. (tells_holds g pins after wider tells m t here.0, here.1)) (keeps pins d all h stand (part_trans old new all part within))
+    weaker_leads d (noted_in g all) (HoldsBeside g pins states S h) (HoldsBeside g pins after S h) (HoldsBeside g pins wider S h) cs (λ m t here. (tells_holds g pins after wider tells m t here.0, here.1)) (keeps pins d all h stand (part_trans g old new all part within))
 
-pub separator_more : (g : Context) (states after wider : List AbstractState) (old new : Noted) (sep : Separator) → PartitionIsWithin g after wider → IsPart old new → SeparatorKeeps g states after old sep → SeparatorKeeps g states wider new sep
+pub separator_more : (g : Context) (states after wider : List AbstractState) (old new : Noted) (sep : Separator) → PartitionIsWithin g after wider → IsPart g old new → SeparatorKeeps g states after old sep → SeparatorKeeps g states wider new sep
 separator_more g states after wider old new sep tells part keeps pins d all k h stand within =
     let S : List ℕ → Type 0 = λ name. SparesBetween name sep in
-    weaker_leads d (noted_in g all) (HoldsBeside g pins states S h) (HoldsBeside g pins after S h) (HoldsBeside g pins wider S h) (separator_before (suc k) sep) (λ m t here. (tells_holds g pins after wider tells m t here.0, here.1)) (keeps pins d all k h stand (part_trans old new all part within))
+    weaker_leads d (noted_in g all) (HoldsBeside g pins states S h) (HoldsBeside g pins after S h) (HoldsBeside g pins wider S h) (separator_before (suc k) sep) (λ m t here. (tells_holds g pins after wider tells m t here.0, here.1)) (keeps pins d all k h stand (part_trans g old new all part within))
 
 -- IF
 pub choice_steps : (g : Context) (states on_true others true_after false_after after : List AbstractState) (f : Faults) (place : Place) (t : TestTree) (cs ds : CommandList) (asked first noted : Noted) → Asks g states on_true others t f asked place → NotedIn g asked place goes_on on_true → NotedIn g asked place goes_on others →
-    IsPart asked noted → IsPart first noted → WalkKeeps g on_true true_after first cs → WalkKeeps g others false_after noted ds → PartitionIsWithin g true_after after → PartitionIsWithin g false_after after → StepKeeps g states after noted (Tree.choice place t cs ds)
+    IsPart g asked noted → IsPart g first noted → WalkKeeps g on_true true_after first cs → WalkKeeps g others false_after noted ds → PartitionIsWithin g true_after after → PartitionIsWithin g false_after after → StepKeeps g states after noted (Tree.choice place t cs ds)
 choice_steps g states on_true others true_after false_after after f place t cs ds asked first noted asks if_gone else_gone part_asked part_first left right left_tells right_tells pins d all h stand within =
-    let part : IsPart asked all = part_trans asked noted all part_asked within in
+    let part : IsPart g asked all = part_trans g asked noted all part_asked within in
     let S : List ℕ → Type 0 = λ name. Spares name (Tree.choice place t cs ds) in
     choice_leads d (noted_in g all) place t cs ds (HoldsBeside g pins states S h) (HoldsBeside g pins on_true S h) (HoldsBeside g pins others S h) (HoldsBeside g pins after S h)
     (λ n s here. begins_by g all place states (suc n) s (begun_more g asked all place states part asks.begun) here.0.one)
     (λ n u here. noted_more g asked all place goes_on on_true part if_gone n u.store here.0.one) (λ n u here. noted_more g asked all place goes_on others part else_gone n u.store here.0.one)
     (λ n s here. asks_splits g states on_true others t f asked all place part asks pins d S h n s here)
     (beside_leads d (noted_in g all) g pins on_true after cs (λ name. SparesEach name cs) S h (λ name spared. spared.0) (λ k. walk_more g on_true true_after after first noted cs left_tells part_first left pins d all k stand within))
-    (beside_leads d (noted_in g all) g pins others after ds (λ name. SparesEach name ds) S h (λ name spared. spared.1) (λ k. walk_more g others false_after after noted noted ds right_tells (λ j x e is. is) right pins d all k stand within))
+    (beside_leads d (noted_in g all) g pins others after ds (λ name. SparesEach name ds) S h (λ name spared. spared.1) (λ k. walk_more g others false_after after noted noted ds right_tells (λ x e is. is) right pins d all k stand within))
 
 -- commands one after the other: if the rest keeps, all do
 abbrev pub WalkLeads : (g : Context) (states after : List AbstractState) → (noted : Noted) → (rest whole : CommandList) → Type 0
-WalkLeads g states after noted rest whole = (last : List AbstractState) (more : Noted) → IsPart noted more → WalkKeeps g after last more rest → WalkKeeps g states last more whole
+WalkLeads g states after noted rest whole = (last : List AbstractState) (more : Noted) → IsPart g noted more → WalkKeeps g after last more rest → WalkKeeps g states last more whole
 
-pub walk_leads_on : (g : Context) (states before after : List AbstractState) (old new : Noted) (c : CommandTree) (rest whole : CommandList) → IsPart old new → StepKeeps g before after new c → WalkLeads g states before old (Tree.then c rest) whole → WalkLeads g states after new rest whole
+pub walk_leads_on : (g : Context) (states before after : List AbstractState) (old new : Noted) (c : CommandTree) (rest whole : CommandList) → IsPart g old new → StepKeeps g before after new c → WalkLeads g states before old (Tree.then c rest) whole → WalkLeads g states after new rest whole
 walk_leads_on g states before after old new c rest whole part step leads last more parts keeps =
-    leads last more (part_trans old new more part parts) (λ pins d all h stand within.
+    leads last more (part_trans g old new more part parts) (λ pins d all h stand within.
     let S : List ℕ → Type 0 = λ name. SparesEach name (Tree.then c rest) in
     list_leads d (noted_in g all) (HoldsBeside g pins before S h) (HoldsBeside g pins after S h) (HoldsBeside g pins last S h) c rest
-    (beside_command d (noted_in g all) g pins before after c (λ name. Spares name c) S h (λ name spared. spared.0) (λ k. step pins d all k stand (part_trans new more all parts within)))
+    (beside_command d (noted_in g all) g pins before after c (λ name. Spares name c) S h (λ name spared. spared.0) (λ k. step pins d all k stand (part_trans g new more all parts within)))
     (beside_leads d (noted_in g all) g pins after last rest (λ name. SparesEach name rest) S h (λ name spared. spared.1) (λ k. keeps pins d all k stand within)))
 
 pub nothing_walked : (g : Context) (states : List AbstractState) (noted : Noted) → WalkKeeps g states states noted Tree.done

@@ -8,6 +8,7 @@ use Rattle.ctd_source.specs.declared.spot.LookFault.TheVariants as looks
 use Rattle.ctd_command.specs.State.{State}
 use Rattle.ctd_traps.proofs.Framing.{framed_leads}
 use Rattle.ctd_traps.proofs.Reaching.{AreTraps, NoFault, events_follow, traps_are_events}
+use Rattle.ctd_traps.specs.declared.joined.Moment.TheVariants as moments
 
 -- an effect with no fault of a value
 abbrev OnlyLooks : {A : Type 0} → Effect A → Type 0
@@ -88,7 +89,7 @@ first_holds presets g first stand tells mode d n s less skipped =
     }
 
 -- all that happens is noted
-pub events_noted : (program : CommandList) (presets : List Preset) (g : Context) (first last : List AbstractState) (walked noted : Noted) → PinsStand (pins_in g) (pins_of presets) → PinsAreIn g first → WalkKeeps g first last walked program → IsPart walked noted → FoundIn g noted program_end last → HasEachEvent program presets (noted_in g noted)
+pub events_noted : (program : CommandList) (presets : List Preset) (g : Context) (first last : List AbstractState) (walked noted : Noted) → PinsStand (pins_in g) (pins_of presets) → PinsAreIn g first → WalkKeeps g first last walked program → IsPart g walked noted → FoundIn g noted program_end moments.Done last → HasEachEvent program presets (noted_in g noted)
 events_noted program presets g first last walked noted stand tells keeps part found =
     let pins : Variables = pins_of presets in
     events_follow program presets (noted_in g noted) (Holds g pins first) (Holds g pins last) (first_holds presets g first stand tells)

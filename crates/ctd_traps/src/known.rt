@@ -1,17 +1,17 @@
 //! What is known of the variables of a run.
 
-ghost use Rattle.std.specs.Prelude.{◌≡◌, ℕ, true, IfOk, OnOk, List};
+ghost use Rattle.std.specs.Prelude.{ℕ, IfOk, IfSome, OnOk, List};
 ghost use Rattle.std.specs.Borrow.{Bor};
 ghost use Rattle.ctd_store.specs.Store.{Bindings};
 ghost use Rattle.ctd_states.specs.calls.States.{NameStands, name_at};
 ghost use Rattle.ctd_states.specs.declared.assign.Context.{Context};
 ghost use Rattle.ctd_partitions.specs.calls.States.{StateStands};
 ghost use Rattle.ctd_traps.specs.calls.Known.{AreSo, IsKnownOf, IsSo};
-ghost use Rattle.ctd_traps.specs.inner.Noted.{IsSeen};
-ghost use Rattle.ctd_traps.specs.inner.Seen.{AllAreKnown, IsJoinOf, SomeStands, TellsAll};
+ghost use Rattle.ctd_traps.specs.inner.Joined.{OneDescribes};
+ghost use Rattle.ctd_traps.specs.inner.Knowing.{AreKnown, IsJoinOf, IsKnowledge, SomeStands, TellsAll};
 
 use crate::block::all_commands;
-use crate::note::Seen;
+use crate::joined::{JoinedState, JoinedStates, Moment, is_of};
 use ctd_elements::Fact;
 use ctd_partitions::{State, copy_of_state, join};
 use ctd_program::Command;
@@ -32,10 +32,23 @@ pub enum Known {
     Beside(Fact),
 }
 
-/// Adds something that is known.
+/// Whether all that is said is that there is no value.
+fn says_none(one: Known) -> bool {
+    match one {
+        Known::MayHave(_, possible) | Known::Elements(_, possible) => {
+            possible.text.is_none() && possible.number.is_none()
+        }
+        Known::Has(..) | Known::Beside(_) => false,
+    }
+}
+
+/// Adds something that is known, unless all that it says is that there is no value.
 fn add_known(known: &mut Vec<Known>, one: Known) -> Result<(), AllocError>
     ensures { OnOk result ((names : List (Bor (List ℕ))) (h : Bindings) → IsSo names h one → AreSo names h known.old.items → AreSo names h known.new.items) }
 {
+    if says_none(one) {
+        return Ok(());
+    }
     known.push(one)?;
     Ok(())
 }
@@ -85,7 +98,7 @@ pub(crate) fn known_in(alloc: Global, state: &State) -> Result<Vec<Known>, Alloc
 }
 
 /// The join of a state and another, if there is one.
-fn joined(context: Context, all: Option<State>, state: &State) -> Result<State, Stop>
+fn join_to(context: Context, all: Option<State>, state: &State) -> Result<State, Stop>
     ensures { IfOk result (λ both. IsJoinOf context.entry all state.now both) }
 {
     match all {
@@ -94,40 +107,35 @@ fn joined(context: Context, all: Option<State>, state: &State) -> Result<State, 
     }
 }
 
-/// Whether two places are the same.
-fn is_place(a: Place, b: Place) -> bool
-    ensures { a ≡ b → result ≡ true }
-{
-    a.line == b.line && a.column == b.column
-}
-
-/// The join of the states that were seen at a place, if there are any.
-pub(crate) fn state_at(
+/// The join of the states of a place and a moment, if there are any.
+fn state_at(
     context: Context,
     place: Place,
-    seen: &[Seen],
+    moment: Moment,
+    states: &[JoinedState],
 ) -> Result<Option<State>, Stop>
-    ensures { IfOk result (λ all. (h : Bindings) → IsSeen context.entry seen.now place h → SomeStands context.entry all h) }
+    ensures { IfOk result (λ all. (h : Bindings) → OneDescribes context.entry states.now place moment h → SomeStands context.entry all h) }
 {
     let mut all = None;
-    for entry in seen {
-        if is_place(entry.place, place) {
-            let both = joined(context, all, &entry.state)?;
+    for joined in states {
+        if is_of(joined, place, moment) {
+            let both = join_to(context, all, &joined.state)?;
             all = Some(both);
         }
     }
     Ok(all)
 }
 
-/// What is known at a place; none where no run comes to it.
-pub(crate) fn known_at(
+/// What is known at a place and a moment; none where no run comes to it.
+fn known_at(
     context: Context,
     place: Place,
-    seen: &[Seen],
+    moment: Moment,
+    states: &[JoinedState],
 ) -> Result<Option<Vec<Known>>, Stop>
-    ensures { IfOk result (λ known. (h : Bindings) → IsSeen context.entry seen.now place h → IsKnownOf context.entry.names.now h known) }
+    ensures { IfOk result (λ known. (h : Bindings) → OneDescribes context.entry states.now place moment h → IsKnownOf context.entry.names.now h known) }
 {
-    let all = state_at(context, place, seen)?;
+    let all = state_at(context, place, moment, states)?;
     match all {
         Some(state) => {
             let known = known_in(context.alloc, &state)?;
@@ -137,44 +145,81 @@ pub(crate) fn known_at(
     }
 }
 
-/// What is known where the commands at a place begin.
+/// What is known of the variables that runs have at a place and a moment.
 #[derive(Drop)]
 pub struct KnownAt {
     pub place: Place,
+    pub moment: Moment,
     pub known: Vec<Known>,
 }
 
-/// Adds what is known where the commands at a place begin, if a run comes to one.
+/// Adds what is known at a place and a moment, if a run comes to it.
 fn add_place(
     context: Context,
     place: Place,
-    seen: &[Seen],
+    moment: Moment,
+    states: &[JoinedState],
     found: &mut Vec<KnownAt>,
 ) -> Result<(), Stop>
-    ensures { OnOk result (AllAreKnown context.entry seen.now found.old.items → AllAreKnown context.entry seen.now found.new.items) }
+    ensures { OnOk result (AreKnown context.entry states.now found.old.items → AreKnown context.entry states.now found.new.items) }
 {
-    let all = known_at(context, place, seen)?;
+    let all = known_at(context, place, moment, states)?;
     match all {
         Some(known) => {
-            found.push(KnownAt { place, known })?;
+            found.push(KnownAt {
+                place,
+                moment,
+                known,
+            })?;
             Ok(())
         }
         None => Ok(()),
     }
 }
 
-/// What is known where each of some commands begins, in the order of the text.
-pub(crate) fn known_where(
+/// What is known where each of some commands begins, and where a turn of it has ended, in the order of the text.
+fn known_at_places(
     context: Context,
     commands: &[Command],
-    seen: &[Seen],
+    states: &[JoinedState],
 ) -> Result<Vec<KnownAt>, Stop>
-    ensures { IfOk result (λ found. AllAreKnown context.entry seen.now found.items) }
+    ensures { IfOk result (λ found. AreKnown context.entry states.now found.items) }
 {
     let entries = all_commands(context.alloc, commands)?;
     let mut found = Vec::new(context.alloc);
     for entry in entries.as_slice() {
-        add_place(context, entry.command.place, seen, &mut found)?;
+        let place = entry.command.place;
+        add_place(context, place, Moment::Begins, states, &mut found)?;
+        add_place(context, place, Moment::TurnEnded, states, &mut found)?;
     }
     Ok(found)
+}
+
+/// What is known of the variables of runs, whatever the data, the mode and the limit of steps are.
+#[derive(Drop)]
+pub struct Knowledge {
+    /// In the end of each file that is accepted: none where no file is accepted.
+    pub at_end: Option<Vec<Known>>,
+    /// Where runs come to places, in the order of the text.
+    pub at_places: Vec<KnownAt>,
+}
+
+/// The place of the end of a program, where no command stands.
+pub(crate) const END: Place = Place { line: 0, column: 0 };
+
+/// What is known by joined states, if they are kept.
+pub(crate) fn knowledge_of(
+    context: Context,
+    commands: &[Command],
+    joined: &JoinedStates,
+) -> Result<Option<Knowledge>, Stop>
+    ensures { IfOk result (λ answer. IfSome answer (λ k. IsKnowledge context.entry joined.now k)) }
+{
+    if !joined.are_kept {
+        return Ok(None);
+    }
+    let states = joined.states.as_slice();
+    let at_end = known_at(context, END, Moment::Done, states)?;
+    let at_places = known_at_places(context, commands, states)?;
+    Ok(Some(Knowledge { at_end, at_places }))
 }

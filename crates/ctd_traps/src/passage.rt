@@ -11,7 +11,8 @@ ghost use Rattle.ctd_traps.specs.inner.Noted.{BegunIn, IsPart, NotedIn};
 ghost use Rattle.ctd_traps.specs.inner.Passages.{IsJoined, IsOneOf, IsSameOrNone};
 ghost use Rattle.ctd_traps.specs.inner.Walk.{BeginsLater, IsGuard};
 
-use crate::note::{EventKind, Noted, note_answers, note_begin, note_ended, note_event, note_faults};
+use crate::joined::Moment;
+use crate::note::{EventKind, Noted, note_answers, note_begin, note_event, note_faults, note_states};
 use crate::start::{Turns, may_start};
 use crate::turn::{LoopEntry, LoopStart, Phase, enter};
 use ctd_partitions::{State, are_within, join_partitions};
@@ -28,7 +29,7 @@ pub(crate) fn note_start(
     states: &[State],
     noted: &mut Noted,
 ) -> Result<(), Stop>
-    ensures more { OnOk result (IsPart noted.old noted.new) }
+    ensures more { OnOk result (IsPart context.entry noted.old noted.new) }
     ensures begun { OnOk result (BegunIn context.entry noted.new place states.now) }
     ensures gone { OnOk result ((g : Context) (h : Bindings) (started : Guard) → IsGuard g (guard_tree guard.now) turns.now h started → NotedIn g noted.new place goes_on states.now) }
 {
@@ -49,7 +50,7 @@ pub(crate) fn begin_later(
     candidate: &[State],
     noted: &mut Noted,
 ) -> Result<LoopEntry, Stop>
-    ensures more { OnOk result (IsPart noted.old noted.new) }
+    ensures more { OnOk result (IsPart context.entry noted.old noted.new) }
     ensures begins { IfOk result (λ e. BeginsLater context.entry candidate.now begun.now.counting begun.now.first.inside.items begun.now.first.outside.items begun.now.first.faults e.inside.items e.outside.items e.faults noted.new place repeated.now) }
 {
     let later = enter(repeated, Phase::Later, &begun.counting, context, candidate)?;
@@ -58,7 +59,7 @@ pub(crate) fn begin_later(
         union(begun.first.faults, later.faults),
     );
     let first = &begun.first;
-    note_ended(place, context, candidate, noted)?;
+    note_states(place, Moment::TurnEnded, context, candidate, noted)?;
     note_faults(place, faults, noted)?;
     note_answers(
         place,

@@ -21,7 +21,7 @@ pub(crate) fn take(
     states: &[State],
     noted: &mut Noted,
 ) -> Result<Vec<State>, Stop>
-    ensures more { OnOk result (IsPart noted.old noted.new) }
+    ensures more { OnOk result (IsPart context.entry noted.old noted.new) }
     ensures keeps { IfOk result (λ after. StepKeeps context.entry states.now after.items noted.new (command_tree command.now)) }
 {
     let acted = transfer_each(command, context, states)?;
@@ -38,7 +38,7 @@ fn ask(
     states: &[State],
     noted: &mut Noted,
 ) -> Result<SplitStates, Stop>
-    ensures more { OnOk result (IsPart noted.old noted.new) }
+    ensures more { OnOk result (IsPart context.entry noted.old noted.new) }
     ensures asks { IfOk result (λ s. Asks context.entry states.now s.if_true.items s.if_false.items (test_tree t.now) s.faults noted.new place) }
 {
     let divided = divide(context, t, states)?;
@@ -61,7 +61,7 @@ pub(crate) fn assert(
     states: &[State],
     noted: &mut Noted,
 ) -> Result<Vec<State>, Stop>
-    ensures more { OnOk result (IsPart noted.old noted.new) }
+    ensures more { OnOk result (IsPart context.entry noted.old noted.new) }
     ensures keeps { IfOk result (λ after. StepKeeps context.entry states.now after.items noted.new (Tree.assert place (test_tree t.now))) }
 {
     let asked = ask(t, place, context, states, noted)?;
@@ -77,7 +77,7 @@ pub(crate) fn ask_branches(
     states: &[State],
     noted: &mut Noted,
 ) -> Result<SplitStates, Stop>
-    ensures more { OnOk result (IsPart noted.old noted.new) }
+    ensures more { OnOk result (IsPart context.entry noted.old noted.new) }
     ensures asks { IfOk result (λ s. Asks context.entry states.now s.if_true.items s.if_false.items (test_tree t.now) s.faults noted.new place) }
     ensures on_true { IfOk result (λ s. NotedIn context.entry noted.new place goes_on s.if_true.items) }
     ensures on_false { IfOk result (λ s. NotedIn context.entry noted.new place goes_on s.if_false.items) }

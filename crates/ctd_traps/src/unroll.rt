@@ -135,7 +135,7 @@ pub(crate) fn begin_turn(
     states: &[State],
     noted: &mut Noted,
 ) -> Result<LoopEntry, Stop>
-    ensures more { OnOk result (IsPart noted.old noted.new) }
+    ensures more { OnOk result (IsPart context.entry noted.old noted.new) }
     ensures begins { IfOk result (λ e. BeginsAt context.entry states.now counting.now e.inside.items e.outside.items e.faults noted.new place repeated.now k) }
 {
     let begun = enter(repeated, Phase::At(k), counting, context, states)?;

@@ -9,5 +9,6 @@ returns-in-None c = λ so. so
 
 pub returns-in_ok-push-in-Some : goal.returns-in_ok-push-in-Some
 returns-in_ok-push-in-Some c =
-    let y : KnownAt = record { place = c.args.place; known = c.in-Some.known } in
-    place_pushed c.args.context c.args.seen.now c.args.found.now.items c.push.new.self.items y c.in_ok-push-in-Some.ensures.items (λ h seen. subst (IsKnownOf c.args.context.names.now h) c.in-Some.is (c.in_ok-all.ensures h seen))
+    let g = c.args.context in
+    let y : KnownAt = record { place = c.args.place; moment = c.args.moment; known = c.in-Some.known } in
+    place_pushed g c.args.states.now c.args.found.now.items c.push.new.self.items y c.in_ok-push-in-Some.ensures.items (λ h one. subst (IsKnownOf g.names.now h) c.in-Some.is (c.in_ok-all.ensures h one))

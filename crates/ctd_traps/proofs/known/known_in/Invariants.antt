@@ -1,4 +1,4 @@
-use Rattle.ctd_traps.specs.inner.Seen.{TellsAll}
+use Rattle.ctd_traps.specs.inner.Knowing.{TellsAll}
 use Rattle.ctd_traps.proofs.known.known_in.Given as goal
 
 abbrev pub invariant-loop-k : goal.invariant-loop-k

@@ -1,4 +1,4 @@
-use Rattle.ctd_traps.specs.inner.Seen.{TellsAll}
+use Rattle.ctd_traps.specs.inner.Knowing.{TellsAll}
 use Rattle.ctd_traps.proofs.known.known_values.Given as goal
 
 abbrev pub invariant-loop-i : goal.invariant-loop-i

@@ -6,12 +6,13 @@ pub returns : goal.returns
 returns c =
     let g = c.args.context in
     let middle = c.note_event.new.noted in
-    let noted = c.note_seen.new.noted in
-    let second = c.in_ok-note_seen.ensures in
+    let noted = c.note_states.new.noted in
+    let first = c.in_ok-note_event.ensures in
+    let second = c.in_ok-note_states.ensures in
     record {
-      more = part_trans c.args.noted.now middle noted c.in_ok-note_event.ensures.more second.more;
+      more = part_trans g c.args.noted.now middle noted (first.more g) second.more;
       begun = record {
-        begun = noted_more g middle noted c.args.place begins c.args.states.now second.more (c.in_ok-note_event.ensures.event g);
+        begun = noted_more g middle noted c.args.place begins c.args.states.now second.more (first.event g);
         found = second.found;
       };
     }

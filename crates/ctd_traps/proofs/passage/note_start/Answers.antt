@@ -10,9 +10,10 @@ returns-then-not-may_start c = record {
 
 pub returns : goal.returns
 returns c =
+    let g = c.args.context in
     let later = c.in_ok-note_event.ensures in
     record {
-      more = part_trans c.args.noted.now c.note_begin.new.noted c.note_event.new.noted c.in_ok-note_begin.ensures.more later.more;
-      begun = begun_more c.args.context c.note_begin.new.noted c.note_event.new.noted c.args.place c.args.states.now later.more c.in_ok-note_begin.ensures.begun;
-      gone = λ g h started is. later.event g;
+      more = part_trans g c.args.noted.now c.note_begin.new.noted c.note_event.new.noted c.in_ok-note_begin.ensures.more (later.more g);
+      begun = begun_more g c.note_begin.new.noted c.note_event.new.noted c.args.place c.args.states.now (later.more g) c.in_ok-note_begin.ensures.begun;
+      gone = λ j h started is. later.event j;
     }

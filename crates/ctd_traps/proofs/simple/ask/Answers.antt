@@ -13,14 +13,14 @@ returns c =
     let first = c.in_ok-note_begin.ensures in
     let second = c.in_ok-note_faults.ensures in
     let third = c.in_ok-note_answers.ensures in
-    let later = part_trans begun reported noted second.more third.more in
+    let later = part_trans g begun reported noted (second.more g) (third.more g) in
     record {
-      more = part_trans c.args.noted.now begun noted first.more later;
+      more = part_trans g c.args.noted.now begun noted first.more later;
       asks = record {
         divides = c.in_ok-divided.ensures;
         begun = begun_more g begun noted place c.args.states.now later first.begun;
         true_noted = subst (NotedIn g noted place (answers true)) c.as_slice.ensures.value (third.on_true g);
         false_noted = subst (NotedIn g noted place (answers false)) c.as_slice-2.ensures.value (third.on_false g);
-        faults_noted = faults_more reported noted place divided.faults third.more second.faults;
+        faults_noted = faults_more g reported noted place divided.faults (third.more g) second.faults;
       };
     }

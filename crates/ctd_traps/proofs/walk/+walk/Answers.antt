@@ -10,7 +10,7 @@ use Rattle.ctd_traps.proofs.walk.+walk.Goals as goal
 
 pub walk-loop-command-preserved : goal.walk-loop-command-preserved
 walk-loop-command-preserved t c = record {
-  more = part_trans c.args.noted.now c.loop-command.noted c.step.new.noted c.loop-command.invariant.more c.in_ok-after.ensures.more;
+  more = part_trans c.args.context c.args.noted.now c.loop-command.noted c.step.new.noted c.loop-command.invariant.more c.in_ok-after.ensures.more;
   leads = walk_step c.args.context c.args.states.items c.loop-command.after.items c.as_slice.result.now c.in_ok-after.after.items c.loop-command.noted c.step.new.noted c.args.commands.now c.loop-command.command-index c.command-item.result
       c.as_slice.ensures.value c.loop-command-test.true c.command-item.is c.in_ok-after.ensures.more c.in_ok-after.ensures.keeps c.loop-command.invariant.leads;
 }
@@ -64,7 +64,7 @@ go_round-returns-clause-keeps t c =
     let second = c.separate.new.noted in
     let third = c.walk_block.new.noted in
     let part_two = c.in_ok-end.ensures.more in
-    let part_one = part_trans reported second third c.in_ok-separated.ensures.more part_two in
+    let part_one = part_trans g reported second third c.in_ok-separated.ensures.more part_two in
     record {
       later_inside = later.inside.items;
       later = later.faults;
@@ -78,8 +78,8 @@ go_round-returns-clause-keeps t c =
 pub choose-returns-clause-more : goal.choose-returns-clause-more
 choose-returns-clause-more t c =
     let new = c.walk_block-2.new.noted in
-    if_ok_more (λ (v : Vec AbstractState). AreBranches c.args.context c.in_ok-yes.yes.items c.in_ok-no.no.items v.items) (λ (v : Vec AbstractState). IsPart c.args.noted.now new) c.join_branches.result
-    (λ v so j x e is. c.in_ok-no.ensures.more j x e (c.in_ok-yes.ensures.more j x e (c.in_ok-asked.ensures.more j x e is))) c.join_branches.ensures
+    if_ok_more (λ (v : Vec AbstractState). AreBranches c.args.context c.in_ok-yes.yes.items c.in_ok-no.no.items v.items) (λ (v : Vec AbstractState). IsPart c.args.context c.args.noted.now new) c.join_branches.result
+    (λ v so x e is. c.in_ok-no.ensures.more x e (c.in_ok-yes.ensures.more x e (c.in_ok-asked.ensures.more x e is))) c.join_branches.ensures
 
 pub choose-returns-clause-keeps : goal.choose-returns-clause-keeps
 choose-returns-clause-keeps t c =
@@ -96,7 +96,7 @@ choose-returns-clause-keeps t c =
     let first = c.walk_block.new.noted in
     let second = c.walk_block-2.new.noted in
     let part_first = c.in_ok-no.ensures.more in
-    let part_reported = part_trans reported first second c.in_ok-yes.ensures.more part_first in
+    let part_reported = part_trans g reported first second c.in_ok-yes.ensures.more part_first in
     if_ok_more (λ (v : Vec AbstractState). AreBranches g yes no v.items) (λ (v : Vec AbstractState). StepKeeps g states v.items second (choice_at place ch)) c.join_branches.result
     (λ v so. choice_steps g states if_true if_false yes no v.items asked.faults place (test_tree (out-Choice ch).condition.value) (command_list (out-Choice ch).then_do) (command_list (out-Choice ch).else_do) reported first second
     (subst (λ u. Asks g states if_true if_false (test_tree u) asked.faults reported place) c.deref.ensures c.in_ok-asked.ensures.asks)
@@ -105,7 +105,7 @@ choose-returns-clause-keeps t c =
     c.join_branches.ensures
 
 pub go_round-returns-clause-more : goal.go_round-returns-clause-more
-go_round-returns-clause-more t c = λ j x e is. c.in_ok-end.ensures.more j x e (c.in_ok-separated.ensures.more j x e (c.in_ok-later.ensures.more j x e is))
+go_round-returns-clause-more t c = λ x e is. c.in_ok-end.ensures.more x e (c.in_ok-separated.ensures.more x e (c.in_ok-later.ensures.more x e is))
 
 pub walk-returns-clause-more : goal.walk-returns-clause-more
 walk-returns-clause-more t c = c.loop-command.invariant.more
@@ -132,7 +132,7 @@ pub step-returns-in-Space-clause-keeps : goal.step-returns-in-Space-clause-keeps
 step-returns-in-Space-clause-keeps t c = c.take.ensures.keeps
 
 pub take_turn-returns-clause-more : goal.take_turn-returns-clause-more
-take_turn-returns-clause-more t c = λ j x e is. c.in_ok-end.ensures.more j x e (c.in_ok-before.ensures.more j x e (c.in_ok-begun.ensures.more j x e is))
+take_turn-returns-clause-more t c = λ x e is. c.in_ok-end.ensures.more x e (c.in_ok-before.ensures.more x e (c.in_ok-begun.ensures.more x e is))
 
 pub take_turn-returns-clause-keeps : goal.take_turn-returns-clause-keeps
 take_turn-returns-clause-keeps t c =
@@ -144,7 +144,7 @@ take_turn-returns-clause-keeps t c =
     let second = c.separate_before.new.noted in
     let third = c.walk_block.new.noted in
     let part_two = c.in_ok-end.ensures.more in
-    let part_one = part_trans first second third c.in_ok-before.ensures.more part_two in
+    let part_one = part_trans g first second third c.in_ok-before.ensures.more part_two in
     record {
       inside = begun.inside.items;
       before = before;
@@ -184,7 +184,7 @@ unroll-loop-k-preserved t c =
     let wider = c.in_ok-after.after.items in
     let part = c.in_ok-turn.ensures.more in
     record {
-      start = faults_more old new place counting.turns.faults part c.loop-k.invariant.start;
+      start = faults_more g old new place counting.turns.faults part c.loop-k.invariant.start;
       leads = unroll_goes_on g c.args.states.now c.loop-k.before.items c.loop-k.after.items outside end wider old new place l counting k
           (subst (λ b. TurnKeeps g b counting outside end new place l k) c.as_slice-in-loop-k.ensures.value c.in_ok-turn.ensures.keeps) part
           c.in_ok-after.ensures.first (subst (λ o. PartitionIsWithin g o wider) c.as_slice-in-loop-k-2.ensures.value c.in_ok-after.ensures.second) c.loop-k.invariant.leads;
@@ -225,7 +225,7 @@ pub try_inner-returns : goal.try_inner-returns
 try_inner-returns t c = same_or_none c.search-found.result c.none_if_given_up.result (λ (p : Passage). PassesOnceBegun c.args.context c.args.begun.now c.args.place c.args.repeated.now p) c.none_if_given_up.ensures c.search-found.ensures
 
 pub repeat-returns-clause-more : goal.repeat-returns-clause-more
-repeat-returns-clause-more t c = part_trans c.args.noted.now c.note_start.new.noted c.note_all.new.noted c.in_ok-note_start.ensures.more c.in_ok-note_all.ensures.more
+repeat-returns-clause-more t c = part_trans c.args.context c.args.noted.now c.note_start.new.noted c.note_all.new.noted c.in_ok-note_start.ensures.more c.in_ok-note_all.ensures.more
 
 pub repeat-returns-clause-keeps : goal.repeat-returns-clause-keeps
 repeat-returns-clause-keeps t c =

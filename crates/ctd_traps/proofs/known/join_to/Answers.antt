@@ -2,8 +2,8 @@ use Rattle.ctd_partitions.specs.calls.States.{IsCopyOf, IsStateWithin}
 use Rattle.ctd_partitions.specs.declared.state.State.{State}
 use Rattle.ctd_traps.proofs.Common.{None, Some, if_ok_both, if_ok_more, subst, sym}
 use Rattle.ctd_traps.proofs.Knowing.{both_join, copy_joins}
-use Rattle.ctd_traps.specs.inner.Seen.{IsJoinOf}
-use Rattle.ctd_traps.proofs.known.joined.Goals as goal
+use Rattle.ctd_traps.specs.inner.Knowing.{IsJoinOf}
+use Rattle.ctd_traps.proofs.known.join_to.Goals as goal
 
 pub returns-in-None : goal.returns-in-None
 returns-in-None c = rw c.in-None.is (if_ok_more (λ (s : State). IsCopyOf c.args.state.now s) (λ (s : State). IsJoinOf c.args.context None c.args.state.now s) c.copy_of_state.result (λ s is. copy_joins c.args.context c.args.state.now s is) c.copy_of_state.ensures)

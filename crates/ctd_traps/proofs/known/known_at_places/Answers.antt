@@ -1,15 +1,15 @@
 use Rattle.ctd_traps.proofs.Common.{[], rules, subst, sym, ◌≡◌}
 use Rattle.ctd_traps.proofs.Knowing.{no_places}
-use Rattle.ctd_traps.specs.inner.Seen.{AllAreKnown}
-use Rattle.ctd_traps.proofs.known.known_where.Goals as goal
+use Rattle.ctd_traps.specs.inner.Knowing.{AreKnown}
+use Rattle.ctd_traps.proofs.known.known_at_places.Goals as goal
 
 pub loop-entry-init : goal.loop-entry-init
 loop-entry-init c =
     let none : c.new-found.result.items ≡ [] = search rules in
-    subst (AllAreKnown c.args.context c.args.seen.now) (sym none) (no_places c.args.context c.args.seen.now)
+    subst (AreKnown c.args.context c.args.states.now) (sym none) (no_places c.args.context c.args.states.now)
 
 pub loop-entry-preserved : goal.loop-entry-preserved
-loop-entry-preserved c = c.in_ok-add_place.ensures c.loop-entry.invariant
+loop-entry-preserved c = c.in_ok-add_place-2.ensures (c.in_ok-add_place.ensures c.loop-entry.invariant)
 
 pub returns : goal.returns
 returns c = c.loop-entry.invariant
