@@ -20,4 +20,4 @@ pub mod Looping
 pub mod Unrolling
 pub mod Knowing
 pub mod Ending
-pub mod Joined
+pub mod Joining

@@ -1,5 +1,5 @@
 -- How a loop starts, how its turns begin, and what it keeps.
-use Rattle.ctd_traps.proofs.Common.{AbstractState, AreCounted, AreNoted, BegunIn, Bindings, Bool, CommandLeads, Context, Counting, Effect, Enters, Faults, Fits, GoesOn, Guard, GuardTree, HasNumber}
+use Rattle.ctd_traps.proofs.Common.{AbstractState, AreCounted, AreNoted, BegunIn, Bindings, Bool, CommandLeads, Context, Counting, Effect, Enters, Faults, Fits, FoundIn, GoesOn, Guard, GuardTree, HasNumber}
 use Rattle.ctd_traps.proofs.Common.{HasTurns, Holds, HoldsBeside, InTurn, IsFreeName, IsGuard, IsPostFixpoint, IsTurn, Lasts, Leads, Leaves, List, Noted, NotedIn, PartitionIsWithin, Phase}
 use Rattle.ctd_traps.proofs.Common.{PinsStand, Place, Safe, SparesBetween, SparesEach, SparesLoop, SparesTarget, Splits, StartsIn, Task, TestData, Turns, Unchanged, Variables, answers}
 use Rattle.ctd_traps.proofs.Common.{arith, boxed_separator, boxed_target, command_list, done, false, faulty, guard_of, guard_tree, ints, keep, loop_at}

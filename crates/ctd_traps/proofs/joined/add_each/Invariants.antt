@@ -1,5 +1,5 @@
 use Rattle.ctd_traps.proofs.Common.{AreWithin, length}
-use Rattle.ctd_traps.proofs.Joined.{LastOr}
+use Rattle.ctd_traps.proofs.Joining.{LastOr}
 use Rattle.ctd_traps.proofs.joined.add_each.Given as goal
 
 abbrev pub invariant-loop-one : goal.invariant-loop-one

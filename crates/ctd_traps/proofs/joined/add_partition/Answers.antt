@@ -1,4 +1,4 @@
-use Rattle.ctd_traps.proofs.Joined.{describes_here}
+use Rattle.ctd_traps.proofs.Joining.{describes_here}
 use Rattle.ctd_traps.proofs.joined.add_partition.Goals as goal
 
 pub returns : goal.returns

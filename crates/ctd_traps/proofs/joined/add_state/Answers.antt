@@ -1,5 +1,5 @@
-use Rattle.ctd_traps.proofs.Common.{length, subst, ◌<◌}
-use Rattle.ctd_traps.proofs.Joined.{rejoined_added, rejoined_others}
+use Rattle.ctd_traps.proofs.Common.{get_or, length, subst, sym, ◌<◌, ◌≡◌}
+use Rattle.ctd_traps.proofs.Joining.{rejoined_added, rejoined_others}
 use Rattle.ctd_traps.proofs.joined.add_state.Goals as goal
 
 pub returns-in_ok-push_state-in-None : goal.returns-in_ok-push_state-in-None
@@ -22,5 +22,5 @@ returns-in_ok-push_state-in-Some c =
     let inside : i < length states = subst (λ l. i < length l) c.as_slice.ensures.value c.in-Some.ensures.inside in
     record {
       others = rejoined_others g states rest all i old both inside c.remove-old.ensures.value c.remove-old.ensures.items joins.left (pushed.others g) (pushed.added g);
-      added = rejoined_added g all old c.args.more both (c.in-Some.ensures.at old c.remove-old.ensures.value) joins.right (pushed.added g);
+      added = rejoined_added g all old c.args.more both (c.in-Some.ensures.at old (subst (λ l. old ≡ get_or l i old) (sym c.as_slice.ensures.value) c.remove-old.ensures.value)) joins.right (pushed.added g);
     }

@@ -1,5 +1,5 @@
 use Rattle.ctd_traps.proofs.Common.{AreWithin, IsAdded, subst, sym}
-use Rattle.ctd_traps.proofs.Joined.{pushed_last, pushed_others}
+use Rattle.ctd_traps.proofs.Joining.{pushed_last, pushed_others}
 use Rattle.ctd_traps.proofs.joined.push_state.Goals as goal
 
 pub returns : goal.returns

@@ -7,6 +7,6 @@ returns c =
     let g = c.args.context in
     let same = sym c.as_slice-states.ensures.value in
     record {
-      at_end = λ h found. c.in_ok-at_end.ensures h (subst (λ l. OneDescribes g l program_end moments.Done h) same (found ?));
-      at_places = λ x has h found. c.in_ok-at_places.ensures x has h (subst (λ l. OneDescribes g l x.place x.moment h) same (found ?));
+      at_end = λ h found. c.in_ok-at_end.ensures h (subst (λ l. OneDescribes g l program_end moments.Done h) same (found c.if-not-joined.false));
+      at_places = λ x has h found. c.in_ok-at_places.ensures x has h (subst (λ l. OneDescribes g l x.place x.moment h) same (found c.if-not-joined.false));
     }

@@ -5,8 +5,11 @@ use Rattle.std.specs.List.{remove}
 use Rattle.ctd_partitions.specs.calls.States.{IsStateWithin}
 
 -- places of the same line and column
+abbrev place_at : ℕ → ℕ → Place
+place_at line column = record { line = line; column = column }
+
 pub same_place : (a b : Place) → a.line ≡ b.line → a.column ≡ b.column → a ≡ b
-same_place a b line column = ap (λ l. record { line = l; column = a.column }) line ∙ ap (λ c. record { line = b.line; column = c }) column
+same_place a b line column = ap (λ l. place_at l a.column) line ∙ ap (λ c. place_at b.line c) column
 
 -- one more at the end
 pub pushed_others : (g : Context) (xs : List JoinedState) (x : JoinedState) → AreWithin g xs (xs ++ x ∷ [])
@@ -68,10 +71,10 @@ last_added g left rest whole old new x is others added so_far place moment h one
     either_of (λ still. either_of (λ describes. inr (added place moment h describes)) (λ left. inl left) (last_or_rest g rest x place moment h (subst (λ l. OneDescribes g l place moment h) is still)))
     (λ done. inr (others place moment h done)) (so_far place moment h one)
 
+-- a list of no length
+pub empty_list : {X : Type 0} (xs : List X) → length xs ≡ 0 → xs ≡ []
+empty_list [] none = refl
+empty_list (x ∷ xs) none = absurd (omega (arith, none))
+
 pub none_left : (g : Context) (left whole all : List JoinedState) → left ≡ [] → LastOr g left whole all → AreWithin g whole all
 none_left g left whole all is so_far place moment h one = either_of (λ still. absurd (subst (λ l. OneDescribes g l place moment h) is still)) (λ done. done) (so_far place moment h one)
-
--- what is kept of two is kept of each
-pub kept_first : (a b : Bool) → (if a then b else false) ≡ true → a ≡ true
-kept_first true b is = refl
-kept_first false b is = absurd (cc is)
