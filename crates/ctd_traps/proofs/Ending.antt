@@ -1,7 +1,7 @@
 -- The end of a run that does all its tasks, and what is known there and at the places to which runs come.
 use Rattle.ctd_traps.proofs.Common.{Bindings, BlanksOk, Bool, Comes, CommandList, Contains, Context, Effect, Event, Exact, ExpectedEof, Fault, HasEachEvent, IfSome, IsFound, List, Moment, Mode, None, Noted, Option, Place, Preset, Result, Ok, Err, Some, Start, Task, TestData, Vec, [], all_done}
 use Rattle.ctd_traps.proofs.Common.{ap, append_assoc, at_once, at_start, by_step, done, end, end_finds, end_in, eof, false, fault_of_look, faulty, finds, finish, first_skip, if◌then◌else◌, is_blank, is_end, lift, next_byte, noted_in, perform}
-use Rattle.ctd_traps.proofs.Common.{place_of, prefix_len, proceed, program_end, refl, reject, rejected, resume, return, run, run_from, see_next, site_of, skip_blanks, start, subst, suc, sym, tasks, true, turn, turn_ends, visible, with_fault, zero, ℕ, ⊤, ◌++◌, ◌+◌, ◌<◌, ◌^◌, ◌∙◌, ◌∷◌, ◌≡◌, Bor}
+use Rattle.ctd_traps.proofs.Common.{prefix_len, proceed, program_end, refl, reject, rejected, resume, return, run, see_next, site_of, skip_blanks, subst, suc, sym, tasks, true, visible, with_fault, zero, ℕ, ⊤, ◌++◌, ◌+◌, ◌∙◌, ◌∷◌, ◌≡◌, Bor}
 use Rattle.ctd_command.specs.State.{State}
 use Rattle.ctd_outcome.specs.declared.outcome.Site.TheVariants.{Finish}
 use Rattle.ctd_traps.specs.calls.Known.{AreSo, EachAcceptedHas, EachFinds, IsKnownOf}

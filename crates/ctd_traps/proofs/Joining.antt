@@ -1,6 +1,6 @@
 -- Joined states that are added to others.
-use Rattle.ctd_traps.proofs.Common.{AbstractState, AreWithin, Bindings, Bool, Context, Describes, IsAdded, IsFound, IsOf, IsWithin, JoinedState, JoinedStates, List, Moment, OneDescribes, OneStands, Place, StateStands, [], ap, arith, false, get_or, inl, inr}
-use Rattle.ctd_traps.proofs.Common.{length, refl, subst, sym, true, zero, suc, ℕ, ◌++◌, ◌<◌, ◌∙◌, ◌∷◌, ◌≡◌, ◌⊎◌}
+use Rattle.ctd_traps.proofs.Common.{AbstractState, AreWithin, Bindings, Context, Describes, IsAdded, IsOf, JoinedState, List, Moment, OneDescribes, Place, StateStands, [], ap, arith, get_or, inl, inr}
+use Rattle.ctd_traps.proofs.Common.{length, refl, subst, sym, zero, suc, ℕ, ◌++◌, ◌<◌, ◌∙◌, ◌∷◌, ◌≡◌, ◌⊎◌}
 use Rattle.std.specs.List.{remove}
 use Rattle.ctd_partitions.specs.calls.States.{IsStateWithin}
 

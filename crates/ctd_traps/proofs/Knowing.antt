@@ -1,11 +1,11 @@
 -- What is known of the variables of a run.
-use Rattle.ctd_traps.proofs.Common.{AbstractState, AbstractValue, Bindings, Bor, Contains, Contains-push_cases, Context, Describes, JoinedState, Lengths, List, MayBe, NameStands, Moment, None, OneDescribes, Option, Place, PossibleValues, Range, Some, Value, [], EachStands, MayHave, ap, arith, at_drop_more, at_key, entries_in, named_values}
-use Rattle.ctd_traps.proofs.Common.{drop, drop_all, false, get_or, inl, inr, ints, length, refl, subst, sym, true, value_at, ℕ, ◌++◌, ◌+◌, ◌<◌, ◌∷◌, ◌≡◌, ◌≤◌, ◌⊎◌, ◌∙◌}
+use Rattle.ctd_traps.proofs.Common.{AbstractState, AbstractValue, Bindings, Bor, Contains, Contains-push_cases, Context, Describes, JoinedState, List, MayBe, NameStands, Moment, None, OneDescribes, Option, Place, PossibleValues, Some, Value, [], EachStands, MayHave, ap, arith, at_drop_more, at_key, entries_in, named_values}
+use Rattle.ctd_traps.proofs.Common.{drop, drop_all, false, get_or, inl, inr, ints, length, refl, subst, sym, value_at, ℕ, ◌++◌, ◌+◌, ◌<◌, ◌∷◌, ◌≡◌, ◌≤◌, ◌⊎◌, ◌∙◌}
 use Rattle.ctd_elements.proofs.Bounds.{all_at}
 use Rattle.ctd_elements.specs.calls.Blocks.{AllStand}
 use Rattle.ctd_elements.specs.declared.fact.Fact.{Fact}
 use Rattle.ctd_states.specs.calls.States.{name_at}
-use Rattle.ctd_partitions.specs.calls.States.{IsCopyOf, IsStateWithin, StateStands}
+use Rattle.ctd_partitions.specs.calls.States.{IsCopyOf, IsStateWithin}
 use Rattle.ctd_states.proofs.NamedValues.{entry_value}
 use Rattle.ctd_store.specs.declared.value.Value.TheVariants as values
 use Rattle.ctd_traps.specs.calls.Known.{AreSo, IsOneOf, IsSo}

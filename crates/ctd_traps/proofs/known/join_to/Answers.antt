@@ -1,6 +1,6 @@
 use Rattle.ctd_partitions.specs.calls.States.{IsCopyOf, IsStateWithin}
 use Rattle.ctd_partitions.specs.declared.state.State.{State}
-use Rattle.ctd_traps.proofs.Common.{None, Some, if_ok_both, if_ok_more, subst, sym}
+use Rattle.ctd_traps.proofs.Common.{None, Some, if_ok_both, if_ok_more}
 use Rattle.ctd_traps.proofs.Knowing.{both_join, copy_joins}
 use Rattle.ctd_traps.specs.inner.Knowing.{IsJoinOf}
 use Rattle.ctd_traps.proofs.known.join_to.Goals as goal

@@ -1,4 +1,4 @@
-use Rattle.ctd_traps.proofs.Common.{Some, subst}
+use Rattle.ctd_traps.proofs.Common.{subst}
 use Rattle.ctd_traps.proofs.Knowing.{told_by}
 use Rattle.ctd_traps.specs.inner.Knowing.{SomeStands}
 use Rattle.ctd_traps.proofs.known.known_at.Goals as goal
